@@ -32,7 +32,8 @@ class Plan(units.Plan):
         self.share = self.pick([0, 0.4, 0.7, 0.9, 1])
         # How likely a subroutine is to begin with a RESUME, and how often one stands elsewhere.
         self.resumes = 0.8 if self.share == 0 else self.pick([0, 0, 0.3, 0.6, 1])
-        self.resuming = [subroutine for subroutine in self.subroutines if self.chance(self.resumes)]
+        able = [subroutine for subroutine in self.subroutines if not subroutine.is_function]
+        self.resuming = [subroutine for subroutine in able if self.chance(self.resumes)]
         # (a fault before the first CREATE leaves nothing to see)
         self.risk = self.pick([0, 0, 0, 0, 0.01, 0.03])
 
@@ -45,11 +46,11 @@ class Maker(units.UnitMaker):
         return created(text) if self.is_created(other) else text
 
     def is_created(self, other):
-        return self.chance(self.plan.share)
+        return not other.is_function and self.chance(self.plan.share)
 
     def resumes_here(self, share):
-        """Whether a RESUME is to stand here, of which the main program has none."""
-        return bool(self.subroutine) and self.chance(share * self.plan.resumes)
+        """Whether a RESUME is to stand here, of which the main program and a function have none."""
+        return self.may_resume() and self.chance(share * self.plan.resumes)
 
     def opening(self):
         """The lines, with a RESUME before all of them or somewhere between two where that is planned."""
@@ -111,15 +112,16 @@ class AsynchronousPlan(Plan):
             block.asynchronous, block.bound_at = True, None
         return block
 
-    def dummies(self, is_recursive):
-        found = super().dummies(is_recursive)
-        found += [self.signal(is_recursive) for _ in range(self.pick([0, 1, 1, 2]))]
+    def dummies(self, is_recursive, is_function):
+        found = super().dummies(is_recursive, is_function)
+        found += [self.signal(not is_recursive and not is_function) for _ in range(self.pick([0, 1, 1, 2]))]
         self.random.shuffle(found)
         return found
 
-    def signal(self, is_recursive):
-        """An asynchronous dummy argument. The recursive subroutines have no channels, since they are created in any number."""
-        if not is_recursive and self.chance(0.5):
+    def signal(self, may_be_channel):
+        """An asynchronous dummy argument. The recursive subroutines have no channels, since they are created in any number;
+        functions have none, since their caller waits for them."""
+        if may_be_channel and self.chance(0.5):
             return Channel(gives=self.chance(0.6), times=self.pick([1, 1, 2, 3]))
         dummy = units.Dummy(self.chance(0.1), asynchronous=True)
         if self.chance(0.3):

@@ -11,7 +11,7 @@ from dataclasses import dataclass, field
 LETTERS = "ABCDEFGHIJKLMNOPQRSTUVWXYZ"
 INTEGER_LETTERS = "IJKLMN"
 # Names that are words of the language, or begin as statements do.
-WORDS = ["IF", "DO10I", "THEN", "ELSE", "ENDIF", "END", "PRINT", "DATA", "GOTO", "READ", "CALL", "STOP", "REAL", "FORMAT", "RESUME"]
+WORDS = ["IF", "DO10I", "THEN", "ELSE", "ENDIF", "END", "PRINT", "DATA", "GOTO", "READ", "CALL", "STOP", "REAL", "FORMAT", "RESUME", "FUNCTI"]
 FUNCTIONS = ["ABS", "IABS", "MOD", "SIGN", "ISIGN", "DIM", "IDIM", "MAX", "MAX0", "MIN", "MIN0"]
 # A name of nothing, and of a common block.
 NOBODY, BLOCK = "QQQQQQ", "BLOCK"
@@ -190,7 +190,7 @@ class Declarations(Draws):
         """Type statements, DIMENSION and COMMON, in any order; an array has its bounds in one of them."""
         texts, types, blocks = [], {False: [], True: []}, {}
         for variable in self.declare_variables():
-            is_typed = not self.is_of_type(variable.name, variable.logical) or self.chance(0.2)
+            is_typed = self.is_typed(variable)
             variable.in_common = self.goes_to_common(variable)
             holders = ["DIMENSION"] + ["type"] * is_typed + ["COMMON"] * variable.in_common
             holder = self.pick(holders) if variable.bounds else None
@@ -205,6 +205,10 @@ class Declarations(Draws):
         texts += self.common_statements(blocks)
         self.random.shuffle(texts)
         return texts
+
+    def is_typed(self, variable):
+        """Whether a type statement has a variable: where its letter doesn't give its type, and now and then."""
+        return not self.is_of_type(variable.name, variable.logical) or self.chance(0.2)
 
     def goes_to_common(self, variable):
         return len(variable.bounds) < 7 and self.chance(0.15)
@@ -605,8 +609,9 @@ class Maker(Expressions):
         behind = self.chance(0.3)
         return [*declared, *([] if behind else data), *lines, *(data if behind else []), Line("END")]
 
-    def is_of_main_program(self):
-        return True
+    def may_resume(self):
+        """Whether a RESUME may stand here: in no main program and in no function."""
+        return False
 
     def breach(self):
         """Statements that break a rule; the first one is refused."""
@@ -629,7 +634,7 @@ class Maker(Expressions):
             choices["303"] = [f"{name}=ABS(1,2)"]
         for array in self.arrays:
             choices["302"] += [f"PRINT *,{array.name}", f"{array.name}=1", f"PRINT *,{array.name}(1{',1' * len(array.bounds)})"]
-        if self.is_of_main_program():
+        if not self.may_resume():
             choices["312"] = ["RESUME", f"IF ({self.logical()}) RESUME"]
         for constant in self.constants:
             choices["309"].append(f"{constant.name}={truth(True) if isinstance(constant.value, bool) else '1'}")

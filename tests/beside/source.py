@@ -132,6 +132,14 @@ class Subroutine(Declaration):
 
 
 @dataclass
+class Function(Declaration):
+    """The header of a function, whatever its type."""
+
+    name: str
+    dummies: list
+
+
+@dataclass
 class Implicit(Declaration):
     pass
 
@@ -420,22 +428,21 @@ class Reader:
         return self.reference()
 
     def reference(self):
-        """A name, with a list or without."""
+        """A name, with a list or without; that of a function may be empty."""
         name = self.name()
-        if not self.takes("("):
-            return Name(name)
-        arguments = tuple(self.row(self.expression))
-        self.need(")")
-        return Name(name, arguments)
+        is_listed = self.text.startswith("(", self.at)
+        return Name(name, tuple(self.enclosed(self.expression)) if is_listed else None)
 
-    def listed(self, item):
-        """Items in parentheses, of which there may be none; the parentheses may be missing then."""
-        if self.is_done():
-            return []
+    def enclosed(self, item):
+        """Items in parentheses, of which there may be none."""
         self.need("(")
         items = [] if self.text.startswith(")", self.at) else self.row(item)
         self.need(")")
         return items
+
+    def listed(self, item):
+        """Items in parentheses, of which there may be none; the parentheses may be missing then."""
+        return [] if self.is_done() else self.enclosed(item)
 
     # Parts of declarations.
 
@@ -641,8 +648,16 @@ def called(form):
     return lambda rest: form(*whole(rest, lambda reader: (reader.name(), reader.listed(reader.expression))))
 
 
+def function(rest):
+    """The header of a function, behind its word."""
+    return Function(*whole(rest, lambda reader: (reader.name(), reader.enclosed(reader.name))))
+
+
 # The words of statements, a longer one before those that it begins with.
 WORDS = {
+    "INTEGERFUNCTION": function,
+    "LOGICALFUNCTION": function,
+    "FUNCTION": function,
     "PROGRAM": lambda rest: Program(whole(rest, Reader.name)),
     "SUBROUTINE": lambda rest: Subroutine(*whole(rest, lambda reader: (reader.name(), reader.listed(reader.name)))),
     "IMPLICIT": lambda rest: Implicit(),

@@ -1,9 +1,10 @@
 """Random programs of two to five units, each by a seed.
 
-Before any unit is made it is drawn what the others see of it: the dummy arguments of the subroutines, and the common
-blocks. A careful program gives each dummy array as many elements as it wants and each variable a value; the others pass
-elements that aren't there, arrays that are too short and bounds that are none. The calls end: a subroutine calls those
-behind it in an order, and the recursive ones call each other only while a dummy argument counts down.
+Before any unit is made it is drawn what the others see of it: the dummy arguments of the subroutines and functions, and the
+common blocks. A careful program gives each dummy array as many elements as it wants and each variable a value; the others
+pass elements that aren't there, arrays that are too short and bounds that are none. Functions stand wherever an expression
+does, and change their arguments and COMMON as subroutines do. The calls end: a subroutine or function calls those behind it
+in an order, and the recursive ones call each other only while a dummy argument counts down.
 """
 import itertools
 from dataclasses import dataclass, field
@@ -38,12 +39,15 @@ class Dummy:
 
 @dataclass(eq=False)
 class Subroutine:
-    """A subroutine as it is planned: which ones it calls, and whether those that call themselves are among them."""
+    """A subroutine as it is planned: which ones it calls, and whether those that call themselves are among them. It may be a
+    function, of integers or of logicals."""
 
     name: str
     dummies: list
     place: int
     is_recursive: bool
+    is_function: bool = False
+    logical: bool = False
     is_called: bool = False
 
 
@@ -108,9 +112,14 @@ class Plan(Draws):
     def planned(self):
         """First those that call all others, then those that call themselves, then those that these call."""
         kinds = sorted(self.pick([0, 0, 1, 1, 2]) for _ in range(self.pick([1, 1, 2, 2, 3, 4])))
-        return [Subroutine(self.name(), self.dummies(kind == 1), at, kind == 1) for at, kind in enumerate(kinds)]
+        share = self.pick([0, 0, 0.4, 0.6, 1])
+        return [self.subroutine(at, kind == 1, self.chance(share)) for at, kind in enumerate(kinds)]
 
-    def dummies(self, is_recursive):
+    def subroutine(self, place, is_recursive, is_function):
+        dummies = self.dummies(is_recursive, is_function)
+        return Subroutine(self.name(), dummies, place, is_recursive, is_function, is_function and self.chance(0.3))
+
+    def dummies(self, is_recursive, is_function):
         found = [Dummy(counts_down=True)] if is_recursive else []
         for _ in range(self.pick([0, 1, 1, 2, 2, 3, 4])):
             if self.chance(0.45):
@@ -187,6 +196,11 @@ class UnitMaker(Maker):
         # Variables that are read and that nothing stores in: others count on their values.
         self.fixed = []
         self.calls_left = self.number(2, 5)
+        # How many references there may be in other expressions, and how deep the one at hand stands in others.
+        self.references_left = self.number(0, 8)
+        self.depth = 0
+        self.is_typed_by_header = self.chance(0.5)
+        self.functions_declared = []
         self.declared = 0
 
     def name_of_variable(self):
@@ -218,7 +232,24 @@ class UnitMaker(Maker):
         held = self.declare_dummies() + [variable for block in self.blocks_used() for variable in self.positions(block)]
         own = self.lend_turn(own, held) + self.arrays_to_pass()
         self.shape_dummies()
-        return own + held
+        self.functions_declared = [Variable(other.name, other.logical) for other in self.functions() if self.chance(0.3)]
+        return own + held + self.functions_declared
+
+    def functions(self):
+        """The functions of the program that the unit may refer to; one that is recursive may refer to itself."""
+        known = self.plan.callees(self.subroutine) + self.plan.recursive_callees(self.subroutine)
+        return [other for other in known if other.is_function and other is not self.subroutine]
+
+    def is_typed(self, variable):
+        """The type of a function may stand in its header; a unit that refers to it may have its type too."""
+        if variable in self.functions_declared:
+            return True
+        if self.is_function() and variable.name == self.subroutine.name and self.is_typed_by_header:
+            return False
+        return super().is_typed(variable)
+
+    def is_function(self):
+        return bool(self.subroutine) and self.subroutine.is_function
 
     def arrays_to_pass(self):
         """Arrays that are long enough for those that are called, mostly, and some of any length."""
@@ -261,7 +292,11 @@ class UnitMaker(Maker):
         next(variables for variables, fits in lists if fits).append(variable)
 
     def declare_dummies(self):
+        """Dummy arguments, and the result of a function, which is a variable of its name."""
         held = []
+        if self.is_function():
+            held.append(Held(self.subroutine.name, self.subroutine.logical, has_value=False))
+            self.hold(held[0])
         for dummy in self.subroutine.dummies if self.subroutine else []:
             name = "$" + self.name() if dummy.asynchronous else self.name_of_variable()
             variable = Held(name, dummy.logical, list(dummy.bounds))
@@ -375,12 +410,51 @@ class UnitMaker(Maker):
         return lines
 
     def number_of_parts(self):
+        if self.is_function():
+            return self.number(0, 2)
         return self.number(0, 5) if self.subroutine else self.number(2, 8)
 
     # Calls.
 
     def primary(self, depth):
+        text = self.reference(False)
+        if text:
+            return text
         return self.pick(self.fixed).name if self.fixed and self.chance(0.06) else super().primary(depth)
+
+    def logical_primary(self, depth):
+        return self.reference(True) or super().logical_primary(depth)
+
+    def reference(self, logical):
+        """A function of the program with its arguments, in which others may stand; now and then, and None else."""
+        if not self.chance(0.12) or self.references_left <= 0 or self.depth == 2:
+            return None
+        functions = [other for other in self.plan.callees_in_passing(self.subroutine) if other.is_function and other.logical == logical]
+        if not functions:
+            return None
+        # (one in loops is made often)
+        self.references_left -= 1 + len(self.active)
+        other = self.pick(functions)
+        self.depth += 1
+        passed = self.passed(other, self.times())
+        self.depth -= 1
+        return None if passed is None else self.reference_text(other, passed)
+
+    def reference_text(self, other, passed):
+        other.is_called = True
+        return f"{other.name}({','.join(passed)})"
+
+    def with_reference(self, other, passed):
+        """A statement that does little more than refer to a function."""
+        text = self.reference_text(other, passed)
+        made = [f"PRINT *,{text}", f"PRINT *,'{other.name}=',{text}"]
+        variables = self.truths if other.logical else self.scalars
+        if variables:
+            name = self.pick(variables).name
+            made += [f"{name}={text}"] * 3
+            made += [f"{name}={name}.NEQV.{text}", f"{name}=.NOT.{text}"] if other.logical else [f"{name}={text}-{name}"]
+            made += [f"PRINT *,{name},{text},{name}"]
+        return self.pick(made)
 
     def value_passed(self, dummy):
         """An actual argument for a scalar: an expression, or a variable or element by its place."""
@@ -469,6 +543,9 @@ class UnitMaker(Maker):
         return all(dummy.grows_by(bound) for dummy in other.dummies if bound in dummy.uppers)
 
     def call_text(self, other, passed):
+        """A CALL, or what refers to a function."""
+        if other.is_function:
+            return self.with_reference(other, passed)
         other.is_called = True
         empty = "()" if self.chance(0.3) else ""
         return f"CALL {other.name}({','.join(passed)})" if passed else f"CALL {other.name}{empty}"
@@ -547,8 +624,8 @@ class UnitMaker(Maker):
 
     # Rules that are broken.
 
-    def is_of_main_program(self):
-        return not self.subroutine
+    def may_resume(self):
+        return bool(self.subroutine) and not self.subroutine.is_function
 
     def breach(self):
         """Half of the breaches are those of a unit by itself, the others are of calls."""
@@ -562,9 +639,12 @@ class UnitMaker(Maker):
 
     def breaches_of_calls(self):
         found = []
-        variables = [variable.name for variable in [*self.scalars, *self.truths, *self.arrays]]
+        variables = [variable.name for variable in [*self.scalars, *self.truths, *self.arrays, *self.turns, *self.fixed]]
         for other in self.plan.subroutines:
             if other.name in variables:
+                continue
+            if other.is_function:
+                found += self.breaches_of_function(other)
                 continue
             count = len(other.dummies)
             for wrong in {count + 1, max(count - 1, 0)} - {count}:
@@ -579,6 +659,23 @@ class UnitMaker(Maker):
             found.append((f"CALL {self.plan.main}", f"310 NAME {self.plan.main}"))
         if self.subroutine and self.scalars:
             found.append((f"DATA {self.scalars[0].name}/1/", "311"))
+        return found
+
+    def breaches_of_function(self, other):
+        """A function with other arguments; without a list beside one with a list; and as if it were a subroutine."""
+        found, count = [], len(other.dummies)
+        for wrong in {count + 1, max(count - 1, 0)} - {count}:
+            found.append((f"PRINT *,{other.name}({','.join(['1'] * wrong)})", "303"))
+        passed = self.passed(other, "1")
+        for at, dummy in enumerate(other.dummies if passed else []):
+            for wrong in self.misfits(dummy):
+                actuals = ",".join([*passed[:at], wrong, *passed[at + 1 :]])
+                found.append((f"PRINT *,{other.name}({actuals})", "304"))
+        if passed:
+            text = f"{other.name}({','.join(passed)})"
+            found.append((f"PRINT *,{text},{other.name}", "309"))
+        if other.name not in [variable.name for variable in self.functions_declared]:
+            found.append((f"CALL {other.name}", f"310 NAME {other.name}"))
         return found
 
     def misfits(self, dummy):
@@ -602,6 +699,9 @@ class UnitMaker(Maker):
         if not self.subroutine:
             return [Line(f"PROGRAM {self.plan.main}")] if self.plan.main else []
         names = ",".join(self.variables_of[dummy].name for dummy in self.subroutine.dummies)
+        if self.is_function():
+            word = "LOGICAL " if self.subroutine.logical else "INTEGER "
+            return [Line(f"{word * self.is_typed_by_header}FUNCTION {self.subroutine.name}({names})")]
         return [Line(f"SUBROUTINE {self.subroutine.name}" + (f"({names})" if names else self.pick(["", "()"])))]
 
     def unit(self, breaks):

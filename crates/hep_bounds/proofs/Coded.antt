@@ -2,7 +2,7 @@
 use Rattle.std.proofs.Common.{◌≡◌, ℕ, suc, ◌-◌, true, List, [], ◌∷◌, ◌++◌, take, drop, length, length-append, refl, ap, sym, ◌∙◌, arith, Option, Some, None, append_assoc, append-nil}
 use Rattle.std.proofs.Math.Seq.{take-append_seam, drop-append_seam}
 use Rattle.std.specs.Option.{option_map, option_and_then}
-use Rattle.hep_machine.specs.Words.{Name, Operator, Statement, Tree, Trees, constant, occurrence, with_list, parenthesized, signed, negated, binary, no_trees, trees, signed_value, negated_value, combined_value, Values, value_of, values_of, with_one, with_two, both, by_meaning, Meaning, element, pure, state, unknown, listed_meaning}
+use Rattle.hep_machine.specs.Words.{Name, Operator, Statement, Tree, Trees, constant, occurrence, with_list, parenthesized, signed, negated, binary, no_trees, trees, signed_value, negated_value, combined_value, Values, value_of, values_of, with_one, with_two, both, by_meaning, Meaning, element, pure, state, external, listed_meaning}
 use Rattle.hep_source.specs.declared.operator.Sign.{Sign as SignBefore}
 use Rattle.hep_source.specs.declared.value.Value.{Value as Constant}
 use Rattle.hep_code.specs.Words.{count}
@@ -113,7 +113,7 @@ module _ (common dummies : ℕ → Option Constant) where
     by_values (Some vs) counted = operated (Apply f n) stack vs (sym counted)
   listed_comes element n os r h counted stack = alone Nowhere stack refl
   listed_comes (state f) n os r h counted stack = alone Nowhere stack refl
-  listed_comes unknown n os r h counted stack = alone Nowhere stack refl
+  listed_comes external n os r h counted stack = alone Nowhere stack refl
 
   -- ---- expressions
 

@@ -1,14 +1,21 @@
 -- 304, as one pass over a unit tells it.
-use Rattle.std.specs.Prelude.{Bool, true, not, ◌&&◌, List, Option, Some, None}
+use Rattle.std.specs.Prelude.{Bool, true, not, ◌&&◌, ◌||◌, List, Option, Some, None}
 use Rattle.std.specs.List.{list_all}
-use Rattle.hep_machine.specs.Words.{Tree, Units, dummies_of, Statement}
-use Rattle.hep_conditions.specs.Words.{all_given, fit_dummies, fits_call, is_reference_given, is_purgeable, names_with_lists, targets_purged, calls_in}
+use Rattle.hep_machine.specs.Words.{Tree, Target, Units, dummies_of, Statement, is_array, is_constant_name, is_nonempty}
+use Rattle.hep_conditions.specs.Words.{FunctionTypes, function_types, all_given, fit_dummies, fits_call, fits_reference, is_reference_given, names_with_lists, targets_purged, calls_in}
 
 -- the dummy arguments of the unit that is called take these actual arguments
-abbrev pub fits_unit : List Statement → Option (List Statement) → List Tree → Bool
-fits_unit unit None ts = true
-fits_unit unit (Some called) ts = fit_dummies called (dummies_of called) (all_given unit ts)
+abbrev pub fits_unit : FunctionTypes → List Statement → Option (List Statement) → List Tree → Bool
+fits_unit functions unit None ts = true
+fits_unit functions unit (Some called) ts = fit_dummies called (dummies_of called) (all_given functions unit ts)
+
+-- an asynchronous variable, array or element; a named constant is none
+abbrev pub is_purgeable : List Statement → Target → Bool
+is_purgeable unit t =
+    t.occurrence.name.asynchronous && (not (is_constant_name unit t.occurrence.name) && (not (is_nonempty t.subscripts) || is_array unit t.occurrence.name))
 
 abbrev pub is_mismatched : Units → List Statement → Statement → Bool
 is_mismatched program unit s =
-    not (list_all (fits_call program unit) (calls_in s.form) && (list_all (is_reference_given unit) (names_with_lists s) && list_all (is_purgeable unit) (targets_purged s.form)))
+    not (list_all (fits_call (function_types program) program unit) (calls_in s.form)
+    && (list_all (fits_reference (function_types program) program unit) (names_with_lists s)
+    && (list_all (is_reference_given (function_types program) unit) (names_with_lists s) && list_all (is_purgeable unit) (targets_purged s.form))))

@@ -1,16 +1,18 @@
 //! Actual arguments (X3.9-1978, 15.9.2).
 ghost use Rattle.std.specs.Prelude.{◌≡◌};
+ghost use Rattle.hep_machine.specs.Words.{external};
 ghost use Rattle.hep_conditions.specs.Arguments as conditions;
+ghost use Rattle.hep_conditions.specs.Words.{function_types};
 ghost use Rattle.hep_calls.specs.Actuals.{class};
 
-use hep_names::{Meaning, Symbols};
+use hep_names::{Meaning, ProgramSymbols, Symbols, function_type, is_function_in};
 use hep_source::{Expr, Name, Node, ValueType};
 use hep_types::{KnownType, type_of_tree};
 
 /// What an actual argument is (15.9.2).
 #[derive(Clone, Copy, Debug, PartialEq, Eq)]
 pub enum ActualClass {
-    /// An expression; the name of a constant is one.
+    /// An expression; the name of a constant is one. Its type is open where it is the name of a function (309).
     Value(KnownType),
     /// A variable or an element of an array.
     Variable {
@@ -26,12 +28,14 @@ pub enum ActualClass {
     UnknownList,
 }
 
-fn class_of_name(symbols: &Symbols, name: &Name) -> ActualClass
-    ensures { class result ≡ conditions.given_name symbols.now name.now }
+fn class_of_name(program: &ProgramSymbols, symbols: &Symbols, name: &Name) -> ActualClass
+    ensures { class result ≡ conditions.given_name (function_types program.now) symbols.now name.now }
 {
     let value_type = symbols.type_of(name);
     if symbols.is_constant_name(name) {
         ActualClass::Value(Some(value_type))
+    } else if is_function_in(Some(program), symbols, name) {
+        ActualClass::Value(None)
     } else if symbols.is_array(name) {
         ActualClass::WholeArray {
             asynchronous: name.asynchronous,
@@ -46,12 +50,22 @@ fn class_of_name(symbols: &Symbols, name: &Name) -> ActualClass
     }
 }
 
-/// What an actual argument of a unit is.
-pub fn actual_class(symbols: &Symbols, actual: &Expr) -> ActualClass
-    ensures { class result ≡ conditions.actual_class symbols.now actual.now }
+// A reference of a function of the program is an expression; what a name that no function has is, is open.
+fn class_of_reference(program: &ProgramSymbols, symbols: &Symbols, name: &Name) -> ActualClass
+    ensures { class result ≡ conditions.given_with_list (function_types program.now) symbols.now external name.now (function_types program.now name.now) }
+{
+    match function_type(Some(program), name) {
+        Some(value_type) => ActualClass::Value(Some(value_type)),
+        None => ActualClass::UnknownList,
+    }
+}
+
+/// What an actual argument of a unit of a program is.
+pub fn actual_class(program: &ProgramSymbols, symbols: &Symbols, actual: &Expr) -> ActualClass
+    ensures { class result ≡ conditions.actual_class (function_types program.now) symbols.now actual.now }
 {
     match &actual.node {
-        Node::Occurrence(occurrence) => class_of_name(symbols, &occurrence.name),
+        Node::Occurrence(occurrence) => class_of_name(program, symbols, &occurrence.name),
         Node::WithList(occurrence, _) => match symbols.listed_meaning(&occurrence.name) {
             Meaning::Element => ActualClass::Variable {
                 asynchronous: occurrence.name.asynchronous,
@@ -59,10 +73,10 @@ pub fn actual_class(symbols: &Symbols, actual: &Expr) -> ActualClass
                 value_type: symbols.type_of(&occurrence.name),
             },
             Meaning::Pure(_) | Meaning::State(_) => {
-                ActualClass::Value(type_of_tree(symbols, actual))
+                ActualClass::Value(type_of_tree(Some(program), symbols, actual))
             }
-            Meaning::Unknown => ActualClass::UnknownList,
+            Meaning::External => class_of_reference(program, symbols, &occurrence.name),
         },
-        _ => ActualClass::Value(type_of_tree(symbols, actual)),
+        _ => ActualClass::Value(type_of_tree(Some(program), symbols, actual)),
     }
 }

@@ -1,17 +1,19 @@
-//! Actual arguments for the dummy arguments of a subroutine (X3.9-1978, 15.9.3).
-ghost use Rattle.std.specs.Prelude.{◌≡◌, ◌&&◌};
+//! Actual arguments for the dummy arguments of a subroutine or function (X3.9-1978, 15.9.3).
+ghost use Rattle.std.specs.Prelude.{◌≡◌, ◌&&◌, map};
 ghost use Rattle.std.specs.List.{list_all};
 ghost use Rattle.hep_machine.specs.Words.{same_logical, names_of_occurrences};
 ghost use Rattle.hep_conditions.specs.Arguments as conditions;
 ghost use Rattle.hep_conditions.specs.Statements as statements;
 ghost use Rattle.hep_conditions.specs.Types as types;
-ghost use Rattle.hep_names.specs.Passes.{unit_called};
+ghost use Rattle.hep_conditions.specs.Words.{function_types};
+ghost use Rattle.hep_names.specs.Lists.{listed};
+ghost use Rattle.hep_names.specs.Passes.{unit_called, unit_referred};
 ghost use Rattle.hep_calls.specs.Actuals.{class};
 ghost use Rattle.hep_calls.specs.Passes as passes;
 
 use crate::actuals::{ActualClass, actual_class};
 use hep_conditions::types::same_declared;
-use hep_names::{ProgramSymbols, Symbols};
+use hep_names::{Meaning, NameWithList, ProgramSymbols, Symbols};
 use hep_source::{Expr, Form, Name, Occurrence, ValueType};
 use hep_types::types::agree;
 
@@ -73,17 +75,18 @@ fn fits_dummy(called: &Symbols, dummy: &Name, actual: ActualClass) -> bool
     }
 }
 
-// The dummy arguments of a subroutine take the actual arguments of a unit, as far as there are both.
+// The dummy arguments of a subroutine or function take the actual arguments of a unit, as far as there are both.
 fn fit_dummies(
+    program: &ProgramSymbols,
     called: &Symbols,
     dummies: &[Occurrence],
     symbols: &Symbols,
     actuals: &[Expr],
 ) -> bool
-    ensures { result ≡ conditions.fit_dummies called.now (names_of_occurrences dummies.now) (conditions.all_given symbols.now actuals.now) }
+    ensures { result ≡ conditions.fit_dummies called.now (names_of_occurrences dummies.now) (conditions.all_given (function_types program.now) symbols.now actuals.now) }
 {
     for (dummy, actual) in dummies.iter().zip(actuals) {
-        if !fits_dummy(called, &dummy.name, actual_class(symbols, actual)) {
+        if !fits_dummy(called, &dummy.name, actual_class(program, symbols, actual)) {
             return false;
         }
     }
@@ -93,18 +96,55 @@ fn fit_dummies(
 // A name that no subroutine has is reported by another condition.
 #[tactic(auto, using(crate::proofs::Passes::fits_unit_called))]
 fn fits_call(program: &ProgramSymbols, symbols: &Symbols, name: &Name, actuals: &[Expr]) -> bool
-    ensures { result ≡ passes.fits_unit symbols.now (unit_called program.now name.now) actuals.now }
+    ensures { result ≡ passes.fits_unit (function_types program.now) symbols.now (unit_called program.now name.now) actuals.now }
 {
     match program.called(name) {
-        Some(called) => fit_dummies(called, called.dummies(), symbols, actuals),
+        Some(called) => fit_dummies(program, called, called.dummies(), symbols, actuals),
         None => true,
     }
+}
+
+// A name that no function has is reported by another condition.
+#[tactic(auto, using(crate::proofs::Passes::fits_unit_called))]
+fn fits_function(program: &ProgramSymbols, symbols: &Symbols, name: &Name, actuals: &[Expr]) -> bool
+    ensures { result ≡ passes.fits_unit (function_types program.now) symbols.now (unit_referred program.now name.now) actuals.now }
+{
+    match program.function(name) {
+        Some(function) => fit_dummies(program, function, function.dummies(), symbols, actuals),
+        None => true,
+    }
+}
+
+fn fits_reference(program: &ProgramSymbols, symbols: &Symbols, reference: &NameWithList) -> bool
+    ensures { result ≡ conditions.fits_reference (function_types program.now) program.now symbols.now (listed reference.now) }
+{
+    let name = &reference.occurrence.name;
+    match symbols.listed_meaning(name) {
+        Meaning::External => fits_function(program, symbols, name, reference.arguments),
+        _ => true,
+    }
+}
+
+// The functions that a statement refers to take their actual arguments.
+pub(crate) fn are_references_fitting(
+    program: &ProgramSymbols,
+    symbols: &Symbols,
+    references: &[NameWithList],
+) -> bool
+    ensures { result ≡ list_all (conditions.fits_reference (function_types program.now) program.now symbols.now) (map listed references.now) }
+{
+    for reference in references {
+        if !fits_reference(program, symbols, reference) {
+            return false;
+        }
+    }
+    true
 }
 
 // What a statement calls or creates takes its actual arguments.
 #[tactic(auto, using(crate::proofs::Passes::fits_called))]
 pub(crate) fn are_calls_fitting(program: &ProgramSymbols, symbols: &Symbols, form: &Form) -> bool
-    ensures { result ≡ list_all (conditions.fits_call program.now symbols.now) (statements.calls_in form.now) }
+    ensures { result ≡ list_all (conditions.fits_call (function_types program.now) program.now symbols.now) (statements.calls_in form.now) }
 {
     match form {
         Form::Call(occurrence, actuals) | Form::Create(occurrence, actuals) => {

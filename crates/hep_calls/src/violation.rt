@@ -2,11 +2,11 @@
 ghost use Rattle.std.specs.Prelude.{◌≡◌, IfOk};
 ghost use Rattle.hep_conditions.specs.Arguments as conditions;
 ghost use Rattle.hep_conditions.specs.Reported as reported;
-ghost use Rattle.hep_conditions.specs.Words.{first_of};
+ghost use Rattle.hep_conditions.specs.Words.{first_of, function_types};
 ghost use Rattle.hep_names.specs.Passes.{line_of};
 ghost use Rattle.hep_calls.specs.Passes as passes;
 
-use crate::fitting::are_calls_fitting;
+use crate::fitting::{are_calls_fitting, are_references_fitting};
 use crate::state::{are_references_given, are_targets_purgeable};
 use hep_conditions::Violation;
 use hep_conditions::reported::{lesser, line_when, reported};
@@ -24,7 +24,8 @@ fn is_mismatched(
 {
     let references = names_with_lists(alloc, statement)?;
     let are_given = are_calls_fitting(program, symbols, &statement.form)
-        && are_references_given(symbols, &references)
+        && are_references_fitting(program, symbols, &references)
+        && are_references_given(program, symbols, &references)
         && are_targets_purgeable(symbols, &statement.form);
     Ok(!are_given)
 }
@@ -55,7 +56,7 @@ pub fn argument_violation(
     program: &ProgramSymbols,
     symbols: &Symbols,
 ) -> Result<Option<Violation>, AllocError>
-    ensures { IfOk result (λ violation. violation ≡ first_of (conditions.argument_violations program.now symbols.now)) }
+    ensures { IfOk result (λ violation. violation ≡ first_of (conditions.argument_violations (function_types program.now) program.now symbols.now)) }
 {
     Ok(reported(304, least_mismatched(alloc, program, symbols)?))
 }

@@ -2,7 +2,7 @@
 ghost use Rattle.std.specs.Prelude.{◌≡◌, IfOk};
 ghost use Rattle.std.specs.List.{flat_map};
 ghost use Rattle.hep_conditions.specs.Conditions as conditions;
-ghost use Rattle.hep_conditions.specs.Words.{ambiguous_in, first_of};
+ghost use Rattle.hep_conditions.specs.Words.{ambiguous_in, first_of, function_types};
 
 use crate::unit::{first_found, unit_violation};
 use hep_conditions::Violation;
@@ -24,13 +24,13 @@ struct InUnits {
 // Each unit is judged by all conditions before the next one, while its tree is at hand.
 fn violations_in_units(alloc: Global, program: &ProgramSymbols) -> Result<InUnits, AllocError>
     ensures first { IfOk result (λ found. found.first ≡ first_of (flat_map (conditions.violations_in program.now) program.now)) }
-    ensures ambiguous { IfOk result (λ found. found.ambiguous ≡ first_of (flat_map ambiguous_in program.now)) }
+    ensures ambiguous { IfOk result (λ found. found.ambiguous ≡ first_of (flat_map (ambiguous_in (function_types program.now)) program.now)) }
 {
     let mut first = None;
     let mut ambiguous = None;
     for symbols in program.units() {
         first = first_of_two(first, unit_violation(alloc, program, symbols)?);
-        ambiguous = first_of_two(ambiguous, ambiguous_violation(alloc, symbols)?);
+        ambiguous = first_of_two(ambiguous, ambiguous_violation(alloc, program, symbols)?);
     }
     Ok(InUnits { first, ambiguous })
 }

@@ -39,10 +39,10 @@ pub(crate) fn unit_violation(
     ensures { IfOk result (λ violation. violation ≡ first_of (violations_in program.now symbols.now)) }
 {
     let labels = Labels::new(alloc, symbols.statements())?;
-    let loop_variables = loop_variables(alloc, symbols)?;
+    let loop_variables = loop_variables(alloc, program, symbols)?;
     let found = [
-        type_missing_violation(alloc, symbols)?,
-        type_violation(alloc, symbols)?,
+        type_missing_violation(alloc, program, symbols)?,
+        type_violation(alloc, program, symbols)?,
         count_violation(alloc, program, symbols)?,
         argument_violation(alloc, program, symbols)?,
         label_violation(alloc, &labels)?,

@@ -4,15 +4,16 @@ use Rattle.std.proofs.Common.{◌≡◌, ℕ, suc, ◌+◌, ◌-◌, ◌≤◌, 
 use Rattle.std.specs.List.{flat_map}
 use Rattle.std.proofs.Math.Seq.{take-append_seam}
 use Rattle.std.proofs.lemmas.List.{length-map, drop_all}
-use Rattle.hep_machine.specs.Words.{Tree, Trees, constant, occurrence, with_list, parenthesized, signed, negated, binary, no_trees, trees, trees_of, Name, Occurrence, DoControl, Form, PrintItem, Value, line_at, increment_of, Meaning, element, pure, state, unknown, Work, doing, ending}
+use Rattle.hep_machine.specs.Words.{Tree, Trees, constant, occurrence, with_list, parenthesized, signed, negated, binary, no_trees, trees, trees_of, Name, Occurrence, DoControl, Form, PrintItem, Value, line_at, increment_of, Meaning, element, pure, state, external, Work, doing, ending}
 use Rattle.hep_source.specs.declared.statement.Form.TheVariants as form
 use Rattle.hep_source.specs.declared.statement.PrintItem.TheVariants as item
 use Rattle.hep_code.specs.declared.instruction.Evaluation.{Evaluation}
 use Rattle.hep_code.specs.declared.instruction.Evaluation.TheVariants.{Load, Sign, Not, Combine, Apply, Test}
 use Rattle.hep_code.specs.declared.instruction.Instruction.{Instruction}
 use Rattle.hep_code.specs.declared.instruction.Instruction.TheVariants.{Push, Step, Pass, Show}
-use Rattle.hep_code.specs.declared.instruction.Operation.TheVariants.{Evaluate, Condition}
-use Rattle.hep_code.specs.Words.{arity, count, asked, asked_listed, asked_listed_code, asked_code, name_code, listed_code, tree_code, trees_code, evaluating, actual_code, actual_name_code, actual_listed_code, argument_of, argument_of_name, argument_of_listed, target_code, argument_of_target, item_code, printed_of}
+use Rattle.hep_code.specs.declared.variable.Variable.{Variable}
+use Rattle.hep_code.specs.declared.instruction.Operation.TheVariants.{Evaluate, Refer, Condition}
+use Rattle.hep_code.specs.Words.{actuals_code_in, ending_of, passes, arity, count, asked, asked_listed, asked_listed_code, asked_code, name_code, listed_code, tree_code, trees_code, evaluating, actual_code, actual_name_code, actual_listed_code, argument_of, argument_of_name, argument_of_listed, target_code, argument_of_target, item_code, printed_of}
 use Rattle.hep_code.specs.Words.{control_code, operation_code, form_code, conditions_code, work_code, Stands, NameTable, Table, AddressedUnit, table_of, code_of, operands_passed, operands_shown, operands_of_entries, operands_of_entry, operands_by, operands_ahead, operands_before, deeper, deepest, line_before}
 use Rattle.hep_code.specs.Words.{line_ahead, line_too_deep, values_ahead, most_operands}
 use Rattle.std.proofs.lemmas.Bool.Decides.{nat_tests}
@@ -22,6 +23,8 @@ abbrev pub Takes : ℕ → List Instruction → Type 0
 Takes h [] = ⊥
 Takes h (Push v ∷ is) = Takes (suc h) is
 Takes h (Step line (Evaluate e) ∷ is) = (arity e ≤ h) × Takes (suc (h - arity e)) is
+Takes h (Step line (Refer u count) ∷ is) = (operands_of_entries (take count is) ≤ h) × Takes (suc (h - operands_of_entries (take count is))) is
+Takes h (Pass a ∷ is) = Takes h is
 Takes h (Step line o ∷ is) = h ≡ operands_by o 0 is
 Takes h (_ ∷ is) = ⊥
 
@@ -29,6 +32,8 @@ pub takes_are : (h : ℕ) (is : List Instruction) → Takes h is → h ≡ opera
 takes_are h [] t = elim t [ ]
 takes_are h (Push v ∷ is) t = omega (arith, takes_are (suc h) is t)
 takes_are h (Step line (Evaluate e) ∷ is) t = omega (arith, t.0, takes_are (suc (h - arity e)) is t.1)
+takes_are h (Step line (Refer u count) ∷ is) t = omega (arith, t.0, takes_are (suc (h - operands_of_entries (take count is))) is t.1)
+takes_are h (Pass a ∷ is) t = takes_are h is t
 takes_are h (Step line _ ∷ is) t = t
 takes_are h (_ ∷ is) t = elim t [ ]
 
@@ -45,6 +50,9 @@ evaluated line h m e is f t = (omega (arith, f), let g : suc h ≡ suc (m - arit
 
 turned : (h : ℕ) (xs ys is : List Instruction) → Takes h (xs ++ (ys ++ is)) → Takes h ((xs ++ ys) ++ is)
 turned h xs ys is t = subst (Takes h) (sym (append_assoc xs ys is)) t
+
+first_entries : (n : ℕ) (es is : List Instruction) → n ≡ length es → take n (es ++ is) ≡ es
+first_entries n es is e = ap (λ k. take k (es ++ is)) e ∙ take-append_seam es is
 
 module _ (names : NameTable) (line : ℕ) where
   name_takes : (o : Option Value) (x : Name) (h : ℕ) (is : List Instruction) → Takes (suc h) is → Takes h (name_code names line o x ++ is)
@@ -65,25 +73,62 @@ module _ (names : NameTable) (line : ℕ) where
   asked_takes element x ts all h n is e t = all h n is e t
   asked_takes _ x ts all h n is e t = nothing_takes h n is e t
 
-  listed_takes : (m : Meaning) (x : Name) (ts : Trees) → AllTake ts → AskedTakes ts → (h : ℕ) (is : List Instruction) → Takes (suc h) is
-      → Takes h (listed_code names m line x ts (trees_code names line ts) (asked_code names line ts) ++ is)
-  listed_takes element x ts all some h is t =
+  -- actual arguments take as many as stand behind the operation of them
+  abbrev ActualsTake : Trees → Type 0
+  ActualsTake ts = (h m : ℕ) (is : List Instruction) → m ≡ operands_of_entries (passes names ts) + h → Takes m is → Takes h (actuals_code_in names line ts ++ is)
+
+  passes_length : (ts : Trees) → length (passes names ts) ≡ count ts
+  passes_length no_trees = refl
+  passes_length (trees t ts) = ap suc (passes_length ts)
+
+  passed_over : (ts : Trees) (h : ℕ) (is : List Instruction) → Takes h is → Takes h (passes names ts ++ is)
+  passed_over no_trees h is t = t
+  passed_over (trees a ts) h is t = passed_over ts h is t
+
+  referred : (h f : ℕ) (ts : Trees) (is : List Instruction) → Takes (suc h) is → Takes (operands_of_entries (passes names ts) + h) (Step line (Refer f (count ts)) ∷ (passes names ts ++ is))
+  referred h f ts is t =
+      let n = operands_of_entries (passes names ts) in
+      let e : operands_of_entries (take (count ts) (passes names ts ++ is)) ≡ n = ap operands_of_entries (first_entries (count ts) (passes names ts) is (sym (passes_length ts))) in
+      let g : suc h ≡ suc ((n + h) - operands_of_entries (take (count ts) (passes names ts ++ is))) = omega (arith, e) in
+      (omega (arith, e), subst (λ k. Takes k (passes names ts ++ is)) g (passed_over ts (suc h) is t))
+
+  listed_takes : (m : Meaning) (x : Name) (ts : Trees) → AllTake ts → AskedTakes ts → ActualsTake ts → (h : ℕ) (is : List Instruction) → Takes (suc h) is
+      → Takes h (listed_code names m line x ts (trees_code names line ts) (asked_code names line ts) (actuals_code_in names line ts) ++ is)
+  listed_takes element x ts all some actuals h is t =
       let e = Load (names.variables x) (count ts) in
       turned h (trees_code names line ts) (evaluating line e) is (all h (count ts + h) (evaluating line e ++ is) refl (evaluated line h (count ts + h) e is refl t))
-  listed_takes (pure f) x ts all some h is t =
+  listed_takes (pure f) x ts all some actuals h is t =
       let e = Apply f (count ts) in
       turned h (trees_code names line ts) (evaluating line e) is (all h (count ts + h) (evaluating line e ++ is) refl (evaluated line h (count ts + h) e is refl t))
-  listed_takes (state f) x ts all some h is t =
+  listed_takes (state f) x ts all some actuals h is t =
       let n = (asked names ts).1 in
       let e = Test f (names.variables (asked names ts).0) (asked names ts).1 in
       turned h (asked_code names line ts) (evaluating line e) is (some h (n + h) (evaluating line e ++ is) refl (evaluated line h (n + h) e is refl t))
-  listed_takes unknown x ts all some h is t = t
+  listed_takes external x ts all some actuals h is t =
+      let n = operands_of_entries (passes names ts) in
+      turned h (actuals_code_in names line ts) (Step line (Refer (names.functions x) (count ts)) ∷ passes names ts) is (
+      actuals h (n + h) (Step line (Refer (names.functions x) (count ts)) ∷ (passes names ts ++ is)) refl (referred h (names.functions x) ts is t))
+
+  -- one that is an expression
+  one_more : (h m : ℕ) (is : List Instruction) → m ≡ 1 + h → Takes m is → Takes (suc h) is
+  one_more h m is e u = let d : m ≡ suc h = omega (arith, e) in subst (λ n. Takes n is) d u
+
+  actual_name_takes : (o : Option Value) (x : Name) (h m : ℕ) (is : List Instruction) → m ≡ operands_passed (argument_of_name names o x) + h → Takes m is → Takes h (actual_name_code o ++ is)
+  actual_name_takes None x h m is e u = nothing_takes h m is e u
+  actual_name_takes (Some v) x h m is e u = one_more h m is e u
+
+  actual_listed_takes : (meaning : Meaning) (p : Occurrence) (ts : Trees) → AllTake ts → AskedTakes ts → ActualsTake ts → (h m : ℕ) (is : List Instruction) → m ≡ operands_passed (argument_of_listed names meaning p.name (count ts)) + h → Takes m is
+      → Takes h (actual_listed_code meaning (trees_code names line ts) (listed_code names meaning line p.name ts (trees_code names line ts) (asked_code names line ts) (actuals_code_in names line ts)) ++ is)
+  actual_listed_takes element p ts all some actuals h m is e u = all h m is e u
+  actual_listed_takes (pure f) p ts all some actuals h m is e u = listed_takes (pure f) p.name ts all some actuals h is (one_more h m is e u)
+  actual_listed_takes (state f) p ts all some actuals h m is e u = listed_takes (state f) p.name ts all some actuals h is (one_more h m is e u)
+  actual_listed_takes external p ts all some actuals h m is e u = listed_takes external p.name ts all some actuals h is (one_more h m is e u)
 
   mutual
     pub tree_takes : (t : Tree) (h : ℕ) (is : List Instruction) → Takes (suc h) is → Takes h (tree_code names line t ++ is)
     tree_takes (constant v) h is t = t
     tree_takes (occurrence p) h is t = name_takes (names.constants p.name) p.name h is t
-    tree_takes (with_list p ts) h is t = listed_takes (names.meanings p.name) p.name ts (trees_take ts) (some_takes ts) h is t
+    tree_takes (with_list p ts) h is t = listed_takes (names.meanings p.name) p.name ts (trees_take ts) (some_takes ts) (actuals_take ts) h is t
     tree_takes (parenthesized a) h is t = tree_takes a h is t
     tree_takes (signed s a) h is t =
         turned h (tree_code names line a) (evaluating line (Sign s)) is (tree_takes a h (evaluating line (Sign s) ++ is) (evaluated line h (suc h) (Sign s) is (omega arith) t))
@@ -104,24 +149,30 @@ module _ (names : NameTable) (line : ℕ) where
     some_takes (trees (occurrence p) no_trees) h m is e t = nothing_takes h m is e t
     some_takes _ h m is e t = nothing_takes h m is e t
 
+    pub actual_takes : (t : Tree) (h m : ℕ) (is : List Instruction) → m ≡ operands_passed (argument_of names t) + h → Takes m is → Takes h (actual_code names line t ++ is)
+    actual_takes (constant v) h m is e u = one_more h m is e u
+    actual_takes (occurrence p) h m is e u = actual_name_takes (names.constants p.name) p.name h m is e u
+    actual_takes (with_list p ts) h m is e u = actual_listed_takes (names.meanings p.name) p ts (trees_take ts) (some_takes ts) (actuals_take ts) h m is e u
+    actual_takes (parenthesized a) h m is e u = tree_takes a h is (one_more h m is e u)
+    actual_takes (signed s a) h m is e u =
+        turned h (tree_code names line a) (evaluating line (Sign s)) is (tree_takes a h (evaluating line (Sign s) ++ is) (evaluated line h (suc h) (Sign s) is (omega arith) (one_more h m is e u)))
+    actual_takes (negated a) h m is e u =
+        turned h (tree_code names line a) (evaluating line Not) is (tree_takes a h (evaluating line Not ++ is) (evaluated line h (suc h) Not is (omega arith) (one_more h m is e u)))
+    actual_takes (binary o a b) h m is e u =
+        let f = evaluating line (Combine o) in
+        turned h (tree_code names line a ++ tree_code names line b) f is (turned h (tree_code names line a) (tree_code names line b) (f ++ is)
+        (tree_takes a h (tree_code names line b ++ (f ++ is)) (tree_takes b (suc h) (f ++ is) (evaluated line h (suc (suc h)) (Combine o) is (omega arith) (one_more h m is e u)))))
+
+    pub actuals_take : (ts : Trees) → ActualsTake ts
+    actuals_take no_trees h m is e u = nothing_takes h m is e u
+    actuals_take (trees a ts) h m is e u =
+        let n = operands_passed (argument_of names a) + h in
+        turned h (actual_code names line a) (actuals_code_in names line ts) is (actual_takes a h n (actuals_code_in names line ts ++ is) refl (actuals_take ts n m is (omega (arith, e)) u))
+
   -- ---- lists
 
   value_takes : (t : Tree) (h m : ℕ) (is : List Instruction) → m ≡ 1 + h → Takes m is → Takes h (tree_code names line t ++ is)
   value_takes t h m is e u = let d : m ≡ suc h = omega (arith, e) in tree_takes t h is (subst (λ n. Takes n is) d u)
-
-  actual_name_takes : (o : Option Value) (x : Name) (h m : ℕ) (is : List Instruction) → m ≡ operands_passed (argument_of_name names o x) + h → Takes m is → Takes h (actual_name_code o ++ is)
-  actual_name_takes None x h m is e u = nothing_takes h m is e u
-  actual_name_takes (Some v) x h m is e u = let d : m ≡ suc h = omega (arith, e) in subst (λ n. Takes n is) d u
-
-  actual_listed_takes : (meaning : Meaning) (p : Occurrence) (ts : Trees) (h m : ℕ) (is : List Instruction) → m ≡ operands_passed (argument_of_listed names meaning p.name (count ts)) + h → Takes m is
-      → Takes h (actual_listed_code meaning (trees_code names line ts) (tree_code names line (with_list p ts)) ++ is)
-  actual_listed_takes element p ts h m is e u = trees_take ts h m is e u
-  actual_listed_takes _ p ts h m is e u = value_takes (with_list p ts) h m is e u
-
-  actual_takes : (t : Tree) (h m : ℕ) (is : List Instruction) → m ≡ operands_passed (argument_of names t) + h → Takes m is → Takes h (actual_code names line t ++ is)
-  actual_takes (occurrence p) h m is e u = actual_name_takes (names.constants p.name) p.name h m is e u
-  actual_takes (with_list p ts) h m is e u = actual_listed_takes (names.meanings p.name) p ts h m is e u
-  actual_takes t h m is e u = value_takes t h m is e u
 
   item_takes : (i : PrintItem) (h m : ℕ) (is : List Instruction) → m ≡ operands_shown (printed_of i) + h → Takes m is → Takes h (item_code names line i ++ is)
   item_takes (item.Expression t) h m is e u = value_takes t h m is e u
@@ -144,9 +195,6 @@ module _ (names : NameTable) (line : ℕ) where
 
 -- ---- statements
 
-first_entries : (n : ℕ) (es is : List Instruction) → n ≡ length es → take n (es ++ is) ≡ es
-first_entries n es is e = ap (λ k. take k (es ++ is)) e ∙ take-append_seam es is
-
 -- an operation takes those of as many entries behind it as it has
 entries_taken : (n m : ℕ) (es is : List Instruction) → n ≡ operands_of_entries es + 0 → m ≡ length es → n ≡ operands_of_entries (take m (es ++ is))
 entries_taken n m es is e f = omega (arith, e, ap operands_of_entries (first_entries m es is f))
@@ -162,6 +210,10 @@ module _ (table : Table) (line k : ℕ) where
   entries_take entry c each ts after is takes =
       let n = operands_of_entries (map entry ts) + 0 in
       turned 0 (flat_map c ts) after is (list_takes table.names line entry c each ts 0 n (after ++ is) refl (takes n (entries_taken n (length ts) (map entry ts) is refl (sym (length-map ts entry)))))
+
+  by_result : (o : Option Variable) (is : List Instruction) → Takes 0 (Step line (ending_of o) ∷ is)
+  by_result None is = refl
+  by_result (Some x) is = refl
 
   form_takes : (f : Form) (is : List Instruction) → Takes 0 (form_code table line k f ++ is)
   form_takes (form.Assign x t) is =
@@ -184,6 +236,8 @@ module _ (table : Table) (line k : ℕ) where
       entries_take (λ t. Pass (argument_of_target table.names t)) (target_code table.names line) (λ t. trees_take table.names line (trees_of t.subscripts)) ts (operation_code table line k (form.Purge ts)) is (λ n e. e)
   form_takes (form.Print items) is =
       entries_take (λ i. Show (printed_of i)) (item_code table.names line) (item_takes table.names line) items (operation_code table line k (form.Print items)) is (λ n e. e)
+  form_takes form.Return is = by_result table.result is
+  form_takes form.End is = by_result table.result is
   form_takes _ is = refl
 
   conditions_take : (ts : List Tree) (f : Form) (is : List Instruction) → Takes 0 (conditions_code table line k ts f ++ is)
@@ -212,6 +266,7 @@ within : (h : ℕ) (is : List Instruction) → Takes h is → h + values_ahead i
 within h [] t = elim t [ ]
 within h (Push v ∷ is) t = omega (arith, within (suc h) is t, deepest_behind (Push v) is)
 within h (Step line o ∷ is) t = omega (arith, takes_are h (Step line o ∷ is) t, deepest_first (Step line o ∷ is))
+within h (Pass a ∷ is) t = omega (arith, takes_are h (Pass a ∷ is) t, deepest_first (Pass a ∷ is))
 within h (_ ∷ is) t = elim t [ ]
 
 deepest_rest : (is : List Instruction) (i : ℕ) → deepest (drop i is) ≤ deepest is

@@ -4,7 +4,7 @@ use Rattle.std.proofs.Common.{◌≡◌, ℕ, List, [], ◌∷◌, ◌++◌, map
 use Rattle.std.specs.List.{flat_map}
 use Rattle.hep_machine.specs.Words.{Target, Name, Occurrence, Operator, DoControl, PrintItem, Value, Tree, Trees, constant, occurrence, with_list, parenthesized, signed, negated, binary, trees, trees_of, constant_value, Reference, Part, whole, first_redex, redex_of, then_part, mapped_part, signing, negating, combined}
 use Rattle.hep_machine.specs.Words.{part_of_listed, part_of, parts_of, reference_of, plugged, plugged_first, plugged_listed, plug, plug_all, list_part, plug_list, Actual, evaluated, actual_of_name, actual_of_listed, actual_of, actuals_of, plug_actuals, target_part, plug_target, targets_part, plug_targets, item_of}
-use Rattle.hep_machine.specs.Words.{item_part, items_part, plug_item, plug_items, increment_of, control_part, plug_control, referred, Meaning, element, pure, state, unknown, listed_meaning}
+use Rattle.hep_machine.specs.Words.{item_part, items_part, plug_item, plug_items, increment_of, control_part, plug_control, referred, Meaning, element, pure, state, external, listed_meaning}
 use Rattle.hep_source.specs.declared.operator.Sign.{Sign as SignBefore}
 use Rattle.hep_source.specs.declared.statement.PrintItem.TheVariants as print_item
 use Rattle.hep_source.specs.declared.value.Value.TheVariants as value
@@ -16,7 +16,7 @@ use Rattle.hep_code.specs.declared.instruction.Instruction.TheVariants.{Push, Pa
 use Rattle.hep_code.specs.declared.instruction.Printed.TheVariants.{Operand}
 use Rattle.hep_code.specs.declared.variable.Variable.{Variable}
 use Rattle.hep_code.specs.Words.{operands_of_actual, argument_of_actual, referred_argument, operands_of_item, printed_item, count, actual_name_code, actual_listed_code, actual_code, actuals_code, argument_of_name, argument_of_listed, argument_of, target_code, targets_code, argument_of_target, item_code, items_code, printed_of, control_code, AddressedUnit, names_of, by_reference, passed_from, passed_reference, passed_actual, items_from}
-use Rattle.hep_code.proofs.Expressions.{FirstIs, PartIs, one, Any, before_more, behind_values, both_values, same_after, code, codes, ValueIs, ValuesAre, count_stays, tree_is, trees_are}
+use Rattle.hep_code.proofs.Expressions.{ActualPart, actual_is, argument_code, passed, FirstIs, PartIs, one, Any, before_more, behind_values, both_values, same_after, code, codes, ValueIs, ValuesAre, count_stays, tree_is, trees_are}
 use Rattle.std.proofs.Math.Seq.{take-append_seam, drop-append_seam}
 use Rattle.hep_machine.specs.declared.record.Item.TheVariants as item
 
@@ -51,91 +51,22 @@ module _ (addressed : AddressedUnit) (line : ℕ) where
 
   -- ---- actual arguments: 15.9.2 and 15.9.3
 
-  abbrev pub passed : Actual → Instruction
-  passed a = Pass (argument_of_actual addressed.variables a)
-
   abbrev pub passed_tree : Tree → Instruction
   passed_tree t = Pass (argument_of (names_of addressed) t)
 
-  abbrev pub argument_code : Tree → List Instruction
-  argument_code t = actual_code (names_of addressed) line t
+  of_actual : (p : Part Actual) (c : List Instruction) (after : Value → List Instruction) (e : Argument) (later : Value → Argument) → ActualPart addressed line p c after e later → HasEntry operands_of_actual (passed addressed line) p c after (Pass e) (λ v. Pass (later v))
+  of_actual (whole x) c after e later h = (h.0, ap Pass h.1)
+  of_actual (first_redex r) c after e later h = (h.0, λ v. ap Pass (h.1 v))
 
-  abbrev ActualIs : Part Actual → List Instruction → (Value → List Instruction) → Argument → (Value → Argument) → Type 0
-  ActualIs p c after e later = HasEntry operands_of_actual passed p c after (Pass e) (λ v. Pass (later v))
+  actual_entry : (t : Tree) → HasEntry operands_of_actual (passed addressed line) (actual_of addressed.unit t) (argument_code addressed line t) (λ v. argument_code addressed line (plug addressed.unit t v)) (passed_tree t) (λ v. passed_tree (plug addressed.unit t v))
+  actual_entry t =
+      of_actual (actual_of addressed.unit t) (argument_code addressed line t) (λ v. argument_code addressed line (plug addressed.unit t v)) (argument_of (names_of addressed) t) (λ v. argument_of (names_of addressed) (plug addressed.unit t v))
+      (actual_is addressed line t)
 
-  -- one that is an expression, and stays one
-  expression_is : (p : Part Value) (c : List Instruction) (after later : Value → List Instruction) (e : Argument) (passed_later : Value → Argument) → e ≡ Evaluated → IfFirst p ((v : Value) → (later v ≡ after v) × (passed_later v ≡ Evaluated)) → PartIs addressed line (one addressed line) (Any addressed line) p c after → ActualIs (mapped_part evaluated p) c later e passed_later
-  expression_is (whole x) c after later e passed_later is stays h = (h.0, ap Pass (sym is))
-  expression_is (first_redex r) c after later e passed_later is stays h = (same_after (λ v. (stays v).0) h, λ v. ap Pass ((stays v).1 ∙ sym is))
-
-  name_is : (p : Occurrence) (known : Option Value) → ActualIs (actual_of_name known p.name) (actual_name_code known) (λ v. Push v ∷ []) (argument_of_name (names_of addressed) known p.name) (λ v. Evaluated)
-  name_is p None = (refl, refl)
-  name_is p (Some v) = (refl, refl)
-
-  -- the code and the argument of a name with a list that is partly evaluated, its meaning as it was
-  with_list_code : (m : Meaning) (p : Occurrence) (us : Trees) → m ≡ listed_meaning addressed.unit p.name → argument_code (with_list p us) ≡ actual_listed_code m (codes addressed line us) (code addressed line (with_list p us))
-  with_list_code m p us is = ap (λ m. actual_listed_code m (codes addressed line us) (code addressed line (with_list p us))) (sym is)
-
-  with_list_argument : (m : Meaning) (p : Occurrence) (us : Trees) → m ≡ listed_meaning addressed.unit p.name → argument_of (names_of addressed) (with_list p us) ≡ argument_of_listed (names_of addressed) m p.name (count us)
-  with_list_argument m p us is = ap (λ m. argument_of_listed (names_of addressed) m p.name (count us)) (sym is)
-
-  listed_is : (m : Meaning) (p : Occurrence) (ts : Trees) (q : Part (List Value)) (r : Part Reference) → m ≡ listed_meaning addressed.unit p.name → ValuesAre addressed line q ts (plug_all addressed.unit ts) → ValueIs addressed line (part_of_listed m p.name q r) (with_list p ts) (λ v. plugged_listed m q r (with_list p (plug_all addressed.unit ts v)) v) → ActualIs (actual_of_listed m p.name q (part_of_listed m p.name q r)) (actual_listed_code m (codes addressed line ts) (code addressed line (with_list p ts))) (λ v. argument_code (plugged_listed m q r (with_list p (plug_all addressed.unit ts v)) v)) (argument_of_listed (names_of addressed) m p.name (count ts)) (λ v. argument_of (names_of addressed) (plugged_listed m q r (with_list p (plug_all addressed.unit ts v)) v))
-  listed_is element p ts (whole xs) r is h i = (h.0, ap (λ n. Pass (Referred (addressed.variables p.name) n)) h.1)
-  listed_is element p ts (first_redex s) r is h i =
-      let us : Value → Trees = plug_all addressed.unit ts in (
-        same_after (λ v. with_list_code element p (us v) is) h,
-        λ v. ap Pass (with_list_argument element p (us v) is ∙ ap (Referred (addressed.variables p.name)) (count_stays addressed line ts v)),
-      )
-  listed_is (pure f) p ts (whole xs) r is h i = (i, λ v. refl)
-  listed_is (pure f) p ts (first_redex s) r is h i =
-      let us : Value → Trees = plug_all addressed.unit ts in
-      (same_after (λ v. with_list_code (pure f) p (us v) is) i, λ v. ap Pass (with_list_argument (pure f) p (us v) is))
-  listed_is (state f) p ts q (whole x) is h i = (i, λ v. refl)
-  listed_is (state f) p ts q (first_redex s) is h i =
-      let us : Value → Trees = plug_all addressed.unit ts in
-      (same_after (λ v. with_list_code (state f) p (us v) is) i, λ v. ap Pass (with_list_argument (state f) p (us v) is))
-  listed_is unknown p ts q r is h i = (i.0, refl)
-
-  -- an expression that is neither a name nor a name with a list stays one, or becomes a value
-  abbrev StaysExpression : Part Value → (Value → Tree) → Type 0
-  StaysExpression p f = IfFirst p ((v : Value) → (argument_code (f v) ≡ code addressed line (f v)) × (argument_of (names_of addressed) (f v) ≡ Evaluated))
-
-  signed_stays : (s : SignBefore) (p : Part Value) (f : Value → Tree) → StaysExpression (redex_of (signing s) p) (λ v. plugged p (signed s (f v)) v)
-  signed_stays s (whole x) f = λ v. (refl, refl)
-  signed_stays s (first_redex r) f = λ v. (refl, refl)
-
-  negated_stays : (p : Part Value) (f : Value → Tree) → StaysExpression (redex_of negating p) (λ v. plugged p (negated (f v)) v)
-  negated_stays (whole x) f = λ v. (refl, refl)
-  negated_stays (first_redex r) f = λ v. (refl, refl)
-
-  binary_stays : (o : Operator) (a b : Tree) (p q : Part Value) (f g : Value → Tree) → StaysExpression (redex_of (combined o) (then_part (λ v w. (v, w)) p q)) (λ v. plugged_first p (binary o (f v) b) (plugged q (binary o a (g v)) v))
-  binary_stays o a b (first_redex r) q f g = λ v. (refl, refl)
-  binary_stays o a b (whole x) (first_redex r) f g = λ v. (refl, refl)
-  binary_stays o a b (whole x) (whole y) f g = λ v. (refl, refl)
-
-  stays_is : (t : Tree) (p : Part Value) (f : Value → Tree) → argument_of (names_of addressed) t ≡ Evaluated → StaysExpression p f → ValueIs addressed line p t f → ActualIs (mapped_part evaluated p) (code addressed line t) (λ v. argument_code (f v)) (argument_of (names_of addressed) t) (λ v. argument_of (names_of addressed) (f v))
-  stays_is t p f is stays h =
-      expression_is p (code addressed line t) (λ v. code addressed line (f v)) (λ v. argument_code (f v)) (argument_of (names_of addressed) t) (λ v. argument_of (names_of addressed) (f v)) is stays h
-
-  pub actual_is : (t : Tree) → ActualIs (actual_of addressed.unit t) (argument_code t) (λ v. argument_code (plug addressed.unit t v)) (argument_of (names_of addressed) t) (λ v. argument_of (names_of addressed) (plug addressed.unit t v))
-  actual_is (occurrence p) = name_is p (constant_value addressed.unit p.name)
-  actual_is (with_list p ts) =
-      listed_is (listed_meaning addressed.unit p.name) p ts (parts_of addressed.unit ts) (reference_of addressed.unit ts) refl (trees_are addressed line ts) (tree_is addressed line (with_list p ts))
-  actual_is (constant x) = (refl, refl)
-  actual_is (parenthesized t) =
-      stays_is (parenthesized t) (part_of addressed.unit t) (plug addressed.unit (parenthesized t)) refl (in_first (part_of addressed.unit t) (λ v. (refl, refl))) (tree_is addressed line t)
-  actual_is (signed s t) =
-      stays_is (signed s t) (part_of addressed.unit (signed s t)) (plug addressed.unit (signed s t)) refl (signed_stays s (part_of addressed.unit t) (plug addressed.unit t)) (tree_is addressed line (signed s t))
-  actual_is (negated t) =
-      stays_is (negated t) (part_of addressed.unit (negated t)) (plug addressed.unit (negated t)) refl (negated_stays (part_of addressed.unit t) (plug addressed.unit t)) (tree_is addressed line (negated t))
-  actual_is (binary o a b) =
-      stays_is (binary o a b) (part_of addressed.unit (binary o a b)) (plug addressed.unit (binary o a b)) refl
-      (binary_stays o a b (part_of addressed.unit a) (part_of addressed.unit b) (plug addressed.unit a) (plug addressed.unit b)) (tree_is addressed line (binary o a b))
-
-  pub actuals_are : (ts : List Tree) → HasEntry (flat_map operands_of_actual) (map passed) (actuals_of addressed.unit ts) (actuals_code (names_of addressed) line ts) (λ v. actuals_code (names_of addressed) line (plug_actuals addressed.unit ts v)) (map passed_tree ts) (λ v. map passed_tree (plug_actuals addressed.unit ts v))
+  pub actuals_are : (ts : List Tree) → HasEntry (flat_map operands_of_actual) (map (passed addressed line)) (actuals_of addressed.unit ts) (actuals_code (names_of addressed) line ts) (λ v. actuals_code (names_of addressed) line (plug_actuals addressed.unit ts v)) (map passed_tree ts) (λ v. map passed_tree (plug_actuals addressed.unit ts v))
   actuals_are [] = (refl, refl)
   actuals_are (t ∷ ts) =
-      list_entries operands_of_actual passed argument_code passed_tree (actual_of addressed.unit t) (actuals_of addressed.unit ts) t ts (plug addressed.unit t) (plug_actuals addressed.unit ts) (actual_is t) (actuals_are ts)
+      list_entries operands_of_actual (passed addressed line) (argument_code addressed line) passed_tree (actual_of addressed.unit t) (actuals_of addressed.unit ts) t ts (plug addressed.unit t) (plug_actuals addressed.unit ts) (actual_entry t) (actuals_are ts)
 
   -- ---- what is assigned (10.1 and 10.2) or purged (docs/LANGUAGE.md, 9)
 

@@ -5,7 +5,7 @@ use Rattle.hep_code.specs.declared.instruction.Argument.TheVariants.{Evaluated, 
 use Rattle.hep_code.specs.declared.instruction.Instruction.{Instruction}
 use Rattle.hep_code.specs.declared.instruction.Instruction.TheVariants.{Push, Step, Pass, Show}
 use Rattle.hep_code.specs.declared.instruction.Operation.{Operation}
-use Rattle.hep_code.specs.declared.instruction.Operation.TheVariants.{Evaluate, Store, Choose, BySign, Condition, Branch, EnterLoop, Call, Create, Purge, Print}
+use Rattle.hep_code.specs.declared.instruction.Operation.TheVariants.{Refer, Evaluate, Store, Choose, BySign, Condition, Branch, EnterLoop, Call, Create, Purge, Print}
 use Rattle.hep_code.specs.declared.instruction.Printed.{Printed}
 use Rattle.hep_code.specs.declared.instruction.Printed.TheVariants.{Operand, Characters}
 use Rattle.hep_code.specs.Actions.{arity}
@@ -35,6 +35,7 @@ operands_of_entries (i ∷ is) = operands_of_entry i + operands_of_entries is
 -- those of an operation, where there are n in front of the first of the instructions behind it
 abbrev pub operands_by : Operation → ℕ → List Instruction → ℕ
 operands_by (Evaluate e) n is = arity e + (n - 1)
+operands_by (Refer u count) n is = operands_of_entries (take count is) + (n - 1)
 operands_by (Store x subscripts next) n is = 1 + subscripts
 operands_by (Choose count next) n is = 1
 operands_by (BySign negative equal positive) n is = 1
@@ -50,6 +51,7 @@ operands_by _ n is = 0
 abbrev pub operands_before : Instruction → ℕ → List Instruction → ℕ
 operands_before (Push v) n is = n - 1
 operands_before (Step line o) n is = operands_by o n is
+operands_before (Pass a) n is = n
 operands_before _ n is = 0
 
 -- those in front of the first of these instructions

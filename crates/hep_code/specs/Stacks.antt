@@ -1,10 +1,10 @@
 -- A process in the code of its program's units: docs/MACHINE.md, "Activations and processes".
-use Rattle.std.specs.Prelude.{◌≡◌, ℕ, ◌≤◌, List, [], ◌∷◌, length}
-use Rattle.hep_machine.specs.Words.{Name, Statement, Value, Units, unit_at, executable_from, unit_of, Level, Process, State, unit_called}
+use Rattle.std.specs.Prelude.{◌≡◌, ℕ, ◌≤◌, List, [], ◌∷◌, ◌++◌, length, Option, Some, None}
+use Rattle.hep_machine.specs.Words.{Name, Statement, Value, Units, function_name, function_unit, plug_work, unit_at, executable_from, unit_of, Level, Process, State, unit_called}
 use Rattle.hep_code.specs.declared.variable.Variable.{Variable}
 use Rattle.hep_code.specs.Targets.{at}
 use Rattle.hep_code.specs.UnitCode.{AddressedUnit, index_of, table_of}
-use Rattle.hep_code.specs.Standing.{Counts, HoldsLoops, IsAt}
+use Rattle.hep_code.specs.Standing.{Counts, HoldsLoops, IsAt, Stands}
 
 -- where variables and the cells of DOs are, by the number of the unit
 pub record Addresses : Type 0 where
@@ -19,6 +19,7 @@ addressed_unit program addresses u =
       variables = addresses.variables u;
       cells = addresses.cells u;
       subroutines = unit_called program;
+      functions = function_unit program;
     }
 
 -- the first instruction of a unit's first executable statement: X3.9-1978, 3.6 and 15.6.2.1
@@ -33,6 +34,13 @@ pub record CodeLevel : Type 0 where
   pub operands : List Value
   pub counts : Counts
 
+-- what a level below the top awaits, by the result of the unit above it: that a subroutine ends, after whose CALL it goes on; or the value
+-- of a function, in the place of its reference
+abbrev pub Awaits : Option Name → AddressedUnit → Level → List Value → ℕ → Type 0
+Awaits None addressed level operands index = (index ≡ ((table_of addressed).flows level.statement).next) × (operands ≡ [])
+Awaits (Some x) addressed level operands index =
+    (v : Value) → Stands addressed level.statement (plug_work addressed.unit level.work v) (operands ++ v ∷ []) index
+
 module _ (program : Units) (addresses : Addresses) (s : State) where
   -- the activation of a level, which was made, and its unit
   pub record IsOf (f : CodeLevel) (level : Level) : Type 0 where
@@ -40,26 +48,26 @@ module _ (program : Units) (addresses : Addresses) (s : State) where
     pub made : (1 ≤ f.activation) × (f.activation ≤ length s.activations)
     pub unit : unit_of s f.activation ≡ f.unit
 
-  -- one below the top has made its CALL, and goes on after it
-  pub record IsBelow (f : CodeLevel) (level : Level) : Type 0 where
+  -- one below the top awaits the end of the unit above it
+  pub record IsBelow (above : ℕ) (f : CodeLevel) (level : Level) : Type 0 where
     pub is_of : IsOf f level
-    pub index : f.index ≡ ((table_of (addressed_unit program addresses f.unit)).flows level.statement).next
-    pub operands : f.operands ≡ []
+    pub awaits : Awaits (function_name (unit_at program above)) (addressed_unit program addresses f.unit) level f.operands f.index
     pub loops : HoldsLoops (unit_at program f.unit) f.counts level.loops
 
   pub record IsTop (f : CodeLevel) (level : Level) : Type 0 where
     pub is_of : IsOf f level
     pub at : IsAt (addressed_unit program addresses f.unit) level f.operands f.counts f.index
 
-  abbrev pub AreBelow : List CodeLevel → Process → Type 0
-  AreBelow [] [] = Unit {0}
-  AreBelow (f ∷ fs) (level ∷ levels) = IsBelow f level × AreBelow fs levels
-  AreBelow _ _ = ⊥
+  -- those below a level of this unit
+  abbrev pub AreBelow : ℕ → List CodeLevel → Process → Type 0
+  AreBelow above [] [] = Unit {0}
+  AreBelow above (f ∷ fs) (level ∷ levels) = IsBelow above f level × AreBelow f.unit fs levels
+  AreBelow above _ _ = ⊥
 
   -- those of a process, the top first
   abbrev pub AreLevels : List CodeLevel → Process → Type 0
   AreLevels [] [] = Unit {0}
-  AreLevels (f ∷ fs) (level ∷ levels) = IsTop f level × AreBelow fs levels
+  AreLevels (f ∷ fs) (level ∷ levels) = IsTop f level × AreBelow f.unit fs levels
   AreLevels _ _ = ⊥
 
 -- what the cells of DOs hold none of which was begun

@@ -18,11 +18,14 @@ pub record NameTable : Type 0 where
   pub constants : Name → Option Value
   pub meanings : Name → Meaning
   pub variables : Name → Variable
+  -- the numbers of the functions that are referred to
+  pub functions : Name → ℕ
 
--- of a unit: its names, the numbers of the subroutines that it calls, the indexes of the code to which labels lead, and what
--- there is of each statement, by its index
+-- of a unit: its names, the numbers of the subroutines that it calls, the variable that a function's value is in, the indexes of the code
+-- to which labels lead, and what there is of each statement, by its index
 pub record Table : Type 0 where
   pub names : NameTable
   pub subroutines : Name → ℕ
+  pub result : Option Variable
   pub labels : ℕ → ℕ
   pub flows : ℕ → Flow

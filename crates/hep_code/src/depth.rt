@@ -7,13 +7,13 @@ ghost use Rattle.hep_code.specs.Depths as spec;
 use crate::instruction::{Argument, Instruction, Operation, Printed};
 
 /// How many operands there may be at once.
-pub const MOST_OPERANDS: usize = 256;
+pub const MOST_OPERANDS: u128 = 256;
 
 /// The deepest stack of operands of a unit.
 #[derive(Clone, Copy, Debug, PartialEq, Eq)]
 pub struct Depth {
     /// How many operands there are at most.
-    pub operands: usize,
+    pub operands: u128,
     /// The line of the first statement that has more than 256 of them.
     pub too_deep: Option<u32>,
 }
@@ -60,40 +60,44 @@ fn first_of(list: &[Instruction], count: u32) -> &[Instruction]
 }
 
 // The operands of an operation, where there are so many in front of the instructions behind it.
-fn operands_by(operation: Operation, operands: usize, behind: &[Instruction]) -> usize
+fn operands_by(operation: Operation, operands: u128, behind: &[Instruction]) -> u128
     requires length { length behind.now ≤ most_instructions }
-    requires operands { operands ≤ 4294967296 * length behind.now }
+    requires operands { operands ≤ 4503599627370496 * length behind.now }
     ensures number { result ≡ spec.operands_by operation operands behind.now }
-    ensures bound { result ≤ 4294967296 * (length behind.now + 1) }
+    ensures bound { result ≤ 4503599627370496 * (length behind.now + 1) }
 {
     match operation {
         Operation::Evaluate(evaluation) => {
-            evaluation.arity() as usize + operands.saturating_sub(1)
+            u128::from(evaluation.arity()) + operands.saturating_sub(1)
         }
-        Operation::Store { subscripts, .. } => 1 + subscripts as usize,
+        Operation::Store { subscripts, .. } => 1 + u128::from(subscripts),
         Operation::Choose { .. }
         | Operation::BySign { .. }
         | Operation::Condition { .. }
         | Operation::Branch { .. } => 1,
         Operation::EnterLoop { .. } => 3,
+        Operation::Refer { count, .. } => {
+            operands_of_entries(first_of(behind, count)) as u128 + operands.saturating_sub(1)
+        }
         Operation::Call { count, .. }
         | Operation::Create { count, .. }
         | Operation::Purge { count, .. }
-        | Operation::Print { count, .. } => operands_of_entries(first_of(behind, count)),
+        | Operation::Print { count, .. } => operands_of_entries(first_of(behind, count)) as u128,
         _ => 0,
     }
 }
 
 // Those in front of an instruction, where there are so many in front of the ones behind it.
-fn operands_before(first: &Instruction, operands: usize, behind: &[Instruction]) -> usize
+fn operands_before(first: &Instruction, operands: u128, behind: &[Instruction]) -> u128
     requires length { length behind.now ≤ most_instructions }
-    requires operands { operands ≤ 4294967296 * length behind.now }
+    requires operands { operands ≤ 4503599627370496 * length behind.now }
     ensures number { result ≡ spec.operands_before first.now operands behind.now }
-    ensures bound { result ≤ 4294967296 * (length behind.now + 1) }
+    ensures bound { result ≤ 4503599627370496 * (length behind.now + 1) }
 {
     match first {
         Instruction::Push(_) => operands.saturating_sub(1),
         Instruction::Step { operation, .. } => operands_by(*operation, operands, behind),
+        Instruction::Pass(_) => operands,
         _ => 0,
     }
 }
@@ -109,7 +113,7 @@ fn line_before(first: &Instruction, line: u32) -> u32
 
 impl Depth {
     // The depth with one more instruction, that has so many operands and this line.
-    fn with(self, operands: usize, line: u32) -> Depth
+    fn with(self, operands: u128, line: u32) -> Depth
         ensures operands { result.operands ≡ spec.deeper self.operands operands }
         ensures too_deep { result.too_deep ≡ if nat_lt most_operands operands then Some line else self.too_deep }
     {
@@ -149,7 +153,7 @@ pub fn depth_of(code: &[Instruction]) -> Depth
     // Where no statement has more than 256, the unit hasn't.
     ensures few { result.too_deep ≡ None → result.operands ≤ most_operands }
 {
-    let mut operands = 0;
+    let mut operands: u128 = 0;
     let mut line = 0;
     let mut depth = Depth {
         operands: 0,

@@ -98,6 +98,12 @@ pub enum Operation {
         count: u32,
         next: u32,
     },
+    /// A reference of a function, of this unit (15.5.2), with so many [`Instruction::Pass`] behind it, and behind these what goes on
+    /// with its value.
+    Refer {
+        unit: u32,
+        count: u32,
+    },
     /// PURGE (`docs/LANGUAGE.md`), with so many [`Instruction::Pass`] behind it.
     Purge {
         count: u32,
@@ -110,6 +116,10 @@ pub enum Operation {
     },
     /// RETURN (15.8), and END of a unit (11.14).
     Return,
+    /// RETURN, and END of a function, whose value is in a variable (15.5.3).
+    Answer {
+        variable: Variable,
+    },
     /// RESUME (`docs/LANGUAGE.md`).
     Resume {
         next: u32,
@@ -285,7 +295,11 @@ impl Syntax for Operation {
             (Operation::Print { count: m, next: i }, Operation::Print { count: n, next: j }) => {
                 m == n && i == j
             }
+            (Operation::Refer { unit: u, count: m }, Operation::Refer { unit: v, count: n }) => {
+                u == v && m == n
+            }
             (Operation::Return, Operation::Return) => true,
+            (Operation::Answer { variable: x }, Operation::Answer { variable: y }) => x == y,
             (Operation::Resume { next: i }, Operation::Resume { next: j }) => i == j,
             (Operation::Stop, Operation::Stop) => true,
             _ => false,

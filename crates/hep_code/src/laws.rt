@@ -1,11 +1,11 @@
 //! Laws of the code: what stands ahead of an activation, how many operands it has, and how its levels stay in the
 //! code as activations begin and end.
-ghost use Rattle.std.specs.Prelude.{◌≡◌, ◌≤◌, ◌∷◌, ◌++◌, ◌+◌, ℕ, Bool, true, List, Result, drop, length, map, []};
+ghost use Rattle.std.specs.Prelude.{None, Some, ◌≡◌, ◌≤◌, ◌∷◌, ◌++◌, ◌+◌, ℕ, Bool, true, List, Result, drop, length, map, []};
 ghost use Rattle.std.specs.List.{flat_map};
-ghost use Rattle.hep_machine.specs.Words.{Name, Statement, Value, Units, line_at, statement_at, unit_at, Binding, level_after_statement};
+ghost use Rattle.hep_machine.specs.Words.{Name, Statement, Value, Units, function_name, line_at, statement_at, unit_at, Binding, level_after_statement};
 ghost use Rattle.hep_machine.specs.Words.{Actual, Redex, Reference, does, entering_loop, ending_loop, next_of, plug_work, Scope};
 ghost use Rattle.hep_machine.specs.Words.{location_of_name, Activation, Level, Location, Process, State, Store, Work, Top, answer_of};
-ghost use Rattle.hep_machine.specs.Words.{entry_level, next_activation, result_after_assignment, result_after_write, stack_after_return};
+ghost use Rattle.hep_machine.specs.Words.{entry_level, next_activation, result_after_assignment, result_after_write, stack_after_return, stack_after_value};
 ghost use Rattle.hep_machine.specs.Words.{unit_on_top, with_activation, is_do};
 ghost use Rattle.hep_machine.specs.declared.event.Kind.{Kind};
 ghost use Rattle.hep_machine.specs.declared.record.Item.{Item};
@@ -18,7 +18,7 @@ ghost use Rattle.hep_code.specs.Words.{argument_of_actual, evaluation_of, operan
 ghost use Rattle.hep_code.specs.Words.{printed_item, referred_argument, IsNext, IsPastPushes, IsRedex, values_ahead, deepest, Moves};
 ghost use Rattle.hep_code.specs.Words.{items_from, passed_actual, passed_from, passed_reference, Addressing, Answers, Finds, IsAddressed};
 ghost use Rattle.hep_code.specs.Words.{IsAddressedIn, answer_to_store, reply_of, reply_to_store, Addresses, AreBelow, AreLevels, CodeLevel};
-ghost use Rattle.hep_code.specs.Words.{NoLoops, addressed_unit, calling, entered, Counts, Fits, Stands, AddressedUnit, code_of};
+ghost use Rattle.hep_code.specs.Words.{NoLoops, addressed_unit, Awaits, entered, Counts, Fits, Stands, AddressedUnit, code_of};
 
 /// Where an activation stands and no value stands ahead, there is an operation, with the line of the statement.
 /// An operation that stands ahead is that of what comes next of the statement: of a redex or an action,
@@ -89,14 +89,26 @@ pub fn levels_stay_in_the_code()
     ensures added { (program : Units) (addresses : Addresses)
         (s t : State) (added : List Activation) (fs : List CodeLevel) (levels : Process) → t.activations ≡ s.activations ++ added
         → AreLevels program addresses s fs levels → AreLevels program addresses t fs levels }
-    ensures returned { (program : Units) (addresses : Addresses) (s : State) (fs : List CodeLevel) (levels : Process)
-        → AreBelow program addresses s fs levels → AreLevels program addresses s fs (stack_after_return program s levels) }
+    ensures returned { (program : Units) (addresses : Addresses) (s : State) (u : ℕ) (fs : List CodeLevel) (levels : Process)
+        → function_name (unit_at program u) ≡ None → AreBelow program addresses s u fs levels
+        → AreLevels program addresses s fs (stack_after_return program s levels) }
+    ensures answered { (program : Units) (addresses : Addresses) (s : State) (u : ℕ) (x : Name) (v : Value) (f : CodeLevel)
+        (fs : List CodeLevel) (level : Level) (levels : Process) → function_name (unit_at program u) ≡ Some x
+        → AreBelow program addresses s u (f ∷ fs) (level ∷ levels)
+        → AreLevels program addresses s (record f { operands = f.operands ++ v ∷ [] } ∷ fs) (stack_after_value program s v (level ∷ levels)) }
     ensures called { (program : Units) (addresses : Addresses) (top : Top) (u : ℕ) (b : Binding) (counts : Counts) (f : CodeLevel)
-        (fs : List CodeLevel) → NoLoops (unit_at program u) counts
+        (fs : List CodeLevel) (operands : List Value) (index : ℕ) → NoLoops (unit_at program u) counts
+        → Awaits (function_name (unit_at program u)) (addressed_unit program addresses f.unit) top.level operands index
         → AreLevels program addresses top.state (f ∷ fs) (top.level ∷ top.below)
         → AreLevels program addresses (with_activation top u b) (entered program addresses (next_activation top.state) u counts
-        ∷ (calling program addresses f top.level ∷ fs)) (entry_level (unit_at program u) (next_activation top.state)
+        ∷ (record f { index = index; operands = operands } ∷ fs)) (entry_level (unit_at program u) (next_activation top.state)
         ∷ (top.level ∷ top.below)) }
+    ensures resumed { (program : Units) (addresses : Addresses) (s : State) (f : CodeLevel) (fs : List CodeLevel) (level after : Level)
+        (levels : Process) (counts : Counts) (index : ℕ) → function_name (unit_at program f.unit) ≡ None
+        → AreLevels program addresses s (f ∷ fs) (level ∷ levels)
+        → Moves (addressed_unit program addresses f.unit) level after counts index
+        → AreLevels program addresses s fs (stack_after_return program s levels)
+        × AreLevels program addresses s (record f { index = index; operands = []; counts = counts } ∷ []) (after ∷ []) }
     ensures created { (program : Units) (addresses : Addresses) (top : Top) (u : ℕ) (b : Binding) (counts : Counts)
         → NoLoops (unit_at program u) counts
         → AreLevels program addresses (with_activation top u b) (entered program addresses (next_activation top.state) u counts ∷ [])

@@ -1,8 +1,8 @@
 -- The units of the activations of a run, and what is needed for their dummy arguments to be bound.
 use Rattle.std.proofs.Common.{◌≡◌, ℕ, zero, suc, ◌<◌, ◌≤◌, true, false, List, [], ◌∷◌, length, Option, Some, None, refl, sym, ap, ◌∙◌, subst, arith, true≢false, get_or, is_some, slice_get}
-use Rattle.std.specs.Option.{unwrap_or}
+use Rattle.std.specs.Option.{option_or, unwrap_or}
 use Rattle.std.proofs.lemmas.Option.{slice_get_within, slice_get-get_or}
-use Rattle.hep_machine.specs.Words.{Name, Form, Statement, Units, dummies_by_header, dummies_of, is_main, main_among, main_unit, subroutine_by_header, subroutine_name, unit_at, is_array, is_dummy, no_activation, numbered, unit_of, run, Activation}
+use Rattle.hep_machine.specs.Words.{Name, Form, Statement, Units, dummies_by_header, dummies_of, is_main, main_among, main_unit, function_by_header, procedure_name, subroutine_by_header, unit_at, is_array, is_dummy, no_activation, numbered, unit_of, run, Activation}
 use Rattle.hep_source.specs.declared.statement.Form.TheVariants as form
 use Rattle.hep_conditions.specs.Words.{IsAccepted}
 use Rattle.hep_conditions_laws.specs.Typing.{HasShape}
@@ -16,12 +16,12 @@ use Rattle.hep_image.proofs.Numbers.{unit-there}
 -- ---- units
 
 -- the main program, where there is one
-main-found : (program : Units) → is_some (main_among program) ≡ true → (unit : List Statement) × (slice_get program (main_unit program) ≡ Some unit) × (is_main (subroutine_name unit) ≡ true)
+main-found : (program : Units) → is_some (main_among program) ≡ true → (unit : List Statement) × (slice_get program (main_unit program) ≡ Some unit) × (is_main (procedure_name unit) ≡ true)
 main-found program has = by_index (main_among program) refl has where
-  by_index : (o : Option ℕ) → main_among program ≡ o → is_some o ≡ true → (unit : List Statement) × (slice_get program (main_unit program) ≡ Some unit) × (is_main (subroutine_name unit) ≡ true)
+  by_index : (o : Option ℕ) → main_among program ≡ o → is_some o ≡ true → (unit : List Statement) × (slice_get program (main_unit program) ≡ Some unit) × (is_main (procedure_name unit) ≡ true)
   by_index None e some = absurd (true≢false (sym some))
   by_index (Some m) e some =
-      let found = found_at (λ unit. is_main (subroutine_name unit)) program m e in
+      let found = found_at (λ unit. is_main (procedure_name unit)) program m e in
       (found.0, ap (slice_get program) (ap (λ o. unwrap_or o 0) e) ∙ found.1, found.2)
 
 main-there : (program : Units) → is_some (main_among program) ≡ true → main_unit program < length program
@@ -43,11 +43,12 @@ main-plain program has =
     let found = main-found program has in
     ap (λ o. dummies_of (unwrap_or o [])) found.1 ∙ by_unit found.0 found.2
   where
-    by_form : (f : Form) → is_main (subroutine_by_header f) ≡ true → dummies_by_header f ≡ []
+    by_form : (f : Form) → is_main (option_or (subroutine_by_header f) (function_by_header f)) ≡ true → dummies_by_header f ≡ []
     by_form (form.Subroutine p dummies) e = absurd (true≢false (sym e))
+    by_form (form.Function t p dummies) e = absurd (true≢false (sym e))
     by_form _ e = refl
 
-    by_unit : (unit : List Statement) → is_main (subroutine_name unit) ≡ true → dummies_of unit ≡ []
+    by_unit : (unit : List Statement) → is_main (procedure_name unit) ≡ true → dummies_of unit ≡ []
     by_unit [] e = refl
     by_unit (s ∷ ss) e = by_form s.form e
 

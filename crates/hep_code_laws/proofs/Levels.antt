@@ -7,6 +7,7 @@ use Rattle.std.proofs.lemmas.Option.{none-some, same_Some}
 use Rattle.hep_machine.specs.Words.{Tree, Form, Statement, Value, Units, executable_from, main_unit, statement_at, unit_at, integer_of, integer_or_overflow, logical_of, Binding, alternative_of, following, index_of_label, label_by_sign, label_chosen, level_after_loop, level_after_statement, level_after_condition}
 use Rattle.hep_machine.specs.Words.{level_at_choice, level_at_end_of, level_at_statement, level_in_block, level_in_range, after_condition, loops_around, loops_ending_at, terminal_of, variable_of, no_activation, Action, assigning, jumping, choosing, branching, testing_condition, entering_block, entering_loop}
 use Rattle.hep_machine.specs.Words.{ending_loop, calling, creating, purging, printing, continuing, leaving, resuming, stopping, Next, wants, does, next_of, plug, plug_work, Scope, location_of_name, opening, is_number_among, living, loop_at, numbered, unit_of, with_loop, with_numbered, run, run_from, Activation, Level, Location}
+use Rattle.hep_machine.specs.Words.{evaluating, function_name, function_unit, Name, referring, result_after_leaving, result_after_result, result_after_value, stack_after_value}
 use Rattle.hep_machine.specs.Words.{Loop, Process, State, state_resumed, Store, Work, doing, ending, Answer, fails, answer_at, answer_of, binding_of, entry_level, iterations, level_after_count, next_activation, result_after_action, result_after_answer, result_after_assignment, result_after_call, result_after_create, result_after_do}
 use Rattle.hep_machine.specs.Words.{result_after_increment, result_after_loop_end, result_after_loop_variable, result_after_next, result_after_purge, result_after_write, scope_of, stack_after_return, step, store_after_purge, Top, unit_called, unit_on_top, written}
 use Rattle.hep_machine.specs.declared.event.Kind.{Kind}
@@ -17,7 +18,8 @@ use Rattle.hep_layout.proofs.References.{each-state}
 use Rattle.hep_layout.proofs.Stacks.{top-numbered}
 use Rattle.hep_code_laws.specs.Filled.{AreEach, IsFilled}
 use Rattle.hep_code_laws.specs.Works.{AreLeft, ComesFrom}
-use Rattle.hep_code_laws.proofs.Filled.{each-self, filled-plug, filled-self, form-plug, form-self}
+use Rattle.hep_code_laws.proofs.Filled.{each-self, form-plug, form-self}
+use Rattle.hep_code_laws.proofs.FilledTrees.{filled-plug, filled-self}
 
 -- ---- lists
 
@@ -45,16 +47,16 @@ every-numbered P xs (suc i) x h e = every-get P xs i x h e
 
 -- ---- what is left of one statement
 
-left-self : (conditions : List Tree) → AreLeft conditions conditions
-left-self conditions = (0, each-self IsFilled filled-self conditions)
+left-self : (unit : List Statement) (conditions : List Tree) → AreLeft unit conditions conditions
+left-self unit conditions = (0, each-self (IsFilled unit) (filled-self unit) conditions)
 
 comes-statement : (unit : List Statement) (k : ℕ) → ComesFrom unit k (doing (statement_at unit k).conditions (statement_at unit k).form)
-comes-statement unit k = (left-self (statement_at unit k).conditions, form-self unit (statement_at unit k).form)
+comes-statement unit k = (left-self unit (statement_at unit k).conditions, form-self unit (statement_at unit k).form)
 
 comes-plug : (unit : List Statement) (k : ℕ) (work : Work) (v : Value) → ComesFrom unit k work → ComesFrom unit k (plug_work unit work v)
 comes-plug unit k (doing [] f) v h = (h.0, form-plug unit v (statement_at unit k).form f h.1)
 comes-plug unit k (doing (t ∷ ts) f) v h = ((h.0.0, by_first (drop h.0.0 (statement_at unit k).conditions) h.0.1), h.1) where
-  by_first : (cs : List Tree) → AreEach IsFilled cs (t ∷ ts) → AreEach IsFilled cs (plug unit t v ∷ ts)
+  by_first : (cs : List Tree) → AreEach (IsFilled unit) cs (t ∷ ts) → AreEach (IsFilled unit) cs (plug unit t v ∷ ts)
   by_first [] k = absurd k
   by_first (c ∷ cs) k = (filled-plug unit v c t k.0, k.1)
 comes-plug unit k (ending d) v h = h
@@ -68,9 +70,9 @@ one-past (suc n) (z ∷ zs) x ys e = one-past n zs x ys e
 
 comes-tested : (unit : List Statement) (k : ℕ) (t : Tree) (ts : List Tree) (f : Form) → ComesFrom unit k (doing (t ∷ ts) f) → ComesFrom unit k (doing ts f)
 comes-tested unit k t ts f h = ((suc h.0.0, by_first (drop h.0.0 (statement_at unit k).conditions) refl h.0.1), h.1) where
-  by_first : (cs : List Tree) → drop h.0.0 (statement_at unit k).conditions ≡ cs → AreEach IsFilled cs (t ∷ ts) → AreEach IsFilled (drop (suc h.0.0) (statement_at unit k).conditions) ts
+  by_first : (cs : List Tree) → drop h.0.0 (statement_at unit k).conditions ≡ cs → AreEach (IsFilled unit) cs (t ∷ ts) → AreEach (IsFilled unit) (drop (suc h.0.0) (statement_at unit k).conditions) ts
   by_first [] e g = absurd g
-  by_first (c ∷ cs) e g = subst (λ ds. AreEach IsFilled ds ts) (sym (one-past h.0.0 (statement_at unit k).conditions c cs e)) g.1
+  by_first (c ∷ cs) e g = subst (λ ds. AreEach (IsFilled unit) ds ts) (sym (one-past h.0.0 (statement_at unit k).conditions c cs e)) g.1
 
 among-around : (d e : ℕ) (es : List ℕ) → is_number_among d (loops_around e es) ≡ true → is_number_among d es ≡ true
 among-around d e [] h = h
@@ -172,10 +174,11 @@ module _ (program : Units) where
 
 -- ---- a step
 
--- what is called next has a unit of which P holds
+-- what is called next, or referred to, has a unit of which P holds
 abbrev pub CallsIn : Units → (ℕ → Type 0) → Next → Type 0
 CallsIn program P (does (calling x actuals)) = P (unit_called program x)
 CallsIn program P (does (creating x actuals)) = P (unit_called program x)
+CallsIn program P (wants (referring x actuals)) = P (function_unit program x)
 CallsIn program P _ = Unit {0}
 
 module _ (program : Units) (P : ℕ → Type 0) where
@@ -279,6 +282,22 @@ module _ (program : Units) (P : ℕ → Type 0) where
     returned [] h = tt
     returned (level ∷ levels) h = (after-statement program xs level h.0.0, h.1)
 
+    answered : (v : Value) (q : Process) → Every (IsLevelIn program xs) q → Every (IsLevelIn program xs) (stack_after_value program t.state v q)
+    answered v [] h = tt
+    answered v (level ∷ levels) h = ((h.0.0, comes-plug (unit_in program xs level.activation) level.statement level.work v h.0.1), h.1)
+
+    in-value : (v : Option Value) → Makes IsStateIn (result_after_value program t v)
+    in-value None = ended
+    in-value (Some v) = set (stack_after_value program t.state v t.below) (answered v t.below below)
+
+    in-result : (at : Result Location Kind) → Makes IsStateIn (result_after_result program t at)
+    in-result (Err k) = ended
+    in-result (Ok at) = in-value (t.state.store at).value
+
+    in-leaving : (x : Option Name) → Makes IsStateIn (result_after_leaving program t x)
+    in-leaving None = set (stack_after_return program t.state t.below) (returned t.below below)
+    in-leaving (Some x) = in-result (location_of_name scope x [])
+
     resumed : (q : Process) → Every (IsLevelIn program xs) q → IsStateIn (state_resumed program t q)
     resumed [] h = onward
     resumed (caller ∷ callers) h =
@@ -300,12 +319,13 @@ module _ (program : Units) (P : ℕ → Type 0) where
     in-action (purging targets) h = in-purge (store_after_purge scope targets t.state.store)
     in-action (printing items) h = onward
     in-action continuing h = onward
-    in-action leaving h = set (stack_after_return program t.state t.below) (returned t.below below)
+    in-action leaving h = in-leaving (function_name unit)
     in-action resuming h = resumed t.below below
     in-action stopping h = here
 
     in-next : (n : Next) → CallsIn program P n → Makes IsStateIn (result_after_next program t n)
-    in-next (wants r) h = in-answer (answer_of scope t.state.store r)
+    in-next (wants (evaluating r)) h = in-answer (answer_of scope t.state.store r)
+    in-next (wants (referring x actuals)) h = in-call (function_unit program x) (binding_of program t (function_unit program x) actuals) h
     in-next (does a) h = in-action a h
 
   -- ---- runs
@@ -332,7 +352,8 @@ module _ (program : Units) (P : ℕ → Type 0) where
 -- ---- each level of a run
 
 any-calls : (program : Units) (n : Next) → CallsIn program (λ u. Unit {0}) n
-any-calls program (wants r) = tt
+any-calls program (wants (evaluating r)) = tt
+any-calls program (wants (referring x actuals)) = tt
 any-calls program (does (calling x actuals)) = tt
 any-calls program (does (creating x actuals)) = tt
 any-calls program (does _) = tt

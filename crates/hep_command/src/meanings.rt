@@ -67,8 +67,9 @@ Right:
 const UNDEFINED: &str =
     "FAULT process unit LINE n UNDEFINED: a variable or an element is used that has
 no value yet, since nothing was assigned to it and DATA gives it none.
-Assign to it first. In a subroutine this holds at each call, since its variables
-are new ones then.
+Assign to it first. In a subroutine or function this holds at each call, since
+its variables are new ones then. A function ends with a value for its own name,
+or with this fault in the line of its RETURN or END.
 
 Wrong: FAULT 1 MAIN LINE 2 UNDEFINED
 
@@ -86,9 +87,10 @@ Right:
       END
 ";
 
-const SHAPE: &str = "FAULT process unit LINE n SHAPE: at this CALL or CREATE an array of the
-subroutine has more elements than what it is given, or its bounds have no value
-or are none: the upper one below the lower one, or too many elements.
+const SHAPE: &str = "FAULT process unit LINE n SHAPE: at this CALL, CREATE or reference to a
+function an array of the called unit has more elements than what it is given, or
+its bounds have no value or are none: the upper one below the lower one, or too
+many elements.
 Give it an array that is long enough, and the right bounds.
 
 Wrong: FAULT 1 MAIN LINE 2 SHAPE
@@ -170,7 +172,7 @@ Right:
 
 const STOPPED_ARENA_FULL: &str =
     "STOPPED ARENA FULL: storage has no room for COMMON and the main program, or at a
-CALL or CREATE for the variables of the subroutine. Status 5.
+CALL, CREATE or reference to a function for its variables. Status 5.
 End the recursion, let fewer processes live at once, or give more cells by
 --arena N, 65536 where it isn't given and 16777216 at most. `hepf list FILE`
 says how many each unit takes.

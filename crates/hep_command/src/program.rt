@@ -11,7 +11,7 @@ use clap::{Arg, Command};
 use std::alloc::{AllocError, Global};
 
 /// What `hepf --version` says after the program's name.
-const VERSION: &str = "0.1.0, rattle-kit-13f logic dac8208d650f15bf";
+const VERSION: &str = "0.2.0, rattle-kit-13f logic dac8208d650f15bf";
 
 const ABOUT: &str = "Compiles and runs HEP FORTRAN.
 With no command it runs the source on standard input.";

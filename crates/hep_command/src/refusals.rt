@@ -183,7 +183,7 @@ Right:
       END
 ",
         303 => "A subroutine or function gets another number of arguments than it has.
-Write as many as its SUBROUTINE statement or its definition has.
+Write as many as its SUBROUTINE or FUNCTION statement or its definition has.
 
 Wrong: REFUSED 303 LINE 1
 
@@ -265,9 +265,10 @@ Right:
       END
 ",
         307 => "A DO or a block IF isn't closed, or isn't nested as it must be; a DO variable is
-no plain integer scalar, or is that of a DO around it; or a statement ends a DO,
-or stands in a logical IF, that may not. Close each DO and each IF within the
-one around it, give each DO a variable of its own, and end a DO with CONTINUE.
+no plain integer scalar, or is a function or that of a DO around it; or a
+statement ends a DO, or stands in a logical IF, that may not. Close each DO and
+each IF within the one around it, give each DO a variable of its own, and end a
+DO with CONTINUE.
 
 Wrong: REFUSED 307 LINE 2
 
@@ -302,9 +303,10 @@ Right:
    10 CONTINUE
       END
 ",
-        309 => "A name stands for two things, or is given its type, bounds, value or place in
-COMMON twice; or IMPLICIT names a letter twice. The line is the later one of the
-two. Take another name, or take one of the two out.
+        309 => "A name stands for two things, as for a variable and a function, or is given its
+type, bounds, value or place in COMMON twice; or IMPLICIT names a letter twice.
+The line is the later one of the two.
+Take another name, or take one of the two out.
 
 Wrong: REFUSED 309 LINE 2
 
@@ -319,7 +321,8 @@ Right:
       END
 ",
         310 => "A name is no subroutine, array or function, but is used so; the line has the
-name. Write the subroutine, or declare the array.
+name. A function isn't called, and a subroutine has no value.
+Write the subroutine or function, or declare the array.
 
 Wrong: REFUSED 310 LINE 1 NAME L
 
@@ -348,9 +351,9 @@ Right:
       DATA L/1, 2, 3/
       END
 ",
-        312 => "RESUME stands in the main program. It lets the caller of a subroutine go on, and
-a main program has no caller.
-Write it in a subroutine, or leave it out.
+        312 => "RESUME stands in the main program or in a function. It lets the caller of a
+subroutine go on. A main program has no caller, and that of a function waits for
+its value. Write it in a subroutine, or leave it out.
 
 Wrong: REFUSED 312 LINE 2
 

@@ -8,7 +8,7 @@ use Rattle.std.proofs.lemmas.Option.{none-some, same_Some}
 use Rattle.hep_machine.specs.Words.{NamedConstant, Name, Occurrence, Statement, Value, same_name, is_among, Tree, Units, Constants, value_of, value_among, with_constant, given_by, constants_in, declarators_in, named_constants, occurrences_in}
 use Rattle.hep_source.proofs.NameTests.{equal_names}
 use Rattle.hep_conditions.specs.declared.violation.Violation.{Violation}
-use Rattle.hep_conditions.specs.Words.{IsAccepted, violations_in, Parameters, no_parameters, is_open, is_given, is_known, is_constant_given, value_by, with_parameter, with_parameters, are_constants_given, is_statement_typed, type_violations_from, type_violations, is_counted, is_call_counted, count_violations, Keeps, type_missing_violations, names_with_lists, names_with_lists_in, trees_in_declarator, calls_in, Violations, at_line, when}
+use Rattle.hep_conditions.specs.Words.{IsAccepted, violations_in, Parameters, no_parameters, is_open, is_given, is_known, is_constant_given, value_by, with_parameter, with_parameters, are_constants_given, is_statement_typed, type_violations_from, type_violations, is_counted, is_call_counted, is_reference_counted, FunctionTypes, function_types, count_violations, Keeps, type_missing_violations, names_with_lists, names_with_lists_in, trees_in_declarator, calls_in, Violations, at_line, when}
 
 -- ---- no violations
 
@@ -130,7 +130,7 @@ given_by-append unit known [] ds = refl
 given_by-append unit known (c ∷ cs) ds = given_by-append unit (with_constant known c.occurrence.name (value_of unit (value_among known) c.value)) cs ds
 
 abbrev is_statement_counted : Units → List Statement → Statement → Bool
-is_statement_counted program unit s = list_all (is_counted unit) (names_with_lists s) && list_all (is_call_counted program) (calls_in s.form)
+is_statement_counted program unit s = list_all (is_counted unit) (names_with_lists s) && (list_all (is_reference_counted program unit) (names_with_lists s) && list_all (is_call_counted program) (calls_in s.form))
 
 abbrev counts_in : Units → List Statement → List Statement → Violations
 counts_in program unit ss = flat_map (λ (s : Statement). when (not (is_statement_counted program unit s)) (at_line 303 s.line)) ss
@@ -144,18 +144,18 @@ counted_constants unit s e =
     let after_bounds = (all_of-parts p f (flat_map trees_in_declarator (declarators_in s.form)) _ after_conditions).1 in
     (all_of-parts p f (map (λ (c : NamedConstant). c.value) (constants_in s.form)) _ after_bounds).0
 
-given_constants : (unit : List Statement) (ps : Parameters) (s : Statement) → is_statement_typed unit ps s ≡ true → are_constants_given unit ps (constants_in s.form) ≡ true
-given_constants unit ps s e = (and_parts _ _ (and_parts _ _ (and_parts _ _ e).1).1).0
+given_constants : (functions : FunctionTypes) (unit : List Statement) (ps : Parameters) (s : Statement) → is_statement_typed functions unit ps s ≡ true → are_constants_given unit ps (constants_in s.form) ≡ true
+given_constants functions unit ps s e = (and_parts _ _ (and_parts _ _ (and_parts _ _ e).1).1).0
 
-keeps : (program : Units) (unit before after : List Statement) (ps : Parameters) (known : Constants) → Keeps ps known → type_violations_from unit ps (before ++ after) ≡ [] → counts_in program unit (before ++ after) ≡ [] → Keeps (with_parameters unit ps (named_constants before)) (given_by unit known (named_constants before))
-keeps program unit [] after ps known k typed counted = k
-keeps program unit (s ∷ ss) after ps known k typed counted =
+keeps : (functions : FunctionTypes) (program : Units) (unit before after : List Statement) (ps : Parameters) (known : Constants) → Keeps ps known → type_violations_from functions unit ps (before ++ after) ≡ [] → counts_in program unit (before ++ after) ≡ [] → Keeps (with_parameters unit ps (named_constants before)) (given_by unit known (named_constants before))
+keeps functions program unit [] after ps known k typed counted = k
+keeps functions program unit (s ∷ ss) after ps known k typed counted =
     let cs = constants_in s.form in
-    let types = none-append (when (not (is_statement_typed unit ps s)) (at_line 302 s.line)) _ typed in
+    let types = none-append (when (not (is_statement_typed functions unit ps s)) (at_line 302 s.line)) _ typed in
     let counts = none-append (when (not (is_statement_counted program unit s)) (at_line 303 s.line)) _ counted in
-    let given = given_constants unit ps s (none-when (is_statement_typed unit ps s) _ types.0) in
+    let given = given_constants functions unit ps s (none-when (is_statement_typed functions unit ps s) _ types.0) in
     let count = counted_constants unit s (and_parts _ _ (none-when (is_statement_counted program unit s) _ counts.0)).0 in
-    let more = keeps program unit ss after (with_parameters unit ps cs) (given_by unit known cs) (keeps_constants unit ps known cs k count given) types.1 counts.1 in
+    let more = keeps functions program unit ss after (with_parameters unit ps cs) (given_by unit known cs) (keeps_constants unit ps known cs k count given) types.1 counts.1 in
     subst (λ (qs : Parameters). Keeps qs (given_by unit known (cs ++ named_constants ss))) (sym (with_parameters-append unit ps cs (named_constants ss))) (
     subst (λ (ds : Constants). Keeps (with_parameters unit (with_parameters unit ps cs) (named_constants ss)) ds) (sym (given_by-append unit known cs (named_constants ss))) more)
 
@@ -164,7 +164,7 @@ keeps program unit (s ∷ ss) after ps known k typed counted =
 pub constants_agree : (program : Units) (unit before after : List Statement) (u : ℕ) → IsAccepted program → slice_get program u ≡ Some unit → unit ≡ before ++ after → Keeps (with_parameters unit no_parameters (named_constants before)) (given_by unit [] (named_constants before))
 constants_agree program unit before after u accepted is parts =
     let here = none-each (violations_in program) program u unit (none-append (flat_map (violations_in program) program) _ accepted).0 is in
-    let after_untyped = (none-append (type_missing_violations unit) _ here).1 in
-    let types = none-append (type_violations unit) _ after_untyped in
+    let after_untyped = (none-append (type_missing_violations (function_types program) unit) _ here).1 in
+    let types = none-append (type_violations (function_types program) unit) _ after_untyped in
     let counts = none-append (count_violations program unit) _ types.1 in
-    keeps program unit before after no_parameters [] (refl, λ x. refl) (sym (ap (type_violations_from unit no_parameters) parts) ∙ types.0) (sym (ap (counts_in program unit) parts) ∙ counts.0)
+    keeps (function_types program) program unit before after no_parameters [] (refl, λ x. refl) (sym (ap (type_violations_from (function_types program) unit no_parameters) parts) ∙ types.0) (sym (ap (counts_in program unit) parts) ∙ counts.0)

@@ -1,10 +1,14 @@
 -- Conditions of kinds of arguments, and of what is purged: 304 (X3.9-1978, 15.6.2.3 and 15.9.3, and docs/LANGUAGE.md, 9).
 use Rattle.std.specs.Prelude.{ℕ, Bool, true, false, not, ◌&&◌, ◌||◌, if◌then◌else◌, List, [], ◌∷◌, Option, Some, None}
 use Rattle.std.specs.List.{flat_map, list_all}
-use Rattle.hep_machine.specs.Words.{Tree, Trees, occurrence, with_list, no_trees, trees, Target, ValueType, Name, Statement, same_logical, type_of, is_array, is_constant_name, is_nonempty, Meaning, element, state, unknown, listed_meaning, Units, unit_at, subroutine_called, dummies_of}
+use Rattle.hep_machine.specs.Words.{Tree, Trees, occurrence, with_list, no_trees, trees, Target, ValueType, Name, Statement, same_logical, type_of, is_array, is_constant_name, is_nonempty, Meaning, element, state, external, is_external, listed_meaning, Units, unit_at, subroutine_called, function_called, dummies_of}
 use Rattle.hep_conditions.specs.Statements.{NameWithList, names_with_lists, targets_purged, Calling, calls_in}
-use Rattle.hep_conditions.specs.Types.{KnownType, type_of_tree, same_declared, agree}
+use Rattle.hep_conditions.specs.Types.{FunctionTypes, is_function_in, KnownType, type_of_tree, same_declared, agree}
 use Rattle.hep_conditions.specs.Violations.{Violations, at_line, when}
+
+abbrev pub list_of : Trees → List Tree
+list_of no_trees = []
+list_of (trees t ts) = t ∷ list_of ts
 
 -- ---- actual arguments: 15.9.2
 
@@ -18,21 +22,26 @@ pub data ActualClass : Type 0 where
   -- a name with a list that is no array and no function: it is open what it is
   unknown_list : ActualClass
 
-abbrev pub given_name : List Statement → Name → ActualClass
-given_name unit x =
-    if is_constant_name unit x
-    then value (Some (type_of unit x))
-    else (if is_array unit x then whole_array x.asynchronous (type_of unit x) else variable x.asynchronous false (type_of unit x))
+module _ (functions : FunctionTypes) where
+  -- the name of a function by itself is no argument here (309)
+  abbrev pub given_name : List Statement → Name → ActualClass
+  given_name unit x =
+      if is_constant_name unit x
+      then value (Some (type_of unit x))
+      else if is_function_in functions unit x
+      then value None
+      else (if is_array unit x then whole_array x.asynchronous (type_of unit x) else variable x.asynchronous false (type_of unit x))
 
-abbrev pub given_with_list : List Statement → Meaning → Name → KnownType → ActualClass
-given_with_list unit element x t = variable x.asynchronous true (type_of unit x)
-given_with_list unit unknown x t = unknown_list
-given_with_list unit _ x t = value t
+  abbrev pub given_with_list : List Statement → Meaning → Name → KnownType → ActualClass
+  given_with_list unit element x t = variable x.asynchronous true (type_of unit x)
+  given_with_list unit external x None = unknown_list
+  given_with_list unit external x (Some t) = value (Some t)
+  given_with_list unit _ x t = value t
 
-abbrev pub actual_class : List Statement → Tree → ActualClass
-actual_class unit (occurrence p) = given_name unit p.name
-actual_class unit (with_list p ts) = given_with_list unit (listed_meaning unit p.name) p.name (type_of_tree unit (with_list p ts))
-actual_class unit t = value (type_of_tree unit t)
+  abbrev pub actual_class : List Statement → Tree → ActualClass
+  actual_class unit (occurrence p) = given_name unit p.name
+  actual_class unit (with_list p ts) = given_with_list unit (listed_meaning unit p.name) p.name (type_of_tree functions unit (with_list p ts))
+  actual_class unit t = value (type_of_tree functions unit t)
 
 -- an actual argument for a scalar dummy argument of this asynchrony and type
 abbrev pub fits_scalar : Bool → Option ValueType → ActualClass → Bool
@@ -59,42 +68,48 @@ abbrev pub fit_dummies : List Statement → List Name → List ActualClass → B
 fit_dummies unit (x ∷ xs) (g ∷ gs) = fits_dummy unit x g && fit_dummies unit xs gs
 fit_dummies unit _ _ = true
 
-abbrev pub all_given : List Statement → List Tree → List ActualClass
-all_given unit [] = []
-all_given unit (t ∷ ts) = actual_class unit t ∷ all_given unit ts
+module _ (functions : FunctionTypes) where
+  abbrev pub all_given : List Statement → List Tree → List ActualClass
+  all_given unit [] = []
+  all_given unit (t ∷ ts) = actual_class functions unit t ∷ all_given unit ts
 
-abbrev pub fits_subroutine : Units → List Statement → Option ℕ → List Tree → Bool
-fits_subroutine program unit None ts = true
-fits_subroutine program unit (Some u) ts = fit_dummies (unit_at program u) (dummies_of (unit_at program u)) (all_given unit ts)
+  abbrev pub fits_subroutine : Units → List Statement → Option ℕ → List Tree → Bool
+  fits_subroutine program unit None ts = true
+  fits_subroutine program unit (Some u) ts = fit_dummies (unit_at program u) (dummies_of (unit_at program u)) (all_given unit ts)
 
-abbrev pub fits_call : Units → List Statement → Calling → Bool
-fits_call program unit c = fits_subroutine program unit (subroutine_called program c.occurrence.name) c.actuals
+  abbrev pub fits_call : Units → List Statement → Calling → Bool
+  fits_call program unit c = fits_subroutine program unit (subroutine_called program c.occurrence.name) c.actuals
 
--- ---- FULL, EMPTY, VALUE, SETE, WAITF and PURGE: docs/LANGUAGE.md, 8 and 9
+  -- the arguments of a reference of a function of the program
+  abbrev pub fits_reference : Units → List Statement → NameWithList → Bool
+  fits_reference program unit r =
+      not (is_external (listed_meaning unit r.occurrence.name)) || fits_subroutine program unit (function_called program r.occurrence.name) (list_of r.arguments)
 
-abbrev pub is_asynchronous_scalar : ActualClass → Bool
-is_asynchronous_scalar (value t) = false
-is_asynchronous_scalar (variable a e t) = a
-is_asynchronous_scalar (whole_array a t) = false
-is_asynchronous_scalar unknown_list = false
+  -- ---- FULL, EMPTY, VALUE, SETE, WAITF and PURGE: docs/LANGUAGE.md, 8 and 9
 
-abbrev pub is_tested_typed : List Statement → Trees → Bool
-is_tested_typed unit no_trees = true
-is_tested_typed unit (trees t ts) = is_asynchronous_scalar (actual_class unit t)
+  abbrev pub is_asynchronous_scalar : ActualClass → Bool
+  is_asynchronous_scalar (value t) = false
+  is_asynchronous_scalar (variable a e t) = a
+  is_asynchronous_scalar (whole_array a t) = false
+  is_asynchronous_scalar unknown_list = false
 
-abbrev pub is_test_typed : List Statement → Meaning → Trees → Bool
-is_test_typed unit (state f) ts = is_tested_typed unit ts
-is_test_typed unit _ ts = true
+  abbrev pub is_tested_typed : List Statement → Trees → Bool
+  is_tested_typed unit no_trees = true
+  is_tested_typed unit (trees t ts) = is_asynchronous_scalar (actual_class functions unit t)
 
-abbrev pub is_reference_given : List Statement → NameWithList → Bool
-is_reference_given unit r = is_test_typed unit (listed_meaning unit r.occurrence.name) r.arguments
+  abbrev pub is_test_typed : List Statement → Meaning → Trees → Bool
+  is_test_typed unit (state f) ts = is_tested_typed unit ts
+  is_test_typed unit _ ts = true
 
--- an asynchronous variable, array or element; a named constant is none
-abbrev pub is_purgeable : List Statement → Target → Bool
-is_purgeable unit t =
-    t.occurrence.name.asynchronous && (not (is_constant_name unit t.occurrence.name) && (not (is_nonempty t.subscripts) || is_array unit t.occurrence.name))
+  abbrev pub is_reference_given : List Statement → NameWithList → Bool
+  is_reference_given unit r = is_test_typed unit (listed_meaning unit r.occurrence.name) r.arguments
 
-abbrev pub argument_violations : Units → List Statement → Violations
-argument_violations program unit =
-    flat_map (λ (s : Statement).
-    when (not (list_all (fits_call program unit) (calls_in s.form) && (list_all (is_reference_given unit) (names_with_lists s) && list_all (is_purgeable unit) (targets_purged s.form)))) (at_line 304 s.line)) unit
+  -- an asynchronous variable, array or element; a named constant is none
+  abbrev pub is_purgeable : List Statement → Target → Bool
+  is_purgeable unit t =
+      t.occurrence.name.asynchronous && (not (is_constant_name unit t.occurrence.name) && (not (is_nonempty t.subscripts) || is_array unit t.occurrence.name))
+
+  abbrev pub argument_violations : Units → List Statement → Violations
+  argument_violations program unit =
+      flat_map (λ (s : Statement).
+      when (not (list_all (fits_call program unit) (calls_in s.form) && (list_all (fits_reference program unit) (names_with_lists s) && (list_all (is_reference_given unit) (names_with_lists s) && list_all (is_purgeable unit) (targets_purged s.form))))) (at_line 304 s.line)) unit

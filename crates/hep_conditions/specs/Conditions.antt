@@ -1,9 +1,9 @@
 -- All conditions of a program: docs/LANGUAGE.md, 10.
-use Rattle.std.specs.Prelude.{◌≡◌, Bool, true, false, ◌&&◌, List, [], ◌++◌, Option}
+use Rattle.std.specs.Prelude.{◌≡◌, Bool, true, false, ◌&&◌, List, [], ◌++◌, Option, is_none}
 use Rattle.std.specs.List.{flat_map}
-use Rattle.std.specs.Option.{is_none}
-use Rattle.hep_machine.specs.Words.{Form, Statement, Units, subroutine_name}
+use Rattle.hep_machine.specs.Words.{Form, Statement, subroutine_name, Units}
 use Rattle.hep_source.specs.declared.statement.Form.TheVariants as form
+use Rattle.hep_conditions.specs.Types.{function_types}
 use Rattle.hep_conditions.specs.declared.violation.Violation.{Violation}
 use Rattle.hep_conditions.specs.Common.{common_violations}
 use Rattle.hep_conditions.specs.Data.{data_violations}
@@ -29,12 +29,12 @@ resume_violations unit = flat_map (λ (s : Statement). when (is_resume s.form &&
 -- the violations of a unit, 301 to 312 but for those of whole programs
 abbrev pub violations_in : Units → List Statement → Violations
 violations_in program unit =
-    type_missing_violations unit
-    ++ (type_violations unit
+    type_missing_violations (function_types program) unit
+    ++ (type_violations (function_types program) unit
     ++ (count_violations program unit
-    ++ (argument_violations program unit
+    ++ (argument_violations (function_types program) program unit
     ++ (label_violations unit
-    ++ (structure_violations unit
+    ++ (structure_violations (function_types program) unit
     ++ (jump_violations unit
     ++ (unknown_name_violations program unit
     ++ (data_violations unit

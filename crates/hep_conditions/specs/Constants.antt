@@ -1,11 +1,11 @@
 -- Conditions of constants and bounds: 302 (X3.9-1978, 5.1.1, 6.1.3, 8.6 and 9.2).
 use Rattle.std.specs.Prelude.{Bool, true, false, not, ◌&&◌, ◌||◌, if◌then◌else◌, List, [], ◌∷◌, ◌++◌, Option, Some, None, is_none, is_some, option_to_list}
 use Rattle.std.specs.List.{list_all, list_any}
-use Rattle.hep_machine.specs.Words.{Tree, DataGroup, Declarator, Dimension, NamedConstant, Target, UpperBound, ValueType, Integer, Logical, Name, Occurrence, Statement, Value, Constants, value_of, value_among, with_constant, bounds_of, groups_in, type_of, is_dummy, is_common, is_nonempty, constants_in, declarators_in, declarator_among, Meaning, pure, listed_meaning, is_among, Bounds, is_shape, occurrences_in}
+use Rattle.hep_machine.specs.Words.{Tree, DataGroup, Declarator, Dimension, NamedConstant, Target, UpperBound, ValueType, Integer, Logical, Name, Occurrence, Statement, Value, Constants, value_of, value_among, with_constant, bounds_of, groups_in, type_of, is_dummy, is_common, is_nonempty, constants_in, declarators_in, declarator_among, Meaning, pure, listed_meaning, is_among, Bounds, is_shape, occurrences_in, trees_in_declarator}
 use Rattle.hep_source.specs.declared.declaration.UpperBound.TheVariants as bound
 use Rattle.hep_conditions.specs.Counts.{is_counted}
-use Rattle.hep_conditions.specs.Statements.{NameWithList, names_with_lists_in, subexpressions_of, trees_in_declarator}
-use Rattle.hep_conditions.specs.Types.{agree, type_of_tree, is_plain_integer_scalar, is_typed, is_typed_as, is_target_typed, is_form_typed}
+use Rattle.hep_conditions.specs.Statements.{NameWithList, names_with_lists_in, subexpressions_of}
+use Rattle.hep_conditions.specs.Types.{agree, FunctionTypes, no_functions, type_of_tree, is_plain_integer_scalar, is_typed, is_typed_as, is_target_typed, is_form_typed}
 use Rattle.hep_conditions.specs.Violations.{Violations, at_line, when}
 
 -- ---- what is known: docs/LANGUAGE.md, 10
@@ -51,12 +51,12 @@ has_value unit ps t = is_constant_expression unit ps t && list_all (has_value_or
 
 -- an expression of this type that has a value by the constants given before
 abbrev pub is_constant_of : List Statement → Parameters → ValueType → Tree → Bool
-is_constant_of unit ps t e = is_typed_as unit t e && has_value unit ps e
+is_constant_of unit ps t e = is_typed_as no_functions unit t e && has_value unit ps e
 
 -- a constant expression of the type of its name
 abbrev pub is_constant_given : List Statement → Parameters → NamedConstant → Bool
 is_constant_given unit ps c =
-    is_typed unit c.value && (has_value unit ps c.value && agree (Some (type_of unit c.occurrence.name)) (type_of_tree unit c.value))
+    is_typed no_functions unit c.value && (has_value unit ps c.value && agree (Some (type_of unit c.occurrence.name)) (type_of_tree no_functions unit c.value))
 
 abbrev pub is_known : List Statement → Parameters → NamedConstant → Bool
 is_known unit ps c = not (is_open unit ps c.value) && is_constant_given unit ps c
@@ -92,7 +92,7 @@ is_adjusted unit known t = list_any (λ (p : Occurrence). is_none (value_among k
 
 abbrev pub is_bound : List Statement → Parameters → Bool → Tree → Bool
 is_bound unit ps is_of_dummy t =
-    is_typed_as unit Integer t
+    is_typed_as no_functions unit Integer t
     && (has_value unit ps t || (is_of_dummy && (is_adjusted unit ps.known t && is_adjustable unit ps.known t)))
 
 abbrev pub is_upper_bound : List Statement → Parameters → Bool → UpperBound → Bool
@@ -139,23 +139,23 @@ known_shape unit x = known_shape_from unit no_parameters unit x
 
 -- a subscript in DATA is a constant expression (9.2)
 abbrev pub has_constant_subscripts : List Statement → Parameters → Target → Bool
-has_constant_subscripts unit ps t = is_target_typed unit t && list_all (is_constant_of unit ps Integer) t.subscripts
+has_constant_subscripts unit ps t = is_target_typed no_functions unit t && list_all (is_constant_of unit ps Integer) t.subscripts
 
 abbrev pub is_group_typed : List Statement → Parameters → DataGroup → Bool
 is_group_typed unit ps g = list_all (has_constant_subscripts unit ps) g.targets
 
 -- a statement after these, by which constants are given
-abbrev pub is_statement_typed : List Statement → Parameters → Statement → Bool
-is_statement_typed unit ps s =
-    list_all (is_typed_as unit Logical) s.conditions
-    && (is_form_typed unit s.form
+abbrev pub is_statement_typed : FunctionTypes → List Statement → Parameters → Statement → Bool
+is_statement_typed functions unit ps s =
+    list_all (is_typed_as functions unit Logical) s.conditions
+    && (is_form_typed functions unit s.form
     && (are_constants_given unit ps (constants_in s.form)
     && (list_all (has_bounds unit ps) (declarators_in s.form) && list_all (is_group_typed unit ps) (groups_in s.form))))
 
-abbrev pub type_violations_from : List Statement → Parameters → List Statement → Violations
-type_violations_from unit ps [] = []
-type_violations_from unit ps (s ∷ ss) =
-    when (not (is_statement_typed unit ps s)) (at_line 302 s.line) ++ type_violations_from unit (with_parameters unit ps (constants_in s.form)) ss
+abbrev pub type_violations_from : FunctionTypes → List Statement → Parameters → List Statement → Violations
+type_violations_from functions unit ps [] = []
+type_violations_from functions unit ps (s ∷ ss) =
+    when (not (is_statement_typed functions unit ps s)) (at_line 302 s.line) ++ type_violations_from functions unit (with_parameters unit ps (constants_in s.form)) ss
 
-abbrev pub type_violations : List Statement → Violations
-type_violations unit = type_violations_from unit no_parameters unit
+abbrev pub type_violations : FunctionTypes → List Statement → Violations
+type_violations functions unit = type_violations_from functions unit no_parameters unit

@@ -1,7 +1,7 @@
 -- Conditions of numbers of arguments: 303 (X3.9-1978, 15.6.2.3 and 15.10).
-use Rattle.std.specs.Prelude.{ℕ, suc, Bool, true, not, ◌&&◌, nat_eq, nat_le, List, length, Option, Some, None}
+use Rattle.std.specs.Prelude.{ℕ, suc, Bool, true, not, ◌&&◌, ◌||◌, nat_eq, nat_le, List, length, Option, Some, None}
 use Rattle.std.specs.List.{flat_map, list_all}
-use Rattle.hep_machine.specs.Words.{Trees, no_trees, trees, PureFunction, AbsoluteValue, Remainder, TransferOfSign, PositiveDifference, Largest, Smallest, Statement, Meaning, element, pure, state, unknown, listed_meaning, Units, unit_at, subroutine_called, dummies_of}
+use Rattle.hep_machine.specs.Words.{Trees, no_trees, trees, PureFunction, AbsoluteValue, Remainder, TransferOfSign, PositiveDifference, Largest, Smallest, Statement, Meaning, element, pure, state, external, listed_meaning, Units, unit_at, subroutine_called, function_called, is_external, dummies_of}
 use Rattle.hep_conditions.specs.Statements.{NameWithList, names_with_lists, Calling, calls_in}
 use Rattle.hep_conditions.specs.Violations.{Violations, at_line, when}
 
@@ -23,14 +23,14 @@ abbrev pub takes_list : Meaning → ℕ → Bool
 takes_list element n = true
 takes_list (pure f) n = takes f n
 takes_list (state f) n = nat_eq n 1
-takes_list unknown n = true
+takes_list external n = true
 
 abbrev pub is_counted : List Statement → NameWithList → Bool
 is_counted unit r = takes_list (listed_meaning unit r.occurrence.name) (count_of r.arguments)
 
--- ---- subroutines: 15.6.2.3
+-- ---- subroutines and functions of the program: 15.5.2.2 and 15.6.2.3
 
--- as many as the subroutine of this number has dummy arguments
+-- as many as the unit of this number has dummy arguments
 abbrev pub takes_actuals : Units → Option ℕ → ℕ → Bool
 takes_actuals program None n = true
 takes_actuals program (Some u) n = nat_eq n (length (dummies_of (unit_at program u)))
@@ -38,7 +38,11 @@ takes_actuals program (Some u) n = nat_eq n (length (dummies_of (unit_at program
 abbrev pub is_call_counted : Units → Calling → Bool
 is_call_counted program c = takes_actuals program (subroutine_called program c.occurrence.name) (length c.actuals)
 
+abbrev pub is_reference_counted : Units → List Statement → NameWithList → Bool
+is_reference_counted program unit r =
+    not (is_external (listed_meaning unit r.occurrence.name)) || takes_actuals program (function_called program r.occurrence.name) (count_of r.arguments)
+
 abbrev pub count_violations : Units → List Statement → Violations
 count_violations program unit =
     flat_map (λ (s : Statement).
-    when (not (list_all (is_counted unit) (names_with_lists s) && list_all (is_call_counted program) (calls_in s.form))) (at_line 303 s.line)) unit
+    when (not (list_all (is_counted unit) (names_with_lists s) && (list_all (is_reference_counted program unit) (names_with_lists s) && list_all (is_call_counted program) (calls_in s.form)))) (at_line 303 s.line)) unit

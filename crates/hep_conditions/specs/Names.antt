@@ -1,19 +1,23 @@
 -- Conditions of names: 301, 309 and 310.
-use Rattle.std.specs.Prelude.{ℕ, max, Bool, true, false, not, ◌&&◌, nat_le, if◌then◌else◌, List, [], ◌∷◌, ◌++◌, map, is_none, option_to_list}
+use Rattle.std.specs.Prelude.{ℕ, max, Bool, true, false, not, ◌&&◌, nat_le, if◌then◌else◌, List, [], ◌∷◌, ◌++◌, map, is_none, option_to_list, Option, Some, None}
 use Rattle.std.specs.List.{flat_map, filter}
-use Rattle.hep_machine.specs.Words.{CommonBlock, Declarator, ImplicitGroup, LetterRange, Target, Name, Occurrence, Form, Statement, type_of, is_array, is_constant_name, is_nonempty, blocks_in, constants_in, names_of_constants, declarators_in, names_declared, block_of, Meaning, unknown, listed_meaning, same_name, Units, dummies_by_header, names_of_occurrences, subroutine_called, groups_in, occurrences_in_statement, occurrences_in_target}
+use Rattle.hep_machine.specs.Words.{CommonBlock, Declarator, ImplicitGroup, LetterRange, Target, Name, Occurrence, Form, Statement, type_of, is_array, is_constant_name, is_nonempty, blocks_in, constants_in, names_of_constants, declarators_in, names_declared, block_of, Meaning, is_external, function_named, listed_meaning, is_referenced, names_listed_by, same_name, Units, dummies_by_header, names_of_occurrences, subroutine_called, function_called, groups_in, occurrences_in_statement, occurrences_in_target}
 use Rattle.hep_source.specs.declared.statement.Form.TheVariants as form
 use Rattle.hep_conditions.specs.Statements.{NameWithList, names_with_lists, targets_assigned, targets_in_data, targets_purged, Calling, calls_in}
+use Rattle.hep_conditions.specs.Types.{FunctionTypes, function_types, is_function_in}
 use Rattle.hep_conditions.specs.Violations.{Violations, at_line, at_occurrence, when, repeated_by}
 
 -- ---- 301: a variable or named constant has no type (X3.9-1978, 4.1.2, 8.4 and 8.5)
 
-abbrev pub untyped_in : List Statement → Statement → Violations
-untyped_in unit s =
-    flat_map (λ (p : Occurrence). when (is_none (type_of unit p.name)) (at_occurrence 301 s.line p)) (occurrences_in_statement unit s)
+abbrev pub is_untyped : FunctionTypes → List Statement → Name → Bool
+is_untyped functions unit x = is_none (type_of unit x) && not (is_function_in functions unit x)
 
-abbrev pub type_missing_violations : List Statement → Violations
-type_missing_violations unit = flat_map (untyped_in unit) unit
+abbrev pub untyped_in : FunctionTypes → List Statement → Statement → Violations
+untyped_in functions unit s =
+    flat_map (λ (p : Occurrence). when (is_untyped functions unit p.name) (at_occurrence 301 s.line p)) (occurrences_in_statement unit s)
+
+abbrev pub type_missing_violations : FunctionTypes → List Statement → Violations
+type_missing_violations functions unit = flat_map (untyped_in functions unit) unit
 
 -- ---- 309: a name stands for two things, or is given something twice (18.1 and 18.2)
 
@@ -34,6 +38,7 @@ both_ways us ws = flat_map (λ (u : Use). flat_map (λ (w : Use). when (same_nam
 
 abbrev pub names_typed : Form → List Name
 names_typed (form.Declare t ds) = names_declared ds
+names_typed (form.Function (Some t) p dummies) = p.name ∷ []
 names_typed _ = []
 
 abbrev pub typed_names : Statement → List Name
@@ -68,9 +73,30 @@ abbrev pub occurrences_of_variables : List Statement → Statement → List Occu
 occurrences_of_variables unit s =
     if is_nonempty (groups_in s.form) then flat_map (occurrences_in_target unit) (targets_in_data s.form) else occurrences_in_statement unit s
 
--- the variables of a statement; a constant's name is none
-abbrev pub variable_names : List Statement → Statement → List Name
-variable_names unit s = filter (λ (x : Name). not (is_constant_name unit x)) (names_of_occurrences (occurrences_of_variables unit s))
+-- the name of a function, where its header stands
+abbrev pub names_of_result : Form → List Name
+names_of_result (form.Function t p dummies) = p.name ∷ []
+names_of_result _ = []
+
+abbrev pub result_names : Statement → List Name
+result_names s = names_of_result s.form
+
+-- a name that is referred to, and is given a type here
+abbrev pub referenced_typed : List Statement → Statement → List Name
+referenced_typed unit s = filter (is_referenced unit) (typed_names s)
+
+-- the variables of a statement; the name of a constant or function is none
+abbrev pub variable_names : FunctionTypes → List Statement → Statement → List Name
+variable_names functions unit s =
+    filter (λ (x : Name). not (is_constant_name unit x) && not (is_function_in functions unit x)) (
+    names_of_occurrences (occurrences_of_variables unit s) ++ referenced_typed unit s)
+
+-- the functions of the program that a statement refers to, and those that it names without a list
+abbrev pub function_names : FunctionTypes → List Statement → Statement → List Name
+function_names functions unit s = filter (is_function_in functions unit) (names_listed_by s)
+
+abbrev pub function_names_alone : FunctionTypes → List Statement → Statement → List Name
+function_names_alone functions unit s = filter (is_function_in functions unit) (names_of_occurrences (occurrences_in_statement unit s))
 
 -- the letters that an IMPLICIT names, in order
 abbrev pub letter_ranges_in : Form → List LetterRange
@@ -101,19 +127,32 @@ abbrev pub misused_constants : List Statement → Violations
 misused_constants unit =
     flat_map (used_both_ways unit constant_names) (dummy_names ∷ bounded_names ∷ common_names ∷ data_names ∷ assigned_names ∷ called_names ∷ [])
 
--- what a unit's names stand for; no dummy argument is in COMMON, and what is called is no variable
-abbrev pub ambiguous_in : List Statement → Violations
-ambiguous_in unit =
+-- a function whose name is a dummy argument, has bounds, is in COMMON or is a constant's
+abbrev pub misused_results : List Statement → Violations
+misused_results unit = flat_map (used_both_ways unit result_names) (dummy_names ∷ bounded_names ∷ common_names ∷ constant_names ∷ [])
+
+-- a function with the name of one of the language
+abbrev pub misnamed : List Statement → Violations
+misnamed unit =
+    flat_map (λ (s : Statement). flat_map (λ (x : Name). when (not (is_external (function_named x))) (at_line 309 s.line)) (result_names s)) unit
+
+-- what a unit's names stand for; no dummy argument is in COMMON, what is called is no variable, and a function no variable or constant
+abbrev pub ambiguous_in : FunctionTypes → List Statement → Violations
+ambiguous_in functions unit =
     letters_repeated unit
     ++ (given_twice unit
     ++ (used_both_ways unit dummy_names common_names
     ++ (misused_constants unit
-    ++ used_both_ways unit called_names (variable_names unit))))
+    ++ (misused_results unit
+    ++ (misnamed unit
+    ++ (used_both_ways unit called_names (variable_names functions unit)
+    ++ used_both_ways unit (function_names functions unit) (function_names_alone functions unit)))))))
 
 -- the name of a unit, with the line of its header; a main program without PROGRAM statement has none
 abbrev pub header_name : Form → List Name
 header_name (form.Program p) = p.name ∷ []
 header_name (form.Subroutine p dummies) = p.name ∷ []
+header_name (form.Function t p dummies) = p.name ∷ []
 header_name _ = []
 
 abbrev pub unit_uses : List Statement → List Use
@@ -129,21 +168,20 @@ ambiguous_units program =
     repeated (flat_map unit_uses program) ++ both_ways (flat_map unit_uses program) (flat_map (uses_by block_names) program)
 
 abbrev pub name_violations : Units → Violations
-name_violations program = ambiguous_units program ++ flat_map ambiguous_in program
+name_violations program = ambiguous_units program ++ flat_map (ambiguous_in (function_types program)) program
 
 -- ---- 310: a name is no subroutine, array or function (5.3, 15.3 and 15.6.2)
-
-abbrev pub is_unknown : Meaning → Bool
-is_unknown unknown = true
-is_unknown _ = false
 
 abbrev pub unknown_subroutines : Units → Statement → Violations
 unknown_subroutines program s =
     flat_map (λ (c : Calling). when (is_none (subroutine_called program c.occurrence.name)) (at_occurrence 310 s.line c.occurrence)) (calls_in s.form)
 
-abbrev pub unknown_references : List Statement → Statement → Violations
-unknown_references unit s =
-    flat_map (λ (r : NameWithList). when (is_unknown (listed_meaning unit r.occurrence.name)) (at_occurrence 310 s.line r.occurrence)) (names_with_lists s)
+abbrev pub is_unknown : Units → List Statement → Name → Bool
+is_unknown program unit x = is_external (listed_meaning unit x) && is_none (function_called program x)
+
+abbrev pub unknown_references : Units → List Statement → Statement → Violations
+unknown_references program unit s =
+    flat_map (λ (r : NameWithList). when (is_unknown program unit r.occurrence.name) (at_occurrence 310 s.line r.occurrence)) (names_with_lists s)
 
 -- what is assigned, given a value or purged with a list is an element of an array
 abbrev pub unknown_targets : List Statement → Statement → Violations
@@ -153,4 +191,4 @@ unknown_targets unit s =
 
 abbrev pub unknown_name_violations : Units → List Statement → Violations
 unknown_name_violations program unit =
-    flat_map (λ (s : Statement). unknown_subroutines program s ++ (unknown_references unit s ++ unknown_targets unit s)) unit
+    flat_map (λ (s : Statement). unknown_subroutines program s ++ (unknown_references program unit s ++ unknown_targets unit s)) unit

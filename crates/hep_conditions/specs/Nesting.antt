@@ -3,7 +3,7 @@ use Rattle.std.specs.Prelude.{ℕ, suc, Bool, true, false, not, ◌&&◌, ◌||�
 use Rattle.std.specs.List.{flat_map, list_any}
 use Rattle.hep_machine.specs.Words.{Tree, Name, Form, Statement, Role, opens, alternative, otherwise, closes, other, role_of, index_labelled, is_nonempty, same_name, line_at, statement_at}
 use Rattle.hep_source.specs.declared.statement.Form.TheVariants as form
-use Rattle.hep_conditions.specs.Types.{is_plain_integer_scalar}
+use Rattle.hep_conditions.specs.Types.{FunctionTypes, is_function_in, is_plain_integer_scalar}
 use Rattle.hep_conditions.specs.Statements.{targets_of_jump}
 use Rattle.hep_conditions.specs.Violations.{Violations, at_line, when}
 
@@ -129,17 +129,20 @@ terminal_violations unit line k None = []
 terminal_violations unit line k (Some t) =
     when (nat_lt t k) (at_line 307 line) ++ when (is_wrong_terminal (statement_at unit t)) (at_line 307 (line_at unit t))
 
--- a DO variable is a plain integer scalar: 11.10
-abbrev pub loop_violations : List Statement → ℕ → ℕ → Form → Violations
-loop_violations unit line k (form.Do c) =
-    when (not (is_plain_integer_scalar unit c.variable.name)) (at_line 307 line) ++ terminal_violations unit line k (index_labelled unit c.terminal)
-loop_violations unit line k _ = []
+-- a DO variable is a plain integer scalar, and no function: 11.10
+abbrev pub is_loop_variable : FunctionTypes → List Statement → Name → Bool
+is_loop_variable functions unit x = is_plain_integer_scalar unit x && not (is_function_in functions unit x)
+
+abbrev pub loop_violations : FunctionTypes → List Statement → ℕ → ℕ → Form → Violations
+loop_violations functions unit line k (form.Do c) =
+    when (not (is_loop_variable functions unit c.variable.name)) (at_line 307 line) ++ terminal_violations unit line k (index_labelled unit c.terminal)
+loop_violations functions unit line k _ = []
 
 -- a DO that a logical IF holds has no range, and so no terminal statement
-abbrev pub statement_violations : List Statement → IndexedStatement → Violations
-statement_violations unit p =
+abbrev pub statement_violations : FunctionTypes → List Statement → IndexedStatement → Violations
+statement_violations functions unit p =
     when (holds_wrongly p.statement.conditions p.statement.form) (at_line 307 p.statement.line)
-    ++ (if is_unconditional p.statement then loop_violations unit p.statement.line p.index p.statement.form else [])
+    ++ (if is_unconditional p.statement then loop_violations functions unit p.statement.line p.index p.statement.form else [])
 
 -- ---- 307: block IFs by themselves (11.6 to 11.9)
 
@@ -188,8 +191,8 @@ abbrev pub nesting_violations : List Statement → Violations
 nesting_violations unit =
     flat_map (λ (a : DoRange). flat_map (range_pair unit a) (ranges_of unit) ++ flat_map (crossing unit a) (block_ifs_of unit).closed) (ranges_of unit)
 
-abbrev pub structure_violations : List Statement → Violations
-structure_violations unit = flat_map (statement_violations unit) (indexed_statements unit) ++ (block_violations unit ++ nesting_violations unit)
+abbrev pub structure_violations : FunctionTypes → List Statement → Violations
+structure_violations functions unit = flat_map (statement_violations functions unit) (indexed_statements unit) ++ (block_violations unit ++ nesting_violations unit)
 
 -- ---- 308: jumps into DO ranges and IF blocks (11.6.3, 11.7.2, 11.8.2 and 11.10.8)
 

@@ -1,7 +1,8 @@
 -- Types of expressions, and conditions of operands: 302 (X3.9-1978, sections 5, 6, 10 and 11).
-use Rattle.std.specs.Prelude.{Bool, true, false, not, ◌&&◌, ◌||◌, nat_eq, if◌then◌else◌, List, length, Option, Some, None, option_to_list}
+use Rattle.std.specs.Prelude.{Bool, true, false, not, ◌&&◌, ◌||◌, nat_eq, if◌then◌else◌, List, length, Option, Some, None, is_some, option_to_list}
 use Rattle.std.specs.List.{list_all}
-use Rattle.hep_machine.specs.Words.{Tree, Trees, constant, occurrence, with_list, parenthesized, signed, negated, binary, no_trees, trees, trees_of, Target, ValueType, Integer, Logical, StateFunction, IsFull, IsEmpty, Name, Operator, Arithmetic, Relational, PrintItem, Form, Statement, Value, Int, Truth, type_of, is_array, is_constant_name, is_nonempty, dimensions_of, Meaning, element, pure, state, unknown, listed_meaning}
+use Rattle.std.specs.Option.{option_map}
+use Rattle.hep_machine.specs.Words.{Tree, Trees, constant, occurrence, with_list, parenthesized, signed, negated, binary, no_trees, trees, trees_of, Target, ValueType, Integer, Logical, StateFunction, IsFull, IsEmpty, Name, Operator, Arithmetic, Relational, PrintItem, Form, Statement, Value, Int, Truth, type_of, is_array, is_constant_name, is_nonempty, dimensions_of, Meaning, element, pure, state, external, listed_meaning, is_referenced, names_declared, Units, unit_at, function_called}
 use Rattle.hep_source.specs.declared.operator.Operator.TheVariants.{Logical as LogicalOperation}
 use Rattle.hep_source.specs.declared.statement.PrintItem.TheVariants as item
 use Rattle.hep_source.specs.declared.statement.Form.TheVariants as form
@@ -27,31 +28,25 @@ type_of_operands (Arithmetic o) = Integer
 type_of_operands (Relational o) = Integer
 type_of_operands (LogicalOperation o) = Logical
 
-abbrev pub type_of_tested : List Statement → Trees → KnownType
-type_of_tested unit (trees (occurrence p) ts) = Some (type_of unit p.name)
-type_of_tested unit (trees (with_list p us) ts) = if is_array unit p.name then Some (type_of unit p.name) else None
-type_of_tested unit _ = None
+-- ---- the functions of a program, by their names: 15.5
 
--- FULL and EMPTY are logical, and VALUE, SETE and WAITF of the type of their first argument, however many they are given
-abbrev pub type_of_test : List Statement → StateFunction → Trees → KnownType
-type_of_test unit IsFull ts = Some (Some Logical)
-type_of_test unit IsEmpty ts = Some (Some Logical)
-type_of_test unit _ ts = type_of_tested unit ts
+-- the type of the function with a name, nothing where no function has it
+abbrev pub FunctionTypes : Type 0
+FunctionTypes = Name → KnownType
 
-abbrev pub type_of_listed : List Statement → Meaning → Name → Trees → KnownType
-type_of_listed unit element x ts = Some (type_of unit x)
-type_of_listed unit (pure f) x ts = Some (Some Integer)
-type_of_listed unit (state f) x ts = type_of_test unit f ts
-type_of_listed unit unknown x ts = None
+abbrev pub no_functions : FunctionTypes
+no_functions x = None
 
-abbrev pub type_of_tree : List Statement → Tree → KnownType
-type_of_tree unit (constant v) = Some (Some (type_of_value v))
-type_of_tree unit (occurrence p) = Some (type_of unit p.name)
-type_of_tree unit (with_list p ts) = type_of_listed unit (listed_meaning unit p.name) p.name ts
-type_of_tree unit (parenthesized t) = type_of_tree unit t
-type_of_tree unit (signed s t) = Some (Some Integer)
-type_of_tree unit (negated t) = Some (Some Logical)
-type_of_tree unit (binary o a b) = Some (Some (type_of_operation o))
+abbrev pub function_types : Units → FunctionTypes
+function_types program x = option_map (λ u. type_of (unit_at program u) x) (function_called program x)
+
+-- a name is that of a function in a unit that refers to it
+abbrev pub is_function_in : FunctionTypes → List Statement → Name → Bool
+is_function_in functions unit x = is_some (functions x) && is_referenced unit x
+
+-- what a name by itself is: a function is no operand (309)
+abbrev pub type_of_name : FunctionTypes → List Statement → Name → KnownType
+type_of_name functions unit x = if is_function_in functions unit x then None else Some (type_of unit x)
 
 abbrev pub same_type : ValueType → ValueType → Bool
 same_type Integer Integer = true
@@ -81,78 +76,111 @@ abbrev pub has_dimensions : List Statement → Name → Trees → Bool
 has_dimensions unit x ts = nat_eq (count_of ts) (length (dimensions_of unit x))
 
 -- the list of a name: subscripts and arguments of functions of integers are integers, and what FULL, EMPTY, VALUE, SETE and WAITF
--- are given may be a name by itself, and so may what an unknown name is given
+-- are given may be a name by itself, and so may what another function is given
 abbrev pub is_list_typed : List Statement → Meaning → Name → Trees → Bool → Bool → Bool
 is_list_typed unit element x ts integers actuals = has_dimensions unit x ts && integers
 is_list_typed unit (pure f) x ts integers actuals = integers
 is_list_typed unit (state f) x ts integers actuals = actuals
-is_list_typed unit unknown x ts integers actuals = actuals
+is_list_typed unit external x ts integers actuals = actuals
 
-abbrev mutual
-  -- each operand in an expression has the right type, and no array stands where a scalar must
-  pub is_typed : List Statement → Tree → Bool
-  is_typed unit (constant v) = true
-  is_typed unit (occurrence p) = not (is_array unit p.name)
-  is_typed unit (with_list p ts) = is_list_typed unit (listed_meaning unit p.name) p.name ts (are_integers unit ts) (are_actuals unit ts)
-  is_typed unit (parenthesized t) = is_typed unit t
-  is_typed unit (signed s t) = is_typed unit t && is_of Integer (type_of_tree unit t)
-  is_typed unit (negated t) = is_typed unit t && is_of Logical (type_of_tree unit t)
-  is_typed unit (binary o a b) =
-      (is_typed unit a && is_of (type_of_operands o) (type_of_tree unit a)) && (is_typed unit b && is_of (type_of_operands o) (type_of_tree unit b))
-
-  pub are_integers : List Statement → Trees → Bool
-  are_integers unit no_trees = true
-  are_integers unit (trees t ts) = (is_typed unit t && is_of Integer (type_of_tree unit t)) && are_integers unit ts
-
-  -- actual arguments: a name by itself is no operand
-  pub are_actuals : List Statement → Trees → Bool
-  are_actuals unit no_trees = true
-  are_actuals unit (trees (occurrence p) ts) = are_actuals unit ts
-  are_actuals unit (trees t ts) = is_typed unit t && are_actuals unit ts
+abbrev pub is_scalar_target : List Statement → Target → Bool
+is_scalar_target unit t = is_nonempty t.subscripts || not (is_array unit t.occurrence.name)
 
 -- a scalar variable without `$` that is an integer; a constant's name is no variable
 abbrev pub is_plain_integer_scalar : List Statement → Name → Bool
 is_plain_integer_scalar unit x =
     not (is_constant_name unit x) && (not x.asynchronous && (not (is_array unit x) && same_declared (type_of unit x) (Some Integer)))
 
--- an expression of this type
-abbrev pub is_typed_as : List Statement → ValueType → Tree → Bool
-is_typed_as unit t e = is_typed unit e && is_of t (type_of_tree unit e)
+module _ (functions : FunctionTypes) where
+  abbrev pub type_of_tested : List Statement → Trees → KnownType
+  type_of_tested unit (trees (occurrence p) ts) = type_of_name functions unit p.name
+  type_of_tested unit (trees (with_list p us) ts) = if is_array unit p.name then Some (type_of unit p.name) else None
+  type_of_tested unit _ = None
 
--- a printed expression is an integer or logical (12.8.2)
-abbrev pub is_printable : List Statement → Tree → Bool
-is_printable unit e = is_typed unit e && (is_of Integer (type_of_tree unit e) || is_of Logical (type_of_tree unit e))
+  -- FULL and EMPTY are logical, and VALUE, SETE and WAITF of the type of their first argument, however many they are given
+  abbrev pub type_of_test : List Statement → StateFunction → Trees → KnownType
+  type_of_test unit IsFull ts = Some (Some Logical)
+  type_of_test unit IsEmpty ts = Some (Some Logical)
+  type_of_test unit _ ts = type_of_tested unit ts
 
--- the subscripts of what is assigned, given a value by DATA or purged
-abbrev pub is_target_typed : List Statement → Target → Bool
-is_target_typed unit t =
-    if is_nonempty t.subscripts
-    then is_list_typed unit (if is_array unit t.occurrence.name then element else unknown) t.occurrence.name (trees_of t.subscripts) (are_integers unit (trees_of t.subscripts)) (are_actuals unit (trees_of t.subscripts))
-    else true
+  abbrev pub type_of_listed : List Statement → Meaning → Name → Trees → KnownType
+  type_of_listed unit element x ts = Some (type_of unit x)
+  type_of_listed unit (pure f) x ts = Some (Some Integer)
+  type_of_listed unit (state f) x ts = type_of_test unit f ts
+  type_of_listed unit external x ts = functions x
 
-abbrev pub is_scalar_target : List Statement → Target → Bool
-is_scalar_target unit t = is_nonempty t.subscripts || not (is_array unit t.occurrence.name)
+  abbrev pub type_of_tree : List Statement → Tree → KnownType
+  type_of_tree unit (constant v) = Some (Some (type_of_value v))
+  type_of_tree unit (occurrence p) = type_of_name functions unit p.name
+  type_of_tree unit (with_list p ts) = type_of_listed unit (listed_meaning unit p.name) p.name ts
+  type_of_tree unit (parenthesized t) = type_of_tree unit t
+  type_of_tree unit (signed s t) = Some (Some Integer)
+  type_of_tree unit (negated t) = Some (Some Logical)
+  type_of_tree unit (binary o a b) = Some (Some (type_of_operation o))
 
--- an assignment is of one type on both sides (10.1 and 10.2)
-abbrev pub type_of_target : List Statement → Target → KnownType
-type_of_target unit t =
-    if is_nonempty t.subscripts && not (is_array unit t.occurrence.name) then None else Some (type_of unit t.occurrence.name)
+  abbrev mutual
+    -- each operand in an expression has the right type, and no array stands where a scalar must
+    pub is_typed : List Statement → Tree → Bool
+    is_typed unit (constant v) = true
+    is_typed unit (occurrence p) = not (is_array unit p.name)
+    is_typed unit (with_list p ts) = is_list_typed unit (listed_meaning unit p.name) p.name ts (are_integers unit ts) (are_actuals unit ts)
+    is_typed unit (parenthesized t) = is_typed unit t
+    is_typed unit (signed s t) = is_typed unit t && is_of Integer (type_of_tree unit t)
+    is_typed unit (negated t) = is_typed unit t && is_of Logical (type_of_tree unit t)
+    is_typed unit (binary o a b) =
+        (is_typed unit a && is_of (type_of_operands o) (type_of_tree unit a)) && (is_typed unit b && is_of (type_of_operands o) (type_of_tree unit b))
 
-abbrev pub is_item_typed : List Statement → PrintItem → Bool
-is_item_typed unit (item.Expression t) = is_printable unit t
-is_item_typed unit (item.Characters cs) = true
+    pub are_integers : List Statement → Trees → Bool
+    are_integers unit no_trees = true
+    are_integers unit (trees t ts) = (is_typed unit t && is_of Integer (type_of_tree unit t)) && are_integers unit ts
 
-abbrev pub is_form_typed : List Statement → Form → Bool
-is_form_typed unit (form.Assign x t) =
-    is_scalar_target unit x && (is_target_typed unit x && (is_typed unit t && agree (type_of_target unit x) (type_of_tree unit t)))
-is_form_typed unit (form.ComputedGoTo labels t) = is_typed_as unit Integer t
-is_form_typed unit (form.ArithmeticIf t labels) = is_typed_as unit Integer t
-is_form_typed unit (form.IfThen t) = is_typed_as unit Logical t
-is_form_typed unit (form.ElseIf t) = is_typed_as unit Logical t
-is_form_typed unit (form.Do c) =
-    not (is_array unit c.variable.name) && (is_typed_as unit Integer c.initial && (is_typed_as unit Integer c.limit && list_all (is_typed_as unit Integer) (option_to_list c.increment)))
-is_form_typed unit (form.Call p ts) = are_actuals unit (trees_of ts)
-is_form_typed unit (form.Create p ts) = are_actuals unit (trees_of ts)
-is_form_typed unit (form.Purge targets) = list_all (is_target_typed unit) targets
-is_form_typed unit (form.Print items) = list_all (is_item_typed unit) items
-is_form_typed unit _ = true
+    -- actual arguments: a name by itself is no operand
+    pub are_actuals : List Statement → Trees → Bool
+    are_actuals unit no_trees = true
+    are_actuals unit (trees (occurrence p) ts) = are_actuals unit ts
+    are_actuals unit (trees t ts) = is_typed unit t && are_actuals unit ts
+
+  -- an expression of this type
+  abbrev pub is_typed_as : List Statement → ValueType → Tree → Bool
+  is_typed_as unit t e = is_typed unit e && is_of t (type_of_tree unit e)
+
+  -- a printed expression is an integer or logical (12.8.2)
+  abbrev pub is_printable : List Statement → Tree → Bool
+  is_printable unit e = is_typed unit e && (is_of Integer (type_of_tree unit e) || is_of Logical (type_of_tree unit e))
+
+  -- the subscripts of what is assigned, given a value by DATA or purged
+  abbrev pub is_target_typed : List Statement → Target → Bool
+  is_target_typed unit t =
+      if is_nonempty t.subscripts
+      then is_list_typed unit (if is_array unit t.occurrence.name then element else external) t.occurrence.name (trees_of t.subscripts) (are_integers unit (trees_of t.subscripts)) (are_actuals unit (trees_of t.subscripts))
+      else true
+
+  -- an assignment is of one type on both sides (10.1 and 10.2)
+  abbrev pub type_of_target : List Statement → Target → KnownType
+  type_of_target unit t =
+      if not (is_nonempty t.subscripts) then type_of_name functions unit t.occurrence.name
+      else if is_array unit t.occurrence.name then Some (type_of unit t.occurrence.name) else None
+
+  abbrev pub is_item_typed : List Statement → PrintItem → Bool
+  is_item_typed unit (item.Expression t) = is_printable unit t
+  is_item_typed unit (item.Characters cs) = true
+
+  -- a type statement gives a function that the unit refers to the type that it has (15.5.1)
+  abbrev pub is_type_of : List Statement → ValueType → Name → Bool
+  is_type_of unit t x = not (is_referenced unit x) || agree (Some (Some t)) (functions x)
+
+  abbrev pub is_form_typed : List Statement → Form → Bool
+  is_form_typed unit (form.Assign x t) =
+      is_scalar_target unit x && (is_target_typed unit x && (is_typed unit t && agree (type_of_target unit x) (type_of_tree unit t)))
+  is_form_typed unit (form.ComputedGoTo labels t) = is_typed_as unit Integer t
+  is_form_typed unit (form.ArithmeticIf t labels) = is_typed_as unit Integer t
+  is_form_typed unit (form.IfThen t) = is_typed_as unit Logical t
+  is_form_typed unit (form.ElseIf t) = is_typed_as unit Logical t
+  is_form_typed unit (form.Do c) =
+      not (is_array unit c.variable.name) && (is_typed_as unit Integer c.initial && (is_typed_as unit Integer c.limit && list_all (is_typed_as unit Integer) (option_to_list c.increment)))
+  is_form_typed unit (form.Declare t ds) = list_all (is_type_of unit t) (names_declared ds)
+  is_form_typed unit (form.Call p ts) = are_actuals unit (trees_of ts)
+  is_form_typed unit (form.Create p ts) = are_actuals unit (trees_of ts)
+  is_form_typed unit (form.Purge targets) = list_all (is_target_typed unit) targets
+  is_form_typed unit (form.Print items) = list_all (is_item_typed unit) items
+  is_form_typed unit _ = true

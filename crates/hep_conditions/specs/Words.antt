@@ -7,9 +7,9 @@ unfoldable pub use Rattle.hep_conditions.specs.Known.{nothing_more, same_length}
 pub use Rattle.hep_conditions.specs.Known.{Known}
 unfoldable pub use Rattle.hep_conditions.specs.Statements.{calls_in, names_with_lists, names_with_lists_in, names_with_lists_in_all}
 unfoldable pub use Rattle.hep_conditions.specs.Statements.{subexpressions_of, subexpressions_of_all, targets_assigned, targets_in_data}
+unfoldable pub use Rattle.hep_machine.specs.Words.{trees_in_declarator, trees_in_dimension, trees_in_form, trees_in_item, trees_in_statement}
+unfoldable pub use Rattle.hep_machine.specs.Words.{trees_in_upper}
 unfoldable pub use Rattle.hep_conditions.specs.Statements.{targets_of_groups, targets_of_jump, targets_purged, terminal_labels}
-unfoldable pub use Rattle.hep_conditions.specs.Statements.{trees_in_declarator, trees_in_dimension, trees_in_form, trees_in_item}
-unfoldable pub use Rattle.hep_conditions.specs.Statements.{trees_in_statement, trees_in_upper}
 pub use Rattle.hep_conditions.specs.Statements.{Calling, NameWithList}
 unfoldable pub use Rattle.hep_conditions.specs.Names.{ambiguous_in, ambiguous_units, assigned_names, block_names, both_ways, bounded_names}
 unfoldable pub use Rattle.hep_conditions.specs.Names.{called_names, common_names, constant_names, data_names, dummy_names, given_twice}
@@ -51,3 +51,10 @@ unfoldable pub use Rattle.hep_conditions.specs.Data.{is_misplaced, is_outside, i
 unfoldable pub use Rattle.hep_conditions.specs.Data.{known_values, name_repeated, share_element, wrong_groups_from}
 unfoldable pub use Rattle.hep_conditions.specs.Conditions.{first_violation, IsAccepted, is_resume, resume_violations, violations, violations_in}
 unfoldable pub use Rattle.hep_conditions.specs.Laws.{Keeps}
+unfoldable pub use Rattle.hep_conditions.specs.Types.{FunctionTypes, function_types, is_function_in, is_type_of, no_functions, type_of_name}
+unfoldable pub use Rattle.hep_conditions.specs.Counts.{is_reference_counted}
+unfoldable pub use Rattle.hep_conditions.specs.Nesting.{is_loop_variable}
+unfoldable pub use Rattle.hep_conditions.specs.Arguments.{fits_reference, list_of}
+unfoldable pub use Rattle.hep_conditions.specs.Names.{function_names, function_names_alone, is_untyped, misnamed, misused_results, referenced_typed}
+unfoldable pub use Rattle.hep_conditions.specs.Names.{result_names}
+unfoldable pub use Rattle.hep_conditions.specs.Conditions.{is_resume, resume_violations}

@@ -3,13 +3,13 @@ use Rattle.std.proofs.Common.{◌≡◌, ℕ, zero, suc, Bool, true, false, List
 use Rattle.std.specs.List.{flat_map, list_all, list_any}
 use Rattle.std.proofs.lemmas.Bool.{and_parts, or_parts, eqb-true, eq-eqb, not-false}
 use Rattle.std.proofs.lemmas.Option.{none-some, same_Some}
-use Rattle.hep_machine.specs.Words.{Tree, trees_of, DataConstant, DataGroup, DataValue, Dimension, Repeat, Target, Integer, Name, Statement, Value, Units, is_main, subroutine_name, integers_of, Constants, Values, both, bound_before, bound_of, bounds_of, constant_shape, constant_value, given_by, lower_value, shape_by}
+use Rattle.hep_machine.specs.Words.{Tree, trees_of, DataConstant, DataGroup, DataValue, Dimension, Repeat, Target, Integer, Name, Statement, Value, Units, is_main, procedure_name, integers_of, Constants, Values, both, bound_before, bound_of, bounds_of, constant_shape, constant_value, given_by, lower_value, shape_by}
 use Rattle.hep_machine.specs.Words.{upper_value, value_among, values_of, Repeated, Stretch, all_elements, count_by, element_with, elements_named, groups_in, repeat_of, value_of_constant, values_given, item_at, constants_in, declarators_in, dimensions_of, is_array, is_common, is_dummy, is_nonempty, named_constants}
-use Rattle.hep_machine.specs.Words.{type_of, element, unknown, Bounds, element_number, elements, is_local, same_name}
+use Rattle.hep_machine.specs.Words.{type_of, element, external, Bounds, element_number, elements, is_local, same_name}
 use Rattle.hep_source.specs.declared.declaration.DataConstant.TheVariants as data_constant
 use Rattle.hep_source.specs.declared.declaration.Repeat.TheVariants as repeat
 use Rattle.hep_machine.specs.declared.shape.Bound.{Bound}
-use Rattle.hep_conditions.specs.Words.{IsAccepted, has_constant_subscripts, has_value, is_constant_of, is_group_typed, value_by, count_of, given_twice_from, has_type, is_forbidden, is_misplaced, is_outside, is_target_outside, is_value, is_wrong_group, known_targets, known_values, wrong_groups_from, elements_in}
+use Rattle.hep_conditions.specs.Words.{IsAccepted, no_functions, has_constant_subscripts, has_value, is_constant_of, is_group_typed, value_by, count_of, given_twice_from, has_type, is_forbidden, is_misplaced, is_outside, is_target_outside, is_value, is_wrong_group, known_targets, known_values, wrong_groups_from, elements_in}
 use Rattle.hep_conditions.specs.Words.{is_given_twice, name_repeated, share_element, holds_at_each_place, same_length, Known, count_of_items, holds_from, holds_within, known_before, meet, Keeps, targets_in_data, trees_in_declarator, trees_in_form, are_actuals, are_integers, has_dimensions, is_list_typed}
 use Rattle.hep_conditions.specs.Words.{is_target_typed, is_typed_as, type_of_value, at_line, when}
 use Rattle.hep_conditions_laws.proofs.Formed.{parameters_at, target_typed, typed_statement}
@@ -45,9 +45,9 @@ right_statement program u k unit s accepted iu ik =
     or_parts (is_misplaced unit s) (list_any (is_wrong_group unit (known_at unit k)) (groups_in s.form)) (
     right_from unit [] unit k s (none-append (wrong_groups_from unit [] unit) (given_twice_from unit [] [] unit) (unviolated program unit u accepted iu).assigned).0 ik)
 
-pub main_program_has_data : (program : Units) (u k : ℕ) (unit : List Statement) (s : Statement) → IsAccepted program → slice_get program u ≡ Some unit → slice_get unit k ≡ Some s → is_nonempty (groups_in s.form) ≡ true → is_main (subroutine_name unit) ≡ true
+pub main_program_has_data : (program : Units) (u k : ℕ) (unit : List Statement) (s : Statement) → IsAccepted program → slice_get program u ≡ Some unit → slice_get unit k ≡ Some s → is_nonempty (groups_in s.form) ≡ true → is_main (procedure_name unit) ≡ true
 main_program_has_data program u k unit s accepted iu ik there =
-    not-false (is_main (subroutine_name unit)) (and_past (is_nonempty (groups_in s.form)) (not (is_main (subroutine_name unit))) there (right_statement program u k unit s accepted iu ik).0)
+    not-false (is_main (procedure_name unit)) (and_past (is_nonempty (groups_in s.form)) (not (is_main (procedure_name unit))) there (right_statement program u k unit s accepted iu ik).0)
 
 -- the tests of a group
 record IsRightGroup (unit : List Statement) (known : Constants) (g : DataGroup) : Type 0 where
@@ -143,17 +143,17 @@ all_valued unit values (t ∷ ts) each =
     (v.0 ∷ more.0, (λ i. both (v.1 i) (more.1 i)), ap suc more.2)
 
 target_tests : (program : Units) (u k i j : ℕ) (unit : List Statement) (s : Statement) (g : DataGroup) (t : Target) → IsAccepted program → slice_get program u ≡ Some unit → slice_get unit k ≡ Some s → slice_get (groups_in s.form) i ≡ Some g → slice_get g.targets j ≡ Some t
-    → (is_target_typed unit t ≡ true) × (list_all (is_constant_of unit (parameters_at unit k) Integer) t.subscripts ≡ true)
+    → (is_target_typed no_functions unit t ≡ true) × (list_all (is_constant_of unit (parameters_at unit k) Integer) t.subscripts ≡ true)
 target_tests program u k i j unit s g t accepted iu ik ig jt =
     let group = all_has (is_group_typed unit (parameters_at unit k)) (groups_in s.form) g (typed_statement program u k unit s accepted iu ik).groups (i, ig) in
-    and_parts (is_target_typed unit t) _ (all_has (has_constant_subscripts unit (parameters_at unit k)) g.targets t group (j, jt))
+    and_parts (is_target_typed no_functions unit t) _ (all_has (has_constant_subscripts unit (parameters_at unit k)) g.targets t group (j, jt))
 
 -- a subscript in DATA has a value by the constants before it
 subscripts_valued : (program : Units) (u k i j : ℕ) (unit : List Statement) (s : Statement) (g : DataGroup) (t : Target) → IsAccepted program → slice_get program u ≡ Some unit → slice_get unit k ≡ Some s → slice_get (groups_in s.form) i ≡ Some g → slice_get g.targets j ≡ Some t
     → Keeps (parameters_at unit k) (known_at unit k) → (e : Tree) → Has t.subscripts e → IsValued unit (value_among (known_at unit k)) e
 subscripts_valued program u k i j unit s g t accepted iu ik ig jt keeps e h =
     let each = (target_tests program u k i j unit s g t accepted iu ik ig jt).1 in
-    let test = (and_parts (is_typed_as unit Integer e) (has_value unit (parameters_at unit k) e) (all_has (is_constant_of unit (parameters_at unit k) Integer) t.subscripts e each h)).1 in
+    let test = (and_parts (is_typed_as no_functions unit Integer e) (has_value unit (parameters_at unit k) e) (all_has (is_constant_of unit (parameters_at unit k) Integer) t.subscripts e each h)).1 in
     let inner = has_flat (λ (d : DataGroup). flat_map (λ (w : Target). w.subscripts) d.targets) (groups_in s.form) g e (i, ig) (has_flat (λ (w : Target). w.subscripts) g.targets t e (j, jt) h) in
     let place = has_behind s.conditions _ e (has_behind (flat_map trees_in_declarator (declarators_in s.form)) _ e (has_behind _ _ e (has_front (flat_map (λ (d : DataGroup). flat_map (λ (w : Target). w.subscripts) d.targets) (groups_in s.form)) (trees_in_form s.form) e inner))) in
     let v = some_of (value_by unit (parameters_at unit k) e) (valued unit (parameters_at unit k) e (shut program u k unit s e accepted iu ik place keeps.0) test) in
@@ -170,11 +170,11 @@ element_is x bs vs n shape subscripts p q e =
     ∙ ap (λ o. option_map (λ m. record { name = x; first = m; count = 1 }) o) e
 
 -- the number of subscripts is that of the dimensions
-subscripts_counted : (unit : List Statement) (t : Target) → is_array unit t.occurrence.name ≡ true → is_nonempty t.subscripts ≡ true → is_target_typed unit t ≡ true → count_of (trees_of t.subscripts) ≡ length (dimensions_of unit t.occurrence.name)
+subscripts_counted : (unit : List Statement) (t : Target) → is_array unit t.occurrence.name ≡ true → is_nonempty t.subscripts ≡ true → is_target_typed no_functions unit t ≡ true → count_of (trees_of t.subscripts) ≡ length (dimensions_of unit t.occurrence.name)
 subscripts_counted unit t array listed typed =
-    let test : (has_dimensions unit t.occurrence.name (trees_of t.subscripts) && are_integers unit (trees_of t.subscripts)) ≡ true
-    = subst (λ a. is_list_typed unit (if a then element else unknown) t.occurrence.name (trees_of t.subscripts) (are_integers unit (trees_of t.subscripts)) (are_actuals unit (trees_of t.subscripts)) ≡ true) array (target_typed unit t typed listed) in
-    eqb-true (count_of (trees_of t.subscripts)) (length (dimensions_of unit t.occurrence.name)) (and_parts (has_dimensions unit t.occurrence.name (trees_of t.subscripts)) (are_integers unit (trees_of t.subscripts)) test).0
+    let test : (has_dimensions unit t.occurrence.name (trees_of t.subscripts) && are_integers no_functions unit (trees_of t.subscripts)) ≡ true
+    = subst (λ a. is_list_typed unit (if a then element else external) t.occurrence.name (trees_of t.subscripts) (are_integers no_functions unit (trees_of t.subscripts)) (are_actuals no_functions unit (trees_of t.subscripts)) ≡ true) array (target_typed no_functions unit t typed listed) in
+    eqb-true (count_of (trees_of t.subscripts)) (length (dimensions_of unit t.occurrence.name)) (and_parts (has_dimensions unit t.occurrence.name (trees_of t.subscripts)) (are_integers no_functions unit (trees_of t.subscripts)) test).0
 
 inside : (unit : List Statement) (known : Constants) (t : Target) (bs : Bounds) (vs : List Value) → is_nonempty t.subscripts ≡ true → is_array unit t.occurrence.name ≡ true → constant_shape unit t.occurrence.name ≡ Some bs → values_of unit (value_among known) (trees_of t.subscripts) ≡ Some vs → is_target_outside unit known t ≡ false → is_outside (Some bs) (Some vs) ≡ false
 inside unit known t bs vs listed array shape values e =

@@ -4,6 +4,7 @@ pub mod Agreed
 pub mod Nested
 pub mod Meant
 pub mod Operands
+pub mod Fixed
 pub mod Formed
 pub mod Executed
 pub mod Valued

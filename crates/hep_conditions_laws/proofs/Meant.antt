@@ -6,8 +6,11 @@ use Rattle.std.proofs.lemmas.Bool.{and_parts, false_from_ne_true, not-false}
 use Rattle.std.proofs.lemmas.List.{map-append}
 use Rattle.std.proofs.lemmas.Option.{none-some, same_Some}
 use Rattle.hep_source.proofs.NameTests.{equal_names, same_name-self}
-use Rattle.hep_machine.specs.Words.{CommonBlock, Declarator, NamedConstant, Target, Name, Form, Statement, index_where, is_among, same_name, Units, dummies_of, is_named, subroutine_by_header, subroutine_called, subroutine_name, block_holding, block_of, blocks_in, blocks_of_unit, constants_in, declarator_among, declarators_in, declarators_of, is_array, is_common, is_constant_name, is_dummy, is_nonempty, named_constants, names_declared, names_of_constants, dimensions_of, listed_meaning}
+use Rattle.hep_machine.specs.Words.{function_by_header, function_called, function_name, is_external, is_referenced, listed_meaning, names_listed, names_listed_by, names_of_occurrences, occurrences_in_statement, Occurrence}
+use Rattle.hep_machine.specs.Words.{CommonBlock, Declarator, NamedConstant, Target, Name, Form, Statement, index_where, is_among, same_name, Units, dummies_of, is_named, subroutine_by_header, subroutine_called, subroutine_name, block_holding, block_of, blocks_in, blocks_of_unit, constants_in, declarator_among, declarators_in, declarators_of, is_array, is_common, is_constant_name, is_dummy, is_nonempty, named_constants, names_declared, names_of_constants, dimensions_of}
 use Rattle.hep_source.specs.declared.statement.Form.TheVariants as form
+use Rattle.hep_conditions.specs.Words.{FunctionTypes, function_types, is_function_in, function_names, function_names_alone, misused_results, misnamed, result_names}
+use Rattle.hep_conditions.specs.Names.{names_of_result}
 use Rattle.hep_conditions.specs.Words.{IsAccepted, Use, assigned_names, block_names, both_ways, bounded_names, called_names, common_names, constant_names, data_names, dummy_names, given_twice, header_name, is_unknown, letters_repeated, misused_constants, names_of_targets, repeated, typed_names, unit_uses}
 use Rattle.hep_conditions.specs.Words.{unknown_references, unknown_subroutines, unknown_targets, used_both_ways, uses_by, variable_names, Calling, NameWithList, calls_in, names_with_lists, targets_assigned, targets_in_data, targets_purged, at_line, at_occurrence, when}
 use Rattle.hep_conditions_laws.specs.Meanings.{IsOneThing, how_many, name_in_header, name_of_unit}
@@ -36,23 +39,31 @@ not_both one other unit x none a b = no_use_both (uses_by one unit) (uses_by oth
 
 -- ---- the parts of 309
 
-abbrev Unambiguous : List Statement → Type 0
-Unambiguous unit = (given_twice unit ≡ []) × (used_both_ways unit dummy_names common_names ≡ []) × (misused_constants unit ≡ []) × (used_both_ways unit called_names (variable_names unit) ≡ [])
+record Unambiguous (functions : FunctionTypes) (unit : List Statement) : Type 0 where
+  twice : given_twice unit ≡ []
+  dummies : used_both_ways unit dummy_names common_names ≡ []
+  constants : misused_constants unit ≡ []
+  results : misused_results unit ≡ []
+  called : used_both_ways unit called_names (variable_names functions unit) ≡ []
+  alone : used_both_ways unit (function_names functions unit) (function_names_alone functions unit) ≡ []
 
-unambiguous : (program : Units) (u : ℕ) (unit : List Statement) → IsAccepted program → slice_get program u ≡ Some unit → Unambiguous unit
+unambiguous : (program : Units) (u : ℕ) (unit : List Statement) → IsAccepted program → slice_get program u ≡ Some unit → Unambiguous (function_types program) unit
 unambiguous program u unit accepted iu =
-    let letters = none-append (letters_repeated unit) (given_twice unit ++ (used_both_ways unit dummy_names common_names ++ (misused_constants unit ++ used_both_ways unit called_names (variable_names unit)))) (unviolated program unit u accepted iu).ambiguous in
-    let twice = none-append (given_twice unit) (used_both_ways unit dummy_names common_names ++ (misused_constants unit ++ used_both_ways unit called_names (variable_names unit))) letters.1 in
-    let dummies = none-append (used_both_ways unit dummy_names common_names) (misused_constants unit ++ used_both_ways unit called_names (variable_names unit)) twice.1 in
-    let constants = none-append (misused_constants unit) (used_both_ways unit called_names (variable_names unit)) dummies.1 in
-    (twice.0, dummies.0, constants.0, constants.1)
+    let letters = none-append (letters_repeated unit) _ (unviolated program unit u accepted iu).ambiguous in
+    let twice = none-append (given_twice unit) _ letters.1 in
+    let dummies = none-append (used_both_ways unit dummy_names common_names) _ twice.1 in
+    let constants = none-append (misused_constants unit) _ dummies.1 in
+    let results = none-append (misused_results unit) _ constants.1 in
+    let named = none-append (misnamed unit) _ results.1 in
+    let called = none-append (used_both_ways unit called_names (variable_names (function_types program) unit)) (used_both_ways unit (function_names (function_types program) unit) (function_names_alone (function_types program) unit)) named.1 in
+    record { twice = twice.0; dummies = dummies.0; constants = constants.0; results = results.0; called = called.0; alone = called.1 }
 
 abbrev ways : List (Statement → List Name)
 ways = dummy_names ∷ bounded_names ∷ common_names ∷ data_names ∷ assigned_names ∷ called_names ∷ []
 
 constant_not : (program : Units) (u n : ℕ) (unit : List Statement) (way : Statement → List Name) (x : Name) → IsAccepted program → slice_get program u ≡ Some unit → slice_get ways n ≡ Some way → Used constant_names unit x → Used way unit x → ⊥
 constant_not program u n unit way x accepted iu is a b =
-    not_both constant_names way unit x (none-each (used_both_ways unit constant_names) ways n way (unambiguous program u unit accepted iu).2 is) a b
+    not_both constant_names way unit x (none-each (used_both_ways unit constant_names) ways n way (unambiguous program u unit accepted iu).constants is) a b
 
 -- ---- what a name is
 
@@ -114,7 +125,7 @@ one_thing program u unit x accepted iu =
     one_of (is_constant_name unit x) (is_dummy unit x) (is_common unit x)
     (λ c d. constant_not program u 0 unit dummy_names x accepted iu refl (constant_used unit x c) (dummy_used unit x d))
     (λ c m. constant_not program u 2 unit common_names x accepted iu refl (constant_used unit x c) (common_used unit x m))
-    (λ d m. not_both dummy_names common_names unit x (unambiguous program u unit accepted iu).1 (dummy_used unit x d) (common_used unit x m))
+    (λ d m. not_both dummy_names common_names unit x (unambiguous program u unit accepted iu).dummies (dummy_used unit x d) (common_used unit x m))
 
 pub constant_is_scalar : (program : Units) (u : ℕ) (unit : List Statement) (x : Name) → IsAccepted program → slice_get program u ≡ Some unit → is_constant_name unit x ≡ true → is_array unit x ≡ false
 constant_is_scalar program u unit x accepted iu c =
@@ -140,9 +151,43 @@ pub constant_not_called : (program : Units) (u k i : ℕ) (unit : List Statement
 constant_not_called program u k i unit s c accepted iu ik ic =
     false_from_ne_true (is_constant_name unit c.occurrence.name) (λ e. constant_not program u 5 unit called_names c.occurrence.name accepted iu refl (constant_used unit c.occurrence.name e) (call_used unit k i s c ik ic))
 
-pub called_are_no_variables : (program : Units) (u j k i n : ℕ) (unit : List Statement) (s t : Statement) (c : Calling) (x : Name) → IsAccepted program → slice_get program u ≡ Some unit → slice_get unit j ≡ Some s → slice_get unit k ≡ Some t → slice_get (calls_in s.form) i ≡ Some c → slice_get (variable_names unit t) n ≡ Some x → c.occurrence.name ≡ x → ⊥
+pub called_are_no_variables : (program : Units) (u j k i n : ℕ) (unit : List Statement) (s t : Statement) (c : Calling) (x : Name) → IsAccepted program → slice_get program u ≡ Some unit → slice_get unit j ≡ Some s → slice_get unit k ≡ Some t → slice_get (calls_in s.form) i ≡ Some c → slice_get (variable_names (function_types program) unit t) n ≡ Some x → c.occurrence.name ≡ x → ⊥
 called_are_no_variables program u j k i n unit s t c x accepted iu ij ik ic ix same =
-    not_both called_names (variable_names unit) unit x (unambiguous program u unit accepted iu).3 (subst (λ y. Used called_names unit y) same (call_used unit j i s c ij ic)) (t, (k, ik), (n, ix))
+    not_both called_names (variable_names (function_types program) unit) unit x (unambiguous program u unit accepted iu).called (subst (λ y. Used called_names unit y) same (call_used unit j i s c ij ic)) (t, (k, ik), (n, ix))
+
+-- ---- functions
+
+-- a function that a unit refers to stands in one of its statements with a list
+reference_used : (functions : FunctionTypes) (unit : List Statement) (x : Name) → is_function_in functions unit x ≡ true → Used (function_names functions unit) unit x
+reference_used functions unit x e =
+    let referenced = (and_parts (is_some (functions x)) (is_referenced unit x) e).1 in
+    let among = (and_parts (not (is_named (function_name unit) x)) (is_among x (names_listed unit)) (and_parts (is_external (listed_meaning unit x)) _ referenced).1).1 in
+    let s = flat_has names_listed_by unit x (among_has x (names_listed unit) among) in
+    (s.0, s.1, has_filter (is_function_in functions unit) (names_listed_by s.0) x s.2 e)
+
+pub no_function_alone : (program : Units) (u k i : ℕ) (unit : List Statement) (s : Statement) (p : Occurrence) → IsAccepted program → slice_get program u ≡ Some unit → slice_get unit k ≡ Some s → slice_get (occurrences_in_statement unit s) i ≡ Some p → is_function_in (function_types program) unit p.name ≡ false
+no_function_alone program u k i unit s p accepted iu ik ip =
+    let fs : FunctionTypes = function_types program in
+    false_from_ne_true (is_function_in fs unit p.name) (λ e.
+    let named = has_map (λ (q : Occurrence). q.name) (occurrences_in_statement unit s) p (i, ip) in
+    not_both (function_names fs unit) (function_names_alone fs unit) unit p.name (unambiguous program u unit accepted iu).alone (reference_used fs unit p.name e)
+    (s, (k, ik), has_filter (is_function_in fs unit) (names_of_occurrences (occurrences_in_statement unit s)) p.name named e))
+
+-- the name of a function, where its header stands
+result_used : (unit : List Statement) (x : Name) → function_name unit ≡ Some x → Used result_names unit x
+result_used [] x e = absurd (none-some x e)
+result_used (s ∷ ss) x e = (s, (zero, refl), by_form s.form e) where
+  by_form : (f : Form) → function_by_header f ≡ Some x → Has (names_of_result f) x
+  by_form (form.Function t p ds) g = (zero, g)
+  by_form _ g = absurd (none-some x g)
+
+abbrev result_ways : List (Statement → List Name)
+result_ways = dummy_names ∷ bounded_names ∷ common_names ∷ constant_names ∷ []
+
+pub result_no_constant : (program : Units) (u : ℕ) (unit : List Statement) (x : Name) → IsAccepted program → slice_get program u ≡ Some unit → function_name unit ≡ Some x → is_constant_name unit x ≡ false
+result_no_constant program u unit x accepted iu e =
+    false_from_ne_true (is_constant_name unit x) (λ c.
+    not_both result_names constant_names unit x (none-each (used_both_ways unit result_names) result_ways 3 constant_names (unambiguous program u unit accepted iu).results refl) (result_used unit x e) (constant_used unit x c))
 
 -- ---- names that are given once
 
@@ -161,7 +206,7 @@ once = dummy_names ∷ typed_names ∷ bounded_names ∷ common_names ∷ consta
 
 pub name_once : (names : Statement → List Name) (n : ℕ) → slice_get once n ≡ Some names → (program : Units) (u i j : ℕ) (unit : List Statement) (x : Name) → IsAccepted program → slice_get program u ≡ Some unit → slice_get (flat_map names unit) i ≡ Some x → slice_get (flat_map names unit) j ≡ Some x → i ≡ j
 name_once names n is program u i j unit x accepted iu ix jx =
-    let none = none-each (λ (f : Statement → List Name). repeated (uses_by f unit)) once n names (unambiguous program u unit accepted iu).0 is in
+    let none = none-each (λ (f : Statement → List Name). repeated (uses_by f unit)) once n names (unambiguous program u unit accepted iu).twice is in
     let a = place i ix in
     let b = place j jx in
     let same : same_name a.0.0 b.0.0 ≡ true = (λ k. same_name (a.2 k) (b.2 k)) ∙ same_name-self x in
@@ -192,14 +237,14 @@ constants_once program u i j unit a b accepted iu ia jb same =
 
 -- ---- names with lists
 
-unknown_names : (program : Units) (u k : ℕ) (unit : List Statement) (s : Statement) → IsAccepted program → slice_get program u ≡ Some unit → slice_get unit k ≡ Some s → (unknown_references unit s ≡ []) × (unknown_targets unit s ≡ [])
+unknown_names : (program : Units) (u k : ℕ) (unit : List Statement) (s : Statement) → IsAccepted program → slice_get program u ≡ Some unit → slice_get unit k ≡ Some s → (unknown_references program unit s ≡ []) × (unknown_targets unit s ≡ [])
 unknown_names program u k unit s accepted iu ik =
-    let all = none-each (λ (w : Statement). unknown_subroutines program w ++ (unknown_references unit w ++ unknown_targets unit w)) unit k s (unviolated program unit u accepted iu).unknown_names ik in
-    none-append (unknown_references unit s) (unknown_targets unit s) (none-append (unknown_subroutines program s) (unknown_references unit s ++ unknown_targets unit s) all).1
+    let all = none-each (λ (w : Statement). unknown_subroutines program w ++ (unknown_references program unit w ++ unknown_targets unit w)) unit k s (unviolated program unit u accepted iu).unknown_names ik in
+    none-append (unknown_references program unit s) (unknown_targets unit s) (none-append (unknown_subroutines program s) (unknown_references program unit s ++ unknown_targets unit s) all).1
 
-pub reference_known : (program : Units) (u k i : ℕ) (unit : List Statement) (s : Statement) (r : NameWithList) → IsAccepted program → slice_get program u ≡ Some unit → slice_get unit k ≡ Some s → slice_get (names_with_lists s) i ≡ Some r → is_unknown (listed_meaning unit r.occurrence.name) ≡ false
+pub reference_known : (program : Units) (u k i : ℕ) (unit : List Statement) (s : Statement) (r : NameWithList) → IsAccepted program → slice_get program u ≡ Some unit → slice_get unit k ≡ Some s → slice_get (names_with_lists s) i ≡ Some r → is_unknown program unit r.occurrence.name ≡ false
 reference_known program u k i unit s r accepted iu ik ir =
-    none-when _ (at_occurrence 310 s.line r.occurrence) (none-each (λ (q : NameWithList). when (is_unknown (listed_meaning unit q.occurrence.name)) (at_occurrence 310 s.line q.occurrence)) (names_with_lists s) i r (unknown_names program u k unit s accepted iu ik).0 ir)
+    none-when _ (at_occurrence 310 s.line r.occurrence) (none-each (λ (q : NameWithList). when (is_unknown program unit q.occurrence.name) (at_occurrence 310 s.line q.occurrence)) (names_with_lists s) i r (unknown_names program u k unit s accepted iu ik).0 ir)
 
 target_known : (program : Units) (u k : ℕ) (unit : List Statement) (s : Statement) (t : Target) → IsAccepted program → slice_get program u ≡ Some unit → slice_get unit k ≡ Some s → Has (targets_assigned s.form ++ (targets_in_data s.form ++ targets_purged s.form)) t → is_nonempty t.subscripts ≡ true → is_array unit t.occurrence.name ≡ true
 target_known program u k unit s t accepted iu ik it listed =
@@ -226,6 +271,7 @@ purged_known program u k i unit s t accepted iu ik it listed =
 header_is : (f : Form) (x : Name) → name_in_header f ≡ Some x → header_name f ≡ x ∷ []
 header_is (form.Program p) x e = ap (λ y. y ∷ []) (same_Some p.name x e)
 header_is (form.Subroutine p dummies) x e = ap (λ y. y ∷ []) (same_Some p.name x e)
+header_is (form.Function t p dummies) x e = ap (λ y. y ∷ []) (same_Some p.name x e)
 header_is _ x e = absurd (none-some x e)
 
 -- a unit's name and the line of its header
@@ -248,7 +294,7 @@ named_unit : (unit : List Statement) (x : Name) → subroutine_name unit ≡ Som
 named_unit [] x e = absurd (none-some x e)
 named_unit (s ∷ ss) x e = subroutine_named s.form x e
 
-named_so : (o : Option Name) (x : Name) → is_named o x ≡ true → o ≡ Some x
+pub named_so : (o : Option Name) (x : Name) → is_named o x ≡ true → o ≡ Some x
 named_so None x e = absurd (true≢false (sym e))
 named_so (Some y) x e = ap (λ z. Some z) (equal_names y x e)
 
@@ -265,6 +311,21 @@ called_by_name program v unit x accepted iv named =
     let j = index_there (λ (w : List Statement). is_named (subroutine_name w) x) program v unit iv (ap (λ o. is_named o x) named ∙ same_name-self x) in
     let callee = found_at (λ (w : List Statement). is_named (subroutine_name w) x) program j.0 j.1 in
     let same = units_apart program j.0 v callee.0 unit x accepted callee.1 iv (named_unit callee.0 x (named_so (subroutine_name callee.0) x callee.2)) (named_unit unit x named) in
+    j.1 ∙ ap (λ n. Some n) same
+
+function_header_named : (f : Form) (x : Name) → function_by_header f ≡ Some x → name_in_header f ≡ Some x
+function_header_named (form.Function t p dummies) x e = e
+function_header_named _ x e = absurd (none-some x e)
+
+named_function : (unit : List Statement) (x : Name) → function_name unit ≡ Some x → name_of_unit unit ≡ Some x
+named_function [] x e = absurd (none-some x e)
+named_function (s ∷ ss) x e = function_header_named s.form x e
+
+pub referred_by_name : (program : Units) (v : ℕ) (unit : List Statement) (x : Name) → IsAccepted program → slice_get program v ≡ Some unit → function_name unit ≡ Some x → function_called program x ≡ Some v
+referred_by_name program v unit x accepted iv named =
+    let j = index_there (λ (w : List Statement). is_named (function_name w) x) program v unit iv (ap (λ o. is_named o x) named ∙ same_name-self x) in
+    let callee = found_at (λ (w : List Statement). is_named (function_name w) x) program j.0 j.1 in
+    let same = units_apart program j.0 v callee.0 unit x accepted callee.1 iv (named_function callee.0 x (named_so (function_name callee.0) x callee.2)) (named_function unit x named) in
     j.1 ∙ ap (λ n. Some n) same
 
 -- no unit has the name of a common block

@@ -7,7 +7,7 @@ use Rattle.std.proofs.lemmas.Bool.Decides.{nat_tests}
 use Rattle.std.proofs.lemmas.Option.{none-some, same_Some}
 use Rattle.hep_machine.specs.Words.{Tree, DoControl, Form, Statement, no_statement, same_name, Units, is_executable, line_at, statement_at, has_label, index_labelled, is_labelled, role_of, is_nonempty}
 use Rattle.hep_source.specs.declared.statement.Form.TheVariants as form
-use Rattle.hep_conditions.specs.Words.{IsAccepted, labels_of, unlabelled, BlockIf, DoRange, IndexedStatement, Region, block_ifs_of, block_violations, crossing, end_between, ends_after, enters, holds_wrongly, indexed_from, indexed_statements, is_between, is_division, is_in, is_no_terminal, is_not_held}
+use Rattle.hep_conditions.specs.Words.{IsAccepted, function_types, is_function_in, is_loop_variable, labels_of, unlabelled, BlockIf, DoRange, IndexedStatement, Region, block_ifs_of, block_violations, crossing, end_between, ends_after, enters, holds_wrongly, indexed_from, indexed_statements, is_between, is_division, is_in, is_no_terminal, is_not_held}
 use Rattle.hep_conditions.specs.Words.{is_wrong_terminal, jump_to, leaves_block, leaves_range, loop_violations, nesting_violations, range_pair, ranges_cross, ranges_of, regions_of, shares_variable, statement_violations, terminal_violations, targets_of_jump, terminal_labels, is_plain_integer_scalar, at_line}
 use Rattle.hep_conditions.specs.Words.{repeated_by, when}
 use Rattle.hep_conditions_laws.specs.Flow.{AreNested, EndsWithin, HasTerminal, HoldsWhole, IsOutside, Leads}
@@ -78,10 +78,10 @@ jumps_lead program u k i l unit s accepted iu ik il =
 
 -- ---- statements by themselves
 
-by_itself : (program : Units) (u k : ℕ) (unit : List Statement) (s : Statement) → IsAccepted program → slice_get program u ≡ Some unit → slice_get unit k ≡ Some s → statement_violations unit (record { index = k; statement = s }) ≡ []
+by_itself : (program : Units) (u k : ℕ) (unit : List Statement) (s : Statement) → IsAccepted program → slice_get program u ≡ Some unit → slice_get unit k ≡ Some s → statement_violations (function_types program) unit (record { index = k; statement = s }) ≡ []
 by_itself program u k unit s accepted iu ik =
-    let all = (none-append (flat_map (statement_violations unit) (indexed_statements unit)) (block_violations unit ++ nesting_violations unit) (unviolated program unit u accepted iu).structure).0 in
-    none-each (statement_violations unit) (indexed_statements unit) k (record { index = k; statement = s }) all (indexed unit k s ik)
+    let all = (none-append (flat_map (statement_violations (function_types program) unit) (indexed_statements unit)) (block_violations unit ++ nesting_violations unit) (unviolated program unit u accepted iu).structure).0 in
+    none-each (statement_violations (function_types program) unit) (indexed_statements unit) k (record { index = k; statement = s }) all (indexed unit k s ik)
 
 held_rightly : (program : Units) (u k : ℕ) (unit : List Statement) (s : Statement) → IsAccepted program → slice_get program u ≡ Some unit → slice_get unit k ≡ Some s → holds_wrongly s.conditions s.form ≡ false
 held_rightly program u k unit s accepted iu ik =
@@ -107,10 +107,11 @@ loop_alone : (program : Units) (u k : ℕ) (unit : List Statement) (s : Statemen
     → (is_plain_integer_scalar unit c.variable.name ≡ true) × (terminal_violations unit s.line k (index_labelled unit c.terminal) ≡ [])
 loop_alone program u k unit s c accepted iu ik none is =
     let here = (none-append (when (holds_wrongly s.conditions s.form) (at_line 307 s.line)) _ (by_itself program u k unit s accepted iu ik)).1 in
-    let alone : loop_violations unit s.line k s.form ≡ [] = subst (λ (cs : List Tree). (if not (is_nonempty cs) then loop_violations unit s.line k s.form else []) ≡ []) none here in
-    let loop : loop_violations unit s.line k (form.Do c) ≡ [] = subst (λ f. loop_violations unit s.line k f ≡ []) is alone in
-    let parts = none-append (when (not (is_plain_integer_scalar unit c.variable.name)) (at_line 307 s.line)) (terminal_violations unit s.line k (index_labelled unit c.terminal)) loop in
-    (none-unless _ (at_line 307 s.line) parts.0, parts.1)
+    let alone : loop_violations (function_types program) unit s.line k s.form ≡ [] = subst (λ (cs : List Tree). (if not (is_nonempty cs) then loop_violations (function_types program) unit s.line k s.form else []) ≡ []) none here in
+    let loop : loop_violations (function_types program) unit s.line k (form.Do c) ≡ [] = subst (λ f. loop_violations (function_types program) unit s.line k f ≡ []) is alone in
+    let parts = none-append (when (not (is_loop_variable (function_types program) unit c.variable.name)) (at_line 307 s.line)) (terminal_violations unit s.line k (index_labelled unit c.terminal)) loop in
+    let may_be = and_parts (is_plain_integer_scalar unit c.variable.name) (not (is_function_in (function_types program) unit c.variable.name)) (none-unless _ (at_line 307 s.line) parts.0) in
+    (may_be.0, parts.1)
 
 pub loop_variable : (program : Units) (u k : ℕ) (unit : List Statement) (s : Statement) (c : DoControl) → IsAccepted program → slice_get program u ≡ Some unit → slice_get unit k ≡ Some s → s.conditions ≡ [] → s.form ≡ form.Do c → is_plain_integer_scalar unit c.variable.name ≡ true
 loop_variable program u k unit s c accepted iu ik none is = (loop_alone program u k unit s c accepted iu ik none is).0
@@ -136,7 +137,7 @@ loop_terminal program u k unit s c accepted iu ik none is =
 
 blocks : (program : Units) (u : ℕ) (unit : List Statement) → IsAccepted program → slice_get program u ≡ Some unit → (block_violations unit ≡ []) × (nesting_violations unit ≡ [])
 blocks program u unit accepted iu =
-    none-append (block_violations unit) (nesting_violations unit) (none-append (flat_map (statement_violations unit) (indexed_statements unit)) (block_violations unit ++ nesting_violations unit) (unviolated program unit u accepted iu).structure).1
+    none-append (block_violations unit) (nesting_violations unit) (none-append (flat_map (statement_violations (function_types program) unit) (indexed_statements unit)) (block_violations unit ++ nesting_violations unit) (unviolated program unit u accepted iu).structure).1
 
 pub none_stray : (program : Units) (u : ℕ) (unit : List Statement) → IsAccepted program → slice_get program u ≡ Some unit → (block_ifs_of unit).stray ≡ []
 none_stray program u unit accepted iu =

@@ -6,7 +6,7 @@ use Rattle.std.proofs.lemmas.Bool.{and_from, and_parts, or_parts}
 use Rattle.std.proofs.lemmas.Option.{none-some, same_Some}
 use Rattle.hep_machine.specs.Words.{Statement, index_where, Units}
 use Rattle.hep_conditions.specs.declared.violation.Violation.{Violation}
-use Rattle.hep_conditions.specs.Words.{argument_violations, resume_violations, IsAccepted, violations_in, type_violations, count_violations, data_violations, label_violations, ambiguous_in, ambiguous_units, name_violations, type_missing_violations, unknown_name_violations, common_violations, jump_violations, structure_violations, when}
+use Rattle.hep_conditions.specs.Words.{argument_violations, resume_violations, IsAccepted, function_types, violations_in, type_violations, count_violations, data_violations, label_violations, ambiguous_in, ambiguous_units, name_violations, type_missing_violations, unknown_name_violations, common_violations, jump_violations, structure_violations, when}
 
 -- ---- lists without elements
 
@@ -79,28 +79,28 @@ same_index i j f g = grind arith
 -- ---- the conditions of a unit of an accepted program
 
 pub record Unviolated (program : Units) (unit : List Statement) : Type 0 where
-  pub type_missing : type_missing_violations unit ≡ []
-  pub types : type_violations unit ≡ []
+  pub type_missing : type_missing_violations (function_types program) unit ≡ []
+  pub types : type_violations (function_types program) unit ≡ []
   pub counts : count_violations program unit ≡ []
-  pub arguments : argument_violations program unit ≡ []
+  pub arguments : argument_violations (function_types program) program unit ≡ []
   pub labels : label_violations unit ≡ []
-  pub structure : structure_violations unit ≡ []
+  pub structure : structure_violations (function_types program) unit ≡ []
   pub jumps : jump_violations unit ≡ []
   pub unknown_names : unknown_name_violations program unit ≡ []
   pub assigned : data_violations unit ≡ []
-  pub ambiguous : ambiguous_in unit ≡ []
+  pub ambiguous : ambiguous_in (function_types program) unit ≡ []
 
 pub unviolated : (program : Units) (unit : List Statement) (u : ℕ) → IsAccepted program → slice_get program u ≡ Some unit → Unviolated program unit
 unviolated program unit u accepted is =
     let all = none-append (flat_map (violations_in program) program) (common_violations program ++ name_violations program) accepted in
     let names = (none-append (common_violations program) (name_violations program) all.1).1 in
-    let ambiguities = none-append (ambiguous_units program) (flat_map ambiguous_in program) names in
-    let v1 = none-append (type_missing_violations unit) _ (none-each (violations_in program) program u unit all.0 is) in
-    let v2 = none-append (type_violations unit) _ v1.1 in
+    let ambiguities = none-append (ambiguous_units program) (flat_map (ambiguous_in (function_types program)) program) names in
+    let v1 = none-append (type_missing_violations (function_types program) unit) _ (none-each (violations_in program) program u unit all.0 is) in
+    let v2 = none-append (type_violations (function_types program) unit) _ v1.1 in
     let v3 = none-append (count_violations program unit) _ v2.1 in
-    let v4 = none-append (argument_violations program unit) _ v3.1 in
+    let v4 = none-append (argument_violations (function_types program) program unit) _ v3.1 in
     let v5 = none-append (label_violations unit) _ v4.1 in
-    let v6 = none-append (structure_violations unit) _ v5.1 in
+    let v6 = none-append (structure_violations (function_types program) unit) _ v5.1 in
     let v7 = none-append (jump_violations unit) _ v6.1 in
     let v8 = none-append (unknown_name_violations program unit) _ v7.1 in
     let v9 = none-append (data_violations unit) (resume_violations unit) v8.1 in
@@ -114,10 +114,10 @@ unviolated program unit u accepted is =
       jumps = v7.0;
       unknown_names = v8.0;
       assigned = v9.0;
-      ambiguous = none-each ambiguous_in program u unit ambiguities.1 is;
+      ambiguous = none-each (ambiguous_in (function_types program)) program u unit ambiguities.1 is;
     }
 
 pub unviolated_names : (program : Units) → IsAccepted program → ambiguous_units program ≡ []
 unviolated_names program accepted =
     let all = none-append (flat_map (violations_in program) program) (common_violations program ++ name_violations program) accepted in
-    (none-append (ambiguous_units program) (flat_map ambiguous_in program) (none-append (common_violations program) (name_violations program) all.1).1).0
+    (none-append (ambiguous_units program) (flat_map (ambiguous_in (function_types program)) program) (none-append (common_violations program) (name_violations program) all.1).1).0

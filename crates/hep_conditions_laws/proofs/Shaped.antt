@@ -10,7 +10,7 @@ use Rattle.hep_machine.specs.Words.{Values, both, bound_before, bound_of, bounds
 use Rattle.hep_machine.specs.Words.{named_constants, Meaning, listed_meaning, pure, Bounds, elements, extent, is_shape, product, occurrences_in, ValueType}
 use Rattle.hep_source.specs.declared.declaration.UpperBound.TheVariants as bound
 use Rattle.hep_machine.specs.declared.shape.Bound.{Bound}
-use Rattle.hep_conditions.specs.Words.{IsAccepted, Parameters, are_bounds_open, has_bounds, has_value, is_adjustable, is_adjusted, is_bound, is_dimension, is_open, is_shape_if_known, is_upper_bound, value_by, is_counted, Keeps, names_with_lists, names_with_lists_in, trees_in_declarator, trees_in_dimension, trees_in_statement, trees_in_upper, is_typed_as, type_of_value}
+use Rattle.hep_conditions.specs.Words.{IsAccepted, no_functions, Parameters, are_bounds_open, has_bounds, has_value, is_adjustable, is_adjusted, is_bound, is_dimension, is_open, is_shape_if_known, is_upper_bound, value_by, is_counted, Keeps, names_with_lists, names_with_lists_in, trees_in_declarator, trees_in_dimension, trees_in_statement, trees_in_upper, is_typed_as, type_of_value}
 use Rattle.hep_source.proofs.Tests.{or-false}
 use Rattle.hep_conditions_laws.specs.Typing.{HasShape, HasValue, IsOf}
 use Rattle.hep_conditions_laws.proofs.Agreed.{counted}
@@ -121,7 +121,7 @@ none_open unit ps (t ∷ ts) h = (λ i. h t (0, refl) i || none_open unit ps ts 
 -- a bound of an array that is no dummy argument has a value
 constant_bound : (unit : List Statement) (ps : Parameters) (t : Tree) → is_open unit ps t ≡ false → is_bound unit ps false t ≡ true → IsValued unit (value_among ps.known) t
 constant_bound unit ps t shut e =
-    let both = and_parts (is_typed_as unit Integer t) (has_value unit ps t || (false && (is_adjusted unit ps.known t && is_adjustable unit ps.known t))) e in
+    let both = and_parts (is_typed_as no_functions unit Integer t) (has_value unit ps t || (false && (is_adjusted unit ps.known t && is_adjustable unit ps.known t))) e in
     some_of (value_by unit ps t) (valued unit ps t shut (sym (or-false (has_value unit ps t)) ∙ both.1))
 
 upper_valued : (unit : List Statement) (ps : Parameters) (b : UpperBound) → is_upper_bound unit ps false b ≡ true → Each (λ t. is_open unit ps t ≡ false → IsValued unit (value_among ps.known) t) (trees_in_upper b)
@@ -219,5 +219,5 @@ constants_have_values agrees program u i unit c accepted iu ic =
       v.1,
       same_value unit (value_among (given_by unit [] (take i (named_constants unit)))) (constant_value unit) c.value v.0 (before_extends unit (take i (named_constants unit)) (drop i (named_constants unit)) (take_drop i (named_constants unit))) from,
       typed,
-      subst (λ (t : ValueType). IsOf unit t c.value) (same_Some one.0 (type_of_value v.0) (sym one.1 ∙ typed)) one.2,
+      subst (λ (t : ValueType). IsOf no_functions unit t c.value) (same_Some one.0 (type_of_value v.0) (sym one.1 ∙ typed)) one.2,
     )

@@ -10,10 +10,11 @@ use Rattle.hep_machine.specs.Words.{declarators_in, named_constants, type_of, Me
 use Rattle.hep_source.specs.declared.operator.Operator.TheVariants.{Logical as LogicalOperation}
 use Rattle.hep_source.specs.declared.statement.Form.TheVariants as form
 use Rattle.hep_machine.specs.declared.event.Kind.{Kind}
-use Rattle.hep_conditions.specs.Words.{IsAccepted, Parameters, has_value, has_value_or_is_open, is_constant_expression, is_constant_given, is_given, is_known, is_open, no_parameters, value_by, with_parameter, with_parameters, Keeps, subexpressions_of, trees_in_declarator, trees_in_form, KnownType, agree, is_typed, type_of_listed, type_of_operation, type_of_tree, type_of_value}
+use Rattle.hep_conditions.specs.Words.{IsAccepted, function_types, no_functions, Parameters, has_value, has_value_or_is_open, is_constant_expression, is_constant_given, is_given, is_known, is_open, no_parameters, value_by, with_parameter, with_parameters, Keeps, subexpressions_of, trees_in_declarator, trees_in_form, KnownType, agree, is_typed, type_of_listed, type_of_operation, type_of_tree, type_of_value}
 use Rattle.hep_conditions_laws.specs.Typing.{IsOf}
 use Rattle.hep_conditions_laws.proofs.Executed.{same_types}
-use Rattle.hep_conditions_laws.proofs.Formed.{constant_given, expressions_have_types, names_have_types, parameters_at, typed_statement}
+use Rattle.hep_conditions_laws.proofs.Formed.{constant_given, expressions_have_types, names_have_types, names_in, parameters_at, typed_statement}
+use Rattle.hep_conditions_laws.proofs.Fixed.{pure_value, same_type_of}
 use Rattle.hep_conditions_laws.proofs.Meant.{constants_once}
 use Rattle.hep_conditions_laws.proofs.Members.{Has, flat_has, has_behind, has_flat, has_front, has_map}
 use Rattle.hep_conditions_laws.proofs.Parts.{some_of}
@@ -100,7 +101,7 @@ valued unit ps t shut e =
 known_valued : (unit : List Statement) (ps : Parameters) (c : NamedConstant) → is_known unit ps c ≡ true → is_some (value_by unit ps c.value) ≡ true
 known_valued unit ps c e =
     let both = and_parts (not (is_open unit ps c.value)) (is_constant_given unit ps c) e in
-    let given = and_parts (is_typed unit c.value) _ both.1 in
+    let given = and_parts (is_typed no_functions unit c.value) _ both.1 in
     valued unit ps c.value (not-true (is_open unit ps c.value) both.0) (and_parts (has_value unit ps c.value) _ given.1).0
 
 has-next : (g o : Bool) (ps : Parameters) (x : Name) (v : Option Value) → is_given ps x ≡ g → (o ≡ true → is_some v ≡ true) → (next g o ps x v).doubtful ≡ [] → is_some (value_among (next g o ps x v).known x) ≡ true
@@ -146,12 +147,12 @@ combined_typed (Arithmetic o) w x y e = integer_there (result_of o (integer_of w
 combined_typed (Relational o) w x y e = sym (ap type_of_value (same_Some _ y e))
 combined_typed (LogicalOperation o) w x y e = sym (ap type_of_value (same_Some _ y e))
 
-listed_value : (unit : List Statement) (m : Meaning) (x : Name) (ts : Trees) (o : Option (List Value)) (v : Value) → by_meaning m o ≡ Some v → type_of_listed unit m x ts ≡ Some (Some (type_of_value v))
+listed_value : (unit : List Statement) (m : Meaning) (x : Name) (ts : Trees) (o : Option (List Value)) (v : Value) → by_meaning m o ≡ Some v → type_of_listed no_functions unit m x ts ≡ Some (Some (type_of_value v))
 listed_value unit (pure f) x ts (Some vs) v e = ap (λ t. Some (Some t)) (sym (integer_there (function_result f (integers_of vs)) v e))
 listed_value unit _ x ts _ v e = absurd (none-some v e)
 
 -- the value of an expression is of the type that the expression has
-pub value_typed : (unit : List Statement) (values : Values) (e : Tree) (v : Value) → AreValuesTyped unit values → value_of unit values e ≡ Some v → type_of_tree unit e ≡ Some (Some (type_of_value v))
+pub value_typed : (unit : List Statement) (values : Values) (e : Tree) (v : Value) → AreValuesTyped unit values → value_of unit values e ≡ Some v → type_of_tree no_functions unit e ≡ Some (Some (type_of_value v))
 value_typed unit values (constant w) v h e = ap (λ x. Some (Some (type_of_value x))) (same_Some w v e)
 value_typed unit values (occurrence p) v h e = ap (λ o. Some o) (h p.name v e)
 value_typed unit values (with_list p ts) v h e = listed_value unit (listed_meaning unit p.name) p.name ts (values_of unit values ts) v e
@@ -185,7 +186,7 @@ typed_with unit ks x (Some w) h new y v e = by_place (among-new ks x w y v e) wh
 
 -- a constant's name and its expression are of one type
 abbrev pub IsOneType : List Statement → NamedConstant → Type 0
-IsOneType unit c = (t : ValueType) × (type_of unit c.occurrence.name ≡ Some t) × IsOf unit t c.value
+IsOneType unit c = (t : ValueType) × (type_of unit c.occurrence.name ≡ Some t) × IsOf no_functions unit t c.value
 
 pub typed_by : (unit : List Statement) (ks : Constants) (cs : List NamedConstant) → AreValuesTyped unit (value_among ks) → ((i : ℕ) (c : NamedConstant) → slice_get cs i ≡ Some c → IsOneType unit c) → AreValuesTyped unit (value_among (given_by unit ks cs))
 typed_by unit ks [] h each = h
@@ -207,14 +208,16 @@ one_type program u i unit c accepted iu ic =
     let k = (s.1).0 in
     let typed = typed_statement program u k unit s.0 accepted iu (s.1).1 in
     let given = constant_given unit (parameters_at unit k) (constants_in s.0.form) (s.2).0 c typed.constants (s.2).1 in
-    let p1 = and_parts (is_typed unit c.value) _ given in
-    let p2 = and_parts _ (agree (Some (type_of unit c.occurrence.name)) (type_of_tree unit c.value)) p1.1 in
+    let p1 = and_parts (is_typed no_functions unit c.value) _ given in
+    let p2 = and_parts _ (agree (Some (type_of unit c.occurrence.name)) (type_of_tree no_functions unit c.value)) p1.1 in
     let o = has_behind (flat_map (occurrences_in unit) s.0.conditions) (occurrences_in_form unit s.0.form) c.occurrence (constant_has s.0.form c unit s.2) in
     let t = names_have_types program u k o.0 unit s.0 c.occurrence accepted iu (s.1).1 o.1 in
     let place = has_behind s.0.conditions _ c.value (has_behind (flat_map trees_in_declarator (declarators_in s.0.form)) _ c.value (has_front (map (λ (d : NamedConstant). d.value) (constants_in s.0.form)) (flat_map (λ (g : DataGroup). flat_map (λ (t : Target). t.subscripts) g.targets) (groups_in s.0.form) ++ trees_in_form s.0.form) c.value (has_map (λ (d : NamedConstant). d.value) (constants_in s.0.form) c s.2))) in
     let w = expressions_have_types program u k place.0 0 unit s.0 c.value c.value accepted iu (s.1).1 place.1 (first_part c.value) in
-    let same = same_types t.0 w.0 (Some (type_of unit c.occurrence.name)) (type_of_tree unit c.value) (ap (λ o. Some o) t.1) w.1 p2.1 in
-    (t.0, t.1, subst (λ (z : ValueType). IsOf unit z c.value) {x = w.0} same w.1)
+    let fixed = pure_value unit _ c.value (and_parts (has_value unit _ c.value) _ p1.1).0 in
+    let known = same_type_of (function_types program) unit c.value (names_in program u k unit s.0 c.value accepted iu (s.1).1 place) fixed ∙ w.1 in
+    let same = same_types t.0 w.0 (Some (type_of unit c.occurrence.name)) (type_of_tree no_functions unit c.value) (ap (λ o. Some o) t.1) known p2.1 in
+    (t.0, t.1, subst (λ (z : ValueType). IsOf no_functions unit z c.value) {x = w.0} same known)
 
 -- one of these constants gives a name this value, by the constants before it
 abbrev IsGivenAt : List Statement → Constants → List NamedConstant → Name → Value → Type 0

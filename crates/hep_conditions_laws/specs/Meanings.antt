@@ -14,9 +14,10 @@ IsOneThing unit x = how_many (is_constant_name unit x ∷ is_dummy unit x ∷ is
 abbrev pub name_in_header : Form → Option Name
 name_in_header (form.Program p) = Some p.name
 name_in_header (form.Subroutine p dummies) = Some p.name
+name_in_header (form.Function t p dummies) = Some p.name
 name_in_header _ = None
 
--- the name that a PROGRAM or SUBROUTINE statement gives a unit: 14.1 and 15.6.1
+-- the name that a PROGRAM, FUNCTION or SUBROUTINE statement gives a unit: 14.1, 15.5.1 and 15.6.1
 abbrev pub name_of_unit : List Statement → Option Name
 name_of_unit [] = None
 name_of_unit (s ∷ ss) = name_in_header s.form

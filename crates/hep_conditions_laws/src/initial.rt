@@ -1,6 +1,6 @@
 //! What DATA gives values (X3.9-1978, section 9).
 ghost use Rattle.std.specs.Prelude.{◌≡◌, ℕ, true, List, Some, slice_get};
-ghost use Rattle.hep_machine.specs.Words.{DataGroup, DataValue, Target, Name, Statement, Value, Units, is_main, subroutine_name};
+ghost use Rattle.hep_machine.specs.Words.{DataGroup, DataValue, Target, Name, Statement, Value, Units, is_main, procedure_name};
 ghost use Rattle.hep_machine.specs.Words.{constant_value, Repeated, Stretch, elements_named, groups_in, values_given, is_nonempty};
 ghost use Rattle.hep_machine.specs.Words.{is_local};
 ghost use Rattle.hep_conditions.specs.Words.{IsAccepted};
@@ -11,7 +11,7 @@ use hep_conditions::laws;
 /// DATA stands in the main program alone.
 pub fn main_program_has_data()
     ensures { (program : Units) (u k : ℕ) (unit : List Statement) (s : Statement) → IsAccepted program → slice_get program u ≡ Some unit
-        → slice_get unit k ≡ Some s → is_nonempty (groups_in s.form) ≡ true → is_main (subroutine_name unit) ≡ true }
+        → slice_get unit k ≡ Some s → is_nonempty (groups_in s.form) ≡ true → is_main (procedure_name unit) ≡ true }
 {}
 
 /// What DATA gives a value is a local variable, or an element of one, which is there.

@@ -1,10 +1,11 @@
 //! What names stand for (X3.9-1978, 18.1 and 18.2).
 ghost use Rattle.std.specs.Prelude.{◌≡◌, ℕ, true, false, List, Some, slice_get};
 ghost use Rattle.std.specs.List.{flat_map};
-ghost use Rattle.hep_machine.specs.Words.{CommonBlock, NamedConstant, Target, Name, Statement, Units, dummies_of, subroutine_called};
+ghost use Rattle.hep_machine.specs.Words.{CommonBlock, NamedConstant, Target, Name, Occurrence, Statement, Units, dummies_of};
+ghost use Rattle.hep_machine.specs.Words.{function_called, function_name, occurrences_in_statement, subroutine_called};
 ghost use Rattle.hep_machine.specs.Words.{subroutine_name, block_of, blocks_in, is_array, is_constant_name};
-ghost use Rattle.hep_machine.specs.Words.{is_nonempty, named_constants, listed_meaning};
-ghost use Rattle.hep_conditions.specs.Words.{IsAccepted, bounded_names, common_names, is_unknown, typed_names, variable_names, Calling};
+ghost use Rattle.hep_machine.specs.Words.{is_nonempty, named_constants};
+ghost use Rattle.hep_conditions.specs.Words.{IsAccepted, function_types, is_function_in, bounded_names, common_names, is_unknown, typed_names, variable_names, Calling};
 ghost use Rattle.hep_conditions.specs.Words.{NameWithList, calls_in, names_with_lists, targets_assigned, targets_in_data, targets_purged};
 ghost use Rattle.hep_conditions_laws.specs.Meanings.{IsOneThing, name_of_unit};
 
@@ -17,7 +18,7 @@ pub fn names_stand_for_one_thing()
         → is_constant_name unit x ≡ true → is_array unit x ≡ false }
 {}
 
-/// A named constant is not assigned, not given a value by DATA and not called.
+/// A named constant is not assigned, not given a value by DATA and not called, and a function's name is no constant's.
 pub fn constants_stay()
     ensures assigned { (program : Units) (u k i : ℕ) (unit : List Statement) (s : Statement) (t : Target) → IsAccepted program
         → slice_get program u ≡ Some unit → slice_get unit k ≡ Some s → slice_get (targets_assigned s.form) i ≡ Some t
@@ -28,6 +29,8 @@ pub fn constants_stay()
     ensures called { (program : Units) (u k i : ℕ) (unit : List Statement) (s : Statement) (c : Calling) → IsAccepted program
         → slice_get program u ≡ Some unit → slice_get unit k ≡ Some s → slice_get (calls_in s.form) i ≡ Some c
         → is_constant_name unit c.occurrence.name ≡ false }
+    ensures result { (program : Units) (u : ℕ) (unit : List Statement) (x : Name) → IsAccepted program → slice_get program u ≡ Some unit
+        → function_name unit ≡ Some x → is_constant_name unit x ≡ false }
 {}
 
 /// No two dummy arguments of a unit have one name, and no two of its named constants; no name is given
@@ -52,7 +55,7 @@ pub fn names_are_given_once()
 pub fn lists_have_meanings()
     ensures expressions { (program : Units) (u k i : ℕ) (unit : List Statement) (s : Statement) (r : NameWithList) → IsAccepted program
         → slice_get program u ≡ Some unit → slice_get unit k ≡ Some s → slice_get (names_with_lists s) i ≡ Some r
-        → is_unknown (listed_meaning unit r.occurrence.name) ≡ false }
+        → is_unknown program unit r.occurrence.name ≡ false }
     ensures assigned { (program : Units) (u k i : ℕ) (unit : List Statement) (s : Statement) (t : Target) → IsAccepted program
         → slice_get program u ≡ Some unit → slice_get unit k ≡ Some s → slice_get (targets_assigned s.form) i ≡ Some t
         → is_nonempty t.subscripts ≡ true → is_array unit t.occurrence.name ≡ true }
@@ -68,10 +71,18 @@ pub fn lists_have_meanings()
 pub fn called_are_no_variables()
     ensures { (program : Units) (u j k i n : ℕ) (unit : List Statement) (s t : Statement) (c : Calling) (x : Name) → IsAccepted program
         → slice_get program u ≡ Some unit → slice_get unit j ≡ Some s → slice_get unit k ≡ Some t → slice_get (calls_in s.form) i ≡ Some c
-        → slice_get (variable_names unit t) n ≡ Some x → c.occurrence.name ≡ x → ⊥ }
+        → slice_get (variable_names (function_types program) unit t) n ≡ Some x → c.occurrence.name ≡ x → ⊥ }
 {}
 
-/// No two units have one name, and none that of a common block; so a subroutine is called by its name.
+/// Where a name of a variable or constant stands, it is no function that the unit refers to.
+pub fn no_function_alone()
+    ensures { (program : Units) (u k i : ℕ) (unit : List Statement) (s : Statement) (p : Occurrence) → IsAccepted program
+        → slice_get program u ≡ Some unit → slice_get unit k ≡ Some s → slice_get (occurrences_in_statement unit s) i ≡ Some p
+        → is_function_in (function_types program) unit p.name ≡ false }
+{}
+
+/// No two units have one name, and none that of a common block; so a subroutine is called by its name, and a
+/// function referred to.
 pub fn units_have_names_of_their_own()
     ensures apart { (program : Units) (i j : ℕ) (a b : List Statement) (x : Name) → IsAccepted program → slice_get program i ≡ Some a
         → slice_get program j ≡ Some b → name_of_unit a ≡ Some x → name_of_unit b ≡ Some x → i ≡ j }
@@ -80,4 +91,6 @@ pub fn units_have_names_of_their_own()
         → slice_get (blocks_in s.form) n ≡ Some c → name_of_unit a ≡ Some x → block_of c ≡ Some x → ⊥ }
     ensures called { (program : Units) (v : ℕ) (unit : List Statement) (x : Name) → IsAccepted program → slice_get program v ≡ Some unit
         → subroutine_name unit ≡ Some x → subroutine_called program x ≡ Some v }
+    ensures referred { (program : Units) (v : ℕ) (unit : List Statement) (x : Name) → IsAccepted program → slice_get program v ≡ Some unit
+        → function_name unit ≡ Some x → function_called program x ≡ Some v }
 {}

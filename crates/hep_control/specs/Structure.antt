@@ -1,17 +1,22 @@
 -- 307 by lines (X3.9-1978, 11.5 to 11.10).
-use Rattle.std.specs.Prelude.{ℕ, Bool, true, not, nat_lt, if◌then◌else◌, List, map, Option, Some, None}
+use Rattle.std.specs.Prelude.{ℕ, Bool, true, not, nat_lt, if◌then◌else◌, List, map, Option, Some, None, slice_get}
+use Rattle.std.specs.Option.{unwrap_or}
 use Rattle.hep_machine.specs.Words.{Form, Statement, line_at, statement_at, index_labelled}
 use Rattle.hep_source.specs.declared.statement.Form.TheVariants as form
-use Rattle.hep_conditions.specs.Words.{IndexedStatement, is_unconditional, is_wrong_terminal, holds_wrongly, is_plain_integer_scalar, least_line, line_when, least_line_of}
+use Rattle.hep_conditions.specs.Words.{IndexedStatement, is_unconditional, is_wrong_terminal, holds_wrongly, FunctionTypes, is_loop_variable, least_line, line_when, least_line_of}
 use Rattle.hep_control.specs.declared.blocks.BlockIf.{BlockIf}
 
--- for each statement whether its DO variable, where it has one, is a plain integer scalar
-abbrev pub has_loop_variable : List Statement → Form → Bool
-has_loop_variable unit (form.Do c) = is_plain_integer_scalar unit c.variable.name
-has_loop_variable unit _ = true
+-- for each statement whether its DO variable, where it has one, may be one: a plain integer scalar, and no function
+abbrev pub has_loop_variable : FunctionTypes → List Statement → Form → Bool
+has_loop_variable functions unit (form.Do c) = is_loop_variable functions unit c.variable.name
+has_loop_variable functions unit _ = true
 
-abbrev pub loop_variables : List Statement → List Bool
-loop_variables unit = map (λ (s : Statement). has_loop_variable unit s.form) unit
+abbrev pub loop_variables : FunctionTypes → List Statement → List Bool
+loop_variables functions unit = map (λ (s : Statement). has_loop_variable functions unit s.form) unit
+
+-- what such a list says of the statement at an index
+abbrev pub variable_at : List Bool → ℕ → Bool
+variable_at variables k = unwrap_or (slice_get variables k) true
 
 -- ---- the lines at which statements by themselves are reported
 
@@ -30,8 +35,8 @@ statement_line unit is_variable p =
     least_line (line_when (holds_wrongly p.statement.conditions p.statement.form) p.statement.line)
     (if is_unconditional p.statement then loop_line unit is_variable p.statement.line p.index p.statement.form else None)
 
-abbrev pub least_statement : List Statement → List IndexedStatement → Option ℕ
-least_statement unit ps = least_line_of (λ (p : IndexedStatement). statement_line unit (has_loop_variable unit p.statement.form) p) ps
+abbrev pub least_statement : List Statement → List Bool → List IndexedStatement → Option ℕ
+least_statement unit variables ps = least_line_of (λ (p : IndexedStatement). statement_line unit (variable_at variables p.index) p) ps
 
 -- ---- the lines that block IFs by themselves tell
 

@@ -180,6 +180,7 @@ pub fn is_executable(form: &Form) -> bool
     match form {
         Form::Program(_)
         | Form::Subroutine(..)
+        | Form::Function(..)
         | Form::Implicit(_)
         | Form::Declare(..)
         | Form::Dimension(_)

@@ -1,9 +1,8 @@
 //! DOs and block IFs that are wrong or aren't nested: 307 (X3.9-1978, 11.5 to 11.10).
-ghost use Rattle.std.specs.Prelude.{◌≡◌, IfOk, true, slice_get};
-ghost use Rattle.std.specs.Option.{unwrap_or};
+ghost use Rattle.std.specs.Prelude.{◌≡◌, IfOk};
 ghost use Rattle.hep_conditions.specs.Nesting as nesting;
 ghost use Rattle.hep_conditions.specs.Reported as lines;
-ghost use Rattle.hep_conditions.specs.Words.{first_of};
+ghost use Rattle.hep_conditions.specs.Words.{FunctionTypes, first_of};
 ghost use Rattle.hep_control.specs.Structure as spec;
 
 use crate::blocks::{BlockIf, BlockIfs, block_ifs_of};
@@ -17,7 +16,7 @@ use std::alloc::{AllocError, Global};
 
 /// The first violation of 307: a DO or a logical IF that is wrong by itself, a block IF that isn't
 /// complete, and what isn't nested. The caller says of each statement whether its DO variable, where it
-/// has one, is a plain integer scalar.
+/// has one, is a plain integer scalar and no function.
 ///
 /// # Errors
 ///
@@ -27,8 +26,8 @@ pub fn structure_violation(
     labels: &Labels,
     loop_variables: &[bool],
 ) -> Result<Option<Violation>, AllocError>
-    requires { loop_variables.now ≡ spec.loop_variables labels.now }
-    ensures { IfOk result (λ violation. violation ≡ first_of (nesting.structure_violations labels.now)) }
+    ensures { IfOk result (λ violation. (functions : FunctionTypes) → loop_variables.now ≡ spec.loop_variables functions labels.now
+        → violation ≡ first_of (nesting.structure_violations functions labels.now)) }
 {
     let unit = labels.unit();
     let ranges = ranges_of(alloc, labels)?;
@@ -72,8 +71,7 @@ fn least_unclosed(unit: &[Statement], blocks: &[BlockIf]) -> Option<u32>
 
 // The least line that statements by themselves tell.
 fn least_statement(labels: &Labels, loop_variables: &[bool]) -> Option<u32>
-    requires { loop_variables.now ≡ spec.loop_variables labels.now }
-    ensures { result ≡ spec.least_statement labels.now (nesting.indexed_statements labels.now) }
+    ensures { result ≡ spec.least_statement labels.now loop_variables.now (nesting.indexed_statements labels.now) }
 {
     let mut least = None;
     for (index, statement) in labels.unit().iter().enumerate() {
@@ -85,13 +83,13 @@ fn least_statement(labels: &Labels, loop_variables: &[bool]) -> Option<u32>
 }
 
 fn is_loop_variable(loop_variables: &[bool], index: usize) -> bool
-    ensures { result ≡ unwrap_or (slice_get loop_variables.now index) true }
+    ensures { result ≡ spec.variable_at loop_variables.now index }
 {
     loop_variables.get(index).copied().unwrap_or(true)
 }
 
 // The line at which a statement by itself is reported, if it is. `is_variable` says whether the variable
-// of a DO is a plain integer scalar.
+// of a DO may be one.
 fn statement_line(
     labels: &Labels,
     is_variable: bool,

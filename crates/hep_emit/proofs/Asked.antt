@@ -1,6 +1,6 @@
 -- What FULL, EMPTY, VALUE, SETE or WAITF is asked of.
 use Rattle.std.proofs.Common.{◌≡◌, ◌∙◌, ℕ, ◌≤◌, ap, refl, arith}
-use Rattle.hep_machine.specs.Words.{Trees, constant, occurrence, with_list, parenthesized, signed, negated, binary, no_trees, trees, nodes_of_all, Name, Meaning, element, pure, state, unknown}
+use Rattle.hep_machine.specs.Words.{Trees, constant, occurrence, with_list, parenthesized, signed, negated, binary, no_trees, trees, nodes_of_all, Name, Meaning, element, pure, state, external}
 use Rattle.hep_code.specs.Words.{count, asked, asked_listed, asked_code, asked_listed_code, trees_code, NameTable}
 use Rattle.hep_emit.specs.Asked.{subscripts_asked, subscripts_asked_listed}
 
@@ -16,7 +16,7 @@ module _ (names : NameTable) (line : ℕ) where
   listed element x ts = (refl, (refl, omega arith))
   listed (pure f) x ts = (refl, (refl, omega arith))
   listed (state f) x ts = (refl, (refl, omega arith))
-  listed unknown x ts = (refl, (refl, omega arith))
+  listed external x ts = (refl, (refl, omega arith))
 
   right : (ts : Trees) → IsRight ts
   right no_trees = record { code = refl; counted = refl; fewer = omega arith }

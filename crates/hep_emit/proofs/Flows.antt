@@ -3,7 +3,7 @@ use Rattle.std.proofs.Common.{◌≡◌, ℕ, suc, ◌+◌, ◌≤◌, Bool, tru
 use Rattle.std.specs.Option.{unwrap_or, option_map}
 use Rattle.std.proofs.lemmas.List.{drop_all}
 use Rattle.std.proofs.lemmas.Option.{slice_get_past}
-use Rattle.hep_machine.specs.Words.{Name, Statement, index_where, Units, passed_over, executable_from, statement_at, is_named, subroutine_name, following, terminal_of, terminal_by_form, index_of_label, is_labelled, no_index, unit_called}
+use Rattle.hep_machine.specs.Words.{Name, Statement, index_where, Units, passed_over, executable_from, statement_at, is_named, subroutine_name, following, terminal_of, terminal_by_form, index_of_label, is_labelled, no_index, unit_called, function_name, function_unit}
 use Rattle.hep_code.specs.Words.{at, end_of, behind}
 
 -- ---- by the innermost DO that ends there
@@ -28,6 +28,9 @@ at_most test (x ∷ xs) d h = by (test x) (index_where test xs) (at_most test xs
 
 pub called_at_most : (program : Units) (x : Name) → unit_called program x ≤ length program
 called_at_most program x = at_most (λ unit. is_named (subroutine_name unit) x) program 0 (omega arith)
+
+pub referred_at_most : (program : Units) (x : Name) → function_unit program x ≤ length program
+referred_at_most program x = at_most (λ unit. is_named (function_name unit) x) program 0 (omega arith)
 
 by_label : (unit : List Statement) (o : Option ℕ) → unwrap_or (option_map (index_of_label unit) o) (no_index unit) ≤ length unit
 by_label unit None = omega arith

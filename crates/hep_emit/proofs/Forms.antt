@@ -1,10 +1,11 @@
 -- Lists of a statement are no longer than its code.
 use Rattle.std.proofs.Common.{◌≡◌, ℕ, ◌+◌, ◌≤◌, List, [], ◌∷◌, length, arith, length-append, Option, Some, None}
 use Rattle.std.proofs.lemmas.List.{length-map}
-use Rattle.hep_machine.specs.Words.{Tree, Trees, constant, occurrence, with_list, parenthesized, signed, negated, binary, trees_of, Target, Name, Occurrence, Form, Value, Meaning, element, pure, state, unknown}
+use Rattle.hep_machine.specs.Words.{Tree, Trees, constant, occurrence, with_list, parenthesized, signed, negated, binary, trees_of, Target, Name, Occurrence, Form, Value, Meaning, element, pure, state, external}
 use Rattle.hep_source.specs.declared.statement.Form.TheVariants as form
 use Rattle.hep_code.specs.declared.instruction.Instruction.TheVariants.{To, Pass, Show}
-use Rattle.hep_code.specs.Words.{count, tree_code, trees_code, actual_code, actual_name_code, actual_listed_code, actuals_code, argument_of, argument_of_name, argument_of_listed, target_code, targets_code, argument_of_target, printed_of, operands_code, operation_code, form_code, NameTable, Table}
+use Rattle.hep_code.specs.declared.instruction.Instruction.{Instruction}
+use Rattle.hep_code.specs.Words.{actuals_code_in, asked_code, listed_code, count, tree_code, trees_code, actual_code, actual_name_code, actual_listed_code, actuals_code, argument_of, argument_of_name, argument_of_listed, target_code, targets_code, argument_of_target, printed_of, operands_code, operation_code, form_code, NameTable, Table}
 use Rattle.hep_emit.specs.Limits.{subscripts_of, subscripts_of_all}
 use Rattle.hep_emit.specs.Operations.{list_length, list_subscripts}
 use Rattle.hep_emit.proofs.Lengths.{count_long, trees_long}
@@ -14,20 +15,25 @@ module _ (names : NameTable) (line : ℕ) where
   by_name None x = omega arith
   by_name (Some v) x = omega arith
 
-  by_meaning : (m : Meaning) (x : Name) (ts : Trees) (p : Occurrence) → subscripts_of (argument_of_listed names m x (count ts)) ≤ length (actual_listed_code m (trees_code names line ts) (tree_code names line (with_list p ts)))
-  by_meaning element x ts p = count_long names line ts
-  by_meaning (pure f) x ts p = omega arith
-  by_meaning (state f) x ts p = omega arith
-  by_meaning unknown x ts p = omega arith
+  by_meaning : (m : Meaning) (x : Name) (ts : Trees) (code : List Instruction) → subscripts_of (argument_of_listed names m x (count ts)) ≤ length (actual_listed_code m (trees_code names line ts) code)
+  by_meaning element x ts code = count_long names line ts
+  by_meaning (pure f) x ts code = omega arith
+  by_meaning (state f) x ts code = omega arith
+  by_meaning external x ts code = omega arith
 
   actual_long : (t : Tree) → subscripts_of (argument_of names t) ≤ length (actual_code names line t)
   actual_long (constant v) = omega arith
   actual_long (occurrence p) = by_name (names.constants p.name) p.name
-  actual_long (with_list p ts) = by_meaning (names.meanings p.name) p.name ts p
+  actual_long (with_list p ts) = by_meaning (names.meanings p.name) p.name ts (listed_code names (names.meanings p.name) line p.name ts (trees_code names line ts) (asked_code names line ts) (actuals_code_in names line ts))
   actual_long (parenthesized t) = omega arith
   actual_long (signed s t) = omega arith
   actual_long (negated t) = omega arith
   actual_long (binary o a b) = omega arith
+
+  -- those of a reference of a function
+  pub given_long : (ts : List Tree) → subscripts_of_all (argument_of names) ts ≤ length (actuals_code_in names line (trees_of ts))
+  given_long [] = omega arith
+  given_long (t ∷ ts) = omega (arith, actual_long t, given_long ts, length-append (actual_code names line t) (actuals_code_in names line (trees_of ts)))
 
   pub actuals_long : (ts : List Tree) → subscripts_of_all (argument_of names) ts ≤ length (actuals_code names line ts)
   actuals_long [] = omega arith
@@ -65,6 +71,7 @@ module _ (table : Table) (line k : ℕ) where
   form_lists (form.Print items) = (omega (arith, form_long (form.Print items), length-map items (λ i. Show (printed_of i))), omega arith)
   form_lists (form.Program p) = bare _
   form_lists (form.Subroutine p ps) = bare _
+  form_lists (form.Function t p ps) = bare _
   form_lists (form.Implicit gs) = bare _
   form_lists (form.Declare t ds) = bare _
   form_lists (form.Dimension ds) = bare _

@@ -1,9 +1,9 @@
 -- Indexes that were found are those of the definitions.
 use Rattle.std.proofs.Common.{◌≡◌, ℕ, zero, suc, ◌+◌, ◌-◌, ◌≤◌, List, [], ◌∷◌, length, refl, ap, ◌∙◌, arith, length-append, slice_get, le-leb}
 use Rattle.std.proofs.lemmas.List.{length-map}
-use Rattle.hep_emit.proofs.Flows.{called_at_most}
-use Rattle.std.specs.Option.{unwrap_or}
-use Rattle.hep_machine.specs.Words.{Name, Form, Statement, no_statement, Tree, Units, line_at, value_among, constant_value, terminal_of, listed_meaning, unit_called}
+use Rattle.hep_emit.proofs.Flows.{called_at_most, referred_at_most}
+use Rattle.std.specs.Option.{option_map, unwrap_or}
+use Rattle.hep_machine.specs.Words.{Name, Form, Statement, no_statement, Tree, Units, line_at, value_among, constant_value, terminal_of, listed_meaning, unit_called, function_name, function_unit}
 use Rattle.hep_source.specs.declared.statement.Form.TheVariants as form
 use Rattle.hep_code.specs.declared.instruction.Instruction.TheVariants.{Step, To}
 use Rattle.hep_code.specs.declared.instruction.Operation.TheVariants.{Condition}
@@ -13,7 +13,7 @@ use Rattle.hep_emit.specs.declared.tables.Starts.{Starts}
 use Rattle.hep_emit.specs.declared.tables.Tables.{Tables}
 use Rattle.hep_variables.specs.Places.{variable_in, cells_in}
 use Rattle.hep_emit.specs.Starts.{starts_from, end_from}
-use Rattle.hep_emit.specs.Tables.{names_in, greatest, number_called, start_in, index_in, table_in, addressed_in}
+use Rattle.hep_emit.specs.Tables.{names_in, greatest, number_called, number_referred, start_in, index_in, table_in, addressed_in}
 
 -- ---- where statements begin
 
@@ -44,16 +44,27 @@ number-is : (program : Units) → length program ≤ greatest → (x : Name) →
 unfolding number_called
 number-is program few x = rw (le-leb (unit_called program x) greatest (omega (arith, called_at_most program x, few))) refl
 
-names-are : (n : Names) → value_among n.constants.now ≡ constant_value n.symbols.now → (program : Units) → names_in n ≡ names_of (addressed_in n program)
-unfolding names_in
-names-are n e program = λ i. record { constants = e i; meanings = listed_meaning n.symbols.now; variables = variable_in n.places.now }
+reference-is : (program : Units) → length program ≤ greatest → (x : Name) → number_referred program x ≡ function_unit program x
+unfolding number_referred
+reference-is program few x = rw (le-leb (function_unit program x) greatest (omega (arith, referred_at_most program x, few))) refl
 
-pub table-is : (t : Tables) (index : Target → ℕ) → t.control.now ≡ t.names.symbols.now → value_among t.names.constants.now ≡ constant_value t.names.symbols.now → length t.program.now ≤ greatest
-    → ((target : Target) → index_in t.starts target ≡ index target) → table_in t ≡ table_by (addressed_in t.names t.program.now) index
+names-are : (n : Names) → value_among n.constants.now ≡ constant_value n.symbols.now → length n.program.now ≤ greatest → names_in n ≡ names_of (addressed_in n)
+unfolding names_in
+names-are n e few = λ i.
+    record {
+      constants = e i;
+      meanings = listed_meaning n.symbols.now;
+      variables = variable_in n.places.now;
+      functions = λ x. reference-is n.program.now few x i;
+    }
+
+pub table-is : (t : Tables) (index : Target → ℕ) → t.control.now ≡ t.names.symbols.now → value_among t.names.constants.now ≡ constant_value t.names.symbols.now → length t.names.program.now ≤ greatest
+    → ((target : Target) → index_in t.starts target ≡ index target) → table_in t ≡ table_by (addressed_in t.names) index
 table-is t index same known few indexes = λ i.
     record {
-      names = names-are t.names known t.program.now i;
-      subroutines = λ x. number-is t.program.now few x i;
+      names = names-are t.names known few i;
+      subroutines = λ x. number-is t.names.program.now few x i;
+      result = option_map (variable_in t.names.places.now) (function_name (same i));
       labels = λ l. indexes (labelled (same i) l) i;
       flows = λ k.
           record {
@@ -106,13 +117,13 @@ module _ (addressed : AddressedUnit) (f g : Target → ℕ) where
 pub record AreBlank (t : Tables) : Type 0 where
   pub unit : t.control.now ≡ t.names.symbols.now
   pub constants : value_among t.names.constants.now ≡ constant_value t.names.symbols.now
-  pub few_units : length t.program.now ≤ greatest
+  pub few_units : length t.names.program.now ≤ greatest
   pub statements : t.starts.statements.items ≡ []
   pub end : t.starts.end ≡ 0
 
 module _ (t : Tables) (h : AreBlank t) where
   abbrev whole : AddressedUnit
-  whole = addressed_in t.names t.program.now
+  whole = addressed_in t.names
 
   blank-is : table_in t ≡ unplaced whole
   blank-is = table-is t (λ target. 0) h.unit h.constants h.few_units (nowhere-is t.starts h.statements h.end)
@@ -127,21 +138,21 @@ module _ (t : Tables) (h : AreBlank t) where
 -- the same tables with what the code by them tells of where statements begin
 module _ (t : Tables) (h : AreBlank t) (found : Starts)
     (statements : found.statements.items ≡ starts_from (table_in t) 0 0 t.control.now) (end : found.end ≡ end_from (table_in t) 0 0 t.control.now) where
-  begins : found.statements.items ≡ starts_from (unplaced (addressed_in t.names t.program.now)) 0 0 t.names.symbols.now
+  begins : found.statements.items ≡ starts_from (unplaced (addressed_in t.names)) 0 0 t.names.symbols.now
   begins = statements ∙ (λ i. starts_from (blank-is t h i) 0 0 (h.unit i))
 
-  ends : found.end ≡ end_from (unplaced (addressed_in t.names t.program.now)) 0 0 t.names.symbols.now
+  ends : found.end ≡ end_from (unplaced (addressed_in t.names)) 0 0 t.names.symbols.now
   ends = end ∙ (λ i. end_from (blank-is t h i) 0 0 (h.unit i))
 
-  pub found-start : (k : ℕ) → start_in found k ≡ instructions_before (unplaced (addressed_in t.names t.program.now)) 0 t.names.symbols.now k
-  found-start = start-is (addressed_in t.names t.program.now) found begins ends
+  pub found-start : (k : ℕ) → start_in found k ≡ instructions_before (unplaced (addressed_in t.names)) 0 t.names.symbols.now k
+  found-start = start-is (addressed_in t.names) found begins ends
 
   abbrev pub by-found : Tables
-  by-found = record { names = t.names; program = t.program; control = t.control; starts = found }
+  by-found = record { names = t.names; control = t.control; starts = found }
 
-  pub found-code : statements_code (table_in by-found) 0 t.control.now ≡ code_of (addressed_in t.names t.program.now)
+  pub found-code : statements_code (table_in by-found) 0 t.control.now ≡ code_of (addressed_in t.names)
   unfolding code_of
   found-code =
-      let whole = addressed_in t.names t.program.now in
+      let whole = addressed_in t.names in
       let placed = table-is by-found (index_of whole) h.unit h.constants h.few_units (index-is whole found begins ends) in
       λ i. statements_code (placed i) 0 (h.unit i)

@@ -1,17 +1,13 @@
 -- The tables from which code is made, as the definitions of the code have them.
 use Rattle.std.specs.Prelude.{ℕ, suc, ◌-◌, nat_le, if◌then◌else◌, List, slice_get}
-use Rattle.std.specs.Option.{unwrap_or}
-use Rattle.hep_machine.specs.Words.{Name, Statement, Units, line_at, value_among, terminal_of, listed_meaning, unit_called}
+use Rattle.std.specs.Option.{option_map, unwrap_or}
+use Rattle.hep_machine.specs.Words.{Name, Statement, Units, line_at, value_among, terminal_of, listed_meaning, unit_called, function_name, function_unit}
 use Rattle.hep_code.specs.Words.{NameTable, Table, Target, at, end_of, onward, outward, inward, aside, labelled, AddressedUnit}
 use Rattle.hep_emit.specs.declared.names.Names.{Names}
 use Rattle.hep_variables.specs.declared.places.Placement.{Placement}
 use Rattle.hep_emit.specs.declared.tables.Starts.{Starts}
 use Rattle.hep_emit.specs.declared.tables.Tables.{Tables}
 use Rattle.hep_variables.specs.Places.{variable_in, cells_in}
-
-unfoldable pub names_in : Names → NameTable
-names_in n =
-    record { constants = value_among n.constants.now; meanings = listed_meaning n.symbols.now; variables = variable_in n.places.now }
 
 -- ---- numbers of 32 bits
 
@@ -24,6 +20,20 @@ narrowed n = if nat_le n greatest then n else greatest
 
 unfoldable pub number_called : Units → Name → ℕ
 number_called program x = narrowed (unit_called program x)
+
+unfoldable pub number_referred : Units → Name → ℕ
+number_referred program x = narrowed (function_unit program x)
+
+-- ---- names
+
+unfoldable pub names_in : Names → NameTable
+names_in n =
+    record {
+      constants = value_among n.constants.now;
+      meanings = listed_meaning n.symbols.now;
+      variables = variable_in n.places.now;
+      functions = number_referred n.program.now;
+    }
 
 -- ---- indexes, by where the code of each statement begins, and of the END behind them
 
@@ -38,7 +48,8 @@ abbrev pub table_in : Tables → Table
 table_in t =
     record {
       names = names_in t.names;
-      subroutines = number_called t.program.now;
+      subroutines = number_called t.names.program.now;
+      result = option_map (variable_in t.names.places.now) (function_name t.control.now);
       labels = λ l. index_in t.starts (labelled t.control.now l);
       flows = λ k.
           record {
@@ -55,7 +66,13 @@ table_in t =
 
 abbrev pub addressed_by : List Statement → Placement → Units → AddressedUnit
 addressed_by unit places program =
-    record { unit = unit; variables = variable_in places; cells = cells_in places; subroutines = unit_called program }
+    record {
+      unit = unit;
+      variables = variable_in places;
+      cells = cells_in places;
+      subroutines = unit_called program;
+      functions = function_unit program;
+    }
 
-abbrev pub addressed_in : Names → Units → AddressedUnit
-addressed_in names program = addressed_by names.symbols.now names.places.now program
+abbrev pub addressed_in : Names → AddressedUnit
+addressed_in names = addressed_by names.symbols.now names.places.now names.program.now

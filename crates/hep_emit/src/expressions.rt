@@ -1,4 +1,5 @@
-//! The code of expressions: operands from left to right, and then what is done with them (X3.9-1978, 6.6).
+//! The code of expressions: operands from left to right, and then what is done with them (X3.9-1978, 6.6). An actual
+//! argument that is a variable, an element or an array isn't read (15.9.2 and 15.9.3).
 ghost use Rattle.std.specs.Prelude.{◌≡◌, ◌++◌, length, OnOk, IfErr};
 ghost use Rattle.hep_machine.specs.Words.{trees, no_trees, trees_of};
 ghost use Rattle.hep_names.specs.Meanings.{meaning};
@@ -7,12 +8,13 @@ ghost use Rattle.hep_emit.specs.Asked.{subscripts_asked, subscripts_asked_listed
 ghost use Rattle.hep_emit.specs.Limits.{IsTooLong};
 ghost use Rattle.hep_emit.specs.Tables.{names_in};
 
-use crate::emit::{Code, counted, emit, emit_evaluation};
+use crate::emit::{Code, counted, emit, emit_evaluation, emit_step};
 use crate::fault::EmitFault;
+use crate::lists::emit_passed;
 use crate::names::Names;
-use hep_code::{Evaluation, Instruction};
+use hep_code::{Evaluation, Instruction, Operation};
 use hep_names::Meaning;
-use hep_source::{Expr, Name, Node, Occurrence, Value};
+use hep_source::{Expr, Name, Node, Occurrence};
 use std::alloc::AllocError;
 
 // The name that no variable has.
@@ -132,11 +134,13 @@ fn emit_listed(
     ensures code { OnOk result (code.new.items ≡ code.old.items
         ++ code_words.listed_code (names_in names.now) (meaning listed) line name.now (trees_of list.now)
         (code_words.trees_code (names_in names.now) line (trees_of list.now))
-        (code_words.asked_code (names_in names.now) line (trees_of list.now))) }
+        (code_words.asked_code (names_in names.now) line (trees_of list.now))
+        (code_words.actuals_code_in (names_in names.now) line (trees_of list.now))) }
     ensures refused { IfErr result (IsTooLong
         (length (code_words.listed_code (names_in names.now) (meaning listed) line name.now (trees_of list.now)
         (code_words.trees_code (names_in names.now) line (trees_of list.now))
-        (code_words.asked_code (names_in names.now) line (trees_of list.now))))) }
+        (code_words.asked_code (names_in names.now) line (trees_of list.now))
+        (code_words.actuals_code_in (names_in names.now) line (trees_of list.now))))) }
 {
     match listed {
         Meaning::Element => {
@@ -176,7 +180,13 @@ fn emit_listed(
             };
             Ok(emit_evaluation(code, line, test)?)
         }
-        Meaning::Unknown => Ok(emit(code, Instruction::Push(Value::Truth(false)))?),
+        Meaning::External => {
+            emit_actuals(code, names, line, list)?;
+            let unit = names.function(name);
+            let count = counted(list.len())?;
+            emit_step(code, line, Operation::Refer { unit, count })?;
+            emit_passed(code, names, list)
+        }
     }
 }
 
@@ -196,6 +206,46 @@ pub(crate) fn emit_all(
         [first, rest @ ..] => {
             emit_expression(code, names, line, first)?;
             emit_all(code, names, line, rest)
+        }
+    }
+}
+
+/// The value of an actual argument, or its subscripts.
+#[cycle(emit_expression)]
+pub(crate) fn emit_actual(
+    code: &mut Code,
+    names: &Names,
+    line: u32,
+    actual: &Expr,
+) -> Result<(), EmitFault>
+    ensures code { OnOk result (code.new.items ≡ code.old.items ++ code_words.actual_code (names_in names.now) line actual.now) }
+    ensures refused { IfErr result (IsTooLong (length (code_words.actual_code (names_in names.now) line actual.now))) }
+{
+    match &actual.node {
+        Node::Occurrence(occurrence) => match names.constant(&occurrence.name) {
+            Some(value) => Ok(emit(code, Instruction::Push(value))?),
+            None => Ok(()),
+        },
+        Node::WithList(occurrence, list) => match names.meaning(&occurrence.name) {
+            Meaning::Element => emit_all(code, names, line, list),
+            _ => emit_expression(code, names, line, actual),
+        },
+        _ => emit_expression(code, names, line, actual),
+    }
+}
+
+// The actual arguments of a reference of a function.
+#[cycle(emit_expression)]
+fn emit_actuals(code: &mut Code, names: &Names, line: u32, list: &[Expr]) -> Result<(), EmitFault>
+    ensures code { OnOk result (code.new.items ≡ code.old.items
+        ++ code_words.actuals_code_in (names_in names.now) line (trees_of list.now)) }
+    ensures refused { IfErr result (IsTooLong (length (code_words.actuals_code_in (names_in names.now) line (trees_of list.now)))) }
+{
+    match list {
+        [] => Ok(()),
+        [first, rest @ ..] => {
+            emit_actual(code, names, line, first)?;
+            emit_actuals(code, names, line, rest)
         }
     }
 }

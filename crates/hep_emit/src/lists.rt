@@ -64,7 +64,7 @@ impl Passed for Expr {
     }
 }
 
-/// How the actual arguments of a CALL or CREATE are passed, and what a PURGE makes empty.
+/// How the actual arguments of a CALL, CREATE or reference of a function are passed, and what a PURGE makes empty.
 pub(crate) fn emit_passed<T: Passed>(
     code: &mut Code,
     names: &Names,

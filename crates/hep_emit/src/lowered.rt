@@ -49,8 +49,9 @@ pub fn lower_unit(
         symbols,
         constants: &constants,
         places,
+        program,
     };
-    let EmittedUnit { code, entry } = emit_unit(alloc, &names, program, &control)?;
+    let EmittedUnit { code, entry } = emit_unit(alloc, &names, &control)?;
     let depth = depth_of(&code);
     Ok(Lowered { code, entry, depth })
 }

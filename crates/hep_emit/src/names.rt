@@ -1,10 +1,11 @@
 //! What the names of a unit are.
 ghost use Rattle.std.specs.Prelude.{◌≡◌};
 ghost use Rattle.hep_names.specs.Meanings.{meaning};
+ghost use Rattle.hep_emit.specs.Tables as spec;
 ghost use Rattle.hep_emit.specs.Tables.{names_in};
 
 use hep_code::Variable;
-use hep_names::{Meaning, Symbols};
+use hep_names::{Meaning, ProgramSymbols, Symbols};
 use hep_source::{Name, Value};
 use hep_values::Constants;
 use hep_variables::Placement;
@@ -16,6 +17,18 @@ pub struct Names<'a> {
     /// The values of the unit's constants.
     pub constants: &'a Constants,
     pub places: &'a Placement,
+    /// The units of the program, which are called and referred to.
+    pub program: &'a ProgramSymbols<'a>,
+}
+
+// A number, or the greatest one of 32 bits where it is greater.
+fn narrowed(number: usize) -> u32
+    ensures { result ≡ spec.narrowed number }
+{
+    match u32::try_from(number) {
+        Ok(number) => number,
+        Err(_) => u32::MAX,
+    }
 }
 
 impl<'a> Names<'a> {
@@ -41,5 +54,27 @@ impl<'a> Names<'a> {
         ensures { result ≡ (names_in self.now).variables name.now }
     {
         self.places.variable(name)
+    }
+
+    /// The number of the subroutine of a name.
+    #[tactic(auto, unfolding(crate::specs::Tables::number_called))]
+    pub(crate) fn subroutine(&self, name: &Name) -> u32
+        ensures { result ≡ spec.number_called self.now.program.now name.now }
+    {
+        match self.program.subroutine_called(name) {
+            Some(number) => narrowed(number),
+            None => 0,
+        }
+    }
+
+    /// The number of the function of a name.
+    #[tactic(auto, unfolding(crate::specs::Tables::names_in, crate::specs::Tables::number_referred))]
+    pub(crate) fn function(&self, name: &Name) -> u32
+        ensures { result ≡ (names_in self.now).functions name.now }
+    {
+        match self.program.function_called(name) {
+            Some(number) => narrowed(number),
+            None => 0,
+        }
     }
 }

@@ -1,5 +1,4 @@
-//! Operands of a statement: what a DO counts by, items of a PRINT, actual arguments and what is purged. An actual argument
-//! that is a variable, an element or an array isn't read (X3.9-1978, 15.9.2 and 15.9.3).
+//! Operands of a statement: what a DO counts by, items of a PRINT, actual arguments and what is purged.
 ghost use Rattle.std.specs.Prelude.{◌≡◌, ◌++◌, ◌<◌, ℕ, List, length, OnOk, IfErr};
 ghost use Rattle.std.specs.List.{flat_map};
 ghost use Rattle.hep_code.specs.declared.instruction.Instruction.{Instruction as PureInstruction};
@@ -9,12 +8,11 @@ ghost use Rattle.hep_emit.specs.Limits.{IsTooLong};
 ghost use Rattle.hep_emit.specs.Tables.{names_in};
 
 use crate::emit::{Code, emit};
-use crate::expressions::{emit_all, emit_expression};
+use crate::expressions::{emit_actual, emit_all, emit_expression};
 use crate::fault::EmitFault;
 use crate::names::Names;
 use hep_code::Instruction;
-use hep_names::Meaning;
-use hep_source::{DoControl, Expr, Node, PrintItem, Target, Value};
+use hep_source::{DoControl, Expr, PrintItem, Target, Value};
 
 /// What has operands.
 pub(crate) trait Operands {
@@ -63,17 +61,7 @@ impl Operands for Expr {
     ghost code_of = { code_words.actual_code };
 
     fn emit(&self, code: &mut Code, names: &Names, line: u32) -> Result<(), EmitFault> {
-        match &self.node {
-            Node::Occurrence(occurrence) => match names.constant(&occurrence.name) {
-                Some(value) => Ok(emit(code, Instruction::Push(value))?),
-                None => Ok(()),
-            },
-            Node::WithList(occurrence, list) => match names.meaning(&occurrence.name) {
-                Meaning::Element => emit_all(code, names, line, list),
-                _ => emit_expression(code, names, line, self),
-            },
-            _ => emit_expression(code, names, line, self),
-        }
+        emit_actual(code, names, line, self)
     }
 }
 

@@ -75,7 +75,7 @@ fn operation_of(tables: &Tables, index: usize, form: &Form, count: u32) -> Opera
         },
         Form::Purge(_) => Operation::Purge { count, next },
         Form::Print(_) => Operation::Print { count, next },
-        Form::Return | Form::End => Operation::Return,
+        Form::Return | Form::End => tables.ending(),
         Form::Resume => Operation::Resume { next },
         Form::Stop => Operation::Stop,
         _ => Operation::Jump { next },

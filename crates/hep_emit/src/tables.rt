@@ -1,13 +1,15 @@
 //! What the code of a unit is made from, beside the unit's statements.
 ghost use Rattle.std.specs.Prelude.{◌≡◌, ◌<◌, length};
+ghost use Rattle.hep_source.specs.Units.{function_name};
+ghost use Rattle.hep_code.specs.Words.{ending_of};
 ghost use Rattle.hep_emit.specs.Destinations.{destination};
 ghost use Rattle.hep_emit.specs.Tables as spec;
 
 use crate::flow::{Destination, aside, inward, labelled, line_at, onward, outward};
 use crate::names::Names;
+use hep_code::{Operation, Variable};
 use hep_control::control::Control;
-use hep_names::ProgramSymbols;
-use hep_source::Name;
+use hep_source::{Form, Name, Statement};
 
 /// Where the code of statements begins, by indexes of instructions.
 #[derive(Drop)]
@@ -20,7 +22,6 @@ pub(crate) struct Starts {
 /// The tables of a unit.
 pub(crate) struct Tables<'a> {
     pub names: Names<'a>,
-    pub program: &'a ProgramSymbols<'a>,
     pub control: &'a Control<'a>,
     pub starts: Starts,
 }
@@ -29,7 +30,6 @@ impl<'a> Drop for Tables<'a> {
     fn drop(self) {
         let Tables {
             names,
-            program,
             control,
             starts,
         } = self;
@@ -55,25 +55,47 @@ impl Starts {
     }
 }
 
-// A number, or the greatest one of 32 bits where it is greater.
-fn narrowed(number: usize) -> u32
-    ensures { result ≡ spec.narrowed number }
+// The name of a function, which its result has too.
+fn function_name(unit: &[Statement]) -> Option<Name>
+    ensures { result ≡ function_name unit.now }
 {
-    match u32::try_from(number) {
-        Ok(number) => number,
-        Err(_) => u32::MAX,
+    match unit.first() {
+        Some(
+            Statement {
+                form: Form::Function(_, occurrence, _),
+                ..
+            },
+        ) => Some(occurrence.name),
+        _ => None,
     }
 }
 
 impl<'a> Tables<'a> {
     /// The number of the subroutine of a name.
-    #[tactic(auto, unfolding(crate::specs::Tables::number_called))]
     pub(crate) fn subroutine(&self, name: &Name) -> u32
         ensures { result ≡ (spec.table_in self.now).subroutines name.now }
     {
-        match self.program.subroutine_called(name) {
-            Some(number) => narrowed(number),
-            None => 0,
+        self.names.subroutine(name)
+    }
+
+    // The variable that the value of a function is in.
+    #[tactic(auto, unfolding(crate::specs::Tables::names_in))]
+    fn result(&self) -> Option<Variable>
+        ensures { result ≡ (spec.table_in self.now).result }
+    {
+        match function_name(self.control.unit()) {
+            Some(name) => Some(self.names.variable(&name)),
+            None => None,
+        }
+    }
+
+    /// How an activation of the unit ends.
+    pub(crate) fn ending(&self) -> Operation
+        ensures { result ≡ ending_of (spec.table_in self.now).result }
+    {
+        match self.result() {
+            Some(variable) => Operation::Answer { variable },
+            None => Operation::Return,
         }
     }
 

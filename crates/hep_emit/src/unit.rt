@@ -12,10 +12,9 @@ use crate::fault::EmitFault;
 use crate::names::Names;
 use crate::statements::emit_statement;
 use crate::tables::{Starts, Tables};
-use hep_code::{Instruction, Operation};
+use hep_code::Instruction;
 use hep_control::control::Control;
 use hep_control::labels::is_executable;
-use hep_names::ProgramSymbols;
 use hep_source::Statement;
 use std::alloc::Global;
 
@@ -81,7 +80,7 @@ fn emit_statements(alloc: Global, tables: &Tables) -> Result<Emitted, EmitFault>
         emit_statement(alloc, &mut code, tables, index, statement)?;
     }
     let end = index_after(&code)?;
-    emit_step(&mut code, 0, Operation::Return)?;
+    emit_step(&mut code, 0, tables.ending())?;
     index_after(&code)?;
     let starts = Starts { statements, end };
     Ok(Emitted { code, starts })
@@ -92,25 +91,19 @@ fn emit_statements(alloc: Global, tables: &Tables) -> Result<Emitted, EmitFault>
 /// # Errors
 ///
 /// That there would be more than 1,048,576 instructions, or that memory was refused.
-pub fn emit_unit(
-    alloc: Global,
-    names: &Names,
-    program: &ProgramSymbols,
-    control: &Control,
-) -> Result<EmittedUnit, EmitFault>
+pub fn emit_unit(alloc: Global, names: &Names, control: &Control) -> Result<EmittedUnit, EmitFault>
     requires unit { control.now ≡ names.now.symbols.now }
     requires constants { value_among names.now.constants.now ≡ constant_value names.now.symbols.now }
-    requires few_units { length program.now ≤ greatest }
-    ensures code { IfOk result (λ unit. unit.code.items ≡ code_of (addressed_in names.now program.now)) }
-    ensures entry { IfOk result (λ unit. unit.entry ≡ entry_index (addressed_in names.now program.now)) }
+    requires few_units { length names.now.program.now ≤ greatest }
+    ensures code { IfOk result (λ unit. unit.code.items ≡ code_of (addressed_in names.now)) }
+    ensures entry { IfOk result (λ unit. unit.entry ≡ entry_index (addressed_in names.now)) }
     ensures short { IfOk result (λ unit. length unit.code.items ≤ most_instructions) }
-    ensures refused { IfErr result (IsOverLimit (length (code_of (addressed_in names.now program.now)))) }
+    ensures refused { IfErr result (IsOverLimit (length (code_of (addressed_in names.now)))) }
 {
     let statements = Vec::new(alloc);
     let starts = Starts { statements, end: 0 };
     let mut tables = Tables {
         names: *names,
-        program,
         control,
         starts,
     };

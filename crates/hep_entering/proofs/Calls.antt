@@ -1,9 +1,9 @@
--- The state after a CALL or CREATE: that the step leads to it, what is on stacks in it, and what its frames keep.
+-- The state after a CALL, CREATE or reference: that the step leads to it, what is on stacks in it, and what its frames keep.
 use Rattle.std.proofs.Common.{◌≡◌, ℕ, false, List, None, Some, ap, ◌∙◌, suc, Bool, true, [], ◌∷◌, ◌++◌, length, refl, sym, arith, zero, ◌-◌, ◌<◌, ◌≤◌, Option, Result, Ok, subst, if◌then◌else◌, nat_eq, slice_get, slice_set, length-append}
-use Rattle.hep_machine.specs.Words.{Name, dummies_of, Binding, binding_of, Next, calling, creating, does, next_of, unit_of, unit_on_top, living, with_process, activation_of, numbered, top_of, with_numbered, run, Level, Process, State, result_after_call, result_after_create, result_after_next, state_made, step, step_result_of, step_result_of_top, stepped, unit_called, next_activation, with_activation, Layout, activations_on, index_among, unset_cell}
+use Rattle.hep_machine.specs.Words.{Name, dummies_of, Binding, binding_of, Next, calling, creating, does, function_unit, next_of, referring, wants, unit_of, unit_on_top, living, with_process, activation_of, numbered, top_of, with_numbered, run, Level, Process, State, result_after_call, result_after_create, result_after_next, state_made, step, step_result_of, step_result_of_top, stepped, unit_called, next_activation, with_activation, Layout, activations_on, index_among, unset_cell}
 use Rattle.hep_machine.specs.declared.event.Kind.{Kind}
 use Rattle.hep_step.specs.declared.way.Way.{Way}
-use Rattle.hep_step.specs.declared.way.Way.TheVariants.{Calls, Creates}
+use Rattle.hep_step.specs.declared.way.Way.TheVariants.{Calls, Creates, Refers}
 use Rattle.hep_step.specs.Calls.{comes_by, is_creation, unit_by}
 use Rattle.hep_entering.specs.Calling.{CallOf, caller, frames_before_call, frames_with, IsPassing, level_behind, level_called, state_before_call, state_begun, state_called, state_created, state_made_by, called_activation, IsWritten, unit_begun}
 use Rattle.hep_arena.specs.Space.{Space}
@@ -34,13 +34,14 @@ module _ (call : CallOf) (x : Name) (on : (state_before_call call).halted ≡ fa
   result-of n next = ap (step_result_of_top call.program (state_before_call call) call.process) h.lives ∙ ap (result_after_next call.program (caller call)) next
 
   -- which is that of the unit that is called, with its binding
-  bound : {A : Type 0} (f : ℕ → Result Binding Kind → A) → call.unit ≡ unit_called call.program x → f (unit_called call.program x) (binding_of call.program (caller call) (unit_called call.program x) call.actuals) ≡ f call.unit (Ok call.binding)
-  bound f called = ap (λ u. f u (binding_of call.program (caller call) u call.actuals)) (sym called) ∙ ap (f call.unit) h.bound
+  bound : {A : Type 0} (f : ℕ → Result Binding Kind → A) (u : ℕ) → call.unit ≡ u → f u (binding_of call.program (caller call) u call.actuals) ≡ f call.unit (Ok call.binding)
+  bound f u called = ap (λ u. f u (binding_of call.program (caller call) u call.actuals)) (sym called) ∙ ap (f call.unit) h.bound
 
   pub step-made : (way : Way) → call.unit ≡ unit_by way call.program x → next_of (unit_on_top call.program (caller call)) call.top.0.work ≡ comes_by way x call.actuals
       → step call.program call.process (state_before_call call) ≡ Some (state_made_by (is_creation way) call)
-  step-made Calls called next = made-step (state_called call) (result-of (does (calling x call.actuals)) next ∙ bound (result_after_call call.program (caller call)) called)
-  step-made Creates called next = made-step (state_created call) (result-of (does (creating x call.actuals)) next ∙ bound (result_after_create call.program (caller call)) called)
+  step-made Calls called next = made-step (state_called call) (result-of (does (calling x call.actuals)) next ∙ bound (result_after_call call.program (caller call)) (unit_called call.program x) called)
+  step-made Creates called next = made-step (state_created call) (result-of (does (creating x call.actuals)) next ∙ bound (result_after_create call.program (caller call)) (unit_called call.program x) called)
+  step-made Refers called next = made-step (state_called call) (result-of (wants (referring x call.actuals)) next ∙ bound (result_after_call call.program (caller call)) (function_unit call.program x) called)
 
 -- ---- the state after it
 

@@ -52,7 +52,7 @@ pub fn dummies_are_bound()
         → IsBinding call.program t (layout_with call.program t layout first) (length t.activations) first given }
 {}
 
-/// Where a process is at a CALL or CREATE whose actual arguments are bound without a fault, its step leads to the state with the new
+/// Where a process is at a CALL, CREATE or reference whose actual arguments are bound without a fault, its step leads to the state with the new
 /// activation, on top of its caller or as a process of its own.
 pub fn calls_make_activations()
     ensures { (way : Way) (call : CallOf) (x : Name) → (state_before_call call).halted ≡ false

@@ -20,7 +20,7 @@ use Rattle.hep_expression.specs.declared.expression.Precedence.TheVariants.{Equi
 use Rattle.hep_expression.specs.Characters.{is_digit, is_letter, is_letter_or_digit, IsName, name_sign, named, ReadsOccurrence, ReadsPlainOccurrence, IsDigits, number_of_digits, greatest, IsInteger, logical_spelling}
 use Rattle.hep_expression.specs.Expression as levels
 use Rattle.hep_expression.specs.Expression.{Associativity, from_left, from_right, single, associativity, level, left_level, left, right, spelling, sign_spelling, Reads, ReadsAll, IsExpression}
-use Rattle.hep_expression.specs.Reading.{Reader, ◌>>=◌, begins, after, letters_at, name_at, occurrence_at, plain_occurrence_at, integer, integer_at, logical_at}
+use Rattle.hep_expression.specs.Reading.{Reader, ◌>>=◌, if_some, begins, after, letters_at, name_at, occurrence_at, plain_occurrence_at, integer, integer_at, logical_at}
 use Rattle.hep_expression.specs.ReadingExpression as reading
 use Rattle.hep_expression.specs.ReadingExpression.{operator_at, sign_at, power_at, not_at, comparing, operators, chain, in_parentheses, arguments, primary, power_of, term, first_term, sum, relation, negation, conjunction, disjunction, next_operand, first_operand, at_level, expression, power, expression_at, whole_expression}
 use Rattle.hep_expression.proofs.Leaves.{front_row, fits, all_fit}
@@ -60,6 +60,15 @@ name_opens : (a : Bool) (w s r : List ℕ) → IsName w → s ≡ name_sign a ++
 name_opens a [] s r h e = absurd h
 name_opens true (c ∷ w) s r h e = rw e (refl, refl, refl)
 name_opens false (c ∷ w) s r h e = let from : 65 ≤ c = letter_from c h.0 in rw e (high_opens c (w ++ r) (omega arith))
+
+digits_go_on : (d s r : List ℕ) → IsDigits d → s ≡ d ++ r → after 41 s ≡ None
+digits_go_on [] s r h e = absurd h
+digits_go_on (c ∷ d) s r h e = let from : 48 ≤ c = digit_from c h.0 in rw (e, above c 41 (omega arith)) refl
+
+name_goes_on : (a : Bool) (w s r : List ℕ) → IsName w → s ≡ name_sign a ++ (w ++ r) → after 41 s ≡ None
+name_goes_on a [] s r h e = absurd h
+name_goes_on true (c ∷ w) s r h e = rw e refl
+name_goes_on false (c ∷ w) s r h e = let from : 65 ≤ c = letter_from c h.0 in rw (e, above c 41 (omega arith)) refl
 
 logical_opens : (b : Bool) (s r : List ℕ) → s ≡ logical_spelling b ++ r → Opens s
 logical_opens true s r e = rw e (refl, refl, refl)
@@ -426,11 +435,10 @@ parenthesized_read k t p n s r le h f =
     let inner : expression k n h.0 ≡ Some (t, 41 ∷ r) = whole_read k t p n h.0 (41 ∷ r) (omega arith) h.2 (after_parenthesis r) in
     ap (primary k (expression k n)) h.1 ∙ rw inner refl
 
+-- a list that isn't empty
 abbrev ArgumentsRead : Context → Trees → Type 0
+ArgumentsRead k no_trees = Unit {0}
 ArgumentsRead k ts = (n turns : ℕ) (s r : List ℕ) → nodes_of_all ts + nodes_of_all ts ≤ n + 1 → nodes_of_all ts ≤ turns → ReadsAll k ts s r → arguments (expression k n) turns s ≡ Some (ts, r)
-
-no_arguments_read : (k : Context) → ArgumentsRead k no_trees
-no_arguments_read k n turns s r le at h = absurd h
 
 last_read : (k : Context) (t : Tree) → Chained k Equivalence t → ArgumentsRead k (trees t no_trees)
 unfolding arguments
@@ -443,10 +451,30 @@ more_read k t u ts p q n zero s r le at h = absurd (omega arith)
 more_read k t u ts p q n (suc turns) s r le at h =
     rw (whole_read k t p n s (44 ∷ h.0) (omega arith) h.1 (after_comma h.0), q n turns h.0 r (omega arith) (omega arith) h.2) refl
 
+-- no expression begins with `)`
+no_end : (k : Context) (t : Tree) (l : ℕ) (s r : List ℕ) → Reads k t l s r → after 41 s ≡ None
+no_end k (constant (Int v)) l s r h = digits_go_on h.0 s r h.1 h.2
+no_end k (constant (Truth b)) l s r h = ap (after 41) h ∙ elim b as (λ (x : Bool). after 41 (logical_spelling x ++ r) ≡ None) [ true ↦ refl | false ↦ refl ]
+no_end k (occurrence p) l s r h = name_goes_on p.name.asynchronous h.0 s r h.1 h.2
+no_end k (with_list p ts) l s r h = name_goes_on p.name.asynchronous h.1.0 s (40 ∷ h.0) h.1.1 h.1.2
+no_end k (parenthesized t) l s r h = ap (after 41) h.1
+no_end k (signed g t) l s r h = ap (after 41) h.2 ∙ elim g as (λ (x : Sign). after 41 (sign_spelling x ++ h.1) ≡ None) [ Plus ↦ refl | Minus ↦ refl ]
+no_end k (negated t) l s r h = ap (after 41) h.2
+no_end k (binary o a b) l s r h = no_end k a (left o) s (spelling o ++ h.1) h.2
+
+list_goes_on : (k : Context) (t : Tree) (ts : Trees) (s r : List ℕ) → ReadsAll k (trees t ts) s r → after 41 s ≡ None
+list_goes_on k t no_trees s r h = no_end k t 0 s (41 ∷ r) h
+list_goes_on k t (trees u ts) s r h = no_end k t 0 s (44 ∷ h.0) h.1
+
+list_read : (k : Context) (ts : Trees) → ArgumentsRead k ts → (n : ℕ) (s r : List ℕ) → nodes_of_all ts + nodes_of_all ts ≤ n + 1 → ReadsAll k ts s r → reading.listed (expression k n) s ≡ Some (ts, r)
+unfolding reading.listed
+list_read k no_trees q n s r le h = ap (λ m. if_some (after 41 m) (λ r. Some (no_trees, r)) (arguments (expression k n) (length m) m)) h
+list_read k (trees t ts) q n s r le h = rw (list_goes_on k t ts s r h) (q n (length s) s r (omega arith) (omega (arith, all_fit k (trees t ts) s r h)) h)
+
 listed_read : (k : Context) (p : Occurrence) (ts : Trees) → ArgumentsRead k ts → PrimaryRead k (with_list p ts)
 unfolding reading.named
 listed_read k p ts q n s r le h f =
-    let all : arguments (expression k n) (length h.0) h.0 ≡ Some (ts, r) = q n (length h.0) h.0 r (omega arith) (omega (arith, all_fit k ts h.0 r h.2)) h.2 in
+    let all : reading.listed (expression k n) h.0 ≡ Some (ts, r) = list_read k ts q n h.0 r (omega arith) h.2 in
     name_then k p n s (40 ∷ h.0) h.1 refl ∙ rw all refl
 
 -- ---- signs, negations and operators
@@ -581,7 +609,7 @@ mutual
   known k (binary (Arithmetic Power) a b) j = raised_each k a b (known k a 0) (known k b 1) j
 
   all_known : (k : Context) (ts : Trees) → ArgumentsRead k ts
-  all_known k no_trees = no_arguments_read k
+  all_known k no_trees = tt
   all_known k (trees t no_trees) = last_read k t (known k t 8)
   all_known k (trees t (trees u ts)) = more_read k t u ts (known k t 8) (all_known k (trees u ts))
 

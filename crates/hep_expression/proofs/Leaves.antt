@@ -215,6 +215,6 @@ mutual
   fits k (binary o a b) l s r h = omega (arith, fits k a (left o) s (spelling o ++ h.1) h.2, fits k b (right o) h.1 r h.3, length-append (spelling o) h.1, operator_is_long o)
 
   pub all_fit : (k : Context) (ts : Trees) (s r : List ℕ) → ReadsAll k ts s r → nodes_of_all ts + length r ≤ length s
-  all_fit k no_trees s r h = absurd h
+  all_fit k no_trees s r h = omega (arith, ap length h)
   all_fit k (trees t no_trees) s r h = omega (arith, fits k t 0 s (41 ∷ r) h)
   all_fit k (trees t (trees u ts)) s r h = omega (arith, fits k t 0 s (44 ∷ h.0) h.1, all_fit k (trees u ts) h.0 r h.2)

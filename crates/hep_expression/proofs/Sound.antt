@@ -14,7 +14,7 @@ use Rattle.hep_expression.specs.declared.expression.Precedence.TheVariants.{Equi
 use Rattle.hep_expression.specs.Expression as levels
 use Rattle.hep_expression.specs.Expression.{level, left, right, spelling, sign_spelling, Reads, ReadsAll, IsExpression}
 use Rattle.hep_expression.specs.Reading.{Reader, ◌>>=◌, if_some, all_read, after, occurrence_at, integer_at, logical_at}
-use Rattle.hep_expression.specs.ReadingExpression.{operator_at, sign_at, power_at, not_at, comparing, operators, chain, left_to_right, in_parentheses, arguments, named, primary, power_of, term, first_term, sum, relation, negation, conjunction, disjunction, expression, power, expression_at, whole_expression}
+use Rattle.hep_expression.specs.ReadingExpression.{operator_at, sign_at, power_at, not_at, comparing, operators, chain, left_to_right, in_parentheses, arguments, listed, named, primary, power_of, term, first_term, sum, relation, negation, conjunction, disjunction, expression, power, expression_at, whole_expression}
 use Rattle.hep_expression.proofs.Leaves.{bind_some, either_some, after_is, text_is, AllOf, one_is, shorter, is_place, is_constant, is_logical, place_fits, fits}
 use Rattle.std.proofs.lemmas.Option.{same_Some, none-some}
 
@@ -73,23 +73,32 @@ parentheses_sound k inner p s r t fit e =
 abbrev with_first : Tree → Option (Trees × List ℕ) → Option (Trees × List ℕ)
 with_first t read = read >>= λ x. Some (trees t x.0, x.1)
 
-more_sound : (k : Context) (inner : Reader Tree) (n : ℕ) (t : Tree) (s m r : List ℕ) (ts : Trees) → Reads k t levels.equivalence s (44 ∷ m) → ((q : List ℕ) (us : Trees) → arguments inner n m ≡ Some (us, q) → ReadsAll k us m q) → with_first t (arguments inner n m) ≡ Some (ts, r) → ReadsAll k ts s r
+-- a list that isn't empty
+abbrev ReadsSome : Context → Trees → List ℕ → List ℕ → Type 0
+ReadsSome k no_trees s r = ⊥
+ReadsSome k (trees t ts) s r = ReadsAll k (trees t ts) s r
+
+some_all : (k : Context) (ts : Trees) (s r : List ℕ) → ReadsSome k ts s r → ReadsAll k ts s r
+some_all k no_trees s r h = absurd h
+some_all k (trees t ts) s r h = h
+
+more_sound : (k : Context) (inner : Reader Tree) (n : ℕ) (t : Tree) (s m r : List ℕ) (ts : Trees) → Reads k t levels.equivalence s (44 ∷ m) → ((q : List ℕ) (us : Trees) → arguments inner n m ≡ Some (us, q) → ReadsSome k us m q) → with_first t (arguments inner n m) ≡ Some (ts, r) → ReadsSome k ts s r
 more_sound k inner n t s m r ts h p e =
     let b = bind_some (arguments inner n m) (λ y. Some (trees t y.0, y.1)) (ts, r) e in
-    subst (λ (x : Trees × List ℕ). ReadsAll k x.0 s x.1) (same_Some (trees t b.0.0, b.0.1) (ts, r) b.2) (both b.0.0 b.0.1 (p b.0.1 b.0.0 b.1))
+    subst (λ (x : Trees × List ℕ). ReadsSome k x.0 s x.1) (same_Some (trees t b.0.0, b.0.1) (ts, r) b.2) (both b.0.0 b.0.1 (p b.0.1 b.0.0 b.1))
   where
-    both : (us : Trees) (q : List ℕ) → ReadsAll k us m q → ReadsAll k (trees t us) s q
+    both : (us : Trees) (q : List ℕ) → ReadsSome k us m q → ReadsSome k (trees t us) s q
     both no_trees q i = absurd i
     both (trees u us) q i = (m, h, i)
 
-arguments_sound : (k : Context) (inner : Reader Tree) → Sound k levels.equivalence inner → (n : ℕ) (s r : List ℕ) (ts : Trees) → length s ≤ k.length → arguments inner n s ≡ Some (ts, r) → ReadsAll k ts s r
+arguments_sound : (k : Context) (inner : Reader Tree) → Sound k levels.equivalence inner → (n : ℕ) (s r : List ℕ) (ts : Trees) → length s ≤ k.length → arguments inner n s ≡ Some (ts, r) → ReadsSome k ts s r
 unfolding arguments
 arguments_sound k inner p zero s r ts fit e = absurd (none-some (ts, r) e)
 arguments_sound k inner p (suc n) s r ts fit e =
     let b = bind_some (inner s) (λ x. if_some (after 41 x.1) (λ r. Some (trees x.0 no_trees, r)) (after 44 x.1 >>= λ m. arguments inner n m >>= λ y. Some (trees x.0 y.0, y.1))) (ts, r) e in
     let one = p s b.0.1 b.0.0 fit b.1 in
     elim (either_some (after 41 b.0.1) (λ r. Some (trees b.0.0 no_trees, r)) (after 44 b.0.1 >>= λ m. arguments inner n m >>= λ y. Some (trees b.0.0 y.0, y.1)) (ts, r) b.2) [
-      | inl g ↦ subst (λ (x : Trees × List ℕ). ReadsAll k x.0 s x.1) (same_Some (trees b.0.0 no_trees, g.0) (ts, r) g.2) (subst (λ (m : List ℕ). Reads k b.0.0 levels.equivalence s m) (after_is 41 b.0.1 g.0 g.1) one)
+      | inl g ↦ subst (λ (x : Trees × List ℕ). ReadsSome k x.0 s x.1) (same_Some (trees b.0.0 no_trees, g.0) (ts, r) g.2) (subst (λ (m : List ℕ). Reads k b.0.0 levels.equivalence s m) (after_is 41 b.0.1 g.0 g.1) one)
       | inr g ↦ (
           let c = bind_some (after 44 b.0.1) (λ m. arguments inner n m >>= λ y. Some (trees b.0.0 y.0, y.1)) (ts, r) g.1 in
           let is = after_is 44 b.0.1 c.0 c.1 in
@@ -98,16 +107,24 @@ arguments_sound k inner p (suc n) s r ts fit e =
           more_sound k inner n b.0.0 s c.0 r ts first (λ q us i. arguments_sound k inner p n c.0 q us fit' i) c.2)
     ]
 
+listed_sound : (k : Context) (inner : Reader Tree) → Sound k levels.equivalence inner → (s r : List ℕ) (ts : Trees) → length s ≤ k.length → listed inner s ≡ Some (ts, r) → ReadsAll k ts s r
+unfolding listed
+listed_sound k inner p s r ts fit e =
+    elim (either_some (after 41 s) (λ r. Some (no_trees, r)) (arguments inner (length s) s) (ts, r) e) [
+      | inl g ↦ subst (λ (x : Trees × List ℕ). ReadsAll k x.0 s x.1) (same_Some (no_trees, g.0) (ts, r) g.2) (after_is 41 s g.0 g.1)
+      | inr g ↦ some_all k ts s r (arguments_sound k inner p (length s) s r ts fit g.1)
+    ]
+
 named_sound : (k : Context) (inner : Reader Tree) → Sound k levels.equivalence inner → (a : Occurrence) (s m r : List ℕ) (t : Tree) → length s ≤ k.length → ReadsOccurrence k a s m → named inner a m ≡ Some (t, r) → Reads k t levels.primary s r
 unfolding named
 named_sound k inner p a s m r t fit h e =
-    elim (either_some (after 40 m) (λ n. arguments inner (length n) n >>= λ x. Some (with_list a x.0, x.1)) (Some (occurrence a, m)) (t, r) e) [
+    elim (either_some (after 40 m) (λ n. listed inner n >>= λ x. Some (with_list a x.0, x.1)) (Some (occurrence a, m)) (t, r) e) [
       | inl g ↦ (
-          let b = bind_some (arguments inner (length g.0) g.0) (λ x. Some (with_list a x.0, x.1)) (t, r) g.2 in
+          let b = bind_some (listed inner g.0) (λ x. Some (with_list a x.0, x.1)) (t, r) g.2 in
           let is = after_is 40 m g.0 g.1 in
           let fit' : length g.0 ≤ k.length = omega (arith, ap length is, place_fits k a s m h) in
           let name : ReadsOccurrence k a s (40 ∷ g.0) = subst (λ (n : List ℕ). ReadsOccurrence k a s n) is h in
-          subst (λ (x : Tree × List ℕ). Reads k x.0 levels.primary s x.1) (same_Some (with_list a b.0.0, b.0.1) (t, r) b.2) (g.0, name, arguments_sound k inner p (length g.0) g.0 b.0.1 b.0.0 fit' b.1))
+          subst (λ (x : Tree × List ℕ). Reads k x.0 levels.primary s x.1) (same_Some (with_list a b.0.0, b.0.1) (t, r) b.2) (g.0, name, listed_sound k inner p g.0 b.0.1 b.0.0 fit' b.1))
       | inr g ↦ subst (λ (x : Tree × List ℕ). Reads k x.0 levels.primary s x.1) (same_Some (occurrence a, m) (t, r) g.1) h
     ]
 

@@ -66,6 +66,8 @@ expressions : Works (λ (r : String × Tree). IsExpression (fitting r.0) (codes 
     ∷ ("X(A(1),-2)", with_list (at false "X" 0) (trees (with_list (at false "A" 2) (trees (int 1) no_trees)) (trees (signed Minus (int 2)) no_trees)))
     ∷ ("X(A.EQV.B)", with_list (at false "X" 0) (trees (binary (Logical Equivalent) (name "A" 2) (name "B" 8)) no_trees))
     ∷ ("X(1)**2", binary (Arithmetic Power) (with_list (at false "X" 0) (trees (int 1) no_trees)) (int 2))
+    ∷ ("X()", with_list (at false "X" 0) no_trees)
+    ∷ ("X(Y())-1", binary (Arithmetic Subtract) (with_list (at false "X" 0) (trees (with_list (at false "Y" 2) no_trees) no_trees)) (int 1))
     -- relations (6.3)
     ∷ ("1.EQ.2", binary (Relational Equal) (int 1) (int 2))
     ∷ ("A.EQ.-B", binary (Relational Equal) (name "A" 0) (signed Minus (name "B" 6)))
@@ -93,7 +95,7 @@ expressions : Works (λ (r : String × Tree). IsExpression (fitting r.0) (codes 
     -- something in the parentheses of each kind, and as many `)` as `(`
     ∷ "$(A)" ∷ "((1)" ∷ "1)" ∷ "()" ∷ ""
     -- one list, with commas between its parts, and only after a name
-    ∷ "X()" ∷ "X(1,)" ∷ "X(,1)" ∷ "X(1" ∷ "X(1)(2)" ∷ "1(2)"
+    ∷ "X(1,)" ∷ "X(,1)" ∷ "X(1" ∷ "X(1)(2)" ∷ "1(2)"
     -- one relation, between sums
     ∷ "A.LT.B.LT.C" ∷ "A.EQ..NOT.B" ∷ "A.LT." ∷ "A.LS.B"
     -- one `.NOT.`, before a relation, with its own dots
@@ -101,7 +103,7 @@ expressions : Works (λ (r : String × Tree). IsExpression (fitting r.0) (codes 
     -- six letters and digits, the first a letter, after one `$`
     ∷ "ABCDEFG" ∷ "1A" ∷ "$$A"
     ∷ [])
-unfolding chain in_parentheses arguments reading.named primary power_of term first_term sum relation negation conjunction disjunction expression power expression_at whole_expression
+unfolding chain in_parentheses arguments reading.listed reading.named primary power_of term first_term sum relation negation conjunction disjunction expression power expression_at whole_expression
 expressions =
     works _ _ (λ r. whole_expression (fitting r.0) (codes r.0)) (λ r. Some r.1) (λ s. whole_expression (any s) (codes s))
     (λ r. is_expression (fitting r.0) (codes r.0) r.1 (omega arith)) (λ s e t h. none-some t (sym e ∙ whole_expression_read (any s) t (codes s) h)) _ _ refl refl

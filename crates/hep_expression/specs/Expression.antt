@@ -127,7 +127,7 @@ abbrev mutual
   -- The text s begins with these expressions with commas between them and `)` after the last, and
   -- goes on with r.
   pub ReadsAll : Context → Trees → List ℕ → List ℕ → Type 0
-  ReadsAll k no_trees s r = ⊥
+  ReadsAll k no_trees s r = s ≡ codes ")" ++ r
   ReadsAll k (trees t no_trees) s r = Reads k t equivalence s (codes ")" ++ r)
   ReadsAll k (trees t (trees u ts)) s r = (m : List ℕ) × Reads k t equivalence s (codes "," ++ m) × ReadsAll k (trees u ts) m r
 

@@ -62,9 +62,13 @@ arguments inner zero s = None
 arguments inner (suc n) s =
     inner s >>= λ x. if_some (after right_parenthesis x.1) (λ r. Some (trees x.0 no_trees, r)) (after comma x.1 >>= λ m. arguments inner n m >>= λ y. Some (trees x.0 y.0, y.1))
 
+-- a list, which may be empty, and the `)` after it
+unfoldable pub listed : Reader Tree → Reader Trees
+listed inner s = if_some (after right_parenthesis s) (λ r. Some (no_trees, r)) (arguments inner (length s) s)
+
 -- a name that was read, with a list where `(` follows it
 unfoldable pub named : Reader Tree → Occurrence → Reader Tree
-named inner p s = if_some (after left_parenthesis s) (λ m. arguments inner (length m) m >>= λ x. Some (with_list p x.0, x.1)) (Some (occurrence p, s))
+named inner p s = if_some (after left_parenthesis s) (λ m. listed inner m >>= λ x. Some (with_list p x.0, x.1)) (Some (occurrence p, s))
 
 unfoldable pub primary : Context → Reader Tree → Reader Tree
 primary k inner s =

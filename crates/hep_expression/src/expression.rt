@@ -329,13 +329,30 @@ fn named(
     match after(b'(', s) {
         None => Ok((Expr::occurrence(occurrence), s)),
         Some(inside) => {
-            let (list, rest) = arguments(alloc, context, depth, inside)?;
+            let (list, rest) = listed(alloc, context, depth, inside)?;
             Ok((Expr::with_list(occurrence, list), rest))
         }
     }
 }
 
-/// What follows `(` after a name: expressions with commas between them and `)` after the last.
+/// What follows `(` after a name: a list, which may be empty, and `)`.
+#[cycle(expression)]
+#[tactic(auto, unfolding(crate::specs::ReadingExpression::listed))]
+fn listed(
+    alloc: Global,
+    context: Context,
+    depth: usize,
+    s: &[u8],
+) -> Result<(Vec<Expr>, &[u8]), Unread>
+    ensures { Gives (λ x. (trees_of x.0.items, x.1.now)) result (reading.listed (reading.expression context depth) s.now) }
+{
+    match after(b')', s) {
+        Some(rest) => Ok((Vec::new(alloc), rest)),
+        None => arguments(alloc, context, depth, s),
+    }
+}
+
+/// A list that is not empty: expressions with commas between them and `)` after the last.
 #[cycle(expression)]
 #[tactic(auto, using(crate::proofs::Chains::arguments_go_on, crate::proofs::Chains::arguments_end, crate::proofs::Chains::arguments_stop, crate::proofs::Chains::arguments_are_over, crate::proofs::Chains::arguments_fail))]
 fn arguments(

@@ -8,7 +8,7 @@ use Rattle.hep_conditions.specs.Words.{IsAccepted}
 use Rattle.hep_code.specs.declared.instruction.Instruction.{Instruction}
 use Rattle.hep_code.specs.declared.instruction.Instruction.TheVariants.{Step}
 use Rattle.hep_code.specs.declared.instruction.Operation.{Operation}
-use Rattle.hep_code.specs.declared.instruction.Operation.TheVariants.{Call, Create, Purge, Resume}
+use Rattle.hep_code.specs.declared.instruction.Operation.TheVariants.{Call, Create, Refer, Purge, Resume}
 use Rattle.hep_code.specs.Words.{Stands, code_of, deepest}
 use Rattle.hep_image.specs.declared.array.Array.{Array}
 use Rattle.hep_image.specs.Image.{most_cells}
@@ -26,7 +26,7 @@ use Rattle.hep_state.proofs.Tops.{settled, turning}
 use Rattle.hep_moves.specs.Moves.{CanGoOn, Goes, IsMove, IsSettledTo, stays, settles, steps}
 use Rattle.hep_going.specs.Gone.{HasGone, IsPlainTurn, none, more}
 
--- ---- what only moves calls, creates and purges nothing
+-- ---- what only moves calls, creates, refers to and purges nothing
 
 not-left : (code : List Instruction) (arrays : List Array) (first : ℕ) (index : ℕ) (contents after : List Slot) (operands left : List Value) (at next : ℕ) → effect_ahead code arrays first (drop index code) contents operands at ≡ moves after left next → IsNotLeftOut code index
 not-left code arrays first index contents after operands left at next is line o behind ahead =
@@ -35,6 +35,7 @@ not-left code arrays first index contents after operands left at next is line o 
     by_operation : (o : Operation) → effect_ahead code arrays first (Step line o ∷ behind) contents operands at ≡ moves after left next → is_left_out o ≡ false
     by_operation (Call u count next) e = absurd cc
     by_operation (Create u count next) e = absurd cc
+    by_operation (Refer u count) e = absurd cc
     by_operation (Purge count next) e = absurd cc
     by_operation (Resume next) e = absurd cc
     by_operation _ e = refl

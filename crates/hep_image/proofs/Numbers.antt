@@ -4,7 +4,7 @@ use Rattle.std.specs.List.{flat_map}
 use Rattle.std.specs.Option.{option_map, unwrap_or}
 use Rattle.std.proofs.lemmas.List.{length-append, length-map, map-append}
 use Rattle.std.proofs.lemmas.Option.{slice_get-get_or, slice_get-map, slice_get_within}
-use Rattle.hep_machine.specs.Words.{Name, Occurrence, Form, Statement, index_where, is_among, spelling, Units, dummies_by_header, dummies_of, names_of_occurrences, unit_at, unit_name, BlockName, blocks_of, is_block_among, same_block, is_local, locals_of, names_of, occurrences_in, occurrences_in_form, occurrences_in_statement, occurrences_of}
+use Rattle.hep_machine.specs.Words.{Name, Occurrence, Form, Statement, index_where, is_among, same_name, spelling, Units, dummies_by_header, dummies_of, names_of_occurrences, unit_at, unit_name, BlockName, blocks_of, is_block_among, same_block, is_local, locals_of, names_of, occurrences_in, occurrences_in_form, occurrences_in_statement, occurrences_of}
 use Rattle.hep_source.specs.declared.statement.Form.TheVariants as form
 use Rattle.hep_machine.proofs.Locations.{equal_blocks}
 use Rattle.hep_image.specs.declared.names.ProgramNames.{ProgramNames}
@@ -134,8 +134,13 @@ variable-few program names are numbers same u i inside less =
 pub local-named : (unit : List Statement) (x : Name) → is_among x (locals_of unit) ≡ true → is_among x (names_of unit) ≡ true
 local-named unit x h = among-filtered x (is_local unit) (names_of unit) h
 
+after-one : (b c : Bool) → c ≡ true → (if b then true else c) ≡ true
+after-one true c h = refl
+after-one false c h = h
+
 in-header : (unit : List Statement) (x : Name) (f : Form) → is_among x (dummies_by_header f) ≡ true → is_among x (names_of_occurrences (occurrences_in_form unit f)) ≡ true
 in-header unit x (form.Subroutine p dummies) h = h
+in-header unit x (form.Function t p dummies) h = after-one (same_name x p.name) (is_among x (names_of_occurrences dummies)) h
 in-header unit x _ h = absurd cc
 
 pub dummy-named : (unit : List Statement) (x : Name) → is_among x (dummies_of unit) ≡ true → is_among x (names_of unit) ≡ true

@@ -15,6 +15,7 @@ use Rattle.hep_conditions_laws.proofs.Members.{Has, has_filter, has_more, image_
 use Rattle.hep_image_laws.specs.Instructions.{variables_in}
 use Rattle.hep_image_laws.specs.Placed.{IsArrayAt, code_in}
 use Rattle.hep_image_laws.proofs.Coded.{AllMeet}
+use Rattle.hep_conditions.specs.Words.{function_types}
 use Rattle.hep_image_laws.proofs.Facts.{Facts, array_no_constant}
 use Rattle.hep_image_laws.proofs.Placed.{all_right, of_instruction, wishing, unit_of_program}
 use Rattle.hep_image_laws.proofs.Starts.{begins}
@@ -59,13 +60,13 @@ module _ (program : Units) (unit : List Statement) where
   unfolding variable_of
   variable_there x h = there_by x (start_of program unit x) refl h
 
-pub array_in_code : (program : Units) (u i j n : ℕ) (asynchronous : Bool) (x : Instruction) → Facts (unit_at program u) → slice_get (code_in program u) i ≡ Some x → slice_get (variables_in x) j ≡ Some (variables.Array asynchronous n) → IsArrayAt program (unit_at program u) asynchronous n
+pub array_in_code : (program : Units) (u i j n : ℕ) (asynchronous : Bool) (x : Instruction) → Facts (function_types program) (unit_at program u) → slice_get (code_in program u) i ≡ Some x → slice_get (variables_in x) j ≡ Some (variables.Array asynchronous n) → IsArrayAt program (unit_at program u) asynchronous n
 array_in_code program u i j n asynchronous x facts e g = of_instruction (IsThere program (unit_at program u)) x (all x (i, e)) j (variables.Array asynchronous n) g where
   there : (p : Occurrence) → Has (occurrences_of (unit_at program u)) p → IsThere program (unit_at program u) (variable_of program (unit_at program u) p.name)
   there p h = variable_there program (unit_at program u) p.name (name_of_unit (unit_at program u) p h)
 
   all : AllMeet (wishing (IsThere program (unit_at program u))) (code_in program u)
-  all = all_right (unit_of_program program u) facts (IsThere program (unit_at program u)) (λ p h varies. there p h) (λ s t h i p. there t.occurrence p)
+  all = all_right (function_types program) (unit_of_program program u) facts (IsThere program (unit_at program u)) (λ p h varies. there p h) (λ s t h i p. there t.occurrence p)
 
 -- ---- arrays of a unit
 
@@ -80,8 +81,8 @@ kept_passes test (y ∷ ys) x h = by_test (test y) refl h (kept_passes test ys x
   by_test true f (suc i, g) more = later (more (i, g))
   by_test false f g more = later (more g)
 
-pub array_of_unit : (program : Units) (u i : ℕ) (x : Name) → Facts (unit_at program u) → slice_get (arrays_of (unit_at program u)) i ≡ Some x → (at : Start) × (is_array (unit_at program u) x ≡ true) × (start_of program (unit_at program u) x ≡ Some at)
+pub array_of_unit : (program : Units) (u i : ℕ) (x : Name) → Facts (function_types program) (unit_at program u) → slice_get (arrays_of (unit_at program u)) i ≡ Some x → (at : Start) × (is_array (unit_at program u) x ≡ true) × (start_of program (unit_at program u) x ≡ Some at)
 array_of_unit program u i x facts e =
     let parts = kept_passes (is_array (unit_at program u)) (names_of (unit_at program u)) x (i, e) in
-    let at = begins program (unit_at program u) x parts.0 (array_no_constant (unit_at program u) facts x parts.1) in
+    let at = begins program (unit_at program u) x parts.0 (array_no_constant (function_types program) (unit_at program u) facts x parts.1) in
     (at.0, parts.1, at.1)

@@ -1,7 +1,7 @@
 mod Coded
 pub mod Facts
 pub mod Starts
-mod Rights
+pub mod Rights
 pub mod Placed
 pub mod Values
 mod Shapes

@@ -1,8 +1,8 @@
 -- What holds of each name of a unit that is no constant holds of each variable in its code; so these have storage units.
 use Rattle.std.proofs.Common.{◌≡◌, ℕ, zero, Bool, true, false, List, [], ◌∷◌, Option, Some, None, refl, subst, slice_get, if◌then◌else◌}
 use Rattle.std.proofs.lemmas.Option.{none-some}
-use Rattle.hep_machine.specs.Words.{Tree, constant, occurrence, with_list, parenthesized, signed, negated, binary, Target, StateFunction, Name, Occurrence, Statement, Value, Units, unit_at, constant_value, is_array, is_constant_name, Meaning, element, pure, state, unknown, listed_meaning, occurrences_in, occurrences_in_all, occurrences_of}
-use Rattle.hep_conditions.specs.Words.{targets_purged}
+use Rattle.hep_machine.specs.Words.{Tree, constant, occurrence, with_list, parenthesized, signed, negated, binary, Target, StateFunction, Name, Occurrence, Statement, Value, Units, unit_at, constant_value, is_array, is_constant_name, Meaning, element, pure, state, external, listed_meaning, occurrences_in, occurrences_in_all, occurrences_of}
+use Rattle.hep_conditions.specs.Words.{FunctionTypes, function_types, targets_purged}
 use Rattle.hep_code.specs.declared.instruction.Argument.{Argument}
 use Rattle.hep_code.specs.declared.instruction.Argument.TheVariants.{Evaluated, Referred}
 use Rattle.hep_code.specs.declared.instruction.Evaluation.{Evaluation}
@@ -10,7 +10,7 @@ use Rattle.hep_code.specs.declared.instruction.Evaluation.TheVariants.{Load, Tes
 use Rattle.hep_code.specs.declared.instruction.Instruction.{Instruction}
 use Rattle.hep_code.specs.declared.instruction.Instruction.TheVariants.{Step, Pass}
 use Rattle.hep_code.specs.declared.instruction.Operation.{Operation}
-use Rattle.hep_code.specs.declared.instruction.Operation.TheVariants.{Evaluate, Store, EnterLoop, EndLoop}
+use Rattle.hep_code.specs.declared.instruction.Operation.TheVariants.{Evaluate, Store, EnterLoop, EndLoop, Answer}
 use Rattle.hep_code.specs.declared.variable.Variable.{Variable}
 use Rattle.hep_code.specs.declared.variable.Variable.TheVariants as variables
 use Rattle.hep_code.specs.Words.{is_asynchronous, argument_of, argument_of_listed, argument_of_name, count, addressed_unit, AddressedUnit, code_of, names_of}
@@ -22,7 +22,7 @@ use Rattle.hep_image_laws.specs.Instructions.{variables_in, variables_in_argumen
 use Rattle.hep_image_laws.specs.Placed.{ArePlaced, IsPlaced, code_in}
 use Rattle.hep_image_laws.proofs.Coded.{AllMeet, Meets, MeetsEvaluation, MeetsOperation, Wish, array_named, code_meets}
 use Rattle.hep_image_laws.proofs.Facts.{Facts, without_value}
-use Rattle.hep_image_laws.proofs.Rights.{AllNamed, actual_in_unit, purged_in_unit, resolved, right}
+use Rattle.hep_image_laws.proofs.Rights.{AllNamed, actual_in_unit, given_in_unit, purged_in_unit, resolved, right}
 use Rattle.hep_image_laws.proofs.Starts.{begins, begun_placed}
 use Rattle.hep_conditions_laws.proofs.Operands.{is_element}
 
@@ -34,7 +34,7 @@ OfArgument P (Referred x n) = P x
 
 -- of each variable, in an argument too, and nothing else
 abbrev pub wishing : (Variable → Type 0) → Wish
-wishing P = record { variable = P; tested = λ x. Unit {0}; call = λ u n. Unit {0}; create = Unit {0}; purge = Unit {0}; argument = OfArgument P }
+wishing P = record { variable = P; tested = λ x. Unit {0}; call = λ u n. Unit {0}; refer = λ u n. Unit {0}; create = Unit {0}; purge = Unit {0}; argument = OfArgument P }
 
 abbrev pub Each : (Variable → Type 0) → List Variable → Type 0
 Each P xs = (i : ℕ) (x : Variable) → slice_get xs i ≡ Some x → P x
@@ -56,6 +56,7 @@ module _ (w : Wish) where
   of_operation (Store x n next) h = one_each w.variable x h
   of_operation (EnterLoop x cells inside behind) h = one_each w.variable x h
   of_operation (EndLoop x cells inside behind) h = one_each w.variable x h
+  of_operation (Answer x) h = one_each w.variable x h
   of_operation _ h = none_each w.variable
 
 pub of_argument : (P : Variable → Type 0) (a : Argument) → OfArgument P a → Each P (variables_in_argument a)
@@ -69,20 +70,20 @@ of_instruction P _ h = none_each P
 
 -- ---- the code of a unit
 
-module _ (addressed : AddressedUnit) (facts : Facts addressed.unit) (P : Variable → Type 0) (named : AllNamed addressed facts (wishing P)) where
+module _ (functions : FunctionTypes) (addressed : AddressedUnit) (facts : Facts functions addressed.unit) (P : Variable → Type 0) (named : AllNamed functions addressed facts (wishing P)) where
   -- an actual argument that is referred to is a variable or an element
   argument_right : (t : Tree) → ((p : Occurrence) → Has (occurrences_in addressed.unit t) p → Has (occurrences_of addressed.unit) p) → OfArgument P (argument_of (names_of addressed) t)
   argument_right (occurrence p) inside = by_value (constant_value addressed.unit p.name) refl where
     by_value : (o : Option Value) → constant_value addressed.unit p.name ≡ o → OfArgument P (argument_of_name (names_of addressed) o p.name)
-    by_value None e = named p (inside p (zero, refl)) (without_value addressed.unit facts p.name e)
+    by_value None e = named p (inside p (zero, refl)) (without_value functions addressed.unit facts p.name e)
     by_value (Some v) e = tt
   argument_right (with_list p ts) inside = by_meaning (listed_meaning addressed.unit p.name) refl where
     by_meaning : (m : Meaning) → listed_meaning addressed.unit p.name ≡ m → OfArgument P (argument_of_listed (names_of addressed) m p.name (count ts))
     by_meaning element e =
-        array_named addressed (wishing P) (resolved addressed facts (wishing P) (λ x a v. tt)) p (occurrences_in_all addressed.unit ts) (λ q h. named q (inside q h)) (is_element addressed.unit p.name e)
+        array_named functions addressed (wishing P) (resolved functions addressed facts (wishing P) (λ x a v. tt) named) p (occurrences_in_all addressed.unit ts) (λ q h. named q (inside q h)) (is_element addressed.unit p.name e)
     by_meaning (pure f) e = tt
     by_meaning (state f) e = tt
-    by_meaning unknown e = tt
+    by_meaning external e = tt
   argument_right (constant v) inside = tt
   argument_right (parenthesized t) inside = tt
   argument_right (signed s t) inside = tt
@@ -91,13 +92,15 @@ module _ (addressed : AddressedUnit) (facts : Facts addressed.unit) (P : Variabl
 
   pub all_right : ((s : Statement) (t : Target) → Has addressed.unit s → Has (targets_purged s.form) t → Has (occurrences_of addressed.unit) t.occurrence → P (addressed.variables t.occurrence.name)) → AllMeet (wishing P) (code_of addressed)
   all_right purged =
-      code_meets addressed (wishing P) (resolved addressed facts (wishing P) (λ x a v. tt)) (
-      right addressed facts (wishing P) named (record {
+      code_meets functions addressed (wishing P) (resolved functions addressed facts (wishing P) (λ x a v. tt) named) (
+      right functions addressed facts (wishing P) named (record {
         called = λ s c h g. tt;
-        passed = λ s c t h g i. argument_right t (λ p j. actual_in_unit addressed facts (wishing P) s c t p h g i j);
+        passed = λ s c t h g i. argument_right t (λ p j. actual_in_unit functions addressed facts (wishing P) s c t p h g i j);
+        referred = λ s r h g e. tt;
+        given = λ s r t h g i. argument_right t (λ p j. given_in_unit functions addressed facts (wishing P) s r t p h g i j);
         creating = λ s p ts h e. tt;
         purging = λ s ts h e. tt;
-        purged = λ s t h g. purged s t h g (purged_in_unit addressed facts (wishing P) s t h g);
+        purged = λ s t h g. purged s t h g (purged_in_unit functions addressed facts (wishing P) s t h g);
       }))
 
 -- ---- all variables have storage units
@@ -107,7 +110,7 @@ unit_of_program program u = addressed_unit program (addresses_of program) u
 
 -- storage units of operations' variables alone, and `$` of those that are tested
 abbrev placing : Wish
-placing = record { variable = IsPlaced; tested = λ x. is_asynchronous x ≡ true; call = λ u n. Unit {0}; create = Unit {0}; purge = Unit {0}; argument = λ a. Unit {0} }
+placing = record { variable = IsPlaced; tested = λ x. is_asynchronous x ≡ true; call = λ u n. Unit {0}; refer = λ u n. Unit {0}; create = Unit {0}; purge = Unit {0}; argument = λ a. Unit {0} }
 
 -- the variable of an asynchronous name that has storage units is asynchronous
 asynchronous_scalar : (a : Bool) (at : Start) → a ≡ true → is_asynchronous (scalar a at) ≡ true
@@ -126,7 +129,7 @@ asynchronous_variable : (program : Units) (unit : List Statement) (x : Name) →
 unfolding variable_of
 asynchronous_variable program unit x e there = asynchronous_by unit x (start_of program unit x) e there
 
-module _ (program : Units) (u : ℕ) (facts : Facts (unit_at program u)) where
+module _ (program : Units) (u : ℕ) (facts : Facts (function_types program) (unit_at program u)) where
   -- a name of the unit that is no constant
   pub placed : (p : Occurrence) → Has (occurrences_of (unit_at program u)) p → is_constant_name (unit_at program u) p.name ≡ false → IsPlaced (variable_of program (unit_at program u) p.name)
   placed p h varies =
@@ -135,17 +138,19 @@ module _ (program : Units) (u : ℕ) (facts : Facts (unit_at program u)) where
 
   operations_placed : AllMeet placing (code_in program u)
   operations_placed =
-      code_meets (unit_of_program program u) placing (resolved (unit_of_program program u) facts placing (asynchronous_variable program (unit_at program u))) (
-      right (unit_of_program program u) facts placing placed (record {
+      code_meets (function_types program) (unit_of_program program u) placing (resolved (function_types program) (unit_of_program program u) facts placing (asynchronous_variable program (unit_at program u)) placed) (
+      right (function_types program) (unit_of_program program u) facts placing placed (record {
         called = λ s c h g. tt;
         passed = λ s c t h g i. tt;
+        referred = λ s r h g e. tt;
+        given = λ s r t h g i. tt;
         creating = λ s p ts h e. tt;
         purging = λ s ts h e. tt;
         purged = λ s t h g. tt;
       }))
 
   all_placed : AllMeet (wishing IsPlaced) (code_in program u)
-  all_placed = all_right (unit_of_program program u) facts IsPlaced placed (λ s t h g p. placed t.occurrence p (facts.purged_variable h.0 g.0 s t h.1 g.1))
+  all_placed = all_right (function_types program) (unit_of_program program u) facts IsPlaced placed (λ s t h g p. placed t.occurrence p (facts.purged_variable h.0 g.0 s t h.1 g.1))
 
   pub variables_of_operations : (i line : ℕ) (o : Operation) → slice_get (code_in program u) i ≡ Some (Step line o) → ArePlaced (variables_in_operation o)
   variables_of_operations i line o e = of_operation placing o (operations_placed (Step line o) (i, e))

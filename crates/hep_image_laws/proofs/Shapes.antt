@@ -7,7 +7,7 @@ use Rattle.std.proofs.lemmas.Option.{none-some}
 use Rattle.hep_machine.specs.Words.{Tree, Declarator, Dimension, UpperBound, Integer, Name, Occurrence, Statement, Value, Units, integer_of, Values, adjustable_dimensions, bound_before, bound_of, bounds_of, constant_shape, constant_value, is_constant, is_constant_dimension, is_constant_lower, is_constant_upper, upper_value, value_among, value_of, declarators_in, dimensions_of, is_array, is_common, is_dummy, is_nonempty, Bounds, is_shape, occurrences_in}
 use Rattle.hep_source.specs.declared.declaration.UpperBound.TheVariants as bound
 use Rattle.hep_machine.specs.declared.shape.Bound.{Bound}
-use Rattle.hep_conditions.specs.Words.{IsAccepted, Parameters, are_bounds_open, has_bounds, has_value, is_adjustable, is_adjusted, is_adjusting, is_bound, is_dimension, is_open, is_shape_if_known, is_upper_bound, names_with_lists_in, trees_in_declarator, trees_in_dimension, trees_in_upper, is_plain_integer_scalar, is_typed_as}
+use Rattle.hep_conditions.specs.Words.{IsAccepted, Parameters, are_bounds_open, has_bounds, has_value, is_adjustable, is_adjusted, is_adjusting, is_bound, is_dimension, is_open, is_shape_if_known, is_upper_bound, names_with_lists_in, trees_in_declarator, trees_in_dimension, trees_in_upper, is_plain_integer_scalar, is_typed_as, no_functions}
 use Rattle.hep_conditions_laws.proofs.Formed.{parameters_at, typed_statement}
 use Rattle.hep_conditions_laws.proofs.Meant.{array_declarator}
 use Rattle.hep_conditions_laws.proofs.Members.{Has, all_has, flat_has, has_behind, has_either, has_flat, has_front, has_more, has_one}
@@ -41,7 +41,7 @@ never_adjusted unit ps t v e f =
 
 bound_valued : (unit : List Statement) (ps : Parameters) (dummy : Bool) (t : Tree) → is_open unit ps t ≡ false → is_bound unit ps dummy t ≡ true → is_constant unit t ≡ true → IsValued unit (value_among ps.known) t
 bound_valued unit ps dummy t closed e c =
-    by_test (has_value unit ps t) dummy refl (and_parts (is_typed_as unit Integer t) (has_value unit ps t || (dummy && (is_adjusted unit ps.known t && is_adjustable unit ps.known t))) e).1 where
+    by_test (has_value unit ps t) dummy refl (and_parts (is_typed_as no_functions unit Integer t) (has_value unit ps t || (dummy && (is_adjusted unit ps.known t && is_adjustable unit ps.known t))) e).1 where
       by_test : (b d : Bool) → has_value unit ps t ≡ b → (b || (d && (is_adjusted unit ps.known t && is_adjustable unit ps.known t))) ≡ true → IsValued unit (value_among ps.known) t
       by_test true d f g = some_of (value_of unit (value_among ps.known) t) (valued unit ps t closed f)
       by_test false true f g = let v = some_of (value_of unit (constant_value unit) t) c in absurd (never_adjusted unit ps t v.0 g v.1)

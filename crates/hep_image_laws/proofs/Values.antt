@@ -3,7 +3,7 @@ use Rattle.std.proofs.Common.{◌≡◌, ◌⊎◌, inl, inr, Bool, true, false,
 use Rattle.std.proofs.lemmas.Option.{none-some}
 use Rattle.hep_source.proofs.NameTests.{same_name-turned}
 use Rattle.hep_machine.specs.Words.{Tree, Trees, constant, occurrence, with_list, parenthesized, signed, negated, binary, no_trees, trees, NamedConstant, Name, Occurrence, Statement, Value, is_among, same_name, combined_value, negated_value, signed_value, Constants, Values, both, by_meaning, constant_value, given_by}
-use Rattle.hep_machine.specs.Words.{value_among, value_of, values_of, with_constant, with_one, with_two, is_array, is_constant_name, named_constants, names_of_constants, Meaning, element, function_named, pure, state, unknown, listed_meaning, array_occurrence, occurrences_in, occurrences_in_all}
+use Rattle.hep_machine.specs.Words.{value_among, value_of, values_of, with_constant, with_one, with_two, is_array, is_constant_name, named_constants, names_of_constants, Meaning, element, function_named, pure, state, external, listed_meaning, array_occurrence, occurrences_in, occurrences_in_all}
 use Rattle.hep_conditions_laws.proofs.Members.{Has, has_either, has_one}
 
 -- ---- the names in an expression that has a value have values
@@ -41,7 +41,7 @@ mutual
         listed (pure f) None g h d more = absurd (none-some v d)
         listed element o g h d more = absurd (none-some v d)
         listed (state f) o g h d more = absurd (none-some v d)
-        listed unknown o g h d more = absurd (none-some v d)
+        listed external o g h d more = absurd (none-some v d)
   names_valued unit values (parenthesized t) v e = names_valued unit values t v e
   names_valued unit values (signed s t) v e = one (value_of unit values t) refl e (names_valued unit values t) where
     one : (o : Option Value) → value_of unit values t ≡ o → with_one (signed_value s) o ≡ Some v → ((w : Value) → value_of unit values t ≡ Some w → AreValued values (occurrences_in unit t)) → AreValued values (occurrences_in unit t)

@@ -7,7 +7,7 @@ use Rattle.hep_code.specs.declared.instruction.Evaluation.TheVariants.{Load, Tes
 use Rattle.hep_code.specs.declared.instruction.Instruction.{Instruction}
 use Rattle.hep_code.specs.declared.instruction.Instruction.TheVariants.{Step, Pass}
 use Rattle.hep_code.specs.declared.instruction.Operation.{Operation}
-use Rattle.hep_code.specs.declared.instruction.Operation.TheVariants.{Evaluate, Store, EnterLoop, EndLoop}
+use Rattle.hep_code.specs.declared.instruction.Operation.TheVariants.{Evaluate, Store, EnterLoop, EndLoop, Answer}
 use Rattle.hep_code.specs.declared.variable.Variable.{Variable}
 
 -- ---- variables
@@ -22,6 +22,7 @@ variables_in_operation (Evaluate e) = variables_in_evaluation e
 variables_in_operation (Store x n next) = x ∷ []
 variables_in_operation (EnterLoop x cells inside behind) = x ∷ []
 variables_in_operation (EndLoop x cells inside behind) = x ∷ []
+variables_in_operation (Answer x) = x ∷ []
 variables_in_operation _ = []
 
 abbrev pub variables_in_argument : Argument → List Variable

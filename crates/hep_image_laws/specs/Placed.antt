@@ -1,6 +1,6 @@
 -- The code of the units of a program, and where its variables are: docs/MACHINE.md, "Variables and frames".
 use Rattle.std.specs.Prelude.{◌≡◌, ◌≢◌, ◌<◌, ℕ, Bool, true, false, List, map, length, Some, slice_get}
-use Rattle.hep_machine.specs.Words.{Name, Statement, Units, dummies_of, is_main, subroutine_name, unit_at, is_array}
+use Rattle.hep_machine.specs.Words.{Name, Statement, Units, dummies_of, function_name, is_main, subroutine_name, unit_at, is_array}
 use Rattle.hep_code.specs.declared.instruction.Instruction.{Instruction}
 use Rattle.hep_code.specs.declared.variable.Variable.{Variable}
 use Rattle.hep_code.specs.declared.variable.Variable.TheVariants.{Absent}
@@ -37,3 +37,10 @@ IsArrayAt program unit asynchronous i =
 abbrev pub IsCalledWith : Units → ℕ → ℕ → Type 0
 IsCalledWith program u n =
     (u < length program) × (is_main (subroutine_name (unit_at program u)) ≡ false) × (n ≡ length (dummies_of (unit_at program u)))
+
+-- a unit is a function of the program with so many dummy arguments: 15.5.1 and 15.5.2.2
+abbrev pub IsReferredWith : Units → ℕ → ℕ → Type 0
+IsReferredWith program u n =
+    (u < length program)
+    × ((x : Name) × (function_name (unit_at program u) ≡ Some x))
+    × (n ≡ length (dummies_of (unit_at program u)))

@@ -7,14 +7,14 @@ ghost use Rattle.hep_code.specs.declared.instruction.Evaluation.TheVariants.{Tes
 ghost use Rattle.hep_code.specs.declared.instruction.Instruction.{Instruction};
 ghost use Rattle.hep_code.specs.declared.instruction.Instruction.TheVariants.{Step};
 ghost use Rattle.hep_code.specs.declared.instruction.Operation.{Operation};
-ghost use Rattle.hep_code.specs.declared.instruction.Operation.TheVariants.{Call, Create, Evaluate};
+ghost use Rattle.hep_code.specs.declared.instruction.Operation.TheVariants.{Call, Create, Evaluate, Refer};
 ghost use Rattle.hep_code.specs.declared.variable.Variable.{Variable};
 ghost use Rattle.hep_code.specs.declared.variable.Variable.TheVariants.{Array};
 ghost use Rattle.hep_code.specs.Words.{is_asynchronous};
 ghost use Rattle.hep_image.specs.declared.array.Start.{Start};
 ghost use Rattle.hep_image.specs.Places.{arrays_of, start_of, variable_of};
 ghost use Rattle.hep_image_laws.specs.Instructions.{variables_in, variables_in_operation};
-ghost use Rattle.hep_image_laws.specs.Placed.{ArePlaced, IsArrayAt, IsCalledWith, IsPlaced, code_in};
+ghost use Rattle.hep_image_laws.specs.Placed.{ArePlaced, IsArrayAt, IsCalledWith, IsPlaced, IsReferredWith, code_in};
 
 use hep_conditions::laws;
 
@@ -62,13 +62,15 @@ pub fn arrays_are_there()
     laws::constants_agree();
 }
 
-/// A CALL or CREATE in the code is of a subroutine, and passes as many actual arguments as this has dummy
-/// arguments.
+/// A CALL or CREATE in the code is of a subroutine, and a reference of a function; each passes as many actual arguments as there
+/// are dummy arguments.
 pub fn calls_agree()
     ensures call { (program : Units) (u i line v n next : ℕ) → IsAccepted program → u < length program
         → slice_get (code_in program u) i ≡ Some (Step line (Call v n next)) → IsCalledWith program v n }
     ensures create { (program : Units) (u i line v n next : ℕ) → IsAccepted program → u < length program
         → slice_get (code_in program u) i ≡ Some (Step line (Create v n next)) → IsCalledWith program v n }
+    ensures refer { (program : Units) (u i line v n : ℕ) → IsAccepted program → u < length program
+        → slice_get (code_in program u) i ≡ Some (Step line (Refer v n)) → IsReferredWith program v n }
 {
     laws::constants_agree();
 }

@@ -23,12 +23,12 @@ use hep_values::statements::{constants_in, groups_in};
 use std::alloc::{AllocError, Global};
 
 fn is_main(symbols: &Symbols) -> bool
-    ensures { result ≡ units.is_main (units.subroutine_name symbols.now) }
+    ensures { result ≡ units.is_main (units.procedure_name symbols.now) }
 {
     match symbols.statements().first() {
         Some(
             Statement {
-                form: Form::Subroutine(_, _),
+                form: Form::Subroutine(..) | Form::Function(..),
                 ..
             },
         ) => false,
@@ -38,7 +38,7 @@ fn is_main(symbols: &Symbols) -> bool
 
 // DATA stands in the main program alone.
 fn is_misplaced(symbols: &Symbols, groups: &[DataGroup]) -> bool
-    ensures { result ≡ (is_nonempty groups.now && not (units.is_main (units.subroutine_name symbols.now))) }
+    ensures { result ≡ (is_nonempty groups.now && not (units.is_main (units.procedure_name symbols.now))) }
 {
     !groups.is_empty() && !is_main(symbols)
 }

@@ -3,7 +3,8 @@ use Rattle.std.specs.Result.{IfOk}
 use Rattle.std.proofs.Common.{◌≡◌, ◌⊎◌, inl, inr, ℕ, zero, suc, ◌-◌, ◌<◌, ◌≤◌, Bool, true, false, List, [], ◌∷◌, ◌++◌, length, Option, Some, None, Result, Ok, Err, refl, ◌∙◌, arith, ℤ, ◌+ℤ◌, ◌&&◌, not, length-append}
 use Rattle.hep_machine.specs.Words.{StateFunction, IsFull, IsEmpty, ValueOf, SetEmpty, WaitFull, Name, Statement, Value, Int, index_among, Units, unit_at, dummies_of, Outcome, reading_asynchronous, setting_empty, waiting_full, integer_of, integer_or_overflow, signed_value, negated_value, combined_value, function_value}
 use Rattle.hep_machine.specs.Words.{Binding, binding_for, binding_with_shapes, bound_values, dummies_for, dummy_before, dummy_for, dummy_with_shape, first_element, from_element, with_actual, with_actuals, with_shape, with_shapes, with_store, shape_by, level_after_statement, variable_of, BlockName, common_block}
-use Rattle.hep_machine.specs.Words.{is_array, is_nonempty, Redex, signing, negating, combining, applying, testing, Actual, evaluated, referred, Action, assigning, jumping, choosing, branching, testing_condition, entering_block, entering_loop, ending_loop, calling, creating, purging, printing, continuing, leaving, resuming, Process, state_resumed}
+use Rattle.hep_machine.specs.Words.{is_array, is_nonempty, Redex, signing, negating, combining, applying, testing, Actual, evaluated, referred, Action, assigning, jumping, choosing, branching, testing_condition, entering_block, entering_loop, ending_loop, calling, creating, purging, printing, continuing, leaving, resuming, Sought, evaluating, referring, function_name, function_unit, Process, state_resumed}
+use Rattle.hep_machine.specs.Words.{result_after_leaving, result_after_result, result_after_sought, result_after_value}
 use Rattle.hep_machine.specs.Words.{stopping, Next, wants, does, Reference, Scope, dummy_at, element_of, location_in, location_of_name, start_by_block, storage_by_dummy, storage_of, loop_at, Bounds, fits, Activation, Cell, Dummy, Level, Location, Loop, State, Store, local, common, Answer, fails, answer_at, answer_of}
 use Rattle.hep_machine.specs.Words.{answer_of_read_at, answer_of_test_at, binding_of, by_result, iterations, next_activation, result_after_action, result_after_answer, result_after_assignment, result_after_call, result_after_create, result_after_do, result_after_increment, result_after_loop_end}
 use Rattle.hep_machine.specs.Words.{result_after_loop_variable, result_after_next, result_after_purge, result_after_write, scope_of, store_after_both, store_after_purge, store_after_purge_at, store_after_purge_of, Top, unit_called, unit_on_top, written, with_activation, emptied_from, further, same_location, with_cell}
@@ -281,6 +282,19 @@ module _ (program : Units) (t : Top) (made : IsMadeScope (length t.state.activat
   binds : (u : ℕ) (ys : List Actual) → BindsPassed scope (next_activation t.state) old (binding_of program t u ys)
   binds u ys = binds-binding (scope_of program t.state t.level.activation) t.state.store (unit_at program u) (next_activation t.state) ys
 
+  -- the end of an activation
+  stored-result : (v : Option Value) → Makes (HasStored program t) (result_after_value program t v)
+  stored-result None = unchanged
+  stored-result (Some v) = unchanged
+
+  stored-at_result : (at : Result Location Kind) → Makes (HasStored program t) (result_after_result program t at)
+  stored-at_result (Err k) = unchanged
+  stored-at_result (Ok at) = stored-result (old at).value
+
+  stored-leaving : (x : Option Name) → Makes (HasStored program t) (result_after_leaving program t x)
+  stored-leaving None = unchanged
+  stored-leaving (Some x) = stored-at_result (location_of_name scope x [])
+
   stored-resuming : (below : Process) → HasStored program t (state_resumed program t below)
   stored-resuming [] = unchanged
   stored-resuming (caller ∷ callers) = unchanged
@@ -301,10 +315,14 @@ module _ (program : Units) (t : Top) (made : IsMadeScope (length t.state.activat
   stored-action (purging targets) = stored-purge (store_after_purge scope targets old) (later-purge n scope targets old old made (keeps-all n old))
   stored-action (printing items) = unchanged
   stored-action continuing = unchanged
-  stored-action leaving = unchanged
+  stored-action leaving = stored-leaving (function_name (unit_on_top program t))
   stored-action resuming = stored-resuming t.below
   stored-action stopping = unchanged
 
+  stored-sought : (r : Sought) → Makes (HasStored program t) (result_after_sought program t r)
+  stored-sought (evaluating r) = stored-answer (answer_of scope old r) (later-answer n scope old r made)
+  stored-sought (referring x actuals) = stored-call (function_unit program x) (binding_of program t (function_unit program x) actuals) (binds (function_unit program x) actuals)
+
   pub stored-next : (m : Next) → Makes (HasStored program t) (result_after_next program t m)
-  stored-next (wants r) = stored-answer (answer_of scope old r) (later-answer n scope old r made)
+  stored-next (wants r) = stored-sought r
   stored-next (does a) = stored-action a

@@ -1,5 +1,6 @@
 -- A step makes no activation, or one of which holds what holds of what its actual arguments bind.
 use Rattle.std.proofs.Common.{◌≡◌, ◌⊎◌, inl, inr, ℕ, Bool, List, [], ◌∷◌, ◌++◌, length, Option, Some, None, Result, Ok, Err, refl, ℤ, ◌+ℤ◌}
+use Rattle.hep_machine.specs.Words.{evaluating, function_name, function_unit, leaving, Name, referring, result_after_leaving, result_after_result, result_after_value}
 use Rattle.hep_machine.specs.Words.{Value, Units, dummies_of, unit_at, integer_of, integer_or_overflow, Binding, level_after_statement, variable_of, Actual, Action, assigning, entering_loop, ending_loop, calling, creating, purging, resuming, Next, wants, does, Scope, location_of_name, loop_at, Activation, Level, Location, Loop}
 use Rattle.hep_machine.specs.Words.{Process, State, Store, state_resumed, Answer, answer_at, answer_of, binding_of, iterations, result_after_action, result_after_answer, result_after_assignment, result_after_call, result_after_create, result_after_do, result_after_increment, result_after_loop_end, result_after_loop_variable}
 use Rattle.hep_machine.specs.Words.{result_after_next, result_after_purge, result_after_write, scope_of, store_after_purge, Top, unit_called, unit_on_top, written}
@@ -68,6 +69,19 @@ module _ (program : Units) (t : Top) (Holds : Activation → Type 0) where
   added-create u (Err k) h = same
   added-create u (Ok b) h = inr (_, refl, h)
 
+  -- the end of an activation
+  added-value : (v : Option Value) → Makes Adds (result_after_value program t v)
+  added-value None = same
+  added-value (Some v) = same
+
+  added-result : (at : Result Location Kind) → Makes Adds (result_after_result program t at)
+  added-result (Err k) = same
+  added-result (Ok at) = added-value (old at).value
+
+  added-leaving : (x : Option Name) → Makes Adds (result_after_leaving program t x)
+  added-leaving None = same
+  added-leaving (Some x) = added-result (location_of_name scope x [])
+
   -- a process more, or a statement further
   added-resuming : (below : Process) → Adds (state_resumed program t below)
   added-resuming [] = same
@@ -81,9 +95,11 @@ module _ (program : Units) (t : Top) (Holds : Activation → Type 0) where
     added-action (calling x actuals) h = added-call (unit_called program x) (binding_of program t (unit_called program x) actuals) (binds (unit_called program x) actuals h)
     added-action (creating x actuals) h = added-create (unit_called program x) (binding_of program t (unit_called program x) actuals) (binds (unit_called program x) actuals h)
     added-action (purging targets) h = added-purge (store_after_purge scope targets old)
+    added-action leaving h = added-leaving (function_name (unit_on_top program t))
     added-action resuming h = added-resuming t.below
     added-action _ h = same
 
     pub added-next : (m : Next) → NextAgrees program m → Makes Adds (result_after_next program t m)
-    added-next (wants r) h = added-answer (answer_of scope old r)
+    added-next (wants (evaluating r)) h = added-answer (answer_of scope old r)
+    added-next (wants (referring x actuals)) h = added-call (function_unit program x) (binding_of program t (function_unit program x) actuals) (binds (function_unit program x) actuals h)
     added-next (does a) h = added-action a h

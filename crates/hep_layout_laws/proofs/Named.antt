@@ -1,13 +1,14 @@
 -- Names and their variables: an array is among the names of its unit, and found among its arrays.
-use Rattle.std.proofs.Common.{◌≡◌, ◌≢◌, subst, inl, inr, Bool, true, false, List, [], ◌∷◌, Some, refl, sym, ap, ◌∙◌, ◌&&◌, ◌||◌, if◌then◌else◌, map, slice_get}
+use Rattle.std.proofs.Common.{◌≡◌, ◌≢◌, subst, inl, inr, Bool, true, false, List, [], ◌∷◌, Some, refl, sym, ap, ◌∙◌, not, ◌&&◌, ◌||◌, if◌then◌else◌, map, slice_get, true≢false}
 use Rattle.std.specs.List.{flat_map, list_any}
 use Rattle.std.specs.Option.{option_map, option_map_or, unwrap_or}
 use Rattle.std.proofs.lemmas.Bool.{and_parts, or_left, or_right, or_cases}
 use Rattle.std.proofs.lemmas.List.Folds.{list_any-append}
 use Rattle.std.proofs.lemmas.Option.{slice_get-map}
-use Rattle.hep_machine.specs.Words.{CommonBlock, Declarator, Name, Occurrence, Form, Statement, same_name, is_among, index_among, Units, names_of_occurrences, declarator_among, declarators_in, declarators_of, dimensions_among, is_array, is_nonempty, names_of, occurrences_in_block, occurrences_in_declarator, occurrences_in_dimension, occurrences_in_form, occurrences_in_statement, occurrences_of, occurrences_in}
+use Rattle.hep_machine.specs.Words.{element, function_name, function_named, is_external, is_named, is_referenced, names_listed}
+use Rattle.hep_machine.specs.Words.{CommonBlock, Declarator, Name, Occurrence, Form, Statement, same_name, is_among, index_among, Units, names_of_occurrences, declarator_among, declarators_in, declarators_of, dimensions_among, is_array, is_nonempty, names_of, occurrences_in_block, occurrences_in_declared, occurrences_in_declarator, occurrences_in_dimension, occurrences_in_form, occurrences_in_statement, occurrences_of, occurrences_in}
 use Rattle.hep_source.specs.declared.statement.Form.TheVariants as form
-use Rattle.hep_source.proofs.NameTests.{same_name-turned}
+use Rattle.hep_source.proofs.NameTests.{equal_names, same_name-turned}
 use Rattle.hep_code.specs.declared.variable.Variable.{Variable}
 use Rattle.hep_code.specs.declared.variable.Variable.TheVariants.{Absent}
 use Rattle.hep_code.specs.declared.variable.Variable.TheVariants as variables
@@ -59,23 +60,38 @@ module _ (x : Name) where
     named-declarators ds h =
         any-flat names (occurrences_in_declarator unit) ds ∙ any-more declares (λ d. list_any names (occurrences_in_declarator unit d)) ds named-declarator h
 
-    named-form : (f : Form) → list_any declares (declarators_in f) ≡ true → list_any names (occurrences_in_form unit f) ≡ true
-    named-form (form.Declare t ds) h = named-declarators ds h
-    named-form (form.Dimension ds) h = named-declarators ds h
-    named-form (form.Common blocks) h =
+    -- an array isn't a function that the unit refers to
+    named-declared : is_array unit x ≡ true → (d : Declarator) → declares d ≡ true → list_any names (occurrences_in_declared unit d) ≡ true
+    named-declared is d h = by_test (is_nonempty d.dimensions) (is_referenced unit d.occurrence.name) refl where
+      array : is_array unit d.occurrence.name ≡ true
+      array = subst (λ y. is_array unit y ≡ true) (equal_names x d.occurrence.name h) is
+
+      unreferenced : is_referenced unit d.occurrence.name ≡ false
+      unreferenced = ap (λ b. is_external (if b then element else function_named d.occurrence.name) && (not (is_named (function_name unit) d.occurrence.name) && is_among d.occurrence.name (names_listed unit))) array
+
+      by_test : (a b : Bool) → is_referenced unit d.occurrence.name ≡ b → list_any names (if not a && b then [] else occurrences_in_declarator unit d) ≡ true
+      by_test true b e = named-declarator d h
+      by_test false false e = named-declarator d h
+      by_test false true e = absurd (true≢false (sym e ∙ unreferenced))
+
+    named-form : is_array unit x ≡ true → (f : Form) → list_any declares (declarators_in f) ≡ true → list_any names (occurrences_in_form unit f) ≡ true
+    named-form is (form.Declare t ds) h =
+        any-flat names (occurrences_in_declared unit) ds ∙ any-more declares (λ d. list_any names (occurrences_in_declared unit d)) ds (named-declared is) h
+    named-form is (form.Dimension ds) h = named-declarators ds h
+    named-form is (form.Common blocks) h =
         any-flat names (occurrences_in_block unit) blocks
         ∙ any-more (λ (b : CommonBlock). list_any declares b.entries) (λ b. list_any names (occurrences_in_block unit b)) blocks (λ b. named-declarators b.entries) (sym (any-flat declares (λ (b : CommonBlock). b.entries) blocks) ∙ h)
-    named-form f h = absurd cc
+    named-form is f h = absurd cc
 
-    named-statement : (s : Statement) → list_any declares (declarators_in s.form) ≡ true → list_any names (occurrences_in_statement unit s) ≡ true
-    named-statement s h =
+    named-statement : is_array unit x ≡ true → (s : Statement) → list_any declares (declarators_in s.form) ≡ true → list_any names (occurrences_in_statement unit s) ≡ true
+    named-statement is s h =
         list_any-append names (flat_map (occurrences_in unit) s.conditions) (occurrences_in_form unit s.form)
-        ∙ or_right (list_any names (flat_map (occurrences_in unit) s.conditions)) (list_any names (occurrences_in_form unit s.form)) (named-form s.form h)
+        ∙ or_right (list_any names (flat_map (occurrences_in unit) s.conditions)) (list_any names (occurrences_in_form unit s.form)) (named-form is s.form h)
 
     named-statements : is_array unit x ≡ true → list_any names (occurrences_of unit) ≡ true
     named-statements h =
         any-flat names (occurrences_in_statement unit) unit
-        ∙ any-more (λ (s : Statement). list_any declares (declarators_in s.form)) (λ s. list_any names (occurrences_in_statement unit s)) unit named-statement (sym (any-flat declares (λ (s : Statement). declarators_in s.form) unit) ∙ dimensioned (declarators_of unit) h)
+        ∙ any-more (λ (s : Statement). list_any declares (declarators_in s.form)) (λ s. list_any names (occurrences_in_statement unit s)) unit (named-statement h) (sym (any-flat declares (λ (s : Statement). declarators_in s.form) unit) ∙ dimensioned (declarators_of unit) h)
 
   pub array-listed : (unit : List Statement) → is_array unit x ≡ true → is_among x (arrays_of unit) ≡ true
   array-listed unit h =

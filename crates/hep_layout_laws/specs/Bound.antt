@@ -1,6 +1,6 @@
 -- What the dummy arguments of an activation stand for: X3.9-1978, 5.5 and 15.9.3, and docs/MACHINE.md, "Binding".
 use Rattle.std.specs.Prelude.{◌≡◌, ◌≢◌, ℕ, ◌≤◌, true, false, List, [], length, Some, None, slice_get}
-use Rattle.hep_machine.specs.Words.{Name, Statement, index_among, Units, dummies_of, unit_at, adjustable_dimensions, constant_shape, is_array, Action, Next, calling, creating, does, next_of, wants, Layout, dummy_at, activation_of, living, unit_of, run, Bounds, elements, fits, is_shape, most_elements, Dummy, Level, Process, State, local, unit_called, is_owned}
+use Rattle.hep_machine.specs.Words.{Name, Statement, index_among, Units, dummies_of, unit_at, adjustable_dimensions, constant_shape, is_array, Action, Next, calling, creating, does, evaluating, function_unit, next_of, referring, wants, Layout, dummy_at, activation_of, living, unit_of, run, Bounds, elements, fits, is_shape, most_elements, Dummy, Level, Process, State, local, unit_called, is_owned}
 use Rattle.hep_layout.specs.Words.{RunsFrom}
 
 -- a dummy argument of activation a of a unit stands for storage units, or for an expression, whose value is a variable of its own
@@ -30,14 +30,15 @@ abbrev pub AreClosed : Units → Type 0
 AreClosed program =
     (u : ℕ) (unit : List Statement) (x : Name) → slice_get program u ≡ Some unit → is_array unit x ≡ true → index_among x (dummies_of unit) ≡ None → (bs : Bounds) × (constant_shape unit x ≡ Some bs) × (n : ℕ) × (elements bs ≡ Some n)
 
--- a CALL or CREATE has as many actual arguments as there are dummy arguments: 15.9.3
+-- a CALL or CREATE, and a reference of a function, has as many actual arguments as there are dummy arguments: 15.9.3
 abbrev pub Agrees : Units → Action → Type 0
 Agrees program (calling x actuals) = length actuals ≡ length (dummies_of (unit_at program (unit_called program x)))
 Agrees program (creating x actuals) = length actuals ≡ length (dummies_of (unit_at program (unit_called program x)))
 Agrees program _ = Unit {0}
 
 abbrev pub NextAgrees : Units → Next → Type 0
-NextAgrees program (wants r) = Unit {0}
+NextAgrees program (wants (evaluating r)) = Unit {0}
+NextAgrees program (wants (referring x actuals)) = length actuals ≡ length (dummies_of (unit_at program (function_unit program x)))
 NextAgrees program (does a) = Agrees program a
 
 -- so it is wherever a run comes to

@@ -111,7 +111,8 @@ pub fn cells_are_reached()
 {}
 
 /// In a run the dummy arguments of each activation are bound, where no array but a dummy argument is open, the main
-/// program has no dummy arguments, and each CALL and CREATE has as many actual arguments as there are dummy arguments.
+/// program has no dummy arguments, and each CALL, CREATE and reference of a function has as many actual arguments as there
+/// are dummy arguments.
 pub fn activations_are_bound()
     ensures { (program : Units) (processes : List ℕ) (a : ℕ) → AreClosed program → dummies_of (unit_at program (main_unit program)) ≡ []
         → CallsAgree program → 1 ≤ a → a ≤ length (run program processes).activations → IsBound program (run program processes) a }

@@ -13,57 +13,32 @@ use Rattle.hep_code.specs.Words.{tree_code, target_code, addressed_unit, operand
 use Rattle.hep_image.specs.Places.{addresses_of}
 use Rattle.hep_lower.specs.Parts.{HaveStatements, in_tree, in_list, in_target, in_item, in_form, labels_of_form, parts_of_statement, parts_of_unit, parts_of}
 use Rattle.hep_lower.specs.Refusals.{IsCodeBeyond, instructions_in}
-use Rattle.hep_lower.proofs.FewOperands.{tree_gives, actuals_give, target_gives, targets_give, items_give, control_gives, some_part, leading, passing, purging, showing}
-
--- ---- entries
-
-entries_few : {A : Type 0} (entry : A → Instruction) (g : A → ℕ) → ((x : A) → 1 ≤ g x) → (xs : List A)
-    → length (map entry xs) ≤ sum_by g xs
-entries_few entry g h [] = omega arith
-entries_few entry g h (x ∷ xs) = omega (arith, sum_by-cons g x xs, h x, entries_few entry g h xs)
-
-some_item : (i : PrintItem) → 1 ≤ in_item 1 i
-some_item (item.Expression t) = some_part 1 t
-some_item (item.Characters cs) = omega arith
-
-some_target : (t : Target) → 1 ≤ in_target 1 t
-some_target t = omega arith
+use Rattle.hep_lower.proofs.FewOperands.{tree_gives, actuals_short, target_gives, targets_short, items_short, control_gives, leading, passing, purging, showing}
 
 -- ---- statements: two for each part but one
 
 module _ (table : Table) where
-  operands_few : (line : ℕ) (f : Form) → length (operands_code table line f) ≤ in_form 1 f
-  operands_few line (form.Assign x t) =
-      let a = tree_code table.names line t in
-      let b = target_code table.names line x in
-      omega (arith, length-append a b, (tree_gives table.names line t).short, (target_gives table.names line x).short)
-  operands_few line (form.ComputedGoTo labels t) = (tree_gives table.names line t).short
-  operands_few line (form.ArithmeticIf t labels) = (tree_gives table.names line t).short
-  operands_few line (form.IfThen t) = (tree_gives table.names line t).short
-  operands_few line (form.ElseIf t) = (tree_gives table.names line t).short
-  operands_few line (form.Do c) = (control_gives table.names line c).short
-  operands_few line (form.Call p ts) = omega (arith, (actuals_give table.names line ts).short)
-  operands_few line (form.Create p ts) = omega (arith, (actuals_give table.names line ts).short)
-  operands_few line (form.Purge targets) = (targets_give table.names line targets).short
-  operands_few line (form.Print items) = (items_give table.names line items).short
-  operands_few line _ = omega arith
-
-  -- with the end of its loop
-  operation_few : (line k d : ℕ) (f : Form)
-      → length (operation_code table line k f) + length (loop_end_code table d f) ≤ 1 + (labels_of_form f + in_form 1 f)
-  operation_few line k d (form.ComputedGoTo labels t) = omega (arith, length-map labels (leading table))
-  operation_few line k d (form.Call p ts) = omega (arith, entries_few (passing table.names) (in_tree 1) (some_part 1) ts)
-  operation_few line k d (form.Create p ts) = omega (arith, entries_few (passing table.names) (in_tree 1) (some_part 1) ts)
-  operation_few line k d (form.Purge targets) = omega (arith, entries_few (purging table.names) (in_target 1) some_target targets)
-  operation_few line k d (form.Print items) = omega (arith, entries_few showing (in_item 1) some_item items)
-  operation_few line k d _ = omega arith
-
+  -- operands, the operation with what stands behind it, and the end of its loop
   form_few : (line k d : ℕ) (f : Form)
       → length (form_code table line k f) + length (loop_end_code table d f) + 1 ≤ 2 * (1 + (labels_of_form f + in_form 1 f))
   form_few line k d f =
-      let a = operands_code table line f in
-      let b = operation_code table line k f in
-      omega (arith, length-append a b, operands_few line f, operation_few line k d f)
+      omega (arith, length-append (operands_code table line f) (operation_code table line k f), parts_few f)
+    where
+      parts_few : (f : Form) → length (operands_code table line f) + length (operation_code table line k f) + length (loop_end_code table d f) + 1 ≤ 2 * (1 + (labels_of_form f + in_form 1 f))
+      parts_few (form.Assign x t) =
+          let a = tree_code table.names line t in
+          let b = target_code table.names line x in
+          omega (arith, length-append a b, (tree_gives table.names line t).short, (target_gives table.names line x).short)
+      parts_few (form.ComputedGoTo labels t) = omega (arith, (tree_gives table.names line t).short, length-map labels (leading table))
+      parts_few (form.ArithmeticIf t labels) = omega (arith, (tree_gives table.names line t).short)
+      parts_few (form.IfThen t) = omega (arith, (tree_gives table.names line t).short)
+      parts_few (form.ElseIf t) = omega (arith, (tree_gives table.names line t).short)
+      parts_few (form.Do c) = omega (arith, (control_gives table.names line c).short)
+      parts_few (form.Call p ts) = omega (arith, actuals_short table.names line ts, length-map ts (passing table.names))
+      parts_few (form.Create p ts) = omega (arith, actuals_short table.names line ts, length-map ts (passing table.names))
+      parts_few (form.Purge targets) = omega (arith, targets_short table.names line targets, length-map targets (purging table.names))
+      parts_few (form.Print items) = omega (arith, items_short table.names line items, length-map items showing)
+      parts_few _ = omega arith
 
   conditions_few : (line k : ℕ) (ts : List Tree) (f : Form)
       → length (conditions_code table line k ts f) ≤ 2 * in_list 1 ts + length (form_code table line k f)
@@ -72,7 +47,7 @@ module _ (table : Table) where
       let a = tree_code table.names line t in
       let b = Step line (Condition (table.flows k).next) ∷ conditions_code table line k ts f in
       let rest = conditions_few line k ts f in
-      omega (arith, length-append a b, sum_by-cons (in_tree 1) t ts, (tree_gives table.names line t).short, some_part 1 t, rest)
+      omega (arith, length-append a b, sum_by-cons (in_tree 1) t ts, (tree_gives table.names line t).short, rest)
 
   statement_few : (k : ℕ) (s : Statement) → length (statement_code table k s) + 1 ≤ 2 * parts_of_statement s
   statement_few k s =

@@ -1,20 +1,22 @@
--- In the code of an expression there is at most one instruction for each of its parts, and in that of a statement there are at most so many
--- operands as the statement has names and constants.
-use Rattle.std.proofs.Common.{◌≡◌, ◌⊎◌, inl, inr, ℕ, suc, ◌+◌, ◌-◌, ◌<◌, ◌≤◌, Bool, true, false, List, [], ◌∷◌, ◌++◌, map, take, length, Option, Some, None, refl, ap, sym, ◌∙◌, subst, arith, append_assoc, length-append, nat_lt, if◌then◌else◌}
+-- In the code of an expression there are less than two instructions for each of its parts, and in that of a statement there are at most so
+-- many operands as the statement has names and constants.
+use Rattle.std.proofs.Common.{◌≡◌, ◌⊎◌, inl, inr, ℕ, suc, ◌+◌, ◌-◌, ◌*◌, ◌<◌, ◌≤◌, Bool, true, false, List, [], ◌∷◌, ◌++◌, map, take, length, Option, Some, None, refl, ap, sym, ◌∙◌, subst, arith, append_assoc, length-append, nat_lt, if◌then◌else◌}
 use Rattle.std.specs.List.{flat_map, sum_by}
 use Rattle.std.proofs.lemmas.Bool.Decides.{nat_tests}
 use Rattle.std.proofs.lemmas.List.Sums.{sum_by-cons}
 use Rattle.std.proofs.lemmas.Option.{same_Some, none-some}
-use Rattle.hep_machine.specs.Words.{Tree, Trees, constant, occurrence, with_list, parenthesized, signed, negated, binary, no_trees, trees, trees_of, Target, Name, DoControl, Form, PrintItem, Statement, Value, Units, no_value, increment_of, Meaning, element, pure, state, unknown}
+use Rattle.hep_machine.specs.Words.{Tree, Trees, constant, occurrence, with_list, parenthesized, signed, negated, binary, no_trees, trees, trees_of, Target, Name, DoControl, Form, PrintItem, Statement, Value, Units, increment_of, Meaning, element, pure, state, external}
 use Rattle.hep_source.specs.declared.statement.Form.TheVariants as form
 use Rattle.hep_source.specs.declared.statement.PrintItem.TheVariants as item
+use Rattle.hep_code.specs.declared.instruction.Argument.{Argument}
 use Rattle.hep_code.specs.declared.instruction.Evaluation.{Evaluation}
 use Rattle.hep_code.specs.declared.instruction.Evaluation.TheVariants.{Load, Sign, Not, Combine, Apply, Test}
 use Rattle.hep_code.specs.declared.instruction.Instruction.{Instruction}
 use Rattle.hep_code.specs.declared.instruction.Instruction.TheVariants.{Push, Step, To, Pass, Show}
 use Rattle.hep_code.specs.declared.instruction.Operation.{Operation}
-use Rattle.hep_code.specs.declared.instruction.Operation.TheVariants.{Store, Choose, BySign, Condition, Branch, EnterLoop, Call, Create, Purge, Print}
-use Rattle.hep_code.specs.Words.{arity, operands_passed, operands_shown, operands_of_entry, operands_of_entries, operands_by, operands_before, operands_ahead, line_ahead, line_too_deep, count, evaluating, name_code, asked, asked_listed, asked_listed_code, listed_code, tree_code, trees_code, asked_code}
+use Rattle.hep_code.specs.declared.instruction.Operation.TheVariants.{Store, Choose, BySign, Condition, Branch, EnterLoop, Call, Create, Purge, Print, Refer}
+use Rattle.hep_code.specs.declared.variable.Variable.{Variable}
+use Rattle.hep_code.specs.Words.{actuals_code_in, ending_of, passes, arity, operands_passed, operands_shown, operands_of_entry, operands_of_entries, operands_by, operands_before, operands_ahead, line_ahead, line_too_deep, count, evaluating, name_code, asked, asked_listed, asked_listed_code, listed_code, tree_code, trees_code, asked_code}
 use Rattle.hep_code.specs.Words.{actual_name_code, actual_listed_code, actual_code, actuals_code, argument_of, argument_of_name, argument_of_listed, argument_of_target, target_code, item_code, printed_of, control_code, most_operands, addressed_unit, operands_code, operation_code, conditions_code, loop_end_code}
 use Rattle.hep_code.specs.Words.{statement_code, statements_code, NameTable, Table, AddressedUnit, code_of, table_of}
 use Rattle.hep_image.specs.Places.{addresses_of}
@@ -41,10 +43,11 @@ joined line m behind (i ∷ is) js h k =
     let rest = joined line m behind is js h.2 k in
     (omega (arith, h.0, ap (λ all. operands_ahead (i ∷ all)) e), ap (λ all. line_ahead (i ∷ all)) e ∙ h.1, rest)
 
--- code of a statement with this line that gives so many values, has so many names and constants, and at most so many instructions
+-- code of a statement with this line that gives so many values, has so many names and constants, and with the values at most two
+-- instructions for each of so many parts
 pub record Gives (line : ℕ) (code : List Instruction) (values words parts : ℕ) : Type 0 where
   pub few : values ≤ words
-  pub short : length code ≤ parts
+  pub short : length code + values ≤ 2 * parts
   pub ahead : (behind : List Instruction) → line_ahead behind ≡ line → operands_ahead (code ++ behind) ≡ operands_ahead behind - values
   pub lined : (behind : List Instruction) → line_ahead behind ≡ line → line_ahead (code ++ behind) ≡ line
   pub within : (behind : List Instruction) → line_ahead behind ≡ line → AreWithin line ((operands_ahead behind - values) + words) behind code
@@ -154,21 +157,105 @@ module _ (names : NameTable) (line : ℕ) where
   asked_listed_gives element x ts n k le less g = more le less g
   asked_listed_gives (pure f) x ts n k le less g = nothing
   asked_listed_gives (state f) x ts n k le less g = nothing
-  asked_listed_gives unknown x ts n k le less g = nothing
+  asked_listed_gives external x ts n k le less g = nothing
 
-  listed_gives : (m : Meaning) (x : Name) (ts : Trees) → TreesGive ts → AskedGives ts
-      → Gives line (listed_code names m line x ts (codes ts) (asked_code names line ts)) 1 (1 + in_trees 0 ts) (1 + in_trees 1 ts)
-  listed_gives element x ts g h = evaluated (Load (names.variables x) (count ts)) refl (omega arith) (omega arith) g
-  listed_gives (pure f) x ts g h = evaluated (Apply f (count ts)) refl (omega arith) (omega arith) g
-  listed_gives (state f) x ts g h =
+  -- ---- actual arguments
+
+  abbrev pub passed : Tree → ℕ
+  passed t = operands_passed (argument_of names t)
+
+  abbrev passed_all : Trees → ℕ
+  passed_all no_trees = 0
+  passed_all (trees t ts) = passed t + passed_all ts
+
+  -- how they are passed stands behind the operation, where it counts with their code
+  record ActualGives (value : List Instruction) (t : Tree) : Type 0 where
+    pub gives : Gives line value (passed t) (in_tree 0 t) (in_tree 1 t)
+    pub short : length value + 1 ≤ 2 * in_tree 1 t
+
+  record ActualsGive (ts : Trees) : Type 0 where
+    pub gives : Gives line (actuals_code_in names line ts) (passed_all ts) (in_trees 0 ts) (in_trees 1 ts)
+    pub short : length (actuals_code_in names line ts) + count ts ≤ 2 * in_trees 1 ts
+
+  of_value : (t : Tree) (value : List Instruction) → passed t ≡ 1 → Gives line value 1 (in_tree 0 t) (in_tree 1 t) → ActualGives value t
+  of_value t value same g = record { gives = subst (λ n. Gives line value n (in_tree 0 t) (in_tree 1 t)) (sym same) g; short = g.short }
+
+  passes_ahead : (ts : Trees) (behind : List Instruction) → operands_ahead (passes names ts ++ behind) ≡ operands_ahead behind
+  passes_ahead no_trees behind = refl
+  passes_ahead (trees t ts) behind = passes_ahead ts behind
+
+  passes_lined : (ts : Trees) (behind : List Instruction) → line_ahead (passes names ts ++ behind) ≡ line_ahead behind
+  passes_lined no_trees behind = refl
+  passes_lined (trees t ts) behind = passes_lined ts behind
+
+  passes_take : (ts : Trees) (behind : List Instruction) → operands_of_entries (take (count ts) (passes names ts ++ behind)) ≡ passed_all ts
+  passes_take no_trees behind = refl
+  passes_take (trees t ts) behind = ap (λ n. passed t + n) (passes_take ts behind)
+
+  passes_long : (ts : Trees) → length (passes names ts) ≡ count ts
+  passes_long no_trees = refl
+  passes_long (trees t ts) = ap suc (passes_long ts)
+
+  passes_within : (m : ℕ) (behind : List Instruction) → operands_ahead behind ≤ m → line_ahead behind ≡ line → (ts : Trees) → AreWithin line m behind (passes names ts)
+  passes_within m behind le is no_trees = tt
+  passes_within m behind le is (trees t ts) = (omega (arith, passes_ahead ts behind, le), passes_lined ts behind ∙ is, passes_within m behind le is ts)
+
+  -- a reference of a function of the program
+  referred : (u : ℕ) (ts : Trees) → ActualsGive ts
+      → Gives line (actuals_code_in names line ts ++ (Step line (Refer u (count ts)) ∷ passes names ts)) 1 (1 + in_trees 0 ts) (1 + in_trees 1 ts)
+  referred u ts g =
+      let c = actuals_code_in names line ts in
+      let o = Refer u (count ts) in
+      let last = Step line o ∷ passes names ts in
+      record {
+        few = omega arith;
+        short = omega (arith, length-append c last, g.short, passes_long ts);
+        ahead = λ behind is.
+            omega (arith, ap operands_ahead (append_assoc c last behind), g.gives.ahead (last ++ behind) refl, passes_take ts behind, passes_ahead ts behind);
+        lined = λ behind is. ap line_ahead (append_assoc c last behind) ∙ g.gives.lined (last ++ behind) refl;
+        within = λ behind is.
+            let all = last ++ behind in
+            let m = (operands_ahead behind - 1) + (1 + in_trees 0 ts) in
+            let less : (operands_ahead all - passed_all ts) + in_trees 0 ts ≤ m = omega (arith, passes_take ts behind, passes_ahead ts behind) in
+            let here : operands_ahead all ≤ m = omega (arith, passes_take ts behind, passes_ahead ts behind, g.gives.few) in
+            joined line m behind c last (raised line _ m all c less (g.gives.within all refl)) (here, refl, passes_within m behind (omega arith) is ts);
+      }
+
+  listed_gives : (m : Meaning) (x : Name) (ts : Trees) → TreesGive ts → AskedGives ts → ActualsGive ts
+      → Gives line (listed_code names m line x ts (codes ts) (asked_code names line ts) (actuals_code_in names line ts)) 1 (1 + in_trees 0 ts) (1 + in_trees 1 ts)
+  listed_gives element x ts g h i = evaluated (Load (names.variables x) (count ts)) refl (omega arith) (omega arith) g
+  listed_gives (pure f) x ts g h i = evaluated (Apply f (count ts)) refl (omega arith) (omega arith) g
+  listed_gives (state f) x ts g h i =
       evaluated (Test f (names.variables (asked names ts).0) (asked names ts).1) refl (omega arith) (omega arith) h
-  listed_gives unknown x ts g h = more (omega arith) (omega arith) (pushed no_value)
+  listed_gives external x ts g h i = referred (names.functions x) ts i
+
+  actual_name_gives : (o : Option Value) (x : Name) → Gives line (actual_name_code o) (operands_passed (argument_of_name names o x)) 1 1
+  actual_name_gives None x = nothing
+  actual_name_gives (Some v) x = pushed v
+
+  name_short : (o : Option Value) → length (actual_name_code o) + 1 ≤ 2
+  name_short None = omega arith
+  name_short (Some v) = omega arith
+
+  actual_listed_gives : (m : Meaning) (x : Name) (ts : Trees) (value : List Instruction) → TreesGive ts → Gives line value 1 (1 + in_trees 0 ts) (1 + in_trees 1 ts)
+      → Gives line (actual_listed_code m (codes ts) value) (operands_passed (argument_of_listed names m x (count ts))) (1 + in_trees 0 ts) (1 + in_trees 1 ts)
+  actual_listed_gives element x ts value g h = more (omega arith) (omega arith) g
+  actual_listed_gives (pure f) x ts value g h = h
+  actual_listed_gives (state f) x ts value g h = h
+  actual_listed_gives external x ts value g h = h
+
+  actual_listed_short : (m : Meaning) (ts : Trees) (value : List Instruction) → TreesGive ts → Gives line value 1 (1 + in_trees 0 ts) (1 + in_trees 1 ts)
+      → length (actual_listed_code m (codes ts) value) + 1 ≤ 2 * (1 + in_trees 1 ts)
+  actual_listed_short element ts value g h = omega (arith, g.short)
+  actual_listed_short (pure f) ts value g h = h.short
+  actual_listed_short (state f) ts value g h = h.short
+  actual_listed_short external ts value g h = h.short
 
   mutual
     pub tree_gives : (t : Tree) → Gives line (code t) 1 (in_tree 0 t) (in_tree 1 t)
     tree_gives (constant v) = pushed v
     tree_gives (occurrence p) = name_gives (names.constants p.name) p.name
-    tree_gives (with_list p ts) = listed_gives (names.meanings p.name) p.name ts (trees_give ts) (asked_gives ts)
+    tree_gives (with_list p ts) = listed_gives (names.meanings p.name) p.name ts (trees_give ts) (asked_gives ts) (actuals_in_give ts)
     tree_gives (parenthesized t) = tree_gives t
     tree_gives (signed s t) = let g = tree_gives t in evaluated (Sign s) refl (omega arith) (omega (arith, g.few)) g
     tree_gives (negated t) = let g = tree_gives t in evaluated Not refl (omega arith) (omega (arith, g.few)) g
@@ -189,41 +276,65 @@ module _ (names : NameTable) (line : ℕ) where
     asked_gives (trees (occurrence p) (trees t ts)) = nothing
     asked_gives _ = nothing
 
+    actual_gives : (t : Tree) → ActualGives (actual_code names line t) t
+    actual_gives (occurrence p) = record { gives = actual_name_gives (names.constants p.name) p.name; short = name_short (names.constants p.name) }
+    actual_gives (with_list p ts) =
+        let m = names.meanings p.name in
+        let value = listed_code names m line p.name ts (codes ts) (asked_code names line ts) (actuals_code_in names line ts) in
+        let g = listed_gives m p.name ts (trees_give ts) (asked_gives ts) (actuals_in_give ts) in
+        record { gives = actual_listed_gives m p.name ts value (trees_give ts) g; short = actual_listed_short m ts value (trees_give ts) g }
+    actual_gives (constant v) = of_value (constant v) (code (constant v)) refl (pushed v)
+    actual_gives (parenthesized t) = of_value (parenthesized t) (code t) refl (tree_gives t)
+    actual_gives (signed s t) =
+        let g = tree_gives t in
+        of_value (signed s t) (code (signed s t)) refl (evaluated (Sign s) refl (omega arith) (omega (arith, g.few)) g)
+    actual_gives (negated t) =
+        let g = tree_gives t in
+        of_value (negated t) (code (negated t)) refl (evaluated Not refl (omega arith) (omega (arith, g.few)) g)
+    actual_gives (binary o a b) =
+        let g = both (tree_gives a) (tree_gives b) in
+        of_value (binary o a b) (code (binary o a b)) refl (evaluated (Combine o) refl (omega arith) (omega (arith, g.few)) g)
+
+    actuals_in_give : (ts : Trees) → ActualsGive ts
+    actuals_in_give no_trees = record { gives = nothing; short = omega arith }
+    actuals_in_give (trees t ts) =
+        let g = actual_gives t in
+        let h = actuals_in_give ts in
+        record {
+          gives = both g.gives h.gives;
+          short = omega (arith, length-append (actual_code names line t) (actuals_code_in names line ts), g.short, h.short);
+        }
+
   -- ---- actual arguments, targets and items
 
-  abbrev pub passed : Tree → ℕ
-  passed t = operands_passed (argument_of names t)
-
-  actual_name_gives : (o : Option Value) (x : Name) → Gives line (actual_name_code o) (operands_passed (argument_of_name names o x)) 1 1
-  actual_name_gives None x = nothing
-  actual_name_gives (Some v) x = pushed v
-
-  actual_listed_gives : (m : Meaning) (x : Name) (ts : Trees) (value : List Instruction) → Gives line value 1 (1 + in_trees 0 ts) (1 + in_trees 1 ts)
-      → Gives line (actual_listed_code m (codes ts) value) (operands_passed (argument_of_listed names m x (count ts))) (1 + in_trees 0 ts) (1 + in_trees 1 ts)
-  actual_listed_gives element x ts value g = more (omega arith) (omega arith) (trees_give ts)
-  actual_listed_gives (pure f) x ts value g = g
-  actual_listed_gives (state f) x ts value g = g
-  actual_listed_gives unknown x ts value g = g
-
-  actual_gives : (t : Tree) → Gives line (actual_code names line t) (passed t) (in_tree 0 t) (in_tree 1 t)
-  actual_gives (occurrence p) = actual_name_gives (names.constants p.name) p.name
-  actual_gives (with_list p ts) =
-      let t = with_list p ts in actual_listed_gives (names.meanings p.name) p.name ts (code t) (tree_gives t)
-  actual_gives (constant v) = tree_gives (constant v)
-  actual_gives (parenthesized t) = tree_gives (parenthesized t)
-  actual_gives (signed s t) = tree_gives (signed s t)
-  actual_gives (negated t) = tree_gives (negated t)
-  actual_gives (binary o a b) = tree_gives (binary o a b)
-
   pub actuals_give : (ts : List Tree) → Gives line (actuals_code names line ts) (sum_by passed ts) (1 + in_list 0 ts) (in_list 1 ts)
-  actuals_give ts = more (omega arith) (omega arith) (each_gives (actual_code names line) passed (in_tree 0) (in_tree 1) actual_gives ts)
+  actuals_give ts = more (omega arith) (omega arith) (each_gives (actual_code names line) passed (in_tree 0) (in_tree 1) (λ t. (actual_gives t).gives) ts)
+
+  pub actuals_short : (ts : List Tree) → length (actuals_code names line ts) + length ts ≤ 2 * in_list 1 ts
+  actuals_short [] = omega arith
+  actuals_short (t ∷ ts) =
+      omega (arith, length-append (actual_code names line t) (actuals_code names line ts), sum_by-cons (in_tree 1) t ts, (actual_gives t).short, actuals_short ts)
 
   pub target_gives : (t : Target) → Gives line (target_code names line t) (count (trees_of t.subscripts)) (in_target 0 t) (in_target 1 t)
   target_gives t = more (omega (arith, list_is 0 t.subscripts)) (omega (arith, list_is 1 t.subscripts)) (trees_give (trees_of t.subscripts))
 
+  pub targets_short : (xs : List Target) → length (flat_map (target_code names line) xs) + length xs ≤ 2 * sum_by (in_target 1) xs
+  targets_short [] = omega arith
+  targets_short (x ∷ xs) =
+      omega (arith, length-append (target_code names line x) (flat_map (target_code names line) xs), sum_by-cons (in_target 1) x xs, list_is 1 x.subscripts, (trees_give (trees_of x.subscripts)).short, targets_short xs)
+
   item_gives : (i : PrintItem) → Gives line (item_code names line i) (operands_shown (printed_of i)) (in_item 0 i) (in_item 1 i)
   item_gives (item.Expression t) = tree_gives t
   item_gives (item.Characters cs) = nothing
+
+  item_short : (i : PrintItem) → length (item_code names line i) + 1 ≤ 2 * in_item 1 i
+  item_short (item.Expression t) = (tree_gives t).short
+  item_short (item.Characters cs) = omega arith
+
+  pub items_short : (is : List PrintItem) → length (flat_map (item_code names line) is) + length is ≤ 2 * sum_by (in_item 1) is
+  items_short [] = omega arith
+  items_short (i ∷ is) =
+      omega (arith, length-append (item_code names line i) (flat_map (item_code names line) is), sum_by-cons (in_item 1) i is, item_short i, items_short is)
 
   -- where a DO has no increment, its variable counts for the 1
   increment_gives : (o : Option Tree) → Gives line (code (increment_of o)) 1 (1 + in_optional 0 o) (1 + in_optional 1 o)
@@ -296,16 +407,21 @@ purging names t = Pass (argument_of_target names t)
 abbrev pub showing : PrintItem → Instruction
 showing i = Show (printed_of i)
 
+-- in front of one there are no more operands than behind it
 abbrev AreEntries : {A : Type 0} → (A → Instruction) → Type 0
-AreEntries {A = A} entry = (x : A) (n : ℕ) (is : List Instruction) → operands_before (entry x) n is ≡ 0
+AreEntries {A = A} entry = (x : A) (is : List Instruction) → line_too_deep (entry x ∷ is) ≡ line_too_deep is
+
+pass_told : (a : Argument) (is : List Instruction) → line_too_deep (Pass a ∷ is) ≡ line_too_deep is
+pass_told a [] = refl
+pass_told a (i ∷ is) = by_test (nat_lt most_operands (operands_ahead (i ∷ is))) (Some (line_ahead (i ∷ is))) (line_too_deep is) where
+  by_test : (t : Bool) (here rest : Option ℕ) → (if t then here else (if t then here else rest)) ≡ (if t then here else rest)
+  by_test true here rest = refl
+  by_test false here rest = refl
 
 entries_told : {A : Type 0} (entry : A → Instruction) → AreEntries entry → (xs : List A) (behind : List Instruction)
     → line_too_deep (map entry xs ++ behind) ≡ line_too_deep behind
 entries_told entry h [] behind = refl
-entries_told entry h (x ∷ xs) behind =
-    let is = map entry xs ++ behind in
-    let here = h x (operands_ahead is) is in
-    ap (λ n. if nat_lt most_operands n then Some (line_ahead (entry x ∷ is)) else line_too_deep is) here ∙ entries_told entry h xs behind
+entries_told entry h (x ∷ xs) behind = h x (map entry xs ++ behind) ∙ entries_told entry h xs behind
 
 entries_take : {A : Type 0} (entry : A → Instruction) (xs : List A) (behind : List Instruction)
     → operands_of_entries (take (length xs) (map entry xs ++ behind)) ≡ sum_by (λ x. operands_of_entry (entry x)) xs
@@ -326,6 +442,11 @@ module _ (table : Table) where
       let first = line_too_deep (c ++ Step line o ∷ all) in
       subst (IsTold line w first) (entries_told entry h xs behind) (performed line o all g same)
 
+  -- the end of an activation takes no operands
+  ending_told : (line : ℕ) (o : Option Variable) (behind : List Instruction) → line_too_deep (Step line (ending_of o) ∷ behind) ≡ line_too_deep behind
+  ending_told line None behind = refl
+  ending_told line (Some x) behind = refl
+
   abbrev FormTold : ℕ → ℕ → Form → List Instruction → Type 0
   FormTold line k f behind =
       let all = operands_code table line f ++ (operation_code table line k f ++ behind) in
@@ -338,7 +459,7 @@ module _ (table : Table) where
       performed line o behind (more {q = in_form 1 (form.Assign x t)} (omega arith) (omega arith) g) refl
   form_told line k (form.ComputedGoTo labels t) behind =
       let o = Choose (length labels) (table.flows k).next in
-      listed_told line o (leading table) (λ l n is. refl) labels behind (tree_gives table.names line t) refl
+      listed_told line o (leading table) (λ l is. refl) labels behind (tree_gives table.names line t) refl
   form_told line k (form.ArithmeticIf t labels) behind =
       let o = BySign (table.labels labels.negative) (table.labels labels.zero) (table.labels labels.positive) in
       performed line o behind (tree_gives table.names line t) refl
@@ -353,18 +474,20 @@ module _ (table : Table) where
   form_told line k (form.Call p ts) behind =
       let o = Call (table.subroutines p.name) (length ts) (table.flows k).next in
       let entry = passing table.names in
-      listed_told line o entry (λ t n is. refl) ts behind (actuals_give table.names line ts) (entries_take entry ts behind)
+      listed_told line o entry (λ t is. pass_told (argument_of table.names t) is) ts behind (actuals_give table.names line ts) (entries_take entry ts behind)
   form_told line k (form.Create p ts) behind =
       let o = Create (table.subroutines p.name) (length ts) (table.flows k).next in
       let entry = passing table.names in
-      listed_told line o entry (λ t n is. refl) ts behind (actuals_give table.names line ts) (entries_take entry ts behind)
+      listed_told line o entry (λ t is. pass_told (argument_of table.names t) is) ts behind (actuals_give table.names line ts) (entries_take entry ts behind)
   form_told line k (form.Purge targets) behind =
       let o = Purge (length targets) (table.flows k).next in
       let entry = purging table.names in
-      listed_told line o entry (λ t n is. refl) targets behind (targets_give table.names line targets) (entries_take entry targets behind)
+      listed_told line o entry (λ t is. pass_told (argument_of_target table.names t) is) targets behind (targets_give table.names line targets) (entries_take entry targets behind)
   form_told line k (form.Print items) behind =
       let o = Print (length items) (table.flows k).next in
-      listed_told line o showing (λ i n is. refl) items behind (items_give table.names line items) (entries_take showing items behind)
+      listed_told line o showing (λ i is. refl) items behind (items_give table.names line items) (entries_take showing items behind)
+  form_told line k form.Return behind = inl (ending_told line table.result behind)
+  form_told line k form.End behind = inl (ending_told line table.result behind)
   form_told line k _ behind = inl refl
 
   conditions_told : (line k : ℕ) (ts : List Tree) (f : Form) (behind : List Instruction)
@@ -403,7 +526,7 @@ module _ (table : Table) where
 
   statements_long : (k : ℕ) (ss : List Statement) (line : ℕ)
       → line_too_deep (statements_code table k ss) ≡ Some line → HasLongStatement ss line
-  statements_long k [] line e = absurd (none-some line e)
+  statements_long k [] line e = absurd (none-some line (sym (ending_told 0 table.result []) ∙ e))
   statements_long k (s ∷ ss) line e = elim (statement_told k s (statements_code table (suc k) ss)) [
     | inl same ↦ later s ss line (statements_long (suc k) ss line (sym same ∙ e))
     | inr here ↦ (0, s, refl, same_Some s.line line (sym here.0 ∙ e), here.1)

@@ -3,7 +3,7 @@ use Rattle.std.proofs.Common.{◌≡◌, ◌∙◌, ℕ, ◌<◌, List, [], Opti
 use Rattle.std.proofs.lemmas.Option.{slice_get_read}
 use Rattle.indexmap.specs.IndexMap.{get}
 use Rattle.std.specs.Option.{unwrap_or}
-use Rattle.hep_machine.specs.Words.{Name, Statement, name_eq, Units, main_unit, unit_at, common_cells, frame_cells, unit_called}
+use Rattle.hep_machine.specs.Words.{Name, Statement, name_eq, Units, main_unit, unit_at, common_cells, frame_cells, function_unit, unit_called}
 use Rattle.hep_code.specs.Words.{most_instructions, addressed_unit, code_of}
 use Rattle.hep_image.specs.declared.array.Array.{Array}
 use Rattle.hep_image.specs.Image.{most_cells}
@@ -24,7 +24,7 @@ use Rattle.hep_lower.proofs.Counts.{as-many}
 module _ (program : Units) (u : ℕ) (unit : List Statement) (places : Placement) (same : unit ≡ unit_at program u)
     (variables : (x : Name) → variable_in places x ≡ variable_of program (unit_at program u) x) (loops : (d : ℕ) → cells_in places d ≡ loop_cells (unit_at program u) d) where
   pub addressed-is : addressed_by unit places program ≡ addressed_unit program (addresses_of program) u
-  addressed-is = λ i. record { unit = same i; variables = λ x. variables x i; cells = λ d. loops d i; subroutines = unit_called program }
+  addressed-is = λ i. record { unit = same i; variables = λ x. variables x i; cells = λ d. loops d i; subroutines = unit_called program; functions = function_unit program }
 
   pub code-there : code_of (addressed_by unit places program) ≡ code_in program u
   code-there = ap code_of addressed-is

@@ -81,6 +81,7 @@ module _ (operator : ℕ) where
   abbrev pub in_form : Form → ℕ
   in_form (form.Program p) = 1
   in_form (form.Subroutine p dummies) = 1 + length dummies
+  in_form (form.Function t p dummies) = 1 + length dummies
   in_form (form.Declare t ds) = sum_by in_declarator ds
   in_form (form.Dimension ds) = sum_by in_declarator ds
   in_form (form.Common blocks) = sum_by in_block blocks

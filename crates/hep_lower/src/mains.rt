@@ -5,12 +5,12 @@ ghost use Rattle.hep_source.specs.Units as units;
 use hep_source::{Form, Statement, Unit};
 
 fn is_main(unit: &Unit) -> bool
-    ensures { result ≡ units.is_main (units.subroutine_name unit.now) }
+    ensures { result ≡ units.is_main (units.procedure_name unit.now) }
 {
     match unit.as_slice().first() {
         Some(
             Statement {
-                form: Form::Subroutine(_, _),
+                form: Form::Subroutine(_, _) | Form::Function(_, _, _),
                 ..
             },
         ) => false,

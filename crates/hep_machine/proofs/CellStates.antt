@@ -1,7 +1,7 @@
 -- Which storage units a step leaves as full as they were.
 use Rattle.std.proofs.Common.{◌≡◌, ℕ, Bool, true, false, List, [], ◌∷◌, Option, Some, None, Result, Ok, Err, refl, sym, ap, ◌∙◌, ℤ, ◌+ℤ◌}
 use Rattle.hep_machine.specs.declared.event.Kind.{Kind}
-use Rattle.hep_machine.specs.Words.{Process, state_resumed, StateFunction, IsFull, IsEmpty, ValueOf, SetEmpty, WaitFull, Name, Statement, Value, Int, Outcome, reading_asynchronous, setting_empty, waiting_full, integer_of, integer_or_overflow, signed_value, negated_value, combined_value, function_value, Binding, binding_for}
+use Rattle.hep_machine.specs.Words.{Process, evaluating, referring, resuming, function_name, function_unit, result_after_leaving, result_after_result, result_after_value, state_resumed, StateFunction, IsFull, IsEmpty, ValueOf, SetEmpty, WaitFull, Name, Statement, Value, Int, Outcome, reading_asynchronous, setting_empty, waiting_full, integer_of, integer_or_overflow, signed_value, negated_value, combined_value, function_value, Binding, binding_for}
 use Rattle.hep_machine.specs.Words.{binding_with_shapes, with_store, with_shapes, with_actual, with_actuals, dummies_for, level_after_statement, variable_of, Redex, signing, negating, combining, applying, testing, Actual, evaluated, referred, Action, assigning, jumping, choosing, branching, testing_condition}
 use Rattle.hep_machine.specs.Words.{entering_block, entering_loop, ending_loop, calling, creating, purging, printing, continuing, leaving, resuming, stopping, Next, wants, does, KeepsStatesBut, purges, top_purges, is_purge, Scope, location_of_name, Dummy, Level, Loop, State, Location, local, common, Cell, Store, Answer, fails}
 use Rattle.hep_machine.specs.Words.{by_result, answer_at, answer_of_read, answer_of_read_at, answer_of_test, answer_of_test_at, answer_of, Top, unit_on_top, scope_of, result_after_answer, written, result_after_write, result_after_store, result_after_assignment, iterations, result_after_do, result_after_increment}
@@ -160,6 +160,18 @@ kept-binding_of : (program : Units) (t : Top) (u : ℕ) (ys : List Actual) → B
 kept-binding_of program t u ys =
     kept-binding_for (scope_of program t.state t.level.activation) t.state.store (unit_at program u) (next_activation t.state) ys
 
+kept-value : (program : Units) (t : Top) (v : Option Value) → Makes (Kept t) (result_after_value program t v)
+kept-value program t None = keeps_all t.state.store
+kept-value program t (Some v) = keeps_all t.state.store
+
+kept-result : (program : Units) (t : Top) (at : Result Location Kind) → Makes (Kept t) (result_after_result program t at)
+kept-result program t (Err k) = keeps_all t.state.store
+kept-result program t (Ok at) = kept-value program t (t.state.store at).value
+
+kept-leaving : (program : Units) (t : Top) (x : Option Name) → Makes (Kept t) (result_after_leaving program t x)
+kept-leaving program t None = keeps_all t.state.store
+kept-leaving program t (Some x) = kept-result program t (location_of_name (scope_of program t.state t.level.activation) x [])
+
 kept-resumed : (program : Units) (t : Top) (below : Process) → Kept t (state_resumed program t below)
 kept-resumed program t [] = keeps_all t.state.store
 kept-resumed program t (caller ∷ callers) = keeps_all t.state.store
@@ -180,12 +192,13 @@ kept-action program t (creating x actuals) h = kept-result_after_create program 
 kept-action program t (purging targets) h = absurd cc
 kept-action program t (printing items) h = keeps_all t.state.store
 kept-action program t continuing h = keeps_all t.state.store
-kept-action program t leaving h = keeps_all t.state.store
+kept-action program t leaving h = kept-leaving program t (function_name (unit_on_top program t))
 kept-action program t resuming h = kept-resumed program t t.below
 kept-action program t stopping h = keeps_all t.state.store
 
 kept-next : (program : Units) (t : Top) (n : Next) → purges n ≡ false → Makes (Kept t) (result_after_next program t n)
-kept-next program t (wants r) h =
+kept-next program t (wants (referring x actuals)) h = kept-result_after_call program t (function_unit program x) _ (kept-binding_of program t (function_unit program x) actuals)
+kept-next program t (wants (evaluating r)) h =
     kept-result_after_answer program t (answer_of (scope_of program t.state t.level.activation) t.state.store r) (
     kept-answer (scope_of program t.state t.level.activation) t.state.store r)
 kept-next program t (does a) h = kept-action program t a h

@@ -2,8 +2,8 @@
 use Rattle.std.proofs.Common.{◌≡◌, ℕ, Bool, true, false, List, [], ◌∷◌, ◌++◌, Option, Some, None, Result, Ok, Err, refl, sym, ◌∙◌, ap, subst, ℤ, ◌+ℤ◌, ◌-ℤ◌, if◌then◌else◌, int_lt, pos}
 use Rattle.std.proofs.lemmas.Option.{same_Some, none-some}
 use Rattle.hep_machine.specs.declared.event.Kind.{Kind}
-use Rattle.hep_machine.specs.Words.{Statement, Value, state_resumed, integer_of, logical_of, integer_or_overflow, Binding, level_at_end_of, level_after_statement, level_at_choice, label_chosen, level_after_condition, level_in_block, level_in_range, level_after_loop, terminal_of, loops_around, loops_ending_at, variable_of, Action}
-use Rattle.hep_machine.specs.Words.{assigning, jumping, choosing, branching, testing_condition, entering_block, entering_loop, ending_loop, calling, creating, purging, printing, continuing, leaving, resuming, stopping, Next, wants, does, next_of, activations_on, location_of_name, Activation, Level, Loop, Process, State}
+use Rattle.hep_machine.specs.Words.{Name, Statement, Value, Sought, evaluating, referring, resuming, function_name, function_unit, result_after_leaving, result_after_result, result_after_value, stack_after_value, state_resumed, integer_of, logical_of, integer_or_overflow, Binding, level_at_end_of, level_after_statement, level_at_choice, label_chosen, level_after_condition, level_in_block, level_in_range, level_after_loop, terminal_of, loops_around, loops_ending_at, variable_of, Action}
+use Rattle.hep_machine.specs.Words.{assigning, jumping, choosing, branching, testing_condition, entering_block, entering_loop, ending_loop, calling, creating, purging, printing, continuing, leaving, stopping, Next, wants, does, next_of, activations_on, location_of_name, Activation, Level, Loop, Process, State}
 use Rattle.hep_machine.specs.Words.{Location, Store, Answer, fails, answer_of, StepResult, stepped, waiting, absent, Top, unit_on_top, scope_of, result_after_answer, answer_at, written, result_after_write, result_after_store, result_after_assignment, store_after_purge, result_after_purge, iterations, level_after_count}
 use Rattle.hep_machine.specs.Words.{state_after_count, result_after_do, result_after_increment, result_after_loop_variable, result_after_loop_end, entry_level, next_activation, result_after_call, result_after_create, unit_called, binding_of, stack_after_return, result_after_action, result_after_next}
 use Rattle.hep_machine.specs.Words.{step_result_of_top, step_result_of, state_made, step, Units, unit_at, living, with_numbered, unit_of, loop_at, with_loop}
@@ -134,7 +134,23 @@ pub on-stack_after_return : (program : Units) (s : State) (below : Process) → 
 on-stack_after_return program s [] = refl
 on-stack_after_return program s (level ∷ levels) = ap (λ a. a ∷ activations_on levels) (stays-level_after_statement (unit_at program (unit_of s level.activation)) level)
 
--- ---- RESUME
+-- ---- the end of a function, and RESUME
+
+pub on-stack_after_value : (program : Units) (s : State) (v : Value) (below : Process) → activations_on (stack_after_value program s v below) ≡ activations_on below
+on-stack_after_value program s v [] = refl
+on-stack_after_value program s v (level ∷ levels) = refl
+
+makes-value : (program : Units) (t : Top) (v : Option Value) → Makes (Change t) (result_after_value program t v)
+makes-value program t None = faults refl refl
+makes-value program t (Some v) = leaves (stack_after_value program t.state v t.below) (on-stack_after_value program t.state v t.below) refl refl
+
+makes-result : (program : Units) (t : Top) (at : Result Location Kind) → Makes (Change t) (result_after_result program t at)
+makes-result program t (Err k) = faults refl refl
+makes-result program t (Ok at) = makes-value program t (t.state.store at).value
+
+makes-leaving : (program : Units) (t : Top) (x : Option Name) → Makes (Change t) (result_after_leaving program t x)
+makes-leaving program t None = leaves (stack_after_return program t.state t.below) (on-stack_after_return program t.state t.below) refl refl
+makes-leaving program t (Some x) = makes-result program t (location_of_name (scope_of program t.state t.level.activation) x [])
 
 change-resumed : (program : Units) (t : Top) (below : Process) → t.below ≡ below → Change t (state_resumed program t below)
 change-resumed program t [] is = another_top t _ _ (stays-level_after_statement (unit_on_top program t) t.level) refl refl
@@ -159,12 +175,13 @@ makes-action program t (creating x actuals) = makes-result_after_create program 
 makes-action program t (purging targets) = makes-purge program t (store_after_purge (scope_of program t.state t.level.activation) targets t.state.store)
 makes-action program t (printing items) = another_top t _ _ (stays-level_after_statement (unit_on_top program t) t.level) refl refl
 makes-action program t continuing = another_top t _ _ (stays-level_after_statement (unit_on_top program t) t.level) refl refl
-makes-action program t leaving = leaves (stack_after_return program t.state t.below) (on-stack_after_return program t.state t.below) refl refl
+makes-action program t leaving = makes-leaving program t (function_name (unit_on_top program t))
 makes-action program t resuming = change-resumed program t t.below refl
 makes-action program t stopping = stops refl refl
 
 makes-next : (program : Units) (t : Top) (n : Next) → Makes (Change t) (result_after_next program t n)
-makes-next program t (wants r) = makes-answer program t (answer_of (scope_of program t.state t.level.activation) t.state.store r)
+makes-next program t (wants (evaluating r)) = makes-answer program t (answer_of (scope_of program t.state t.level.activation) t.state.store r)
+makes-next program t (wants (referring x actuals)) = makes-result_after_call program t (function_unit program x) (binding_of program t (function_unit program x) actuals)
 makes-next program t (does a) = makes-action program t a
 
 -- ---- a step

@@ -23,8 +23,9 @@ use Rattle.hep_source.specs.Units.{dummies_of, Units}
 abbrev pub names_declared : List Declarator → List Name
 names_declared ds = map (λ (d : Declarator). d.occurrence.name) ds
 
--- the type that a type statement gives a name
+-- the type that a type statement gives a name, and a header with a type the function (15.5.1)
 abbrev pub type_by_statement : Name → Form → Option ValueType
+type_by_statement x (form.Function (Some t) p ds) = if same_name p.name x then Some t else None
 type_by_statement x (form.Declare t ds) = if is_among x (names_declared ds) then Some t else None
 type_by_statement x _ = None
 

@@ -19,9 +19,20 @@ use Rattle.hep_source.specs.declared.statement.Statement.{Statement}
 use Rattle.hep_source.specs.declared.value.Value.{Value}
 use Rattle.hep_source.specs.declared.value.Value.TheVariants as value
 use Rattle.hep_machine.specs.Constants.{constant_value}
-use Rattle.hep_machine.specs.Functions.{Meaning, element, pure, state, unknown, listed_meaning}
+use Rattle.hep_machine.specs.Functions.{Meaning, element, pure, state, external, listed_meaning}
 use Rattle.hep_machine.specs.State.{Work, doing, ending}
 use Rattle.hep_machine.specs.Defaults.{no_value, no_name}
+
+-- ---- actual arguments: 15.9.2 and 15.9.3
+
+-- a variable, an array or an element: its name with the values of its subscripts
+abbrev pub Reference : Type 0
+Reference = Name × List Value
+
+-- an expression by its value; a variable, an element or a whole array by its location, which isn't read
+pub data Actual : Type 0 where
+  evaluated : (v : Value) → Actual
+  referred : (reference : Reference) → Actual
 
 -- ---- redexes: docs/MACHINE.md, "Evaluation"
 
@@ -34,10 +45,15 @@ pub data Redex : Type 0 where
   applying : (f : PureFunction) (arguments : List Value) → Redex
   testing : (f : StateFunction) (reference : Name × List Value) → Redex
 
+-- what a part wants first: the value of a redex, or that of a function, to which these actual arguments are given
+pub data Sought : Type 0 where
+  evaluating : (r : Redex) → Sought
+  referring : (x : Name) (actuals : List Actual) → Sought
+
 -- what a part is so far: a whole, or one that has a first redex
 pub data Part (A : Type 0) : Type 0 where
   whole : (x : A) → Part A
-  first_redex : (r : Redex) → Part A
+  first_redex : (r : Sought) → Part A
 
 -- parts in a row: the first redex is that of the first one that has one
 abbrev pub then_part : {A B C : Type 0} → (A → B → C) → Part A → Part B → Part C
@@ -51,26 +67,27 @@ mapped_part f (first_redex r) = first_redex r
 
 -- a part whose operands are all values is a redex; else its first redex is one of an operand
 abbrev pub redex_of : {A B : Type 0} → (A → Redex) → Part A → Part B
-redex_of f (whole x) = first_redex (f x)
+redex_of f (whole x) = first_redex (evaluating (f x))
 redex_of f (first_redex r) = first_redex r
 
 -- ---- expressions: operands from left to right (6.6)
 
--- a variable, an array or an element: its name with the values of its subscripts
-abbrev pub Reference : Type 0
-Reference = Name × List Value
-
 -- named constants are values
 abbrev pub part_of_name : Option Value → Name → Part Value
-part_of_name None x = first_redex (reading (x, []))
+part_of_name None x = first_redex (evaluating (reading (x, [])))
 part_of_name (Some v) x = whole v
 
--- a name with a list by what it is: its list as operands, and as the argument of FULL, EMPTY, VALUE, SETE or WAITF
-abbrev pub part_of_listed : Meaning → Name → Part (List Value) → Part Reference → Part Value
-part_of_listed element x vs r = redex_of (λ subscripts. reading (x, subscripts)) vs
-part_of_listed (pure f) x vs r = redex_of (applying f) vs
-part_of_listed (state f) x vs r = redex_of (testing f) r
-part_of_listed unknown x vs r = whole no_value
+-- a reference of a function whose actual arguments are evaluated
+abbrev pub reference_part : Name → Part (List Actual) → Part Value
+reference_part x (whole actuals) = first_redex (referring x actuals)
+reference_part x (first_redex r) = first_redex r
+
+-- a name with a list by what it is: its list as operands, as the argument of FULL, EMPTY, VALUE, SETE or WAITF, and as actual arguments
+abbrev pub part_of_listed : Meaning → Name → Part (List Value) → Part Reference → Part (List Actual) → Part Value
+part_of_listed element x vs r ys = redex_of (λ subscripts. reading (x, subscripts)) vs
+part_of_listed (pure f) x vs r ys = redex_of (applying f) vs
+part_of_listed (state f) x vs r ys = redex_of (testing f) r
+part_of_listed external x vs r ys = reference_part x ys
 
 -- the argument of FULL, EMPTY, VALUE, SETE or WAITF that has a list is an element
 abbrev pub reference_of_listed : Meaning → Name → Part (List Value) → Part Reference
@@ -80,11 +97,19 @@ reference_of_listed _ x vs = whole (no_name, [])
 abbrev pub combined : Operator → Value × Value → Redex
 combined o both = combining o both.0 both.1
 
+abbrev pub actual_of_name : Option Value → Name → Part Actual
+actual_of_name None x = whole (referred (x, []))
+actual_of_name (Some v) x = whole (evaluated v)
+
+abbrev pub actual_of_listed : Meaning → Name → Part (List Value) → Part Value → Part Actual
+actual_of_listed element x vs v = mapped_part (λ subscripts. referred (x, subscripts)) vs
+actual_of_listed m x vs v = mapped_part evaluated v
+
 abbrev mutual
   pub part_of : List Statement → Tree → Part Value
   part_of unit (constant v) = whole v
   part_of unit (occurrence p) = part_of_name (constant_value unit p.name) p.name
-  part_of unit (with_list p ts) = part_of_listed (listed_meaning unit p.name) p.name (parts_of unit ts) (reference_of unit ts)
+  part_of unit (with_list p ts) = part_of_listed (listed_meaning unit p.name) p.name (parts_of unit ts) (reference_of unit ts) (actuals_in unit ts)
   part_of unit (parenthesized t) = part_of unit t
   part_of unit (signed s t) = redex_of (signing s) (part_of unit t)
   part_of unit (negated t) = redex_of negating (part_of unit t)
@@ -99,6 +124,22 @@ abbrev mutual
   reference_of unit (trees (with_list p ts) no_trees) = reference_of_listed (listed_meaning unit p.name) p.name (parts_of unit ts)
   reference_of unit _ = whole (no_name, [])
 
+  -- an actual argument: 15.9.2 and 15.9.3
+  pub actual_of : List Statement → Tree → Part Actual
+  actual_of unit (constant v) = whole (evaluated v)
+  actual_of unit (occurrence p) = actual_of_name (constant_value unit p.name) p.name
+  actual_of unit (with_list p ts) =
+      actual_of_listed (listed_meaning unit p.name) p.name (parts_of unit ts) (
+      part_of_listed (listed_meaning unit p.name) p.name (parts_of unit ts) (reference_of unit ts) (actuals_in unit ts))
+  actual_of unit (parenthesized t) = mapped_part evaluated (part_of unit t)
+  actual_of unit (signed s t) = mapped_part evaluated (redex_of (signing s) (part_of unit t))
+  actual_of unit (negated t) = mapped_part evaluated (redex_of negating (part_of unit t))
+  actual_of unit (binary o a b) = mapped_part evaluated (redex_of (combined o) (then_part (λ v w. (v, w)) (part_of unit a) (part_of unit b)))
+
+  pub actuals_in : List Statement → Trees → Part (List Actual)
+  actuals_in unit no_trees = whole []
+  actuals_in unit (trees t ts) = then_part (λ x xs. x ∷ xs) (actual_of unit t) (actuals_in unit ts)
+
 -- an expression whose operands are all values is a redex itself, and becomes the value that it gives
 abbrev pub plugged : {A : Type 0} → Part A → Tree → Value → Tree
 plugged (whole x) t v = constant v
@@ -108,11 +149,16 @@ abbrev pub plugged_first : {A B : Type 0} → Part A → B → B → B
 plugged_first (first_redex r) first second = first
 plugged_first (whole x) first second = second
 
-abbrev pub plugged_listed : Meaning → Part (List Value) → Part Reference → Tree → Value → Tree
-plugged_listed element vs r t v = plugged vs t v
-plugged_listed (pure f) vs r t v = plugged vs t v
-plugged_listed (state f) vs r t v = plugged r t v
-plugged_listed unknown vs r t v = constant v
+abbrev pub plugged_listed : Meaning → Part (List Value) → Part Reference → Part (List Actual) → Tree → Value → Tree
+plugged_listed element vs r ys t v = plugged vs t v
+plugged_listed (pure f) vs r ys t v = plugged vs t v
+plugged_listed (state f) vs r ys t v = plugged r t v
+plugged_listed external vs r ys t v = plugged ys t v
+
+-- the list of a name by what it is: as actual arguments, or as operands
+abbrev pub plugged_arguments : Meaning → Trees → Trees → Trees
+plugged_arguments external actuals operands = actuals
+plugged_arguments _ actuals operands = operands
 
 abbrev mutual
   -- the expression with a value in the place of its first redex
@@ -120,7 +166,8 @@ abbrev mutual
   plug unit (constant x) v = constant x
   plug unit (occurrence p) v = constant v
   plug unit (with_list p ts) v =
-      plugged_listed (listed_meaning unit p.name) (parts_of unit ts) (reference_of unit ts) (with_list p (plug_all unit ts v)) v
+      plugged_listed (listed_meaning unit p.name) (parts_of unit ts) (reference_of unit ts) (actuals_in unit ts) (
+      with_list p (plugged_arguments (listed_meaning unit p.name) (plug_actuals_in unit ts v) (plug_all unit ts v))) v
   plug unit (parenthesized t) v = parenthesized (plug unit t v)
   plug unit (signed s t) v = plugged (part_of unit t) (signed s (plug unit t v)) v
   plug unit (negated t) v = plugged (part_of unit t) (negated (plug unit t v)) v
@@ -131,6 +178,10 @@ abbrev mutual
   plug_all unit no_trees v = no_trees
   plug_all unit (trees t ts) v = plugged_first (part_of unit t) (trees (plug unit t v) ts) (trees t (plug_all unit ts v))
 
+  pub plug_actuals_in : List Statement → Trees → Value → Trees
+  plug_actuals_in unit no_trees v = no_trees
+  plug_actuals_in unit (trees t ts) v = plugged_first (actual_of unit t) (trees (plug unit t v) ts) (trees t (plug_actuals_in unit ts v))
+
 -- ---- lists of expressions: 5.4 and 15.9.2
 
 abbrev pub list_part : List Statement → List Tree → Part (List Value)
@@ -140,29 +191,10 @@ abbrev pub plug_list : List Statement → List Tree → Value → List Tree
 plug_list unit [] v = []
 plug_list unit (t ∷ ts) v = plugged_first (part_of unit t) (plug unit t v ∷ ts) (t ∷ plug_list unit ts v)
 
--- ---- actual arguments: 15.9.2 and 15.9.3
-
--- an expression by its value; a variable, an element or a whole array by its location, which isn't read
-pub data Actual : Type 0 where
-  evaluated : (v : Value) → Actual
-  referred : (reference : Reference) → Actual
-
-abbrev pub actual_of_name : Option Value → Name → Part Actual
-actual_of_name None x = whole (referred (x, []))
-actual_of_name (Some v) x = whole (evaluated v)
-
-abbrev pub actual_of_listed : Meaning → Name → Part (List Value) → Part Value → Part Actual
-actual_of_listed element x vs v = mapped_part (λ subscripts. referred (x, subscripts)) vs
-actual_of_listed m x vs v = mapped_part evaluated v
-
-abbrev pub actual_of : List Statement → Tree → Part Actual
-actual_of unit (occurrence p) = actual_of_name (constant_value unit p.name) p.name
-actual_of unit (with_list p ts) = actual_of_listed (listed_meaning unit p.name) p.name (parts_of unit ts) (part_of unit (with_list p ts))
-actual_of unit t = mapped_part evaluated (part_of unit t)
+-- ---- actual arguments of CALL and CREATE: 15.9.2 and 15.9.3
 
 abbrev pub actuals_of : List Statement → List Tree → Part (List Actual)
-actuals_of unit [] = whole []
-actuals_of unit (t ∷ ts) = then_part (λ x xs. x ∷ xs) (actual_of unit t) (actuals_of unit ts)
+actuals_of unit ts = actuals_in unit (trees_of ts)
 
 abbrev pub plug_actuals : List Statement → List Tree → Value → List Tree
 plug_actuals unit [] v = []
@@ -245,7 +277,7 @@ pub data Action : Type 0 where
 
 -- what comes next of a statement
 pub data Next : Type 0 where
-  wants : (r : Redex) → Next
+  wants : (r : Sought) → Next
   does : (a : Action) → Next
 
 abbrev pub next_by : {A : Type 0} → (A → Action) → Part A → Next

@@ -1,5 +1,5 @@
 -- The functions that are there without a declaration: X3.9-1978, 15.10, and docs/LANGUAGE.md, 8.
-use Rattle.std.specs.Prelude.{ℕ, if◌then◌else◌, codes, List, [], ◌∷◌, Option, Some, None}
+use Rattle.std.specs.Prelude.{ℕ, Bool, true, false, if◌then◌else◌, codes, List, [], ◌∷◌, Option, Some, None}
 use Rattle.hep_source.specs.declared.function.PureFunction.{PureFunction}
 use Rattle.hep_source.specs.declared.function.PureFunction.TheVariants.{AbsoluteValue, Remainder, TransferOfSign, PositiveDifference, Largest, Smallest}
 use Rattle.hep_source.specs.declared.function.StateFunction.{StateFunction}
@@ -23,21 +23,26 @@ pure_functions =
 abbrev pub state_functions : List (List ℕ × StateFunction)
 state_functions = (codes "FULL", IsFull) ∷ (codes "EMPTY", IsEmpty) ∷ (codes "VALUE", ValueOf) ∷ (codes "SETE", SetEmpty) ∷ (codes "WAITF", WaitFull) ∷ []
 
--- ---- what a name with a list is: an element of the unit's array, or a reference of a function (5.3 and 15.3)
+-- ---- what a name with a list is: an element of the unit's array, a reference of one of these functions, or else one of a FUNCTION of the
+-- program, if there is one (5.3, 15.3 and 15.5)
 
 pub data Meaning : Type 0 where
   element : Meaning
   pure : (f : PureFunction) → Meaning
   state : (f : StateFunction) → Meaning
-  unknown : Meaning
+  external : Meaning
 
 abbrev pub by_pure_function : Option PureFunction → Option StateFunction → Meaning
 by_pure_function (Some f) o = pure f
 by_pure_function None (Some f) = state f
-by_pure_function None None = unknown
+by_pure_function None None = external
 
 abbrev pub function_named : Name → Meaning
 function_named x = by_pure_function (word_in pure_functions (spelling x)) (word_in state_functions (spelling x))
+
+abbrev pub is_external : Meaning → Bool
+is_external external = true
+is_external _ = false
 
 abbrev pub listed_meaning : List Statement → Name → Meaning
 listed_meaning unit x = if is_array unit x then element else function_named x

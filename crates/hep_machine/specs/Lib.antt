@@ -3,6 +3,7 @@ pub mod Declarations
 pub mod Functions
 pub mod Shapes
 pub mod Constants
+pub mod Listed
 pub mod Variables
 pub mod Access
 pub mod State

@@ -17,12 +17,12 @@ use Rattle.hep_machine.specs.Arithmetic.{integer_of, logical_of, integer_or_over
 use Rattle.hep_machine.specs.Binding.{Binding, binding_for}
 use Rattle.hep_machine.specs.Control.{level_after_statement, level_at_label, level_at_choice, label_chosen, label_by_sign, level_in_block, level_after_condition, level_in_range, level_after_loop, variable_of, level_at_statement}
 use Rattle.hep_machine.specs.Declarations.{is_array, is_nonempty}
-use Rattle.hep_machine.specs.Evaluation.{Redex, reading, signing, negating, combining, applying, testing, Reference, Actual, Action, assigning, jumping, choosing, branching, testing_condition, entering_block, entering_loop, ending_loop, calling, creating, purging, printing, continuing, leaving, resuming, stopping, Next, wants, does, next_of, plug_work}
+use Rattle.hep_machine.specs.Evaluation.{Redex, Sought, evaluating, referring, reading, signing, negating, combining, applying, testing, Reference, Actual, Action, assigning, jumping, choosing, branching, testing_condition, entering_block, entering_loop, ending_loop, calling, creating, purging, printing, continuing, leaving, resuming, stopping, Next, wants, does, next_of, plug_work}
 use Rattle.hep_machine.specs.Locations.{Scope, storage_of, location_of_name}
 use Rattle.hep_machine.specs.Shapes.{natural}
 use Rattle.hep_machine.specs.State.{Cell, Level, Loop, Process, State, doing, Location, Store}
 use Rattle.hep_machine.specs.Storage.{with_value, with_cell, with_empty, emptied_from}
-use Rattle.hep_source.specs.Units.{Units, unit_at, line_at, executable_from, subroutine_called}
+use Rattle.hep_source.specs.Units.{Units, unit_at, line_at, executable_from, subroutine_called, function_called, function_name}
 use Rattle.hep_source.specs.Defaults.{no_unit}
 use Rattle.hep_machine.specs.Processes.{living, unit_of, activation_of, with_process, loop_at, with_loop}
 
@@ -253,6 +253,38 @@ abbrev pub stack_after_return : Units → State → Process → Process
 stack_after_return program s [] = []
 stack_after_return program s (level ∷ levels) = level_after_statement (unit_at program (unit_of s level.activation)) level ∷ levels
 
+-- ---- functions: 15.5
+
+abbrev pub function_unit : Units → Name → ℕ
+function_unit program x = unwrap_or (function_called program x) no_unit
+
+-- what is sought has its value by itself, or an activation begins that gives it
+abbrev pub result_after_sought : Units → Top → Sought → StepResult
+result_after_sought program t (evaluating r) =
+    result_after_answer program t (answer_of (scope_of program t.state t.level.activation) t.state.store r)
+result_after_sought program t (referring x actuals) =
+    result_after_call program t (function_unit program x) (binding_of program t (function_unit program x) actuals)
+
+-- the value of a function stands in the place of its reference, in the level below
+abbrev pub stack_after_value : Units → State → Value → Process → Process
+stack_after_value program s v [] = []
+stack_after_value program s v (level ∷ levels) =
+    record level { work = plug_work (unit_at program (unit_of s level.activation)) level.work v } ∷ levels
+
+abbrev pub result_after_value : Units → Top → Option Value → StepResult
+result_after_value program t None = result_after_fault program t Undefined
+result_after_value program t (Some v) = stepped (with_process t.state t.process (stack_after_value program t.state v t.below))
+
+abbrev pub result_after_result : Units → Top → Result Location Kind → StepResult
+result_after_result program t (Err k) = result_after_fault program t k
+result_after_result program t (Ok at) = result_after_value program t (t.state.store at).value
+
+-- an activation ends: that of a function by its result, a variable of its name
+abbrev pub result_after_leaving : Units → Top → Option Name → StepResult
+result_after_leaving program t None = stepped (with_process t.state t.process (stack_after_return program t.state t.below))
+result_after_leaving program t (Some x) =
+    result_after_result program t (location_of_name (scope_of program t.state t.level.activation) x [])
+
 -- ---- RESUME: docs/LANGUAGE.md, 9
 
 -- above another activation this one becomes the next process, and its caller goes on after its CALL
@@ -289,13 +321,12 @@ result_after_action program t (purging targets) =
 result_after_action program t (printing items) =
     stepped (record (state_with_level t (level_after_statement (unit_on_top program t) t.level)) { records = t.state.records ++ items ∷ [] })
 result_after_action program t continuing = stepped (state_with_level t (level_after_statement (unit_on_top program t) t.level))
-result_after_action program t leaving = stepped (with_process t.state t.process (stack_after_return program t.state t.below))
+result_after_action program t leaving = result_after_leaving program t (function_name (unit_on_top program t))
 result_after_action program t resuming = stepped (state_resumed program t t.below)
 result_after_action program t stopping = stepped (record t.state { halted = true })
 
 abbrev pub result_after_next : Units → Top → Next → StepResult
-result_after_next program t (wants r) =
-    result_after_answer program t (answer_of (scope_of program t.state t.level.activation) t.state.store r)
+result_after_next program t (wants r) = result_after_sought program t r
 result_after_next program t (does a) = result_after_action program t a
 
 abbrev pub step_result_of_top : Units → State → ℕ → Option (Level × Process) → StepResult

@@ -25,6 +25,7 @@ use Rattle.hep_source.specs.declared.statement.Form.TheVariants as form
 use Rattle.hep_source.specs.declared.statement.Statement.{Statement}
 use Rattle.hep_machine.specs.Constants.{cells_of_all, adjustable_dimensions}
 use Rattle.hep_machine.specs.Declarations.{is_array, is_dummy, is_common, is_constant_name, is_nonempty}
+use Rattle.hep_machine.specs.Listed.{is_referenced}
 use Rattle.hep_source.specs.Names.{with_names}
 use Rattle.hep_source.specs.Units.{dummies_of, names_of_occurrences}
 
@@ -62,6 +63,10 @@ occurrences_in_dimension unit d = occurrences_in_some unit d.lower ++ occurrence
 abbrev pub occurrences_in_declarator : List Statement → Declarator → List Occurrence
 occurrences_in_declarator unit d = d.occurrence ∷ flat_map (occurrences_in_dimension unit) d.dimensions
 
+-- a type statement makes no variable of a function that the unit refers to
+abbrev pub occurrences_in_declared : List Statement → Declarator → List Occurrence
+occurrences_in_declared unit d = if not (is_nonempty d.dimensions) && is_referenced unit d.occurrence.name then [] else occurrences_in_declarator unit d
+
 abbrev pub occurrences_in_block : List Statement → CommonBlock → List Occurrence
 occurrences_in_block unit b = flat_map (occurrences_in_declarator unit) b.entries
 
@@ -97,7 +102,8 @@ occurrences_in_item unit (item.Characters cs) = []
 
 abbrev pub occurrences_in_form : List Statement → Form → List Occurrence
 occurrences_in_form unit (form.Subroutine p dummies) = dummies
-occurrences_in_form unit (form.Declare t ds) = flat_map (occurrences_in_declarator unit) ds
+occurrences_in_form unit (form.Function t p dummies) = p ∷ dummies
+occurrences_in_form unit (form.Declare t ds) = flat_map (occurrences_in_declared unit) ds
 occurrences_in_form unit (form.Dimension ds) = flat_map (occurrences_in_declarator unit) ds
 occurrences_in_form unit (form.Common blocks) = flat_map (occurrences_in_block unit) blocks
 occurrences_in_form unit (form.Parameter constants) = flat_map (occurrences_in_constant unit) constants

@@ -2,6 +2,7 @@
 pub use Rattle.hep_source.specs.Names.{index_among, index_where, is_among, letters_of, name_eq, same_letters, same_logical, same_name}
 pub use Rattle.hep_source.specs.Names.{spelling, with_name, with_names}
 pub use Rattle.hep_source.specs.Units.{dummies_by_header, dummies_of, executable_from, is_executable, is_main, is_named, line_at}
+pub use Rattle.hep_source.specs.Units.{function_by_header, function_called, function_name, procedure_name}
 pub use Rattle.hep_source.specs.Units.{main_among, main_name, main_unit, names_of_occurrences, passed_over, statement_at}
 pub use Rattle.hep_source.specs.Units.{subroutine_by_header, subroutine_called, subroutine_name, unit_at, unit_name, Units}
 pub use Rattle.hep_source.specs.Tree.{binary, constant, negated, no_trees, nodes, nodes_of_all, occurrence, parenthesized, signed, Tree}
@@ -56,7 +57,8 @@ unfoldable pub use Rattle.hep_machine.specs.Declarations.{is_constant_name, is_d
 unfoldable pub use Rattle.hep_machine.specs.Declarations.{names_in_block, names_of_constants, same_block, type_of, with_blocks}
 unfoldable pub use Rattle.hep_machine.specs.Functions.{by_pure_function, function_named, listed_meaning, pure_functions, state_functions}
 unfoldable pub use Rattle.hep_machine.specs.Functions.{word_in}
-pub use Rattle.hep_machine.specs.Functions.{element, Meaning, pure, state, unknown}
+unfoldable pub use Rattle.hep_machine.specs.Functions.{is_external}
+pub use Rattle.hep_machine.specs.Functions.{element, Meaning, pure, state, external}
 unfoldable pub use Rattle.hep_machine.specs.Shapes.{are_dimensions, before_element, Bounds, counted_element, element_number, elements}
 unfoldable pub use Rattle.hep_machine.specs.Shapes.{extent, fits, is_below, is_between, is_most, is_shape, is_within, most_elements}
 unfoldable pub use Rattle.hep_machine.specs.Shapes.{natural, product, size_between, sum}
@@ -72,7 +74,9 @@ unfoldable pub use Rattle.hep_machine.specs.Variables.{occurrences_in_block, occ
 unfoldable pub use Rattle.hep_machine.specs.Variables.{occurrences_in_data_value, occurrences_in_declarator, occurrences_in_dimension}
 unfoldable pub use Rattle.hep_machine.specs.Variables.{occurrences_in_form, occurrences_in_group, occurrences_in_item, occurrences_in_some}
 unfoldable pub use Rattle.hep_machine.specs.Variables.{occurrences_in_statement, occurrences_in_target, occurrences_in_upper}
-unfoldable pub use Rattle.hep_machine.specs.Variables.{occurrences_of}
+unfoldable pub use Rattle.hep_machine.specs.Variables.{occurrences_of, occurrences_in_declared}
+unfoldable pub use Rattle.hep_machine.specs.Listed.{is_referenced, names_listed, names_listed_by, trees_in_declarator, trees_in_dimension}
+unfoldable pub use Rattle.hep_machine.specs.Listed.{trees_in_form, trees_in_item, trees_in_statement, trees_in_upper}
 unfoldable pub use Rattle.hep_machine.specs.Access.{is_empty, is_full, purged_cell, reading_asynchronous, setting_empty, unset_cell}
 unfoldable pub use Rattle.hep_machine.specs.Access.{waiting_full, with_stored, writing, writing_asynchronous}
 pub use Rattle.hep_machine.specs.Access.{makes, Outcome, undefined}
@@ -90,7 +94,8 @@ unfoldable pub use Rattle.hep_machine.specs.Evaluation.{next_of, next_of_form, p
 unfoldable pub use Rattle.hep_machine.specs.Evaluation.{plug_actuals, plug_all, plug_control, plug_form, plug_item, plug_items, plug_list}
 unfoldable pub use Rattle.hep_machine.specs.Evaluation.{plug_target, plug_targets, plug_work, plugged, plugged_first, plugged_listed}
 unfoldable pub use Rattle.hep_machine.specs.Evaluation.{redex_of, Reference, reference_of, reference_of_listed, target_part, targets_part}
-unfoldable pub use Rattle.hep_machine.specs.Evaluation.{then_part}
+unfoldable pub use Rattle.hep_machine.specs.Evaluation.{then_part, actuals_in, plug_actuals_in, plugged_arguments, reference_part}
+pub use Rattle.hep_machine.specs.Evaluation.{Sought, evaluating, referring, resuming}
 pub use Rattle.hep_machine.specs.Evaluation.{Action, Actual, applying, assigning, branching, calling, choosing, combining, continuing}
 pub use Rattle.hep_machine.specs.Evaluation.{creating, does, ending_loop, entering_block, entering_loop, evaluated, first_redex, jumping}
 pub use Rattle.hep_machine.specs.Evaluation.{leaving, negating, Next, Part, printing, purging, Redex, referred, resuming, signing, stopping, testing}
@@ -118,7 +123,8 @@ unfoldable pub use Rattle.hep_machine.specs.Step.{result_after_write, scope_of, 
 unfoldable pub use Rattle.hep_machine.specs.Step.{state_with_level, state_with_store, step, step_result_of, step_result_of_top}
 unfoldable pub use Rattle.hep_machine.specs.Step.{store_after_both, store_after_purge, store_after_purge_at, store_after_purge_of}
 unfoldable pub use Rattle.hep_machine.specs.Step.{unit_called, unit_on_top, wanted_by, wanted_of, with_activation, with_new_process}
-unfoldable pub use Rattle.hep_machine.specs.Step.{state_resumed, written}
+unfoldable pub use Rattle.hep_machine.specs.Step.{written, function_unit, result_after_sought, stack_after_value, result_after_value}
+unfoldable pub use Rattle.hep_machine.specs.Step.{result_after_result, result_after_leaving, state_resumed}
 pub use Rattle.hep_machine.specs.Step.{absent, Answer, fails, stepped, StepResult, Top, waiting, Wanted}
 unfoldable pub use Rattle.hep_machine.specs.Data.{all_elements, count_by, data_groups, element_with, elements_named, groups_in, item_at}
 unfoldable pub use Rattle.hep_machine.specs.Data.{repeat_of, value_of_constant, values_given}

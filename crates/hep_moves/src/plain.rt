@@ -23,9 +23,11 @@ fn is_plain_operation(operation: Operation) -> bool
         Operation::Store { variable, .. } => !variable.is_asynchronous(),
         Operation::Print { .. }
         | Operation::Return
+        | Operation::Answer { .. }
         | Operation::Stop
         | Operation::Call { .. }
         | Operation::Create { .. }
+        | Operation::Refer { .. }
         | Operation::Purge { .. }
         | Operation::Resume { .. } => false,
         Operation::Jump { .. }

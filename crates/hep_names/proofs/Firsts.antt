@@ -1,5 +1,5 @@
 -- The first of violations, as loops keep it.
-use Rattle.std.proofs.Common.{◌≡◌, ◌+◌, Option, List, ◌∷◌, ◌++◌, append_assoc, ap, sym, ◌∙◌}
+use Rattle.std.proofs.Common.{◌≡◌, Option, List, ◌∷◌, ◌++◌, append_assoc, ap, sym, ◌∙◌}
 use Rattle.std.specs.List.{flat_map}
 use Rattle.hep_conditions.specs.declared.violation.Violation.{Violation}
 use Rattle.hep_conditions.specs.Words.{Violations, first_of, first_of_two}

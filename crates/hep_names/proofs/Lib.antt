@@ -5,6 +5,7 @@ pub mod Trees
 pub mod Passes
 pub mod Owned
 pub mod PartsGiven
+pub mod Referenced
 pub mod Typed
 pub mod ArraysAmong
 pub mod News

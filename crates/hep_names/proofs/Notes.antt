@@ -1,10 +1,12 @@
 -- A name that a table gets where it has none of that name.
-use Rattle.std.proofs.Common.{◌≡◌, Bool, true, false, refl, ap, sym, ◌∙◌, true≢false, cond, if◌then◌else◌, Option, Some, None, is_some, List, [], ◌∷◌, length, ℕ, ◌&&◌}
+use Rattle.std.proofs.Common.{◌≡◌, Bool, true, false, refl, ap, sym, ◌∙◌, true≢false, cond, if◌then◌else◌, Option, Some, None, is_some, List, [], ◌∷◌, length, ◌&&◌}
 use Rattle.std.specs.Option.{option_or}
 use Rattle.std.specs.Bool.{◌==◌}
 use Rattle.std.specs.Borrow.{Bor}
-use Rattle.hep_machine.specs.Words.{is_nonempty, Declarator, Name, same_name, name_eq}
-use Rattle.hep_names.specs.Tables.{by_name, either, seen, given, by_declarator}
+use Rattle.hep_source.specs.declared.statement.Form.TheVariants.{Function}
+use Rattle.hep_machine.specs.Declarations.{type_by_statement}
+use Rattle.hep_machine.specs.Words.{is_nonempty, Declarator, Name, Occurrence, ValueType, same_name, name_eq}
+use Rattle.hep_names.specs.Tables.{by_header, by_name, either, seen, given, by_declarator}
 use Rattle.hep_source.proofs.NameTests.{name_eq-is, equal_names, same_name-turned}
 
 pub or-none : {A : Type 0} (o : Option A) → option_or o None ≡ o
@@ -71,6 +73,11 @@ pub not-empty : {A : Type 0} (xs : List A) → (length xs == 0) ≡ false → is
 not-empty [] h = sym h
 not-empty (x ∷ xs) h = refl
 
--- a number that a table gets for the name of a subroutine
-pub called-noted : (x name : Name) (k : ℕ) → by_name name k x ≡ given (same_name name x) k
+-- the type that a header gives
+pub header-given : (x : Name) (o : Option ValueType) (p : Occurrence) (ds : List Occurrence) → by_header o p.name x ≡ type_by_statement x (Function o p ds)
+header-given x None p ds = refl
+header-given x (Some t) p ds = refl
+
+-- what a table gets for a name, such as the number of a subroutine
+pub called-noted : {A : Type 0} (x name : Name) (k : A) → by_name name k x ≡ given (same_name name x) k
 called-noted x name k = ap (λ b. if b then Some k else None) (same_name-turned x name)

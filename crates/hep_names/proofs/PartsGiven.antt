@@ -1,14 +1,14 @@
 -- What the parts of a statement give: its expressions, and where it names variables and constants.
-use Rattle.std.proofs.Common.{◌≡◌, if◌then◌else◌, Option, Some, None, List, [], ◌∷◌, ◌++◌, append-nil, map, option_to_list, refl, ap, sym, ◌∙◌}
+use Rattle.std.proofs.Common.{◌≡◌, Bool, true, false, not, ◌&&◌, if◌then◌else◌, Option, Some, None, List, [], ◌∷◌, ◌++◌, append-nil, map, option_to_list, refl, ap, sym, ◌∙◌}
 use Rattle.std.specs.List.{flat_map}
 use Rattle.std.proofs.lemmas.Grind.{flat_map-append}
-use Rattle.hep_machine.specs.Words.{Tree, CommonBlock, DataGroup, DataValue, Declarator, Dimension, NamedConstant, Target, UpperBound, Occurrence, Form, Subroutine, Declare, Common, Parameter, Data, Assign, ComputedGoTo, ArithmeticIf, IfThen, ElseIf, Do, Call, Create, Purge, Print, PrintItem, Statement, groups_in, declarators_in, constants_in, entries_of_blocks, is_nonempty}
+use Rattle.hep_machine.specs.Words.{Tree, CommonBlock, DataGroup, DataValue, Declarator, Dimension, NamedConstant, Target, UpperBound, Occurrence, Form, Subroutine, Declare, Common, Parameter, Data, Assign, ComputedGoTo, ArithmeticIf, IfThen, ElseIf, Do, Call, Create, Purge, Print, PrintItem, Statement, groups_in, declarators_in, constants_in, entries_of_blocks, is_nonempty, is_referenced}
 use Rattle.hep_source.specs.declared.declaration.UpperBound.TheVariants as bound
-use Rattle.hep_source.specs.declared.statement.Form.TheVariants.{Dimension as Dimensions}
+use Rattle.hep_source.specs.declared.statement.Form.TheVariants.{Function, Dimension as Dimensions}
 use Rattle.hep_source.specs.declared.statement.PrintItem.TheVariants as item
 use Rattle.hep_machine.specs.Variables as variables
 use Rattle.hep_conditions.specs.Words.{trees_in_upper, trees_in_dimension, trees_in_declarator, trees_in_item, trees_in_form, trees_in_statement}
-use Rattle.hep_names.specs.Parts.{Part, parts_in_expression, parts_in_expressions, parts_in_name, parts_in_names, parts_in_dimension, parts_in_declarator, parts_in_block, parts_in_constant, parts_in_target, parts_in_value, parts_in_group, parts_in_item, parts_in_form, parts_of, tree_in, occurrences_in_part, name_before}
+use Rattle.hep_names.specs.Parts.{Part, name, declared, parts_in_declared, parts_in_expression, parts_in_expressions, parts_in_name, parts_in_names, parts_in_dimension, parts_in_declarator, parts_in_block, parts_in_constant, parts_in_target, parts_in_value, parts_in_group, parts_in_item, parts_in_form, parts_of, tree_in, occurrences_in_part, name_before}
 
 -- ---- rows of rows
 
@@ -31,6 +31,13 @@ expressions-trees (t ∷ ts) = ap (λ us. t ∷ us) (expressions-trees ts)
 
 declarator-trees : (d : Declarator) → flat_map tree_in (parts_in_declarator d) ≡ trees_in_declarator d
 declarator-trees d = each tree_in parts_in_dimension trees_in_dimension (λ x. expressions-trees (trees_in_dimension x)) d.dimensions
+
+declared-trees : (d : Declarator) → flat_map tree_in (parts_in_declared d) ≡ trees_in_declarator d
+declared-trees d = by d.dimensions
+  where
+    by : (ds : List Dimension) → flat_map tree_in (if is_nonempty ds then name d.occurrence ∷ flat_map parts_in_dimension ds else declared d.occurrence ∷ []) ≡ flat_map trees_in_dimension ds
+    by [] = refl
+    by (m ∷ ms) = each tree_in parts_in_dimension trees_in_dimension (λ x. expressions-trees (trees_in_dimension x)) (m ∷ ms)
 
 blocks-trees : (bs : List CommonBlock) → flat_map tree_in (flat_map parts_in_block bs) ≡ flat_map trees_in_declarator (entries_of_blocks bs)
 blocks-trees [] = refl
@@ -62,7 +69,8 @@ trees-by-form : (f : Form) → flat_map tree_in (parts_in_form f)
     ≡ flat_map trees_in_declarator (declarators_in f) ++ (map (λ (c : NamedConstant). c.value) (constants_in f)
     ++ (flat_map (λ (g : DataGroup). flat_map (λ (x : Target). x.subscripts) g.targets) (groups_in f) ++ trees_in_form f))
 trees-by-form (Subroutine p ps) = none tree_in parts_in_name (λ q. refl) ps
-trees-by-form (Declare t ds) = each tree_in parts_in_declarator trees_in_declarator declarator-trees ds ∙ sym (append-nil _)
+trees-by-form (Function t p ps) = none tree_in parts_in_name (λ q. refl) ps
+trees-by-form (Declare t ds) = each tree_in parts_in_declared trees_in_declarator declared-trees ds ∙ sym (append-nil _)
 trees-by-form (Dimensions ds) = each tree_in parts_in_declarator trees_in_declarator declarator-trees ds ∙ sym (append-nil _)
 trees-by-form (Common bs) = blocks-trees bs ∙ sym (append-nil _)
 trees-by-form (Parameter cs) = constants-trees cs ∙ sym (append-nil _)
@@ -110,6 +118,19 @@ module _ (unit : List Statement) where
   declarators-occurrences = each given parts_in_declarator (variables.occurrences_in_declarator unit)
       (λ d. ap (λ ps. d.occurrence ∷ ps) (each given parts_in_dimension (variables.occurrences_in_dimension unit) dimension-occurrences d.dimensions))
 
+  -- what a type statement names
+  declared-occurrences : (d : Declarator) → flat_map given (parts_in_declared d) ≡ variables.occurrences_in_declared unit d
+  declared-occurrences d = by d.dimensions
+    where
+      alone : (b : Bool) → (if b then [] else d.occurrence ∷ []) ++ [] ≡ (if b then [] else d.occurrence ∷ [])
+      alone true = refl
+      alone false = refl
+
+      by : (ds : List Dimension) → flat_map given (if is_nonempty ds then name d.occurrence ∷ flat_map parts_in_dimension ds else declared d.occurrence ∷ [])
+          ≡ (if not (is_nonempty ds) && is_referenced unit d.occurrence.name then [] else d.occurrence ∷ flat_map (variables.occurrences_in_dimension unit) ds)
+      by [] = alone (is_referenced unit d.occurrence.name)
+      by (m ∷ ms) = ap (λ ps. d.occurrence ∷ ps) (each given parts_in_dimension (variables.occurrences_in_dimension unit) dimension-occurrences (m ∷ ms))
+
   names-occurrences : (ps : List Occurrence) → flat_map given (parts_in_names ps) ≡ ps
   names-occurrences [] = refl
   names-occurrences (p ∷ ps) = ap (λ qs. p ∷ qs) (names-occurrences ps)
@@ -132,7 +153,8 @@ module _ (unit : List Statement) where
 
   occurrences-by-form : (f : Form) → flat_map given (parts_in_form f) ≡ variables.occurrences_in_form unit f
   occurrences-by-form (Subroutine p ps) = names-occurrences ps
-  occurrences-by-form (Declare t ds) = declarators-occurrences ds
+  occurrences-by-form (Function t p ps) = ap (λ qs. p ∷ qs) (names-occurrences ps)
+  occurrences-by-form (Declare t ds) = each given parts_in_declared (variables.occurrences_in_declared unit) declared-occurrences ds
   occurrences-by-form (Dimensions ds) = declarators-occurrences ds
   occurrences-by-form (Common bs) = each given parts_in_block (variables.occurrences_in_block unit) (λ b. declarators-occurrences b.entries) bs
   occurrences-by-form (Parameter cs) =

@@ -1,8 +1,9 @@
 -- What statements say, one after the other.
-use Rattle.std.proofs.Common.{◌≡◌, ℕ, suc, ◌+◌, Bool, true, false, refl, ap, sym, ◌∙◌, if◌then◌else◌, List, [], ◌∷◌, ◌++◌, Some, arith, max, ◌≤◌, ◌&&◌, nat_le, nat_lt}
+use Rattle.std.proofs.Common.{◌≡◌, ℕ, suc, ◌+◌, Bool, true, false, Option, refl, ap, sym, ◌∙◌, if◌then◌else◌, List, [], ◌∷◌, ◌++◌, Some, arith, max, ◌≤◌, ◌&&◌, nat_le, nat_lt}
 use Rattle.std.specs.Option.{option_or, option_map}
 use Rattle.std.proofs.lemmas.List.Folds.{find-append}
-use Rattle.hep_machine.specs.Words.{CommonBlock, Name, Occurrence, Form, Subroutine, Statement, NamedConstant, same_name, is_among, index_among, Units, is_named, subroutine_name, subroutine_called, names_of_occurrences, dummies_by_header, dummies_of, block_of, blocks_in, blocks_of_unit, block_holding, common_block, names_declared, named_constants, names_of_constants, constants_in, is_constant_name, declarator_among, declarators_in, declarators_of}
+use Rattle.hep_source.specs.declared.statement.Form.TheVariants.{Function}
+use Rattle.hep_machine.specs.Words.{CommonBlock, Name, Occurrence, Form, Subroutine, Statement, NamedConstant, same_name, is_among, index_among, Units, is_named, index_where, names_of_occurrences, dummies_by_header, dummies_of, block_of, blocks_in, blocks_of_unit, block_holding, common_block, names_declared, named_constants, names_of_constants, constants_in, is_constant_name, declarator_among, declarators_in, declarators_of}
 use Rattle.std.proofs.lemmas.Bool.Decides.{nat_tests}
 use Rattle.hep_names.specs.Tables.{either, first_in, any_in, index_from, called_from, given, dummies_in, dummies_by_form, block_by_form, constant_by_form, declarator_by_form}
 
@@ -61,6 +62,7 @@ index-from-start x (p ∷ ps) = by (same_name x p.name) (index-on 0 x ps ∙ ap 
 
 dummies-by-form : (f : Form) → names_of_occurrences (dummies_by_form f) ≡ dummies_by_header f
 dummies-by-form (Subroutine p ds) = refl
+dummies-by-form (Function t p ds) = refl
 dummies-by-form _ = refl
 
 pub dummies-by-header : (x : Name) (ss : List Statement) → index_from 0 x (dummies_in ss) ≡ index_among x (dummies_of ss)
@@ -68,20 +70,20 @@ dummies-by-header x [] = refl
 dummies-by-header x (s ∷ ss) = index-from-start x (dummies_by_form s.form) ∙ ap (index_among x) (dummies-by-form s.form)
 
 -- numbers of units counted from another one
-called-on : (k : ℕ) (x : Name) (us : Units) → called_from (suc k) x us ≡ option_map suc (called_from k x us)
-called-on k x [] = refl
-called-on k x (u ∷ us) = by (is_named (subroutine_name u) x) (ap (λ n. called_from n x us) (next k) ∙ called-on (k + 1) x us)
+called-on : (name_of : List Statement → Option Name) (k : ℕ) (x : Name) (us : Units) → called_from name_of (suc k) x us ≡ option_map suc (called_from name_of k x us)
+called-on name_of k x [] = refl
+called-on name_of k x (u ∷ us) = by (is_named (name_of u) x) (ap (λ n. called_from name_of n x us) (next k) ∙ called-on name_of (k + 1) x us)
   where
-    by : (b : Bool) → called_from (suc k + 1) x us ≡ option_map suc (called_from (k + 1) x us)
-        → option_or (given b (suc k)) (called_from (suc k + 1) x us) ≡ option_map suc (option_or (given b k) (called_from (k + 1) x us))
+    by : (b : Bool) → called_from name_of (suc k + 1) x us ≡ option_map suc (called_from name_of (k + 1) x us)
+        → option_or (given b (suc k)) (called_from name_of (suc k + 1) x us) ≡ option_map suc (option_or (given b k) (called_from name_of (k + 1) x us))
     by true h = refl
     by false h = h
 
-pub called-from-start : (x : Name) (us : Units) → called_from 0 x us ≡ subroutine_called us x
-called-from-start x [] = refl
-called-from-start x (u ∷ us) = by (is_named (subroutine_name u) x) (called-on 0 x us ∙ ap (option_map suc) (called-from-start x us))
+pub called-from-start : (name_of : List Statement → Option Name) (x : Name) (us : Units) → called_from name_of 0 x us ≡ index_where (λ u. is_named (name_of u) x) us
+called-from-start name_of x [] = refl
+called-from-start name_of x (u ∷ us) = by (is_named (name_of u) x) (called-on name_of 0 x us ∙ ap (option_map suc) (called-from-start name_of x us))
   where
-    by : (b : Bool) → called_from 1 x us ≡ option_map suc (subroutine_called us x)
-        → option_or (given b 0) (called_from 1 x us) ≡ (if b then Some 0 else option_map suc (subroutine_called us x))
+    by : (b : Bool) → called_from name_of 1 x us ≡ option_map suc (index_where (λ u. is_named (name_of u) x) us)
+        → option_or (given b 0) (called_from name_of 1 x us) ≡ (if b then Some 0 else option_map suc (index_where (λ u. is_named (name_of u) x) us))
     by true h = refl
     by false h = h

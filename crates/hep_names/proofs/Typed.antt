@@ -1,11 +1,11 @@
 -- Where all names of a unit have types, no place in it is without.
-use Rattle.std.proofs.Common.{◌≡◌, ℕ, Bool, true, false, not, if◌then◌else◌, List, [], ◌∷◌, ◌++◌, refl, ap, sym, ◌∙◌, true≢false}
+use Rattle.std.proofs.Common.{◌≡◌, ℕ, Bool, true, false, not, ◌&&◌, if◌then◌else◌, List, [], ◌∷◌, ◌++◌, refl, ap, sym, ◌∙◌, true≢false}
 use Rattle.std.specs.List.{flat_map, list_all}
 use Rattle.std.specs.Option.{is_none}
 use Rattle.std.proofs.lemmas.Bool.{and_parts}
 use Rattle.hep_machine.specs.Words.{Name, Occurrence, Statement, same_name, is_among, with_name, with_names, names_of_occurrences, type_of, occurrences_in_statement, occurrences_of, names_of}
 use Rattle.hep_source.proofs.NameTests.{equal_names}
-use Rattle.hep_conditions.specs.Words.{untyped_in, type_missing_violations, when, at_occurrence}
+use Rattle.hep_conditions.specs.Words.{FunctionTypes, is_function_in, untyped_in, type_missing_violations, when, at_occurrence}
 use Rattle.hep_names.specs.Passes.{untyped, is_typed}
 
 -- ---- a test that all names of a list pass, each once
@@ -42,27 +42,27 @@ module _ (test : Name → Bool) where
 
 -- ---- places of names
 
-module _ (unit : List Statement) where
-  typed-place : (line : ℕ) (p : Occurrence) → is_typed unit p.name ≡ true → untyped unit line p ≡ []
+module _ (functions : FunctionTypes) (unit : List Statement) where
+  typed-place : (line : ℕ) (p : Occurrence) → is_typed unit p.name ≡ true → untyped functions unit line p ≡ []
   typed-place line p h = by (is_none (type_of unit p.name)) h
     where
-      by : (t : Bool) → not t ≡ true → when t (at_occurrence 301 line p) ≡ []
+      by : (t : Bool) → not t ≡ true → when (t && not (is_function_in functions unit p.name)) (at_occurrence 301 line p) ≡ []
       by true e = absurd (true≢false (sym e))
       by false e = refl
 
   typed-places : (line : ℕ) (ps rest : List Occurrence) → list_all (is_typed unit) (names_of_occurrences (ps ++ rest)) ≡ true
-      → (flat_map (untyped unit line) ps ≡ []) × (list_all (is_typed unit) (names_of_occurrences rest) ≡ true)
+      → (flat_map (untyped functions unit line) ps ≡ []) × (list_all (is_typed unit) (names_of_occurrences rest) ≡ true)
   typed-places line [] rest h = (refl, h)
   typed-places line (p ∷ ps) rest h =
       let q = and_parts (is_typed unit p.name) (list_all (is_typed unit) (names_of_occurrences (ps ++ rest))) h in
       let r = typed-places line ps rest q.1 in
-      (ap (λ vs. vs ++ flat_map (untyped unit line) ps) (typed-place line p q.0) ∙ r.0, r.1)
+      (ap (λ vs. vs ++ flat_map (untyped functions unit line) ps) (typed-place line p q.0) ∙ r.0, r.1)
 
-  typed-statements : (ss : List Statement) → list_all (is_typed unit) (names_of_occurrences (flat_map (occurrences_in_statement unit) ss)) ≡ true → flat_map (untyped_in unit) ss ≡ []
+  typed-statements : (ss : List Statement) → list_all (is_typed unit) (names_of_occurrences (flat_map (occurrences_in_statement unit) ss)) ≡ true → flat_map (untyped_in functions unit) ss ≡ []
   typed-statements [] h = refl
   typed-statements (s ∷ ss) h =
       let r = typed-places s.line (occurrences_in_statement unit s) (flat_map (occurrences_in_statement unit) ss) h in
-      ap (λ vs. vs ++ flat_map (untyped_in unit) ss) r.0 ∙ typed-statements ss r.1
+      ap (λ vs. vs ++ flat_map (untyped_in functions unit) ss) r.0 ∙ typed-statements ss r.1
 
-  pub typed-unit : list_all (is_typed unit) (names_of unit) ≡ true → type_missing_violations unit ≡ []
+  pub typed-unit : list_all (is_typed unit) (names_of unit) ≡ true → type_missing_violations functions unit ≡ []
   typed-unit h = typed-statements unit (once-all (is_typed unit) [] (names_of_occurrences (occurrences_of unit)) h).1

@@ -1,5 +1,6 @@
 pub mod Tables
 pub mod Statements
+pub mod Functions
 pub mod Lists
 pub mod Passes
 pub mod Meanings

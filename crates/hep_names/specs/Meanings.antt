@@ -1,10 +1,10 @@
 -- What a name with a list is, as contracts see it.
 use Rattle.hep_machine.specs.Functions as functions
 use Rattle.hep_names.specs.declared.functions.Meaning.{Meaning}
-use Rattle.hep_names.specs.declared.functions.Meaning.TheVariants.{Element, Pure, State, Unknown}
+use Rattle.hep_names.specs.declared.functions.Meaning.TheVariants.{Element, Pure, State, External}
 
 abbrev pub meaning : Meaning → functions.Meaning
 meaning Element = functions.element
 meaning (Pure f) = functions.pure f
 meaning (State f) = functions.state f
-meaning Unknown = functions.unknown
+meaning External = functions.external

@@ -1,7 +1,7 @@
 -- The parts of a statement, in the order of its text: X3.9-1978, sections 6, 8 to 11, 12.8 and 15.
-use Rattle.std.specs.Prelude.{List, [], ◌∷◌, ◌++◌, option_to_list}
+use Rattle.std.specs.Prelude.{if◌then◌else◌, List, [], ◌∷◌, ◌++◌, option_to_list}
 use Rattle.std.specs.List.{flat_map}
-use Rattle.hep_machine.specs.Words.{Tree, CommonBlock, DataGroup, DataValue, Declarator, Dimension, NamedConstant, Target, Occurrence, DoControl, Form, PrintItem, Statement, array_occurrence, occurrences_in, occurrences_in_data_value}
+use Rattle.hep_machine.specs.Words.{Tree, CommonBlock, DataGroup, DataValue, Declarator, Dimension, NamedConstant, Target, Occurrence, DoControl, Form, PrintItem, Statement, is_nonempty, is_referenced, array_occurrence, occurrences_in, occurrences_in_data_value}
 use Rattle.hep_source.specs.declared.statement.Form.TheVariants as form
 use Rattle.hep_conditions.specs.Words.{trees_in_dimension, trees_in_item}
 use Rattle.hep_names.specs.declared.parts.Part.{Part as Reference}
@@ -13,12 +13,15 @@ pub data Part : Type 0 where
   name : (p : Occurrence) → Part
   -- a name with subscripts that is assigned (10.1), given a value by DATA (9.1), or purged; the subscripts are the parts behind it
   element : (p : Occurrence) → Part
+  -- a name without bounds in a type statement (8.4): a variable, unless it is a function that the unit refers to
+  declared : (p : Occurrence) → Part
 
 -- a part that lies in memory
 abbrev pub part : Reference → Part
 part (reference.Expression r) = expression r.now
 part (reference.Name p) = name p
 part (reference.Element p) = element p
+part (reference.Declared p) = declared p
 
 abbrev pub parts_in_expression : Tree → List Part
 parts_in_expression t = expression t ∷ []
@@ -39,6 +42,9 @@ parts_in_dimension d = parts_in_expressions (trees_in_dimension d)
 
 abbrev pub parts_in_declarator : Declarator → List Part
 parts_in_declarator d = name d.occurrence ∷ flat_map parts_in_dimension d.dimensions
+
+abbrev pub parts_in_declared : Declarator → List Part
+parts_in_declared d = if is_nonempty d.dimensions then parts_in_declarator d else declared d.occurrence ∷ []
 
 abbrev pub parts_in_block : CommonBlock → List Part
 parts_in_block b = flat_map parts_in_declarator b.entries
@@ -73,7 +79,8 @@ parts_in_item i = parts_in_expressions (trees_in_item i)
 
 abbrev pub parts_in_form : Form → List Part
 parts_in_form (form.Subroutine p dummies) = parts_in_names dummies
-parts_in_form (form.Declare t ds) = flat_map parts_in_declarator ds
+parts_in_form (form.Function t p dummies) = name p ∷ parts_in_names dummies
+parts_in_form (form.Declare t ds) = flat_map parts_in_declared ds
 parts_in_form (form.Dimension ds) = flat_map parts_in_declarator ds
 parts_in_form (form.Common blocks) = flat_map parts_in_block blocks
 parts_in_form (form.Parameter constants) = flat_map parts_in_constant constants
@@ -103,3 +110,4 @@ abbrev pub occurrences_in_part : List Statement → Part → List Occurrence
 occurrences_in_part unit (expression t) = occurrences_in unit t
 occurrences_in_part unit (name p) = p ∷ []
 occurrences_in_part unit (element p) = array_occurrence unit p
+occurrences_in_part unit (declared p) = if is_referenced unit p.name then [] else p ∷ []

@@ -3,7 +3,8 @@ use Rattle.std.specs.Prelude.{◌≡◌, ◌<◌, get_or, ℕ, ◌+◌, Bool, tr
 use Rattle.std.specs.Borrow.{Bor}
 use Rattle.std.specs.List.{filter, flat_map}
 use Rattle.std.specs.Option.{option_or}
-use Rattle.hep_machine.specs.Words.{Declarator, Name, Occurrence, Form, Subroutine, Statement, same_name, is_among, index_among, Units, dummies_of, is_named, subroutine_name, ValueType, names_of, locals_of, declared_type, implicit_type, common_block, is_constant_name, BlockName, names_declared, block_holding, blocks_in, entries_of_blocks, names_of_constants, is_nonempty, constants_in, declarator_among, declarators_in}
+use Rattle.hep_source.specs.declared.statement.Form.TheVariants.{Function}
+use Rattle.hep_machine.specs.Words.{Declarator, Name, Occurrence, Form, Subroutine, Statement, same_name, is_among, index_among, Units, dummies_of, is_named, function_name, subroutine_called, function_called, is_external, listed_meaning, ValueType, names_of, locals_of, declared_type, implicit_type, common_block, is_constant_name, BlockName, names_declared, block_holding, blocks_in, entries_of_blocks, names_of_constants, is_nonempty, constants_in, declarator_among, declarators_in}
 
 abbrev pub either : Bool → Bool → Bool
 either a b = if a then true else b
@@ -24,6 +25,11 @@ by_name y value x = if same_name x y then Some value else None
 -- what name x has, where a value is given to the names of these declarators alone
 abbrev pub by_declarators : {A : Type 0} → A → List Declarator → Name → Option A
 by_declarators value ds x = if is_among x (names_declared ds) then Some value else None
+
+-- what name x has, where the header of a function gives its name a type, or none
+abbrev pub by_header : Option ValueType → Name → Name → Option ValueType
+by_header None name x = None
+by_header (Some t) name x = if same_name name x then Some t else None
 
 -- those of these declarators that give dimensions
 abbrev pub arrays_among : List Declarator → List Declarator
@@ -68,6 +74,7 @@ by_declarator d x = given (same_name d.occurrence.name x && is_nonempty d.dimens
 
 abbrev pub dummies_by_form : Form → List Occurrence
 dummies_by_form (Subroutine p dummies) = dummies
+dummies_by_form (Function t p dummies) = dummies
 dummies_by_form _ = []
 
 -- where the dummy arguments of a unit stand in its header
@@ -87,10 +94,19 @@ pub record Describes (unit : List Statement) (types : Name → Option ValueType)
   pub named : names ≡ names_of unit
   pub owned : locals ≡ locals_of unit
 
--- the index of the first of these units that a name calls, counted from k
-abbrev pub called_from : ℕ → Name → Units → Option ℕ
-called_from k x [] = None
-called_from k x (u ∷ us) = option_or (given (is_named (subroutine_name u) x) k) (called_from (k + 1) x us)
+-- the index of the first of these units that has this name, counted from k
+abbrev pub called_from : (List Statement → Option Name) → ℕ → Name → Units → Option ℕ
+called_from name_of k x [] = None
+called_from name_of k x (u ∷ us) = option_or (given (is_named (name_of u) x) k) (called_from name_of (k + 1) x us)
+
+-- the tables of a program: the subroutine and the function that each name calls
+pub record Numbers (program : Units) (subroutines functions : Name → Option ℕ) : Type 0 where
+  pub called : (x : Name) → subroutines x ≡ subroutine_called program x
+  pub referred : (x : Name) → functions x ≡ function_called program x
+
+-- a name with a list that is no array, no function of the language, and not the name of the function where it stands
+abbrev pub may_refer : List Statement → Name → Bool
+may_refer unit x = is_external (listed_meaning unit x) && not (is_named (function_name unit) x)
 
 -- a name that these tables have neither as a dummy argument nor in COMMON nor as a constant
 abbrev pub is_local_by : (Name → Option ℕ) → (Name → Option BlockName) → (Name → Bool) → Name → Bool

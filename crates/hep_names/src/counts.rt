@@ -35,7 +35,7 @@ fn takes_list(listed: Meaning, count: usize) -> bool
     match listed {
         Meaning::Pure(function) => takes(function, count),
         Meaning::State(_) => count == 1,
-        Meaning::Element | Meaning::Unknown => true,
+        Meaning::Element | Meaning::External => true,
     }
 }
 
@@ -55,6 +55,41 @@ fn are_counted(symbols: &Symbols, names: &[NameWithList]) -> bool
 {
     for name in names {
         if !is_counted(symbols, name) {
+            return false;
+        }
+    }
+    true
+}
+
+// A reference has as many actual arguments as its function has dummy arguments.
+#[tactic(auto, using(crate::proofs::Passes::dummies_counted))]
+fn takes_actuals(program: &ProgramSymbols, name: &Name, count: usize) -> bool
+    ensures { result ≡ passes.takes_dummies (passes.unit_referred program.now name.now) count }
+{
+    match program.function(name) {
+        Some(symbols) => count == symbols.dummies().len(),
+        None => true,
+    }
+}
+
+fn is_reference_counted(program: &ProgramSymbols, symbols: &Symbols, name: &NameWithList) -> bool
+    ensures { result ≡ conditions.is_reference_counted program.now symbols.now (listed name.now) }
+{
+    match symbols.listed_meaning(&name.occurrence.name) {
+        Meaning::External => takes_actuals(program, &name.occurrence.name, name.arguments.len()),
+        _ => true,
+    }
+}
+
+fn are_references_counted(
+    program: &ProgramSymbols,
+    symbols: &Symbols,
+    names: &[NameWithList],
+) -> bool
+    ensures { result ≡ list_all (conditions.is_reference_counted program.now symbols.now) (map listed names.now) }
+{
+    for name in names {
+        if !is_reference_counted(program, symbols, name) {
             return false;
         }
     }
@@ -93,7 +128,11 @@ fn is_miscounted(
     ensures { IfOk result (λ is_miscounted. is_miscounted ≡ passes.is_miscounted program.now symbols.now statement.now) }
 {
     let names = names_with_lists(alloc, statement)?;
-    Ok(!(are_counted(symbols, &names) && are_calls_counted(program, &statement.form)))
+    Ok(
+        !(are_counted(symbols, &names)
+            && are_references_counted(program, symbols, &names)
+            && are_calls_counted(program, &statement.form)),
+    )
 }
 
 fn least_miscounted(

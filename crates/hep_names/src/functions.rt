@@ -1,4 +1,4 @@
-//! What a name with a list is (X3.9-1978, 5.3 and 15.3).
+//! What a name with a list is (X3.9-1978, 5.3, 15.3 and 15.5).
 ghost use Rattle.std.specs.Prelude.{◌≡◌};
 ghost use Rattle.hep_source.specs.Names as names;
 ghost use Rattle.hep_machine.specs.Functions as functions;
@@ -7,13 +7,14 @@ ghost use Rattle.hep_names.specs.Meanings.{meaning};
 use crate::symbols::Symbols;
 use hep_source::{Name, PureFunction, StateFunction};
 
-/// What a name with a list is: an element of the unit's array, or a function (docs/LANGUAGE.md, 8).
+/// What a name with a list is: an element of the unit's array, a function of the language, or else one of
+/// the program, if it has such a function (docs/LANGUAGE.md, 8).
 #[derive(Clone, Copy, Debug, PartialEq, Eq)]
 pub enum Meaning {
     Element,
     Pure(PureFunction),
     State(StateFunction),
-    Unknown,
+    External,
 }
 
 // These are the letters of a word, with blanks anywhere.
@@ -78,12 +79,12 @@ pub fn function_named(name: &Name) -> Meaning
     ensures { meaning result ≡ functions.function_named name.now }
 {
     if name.asynchronous {
-        return Meaning::Unknown;
+        return Meaning::External;
     }
     match (pure_function(&name.letters), state_function(&name.letters)) {
         (Some(function), _) => Meaning::Pure(function),
         (None, Some(function)) => Meaning::State(function),
-        (None, None) => Meaning::Unknown,
+        (None, None) => Meaning::External,
     }
 }
 

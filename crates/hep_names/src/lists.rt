@@ -1,7 +1,7 @@
 //! The names with lists in a statement.
 ghost use Rattle.std.specs.Prelude.{◌≡◌, ◌++◌, [], false, map, IfOk, OnOk};
 ghost use Rattle.std.specs.List.{flat_map};
-ghost use Rattle.hep_machine.specs.Words.{trees_of, entries_of_blocks};
+ghost use Rattle.hep_machine.specs.Words.{trees_of, trees_in_declarator, entries_of_blocks};
 ghost use Rattle.hep_conditions.specs.Statements as statements;
 ghost use Rattle.hep_names.specs.Lists.{listed};
 
@@ -62,7 +62,7 @@ fn add_in_list<'a>(found: &mut Found<'a>, list: &'a [Expr]) -> Result<(), AllocE
 
 // Some name has bounds; where none has, there are no expressions.
 fn have_bounds(entries: &[Declarator]) -> bool
-    ensures { result ≡ false → flat_map statements.trees_in_declarator entries.now ≡ [] }
+    ensures { result ≡ false → flat_map trees_in_declarator entries.now ≡ [] }
 {
     for entry in entries {
         if !entry.dimensions.as_slice().is_empty() {
@@ -73,7 +73,7 @@ fn have_bounds(entries: &[Declarator]) -> bool
 }
 
 fn have_bounds_in_blocks(blocks: &[CommonBlock]) -> bool
-    ensures { result ≡ false → flat_map statements.trees_in_declarator (entries_of_blocks blocks.now) ≡ [] }
+    ensures { result ≡ false → flat_map trees_in_declarator (entries_of_blocks blocks.now) ≡ [] }
 {
     for block in blocks {
         if have_bounds(block.entries.as_slice()) {

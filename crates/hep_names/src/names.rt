@@ -7,7 +7,7 @@ ghost use Rattle.hep_machine.specs.Words.{name_eq, with_name, with_names, names_
 ghost use Rattle.hep_machine.specs.Variables as variables;
 ghost use Rattle.hep_names.specs.Tables as tables;
 
-use crate::arrays::Arrays;
+use crate::listed::Listed;
 use crate::occurrences::occurrences_of;
 use crate::table::{NameSet, Table};
 use hep_source::{Name, Occurrence};
@@ -31,10 +31,10 @@ fn add_names(names: &mut IndexSet<Name>, occurrences: &[Occurrence]) -> Result<(
 }
 
 // The names of variables and constants of a unit, each once, in order of first appearance.
-pub(crate) fn names_of(alloc: Global, arrays: &Arrays) -> Result<NameSet, AllocError>
-    ensures { IfOk result (λ names. names.set.keys ≡ variables.names_of arrays.now) }
+pub(crate) fn names_of(alloc: Global, listed: &Listed) -> Result<NameSet, AllocError>
+    ensures { IfOk result (λ names. names.set.keys ≡ variables.names_of listed.now) }
 {
-    let occurrences = occurrences_of(alloc, arrays)?;
+    let occurrences = occurrences_of(alloc, listed)?;
     let mut names = NameSet {
         set: IndexSet::with_capacity(alloc, occurrences.len())?,
     };

@@ -6,7 +6,7 @@ ghost use Rattle.hep_machine.specs.Variables as variables;
 ghost use Rattle.hep_conditions.specs.Statements as statements;
 ghost use Rattle.hep_names.specs.Parts as rows;
 
-use crate::arrays::Arrays;
+use crate::listed::Listed;
 use crate::parts::{Part, add_all, parts_of, parts_of_targets};
 use crate::symbols::Symbols;
 use hep_source::{DataGroup, Expr, Node, Occurrence, Statement};
@@ -15,18 +15,32 @@ use std::alloc::{AllocError, Global};
 type Found = Vec<Occurrence>;
 
 // A name with a list names a variable only where the unit has that array.
-fn add_array(arrays: &Arrays, found: &mut Found, occurrence: Occurrence) -> Result<(), AllocError>
-    ensures { OnOk result (found.new.items ≡ found.old.items ++ variables.array_occurrence arrays.now occurrence) }
+fn add_array(listed: &Listed, found: &mut Found, occurrence: Occurrence) -> Result<(), AllocError>
+    ensures { OnOk result (found.new.items ≡ found.old.items ++ variables.array_occurrence listed.now occurrence) }
 {
-    if arrays.is_array(&occurrence.name) {
+    if listed.is_array(&occurrence.name) {
+        found.push(occurrence)?;
+    }
+    Ok(())
+}
+
+// A type statement names a variable, unless it is of a function that the unit refers to.
+fn add_declared(
+    listed: &Listed,
+    found: &mut Found,
+    occurrence: Occurrence,
+) -> Result<(), AllocError>
+    ensures { OnOk result (found.new.items ≡ found.old.items ++ rows.occurrences_in_part listed.now (rows.declared occurrence)) }
+{
+    if !listed.is_referenced(&occurrence.name) {
         found.push(occurrence)?;
     }
     Ok(())
 }
 
 #[cycle(add_in)]
-fn add_in(arrays: &Arrays, found: &mut Found, expression: &Expr) -> Result<(), AllocError>
-    ensures { OnOk result (found.new.items ≡ found.old.items ++ variables.occurrences_in arrays.now expression.now) }
+fn add_in(listed: &Listed, found: &mut Found, expression: &Expr) -> Result<(), AllocError>
+    ensures { OnOk result (found.new.items ≡ found.old.items ++ variables.occurrences_in listed.now expression.now) }
 {
     match &expression.node {
         Node::Constant(_) => Ok(()),
@@ -35,40 +49,41 @@ fn add_in(arrays: &Arrays, found: &mut Found, expression: &Expr) -> Result<(), A
             Ok(())
         }
         Node::WithList(occurrence, arguments) => {
-            add_array(arrays, found, *occurrence)?;
-            add_in_list(arrays, found, arguments)
+            add_array(listed, found, *occurrence)?;
+            add_in_list(listed, found, arguments)
         }
-        Node::Parenthesized(inner) => add_in(arrays, found, inner),
-        Node::Signed(_, term) => add_in(arrays, found, term),
-        Node::Negated(operand) => add_in(arrays, found, operand),
+        Node::Parenthesized(inner) => add_in(listed, found, inner),
+        Node::Signed(_, term) => add_in(listed, found, term),
+        Node::Negated(operand) => add_in(listed, found, operand),
         Node::Binary(_, left, right) => {
-            add_in(arrays, found, left)?;
-            add_in(arrays, found, right)
+            add_in(listed, found, left)?;
+            add_in(listed, found, right)
         }
     }
 }
 
 #[cycle(add_in)]
-fn add_in_list(arrays: &Arrays, found: &mut Found, list: &[Expr]) -> Result<(), AllocError>
-    ensures { OnOk result (found.new.items ≡ found.old.items ++ variables.occurrences_in_all arrays.now (trees_of list.now)) }
+fn add_in_list(listed: &Listed, found: &mut Found, list: &[Expr]) -> Result<(), AllocError>
+    ensures { OnOk result (found.new.items ≡ found.old.items ++ variables.occurrences_in_all listed.now (trees_of list.now)) }
 {
     match list {
         [] => Ok(()),
         [first, rest @ ..] => {
-            add_in(arrays, found, first)?;
-            add_in_list(arrays, found, rest)
+            add_in(listed, found, first)?;
+            add_in_list(listed, found, rest)
         }
     }
 }
 
-fn add_in_parts(arrays: &Arrays, found: &mut Found, parts: &[Part]) -> Result<(), AllocError>
-    ensures { OnOk result (found.new.items ≡ found.old.items ++ flat_map (rows.occurrences_in_part arrays.now) (map rows.part parts.now)) }
+fn add_in_parts(listed: &Listed, found: &mut Found, parts: &[Part]) -> Result<(), AllocError>
+    ensures { OnOk result (found.new.items ≡ found.old.items ++ flat_map (rows.occurrences_in_part listed.now) (map rows.part parts.now)) }
 {
     for part in parts {
         match part {
-            Part::Expression(expression) => add_in(arrays, found, expression)?,
+            Part::Expression(expression) => add_in(listed, found, expression)?,
             Part::Name(occurrence) => found.push(*occurrence)?,
-            Part::Element(occurrence) => add_array(arrays, found, *occurrence)?,
+            Part::Element(occurrence) => add_array(listed, found, *occurrence)?,
+            Part::Declared(occurrence) => add_declared(listed, found, *occurrence)?,
         }
     }
     Ok(())
@@ -86,18 +101,18 @@ pub fn add_in_expression(
 ) -> Result<(), AllocError>
     ensures { OnOk result (found.new.items ≡ found.old.items ++ variables.occurrences_in symbols.now expression.now) }
 {
-    add_in(symbols.arrays(), found, expression)
+    add_in(symbols.listed(), found, expression)
 }
 
 // Where the statements of a unit name variables and constants, in the order of its text.
 #[tactic(auto, using(crate::proofs::PartsGiven::unit_occurrences))]
-pub(crate) fn occurrences_of(alloc: Global, arrays: &Arrays) -> Result<Vec<Occurrence>, AllocError>
-    ensures { IfOk result (λ found. found.items ≡ variables.occurrences_of arrays.now) }
+pub(crate) fn occurrences_of(alloc: Global, listed: &Listed) -> Result<Vec<Occurrence>, AllocError>
+    ensures { IfOk result (λ found. found.items ≡ variables.occurrences_of listed.now) }
 {
     let mut parts = Vec::new(alloc);
-    add_all(&mut parts, arrays.statements())?;
+    add_all(&mut parts, listed.statements())?;
     let mut found = Vec::new(alloc);
-    add_in_parts(arrays, &mut found, &parts)?;
+    add_in_parts(listed, &mut found, &parts)?;
     Ok(found)
 }
 
@@ -116,7 +131,7 @@ pub fn occurrences(
 {
     let parts = parts_of(alloc, statement)?;
     let mut found = Vec::new(alloc);
-    add_in_parts(symbols.arrays(), &mut found, &parts)?;
+    add_in_parts(symbols.listed(), &mut found, &parts)?;
     Ok(found)
 }
 
@@ -136,6 +151,6 @@ pub fn occurrences_in_groups(
 {
     let parts = parts_of_targets(alloc, groups)?;
     let mut found = Vec::new(alloc);
-    add_in_parts(symbols.arrays(), &mut found, &parts)?;
+    add_in_parts(symbols.listed(), &mut found, &parts)?;
     Ok(found)
 }

@@ -19,6 +19,8 @@ pub(crate) enum Part<'a> {
     Name(Occurrence),
     // A name with subscripts that is assigned, given a value by DATA, or purged; these are the parts behind it.
     Element(Occurrence),
+    // A name without bounds in a type statement: a variable, unless it is a function that the unit refers to.
+    Declared(Occurrence),
 }
 
 // What has parts.
@@ -94,6 +96,23 @@ impl HasParts for Declarator {
         self.occurrence.add_parts(found)?;
         add_all(found, self.dimensions.as_slice())
     }
+}
+
+// Adds the parts of what a type statement names.
+fn add_declared<'a>(
+    found: &mut Vec<Part<'a>>,
+    declarators: &'a [Declarator],
+) -> Result<(), AllocError>
+    ensures { OnOk result (map rows.part found.new.items ≡ map rows.part found.old.items ++ flat_map rows.parts_in_declared declarators.now) }
+{
+    for declarator in declarators {
+        if declarator.dimensions.as_slice().is_empty() {
+            found.push(Part::Declared(declarator.occurrence))?;
+        } else {
+            declarator.add_parts(found)?;
+        }
+    }
+    Ok(())
 }
 
 impl HasParts for CommonBlock {
@@ -177,7 +196,11 @@ impl HasParts for Form {
     fn add_parts<'a>(&'a self, found: &mut Vec<Part<'a>>) -> Result<(), AllocError> {
         match self {
             Form::Subroutine(_, dummies) => add_all(found, dummies.as_slice()),
-            Form::Declare(_, declarators) => add_all(found, declarators.as_slice()),
+            Form::Function(_, occurrence, dummies) => {
+                occurrence.add_parts(found)?;
+                add_all(found, dummies.as_slice())
+            }
+            Form::Declare(_, declarators) => add_declared(found, declarators.as_slice()),
             Form::Dimension(declarators) => add_all(found, declarators.as_slice()),
             Form::Common(blocks) => add_all(found, blocks.as_slice()),
             Form::Parameter(constants) => add_all(found, constants.as_slice()),

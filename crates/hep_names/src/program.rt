@@ -1,4 +1,4 @@
-//! The symbol tables of a program, and its subroutines.
+//! The symbol tables of a program, and its subroutines and functions.
 ghost use Rattle.std.specs.Prelude.{◌≡◌, IfOk, OnOk};
 ghost use Rattle.std.specs.Option.{option_or, option_map, option_copied};
 ghost use Rattle.indexmap.specs.IndexMap.{get};
@@ -7,34 +7,40 @@ ghost use Rattle.hep_source.specs.declared.name.Name.{Name as PureName};
 ghost use Rattle.hep_names.specs.Tables as tables;
 ghost use Rattle.hep_machine.specs.Words.{name_eq};
 
+use crate::listed::function_name;
 use crate::symbols::Symbols;
-use crate::table::note;
+use crate::table::{Table, note};
 use hep_source::{Form, Name, Statement, Unit};
 use indexmap::IndexMap;
 use std::alloc::{AllocError, Global};
 use std::marker::Model;
 
-/// The symbol tables of all units of a program, and its subroutines by name. Contracts see the units.
+/// The symbol tables of all units of a program, and its subroutines and functions by name. Contracts see the
+/// units.
 pub struct ProgramSymbols<'a> {
     units: Vec<Symbols<'a>>,
-    subroutines: IndexMap<Name, usize>,
+    subroutines: Table<usize>,
+    functions: Table<usize>,
 }
 
 impl<'a> Drop for ProgramSymbols<'a> {
     fn drop(self) {
-        let ProgramSymbols { units, subroutines } = self;
+        let ProgramSymbols {
+            units,
+            subroutines,
+            functions,
+        } = self;
     }
 }
 
 impl<'a> Model for ProgramSymbols<'a> {
-    ghost use Rattle.std.specs.Prelude.{◌≡◌, List};
+    ghost use Rattle.std.specs.Prelude.{List};
     ghost use Rattle.std.specs.Coded.{codes};
     ghost use Rattle.indexmap.specs.IndexMap.{get};
     ghost use Rattle.hep_source.specs.declared.statement.Statement.{Statement as PureStatement};
-    ghost use Rattle.hep_source.specs.declared.name.Name.{Name as PureName};
-    ghost use Rattle.hep_source.specs.Units.{subroutine_called};
     ghost use Rattle.hep_source.specs.contracts.expression.Expr as expression;
     ghost use Rattle.hep_source.specs.Names.{name_eq};
+    ghost use Rattle.hep_names.specs.Tables.{Numbers};
 
     ghost Value = { List (List PureStatement) };
 
@@ -42,7 +48,7 @@ impl<'a> Model for ProgramSymbols<'a> {
 
     ghost view = { λ a. a.units.items };
 
-    ghost invariant = { λ a. (x : PureName) → get name_eq a.subroutines x ≡ subroutine_called a.units.items x };
+    ghost invariant = { λ a. Numbers a.units.items (get name_eq a.subroutines.map) (get name_eq a.functions.map) };
 }
 
 // The name by which a unit is called; a main program has none.
@@ -60,29 +66,42 @@ fn subroutine_name(unit: &[Statement]) -> Option<Name>
     }
 }
 
-fn note_subroutine(
-    subroutines: &mut IndexMap<Name, usize>,
+fn note_unit(
+    numbers: &mut IndexMap<Name, usize>,
     name: Option<Name>,
     number: usize,
 ) -> Result<(), AllocError>
-    ensures { OnOk result ((x : PureName) → get name_eq subroutines.new x
-        ≡ option_or (get name_eq subroutines.old x) (tables.given (units.is_named name x) number)) }
+    ensures { OnOk result ((x : PureName) → get name_eq numbers.new x
+        ≡ option_or (get name_eq numbers.old x) (tables.given (units.is_named name x) number)) }
 {
     if let Some(name) = name {
-        note(subroutines, name, number)?;
+        note(numbers, name, number)?;
     }
     Ok(())
 }
 
-// The index of the unit that each name calls: the first of those with the name.
-fn subroutines(alloc: Global, program: &[Symbols]) -> Result<IndexMap<Name, usize>, AllocError>
-    ensures { IfOk result (λ table. (x : PureName) → get name_eq table x ≡ tables.called_from 0 x program.now) }
+// The index of the subroutine that each name calls: the first of those with the name.
+fn subroutines(alloc: Global, program: &[Symbols]) -> Result<Table<usize>, AllocError>
+    ensures { IfOk result (λ table. (x : PureName)
+        → get name_eq table.map x ≡ tables.called_from units.subroutine_name 0 x program.now) }
 {
-    let mut table = IndexMap::with_capacity(alloc, program.len())?;
+    let mut numbers = IndexMap::with_capacity(alloc, program.len())?;
     for (number, unit) in program.iter().enumerate() {
-        note_subroutine(&mut table, subroutine_name(unit.statements()), number)?;
+        note_unit(&mut numbers, subroutine_name(unit.statements()), number)?;
     }
-    Ok(table)
+    Ok(Table { map: numbers })
+}
+
+// The index of the function that each name refers to: the first of those with the name.
+fn functions(alloc: Global, program: &[Symbols]) -> Result<Table<usize>, AllocError>
+    ensures { IfOk result (λ table. (x : PureName)
+        → get name_eq table.map x ≡ tables.called_from units.function_name 0 x program.now) }
+{
+    let mut numbers = IndexMap::new(alloc);
+    for (number, unit) in program.iter().enumerate() {
+        note_unit(&mut numbers, function_name(unit.statements()), number)?;
+    }
+    Ok(Table { map: numbers })
 }
 
 fn tables_of<'a>(alloc: Global, program: &'a [Unit]) -> Result<Vec<Symbols<'a>>, AllocError>
@@ -106,7 +125,12 @@ impl<'a> ProgramSymbols<'a> {
     {
         let units = tables_of(alloc, program)?;
         let subroutines = subroutines(alloc, &units)?;
-        Ok(ProgramSymbols { units, subroutines })
+        let functions = functions(alloc, &units)?;
+        Ok(ProgramSymbols {
+            units,
+            subroutines,
+            functions,
+        })
     }
 
     /// The tables of the units, in the order of the source.
@@ -120,7 +144,7 @@ impl<'a> ProgramSymbols<'a> {
     pub fn subroutine_called(&self, name: &Name) -> Option<usize>
         ensures { result ≡ units.subroutine_called self.now name.now }
     {
-        self.subroutines.get(name).copied()
+        self.subroutines.map.get(name).copied()
     }
 
     /// The table of the subroutine that a name calls.
@@ -128,6 +152,23 @@ impl<'a> ProgramSymbols<'a> {
         ensures { option_copied result ≡ option_map (units.unit_at self.now) (units.subroutine_called self.now name.now) }
     {
         match self.subroutine_called(name) {
+            Some(number) => self.units.get(number),
+            None => None,
+        }
+    }
+
+    /// The index of the function of a name, counted from 0: the first of those with the name.
+    pub fn function_called(&self, name: &Name) -> Option<usize>
+        ensures { result ≡ units.function_called self.now name.now }
+    {
+        self.functions.map.get(name).copied()
+    }
+
+    /// The table of the function of a name.
+    pub fn function(&self, name: &Name) -> Option<&Symbols<'a>>
+        ensures { option_copied result ≡ option_map (units.unit_at self.now) (units.function_called self.now name.now) }
+    {
+        match self.function_called(name) {
             Some(number) => self.units.get(number),
             None => None,
         }

@@ -35,7 +35,39 @@ fn note_types(
     Ok(())
 }
 
-// The types that type statements give (8.4).
+// Notes the type that the header of a function gives its name, if any.
+fn note_type(
+    types: &mut IndexMap<Name, ValueType>,
+    name: Name,
+    value_type: Option<ValueType>,
+) -> Result<(), AllocError>
+    ensures { OnOk result ((x : PureName) → get name_eq types.new x
+        ≡ option_or (get name_eq types.old x) (tables.by_header value_type name x)) }
+{
+    if let Some(value_type) = value_type {
+        note(types, name, value_type)?;
+    }
+    Ok(())
+}
+
+// Notes the types that a type statement gives (8.4), or the header of a function with a type (15.5.1).
+fn note_types_by(types: &mut IndexMap<Name, ValueType>, form: &Form) -> Result<(), AllocError>
+    ensures { OnOk result ((x : PureName) → get name_eq types.new x
+        ≡ option_or (get name_eq types.old x) (declarations.type_by_statement x form.now)) }
+{
+    match form {
+        Form::Declare(value_type, declarators) => {
+            note_types(types, *value_type, declarators.as_slice())?;
+        }
+        Form::Function(value_type, occurrence, _) => {
+            note_type(types, occurrence.name, *value_type)?;
+        }
+        _ => {}
+    }
+    Ok(())
+}
+
+// The types that type statements and the headers of functions give (8.4 and 15.5.1).
 pub(crate) fn declared_types(
     alloc: Global,
     unit: &[Statement],
@@ -44,9 +76,7 @@ pub(crate) fn declared_types(
 {
     let mut types = IndexMap::new(alloc);
     for statement in unit {
-        if let Form::Declare(value_type, declarators) = &statement.form {
-            note_types(&mut types, *value_type, declarators.as_slice())?;
-        }
+        note_types_by(&mut types, &statement.form)?;
     }
     Ok(Table { map: types })
 }
@@ -170,7 +200,7 @@ pub(crate) fn dummy_positions(alloc: Global, unit: &[Statement]) -> Result<Table
     match unit.first() {
         Some(
             Statement {
-                form: Form::Subroutine(_, dummies),
+                form: Form::Subroutine(_, dummies) | Form::Function(_, _, dummies),
                 ..
             },
         ) => numbered(alloc, dummies.as_slice()),

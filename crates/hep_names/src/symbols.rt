@@ -4,9 +4,10 @@ ghost use Rattle.hep_source.specs.Names as names;
 ghost use Rattle.hep_source.specs.Units as units;
 ghost use Rattle.hep_machine.specs.Declarations as declarations;
 ghost use Rattle.hep_machine.specs.Variables as variables;
+ghost use Rattle.hep_machine.specs.Words.{is_referenced};
 ghost use Rattle.hep_names.specs.Tables as tables;
 
-use crate::arrays::Arrays;
+use crate::listed::Listed;
 use crate::names::{locals_among, names_of};
 use crate::specification::{
     CommonNames, common_names, constant_names, declared_types, dummy_positions, letter_types,
@@ -23,7 +24,7 @@ pub struct Symbols<'a> {
     statements: &'a [Statement],
     types: Table<ValueType>,
     letters: Vec<Option<ValueType>>,
-    arrays: Arrays<'a>,
+    listed: Listed<'a>,
     dummies: Table<usize>,
     blocks: Table<Option<Name>>,
     are_common_once: bool,
@@ -38,7 +39,7 @@ impl<'a> Drop for Symbols<'a> {
             statements,
             types,
             letters,
-            arrays,
+            listed,
             dummies,
             blocks,
             are_common_once,
@@ -65,7 +66,7 @@ impl<'a> Model for Symbols<'a> {
 
     ghost view = { λ a. a.statements.now };
 
-    ghost invariant = { λ a. Describes a.statements.now (get name_eq a.types.map) a.letters.items a.arrays (get name_eq a.dummies.map)
+    ghost invariant = { λ a. Describes a.statements.now (get name_eq a.types.map) a.letters.items a.listed (get name_eq a.dummies.map)
         (get name_eq a.blocks.map) a.are_common_once (contains name_eq a.constants.set) a.names.set.keys a.locals.items };
 }
 
@@ -80,17 +81,17 @@ impl<'a> Symbols<'a> {
     {
         let types = declared_types(alloc, statements)?;
         let letters = letter_types(alloc, statements)?;
-        let arrays = Arrays::new(alloc, statements)?;
+        let listed = Listed::new(alloc, statements)?;
         let dummies = dummy_positions(alloc, statements)?;
         let CommonNames { blocks, are_once } = common_names(alloc, statements)?;
         let constants = constant_names(alloc, statements)?;
-        let names = names_of(alloc, &arrays)?;
+        let names = names_of(alloc, &listed)?;
         let locals = locals_among(alloc, &dummies, &blocks, &constants, names.set.as_slice())?;
         Ok(Symbols {
             statements,
             types,
             letters,
-            arrays,
+            listed,
             dummies,
             blocks,
             are_common_once: are_once,
@@ -107,11 +108,11 @@ impl<'a> Symbols<'a> {
         self.statements
     }
 
-    // The arrays of the unit.
-    pub(crate) fn arrays(&self) -> &Arrays<'a>
+    // What names with lists are in the unit.
+    pub(crate) fn listed(&self) -> &Listed<'a>
         ensures { result.now ≡ self.now }
     {
-        &self.arrays
+        &self.listed
     }
 
     /// The names of variables and constants of the unit, each once, in the order of their first
@@ -130,7 +131,7 @@ impl<'a> Symbols<'a> {
         &self.locals
     }
 
-    /// The type that a type statement gives a name (8.4).
+    /// The type that a type statement gives a name (8.4), or the header of the function its own (15.5.1).
     pub fn declared_type(&self, name: &Name) -> Option<ValueType>
         ensures { result ≡ declarations.declared_type name.now self.now }
     {
@@ -161,14 +162,22 @@ impl<'a> Symbols<'a> {
     pub fn dimensions(&self, name: &Name) -> &'a [Dimension]
         ensures { result.now ≡ declarations.dimensions_of self.now name.now }
     {
-        self.arrays.dimensions(name)
+        self.listed.dimensions(name)
     }
 
     /// The name is an array's.
     pub fn is_array(&self, name: &Name) -> bool
         ensures { result ≡ declarations.is_array self.now name.now }
     {
-        self.arrays.is_array(name)
+        self.listed.is_array(name)
+    }
+
+    /// The unit refers to a function of the program by the name, if there is one (15.5): it has a list, and is
+    /// no array, no function of the language, and not the name of the unit itself.
+    pub fn is_referenced(&self, name: &Name) -> bool
+        ensures { result ≡ is_referenced self.now name.now }
+    {
+        self.listed.is_referenced(name)
     }
 
     /// The dummy arguments of the unit, in order (15.6.1); a main program has none.
@@ -178,7 +187,7 @@ impl<'a> Symbols<'a> {
         match self.statements.first() {
             Some(
                 Statement {
-                    form: Form::Subroutine(_, dummies),
+                    form: Form::Subroutine(_, dummies) | Form::Function(_, _, dummies),
                     ..
                 },
             ) => dummies.as_slice(),

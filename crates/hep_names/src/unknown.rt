@@ -38,35 +38,46 @@ fn unknown_subroutine(program: &ProgramSymbols, statement: &Statement) -> Option
     }
 }
 
-fn unknown_listed(symbols: &Symbols, line: u32, name: &NameWithList) -> Option<Violation>
-    ensures { result ≡ first_of (passes.unknown_listed symbols.now line (listed name.now)) }
+fn unknown_listed(
+    program: &ProgramSymbols,
+    symbols: &Symbols,
+    line: u32,
+    name: &NameWithList,
+) -> Option<Violation>
+    ensures { result ≡ first_of (passes.unknown_listed program.now symbols.now line (listed name.now)) }
 {
     let is_unknown = match symbols.listed_meaning(&name.occurrence.name) {
-        Meaning::Unknown => true,
+        Meaning::External => program.function_called(&name.occurrence.name).is_none(),
         _ => false,
     };
     unknown_by(is_unknown, line, &name.occurrence)
 }
 
-fn first_unknown_listed(symbols: &Symbols, line: u32, names: &[NameWithList]) -> Option<Violation>
-    ensures { result ≡ first_of (flat_map (passes.unknown_listed symbols.now line) (map listed names.now)) }
+fn first_unknown_listed(
+    program: &ProgramSymbols,
+    symbols: &Symbols,
+    line: u32,
+    names: &[NameWithList],
+) -> Option<Violation>
+    ensures { result ≡ first_of (flat_map (passes.unknown_listed program.now symbols.now line) (map listed names.now)) }
 {
     let mut first = None;
     for name in names {
-        first = first_of_two(first, unknown_listed(symbols, line, name));
+        first = first_of_two(first, unknown_listed(program, symbols, line, name));
     }
     first
 }
 
 fn unknown_reference(
     alloc: Global,
+    program: &ProgramSymbols,
     symbols: &Symbols,
     statement: &Statement,
 ) -> Result<Option<Violation>, AllocError>
-    ensures { IfOk result (λ violation. violation ≡ first_of (conditions.unknown_references symbols.now statement.now)) }
+    ensures { IfOk result (λ violation. violation ≡ first_of (conditions.unknown_references program.now symbols.now statement.now)) }
 {
     let names = names_with_lists(alloc, statement)?;
-    Ok(first_unknown_listed(symbols, statement.line, &names))
+    Ok(first_unknown_listed(program, symbols, statement.line, &names))
 }
 
 fn unknown_target(symbols: &Symbols, line: u32, target: &Target) -> Option<Violation>
@@ -120,7 +131,7 @@ fn unknown_in(
     ensures { IfOk result (λ violation. violation ≡ first_of (passes.unknown_in program.now symbols.now statement.now)) }
 {
     let called = unknown_subroutine(program, statement);
-    let referenced = unknown_reference(alloc, symbols, statement)?;
+    let referenced = unknown_reference(alloc, program, symbols, statement)?;
     let targets = unknown_in_form(symbols, statement.line, &statement.form);
     Ok(first_of_two(called, first_of_two(referenced, targets)))
 }

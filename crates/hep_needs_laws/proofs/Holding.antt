@@ -1,7 +1,7 @@
 -- What is needed is of an activation that is held.
 use Rattle.std.proofs.Common.{◌≡◌, ◌⊎◌, inl, ℕ, ◌-◌, Bool, true, false, List, Option, Some, None, Result, Ok, Err, refl, ap, ◌∙◌, ◌↔◌, eqb-true}
 use Rattle.std.proofs.lemmas.Option.{none-some, same_Some}
-use Rattle.hep_machine.specs.Words.{StateFunction, IsFull, IsEmpty, ValueOf, SetEmpty, WaitFull, Name, Value, index_among, Units, dummies_of, unit_at, BlockName, common_block, assigning, Next, does, wants, testing, Reference, next_of, HasHeldChild, IsOnStack, is_held, Scope, dummy_at, element_of, location_in, location_of_name, start_by_block, storage_by_dummy, storage_of, activation_of, living, unit_of, Level, Location, Process, State, common, local, Wanted, scope_of, further, is_owned}
+use Rattle.hep_machine.specs.Words.{StateFunction, IsFull, IsEmpty, ValueOf, SetEmpty, WaitFull, Name, Value, index_among, Units, dummies_of, unit_at, BlockName, common_block, assigning, Next, does, wants, evaluating, testing, Reference, next_of, HasHeldChild, IsOnStack, is_held, Scope, dummy_at, element_of, location_in, location_of_name, start_by_block, storage_by_dummy, storage_of, activation_of, living, unit_of, Level, Location, Process, State, common, local, Wanted, scope_of, further, is_owned}
 use Rattle.hep_machine.specs.declared.event.Kind.{Kind}
 use Rattle.hep_machine.specs.Evaluation.{reading}
 use Rattle.hep_layout.proofs.Stacks.{top-numbered}
@@ -25,8 +25,8 @@ test-named WaitFull at w e = wanted-named true true at w e
 
 pub need-named : (scope : Scope) (n : Next) (w : Wanted) → need_of_next scope n ≡ Some w
     → (r : Reference) × (location_of_name scope r.0 r.1 ≡ Ok w.at)
-need-named scope (wants (reading r)) w e = (r, wanted-named r.0.asynchronous true (location_of_name scope r.0 r.1) w e)
-need-named scope (wants (testing f r)) w e = (r, test-named f (location_of_name scope r.0 r.1) w e)
+need-named scope (wants (evaluating (reading r))) w e = (r, wanted-named r.0.asynchronous true (location_of_name scope r.0 r.1) w e)
+need-named scope (wants (evaluating (testing f r))) w e = (r, test-named f (location_of_name scope r.0 r.1) w e)
 need-named scope (does (assigning r v)) w e = (r, wanted-named r.0.asynchronous false (location_of_name scope r.0 r.1) w e)
 need-named scope n w e = absurd (none-some w e)
 

@@ -1,10 +1,11 @@
 -- A step that is no PURGE changes the state of no storage unit but the one that it touches.
-use Rattle.std.proofs.Common.{◌∷◌, ◌≡◌, ◌≢◌, ℕ, Bool, true, false, List, [], Option, Some, None, Result, Ok, Err, refl, sym, ap, ◌∙◌, subst, ℤ, ◌+ℤ◌, if◌then◌else◌}
+use Rattle.std.proofs.Common.{◌≡◌, ◌≢◌, ℕ, Bool, true, false, List, [], ◌∷◌, Option, Some, None, Result, Ok, Err, refl, sym, ap, ◌∙◌, subst, ℤ, ◌+ℤ◌, if◌then◌else◌}
 use Rattle.hep_machine.specs.Words.{StateFunction, IsFull, IsEmpty, ValueOf, SetEmpty, WaitFull, Statement, Value, Int, Units, dummies_of, unit_at, Outcome, reading_asynchronous, setting_empty, with_stored, writing_asynchronous, combined_value, function_value, integer_of, integer_or_overflow, negated_value}
 use Rattle.hep_machine.specs.Words.{signed_value, Binding, binding_for, binding_with_shapes, dummies_for, with_actuals, with_shapes, with_store, level_after_statement, variable_of, Action, assigning, branching, calling, choosing, continuing, creating, ending_loop, entering_block, entering_loop, jumping, leaving}
 use Rattle.hep_machine.specs.Words.{Process, printing, purging, resuming, state_resumed, stopping, testing_condition, Actual, Next, does, wants, Redex, applying, combining, negating, signing, testing, next_of, is_purge, purges, top_purges, Scope, location_of_name, loop_at, Cell, Dummy, Level, Location, Loop, State, Store, Answer, fails, Top, answer_at}
 use Rattle.hep_machine.specs.Words.{answer_of, answer_of_read_at, answer_of_test_at, binding_of, by_result, iterations, next_activation, result_after_action, result_after_answer, result_after_assignment, result_after_call, result_after_create, result_after_do, result_after_increment, result_after_loop_end}
 use Rattle.hep_machine.specs.Words.{result_after_loop_variable, result_after_next, result_after_write, scope_of, step, unit_called, unit_on_top, written, same_location, with_cell}
+use Rattle.hep_machine.specs.Words.{evaluating, function_name, function_unit, referring, resuming, result_after_leaving, result_after_result, result_after_value, state_resumed, Name, Process}
 use Rattle.hep_machine.specs.declared.event.Kind.{Kind}
 use Rattle.hep_machine.specs.Access as access
 use Rattle.hep_machine.specs.Evaluation.{reading}
@@ -71,7 +72,7 @@ value-touches : (old : Store) (r : Result Value Kind) → GivesBut None old (by_
 value-touches old (Ok v) = all-stay None old
 value-touches old (Err k) = tt
 
-redex-touches : (scope : Scope) (old : Store) (r : Redex) → GivesBut (touched_by_next scope (wants r)) old (answer_of scope old r)
+redex-touches : (scope : Scope) (old : Store) (r : Redex) → GivesBut (touched_by_next scope (wants (evaluating r))) old (answer_of scope old r)
 redex-touches scope old (reading r) = read-touches r.0.asynchronous old (location_of_name scope r.0 r.1)
 redex-touches scope old (testing f r) = test-touches f old (location_of_name scope r.0 r.1)
 redex-touches scope old (signing s v) = value-touches old (signed_value s v)
@@ -160,6 +161,19 @@ module _ (program : Units) (t : Top) where
   bound : (u : ℕ) (ys : List Actual) → BindsBut t.state.store (binding_of program t u ys)
   bound u ys = binding-stays scope t.state.store (unit_at program u) (next_activation t.state) ys
 
+  -- the end of an activation
+  value-keeps : (v : Option Value) → Makes (Keeping None) (result_after_value program t v)
+  value-keeps None = all-stay None t.state.store
+  value-keeps (Some v) = all-stay None t.state.store
+
+  result-keeps : (at : Result Location Kind) → Makes (Keeping None) (result_after_result program t at)
+  result-keeps (Err k) = all-stay None t.state.store
+  result-keeps (Ok at) = value-keeps (t.state.store at).value
+
+  leaving-keeps : (x : Option Name) → Makes (Keeping None) (result_after_leaving program t x)
+  leaving-keeps None = all-stay None t.state.store
+  leaving-keeps (Some x) = result-keeps (location_of_name scope x [])
+
   resuming-keeps : (below : Process) → Keeping None (state_resumed program t below)
   resuming-keeps [] = all-stay None t.state.store
   resuming-keeps (caller ∷ callers) = all-stay None t.state.store
@@ -182,13 +196,15 @@ module _ (program : Units) (t : Top) where
   action-keeps (purging targets) calm = absurd cc
   action-keeps (printing items) calm = all-stay None t.state.store
   action-keeps continuing calm = all-stay None t.state.store
-  action-keeps leaving calm = all-stay None t.state.store
+  action-keeps leaving calm = leaving-keeps (function_name (unit_on_top program t))
   action-keeps resuming calm = resuming-keeps t.below
   action-keeps stopping calm = all-stay None t.state.store
 
   next-keeps : (n : Next) → purges n ≡ false → Makes (Keeping (touched_by_next scope n)) (result_after_next program t n)
-  next-keeps (wants r) calm =
-      answer-keeps (touched_by_next scope (wants r)) (answer_of scope t.state.store r) (redex-touches scope t.state.store r)
+  next-keeps (wants (referring x actuals)) calm =
+      call-keeps (function_unit program x) (binding_of program t (function_unit program x) actuals) (bound (function_unit program x) actuals)
+  next-keeps (wants (evaluating r)) calm =
+      answer-keeps (touched_by_next scope (wants (evaluating r))) (answer_of scope t.state.store r) (redex-touches scope t.state.store r)
   next-keeps (does a) calm = action-keeps a calm
 
 -- ---- a step

@@ -5,6 +5,7 @@ use Rattle.hep_machine.specs.Words.{assigning, branching, calling, choosing, con
 use Rattle.hep_machine.specs.Words.{living, loop_at, unit_of, Level, Location, Loop, Process, State, Store, Answer, fails, Top, Wanted, answer_at, answer_of, answer_of_read_at, answer_of_test_at, binding_of, by_result, iterations, result_after_action, result_after_answer, result_after_assignment, result_after_call}
 use Rattle.hep_machine.specs.Words.{result_after_create, result_after_do, result_after_increment, result_after_loop_end, result_after_loop_variable, result_after_next, result_after_purge, result_after_write, scope_of, step_result_of, step_result_of_top, store_after_purge, unit_called, unit_on_top, wanted_by, wanted_of}
 use Rattle.hep_machine.specs.Words.{written}
+use Rattle.hep_machine.specs.Words.{evaluating, function_name, function_unit, referring, resuming, result_after_leaving, result_after_result, result_after_value, Name}
 use Rattle.hep_machine.specs.declared.event.Kind.{Kind}
 use Rattle.hep_machine.specs.Access as access
 use Rattle.hep_machine.specs.Evaluation.{reading}
@@ -81,7 +82,7 @@ value-now : (r : Result Value Kind) (store : Store) → awaited (by_result r sto
 value-now (Ok v) store = refl
 value-now (Err k) store = refl
 
-redex-awaits : (scope : Scope) (store : Store) (r : Redex) → awaited (answer_of scope store r) ≡ unmet (need_of_next scope (wants r)) store
+redex-awaits : (scope : Scope) (store : Store) (r : Redex) → awaited (answer_of scope store r) ≡ unmet (need_of_next scope (wants (evaluating r))) store
 redex-awaits scope store (reading r) = read-awaits r.0.asynchronous store (location_of_name scope r.0 r.1)
 redex-awaits scope store (testing f r) = test-awaits f store (location_of_name scope r.0 r.1)
 redex-awaits scope store (signing s v) = value-now (signed_value s v) store
@@ -145,6 +146,18 @@ module _ (program : Units) (t : Top) where
   create-wanted u (Err k) = refl
   create-wanted u (Ok b) = refl
 
+  value-wanted : (v : Option Value) → wanted_of (result_after_value program t v) ≡ None
+  value-wanted None = refl
+  value-wanted (Some v) = refl
+
+  result-wanted : (at : Result Location Kind) → wanted_of (result_after_result program t at) ≡ None
+  result-wanted (Err k) = refl
+  result-wanted (Ok at) = value-wanted (t.state.store at).value
+
+  leaving-wanted : (x : Option Name) → wanted_of (result_after_leaving program t x) ≡ None
+  leaving-wanted None = refl
+  leaving-wanted (Some x) = result-wanted (location_of_name scope x [])
+
   action-wanted : (a : Action) → wanted_of (result_after_action program t a) ≡ unmet (need_of_next scope (does a)) t.state.store
   action-wanted (assigning r v) = assignment-wanted r.0.asynchronous (location_of_name scope r.0 r.1) v
   action-wanted (jumping l) = refl
@@ -160,12 +173,13 @@ module _ (program : Units) (t : Top) where
   action-wanted (purging targets) = purge-wanted (store_after_purge scope targets t.state.store)
   action-wanted (printing items) = refl
   action-wanted continuing = refl
-  action-wanted leaving = refl
+  action-wanted leaving = leaving-wanted (function_name (unit_on_top program t))
   action-wanted resuming = refl
   action-wanted stopping = refl
 
   next-wanted : (n : Next) → wanted_of (result_after_next program t n) ≡ unmet (need_of_next scope n) t.state.store
-  next-wanted (wants r) = answer-wanted (answer_of scope t.state.store r) ∙ redex-awaits scope t.state.store r
+  next-wanted (wants (referring x actuals)) = call-wanted (function_unit program x) (binding_of program t (function_unit program x) actuals)
+  next-wanted (wants (evaluating r)) = answer-wanted (answer_of scope t.state.store r) ∙ redex-awaits scope t.state.store r
   next-wanted (does a) = action-wanted a
 
 -- ---- a step

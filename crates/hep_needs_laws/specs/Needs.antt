@@ -1,7 +1,7 @@
 -- Which storage unit the next step of a process needs full or empty, whatever is stored there, and which one it may fill or empty:
 -- docs/MACHINE.md, "Steps".
 use Rattle.std.specs.Prelude.{ℕ, Bool, true, false, not, if◌then◌else◌, Option, Some, None, Result, Ok, Err}
-use Rattle.hep_machine.specs.Words.{StateFunction, IsFull, IsEmpty, ValueOf, SetEmpty, WaitFull, Units, unit_at, Next, assigning, does, next_of, testing, wants, Scope, location_of_name, living, unit_of, Level, Location, Process, State, Store, Wanted, scope_of}
+use Rattle.hep_machine.specs.Words.{StateFunction, IsFull, IsEmpty, ValueOf, SetEmpty, WaitFull, Units, unit_at, Next, assigning, does, next_of, testing, wants, evaluating, Scope, location_of_name, living, unit_of, Level, Location, Process, State, Store, Wanted, scope_of}
 use Rattle.hep_machine.specs.declared.event.Kind.{Kind}
 use Rattle.hep_machine.specs.Evaluation.{reading}
 
@@ -30,8 +30,8 @@ need_of_test SetEmpty at = None
 need_of_test WaitFull at = wanted_at true at
 
 abbrev pub need_of_next : Scope → Next → Option Wanted
-need_of_next scope (wants (reading r)) = if_so r.0.asynchronous (wanted_at true (named_location (location_of_name scope r.0 r.1)))
-need_of_next scope (wants (testing f r)) = need_of_test f (named_location (location_of_name scope r.0 r.1))
+need_of_next scope (wants (evaluating (reading r))) = if_so r.0.asynchronous (wanted_at true (named_location (location_of_name scope r.0 r.1)))
+need_of_next scope (wants (evaluating (testing f r))) = need_of_test f (named_location (location_of_name scope r.0 r.1))
 need_of_next scope (does (assigning r v)) = if_so r.0.asynchronous (wanted_at false (named_location (location_of_name scope r.0 r.1)))
 need_of_next scope _ = None
 
@@ -45,8 +45,8 @@ touched_by_test SetEmpty at = at
 touched_by_test WaitFull at = None
 
 abbrev pub touched_by_next : Scope → Next → Option Location
-touched_by_next scope (wants (reading r)) = if_so r.0.asynchronous (named_location (location_of_name scope r.0 r.1))
-touched_by_next scope (wants (testing f r)) = touched_by_test f (named_location (location_of_name scope r.0 r.1))
+touched_by_next scope (wants (evaluating (reading r))) = if_so r.0.asynchronous (named_location (location_of_name scope r.0 r.1))
+touched_by_next scope (wants (evaluating (testing f r))) = touched_by_test f (named_location (location_of_name scope r.0 r.1))
 touched_by_next scope (does (assigning r v)) = if_so r.0.asynchronous (named_location (location_of_name scope r.0 r.1))
 touched_by_next scope _ = None
 

@@ -2,7 +2,7 @@
 use Rattle.std.specs.Prelude.{◌≡◌, ◌≢◌, ◌⊎◌, ℕ, ◌||◌, Bool, true, false, IsTrue, codes, List, [], ◌∷◌, ◌++◌, Result, Ok, Err}
 use Rattle.hep_source.specs.Tree.{Tree}
 use Rattle.hep_source.specs.declared.statement.Form.{Form}
-use Rattle.hep_source.specs.declared.statement.Form.TheVariants.{Program, Subroutine, Implicit, Declare, Dimension, Common, Parameter, End}
+use Rattle.hep_source.specs.declared.statement.Form.TheVariants.{Program, Subroutine, Function, Implicit, Declare, Dimension, Common, Parameter, End}
 use Rattle.hep_source.specs.declared.statement.Statement.{Statement}
 use Rattle.hep_text.specs.declared.statement.Stmt.{Stmt}
 use Rattle.hep_expression.specs.declared.characters.Sizes.{Sizes}
@@ -26,6 +26,7 @@ abbrev pub class_of : List Tree → Form → StatementClass
 class_of (t ∷ more) f = part.Action
 class_of [] (Program p) = part.Header
 class_of [] (Subroutine p ds) = part.Header
+class_of [] (Function t p ds) = part.Header
 class_of [] (Implicit xs) = part.Implicit
 class_of [] (Parameter xs) = part.Parameter
 class_of [] (Declare t xs) = part.Specification
@@ -58,9 +59,10 @@ AreOrdered before (s ∷ t ∷ more) = MayStandAfter before (class_of s.conditio
 abbrev pub IsUnit : List Statement → Type 0
 IsUnit unit = AreOrdered [] unit
 
--- a unit is a main program unless its first statement is SUBROUTINE (14.1 and 15.6.1)
+-- a unit is a main program unless its first statement is SUBROUTINE or FUNCTION (14.1, 15.5.1 and 15.6.1)
 abbrev pub begins_main : Form → Bool
 begins_main (Subroutine p ds) = false
+begins_main (Function t p ds) = false
 begins_main _ = true
 
 abbrev pub is_main : List Statement → Bool
@@ -109,8 +111,7 @@ left_out_words =
     ∷ plain (codes "INQUIRE") ∷ plain (codes "REWIND") ∷ plain (codes "BACKSPACE") ∷ plain (codes "ENDFILE")
     ∷ plain (codes "EQUIVALENCE") ∷ plain (codes "SAVE") ∷ plain (codes "ENTRY") ∷ plain (codes "EXTERNAL")
     ∷ plain (codes "INTRINSIC") ∷ plain (codes "ASSIGN") ∷ plain (codes "PAUSE") ∷ plain (codes "BLOCKDATA")
-    ∷ plain (codes "INCLUDE") ∷ plain (codes "FUNCTION")
-    ∷ (codes "INTEGERFUNCTION", codes "FUNCTION") ∷ (codes "LOGICALFUNCTION", codes "FUNCTION") ∷ []
+    ∷ plain (codes "INCLUDE") ∷ []
 
 -- one of these words begins the text, and has this name
 abbrev pub BeginsWith : List (List ℕ × List ℕ) → List ℕ → List ℕ → Type 0

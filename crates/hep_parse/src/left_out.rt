@@ -10,7 +10,7 @@ use hep_statement::{Rule, logical_if, rule_of};
 use std::alloc::Global;
 
 /// The words with which these statements begin, each with the name that is reported.
-const WORDS: [(&[u8], &[u8]); 25] = [
+const WORDS: [(&[u8], &[u8]); 22] = [
     (b"REAL", b"REAL"),
     (b"DOUBLEPRECISION", b"DOUBLEPRECISION"),
     (b"COMPLEX", b"COMPLEX"),
@@ -33,9 +33,6 @@ const WORDS: [(&[u8], &[u8]); 25] = [
     (b"PAUSE", b"PAUSE"),
     (b"BLOCKDATA", b"BLOCKDATA"),
     (b"INCLUDE", b"INCLUDE"),
-    (b"FUNCTION", b"FUNCTION"),
-    (b"INTEGERFUNCTION", b"FUNCTION"),
-    (b"LOGICALFUNCTION", b"FUNCTION"),
 ];
 
 /// The name of the first of these words with which a text begins.

@@ -43,7 +43,8 @@ impl StatementClass {
             return StatementClass::Action;
         }
         match form {
-            Form::Program(_) | Form::Subroutine(_, _) => StatementClass::Header,
+            Form::Program(_) | Form::Subroutine(_, _) | Form::Function(..) =>
+                StatementClass::Header,
             Form::Implicit(_) => StatementClass::Implicit,
             Form::Parameter(_) => StatementClass::Parameter,
             Form::Declare(_, _) | Form::Dimension(_) | Form::Common(_) =>
@@ -58,7 +59,7 @@ impl StatementClass {
 fn begins_main(form: &Form) -> bool
     ensures { result ≡ grammar.begins_main form.now }
 {
-    !matches!(form, Form::Subroutine(_, _))
+    !matches!(form, Form::Subroutine(_, _) | Form::Function(..))
 }
 
 /// Which parts of a unit have been read (X3.9-1978, 3.5).

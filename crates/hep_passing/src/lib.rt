@@ -5,6 +5,7 @@
 #![tactic(auto)]
 
 pub mod entry;
+pub mod fronting;
 pub mod given;
 pub mod giving;
 pub mod laws;
@@ -12,6 +13,7 @@ pub mod making;
 pub mod passing;
 
 pub use entry::Passed;
+pub use fronting::in_front;
 pub use given::Given;
 pub use giving::give_actuals;
 pub use making::{AllPassed, FromPassed, make_from_entries};

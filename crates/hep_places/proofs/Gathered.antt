@@ -1,7 +1,8 @@
 -- Names of actual arguments, as loops gather them.
 use Rattle.std.proofs.Common.{◌≡◌, Bool, true, false, List, [], ◌∷◌, ◌++◌, refl, ap, sym, ◌∙◌, if◌then◌else◌}
 use Rattle.std.specs.List.{flat_map}
-use Rattle.hep_machine.specs.Words.{Name, is_among, same_name}
+use Rattle.hep_machine.specs.Words.{Name, Tree, is_among, same_name, trees_of}
+use Rattle.hep_conditions.specs.Words.{list_of}
 use Rattle.hep_names.specs.Tables.{either}
 
 among-append : (x : Name) (xs ys : List Name) → is_among x (xs ++ ys) ≡ either (is_among x xs) (is_among x ys)
@@ -22,6 +23,19 @@ among-next x f a new whole y ys rest h d e =
     ∙ (either-assoc a (is_among x (f y)) (is_among x (flat_map f rest))
     ∙ (ap (either a) (sym (among-append x (f y) (flat_map f rest)))
     ∙ (ap (λ zs. either a (is_among x (flat_map f zs))) (sym d) ∙ h)))
+
+pub among-both : (x : Name) (a b new : Bool) (xs ys : List Name) → b ≡ either a (is_among x xs) → new ≡ either b (is_among x ys) → new ≡ either a (is_among x (xs ++ ys))
+among-both x a b new xs ys first second =
+    second ∙ (ap (λ c. either c (is_among x ys)) first ∙ (either-assoc a (is_among x xs) (is_among x ys) ∙ ap (either a) (sym (among-append x xs ys))))
+
+-- a list of trees in memory
+pub list_same : (ts : List Tree) → list_of (trees_of ts) ≡ ts
+list_same [] = refl
+list_same (t ∷ ts) = ap (λ us. t ∷ us) (list_same ts)
+
+pub either_none : (a : Bool) → either a false ≡ a
+either_none true = refl
+either_none false = refl
 
 pub among-one : (x y : Name) → same_name x y ≡ is_among x (y ∷ [])
 among-one x y = by (same_name x y) where

@@ -33,6 +33,8 @@ map-same f g (x ∷ xs) h = (λ i. h x (zero, refl) i ∷ map-same f g xs (λ y 
 
 header-named : (unit : List Statement) (f : Form) (x : Name) → Has (dummies_by_header f) x → (p : Occurrence) × Has (occurrences_in_form unit f) p × (p.name ≡ x)
 header-named unit (form.Subroutine q ps) x h = let found = map_at (λ (p : Occurrence). p.name) ps h.0 x h.1 in (found.0, (h.0, found.1), found.2)
+header-named unit (form.Function t q ps) x h =
+    let found = map_at (λ (p : Occurrence). p.name) ps h.0 x h.1 in (found.0, has_more q ps found.0 (h.0, found.1), found.2)
 header-named unit _ x h = absurd (none-some x h.1)
 
 pub dummy-named : (unit ss : List Statement) (x : Name) → Has (dummies_of ss) x → (p : Occurrence) × Has (flat_map (occurrences_in_statement unit) ss) p × (p.name ≡ x)

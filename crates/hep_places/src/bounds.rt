@@ -113,7 +113,7 @@ fn add_listed(
                 },
             )
         }
-        Meaning::Element | Meaning::State(_) | Meaning::Unknown => {
+        Meaning::Element | Meaning::State(_) | Meaning::External => {
             add(code, BoundOperation::Nowhere)
         }
     }

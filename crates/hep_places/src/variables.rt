@@ -124,7 +124,7 @@ pub(crate) fn private_among(
     if names.is_empty() {
         return Ok(Vec::new(alloc));
     }
-    let actuals = bare_actuals(alloc, symbols.statements())?;
+    let actuals = bare_actuals(alloc, symbols)?;
     let mut cells = Vec::new(alloc);
     for name in names {
         if is_private(symbols, &actuals, name) {

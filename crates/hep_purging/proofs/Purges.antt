@@ -1,14 +1,14 @@
 -- A PURGE that stands ahead: what it names, that this can be found, and that it does what the source machine does.
 use Rattle.std.proofs.Common.{◌≡◌, ℕ, suc, ◌+◌, ◌-◌, List, [], ◌∷◌, ◌++◌, length, map, Some, Result, Ok, Err, refl, sym, ap, ◌∙◌, subst, arith}
 use Rattle.std.specs.List.{flat_map}
-use Rattle.hep_machine.specs.Words.{Name, Value, dummy_for, level_after_statement, Next, Reference, does, purging, referred, Dummy, result_after_purge, state_with_store, store_after_purge}
+use Rattle.hep_machine.specs.Words.{Name, Value, dummy_for, level_after_statement, Next, Reference, does, evaluating, leaving, purging, wants, referred, Dummy, result_after_purge, state_with_store, store_after_purge}
 use Rattle.hep_machine.specs.declared.event.Kind.{Kind}
 use Rattle.hep_arena.specs.Holes.{IsOut}
 use Rattle.hep_code.specs.declared.instruction.Instruction.{Instruction}
 use Rattle.hep_code.specs.declared.instruction.Instruction.TheVariants.{Pass, Step}
 use Rattle.hep_code.specs.declared.instruction.Operation.TheVariants.{Purge}
 use Rattle.hep_code.specs.declared.variable.Variable.{Variable}
-use Rattle.hep_code.specs.Words.{referred_argument, passed_from, passed_reference}
+use Rattle.hep_code.specs.Words.{referred_argument, passed_from, passed_reference, table_of}
 use Rattle.hep_code.proofs.Leads.{operation_leads}
 use Rattle.hep_code.proofs.Moves.{after_statement_keeps}
 use Rattle.hep_code.proofs.Entries.{references_passed}
@@ -25,7 +25,7 @@ use Rattle.hep_passing.proofs.Ready.{variable-passable}
 use Rattle.hep_passing.proofs.References.{reference-passed}
 use Rattle.hep_step.specs.Ready.{frame_in_arena}
 use Rattle.hep_step.specs.Simulation.{IsRunning, RunningTop, Simulates, addressed_on_top, arrays_running, code_ahead, counts_in, unit_running}
-use Rattle.hep_step.proofs.Running.{Comes, action_made, coming, fault_is, is_at, next_is, reached, scope_running}
+use Rattle.hep_step.proofs.Running.{Comes, action_made, coming, fault_is, is_at, next_is, no_end, reached, scope_running}
 use Rattle.hep_purging.specs.declared.range.ClosedRange.{ClosedRange}
 use Rattle.hep_purging.specs.Placed.{AreEntriesPlaced}
 use Rattle.hep_purging.specs.Purged.{effect_of_purge, effect_of_ranges, purged}
@@ -50,6 +50,8 @@ module _ (r : RunningTop) (line count next : ℕ) (behind : List Instruction) (r
   purge_by : (n : Next) → coming r ≡ n → Comes r n (Purge count next) behind → IsPurgeAhead
   purge_by (does (purging targets)) is h =
       record { targets = targets; does_so = is; counted = cc h.operation; operands_are = h.operands_are; more = h.more; entries = h.entries }
+  purge_by (wants (evaluating q)) is h = absurd (cc h.operation)
+  purge_by (does leaving) is h = no_end (Purge count next) (table_of (addressed_on_top r.program r.top)).result h.operation refl
   purge_by _ is h = absurd (cc h.operation)
 
   pub purge_ahead : IsPurgeAhead

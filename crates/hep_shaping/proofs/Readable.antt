@@ -1,6 +1,6 @@
 -- What the code of a bound reads can be read where the sources of the names can: docs/MACHINE.md, "Variables and frames".
 use Rattle.std.proofs.Common.{ℕ, List, [], ◌∷◌, ◌++◌, Option, Some, None}
-use Rattle.hep_machine.specs.Words.{Dimension, UpperBound, Expression, Open, Name, Statement, Tree, Trees, constant, occurrence, with_list, parenthesized, signed, negated, binary, no_trees, trees, Meaning, element, pure, state, unknown, listed_meaning}
+use Rattle.hep_machine.specs.Words.{Dimension, UpperBound, Expression, Open, Name, Statement, Tree, Trees, constant, occurrence, with_list, parenthesized, signed, negated, binary, no_trees, trees, Meaning, element, external, pure, state, listed_meaning}
 use Rattle.hep_arena.specs.Space.{Space}
 use Rattle.hep_code.specs.Words.{count}
 use Rattle.hep_passing.specs.declared.given.Given.{Given}
@@ -22,7 +22,7 @@ module _ (space : Space) (given : List Given) where
   listed_readable (pure f) n os h = both_readable os (Apply f n ∷ []) h (tt, tt)
   listed_readable element n os h = (tt, tt)
   listed_readable (state f) n os h = (tt, tt)
-  listed_readable unknown n os h = (tt, tt)
+  listed_readable external n os h = (tt, tt)
 
   module _ (unit : List Statement) (source : Sources) (sources : (x : Name) → IsReadable space given (source x)) where
     abbrev code : Tree → List BoundOperation

@@ -1,10 +1,10 @@
 -- The units of a program and their statements: X3.9-1978, 2.4 and 3.5.
 use Rattle.std.specs.Prelude.{ℕ, suc, ◌+◌, Bool, true, false, codes, List, [], ◌∷◌, map, Option, Some, None, slice_get, drop, if◌then◌else◌}
-use Rattle.std.specs.Option.{unwrap_or}
+use Rattle.std.specs.Option.{option_or, unwrap_or}
 use Rattle.hep_source.specs.declared.name.Name.{Name}
 use Rattle.hep_source.specs.declared.name.Occurrence.{Occurrence}
 use Rattle.hep_source.specs.declared.statement.Form.{Form}
-use Rattle.hep_source.specs.declared.statement.Form.TheVariants.{Program, Subroutine, Implicit, Declare, Dimension, Common, Parameter, Data}
+use Rattle.hep_source.specs.declared.statement.Form.TheVariants.{Program, Subroutine, Function, Implicit, Declare, Dimension, Common, Parameter, Data}
 use Rattle.hep_source.specs.declared.statement.Statement.{Statement}
 use Rattle.hep_source.specs.Names.{spelling, same_name, index_where}
 use Rattle.hep_source.specs.Defaults.{no_unit, no_statement}
@@ -26,6 +26,7 @@ main_name = codes "MAIN"
 abbrev pub name_by_header : Form → List ℕ
 name_by_header (Program p) = spelling p.name
 name_by_header (Subroutine p dummies) = spelling p.name
+name_by_header (Function t p dummies) = spelling p.name
 name_by_header _ = main_name
 
 -- the name that a unit has
@@ -42,11 +43,25 @@ abbrev pub subroutine_name : List Statement → Option Name
 subroutine_name [] = None
 subroutine_name (s ∷ ss) = subroutine_by_header s.form
 
+abbrev pub function_by_header : Form → Option Name
+function_by_header (Function t p dummies) = Some p.name
+function_by_header _ = None
+
+-- the name of a function, which its result has too
+abbrev pub function_name : List Statement → Option Name
+function_name [] = None
+function_name (s ∷ ss) = function_by_header s.form
+
+-- the name of a subroutine or function
+abbrev pub procedure_name : List Statement → Option Name
+procedure_name unit = option_or (subroutine_name unit) (function_name unit)
+
 abbrev pub names_of_occurrences : List Occurrence → List Name
 names_of_occurrences ps = map (λ (p : Occurrence). p.name) ps
 
 abbrev pub dummies_by_header : Form → List Name
 dummies_by_header (Subroutine p dummies) = names_of_occurrences dummies
+dummies_by_header (Function t p dummies) = names_of_occurrences dummies
 dummies_by_header _ = []
 
 -- the dummy arguments of a unit: 15.6.1
@@ -62,12 +77,16 @@ is_named (Some y) x = same_name y x
 abbrev pub subroutine_called : Units → Name → Option ℕ
 subroutine_called program x = index_where (λ unit. is_named (subroutine_name unit) x) program
 
+-- the index of the function that has a name
+abbrev pub function_called : Units → Name → Option ℕ
+function_called program x = index_where (λ unit. is_named (function_name unit) x) program
+
 abbrev pub is_main : Option Name → Bool
 is_main None = true
 is_main (Some x) = false
 
 abbrev pub main_among : Units → Option ℕ
-main_among program = index_where (λ unit. is_main (subroutine_name unit)) program
+main_among program = index_where (λ unit. is_main (procedure_name unit)) program
 
 -- the index of the main program
 abbrev pub main_unit : Units → ℕ
@@ -79,6 +98,7 @@ main_unit program = unwrap_or (main_among program) no_unit
 abbrev pub is_executable : Form → Bool
 is_executable (Program p) = false
 is_executable (Subroutine p dummies) = false
+is_executable (Function t p dummies) = false
 is_executable (Implicit groups) = false
 is_executable (Declare t declarators) = false
 is_executable (Dimension declarators) = false

@@ -64,7 +64,10 @@ impl Unit {
         ensures { IfOk result (λ name. name ≡ units.unit_name self.now) }
     {
         if let [first, ..] = self.as_slice() {
-            if let Form::Program(occurrence) | Form::Subroutine(occurrence, _) = &first.form {
+            if let Form::Program(occurrence)
+            | Form::Subroutine(occurrence, _)
+            | Form::Function(_, occurrence, _) = &first.form
+            {
                 return occurrence.name.spelling(alloc);
             }
         }

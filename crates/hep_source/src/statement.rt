@@ -44,6 +44,8 @@ pub enum Form {
     Program(Occurrence),
     /// The header of a subroutine with its dummy arguments (15.6.1).
     Subroutine(Occurrence, Sequence<Occurrence>),
+    /// The header of a function with its dummy arguments, and its type where the header gives it one (15.5.1).
+    Function(Option<ValueType>, Occurrence, Sequence<Occurrence>),
     /// IMPLICIT (8.5).
     Implicit(Sequence<ImplicitGroup>),
     /// A type statement (8.4).
@@ -147,6 +149,7 @@ impl Syntax for Form {
         match self {
             Form::Program(x) => Ok(Form::Program(*x)),
             Form::Subroutine(x, y) => Ok(Form::Subroutine(*x, y.copy(alloc)?)),
+            Form::Function(x, y, z) => Ok(Form::Function(*x, *y, z.copy(alloc)?)),
             Form::Implicit(x) => Ok(Form::Implicit(x.copy(alloc)?)),
             Form::Declare(x, y) => Ok(Form::Declare(*x, y.copy(alloc)?)),
             Form::Dimension(x) => Ok(Form::Dimension(x.copy(alloc)?)),
@@ -178,6 +181,7 @@ impl Syntax for Form {
         match (self, other) {
             (Form::Program(a), Form::Program(c)) => a == c,
             (Form::Subroutine(a, b), Form::Subroutine(c, d)) => a == c && b.same(d),
+            (Form::Function(a, b, c), Form::Function(d, e, f)) => a == d && b == e && c.same(f),
             (Form::Implicit(a), Form::Implicit(c)) => a.same(c),
             (Form::Declare(a, b), Form::Declare(c, d)) => a == c && b.same(d),
             (Form::Dimension(a), Form::Dimension(c)) => a.same(c),

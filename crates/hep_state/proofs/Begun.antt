@@ -1,22 +1,22 @@
--- What a core keeps after a CALL or CREATE shows the state then; the activation that it makes, and whether its frame has a gap.
-use Rattle.std.proofs.Common.{◌≡◌, ℕ, suc, ◌+◌, ◌≤◌, Bool, true, false, List, [], ◌∷◌, ◌++◌, length, Some, refl, sym, ap, ◌∙◌, subst, arith, Option, None, if◌then◌else◌, nat_eq, is_some, IsSome, eqb-true, length-append, length-set}
+-- What a core keeps after a CALL, CREATE or reference shows the state then; the activation that it makes, and whether its frame has a gap.
+use Rattle.std.proofs.Common.{◌≡◌, ℕ, suc, ◌+◌, ◌≤◌, Bool, true, false, List, [], ◌∷◌, ◌++◌, length, Some, refl, sym, ap, ◌∙◌, subst, arith, Option, None, if◌then◌else◌, nat_eq, is_some, IsSome, eqb-true, length-append, length-set, length-take-le, take}
 use Rattle.std.proofs.lemmas.Option.{same_Some, none-some}
-use Rattle.hep_machine.specs.Words.{Units, executable_from, unit_at, Binding, level_after_statement, Layout, frame_of, is_held, layout_of, common_cells, lowest_gap, remaining_layout, with_frame, numbered, unit_of, with_numbered, activation_of, Activation, Process, State, Actual, Scope, Bounds, frame_cells}
+use Rattle.hep_machine.specs.Words.{Name, Value, Units, executable_from, function_name, unit_at, Binding, level_after_statement, Layout, frame_of, is_held, layout_of, common_cells, lowest_gap, remaining_layout, with_frame, numbered, unit_of, with_numbered, activation_of, Activation, Process, State, Actual, Scope, Bounds, frame_cells}
 use Rattle.hep_arena.specs.Space.{Space}
-use Rattle.hep_code.specs.Words.{Stands}
+use Rattle.hep_code.specs.Words.{Awaits, Stands}
 use Rattle.hep_code.proofs.Moves.{StandsAt, after_statement_stands, entry_stands}
 use Rattle.hep_layout_laws.specs.Bound.{AreKept}
 use Rattle.hep_layout.specs.Words.{FrameNode, Nodes, also, is_stacked, new_node, frame_from}
 use Rattle.hep_layout.proofs.Memory.{memory-fits}
 use Rattle.hep_frames.specs.Keeping.{AreOfSomeState as ArenaKept}
 use Rattle.hep_step.specs.declared.way.Way.{Way}
-use Rattle.hep_step.specs.declared.way.Way.TheVariants.{Calls, Creates}
-use Rattle.hep_step.specs.Calls.{is_creation}
+use Rattle.hep_step.specs.declared.way.Way.TheVariants.{Calls, Creates, Refers}
+use Rattle.hep_step.specs.Calls.{GoesOn, is_creation}
 use Rattle.hep_step.specs.Simulation.{unit_addressed}
 use Rattle.hep_state.specs.declared.machine.Level.{Level}
-use Rattle.hep_state.specs.Words.{Snapshot, Stack, IsTurning, TurnOf, call_in, frames_before, state_before, state_failed, HasMadeTurn, HasGaps, HasNoGap, HasEntered, IsAfterCall, entered_level, snapshot_made_by, stacks_made_by, state_made, IsMaking, IsUnit, IsEnding}
+use Rattle.hep_state.specs.Words.{Snapshot, Stack, IsTurning, TurnOf, call_in, frames_before, state_before, state_failed, HasMadeTurn, HasGaps, HasNoGap, HasEntered, HasResultBy, IsAfterCall, entered_level, snapshot_made_by, stacks_made_by, state_made, IsMaking, IsUnit, IsEnding}
 use Rattle.hep_state.proofs.Leaving.{kept-entered}
-use Rattle.hep_state.proofs.Standing.{AreOn, AreMade, AreStanding, AreStandingBelow, IsHere, StandsOnTop, below-still, here-at, here-still, keeps-none, made-more}
+use Rattle.hep_state.proofs.Standing.{AreOn, AreMade, AreStanding, AreStandingBelow, IsHere, StandsOnTop, below-still, here-at, here-still, keeps-last, made-more}
 use Rattle.hep_state.proofs.Moved.{standing-before}
 use Rattle.hep_state.proofs.Runs.{layout-more, all-remain, standing-changed, standing-more, stepped-after, layout-left}
 use Rattle.hep_entering.specs.Calling.{AreActualsPassed, CallOf, IsKeptIn, called_activation, frames_with, layout_with, level_behind, level_called, state_begun, state_called, state_created, state_made_by, IsWritten, unit_begun}
@@ -44,11 +44,11 @@ module _ {t : TurnOf} (h : IsTurning t) (u : ℕ) (actuals : List Actual) (b : B
   abbrev layout : Layout
   layout = h.after.layout
 
-  -- ---- in the state to which a CALL or CREATE leads
+  -- ---- in the state to which a CALL, CREATE or reference leads
 
-  module _ (way : Way) (key : ℕ) (arena : Space) (nodes : Nodes) (e : HasEntered t h u key (state_made_by (is_creation way) (call_in t u actuals b)) arena nodes) where
+  module _ (creates : Bool) (key : ℕ) (arena : Space) (nodes : Nodes) (e : HasEntered t h u key (state_made_by creates (call_in t u actuals b)) arena nodes) where
     abbrev later : State
-    later = state_made_by (is_creation way) call
+    later = state_made_by creates call
 
     abbrev n : ℕ
     n = length later.activations
@@ -57,13 +57,13 @@ module _ {t : TurnOf} (h : IsTurning t) (u : ℕ) (actuals : List Actual) (b : B
     now = layout_with t.program later layout e.first
 
     begun : later.activations ≡ (state_begun call).activations
-    begun = made-begun (is_creation way) call
+    begun = made-begun creates call
 
     number : n ≡ suc (length old.activations)
     number = long call later begun
 
     keeps : IsKeptIn (frames_before t h) later e.first arena nodes
-    keeps = made-keeps (is_creation way) call h.lives layout e.first (length t.machine.arena.contents) h.after.shows.keeps.memory.laid (is_held old) arena nodes e.written
+    keeps = made-keeps creates call h.lives layout e.first (length t.machine.arena.contents) h.after.shows.keeps.memory.laid (is_held old) arena nodes e.written
 
     laid : layout_of t.program t.cells is_held (t.choices ++ t.process ∷ []) ≡ Some now
     laid =
@@ -101,8 +101,8 @@ module _ {t : TurnOf} (h : IsTurning t) (u : ℕ) (actuals : List Actual) (b : B
         here-at t.program later nodes t.level level t.top.0.activation a key_is unit_is same (
         here-still t.program old later t.machine.nodes nodes made stay t.level t.top.0.activation (standing-before h).0.here (sym (ap (is_stacked later) same) ∙ on))
 
-    below-stand : AreOn later t.top.1 → AreStandingBelow t.program later nodes t.pending t.below t.top.1
-    below-stand = below-still t.program old later t.machine.nodes nodes made stay t.pending t.below t.top.1 (standing-before h).1
+    below-stand : AreOn later t.top.1 → AreStandingBelow t.program later nodes t.level.unit t.pending t.below t.top.1
+    below-stand = below-still t.program old later t.machine.nodes nodes made stay t.level.unit t.pending t.below t.top.1 (standing-before h).1
 
     -- each process, where that of the turn has another stack
     all-stand : (k : Stack) (q : Process) → (AreOn later q → AreStanding t.program later nodes k.operands k.pending k.levels q)
@@ -117,7 +117,7 @@ module _ {t : TurnOf} (h : IsTurning t) (u : ℕ) (actuals : List Actual) (b : B
 
     -- what the dummy arguments of each activation stand for, that of the new one and of those that were there
     kept-then : (a : ℕ) → is_stacked later a ≡ true → AreKept t.program later now a
-    kept-then a on = by_number (nat_eq a n) refl (sym (made-stacks call h.lives (is_creation way) a) ∙ on) where
+    kept-then a on = by_number (nat_eq a n) refl (sym (made-stacks call h.lives creates a) ∙ on) where
       by_number : (c : Bool) → nat_eq a n ≡ c → (if c then true else is_stacked old a) ≡ true → AreKept t.program later now a
       by_number true is on = subst (AreKept t.program later now) (sym (eqb-true a n is)) e.kept
       by_number false is on =
@@ -137,25 +137,40 @@ module _ {t : TurnOf} (h : IsTurning t) (u : ℕ) (actuals : List Actual) (b : B
   set-many : (k : Stack) (q : Process) → length (with_numbered t.machine.processes t.process k) ≡ length (with_numbered (state_before t).processes t.process q)
   set-many k q = length-set t.machine.processes _ k ∙ (h.after.shows.processes ∙ sym (length-set old.processes _ q))
 
-  -- the new one is on top of its caller, or a process of its own
-  pub made-shown : (way : Way) (key index : ℕ) (arena : Space) (nodes : Nodes) → HasEntered t h u key (state_made_by (is_creation way) (call_in t u actuals b)) arena nodes → IsAfterCall t index
-      → HasMadeTurn t (snapshot_made_by way t u key index arena nodes)
-  made-shown Calls key index arena nodes e at =
+  -- the new one is above the one that makes it, which keeps operands until it ends
+  above-shown : (key kept index : ℕ) (arena : Space) (nodes : Nodes) → HasEntered t h u key (state_called call) arena nodes → kept ≤ length t.operands → Awaits (function_name (unit_at t.program u)) (unit_addressed t.program t.level.unit) t.top.0 (take kept t.operands) index
+      → HasMadeTurn t (snapshot_made_by false t u key kept index arena nodes)
+  above-shown key kept index arena nodes e few awaits =
       let later = state_called call in
-      let k : Stack = record { levels = entered_level t.program u key ∷ (record t.level { kept = 0; index = index } ∷ t.below); operands = []; pending = t.pending } in
+      let maker : Level = record t.level { kept = kept; index = index } in
+      let vs = take kept t.operands in
+      let k : Stack = record { levels = entered_level t.program u key ∷ (maker ∷ t.below); operands = []; pending = t.pending ++ vs } in
       let q : Process = level_called call ∷ (t.top.0 ∷ t.top.1) in
-      let own : AreOn later q → AreStanding t.program later nodes [] t.pending k.levels q =
-      λ on.
-      let keeps = keeps-none t.pending 0 refl in (
-        new-stands Calls key arena nodes e,
+      let many : length vs ≡ kept = length-take-le kept t.operands few in
+      let parts = keeps-last t.pending vs kept (sym many) in
+      let own : AreOn later q → AreStanding t.program later nodes [] (t.pending ++ vs) k.levels q =
+      λ on. (
+        new-stands false key arena nodes e,
         (
-          record { here = maker-here Calls key arena nodes e (record t.level { kept = 0; index = index }) t.top.0.activation refl refl refl on.2.1; index = at; operands = keeps.0 },
-          subst (λ rest. AreStandingBelow t.program later nodes rest t.below t.top.1) (sym keeps.1) (below-stand Calls key arena nodes e on.2.2),
+          record { here = maker-here false key arena nodes e maker t.top.0.activation refl refl refl on.2.1; awaits = subst (λ ws. Awaits (function_name (unit_at t.program u)) (unit_addressed t.program t.level.unit) t.top.0 ws index) (sym parts.0) awaits },
+          subst (λ rest. AreStandingBelow t.program later nodes t.level.unit rest t.below t.top.1) (sym parts.1) (below-stand false key arena nodes e on.2.2),
         ),
-        omega (arith, (standing-before h).2),
+        omega (arith, (standing-before h).2, many, length-append t.pending vs),
       ) in
-      shown Calls key arena nodes e (stacks_made_by Calls t (entered_level t.program u key) (record t.level { index = index })) (set-many k q) (all-stand Calls key arena nodes e k q own) refl refl refl
-  made-shown Creates key index arena nodes e at =
+      shown false key arena nodes e (stacks_made_by false t kept (entered_level t.program u key) (record t.level { index = index })) (set-many k q) (all-stand false key arena nodes e k q own) refl refl refl
+
+  -- where it does so by CALL or by reference
+  awaits-so : (x : Option Name) (way : Way) (vs : List Value) (index : ℕ) → is_creation way ≡ false → HasResultBy way x → GoesOn way (unit_addressed t.program t.level.unit) t.top.0 vs index → Awaits x (unit_addressed t.program t.level.unit) t.top.0 vs index
+  awaits-so x Calls vs index above result goes = subst (λ y. Awaits y (unit_addressed t.program t.level.unit) t.top.0 vs index) (sym result) goes
+  awaits-so x Refers vs index above result goes = subst (λ y. Awaits y (unit_addressed t.program t.level.unit) t.top.0 vs index) (sym result.1) goes
+  awaits-so x Creates vs index above result goes = absurd (cc above)
+
+  -- the new one is on top of its caller, or a process of its own
+  pub made-shown : (way : Way) (key kept index : ℕ) (arena : Space) (nodes : Nodes) → HasEntered t h u key (state_made_by (is_creation way) (call_in t u actuals b)) arena nodes → IsAfterCall way t u kept index
+      → HasMadeTurn t (snapshot_made_by (is_creation way) t u key kept index arena nodes)
+  made-shown Calls key kept index arena nodes e at = above-shown key kept index arena nodes e at.few (awaits-so _ Calls (take kept t.operands) index refl at.result at.onward)
+  made-shown Refers key kept index arena nodes e at = above-shown key kept index arena nodes e at.few (awaits-so _ Refers (take kept t.operands) index refl at.result at.onward)
+  made-shown Creates key kept index arena nodes e at =
       let later = state_created call in
       let k : Stack = record { levels = record t.level { index = index } ∷ t.below; operands = []; pending = t.pending } in
       let q : Process = level_behind call ∷ t.top.1 in
@@ -168,15 +183,15 @@ module _ {t : TurnOf} (h : IsTurning t) (u : ℕ) (actuals : List Actual) (b : B
       let own : AreOn later q → AreStanding t.program later nodes [] t.pending k.levels q =
       λ on. (
         record {
-          here = maker-here Creates key arena nodes e (record t.level { index = index }) (level_behind call).activation refl refl (behind-keeps call).1 on.1;
+          here = maker-here true key arena nodes e (record t.level { index = index }) (level_behind call).activation refl refl (behind-keeps call).1 on.1;
           stands =
               subst (λ v. Stands addressed (level_after_statement (unit_at t.program v) t.top.0).statement (level_after_statement (unit_at t.program v) t.top.0).work [] index) (sym unit_is) (
-              subst (StandsAt addressed (level_after_statement (unit_at t.program t.level.unit) t.top.0)) (sym at) (after_statement_stands addressed t.top.0));
+              subst (StandsAt addressed (level_after_statement (unit_at t.program t.level.unit) t.top.0)) (sym at.onward.0) (after_statement_stands addressed t.top.0));
         },
-        below-stand Creates key arena nodes e on.2,
+        below-stand true key arena nodes e on.2,
         (standing-before h).2,
       ) in
-      shown Creates key arena nodes e (stacks_made_by Creates t (entered_level t.program u key) (record t.level { index = index })) count (more-stand Creates key arena nodes e k k2 q q2 (set-many k q) own (new-stands Creates key arena nodes e, tt, refl)) refl refl refl
+      shown true key arena nodes e (stacks_made_by true t kept (entered_level t.program u key) (record t.level { index = index })) count (more-stand true key arena nodes e k k2 q q2 (set-many k q) own (new-stands true key arena nodes e, tt, refl)) refl refl refl
 
 -- ---- the activation that is made, and what it is given
 
@@ -211,7 +226,7 @@ module _ {t : TurnOf} {turning : IsTurning t} {later : State} {n key : ℕ} {sha
 
 -- ---- whether its frame has a gap
 
-module _ {way : Way} {t : TurnOf} {u n entry index : ℕ} {given : List Given} {shapes : List (Option Bounds)} (h : IsMaking way t u index given shapes) (unit : IsUnit t.program u n entry) where
+module _ {way : Way} {t : TurnOf} {u n entry kept index : ℕ} {given : List Given} {shapes : List (Option Bounds)} (h : IsMaking way t u kept index given shapes) (unit : IsUnit t.program u n entry) where
   abbrev called : State
   called = state_made h
 

@@ -1,20 +1,22 @@
 -- What a process calls whose top activation is at a CALL, what its actual arguments give and bind, and what a machine reads of it there.
-use Rattle.std.proofs.Common.{◌≡◌, ℕ, ◌<◌, List, ◌∷◌, drop, length, sym, ap, ◌∙◌, ◌++◌, subst, ◌≢◌, suc, false, [], Option, Some, None, Result, Ok, Err, refl, arith, ◌-◌, get_or, slice_get}
-use Rattle.hep_machine.specs.Words.{Name, Units, dummies_of, unit_at, unit_of, State, Dummy, Top, binding_of, next_activation, scope_of, step, unit_on_top, Statement, Value, Binding, binding_with_shapes, dummies_for, dummy_before, dummy_for, with_actuals, Actual, Reference, evaluated, next_of, referred, Frame, Layout, Scope, Bounds}
+use Rattle.std.proofs.Common.{◌≡◌, ℕ, ◌<◌, ◌≤◌, List, ◌∷◌, drop, length, length-append, length-drop, take, sym, ap, ◌∙◌, ◌++◌, subst, ◌≢◌, suc, false, [], Option, Some, None, Result, Ok, Err, refl, arith, ◌-◌, get_or, slice_get}
+use Rattle.hep_machine.specs.Words.{Name, Units, Work, dummies_of, function_name, unit_at, unit_of, State, Dummy, Top, binding_of, next_activation, scope_of, step, unit_on_top, Statement, Value, Binding, binding_with_shapes, dummies_for, dummy_before, dummy_for, with_actuals, Actual, Reference, evaluated, next_of, referred, Frame, Layout, Scope, Bounds}
 use Rattle.hep_code.specs.declared.instruction.Operation.{Operation}
 use Rattle.hep_code.specs.declared.instruction.Instruction.TheVariants.{Step}
 use Rattle.hep_code.specs.declared.variable.Variable.{Variable}
 use Rattle.std.specs.List.{flat_map}
-use Rattle.hep_code.specs.Words.{operands_of_actual, table_of, Passed, passed_from}
+use Rattle.std.proofs.Math.Seq.{take-append_seam}
+use Rattle.hep_code.specs.Words.{deepest, most_operands, operands_of_actual, operands_of_entries, Passed, passed_from}
+use Rattle.hep_code.proofs.Depths.{stands_within}
 use Rattle.hep_image.specs.declared.array.Array.{Array}
 use Rattle.hep_image.specs.Places.{variable_of}
 use Rattle.hep_passing.specs.Agreement.{CallerOf, IsCaller, AreGiven, AreGivenAs, ArePlaced, IsGiven, arrays_calling, caller_running, given_passed, passed_by_entries, scope_calling, variables_calling}
 use Rattle.hep_step.specs.declared.way.Way.{Way}
-use Rattle.hep_step.specs.Calls.{IsCallAhead, comes_by, is_creation, last_operands, making, unit_by}
+use Rattle.hep_step.specs.Calls.{GoesOn, IsCallAhead, comes_by, is_creation, last_operands, making, unit_by}
 use Rattle.hep_step.specs.Simulation.{IsRunning, code_on_top, unit_addressed, unit_arrays, unit_code, Simulates, RunningTop, code_ahead}
-use Rattle.hep_code_laws.specs.Works.{IsCalledBy}
+use Rattle.hep_code_laws.specs.Works.{ComesFrom}
 use Rattle.hep_state.specs.declared.upcoming.CallAhead.{CallAhead}
-use Rattle.hep_state.specs.Words.{HoldsInTurn, IsAtCall, IsAtStep, IsTopRunning, TurnOf, given_of, AreRunning, IsKnown, snapshot_of, stack_of, state_before, top_before, top_frame, turn_of, IsMaking, call_in, IsEnding, IsBehind, stack_with, IsThere, running_top}
+use Rattle.hep_state.specs.Words.{HasResultBy, HoldsInTurn, IsAfterCall, IsAtCall, IsAtStep, IsMadeOf, IsTopRunning, IsTurning, TurnOf, given_of, AreRunning, IsKnown, snapshot_of, stack_of, state_before, top_before, top_frame, turn_of, IsMaking, call_in, IsEnding, IsBehind, stack_with, IsThere, running_top}
 use Rattle.hep_state.proofs.Standing.{are-on}
 use Rattle.hep_state.proofs.Moved.{standing-before, unit-is, top-node}
 use Rattle.hep_state.proofs.Runs.{there}
@@ -72,7 +74,7 @@ module _ {t : TurnOf} {line : ℕ} {o : Operation} (at : IsAtStep t line o) wher
           kept = at.turning.after.shows.kept t.top.0.activation stacked;
         }
 
--- at a CALL or CREATE
+-- at a CALL, CREATE or reference
 module _ {t : TurnOf} (call : CallAhead) (at : IsAtCall t call) (known : IsKnown t.program) where
   abbrev old : State
   old = state_before t
@@ -80,34 +82,62 @@ module _ {t : TurnOf} (call : CallAhead) (at : IsAtCall t call) (known : IsKnown
   abbrev top : Top
   top = top_before t
 
-  -- what is called, and by which statement
-  pub calls : IsCallAhead call.way t.program top t.operands call.unit call.count call.next at.behind
+  -- what is called, created or referred to
+  pub calls : IsCallAhead call.way t.program top t.operands call.unit call.count call.next at.step.behind
   calls =
-      known.ahead call.way (running_top t at.turning) call.line call.unit call.count call.next at.behind (runs at known.running) (ahead-on-top at)
+      known.ahead call.way (running_top t at.step.turning) call.line call.unit call.count call.next at.step.behind (runs at.step known.running) (ahead-on-top at.step) at.onward
 
-  pub from : IsCalledBy (unit_at t.program (unit_of old t.top.0.activation)) t.top.0.statement calls.name calls.actuals
-  from = known.called call.way (unit_at t.program (unit_of old t.top.0.activation)) t.top.0.statement t.top.0.work calls.name calls.actuals (known.works t.choices t.process t.top at.turning.lives) calls.does_so
+  pub comes-from : ComesFrom (unit_at t.program (unit_of old t.top.0.activation)) t.top.0.statement t.top.0.work
+  comes-from = known.works t.choices t.process t.top at.step.turning.lives
+
+  made-of : IsMadeOf call.way t.program calls.name calls.actuals
+  made-of = known.made call.way (unit_of old t.top.0.activation) t.top.0.statement t.top.0.work calls.name calls.actuals comes-from calls.does_so
 
   pub called-inside : call.unit < length t.program
-  called-inside = subst (λ u. u < length t.program) (sym calls.unit) (known.subroutine call.way (unit_of old t.top.0.activation) t.top.0.statement calls.name calls.actuals from)
+  called-inside = subst (λ u. u < length t.program) (sym calls.unit) made-of.inside
 
   -- it has as many dummy arguments as are passed
   pub as-many : length calls.actuals ≡ length (dummies_of (unit_at t.program call.unit))
-  as-many = known.arguments call.way (unit_of old t.top.0.activation) t.top.0.statement calls.name calls.actuals from ∙ ap (λ u. length (dummies_of (unit_at t.program u))) (sym calls.unit)
+  as-many = made-of.as_many ∙ ap (λ u. length (dummies_of (unit_at t.program u))) (sym calls.unit)
 
-  -- the operands that are passed are all of them
-  pub passes-all : last_operands call.count at.behind t.operands ≡ t.operands
-  passes-all =
+  -- ---- the operands in front of those that are passed
+
+  abbrev pub kept : ℕ
+  kept = length t.operands - operands_of_entries (take call.count at.step.behind)
+
+  kept-is : kept ≡ length calls.before
+  kept-is =
       let own = flat_map operands_of_actual calls.actuals in
-      passed_last calls ∙ sym (calls.operands_are ∙ ap (λ vs. vs ++ own) calls.alone)
+      omega (arith, length-drop kept t.operands, ap length (passed_last calls), ap length calls.operands_are, length-append calls.before own)
 
-  -- what is passed, by the entries behind the CALL and the last operands
-  pub passed-by : (P : List Array → List Passed → Type 0) → P (arrays_calling (caller_at at)) (passed_by_entries (caller_at at) calls.actuals calls.more)
-      → P (unit_arrays t.program t.level.unit) (passed_from call.count at.behind (last_operands call.count at.behind t.operands))
+  front-is : take kept t.operands ≡ calls.before
+  front-is =
+      let own = flat_map operands_of_actual calls.actuals in
+      ap (λ n. take n t.operands) kept-is ∙ (ap (take (length calls.before)) calls.operands_are ∙ take-append_seam calls.before own)
+
+  -- with these the top activation goes on
+  pub goes-on : IsAfterCall call.way t call.unit kept call.next
+  goes-on =
+      let unit = unit-is at.step.turning in
+      record {
+        few = omega arith;
+        onward = carry (λ i. GoesOn call.way (unit_addressed t.program (unit i)) t.top.0 (sym front-is i) call.next) calls.onward;
+        result = subst (λ u. HasResultBy call.way (function_name (unit_at t.program u))) (sym calls.unit) made-of.result;
+      }
+
+  -- ---- what is passed
+
+  -- by the entries behind the operation and the last operands
+  pub passed-by : (P : List Array → List Passed → Type 0) → P (arrays_calling (caller_at at.step)) (passed_by_entries (caller_at at.step) calls.actuals calls.more)
+      → P (unit_arrays t.program t.level.unit) (passed_from call.count at.step.behind (last_operands call.count at.step.behind t.operands))
   passed-by P h =
-      let passed : passed_by_entries (caller_at at) calls.actuals calls.more ≡ passed_from call.count at.behind (last_operands call.count at.behind t.operands) =
+      let passed : passed_by_entries (caller_at at.step) calls.actuals calls.more ≡ passed_from call.count at.step.behind (last_operands call.count at.step.behind t.operands) =
       λ i. passed_from (sym calls.counted i) (sym calls.entries i) (sym (passed_last calls) i) in
-      subst (P (unit_arrays t.program t.level.unit)) passed (subst (λ u. P (unit_arrays t.program u) (passed_by_entries (caller_at at) calls.actuals calls.more)) (unit-is at.turning) h)
+      subst (P (unit_arrays t.program t.level.unit)) passed (subst (λ u. P (unit_arrays t.program u) (passed_by_entries (caller_at at.step) calls.actuals calls.more)) (unit-is at.step.turning) h)
+
+-- no activation has more operands than its unit's deepest stack
+pub operands-few : {t : TurnOf} → IsTurning t → length t.operands ≤ deepest (unit_code t.program t.level.unit)
+operands-few {t} h = stands_within (unit_code t.program t.level.unit) (unit_addressed t.program t.level.unit) t.top.0.statement t.top.0.work t.operands t.level.index refl (standing-before h).0.stands
 
 -- ---- actual arguments have storage units
 
@@ -152,14 +182,14 @@ module _ (program : Units) (s : State) (layout : Layout) (b : ℕ) where
   given-so xs ys (Ok hs) (Err l) gs h e = absurd h
   given-so xs ys (Err k) o gs h e = absurd cc
 
--- ---- a CALL ahead
+-- ---- a CALL, CREATE or reference ahead
 
 -- what is known besides of an accepted program with a main program
 pub record IsKnownToBind (program : Units) : Type 0 where
   pub known : IsKnown program
   -- of dummy arguments, and of the actual arguments that are given to them
   pub distinct : (u : ℕ) → u < length program → AreDistinct (dummies_of (unit_at program u))
-  pub fits : (way : Way) (u k j : ℕ) (x y : Name) (actuals : List Actual) (a : Actual) → IsCalledBy (unit_at program u) k x actuals → slice_get (dummies_of (unit_at program (unit_by way program x))) j ≡ Some y → slice_get actuals j ≡ Some a
+  pub fits : (way : Way) (u k j : ℕ) (work : Work) (x y : Name) (actuals : List Actual) (a : Actual) → ComesFrom (unit_at program u) k work → next_of (unit_at program u) work ≡ comes_by way x actuals → slice_get (dummies_of (unit_at program (unit_by way program x))) j ≡ Some y → slice_get actuals j ≡ Some a
       → FitsDummy (unit_at program u) (unit_at program (unit_by way program x)) y a
   pub placed : (unit : List Statement) (x : Name) → IsVariableOf unit x → variable_of program unit x ≢ Absent
   -- of what they give
@@ -176,7 +206,7 @@ module _ {t : TurnOf} (call : CallAhead) (at : IsAtCall t call) (all : IsKnownTo
   before = state_before t
 
   abbrev layout : Layout
-  layout = at.turning.after.layout
+  layout = at.step.turning.after.layout
 
   abbrev pub actuals : List Actual
   actuals = (calls call at all.known).actuals
@@ -193,18 +223,17 @@ module _ {t : TurnOf} (call : CallAhead) (at : IsAtCall t call) (all : IsKnownTo
   actuals-placed : ArePlaced (variable_of t.program (unit_at t.program (unit_of before t.top.0.activation))) actuals
   actuals-placed =
       let ahead = calls call at all.known in
-      let by = from call at all.known in
       let u = unit_of before t.top.0.activation in
       all-placed (variable_of t.program (unit_at t.program u)) actuals (λ j r e.
       let dummy = there-too actuals xs j (referred r) (as-many call at all.known) e in
       let named = subst (λ v. slice_get (dummies_of (unit_at t.program v)) j ≡ Some dummy.0) ahead.unit dummy.1 in
-      all.placed (unit_at t.program u) r.0 (all.fits call.way u t.top.0.statement j ahead.name dummy.0 actuals (referred r) by named e).variable)
+      all.placed (unit_at t.program u) r.0 (all.fits call.way u t.top.0.statement j t.top.0.work ahead.name dummy.0 actuals (referred r) (comes-from call at all.known) ahead.does_so named e).variable)
 
   -- what they give is what the dummy arguments of the new activation stand for, or there is the same fault
   given-as : AreGivenAs t.program before layout (next_activation before) xs actuals (given_of call at) bound
   given-as =
       passed-by call at all.known (λ arrays passed. AreGivenAs t.program before layout (next_activation before) xs actuals (given_by (cells_in t.machine.arena.contents) (top_frame t).first arrays passed) bound) (
-      all.passed (caller_at at) (next_activation before) xs actuals (calls call at all.known).more (calls-so at all.known.running) actuals-placed (sym (as-many call at all.known)))
+      all.passed (caller_at at.step) (next_activation before) xs actuals (calls call at all.known).more (calls-so at.step all.known.running) actuals-placed (sym (as-many call at all.known)))
 
   -- ---- a fault
 
@@ -216,13 +245,13 @@ module _ {t : TurnOf} (call : CallAhead) (at : IsAtCall t call) (all : IsKnownTo
   pub fault-ends : (k : Kind) → binding ≡ Err k → IsEnding t (fails call.line k)
   fault-ends k e =
       let ahead = calls call at all.known in
-      let simulated = all.faults call.way (running_top t at.turning) call.line call.unit call.count call.next at.behind (runs at all.known.running) (ahead-on-top at) ahead k e in
-      record { turning = at.turning; simulated = simulated }
+      let simulated = all.faults call.way (running_top t at.step.turning) call.line call.unit call.count call.next at.step.behind (runs at.step all.known.running) (ahead-on-top at.step) ahead k e in
+      record { turning = at.step.turning; simulated = simulated }
 
   -- ---- none
 
   abbrev memory : IsMemory t.program before layout t.machine.arena.contents t.machine.arena.holes
-  memory = at.turning.after.shows.keeps.memory
+  memory = at.step.turning.after.shows.keeps.memory
 
   -- the new activation has no frame yet
   pub frameless : frame_among (next_activation before) layout ≡ None
@@ -235,36 +264,36 @@ module _ {t : TurnOf} (call : CallAhead) (at : IsAtCall t call) (all : IsKnownTo
   dummies-given gs e = given-so t.program before layout (next_activation before) xs actuals (given_of call at) bound gs given-as e
 
   pub called-so : (gs : List Given) (shapes : List (Option Bounds)) (b : Binding) → given_of call at ≡ Ok gs → binding ≡ Ok b → AreShapesOf (unit_at t.program call.unit) b.dummies shapes
-      → IsMaking call.way t call.unit call.next gs shapes
+      → IsMaking call.way t call.unit (kept call at all.known) call.next gs shapes
   called-so gs shapes b e bound_so shaped =
       let ahead = calls call at all.known in
       let dummies = dummies-given gs e in
       let it = call_in t call.unit actuals b in
       let passing : IsPassing it =
       record {
-        lives = at.turning.lives;
+        lives = at.step.turning.lives;
         bound = bound_so;
         as_many = as-many call at all.known;
         distinct = all.distinct call.unit (called-inside call at all.known);
       } in
       record {
-        turning = at.turning;
+        turning = at.step.turning;
         actuals = actuals;
         binding = b;
         passing = passing;
         shaped = shaped;
         passed = all-passed t.program before layout (scope_of t.program before t.top.0.activation) (next_activation before) xs actuals gs dummies.0 dummies.1 dummies.2;
-        made = all.made call.way it ahead.name at.turning.running ahead.unit passing ahead.does_so;
-        after = subst (λ u. call.next ≡ ((table_of (unit_addressed t.program u)).flows t.top.0.statement).next) (unit-is at.turning) ahead.onward;
+        made = all.made call.way it ahead.name at.step.turning.running ahead.unit passing ahead.does_so;
+        after = goes-on call at all.known;
       }
 
 -- ---- what is read of a machine where a process is at a CALL, CREATE or PURGE, and what its entries and operands give by that
 
--- what is read of process p of a machine
-pub record IsRead (program : Units) (m : Machine) (p : ℕ) (q : Process) (entries : List Instruction) (arrays : List Array) (frame : CellFrame) (vs : List Value) : Type 0 where
+-- what is read of process p of a machine, with the operands past so many
+pub record IsRead (program : Units) (m : Machine) (p : ℕ) (q : Process) (entries : List Instruction) (arrays : List Array) (frame : CellFrame) (past : ℕ) (vs : List Value) : Type 0 where
   pub process : q ≡ get_or m.processes.items (p - 1) q
   pub behind : (l : Level) (ls : List Level) (before pending : List Value) → stack_of q ≡ stack_with l ls before pending → IsBehind program (nodes_of m.frames.nodes) l entries arrays frame
-  pub operands : vs ≡ q.operands.items
+  pub operands : vs ≡ drop past q.operands.items
 
 module _ {program : Units} {cells : ℕ} {choices : List ℕ} {p : ℕ} (m : Machine) {line : ℕ} {o : Operation} (at : HoldsInTurn program cells choices p (snapshot_of m) (λ t. IsAtStep t line o)) where
   pub unit-inside : at.levels.level.unit < length program
@@ -279,8 +308,8 @@ module _ {program : Units} {cells : ℕ} {choices : List ℕ} {p : ℕ} (m : Mac
       (l, at.levels.below, at.levels.operands, at.levels.pending, there.stack, (unit-inside, top-node at.holds.turning), slice_get_within code l.index _ (dropped-first code l.index _ at.holds.behind at.holds.ahead))
 
 -- what is said of the frame, the arrays and the actual arguments of the caller is said of what was read
-module _ {program : Units} {cells : ℕ} {choices : List ℕ} {p : ℕ} {m : Machine} {line : ℕ} {o : Operation} {q : Process} {entries : List Instruction} {arrays : List Array} {frame : CellFrame} {operands : List Value}
-    (read : IsRead program m p q entries arrays frame operands) (count : ℕ) (at : HoldsInTurn program cells choices p (snapshot_of m) (λ t. IsAtStep t line o)) where
+module _ {program : Units} {cells : ℕ} {choices : List ℕ} {p : ℕ} {m : Machine} {line : ℕ} {o : Operation} {q : Process} {entries : List Instruction} {arrays : List Array} {frame : CellFrame} {past : ℕ} {operands : List Value}
+    (read : IsRead program m p q entries arrays frame past operands) (count : ℕ) (at : HoldsInTurn program cells choices p (snapshot_of m) (λ t. IsAtStep t line o)) where
   abbrev t : TurnOf
   t = turn_of at
 
@@ -290,14 +319,23 @@ module _ {program : Units} {cells : ℕ} {choices : List ℕ} {p : ℕ} {m : Mac
   here : IsBehind program (nodes_of m.frames.nodes) t.level entries arrays frame
   here = read.behind t.level t.below t.operands t.pending stack
 
-  passed-there : passed_from count entries operands ≡ passed_from count at.holds.behind t.operands
-  passed-there i =
-      passed_from count ((here.behind ∙ drop_one_more (unit_code program t.level.unit) t.level.index _ at.holds.behind at.holds.ahead) i) ((read.operands ∙ operands-are q t.level t.below t.operands t.pending stack) i)
+  pub behind-there : entries ≡ at.holds.behind
+  behind-there = here.behind ∙ drop_one_more (unit_code program t.level.unit) t.level.index _ at.holds.behind at.holds.ahead
 
-  pub of-read : (P : CellFrame → List Array → List Passed → Type 0) → P (frame_in_arena (top_frame (turn_of at))) (unit_arrays program at.levels.level.unit) (passed_from count at.holds.behind at.levels.operands)
+  pub deepest-few : deepest (unit_code program t.level.unit) ≤ most_operands
+  deepest-few = here.few
+
+  pub operands-there : q.operands.items ≡ t.operands
+  operands-there = operands-are q t.level t.below t.operands t.pending stack
+
+  passed-there : passed_from count entries operands ≡ passed_from count at.holds.behind (drop past t.operands)
+  passed-there i =
+      passed_from count (behind-there i) ((read.operands ∙ ap (drop past) operands-there) i)
+
+  pub of-read : (P : CellFrame → List Array → List Passed → Type 0) → P (frame_in_arena (top_frame (turn_of at))) (unit_arrays program at.levels.level.unit) (passed_from count at.holds.behind (drop past at.levels.operands))
       → P frame arrays (passed_from count entries operands)
   of-read P = carry (λ i. P (sym here.framed i) (sym here.arrays_are i) (sym passed-there i))
 
   pub found-read : {A : Type 0} (found : ℕ → List Array → List Passed → A) (r : A) → found frame.first arrays (passed_from count entries operands) ≡ r
-      → found (top_frame (turn_of at)).first (unit_arrays program at.levels.level.unit) (passed_from count at.holds.behind at.levels.operands) ≡ r
+      → found (top_frame (turn_of at)).first (unit_arrays program at.levels.level.unit) (passed_from count at.holds.behind (drop past at.levels.operands)) ≡ r
   found-read found r = carry (λ i. found (here.framed i).first (here.arrays_are i) (passed-there i) ≡ r)

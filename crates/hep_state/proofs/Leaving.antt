@@ -1,7 +1,7 @@
 -- Once activations of a process have ended: what is on stacks, what is wanted of frames, and that what dummy arguments stand for is kept.
 use Rattle.std.proofs.Common.{◌≡◌, inl, inr, ℕ, ◌-◌, ◌≤◌, Bool, true, false, List, [], ◌∷◌, Option, Some, None, refl, sym, ap, ◌∙◌, subst, arith, length, ◌++◌, append_assoc, append-nil, ◌||◌, if◌then◌else◌, nat_eq}
 use Rattle.std.proofs.lemmas.Option.{none-some}
-use Rattle.hep_machine.specs.Words.{Units, unit_at, level_after_statement, Layout, activations_on, is_held, with_frame, is_number_among, numbered, unit_of, with_numbered, activation_of, run, Level, Process, State, Activation, Dummy, Location, common, local, stack_after_return, dummy_at, further, is_owned}
+use Rattle.hep_machine.specs.Words.{Units, unit_at, level_after_statement, Layout, activations_on, is_held, with_frame, is_number_among, numbered, unit_of, with_numbered, activation_of, run, Level, Process, State, Activation, Dummy, Location, common, local, stack_after_return, stack_after_value, Value, dummy_at, further, is_owned}
 use Rattle.hep_machine.specs.declared.slot.Slot.{Slot}
 use Rattle.hep_code.proofs.Moves.{after_statement_keeps}
 use Rattle.hep_layout.specs.Words.{level_of, slot_on_level, slot_of_loop, loop_among, descriptor_slots, FramePart, header, argument, variable, iteration, bounds, times, but, IsLaid, frame_from, RunsFrom}
@@ -46,6 +46,12 @@ caller-of program s level (l ∷ ls) x (inl same) =
     let keeps = after_statement_keeps addressed l in
     (l, inr (inl refl), (sym keeps.1 ∙ ap (λ (z : Level). z.activation) same, sym keeps.0 ∙ ap (λ (z : Level). z.loops) same))
 caller-of program s level (l ∷ ls) x (inr more) = (x, inr (inr more), (refl, refl))
+
+-- the one below an activation of a function that has ended
+pub answered-of : (program : Units) (s : State) (v : Value) (level : Level) (levels : Process) → AreOf (stack_after_value program s v levels) (level ∷ levels)
+answered-of program s v level [] x h = absurd h
+answered-of program s v level (l ∷ ls) x (inl same) = (l, inr (inl refl), (ap (λ (z : Level). z.activation) same, ap (λ (z : Level). z.loops) same))
+answered-of program s v level (l ∷ ls) x (inr more) = (x, inr (inr more), (refl, refl))
 
 levels-append : (xs ys : List Process) → all_levels (xs ++ ys) ≡ all_levels xs ++ all_levels ys
 levels-append [] ys = refl

@@ -11,3 +11,4 @@ pub mod Taken
 pub mod Callers
 pub mod Unchanged
 pub mod Purging
+pub mod Subroutines

@@ -1,11 +1,12 @@
 -- A process goes on, prints, stops all processes, waits, or ends activations: what shows the state then.
-use Rattle.std.proofs.Common.{◌≡◌, ℕ, Bool, true, List, [], ◌∷◌, ◌++◌, length, Some, None, refl, sym, ap, ◌∙◌, subst, ◌≤◌, ◌-◌, arith, inl, inr, length-set, take, if◌then◌else◌, nat_eq}
-use Rattle.hep_machine.specs.Words.{Value, Units, activations_on, is_held, layout_of, Layout, numbered, unit_of, with_numbered, activation_of, is_number_among, run, step, Process, State, Activation, Location, common, local, state_with_store, step_result_of, stepped, fault_of, stack_after_return, dummy_at}
+use Rattle.std.proofs.Common.{◌≡◌, ℕ, Bool, true, List, [], ◌∷◌, ◌++◌, length, Option, Some, None, refl, sym, ap, ◌∙◌, subst, ◌≤◌, ◌-◌, arith, drop, inl, inr, length-append, length-drop, length-set, ◌+◌, take, if◌then◌else◌, nat_eq}
+use Rattle.hep_machine.specs.Words.{Name, Value, Units, plug_work, function_name, unit_at, activations_on, is_held, layout_of, Layout, numbered, unit_of, with_numbered, activation_of, is_number_among, run, step, Process, State, Activation, Location, common, local, state_with_store, step_result_of, stepped, fault_of, stack_after_return, stack_after_value, dummy_at, with_process}
 use Rattle.hep_machine.specs.declared.record.Item.{Item}
 use Rattle.hep_machine.specs.declared.slot.Slot.{Slot}
 use Rattle.hep_machine.specs.State.{Level as SourceLevel}
 use Rattle.hep_machine.specs.Step.{wanted_of}
-use Rattle.hep_code.specs.Words.{Stands}
+use Rattle.hep_code.specs.Words.{Awaits, Stands, deepest}
+use Rattle.hep_code.proofs.Depths.{stands_within}
 use Rattle.hep_layout.specs.Words.{descriptor_slots, AreNeededBut, is_stacked, IsFrameTree, but, FrameNode, Nodes, IsAbove, IsOwnedAbove, times}
 use Rattle.hep_layout.proofs.Beginning.{tree-same, needed-same}
 use Rattle.hep_layout.proofs.Descriptors.{described-same, wanted-same}
@@ -13,13 +14,13 @@ use Rattle.hep_layout.proofs.Memory.{memory-same}
 use Rattle.hep_layout.proofs.StackChanges.{stacks-same, stacks-emptied, stacks-ended}
 use Rattle.hep_layout.proofs.Stacks.{once, times_on-numbered}
 use Rattle.hep_frames.specs.Keeping.{Keeps, AreOfSomeState, CanAllLeave, CanLeave, IsEnded, LeadUpwards, all_but, frames_of, frames_in}
-use Rattle.hep_step.specs.Effects.{moves, prints, waits, fails, returns, stops}
-use Rattle.hep_step.specs.Simulation.{state_with_record, Reaches, unit_addressed}
+use Rattle.hep_step.specs.Effects.{answers, moves, prints, waits, fails, returns, stops}
+use Rattle.hep_step.specs.Simulation.{state_with_record, Reaches, unit_addressed, unit_code}
 use Rattle.hep_state.specs.declared.machine.Level.{Level}
-use Rattle.hep_state.specs.Words.{frames_before, Snapshot, Stack, HasMadeTurn, HaveLeft, IsEffectOf, IsStack, IsTurning, TurnOf, fault_at, snapshot_moved, snapshot_printed, snapshot_stopped, top_before, top_frame, keys_of, snapshot_failed, snapshot_returned, stack_with, state_before, state_failed, state_returned, HasWaited, node_under, running_top}
-use Rattle.hep_state.proofs.Leaving.{kept-same, all-fewer, but-fewer, kept-left, still-above, all_but-is, caller-of, no-more, none-of}
+use Rattle.hep_state.specs.Words.{frames_before, Snapshot, Stack, HasMadeTurn, HaveLeft, operands_answered, pending_answered, snapshot_answered, state_answered, kept_by, IsEffectOf, IsStack, IsTurning, TurnOf, fault_at, snapshot_moved, snapshot_printed, snapshot_stopped, top_before, top_frame, keys_of, snapshot_failed, snapshot_returned, stack_with, state_before, state_failed, state_returned, HasWaited, node_under, running_top}
+use Rattle.hep_state.proofs.Leaving.{AreOf, answered-of, kept-same, all-fewer, but-fewer, kept-left, still-above, all_but-is, caller-of, no-more, none-of}
 use Rattle.hep_state.proofs.Runs.{layout-left, next, there, all-remain, set-same, standing-changed, stepped-after, held-after, remaining-after}
-use Rattle.hep_state.proofs.Standing.{AreStanding, made-same, stack-standing, standing-still, top-stands, AreOn, AreStandingBelow, IsHere, caller-stands}
+use Rattle.hep_state.proofs.Standing.{AreStanding, made-same, stack-standing, standing-still, top-stands, AreOn, AreStandingBelow, IsHere, answer-stands, caller-stands}
 use Rattle.hep_machine.proofs.Others.{step-is}
 use Rattle.std.proofs.lemmas.Bool.{cases_Bool, eq-eqb}
 use Rattle.std.proofs.lemmas.Option.{same_Some}
@@ -29,7 +30,7 @@ use Rattle.hep_arena.specs.Space.{Space}
 use Rattle.hep_layout.proofs.References.{references}
 use Rattle.hep_layout.proofs.FrameTree.{on-stacked}
 use Rattle.hep_layout_laws.specs.Bound.{AreKept as kept_of}
-use Rattle.hep_machine.proofs.Changes.{on-stack_after_return}
+use Rattle.hep_machine.proofs.Changes.{on-stack_after_return, on-stack_after_value}
 
 -- ---- what leads upwards
 
@@ -60,10 +61,10 @@ module _ (program : Units) (s : State) (nodes : Nodes) where
   AreHere (l ∷ ls) (level ∷ levels) = IsHere program s nodes l level.activation × AreHere ls levels
   AreHere _ _ = ⊥
 
-  all-here : (pending : List Value) (ls : List Level) (levels : Process) → AreStandingBelow program s nodes pending ls levels → AreHere ls levels
-  all-here pending [] [] h = tt
-  all-here pending (l ∷ ls) (level ∷ levels) h = (h.0.here, all-here (take (length pending - l.kept) pending) ls levels h.1)
-  all-here pending _ _ h = absurd h
+  all-here : (above : ℕ) (pending : List Value) (ls : List Level) (levels : Process) → AreStandingBelow program s nodes above pending ls levels → AreHere ls levels
+  all-here above pending [] [] h = tt
+  all-here above pending (l ∷ ls) (level ∷ levels) h = (h.0.here, all-here l.unit (take (length pending - l.kept) pending) ls levels h.1)
+  all-here above pending _ _ h = absurd h
 
   leaving : (on : ℕ → Bool) (ls : List Level) (levels : Process) → AreHere ls levels → ((a : ℕ) → is_number_among a (activations_on levels) ≡ true → on a ≡ true) → ((a : ℕ) → times a (activations_on levels) ≤ 1)
       → CanLeave nodes on (keys_of ls) (activations_on levels)
@@ -103,6 +104,10 @@ module _ {t : TurnOf} (h : IsTurning t) where
 
   pub unit-is : unit_of old t.top.0.activation ≡ t.level.unit
   unit-is = standing-before.0.here.unit
+
+  -- what the unit of the top activation has for its result
+  pub result-is : (x : Option Name) → function_name (unit_at t.program (unit_of old t.top.0.activation)) ≡ x → function_name (unit_at t.program t.level.unit) ≡ x
+  result-is x e = ap (λ u. function_name (unit_at t.program u)) (sym unit-is) ∙ e
 
   -- a state that its step made
   pub step-made : (later : State) → step_result_of t.program t.process old ≡ stepped later → step t.program t.process old ≡ Some later
@@ -228,26 +233,63 @@ module _ {t : TurnOf} (h : IsTurning t) where
 
   -- ---- RETURN, and END of a unit
 
+  -- the activations below the top one stay, at other statements
+  module _ (q : Process) (on : activations_on q ≡ activations_on t.top.1) (of : AreOf q (t.top.0 ∷ t.top.1)) where
+    abbrev ended : State
+    ended = with_process old t.process q
+
+    top-ended : IsEnded t.program layout (but (top_frame t).activation (is_stacked old)) old ended
+    top-ended =
+        record {
+          activations_are = refl;
+          store_is = refl;
+          stacks_are = λ a.
+              stacks-ended old ended t.process t.top q h.lives refl a (once t.program t.choices a).0 on
+              ∙ ap (λ b. but b (is_stacked old) a) (sym top-activation);
+          no_more = no-more t.program t.choices ended layout t.process (t.top.0 ∷ t.top.1) q (there h) refl of refl;
+        }
+
+    -- and it is shown where they stand
+    top-shown : (k : Stack) (arena : Space) (nodes : Nodes) → HaveLeft t h ended arena nodes → length arena.contents ≡ length t.machine.arena.contents → step_result_of t.program t.process old ≡ stepped ended
+        → AreStanding t.program old t.machine.nodes k.operands k.pending k.levels q → HasMadeTurn t (record t.machine { arena = arena; nodes = nodes; processes = with_numbered t.machine.processes t.process k })
+    top-shown k arena nodes left size made below =
+        ended-shown ended q refl refl made arena nodes left k t.machine.faults size
+        (λ a on_it. but-fewer (top_frame t).activation a (is_stacked old) (sym ((top-ended).stacks_are a) ∙ on_it))
+        (λ on_it. standing-still t.program old ended t.machine.nodes nodes (made-same old ended refl) (stay ended q refl refl made arena nodes left) k.operands k.pending k.levels q below on_it) refl h.after.shows.faults refl
+
   pub returned-ended : IsEnded t.program layout (but (top_frame t).activation (is_stacked old)) old (state_returned t)
-  returned-ended =
-      let later = state_returned t in
-      let q = stack_after_return t.program old t.top.1 in
-      record {
-        activations_are = refl;
-        store_is = refl;
-        stacks_are = λ a.
-            stacks-ended old later t.process t.top q h.lives refl a (once t.program t.choices a).0 (on-stack_after_return t.program old t.top.1)
-            ∙ ap (λ b. but b (is_stacked old) a) (sym top-activation);
-        no_more = no-more t.program t.choices later layout t.process (t.top.0 ∷ t.top.1) q (there h) refl (caller-of t.program old t.top.0 t.top.1) refl;
-      }
+  returned-ended = top-ended (stack_after_return t.program old t.top.1) (on-stack_after_return t.program old t.top.1) (caller-of t.program old t.top.0 t.top.1)
 
   pub returned-shown : (arena : Space) (nodes : Nodes) → HaveLeft t h (state_returned t) arena nodes → length arena.contents ≡ length t.machine.arena.contents → IsEffectOf t h returns → HasMadeTurn t (snapshot_returned t arena nodes)
   returned-shown arena nodes left size made =
-      let later = state_returned t in
       let q = stack_after_return t.program old t.top.1 in
-      let below : AreStanding t.program old t.machine.nodes [] t.pending t.below q = caller-stands t.program old t.machine.nodes t.pending t.below t.top.1 standing-before.1 standing-before.2 in
-      ended-shown later q refl refl made arena nodes left (record { levels = t.below; operands = []; pending = t.pending }) t.machine.faults size
-      (λ a on. but-fewer (top_frame t).activation a (is_stacked old) (sym ((returned-ended).stacks_are a) ∙ on)) (λ on. standing-still t.program old later t.machine.nodes nodes (made-same old later refl) (stay later q refl refl made arena nodes left) [] t.pending t.below q below on) refl h.after.shows.faults refl
+      top-shown q (on-stack_after_return t.program old t.top.1) (caller-of t.program old t.top.0 t.top.1) (record { levels = t.below; operands = []; pending = t.pending }) arena nodes left size made.1
+      (caller-stands t.program old t.machine.nodes t.level.unit t.pending t.below t.top.1 (result-is None made.0) standing-before.1 standing-before.2)
+
+  -- ---- the end of a function
+
+  pub answered-ended : (v : Value) → IsEnded t.program layout (but (top_frame t).activation (is_stacked old)) old (state_answered t v)
+  answered-ended v = top-ended (stack_after_value t.program old v t.top.1) (on-stack_after_value t.program old v t.top.1) (answered-of t.program old v t.top.0 t.top.1)
+
+  pub answered-shown : (v : Value) (arena : Space) (nodes : Nodes) → HaveLeft t h (state_answered t v) arena nodes → length arena.contents ≡ length t.machine.arena.contents → IsEffectOf t h (answers v) → HasMadeTurn t (snapshot_answered t v arena nodes)
+  answered-shown v arena nodes left size made =
+      let q = stack_after_value t.program old v t.top.1 in
+      top-shown q (on-stack_after_value t.program old v t.top.1) (answered-of t.program old v t.top.0 t.top.1) (record { levels = t.below; operands = operands_answered t.pending t.below v; pending = pending_answered t.pending t.below }) arena nodes left size made.2
+      (answer-stands t.program old t.machine.nodes t.level.unit made.0 v t.pending t.below t.top.1 (result-is (Some made.0) made.1) standing-before.1 standing-before.2)
+
+  -- there is room for that value behind the operands that the one below it keeps
+  pub answer-room : (v : Value) → IsEffectOf t h (answers v) → (l : Level) (ls : List Level) → t.below ≡ l ∷ ls → l.kept + 1 ≤ deepest (unit_code t.program l.unit)
+  answer-room v made l ls is =
+      by_levels t.top.1 (subst (λ ks. AreStandingBelow t.program old t.machine.nodes t.level.unit t.pending ks t.top.1) is standing-before.1) (standing-before.2 ∙ ap kept_by is)
+    where
+      by_levels : (q : Process) → AreStandingBelow t.program old t.machine.nodes t.level.unit t.pending (l ∷ ls) q → length t.pending ≡ l.kept + kept_by ls → l.kept + 1 ≤ deepest (unit_code t.program l.unit)
+      by_levels [] stands counted = absurd stands
+      by_levels (level ∷ levels) stands counted =
+          let vs = drop (length t.pending - l.kept) t.pending in
+          let addressed = unit_addressed t.program l.unit in
+          let awaits = subst (λ y. Awaits y addressed level vs l.index) (result-is (Some made.0) made.1) stands.0.awaits in
+          let within = stands_within (unit_code t.program l.unit) addressed level.statement (plug_work addressed.unit level.work v) (vs ++ v ∷ []) l.index refl (awaits v) in
+          omega (arith, within, counted, length-drop (length t.pending - l.kept) t.pending, length-append vs (v ∷ []))
 
   -- ---- a fault
 
@@ -275,7 +317,7 @@ module _ {t : TurnOf} (h : IsTurning t) where
   pub can-leave : CanLeave t.machine.nodes (is_stacked old) (keys_of (t.level ∷ t.below)) (activations_on (t.top.0 ∷ t.top.1))
   can-leave =
       let s0 = standing-before in
-      leaving t.program old t.machine.nodes (is_stacked old) (t.level ∷ t.below) (t.top.0 ∷ t.top.1) (s0.0.here, all-here t.program old t.machine.nodes t.pending t.below t.top.1 s0.1)
+      leaving t.program old t.machine.nodes (is_stacked old) (t.level ∷ t.below) (t.top.0 ∷ t.top.1) (s0.0.here, all-here t.program old t.machine.nodes t.level.unit t.pending t.below t.top.1 s0.1)
       (λ a on. on-stacked old a (t.process, t.top.0 ∷ t.top.1, there h, on))
       (λ a. few a)
     where

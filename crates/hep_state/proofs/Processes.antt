@@ -162,10 +162,10 @@ room-moved program q r l next ls was left pending before after more room i m e =
     omega (arith, here, more)
 
 -- and one with one level more above that
-pub room-more : (program : Units) (q r : Process) (l later new : Level) (ls : List Level) (was left pending : List Value) → later.unit ≡ l.unit → stack_of q ≡ stack_with l ls was pending → stack_of r ≡ stack_with new (later ∷ ls) left pending
+pub room-more : (program : Units) (q r : Process) (l later new : Level) (ls : List Level) (was left pending waiting : List Value) → later.unit ≡ l.unit → stack_of q ≡ stack_with l ls was pending → stack_of r ≡ stack_with new (later ∷ ls) left waiting
     → vec_capacity q.operands ≤ vec_capacity r.operands → deepest (unit_code program new.unit) ≤ vec_capacity r.operands → HasRoom program q → HasRoom program r
-room-more program q r l later new ls was left pending same before after more enough room i m e =
-    let levels = levels-are r new (later ∷ ls) left pending after ∙ ap (λ (xs : List Level). xs ++ new ∷ []) (reverse-append (later ∷ []) ls) in
+room-more program q r l later new ls was left pending waiting same before after more enough room i m e =
+    let levels = levels-are r new (later ∷ ls) left waiting after ∙ ap (λ (xs : List Level). xs ++ new ∷ []) (reverse-append (later ∷ []) ls) in
     all-more (λ (k : Level). deepest (unit_code program k.unit) ≤ vec_capacity r.operands) (reverse ls ++ later ∷ []) new (λ j k f. let here = moved-enough program q l later ls was pending same before room j k f in omega (arith, here, more)) enough i m
     (subst (λ (xs : List Level). slice_get xs i ≡ Some m) levels e)
 

@@ -2,7 +2,7 @@
 use Rattle.std.proofs.Common.{◌≡◌, ℕ, Bool, true, List, [], ◌∷◌, ◌++◌, length, length-append, length-set, Some, None, refl, sym, ap, ◌∙◌, subst, arith, nat_eq, if◌then◌else◌, inl, inr}
 use Rattle.std.proofs.lemmas.Bool.{cases_Bool, eqb-true, eq-eqb}
 use Rattle.std.proofs.lemmas.Option.{none-some}
-use Rattle.hep_machine.specs.Words.{Layout, Process, State, Top, Units, Value, activations_on, is_held, layout_of, level_after_statement, stack_after_return, state_resumed, step_result_of, stepped, unit_at, unit_of, with_numbered, with_process}
+use Rattle.hep_machine.specs.Words.{Layout, Process, State, Top, Units, Value, activations_on, function_name, is_held, layout_of, level_after_statement, stack_after_return, state_resumed, step_result_of, stepped, unit_at, unit_of, with_numbered, with_process}
 use Rattle.hep_machine.specs.State.{Level as SourceLevel}
 use Rattle.hep_machine.proofs.Changes.{on-stack_after_return}
 use Rattle.hep_code.proofs.Moves.{after_statement_keeps}
@@ -32,7 +32,7 @@ again-there c a test on =
       | inr other ↦ rw other refl
     ]
 
-module _ {t : TurnOf} (h : IsTurning t) (index : ℕ) (resumes : IsResumeAhead (running_top t h) index) (caller : SourceLevel) (callers : Process) (below : t.top.1 ≡ caller ∷ callers) where
+module _ {t : TurnOf} (h : IsTurning t) (index : ℕ) (resumes : IsResumeAhead (running_top t h) index) (none : function_name (unit_at t.program t.level.unit) ≡ None) (caller : SourceLevel) (callers : Process) (below : t.top.1 ≡ caller ∷ callers) where
   abbrev old : State
   old = state_before t
 
@@ -107,7 +107,7 @@ module _ {t : TurnOf} (h : IsTurning t) (index : ℕ) (resumes : IsResumeAhead (
   caller-goes : AreOn later onward → AreStanding t.program later t.machine.nodes [] t.pending t.below onward
   caller-goes =
       let stood = standing-before h in
-      still [] t.pending t.below onward (subst (λ q. AreStanding t.program old t.machine.nodes [] t.pending t.below (stack_after_return t.program old q)) below (caller-stands t.program old t.machine.nodes t.pending t.below t.top.1 stood.1 stood.2))
+      still [] t.pending t.below onward (subst (λ q. AreStanding t.program old t.machine.nodes [] t.pending t.below (stack_after_return t.program old q)) below (caller-stands t.program old t.machine.nodes t.level.unit t.pending t.below t.top.1 none stood.1 stood.2))
 
   resumed-goes : AreOn later (after ∷ []) → AreStanding t.program later t.machine.nodes [] [] alone.levels (after ∷ [])
   resumed-goes =
@@ -137,7 +137,7 @@ module _ {t : TurnOf} (h : IsTurning t) (index : ℕ) (resumes : IsResumeAhead (
 pub caller-there : {t : TurnOf} (h : IsTurning t) (l : Level) (ls : List Level) → t.below ≡ l ∷ ls → (caller : SourceLevel) × (callers : Process) × (t.top.1 ≡ caller ∷ callers)
 caller-there {t} h l ls some = by_levels t.top.1 refl where
   by_levels : (q : Process) → t.top.1 ≡ q → (caller : SourceLevel) × (callers : Process) × (t.top.1 ≡ caller ∷ callers)
-  by_levels [] e = absurd (subst (λ ks. AreStandingBelow t.program (state_before t) t.machine.nodes t.pending ks []) some (subst (AreStandingBelow t.program (state_before t) t.machine.nodes t.pending t.below) e (standing-before h).1))
+  by_levels [] e = absurd (subst (λ ks. AreStandingBelow t.program (state_before t) t.machine.nodes t.level.unit t.pending ks []) some (subst (AreStandingBelow t.program (state_before t) t.machine.nodes t.level.unit t.pending t.below) e (standing-before h).1))
   by_levels (caller ∷ callers) e = (caller, callers, e)
 
 -- and so is the lowest
@@ -145,7 +145,7 @@ pub none-below : {t : TurnOf} (h : IsTurning t) → t.below ≡ [] → t.top.1 �
 none-below {t} h lowest = by_levels t.top.1 refl where
   by_levels : (q : Process) → t.top.1 ≡ q → q ≡ []
   by_levels [] e = refl
-  by_levels (caller ∷ callers) e = absurd (subst (λ ks. AreStandingBelow t.program (state_before t) t.machine.nodes t.pending ks (caller ∷ callers)) lowest (subst (AreStandingBelow t.program (state_before t) t.machine.nodes t.pending t.below) e (standing-before h).1))
+  by_levels (caller ∷ callers) e = absurd (subst (λ ks. AreStandingBelow t.program (state_before t) t.machine.nodes t.level.unit t.pending ks (caller ∷ callers)) lowest (subst (AreStandingBelow t.program (state_before t) t.machine.nodes t.level.unit t.pending t.below) e (standing-before h).1))
 
 -- ---- no activation is made, so each frame has its gap
 

@@ -1,11 +1,11 @@
 -- Where the levels of a process stand in the code, whatever the cells of their DOs hold.
-use Rattle.std.proofs.Common.{◌≡◌, ℕ, ◌+◌, ◌<◌, ◌≤◌, ◌-◌, true, List, [], ◌∷◌, ◌++◌, drop, length, length-drop, take, take_all, Some, None, refl, sym, ap, ◌∙◌, subst, arith, inl, inr, length-append, nat_eq}
+use Rattle.std.proofs.Common.{◌≡◌, ℕ, ◌+◌, ◌<◌, ◌≤◌, ◌-◌, true, List, [], ◌∷◌, ◌++◌, drop, length, length-drop, length-take, take, take_all, Some, None, refl, sym, ap, ◌∙◌, subst, arith, inl, inr, length-append, nat_eq}
 use Rattle.std.specs.Option.{unwrap_or}
-use Rattle.hep_machine.specs.Words.{Value, Units, unit_at, level_after_statement, Frame, Layout, activations_on, unit_of, is_number_among, numbered, Activation, Process, State, stack_after_return, run}
+use Rattle.hep_machine.specs.Words.{Name, Value, Units, function_name, unit_at, level_after_statement, Frame, Layout, activations_on, unit_of, is_number_among, numbered, plug_work, Activation, Process, State, stack_after_return, stack_after_value, run}
 use Rattle.hep_machine.specs.declared.slot.Slot.{Slot}
 use Rattle.hep_machine.specs.State.{Level as SourceLevel}
 use Rattle.hep_arena.specs.Gaps.{frame_among}
-use Rattle.hep_code.specs.Words.{AreBelow, AreLevels, IsOf, HoldsLoops, Stands, table_of}
+use Rattle.hep_code.specs.Words.{AreBelow, AreLevels, Awaits, IsOf, HoldsLoops, Stands}
 use Rattle.hep_code.proofs.Moves.{StandsAt, after_statement_keeps, after_statement_stands}
 use Rattle.hep_layout.specs.Words.{Describes, level_of, descriptor_slots, AreFramed, is_stacked, FrameNode, Nodes, times}
 use Rattle.hep_layout.proofs.Memory.{activation-kept}
@@ -13,9 +13,10 @@ use Rattle.hep_layout_laws.proofs.Counted.{counted}
 use Rattle.hep_image.specs.Places.{addresses_of}
 use Rattle.hep_step.specs.Simulation.{counts_in, unit_addressed}
 use Rattle.hep_state.specs.declared.machine.Level.{Level}
-use Rattle.hep_state.specs.Words.{AreThere, IsStack, IsThere, code_level, code_levels, kept_below, kept_by, levels_below, node_under, Stack}
+use Rattle.hep_state.specs.Words.{AreThere, IsStack, IsThere, operands_answered, pending_answered, code_level, code_levels, kept_below, kept_by, levels_below, node_under, Stack}
 use Rattle.std.proofs.lemmas.Bool.{cases_Bool, eq-eqb}
 use Rattle.std.proofs.lemmas.List.{drop_all}
+use Rattle.std.proofs.Math.Seq.{drop-append_seam, take-append_seam}
 use Rattle.hep_layout.proofs.Stacks.{once}
 use Rattle.hep_layout.proofs.FrameTree.{on-stacked}
 use Rattle.hep_entering.proofs.Found.{IsAmong, all_levels, among-numbered, found, times-all}
@@ -60,10 +61,10 @@ pub record IsHere (program : Units) (s : State) (nodes : Nodes) (l : Level) (a :
   pub made : (1 ≤ a) × (a ≤ length s.activations)
   pub unit : unit_of s a ≡ l.unit
 
-pub record StandsBelow (program : Units) (s : State) (nodes : Nodes) (vs : List Value) (l : Level) (level : SourceLevel) : Type 0 where
+-- below one of a unit, whose end it awaits
+pub record StandsBelow (program : Units) (s : State) (nodes : Nodes) (above : ℕ) (vs : List Value) (l : Level) (level : SourceLevel) : Type 0 where
   pub here : IsHere program s nodes l level.activation
-  pub index : l.index ≡ ((table_of (unit_addressed program l.unit)).flows level.statement).next
-  pub operands : vs ≡ []
+  pub awaits : Awaits (function_name (unit_at program above)) (unit_addressed program l.unit) level vs l.index
 
 pub record StandsOnTop (program : Units) (s : State) (nodes : Nodes) (vs : List Value) (l : Level) (level : SourceLevel) : Type 0 where
   pub here : IsHere program s nodes l level.activation
@@ -71,15 +72,15 @@ pub record StandsOnTop (program : Units) (s : State) (nodes : Nodes) (vs : List 
 
 module _ (program : Units) (s : State) (nodes : Nodes) where
   -- each with the last of the operands that are pending, and those below it with the others
-  abbrev pub AreStandingBelow : List Value → List Level → Process → Type 0
-  AreStandingBelow pending [] [] = Unit {0}
-  AreStandingBelow pending (l ∷ ls) (level ∷ levels) =
-      StandsBelow program s nodes (drop (length pending - l.kept) pending) l level × AreStandingBelow (take (length pending - l.kept) pending) ls levels
-  AreStandingBelow pending _ _ = ⊥
+  abbrev pub AreStandingBelow : ℕ → List Value → List Level → Process → Type 0
+  AreStandingBelow above pending [] [] = Unit {0}
+  AreStandingBelow above pending (l ∷ ls) (level ∷ levels) =
+      StandsBelow program s nodes above (drop (length pending - l.kept) pending) l level × AreStandingBelow l.unit (take (length pending - l.kept) pending) ls levels
+  AreStandingBelow above pending _ _ = ⊥
 
   abbrev pub AreStanding : List Value → List Value → List Level → Process → Type 0
   AreStanding vs pending [] [] = length pending ≡ 0
-  AreStanding vs pending (l ∷ ls) (level ∷ levels) = StandsOnTop program s nodes vs l level × AreStandingBelow pending ls levels × (length pending ≡ kept_by ls)
+  AreStanding vs pending (l ∷ ls) (level ∷ levels) = StandsOnTop program s nodes vs l level × AreStandingBelow l.unit pending ls levels × (length pending ≡ kept_by ls)
   AreStanding vs pending _ _ = ⊥
 
   -- ---- of levels in the code
@@ -99,18 +100,18 @@ module _ (program : Units) (s : State) (nodes : Nodes) where
           unit = ap (unit_of s) h.activation ∙ h.unit;
         }
 
-    standing-below : (pending : List Value) (ls : List Level) (levels : Process) → AreThere program nodes ls → AreBelow program (addresses_of program) s (levels_below program contents nodes pending ls) levels → AreStandingBelow pending ls levels
-    standing-below pending [] [] there h = tt
-    standing-below pending (l ∷ ls) (level ∷ levels) there h = (
-      record { here = is-here (drop (length pending - l.kept) pending) l level there.0 h.0.is_of; index = h.0.index; operands = h.0.operands },
-      standing-below (take (length pending - l.kept) pending) ls levels there.1 h.1,
+    standing-below : (above : ℕ) (pending : List Value) (ls : List Level) (levels : Process) → AreThere program nodes ls → AreBelow program (addresses_of program) s above (levels_below program contents nodes pending ls) levels → AreStandingBelow above pending ls levels
+    standing-below above pending [] [] there h = tt
+    standing-below above pending (l ∷ ls) (level ∷ levels) there h = (
+      record { here = is-here (drop (length pending - l.kept) pending) l level there.0 h.0.is_of; awaits = h.0.awaits },
+      standing-below l.unit (take (length pending - l.kept) pending) ls levels there.1 h.1,
     )
-    standing-below pending _ _ there h = absurd h
+    standing-below above pending _ _ there h = absurd h
 
     pub standing : (vs pending : List Value) (ls : List Level) (levels : Process) → AreThere program nodes ls → AreLevels program (addresses_of program) s (code_levels program contents nodes vs pending ls) levels → length pending ≡ kept_below ls
         → AreStanding vs pending ls levels
     standing vs pending [] [] there h counted = counted
-    standing vs pending (l ∷ ls) (level ∷ levels) there h counted = (record { here = is-here vs l level there.0 h.0.is_of; stands = h.0.at.stands }, standing-below pending ls levels there.1 h.1, counted)
+    standing vs pending (l ∷ ls) (level ∷ levels) there h counted = (record { here = is-here vs l level there.0 h.0.is_of; stands = h.0.at.stands }, standing-below l.unit pending ls levels there.1 h.1, counted)
     standing vs pending _ _ there h counted = absurd h
 
     -- ---- and back, where the cells of DOs hold what is wanted
@@ -138,21 +139,21 @@ module _ (program : Units) (s : State) (nodes : Nodes) where
           subst (λ (m : FrameNode). HoldsLoops (unit_at program (unit_of s level.activation)) (counts_in (unit_at program (unit_of s level.activation)) contents m.first) level.loops) (sym (node-is l n h.there)) (
           counted program s layout contents level.activation frame level described found on))
 
-      below-again : (pending : List Value) (ls : List Level) (levels : Process) → AreStandingBelow pending ls levels → AreOn s levels → AreThere program nodes ls × AreBelow program (addresses_of program) s (levels_below program contents nodes pending ls) levels
-      below-again pending [] [] h on = (tt, tt)
-      below-again pending (l ∷ ls) (level ∷ levels) h on =
+      below-again : (above : ℕ) (pending : List Value) (ls : List Level) (levels : Process) → AreStandingBelow above pending ls levels → AreOn s levels → AreThere program nodes ls × AreBelow program (addresses_of program) s above (levels_below program contents nodes pending ls) levels
+      below-again above pending [] [] h on = (tt, tt)
+      below-again above pending (l ∷ ls) (level ∷ levels) h on =
           let own = drop (length pending - l.kept) pending in
-          let rest = below-again (take (length pending - l.kept) pending) ls levels h.1 on.2 in (
+          let rest = below-again l.unit (take (length pending - l.kept) pending) ls levels h.1 on.2 in (
             (there-again l level.activation h.0.here, rest.0),
-            (record { is_of = of-again own l level h.0.here; index = h.0.index; operands = h.0.operands; loops = loops-again l level h.0.here on.0 }, rest.1),
+            (record { is_of = of-again own l level h.0.here; awaits = h.0.awaits; loops = loops-again l level h.0.here on.0 }, rest.1),
           )
-      below-again pending _ _ h on = absurd h
+      below-again above pending _ _ h on = absurd h
 
       levels-again : (vs pending : List Value) (ls : List Level) (levels : Process) → AreStanding vs pending ls levels → AreOn s levels
           → AreThere program nodes ls × AreLevels program (addresses_of program) s (code_levels program contents nodes vs pending ls) levels × (length pending ≡ kept_below ls)
       levels-again vs pending [] [] h on = (tt, tt, h)
       levels-again vs pending (l ∷ ls) (level ∷ levels) h on =
-          let rest = below-again pending ls levels h.1 on.2 in (
+          let rest = below-again l.unit pending ls levels h.1 on.2 in (
             (there-again l level.activation h.0.here, rest.0),
             (record { is_of = of-again vs l level h.0.here; at = record { stands = h.0.stands; loops = loops-again l level h.0.here on.0 } }, rest.1),
             h.2,
@@ -195,17 +196,17 @@ module _ (program : Units) (s t : State) (old new : Nodes) (made : AreMade s t)
         unit = still.1 ∙ h.unit;
       }
 
-  pub below-still : (pending : List Value) (ls : List Level) (levels : Process) → AreStandingBelow program s old pending ls levels → AreOn t levels → AreStandingBelow program t new pending ls levels
-  below-still pending [] [] h on = tt
-  below-still pending (l ∷ ls) (level ∷ levels) h on = (
-    record { here = here-still l level.activation h.0.here on.1; index = h.0.index; operands = h.0.operands },
-    below-still (take (length pending - l.kept) pending) ls levels h.1 on.2,
+  pub below-still : (above : ℕ) (pending : List Value) (ls : List Level) (levels : Process) → AreStandingBelow program s old above pending ls levels → AreOn t levels → AreStandingBelow program t new above pending ls levels
+  below-still above pending [] [] h on = tt
+  below-still above pending (l ∷ ls) (level ∷ levels) h on = (
+    record { here = here-still l level.activation h.0.here on.1; awaits = h.0.awaits },
+    below-still l.unit (take (length pending - l.kept) pending) ls levels h.1 on.2,
   )
-  below-still pending _ _ h on = absurd h
+  below-still above pending _ _ h on = absurd h
 
   pub standing-still : (vs pending : List Value) (ls : List Level) (levels : Process) → AreStanding program s old vs pending ls levels → AreOn t levels → AreStanding program t new vs pending ls levels
   standing-still vs pending [] [] h on = h
-  standing-still vs pending (l ∷ ls) (level ∷ levels) h on = (record { here = here-still l level.activation h.0.here on.1; stands = h.0.stands }, below-still pending ls levels h.1 on.2, h.2)
+  standing-still vs pending (l ∷ ls) (level ∷ levels) h on = (record { here = here-still l level.activation h.0.here on.1; stands = h.0.stands }, below-still l.unit pending ls levels h.1 on.2, h.2)
   standing-still vs pending _ _ h on = absurd h
 
 -- ---- the top
@@ -216,6 +217,12 @@ keeps-none pending kept none = (
   drop_all (length pending - kept) pending (omega (arith, none)),
   take_all (length pending - kept) pending (omega (arith, none)),
 )
+
+-- and one that keeps the last ones leaves the others
+pub keeps-last : (pending vs : List Value) (kept : ℕ) → kept ≡ length vs → (drop (length (pending ++ vs) - kept) (pending ++ vs) ≡ vs) × (take (length (pending ++ vs) - kept) (pending ++ vs) ≡ pending)
+keeps-last pending vs kept same =
+    let many : length (pending ++ vs) - kept ≡ length pending = omega (arith, same, length-append pending vs) in
+    (ap (λ n. drop n (pending ++ vs)) many ∙ drop-append_seam pending vs, ap (λ n. take n (pending ++ vs)) many ∙ take-append_seam pending vs)
 
 module _ (program : Units) (s : State) (nodes : Nodes) where
   -- where it is elsewhere in its unit, and its activation is told otherwise
@@ -235,20 +242,38 @@ module _ (program : Units) (s : State) (nodes : Nodes) where
       → after.activation ≡ level.activation → Stands (unit_addressed program l.unit) after.statement after.work new index → AreStanding program s nodes new pending (record l { index = index } ∷ ls) (after ∷ levels)
   top-stands vs new pending l ls level after levels index h same stands = (record { here = here-at l (record l { index = index }) level.activation after.activation refl refl same h.0.here; stands = stands }, h.1, h.2)
 
-  -- once it has ended its caller goes on, which keeps no operands
-  pub caller-stands : (pending : List Value) (ls : List Level) (levels : Process) → AreStandingBelow program s nodes pending ls levels → length pending ≡ kept_by ls → AreStanding program s nodes [] pending ls (stack_after_return program s levels)
-  caller-stands pending [] [] h counted = counted
-  caller-stands pending (l ∷ ls) (level ∷ levels) h counted =
-      let none : l.kept ≡ 0 = omega (arith, counted, length-drop (length pending - l.kept) pending, ap length h.0.operands) in
+  -- once it has ended, which has no result, its caller goes on, which keeps no operands
+  pub caller-stands : (above : ℕ) (pending : List Value) (ls : List Level) (levels : Process) → function_name (unit_at program above) ≡ None → AreStandingBelow program s nodes above pending ls levels → length pending ≡ kept_by ls
+      → AreStanding program s nodes [] pending ls (stack_after_return program s levels)
+  caller-stands above pending [] [] none_of h counted = counted
+  caller-stands above pending (l ∷ ls) (level ∷ levels) none_of h counted =
+      let awaits = subst (λ x. Awaits x (unit_addressed program l.unit) level (drop (length pending - l.kept) pending) l.index) none_of h.0.awaits in
+      let none : l.kept ≡ 0 = omega (arith, counted, length-drop (length pending - l.kept) pending, ap length awaits.1) in
       let addressed = unit_addressed program l.unit in
       let here = h.0.here in
       let same = (after_statement_keeps addressed level).1 in
       subst (λ u. AreStanding program s nodes [] pending (l ∷ ls) (level_after_statement (unit_at program u) level ∷ levels)) (sym here.unit) (
         record {
           here = subst (IsHere program s nodes l) (sym same) here;
-          stands = subst (StandsAt addressed (level_after_statement addressed.unit level)) (sym h.0.index) (after_statement_stands addressed level);
+          stands = subst (StandsAt addressed (level_after_statement addressed.unit level)) (sym awaits.0) (after_statement_stands addressed level);
         },
-        subst (λ rest. AreStandingBelow program s nodes rest ls levels) (keeps-none pending l.kept none).1 h.1,
+        subst (λ rest. AreStandingBelow program s nodes l.unit rest ls levels) (keeps-none pending l.kept none).1 h.1,
         omega (arith, counted, none),
       )
-  caller-stands pending _ _ h counted = absurd h
+  caller-stands above pending _ _ none_of h counted = absurd h
+
+  -- and once it has ended with a value, that of a function, the one below it goes on, which has its operands back, and the value behind them
+  pub answer-stands : (above : ℕ) (x : Name) (v : Value) (pending : List Value) (ls : List Level) (levels : Process) → function_name (unit_at program above) ≡ Some x → AreStandingBelow program s nodes above pending ls levels → length pending ≡ kept_by ls
+      → AreStanding program s nodes (operands_answered pending ls v) (pending_answered pending ls) ls (stack_after_value program s v levels)
+  answer-stands above x v pending [] [] result h counted = counted
+  answer-stands above x v pending (l ∷ ls) (level ∷ levels) result h counted =
+      let addressed = unit_addressed program l.unit in
+      let vs = drop (length pending - l.kept) pending in
+      let awaits = subst (λ y. Awaits y addressed level vs l.index) result h.0.awaits in
+      let here = h.0.here in
+      subst (λ u. AreStanding program s nodes (vs ++ v ∷ []) (take (length pending - l.kept) pending) (l ∷ ls) (record level { work = plug_work (unit_at program u) level.work v } ∷ levels)) (sym here.unit) (
+        record { here = here; stands = awaits v },
+        h.1,
+        omega (arith, counted, length-take (length pending - l.kept) pending),
+      )
+  answer-stands above x v pending _ _ result h counted = absurd h

@@ -14,7 +14,7 @@ use Rattle.hep_image.specs.Image.{most_cells}
 use Rattle.hep_cells.specs.Outcomes.{is_full_state}
 use Rattle.hep_step.specs.declared.effect.Effect.{Effect}
 use Rattle.hep_step.specs.Effects as effects
-use Rattle.hep_step.specs.Effects.{effect_at, fails, moves, prints, returns, stops, left_out, waits}
+use Rattle.hep_step.specs.Effects.{answers, effect_at, fails, moves, prints, returns, stops, left_out, waits}
 use Rattle.hep_step.specs.Performed as performed
 use Rattle.hep_step.specs.Performed.{performed as done, snapshot, state_named}
 use Rattle.hep_step.specs.Ready.{IsReady, frame_in_arena}
@@ -106,6 +106,7 @@ module _ {t : TurnOf} (turning : IsTurning t) where
   done-by (fails line kind) sim size = ends-so (fails line kind) sim
   done-by (waits at full) sim size = carry (λ i. HasWaited t.program t.cells t.choices t.process at (sym (state-is full) i) (sym unperformed i)) (waited-shown turning at full sim)
   done-by returns sim size = ends-so returns sim
+  done-by (answers v) sim size = ends-so (answers v) sim
   done-by stops sim size = subst (λ (n : Snapshot). HasMadeTurn t (snapshot_stopped n)) (sym unperformed) (stopped-shown turning sim)
   done-by left_out sim size = absurd sim
 
@@ -136,7 +137,8 @@ module _ {t : TurnOf} (turning : IsTurning t) where
   alike-by (prints items next) sim = stored-same _ (next-is turning _ sim.1) refl
   alike-by (fails line kind) sim = stored-same _ (next-is turning _ sim.0) refl
   alike-by (waits cell full) sim = stored-same old (run-last t.program t.choices t.process ∙ ap (λ o. unwrap_or o old) (unmade _ sim.1)) refl
-  alike-by returns sim = stored-same _ (next-is turning _ sim) refl
+  alike-by returns sim = stored-same _ (next-is turning _ sim.1) refl
+  alike-by (answers v) sim = stored-same _ (next-is turning _ sim.2) refl
   alike-by stops sim = stored-same _ (next-is turning _ sim) refl
   alike-by left_out sim = absurd sim
 
@@ -185,7 +187,8 @@ module _ {t : TurnOf} (turning : IsTurning t) where
     activations-stay (prints items index) (after, is, reaches) = stay _ (step-is t.program t.process old _ turning.running is) refl
     activations-stay (fails line k) (is, at) = stay _ (step-is t.program t.process old _ turning.running is) refl
     activations-stay (waits cell full) (at, is, found) = stay None (unmade _ is) refl
-    activations-stay returns is = stay _ (step-is t.program t.process old _ turning.running is) refl
+    activations-stay returns (none, is) = stay _ (step-is t.program t.process old _ turning.running is) refl
+    activations-stay (answers v) (x, result, is) = stay _ (step-is t.program t.process old _ turning.running is) refl
     activations-stay stops is = stay _ (step-is t.program t.process old _ turning.running is) refl
     activations-stay left_out h = absurd h
 

@@ -8,7 +8,7 @@ use Rattle.hep_arena.specs.Gaps.{frame_among}
 use Rattle.hep_code.specs.declared.instruction.Instruction.TheVariants.{Step}
 use Rattle.hep_code.specs.declared.instruction.Evaluation.TheVariants.{Load, Test}
 use Rattle.hep_code.specs.declared.instruction.Operation.{Operation}
-use Rattle.hep_code.specs.declared.instruction.Operation.TheVariants.{Evaluate, Store, EnterLoop, EndLoop}
+use Rattle.hep_code.specs.declared.instruction.Operation.TheVariants.{Evaluate, Store, EnterLoop, EndLoop, Answer}
 use Rattle.hep_code.specs.declared.variable.Variable.TheVariants.{Absent}
 use Rattle.hep_code.specs.Words.{IsAddressed, HoldsLoops, Stands}
 use Rattle.hep_layout.specs.Words.{address, Describes, level_of, descriptor_slots, times, is_stacked}
@@ -69,6 +69,7 @@ none_absent line (Evaluate (Test g x n)) h e = h 0 x refl (same_Some x Absent e)
 none_absent line (Store x n next) h e = h 0 x refl (same_Some x Absent e)
 none_absent line (EnterLoop x cells inside behind) h e = h 0 x refl (same_Some x Absent e)
 none_absent line (EndLoop x cells inside behind) h e = h 0 x refl (same_Some x Absent e)
+none_absent line (Answer x) h e = h 0 x refl (same_Some x Absent e)
 none_absent line _ h e = absurd cc
 
 -- ---- arrays

@@ -1,15 +1,15 @@
--- What a core keeps after a CALL or CREATE: docs/MACHINE.md, "Steps" and "Layout".
-use Rattle.std.specs.Prelude.{◌≡◌, ℕ, ◌+◌, ◌<◌, List, [], ◌∷◌, ◌++◌, length, Option, Some, None}
-use Rattle.hep_machine.specs.Words.{Units, unit_at, Binding, Actual, common_cells, frame_of, lowest_gap, with_numbered, State, step, Bounds, frame_cells}
+-- What a core keeps after a CALL, CREATE or reference: docs/MACHINE.md, "Steps" and "Layout".
+use Rattle.std.specs.Prelude.{◌≡◌, ℕ, ◌+◌, ◌<◌, ◌≤◌, Bool, true, false, List, [], ◌∷◌, ◌++◌, length, take, Option, Some, None}
+use Rattle.hep_machine.specs.Words.{Name, Units, function_name, unit_at, Binding, Actual, common_cells, frame_of, lowest_gap, with_numbered, State, step, Bounds, frame_cells}
 use Rattle.hep_arena.specs.Space.{Space}
-use Rattle.hep_code.specs.Words.{entry_index, table_of}
+use Rattle.hep_code.specs.Words.{entry_index}
 use Rattle.hep_layout_laws.specs.Bound.{AreKept}
 use Rattle.hep_layout.specs.Words.{Nodes, new_node, with_node}
 use Rattle.hep_passing.specs.declared.given.Given.{Given}
 use Rattle.hep_passing.specs.Shapes.{AreShapesOf}
 use Rattle.hep_step.specs.declared.way.Way.{Way}
-use Rattle.hep_step.specs.declared.way.Way.TheVariants.{Calls, Creates}
-use Rattle.hep_step.specs.Calls.{is_creation}
+use Rattle.hep_step.specs.declared.way.Way.TheVariants.{Calls, Creates, Refers}
+use Rattle.hep_step.specs.Calls.{GoesOn, is_creation}
 use Rattle.hep_step.specs.Simulation.{unit_addressed}
 use Rattle.hep_state.specs.declared.calling.Called.{Called}
 use Rattle.hep_state.specs.declared.machine.Level.{Level}
@@ -22,21 +22,22 @@ use Rattle.hep_entering.specs.Calling.{ArePassed, CallOf, IsAllWritten, IsPassin
 abbrev pub entered_level : Units → ℕ → ℕ → Level
 entered_level program u key = record { key = key; unit = u; kept = 0; index = entry_index (unit_addressed program u) }
 
--- the stacks with a new level: above the top one of the process, which calls and keeps no operands, or as a process of its own; that one
--- is at another index
-abbrev pub stacks_made_by : Way → TurnOf → Level → Level → List Stack
-stacks_made_by Calls t new behind = with_numbered t.machine.processes t.process (record { levels = new ∷ (record behind { kept = 0 } ∷ t.below); operands = []; pending = t.pending })
-stacks_made_by Creates t new behind =
+-- the stacks with a new level: above the top one of the process, which keeps its first operands, so many, or as a process of its own; that
+-- one is at another index
+abbrev pub stacks_made_by : Bool → TurnOf → ℕ → Level → Level → List Stack
+stacks_made_by false t kept new behind =
+    with_numbered t.machine.processes t.process (record { levels = new ∷ (record behind { kept = kept } ∷ t.below); operands = []; pending = t.pending ++ take kept t.operands })
+stacks_made_by true t kept new behind =
     with_numbered t.machine.processes t.process (record { levels = behind ∷ t.below; operands = []; pending = t.pending })
     ++ record { levels = new ∷ []; operands = []; pending = [] } ∷ []
 
--- the process calls unit u, or makes a process of it, and its top activation is to go on at an index
-abbrev pub snapshot_made_by : Way → TurnOf → ℕ → ℕ → ℕ → Space → Nodes → Snapshot
-snapshot_made_by way t u key index arena nodes =
+-- the process calls or refers to unit u, or makes a process of it, and its top activation keeps so many operands and is to go on at an index
+abbrev pub snapshot_made_by : Bool → TurnOf → ℕ → ℕ → ℕ → ℕ → Space → Nodes → Snapshot
+snapshot_made_by creates t u key kept index arena nodes =
     record t.machine {
       arena = arena;
       nodes = nodes;
-      processes = stacks_made_by way t (entered_level t.program u key) (record t.level { index = index });
+      processes = stacks_made_by creates t kept (entered_level t.program u key) (record t.level { index = index });
       activations = t.machine.activations + 1;
     }
 
@@ -53,11 +54,19 @@ pub record HasEntered (t : TurnOf) (turning : IsTurning t) (u key : ℕ) (s : St
   pub vacant : t.machine.nodes key ≡ None
   pub nodes_are : nodes ≡ with_node t.machine.nodes key (new_node (length s.activations) u first (frame_of t.program s (length s.activations)) t.level.key) t.level.key
 
--- the index is that of the statement after the one at which the top activation is
-abbrev pub IsAfterCall : TurnOf → ℕ → Type 0
-IsAfterCall t index = index ≡ ((table_of (unit_addressed t.program t.level.unit)).flows t.top.0.statement).next
+-- just a function that is referred to has a result
+abbrev pub HasResultBy : Way → Option Name → Type 0
+HasResultBy Calls result = result ≡ None
+HasResultBy Creates result = result ≡ None
+HasResultBy Refers result = (x : Name) × (result ≡ Some x)
 
--- ---- a CALL or CREATE of a unit
+-- the top activation, which makes an activation of unit u, keeps so many of its first operands, and goes on at an index then
+pub record IsAfterCall (way : Way) (t : TurnOf) (u kept index : ℕ) : Type 0 where
+  pub few : kept ≤ length t.operands
+  pub onward : GoesOn way (unit_addressed t.program t.level.unit) t.top.0 (take kept t.operands) index
+  pub result : HasResultBy way (function_name (unit_at t.program u))
+
+-- ---- a CALL, CREATE or reference of a unit
 
 -- what is called: a unit's index, the cells of its frame, and the index of its first executable statement in its code
 pub record IsUnit (program : Units) (u cells entry : ℕ) : Type 0 where
@@ -70,9 +79,9 @@ abbrev pub call_in : TurnOf → ℕ → List Actual → Binding → CallOf
 call_in t u actuals b =
     record { program = t.program; choices = t.choices; process = t.process; top = t.top; unit = u; actuals = actuals; binding = b }
 
--- the step makes an activation of unit u by CALL or by CREATE, and this is given to its dummy arguments, and these are the shapes of the
--- adjustable arrays among them; the one that makes it is to go on at an index
-pub record IsMaking (way : Way) (t : TurnOf) (u index : ℕ) (given : List Given) (shapes : List (Option Bounds)) : Type 0 where
+-- the step makes an activation of unit u by CALL, by CREATE or by reference, and this is given to its dummy arguments, and these are the
+-- shapes of the adjustable arrays among them; the one that makes it keeps so many operands and is to go on at an index
+pub record IsMaking (way : Way) (t : TurnOf) (u kept index : ℕ) (given : List Given) (shapes : List (Option Bounds)) : Type 0 where
   pub turning : IsTurning t
   pub actuals : List Actual
   pub binding : Binding
@@ -80,13 +89,13 @@ pub record IsMaking (way : Way) (t : TurnOf) (u index : ℕ) (given : List Given
   pub passed : ArePassed (call_in t u actuals binding) turning.after.layout given
   pub shaped : AreShapesOf (unit_at t.program u) binding.dummies shapes
   pub made : step t.program t.process (state_before t) ≡ Some (state_made_by (is_creation way) (call_in t u actuals binding))
-  pub after : IsAfterCall t index
+  pub after : IsAfterCall way t u kept index
 
 -- the state to which it leads
-abbrev pub state_made : {way : Way} {t : TurnOf} {u index : ℕ} {given : List Given} {shapes : List (Option Bounds)} → IsMaking way t u index given shapes → State
+abbrev pub state_made : {way : Way} {t : TurnOf} {u kept index : ℕ} {given : List Given} {shapes : List (Option Bounds)} → IsMaking way t u kept index given shapes → State
 state_made {way} {t} {u} h = state_made_by (is_creation way) (call_in t u h.actuals h.binding)
 
 -- the step of process p does so in a machine where just this is given, and this is called
-pub record Makes (way : Way) (program : Units) (cells : ℕ) (choices : List ℕ) (p : ℕ) (m : Machine) (called : Called) (index : ℕ) : Type 0 where
-  pub making : HoldsInTurn program cells choices p (snapshot_of m) (λ t. IsMaking way t called.unit index m.passing.given.items m.passing.shapes.items)
+pub record Makes (way : Way) (program : Units) (cells : ℕ) (choices : List ℕ) (p : ℕ) (m : Machine) (called : Called) (kept index : ℕ) : Type 0 where
+  pub making : HoldsInTurn program cells choices p (snapshot_of m) (λ t. IsMaking way t called.unit kept index m.passing.given.items m.passing.shapes.items)
   pub unit : IsUnit program called.unit called.cells called.entry

@@ -1,18 +1,18 @@
--- A CALL, CREATE, PURGE or RESUME that stands ahead of a process: X3.9-1978, 15.6.2, and docs/MACHINE.md, "Steps".
+-- A CALL, CREATE, reference, PURGE or RESUME that stands ahead of a process: X3.9-1978, 15.5.2 and 15.6.2, and docs/MACHINE.md, "Steps".
 use Rattle.std.specs.Prelude.{◌≡◌, ℕ, List, ◌∷◌, drop, Result}
 use Rattle.hep_machine.specs.Words.{Units}
 use Rattle.hep_machine.specs.declared.event.Kind.{Kind}
 use Rattle.hep_code.specs.declared.instruction.Instruction.{Instruction}
 use Rattle.hep_code.specs.declared.instruction.Instruction.TheVariants.{Step}
 use Rattle.hep_code.specs.declared.instruction.Operation.{Operation}
-use Rattle.hep_code.specs.declared.instruction.Operation.TheVariants.{Call, Create, Purge, Resume}
+use Rattle.hep_code.specs.declared.instruction.Operation.TheVariants.{Call, Create, Refer, Purge, Resume}
 use Rattle.hep_code.specs.Words.{IsPastPushes, passed_from}
 use Rattle.hep_image.specs.Finding.{cells_in}
 use Rattle.hep_passing.specs.declared.given.Given.{Given}
 use Rattle.hep_passing.specs.Passing.{given_by}
 use Rattle.hep_purging.specs.declared.range.ClosedRange.{ClosedRange}
 use Rattle.hep_purging.specs.Ranges.{ranges_of}
-use Rattle.hep_step.specs.Calls.{last_operands, making}
+use Rattle.hep_step.specs.Calls.{IsBehindEntries, last_operands, making}
 use Rattle.hep_step.specs.Simulation.{IsNotLeftOut, unit_arrays, unit_code}
 use Rattle.hep_state.specs.declared.machine.Machine.{Machine}
 use Rattle.hep_state.specs.declared.upcoming.StepAhead.{StepAhead}
@@ -25,10 +25,11 @@ use Rattle.hep_state.specs.Tops.{HasLevels, HoldsInTurn, IsTurning, TurnOf, top_
 
 -- ---- in front of instructions
 
--- no CALL, CREATE, PURGE or RESUME stands there
+-- no CALL, CREATE, reference, PURGE or RESUME stands there
 abbrev pub HasNone : List Instruction → Type 0
 HasNone (Step line (Call u count next) ∷ behind) = ⊥
 HasNone (Step line (Create u count next) ∷ behind) = ⊥
+HasNone (Step line (Refer u count) ∷ behind) = ⊥
 HasNone (Step line (Purge count next) ∷ behind) = ⊥
 HasNone (Step line (Resume next) ∷ behind) = ⊥
 HasNone _ = Unit {0}
@@ -37,12 +38,13 @@ HasNone _ = Unit {0}
 abbrev pub operation_of : CallAhead → Operation
 operation_of call = making call.way call.unit call.count call.next
 
--- this stands there
-abbrev pub IsInFront : List Instruction → StepAhead → Type 0
-IsInFront instructions (ahead.Call call) = (behind : List Instruction) × (instructions ≡ Step call.line (operation_of call) ∷ behind)
-IsInFront instructions (ahead.Purge purge) = (behind : List Instruction) × (instructions ≡ Step purge.line (Purge purge.count purge.next) ∷ behind)
-IsInFront instructions (ahead.Resume next) = (line : ℕ) × (behind : List Instruction) × (instructions ≡ Step line (Resume next) ∷ behind)
-IsInFront instructions ahead.Other = HasNone instructions
+-- this stands there, at an index
+abbrev pub IsInFront : ℕ → List Instruction → StepAhead → Type 0
+IsInFront index instructions (ahead.Call call) =
+    (behind : List Instruction) × (instructions ≡ Step call.line (operation_of call) ∷ behind) × IsBehindEntries call.way index call.count call.next
+IsInFront index instructions (ahead.Purge purge) = (behind : List Instruction) × (instructions ≡ Step purge.line (Purge purge.count purge.next) ∷ behind)
+IsInFront index instructions (ahead.Resume next) = (line : ℕ) × (behind : List Instruction) × (instructions ≡ Step line (Resume next) ∷ behind)
+IsInFront index instructions ahead.Other = HasNone instructions
 
 -- ---- ahead of a process
 
@@ -52,10 +54,12 @@ pub record IsAtStep (t : TurnOf) (line : ℕ) (operation : Operation) : Type 0 w
   pub behind : List Instruction
   pub ahead : drop t.level.index (unit_code t.program t.level.unit) ≡ Step line operation ∷ behind
 
--- at a CALL or CREATE, at a PURGE, and at RESUME
-abbrev pub IsAtCall : TurnOf → CallAhead → Type 0
-IsAtCall t call = IsAtStep t call.line (operation_of call)
+-- at a CALL, CREATE or reference, behind which it goes on at an index
+pub record IsAtCall (t : TurnOf) (call : CallAhead) : Type 0 where
+  pub step : IsAtStep t call.line (operation_of call)
+  pub onward : IsBehindEntries call.way t.level.index call.count call.next
 
+-- at a PURGE, and at RESUME
 abbrev pub IsAtPurge : TurnOf → PurgeAhead → Type 0
 IsAtPurge t purge = IsAtStep t purge.line (Purge purge.count purge.next)
 
@@ -72,8 +76,8 @@ HasPurgeAhead program cells choices p m purge = HoldsInTurn program cells choice
 abbrev pub HasResumeAhead : Units → ℕ → List ℕ → ℕ → Snapshot → ℕ → Type 0
 HasResumeAhead program cells choices p m next = HoldsInTurn program cells choices p m (λ t. IsAtResume t next)
 
--- the values that stand ahead of the top activation of process p are operands, and what stands there then calls, creates, purges and resumes
--- nothing
+-- the values that stand ahead of the top activation of process p are operands, and what stands there then calls, creates, refers to,
+-- purges and resumes nothing
 pub record IsWithoutCall (program : Units) (p : ℕ) (m : Snapshot) : Type 0 where
   pub levels : HasLevels m p
   pub past : IsPastPushes (unit_code program levels.level.unit) levels.level.index
@@ -90,7 +94,7 @@ IsAhead program p old m ahead.Other = IsWithoutCall program p m
 
 -- what its actual arguments give, by the cells of the arena, the last operands and the entries behind it
 abbrev pub given_of : {t : TurnOf} (call : CallAhead) → IsAtCall t call → Result (List Given) Kind
-given_of {t} call at = given_by (cells_in t.machine.arena.contents) (top_frame t).first (unit_arrays t.program t.level.unit) (passed_from call.count at.behind (last_operands call.count at.behind t.operands))
+given_of {t} call at = given_by (cells_in t.machine.arena.contents) (top_frame t).first (unit_arrays t.program t.level.unit) (passed_from call.count at.step.behind (last_operands call.count at.step.behind t.operands))
 
 -- the cells that its targets name
 abbrev pub ranges_ahead : {t : TurnOf} (purge : PurgeAhead) → IsAtPurge t purge → Result (List ClosedRange) Kind

@@ -1,14 +1,15 @@
--- What is known of an accepted program with a main program, and of what is called in it: docs/MACHINE.md, "Steps".
+-- What is known of an accepted program with a main program, and of what is called, created and referred to in it: docs/MACHINE.md, "Steps".
 use Rattle.std.specs.Prelude.{◌≡◌, ℕ, ◌<◌, ◌≤◌, List, ◌∷◌, length, Some, slice_get}
-use Rattle.hep_machine.specs.Words.{Name, Statement, Units, dummies_of, unit_at, Actual, next_of, living, unit_of, run, Process, Work}
+use Rattle.hep_machine.specs.Words.{Name, Statement, Units, dummies_of, function_name, unit_at, Actual, next_of, living, unit_of, run, Process, Work}
 use Rattle.hep_machine.specs.State.{Level as SourceLevel}
 use Rattle.hep_code.specs.declared.instruction.Instruction.{Instruction}
 use Rattle.hep_code.specs.declared.instruction.Instruction.TheVariants.{Step}
 use Rattle.hep_layout_laws.specs.Bound.{AreClosed, IsBound}
 use Rattle.hep_step.specs.declared.way.Way.{Way}
-use Rattle.hep_step.specs.Calls.{IsCallAhead, comes_by, making, unit_by}
+use Rattle.hep_step.specs.Calls.{IsBehindEntries, IsCallAhead, comes_by, making, unit_by}
 use Rattle.hep_step.specs.Simulation.{IsRunning, RunningTop, code_ahead}
-use Rattle.hep_code_laws.specs.Works.{ComesFrom, IsCalledBy}
+use Rattle.hep_code_laws.specs.Works.{ComesFrom}
+use Rattle.hep_state.specs.Calls.{HasResultBy}
 use Rattle.hep_state.specs.Tops.{IsTopRunning, IsTurning, TurnOf}
 
 -- of its units, of activations in its runs, and of the top activation of a process, at any operation
@@ -18,11 +19,15 @@ pub record AreRunning (program : Units) : Type 0 where
   pub bound : (choices : List ℕ) (a : ℕ) → 1 ≤ a → a ≤ length (run program choices).activations → IsBound program (run program choices) a
   pub running : (t : TurnOf) → t.program ≡ program → (turning : IsTurning t) → IsTopRunning t turning
 
--- and of what it calls
+-- by this name a unit of the program is called, created or referred to, which has as many dummy arguments as are passed
+pub record IsMadeOf (way : Way) (program : Units) (x : Name) (actuals : List Actual) : Type 0 where
+  pub inside : unit_by way program x < length program
+  pub as_many : length actuals ≡ length (dummies_of (unit_at program (unit_by way program x)))
+  pub result : HasResultBy way (function_name (unit_at program (unit_by way program x)))
+
+-- and of what it calls, creates and refers to
 pub record IsKnown (program : Units) : Type 0 where
   pub running : AreRunning program
   pub works : (choices : List ℕ) (p : ℕ) (top : SourceLevel × Process) → living (run program choices) p ≡ Some top → ComesFrom (unit_at program (unit_of (run program choices) top.0.activation)) top.0.statement top.0.work
-  pub called : (way : Way) (unit : List Statement) (k : ℕ) (work : Work) (x : Name) (actuals : List Actual) → ComesFrom unit k work → next_of unit work ≡ comes_by way x actuals → IsCalledBy unit k x actuals
-  pub subroutine : (way : Way) (u k : ℕ) (x : Name) (actuals : List Actual) → IsCalledBy (unit_at program u) k x actuals → unit_by way program x < length program
-  pub arguments : (way : Way) (u k : ℕ) (x : Name) (actuals : List Actual) → IsCalledBy (unit_at program u) k x actuals → length actuals ≡ length (dummies_of (unit_at program (unit_by way program x)))
-  pub ahead : (way : Way) (r : RunningTop) (line u count next : ℕ) (behind : List Instruction) → IsRunning r → code_ahead r ≡ Step line (making way u count next) ∷ behind → IsCallAhead way r.program r.top r.operands u count next behind
+  pub made : (way : Way) (u k : ℕ) (work : Work) (x : Name) (actuals : List Actual) → ComesFrom (unit_at program u) k work → next_of (unit_at program u) work ≡ comes_by way x actuals → IsMadeOf way program x actuals
+  pub ahead : (way : Way) (r : RunningTop) (line u count next : ℕ) (behind : List Instruction) → IsRunning r → code_ahead r ≡ Step line (making way u count next) ∷ behind → IsBehindEntries way r.index count next → IsCallAhead way r.program r.top r.operands u count next behind

@@ -1,9 +1,9 @@
 -- One turn of a process in what a core keeps, in its parts: docs/MACHINE.md, "Steps".
-use Rattle.std.specs.Prelude.{◌≡◌, ◌<◌, ◌+◌, ℕ, List, [], ◌∷◌, ◌++◌, drop, length, Some, OnErr, IfOk, Result}
+use Rattle.std.specs.Prelude.{◌≡◌, ◌<◌, ◌≤◌, ◌+◌, ℕ, List, [], ◌∷◌, ◌++◌, drop, length, Some, OnErr, IfOk, Result}
 use Rattle.hep_machine.specs.Words.{Value, Units, Work}
 use Rattle.hep_arena.specs.Space.{Space}
 use Rattle.hep_code.specs.declared.instruction.Instruction.{Instruction}
-use Rattle.hep_code.specs.Words.{IsPastPushes, Stands}
+use Rattle.hep_code.specs.Words.{IsPastPushes, Stands, deepest, most_operands}
 use Rattle.hep_layout.specs.Words.{Nodes}
 use Rattle.hep_cells.specs.Outcomes.{is_full_state}
 use Rattle.hep_image.specs.declared.array.Array.{Array}
@@ -11,7 +11,7 @@ use Rattle.hep_image.specs.declared.unit.UnitCode.{UnitCode}
 use Rattle.hep_image.specs.Image.{IsUnitCode}
 use Rattle.hep_step.specs.declared.frame.Frame.{Frame as CellFrame}
 use Rattle.hep_step.specs.declared.effect.Effect.{Effect}
-use Rattle.hep_step.specs.declared.effect.Effect.TheVariants.{Moved, Printed, Failed, Waits, Returned, Stopped, LeftOut}
+use Rattle.hep_step.specs.declared.effect.Effect.TheVariants.{Moved, Printed, Failed, Waits, Returned, Answered, Stopped, LeftOut}
 use Rattle.hep_step.specs.Effects as effects
 use Rattle.hep_step.specs.Performed.{IsPerformed, snapshot}
 use Rattle.hep_step.specs.Ready.{IsReady, frame_in_arena}
@@ -31,11 +31,13 @@ pub record IsPlace (program : Units) (nodes : Nodes) (l : Level) (unit : UnitCod
   pub framed : frame ≡ frame_in_arena (frame_under nodes l.key)
   pub at : index ≡ l.index
 
--- what is behind its operation in the code, its unit's arrays, and its frame
+-- what is behind its operation in the code, its unit's arrays, and its frame; the unit's deepest stack of operands is no deeper than that of
+-- any may be
 pub record IsBehind (program : Units) (nodes : Nodes) (l : Level) (entries : List Instruction) (arrays : List Array) (frame : CellFrame) : Type 0 where
   pub behind : entries ≡ drop (l.index + 1) (unit_code program l.unit)
   pub arrays_are : arrays ≡ unit_arrays program l.unit
   pub framed : frame ≡ frame_in_arena (frame_under nodes l.key)
+  pub few : deepest (unit_code program l.unit) ≤ most_operands
 
 -- ---- the operation ahead is performed
 
@@ -82,6 +84,7 @@ IsLeft program cells choices p m (Printed items) = HasStepped program cells choi
 IsLeft program cells choices p m (Failed line kind) = IsToEnd program cells choices p m (effects.fails line kind)
 IsLeft program cells choices p m (Waits at state) = HasWaited program cells choices p at (is_full_state state) m
 IsLeft program cells choices p m Returned = IsToEnd program cells choices p m effects.returns
+IsLeft program cells choices p m (Answered v) = IsToEnd program cells choices p m (effects.answers v)
 IsLeft program cells choices p m Stopped = HasStepped program cells choices p (snapshot_stopped m)
 IsLeft program cells choices p m LeftOut = ⊥
 

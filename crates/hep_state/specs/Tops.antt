@@ -1,6 +1,6 @@
 -- A process whose turn it is, and what a turn changes in what a core keeps: docs/MACHINE.md, "Steps".
-use Rattle.std.specs.Prelude.{◌≡◌, ℕ, false, true, List, [], ◌∷◌, ◌++◌, map, Some}
-use Rattle.hep_machine.specs.Words.{Value, Units, Frame, is_held, living, numbered, with_numbered, with_process, run, Process, State, Top, fault_of, stack_after_return}
+use Rattle.std.specs.Prelude.{◌≡◌, ◌-◌, ℕ, false, true, List, [], ◌∷◌, ◌++◌, drop, length, map, take, Some}
+use Rattle.hep_machine.specs.Words.{Value, Units, Frame, is_held, living, numbered, with_numbered, with_process, run, Process, State, Top, fault_of, stack_after_return, stack_after_value}
 use Rattle.hep_machine.specs.declared.event.Fault.{Fault}
 use Rattle.hep_machine.specs.declared.event.Kind.{Kind}
 use Rattle.hep_machine.specs.declared.record.Item.{Item}
@@ -130,6 +130,10 @@ IsEffectOf t turning effect = Simulates (running_top t turning) effect
 abbrev pub state_returned : TurnOf → State
 state_returned t = with_process (state_before t) t.process (stack_after_return t.program (state_before t) t.top.1)
 
+-- that of a function with this value
+abbrev pub state_answered : TurnOf → Value → State
+state_answered t v = with_process (state_before t) t.process (stack_after_value t.program (state_before t) v t.top.1)
+
 -- and once a fault has ended the process
 abbrev pub state_failed : TurnOf → Kind → State
 state_failed t kind = with_process (record (state_before t) { faults = (state_before t).faults ++ fault_of t.program (top_before t) kind ∷ [] }) t.process []
@@ -177,6 +181,20 @@ snapshot_stopped m = record m { halted = true }
 -- the top activation has ended, and its frame went back, if that was so
 abbrev pub snapshot_returned : TurnOf → Space → Nodes → Snapshot
 snapshot_returned t arena nodes = with_stack (record t.machine { arena = arena; nodes = nodes }) t.process t.below [] t.pending
+
+-- of these levels the top one has its operands back, with a value behind them, and the others have what is pending then
+abbrev pub operands_answered : List Value → List Level → Value → List Value
+operands_answered pending [] v = []
+operands_answered pending (l ∷ ls) v = drop (length pending - l.kept) pending ++ v ∷ []
+
+abbrev pub pending_answered : List Value → List Level → List Value
+pending_answered pending [] = pending
+pending_answered pending (l ∷ ls) = take (length pending - l.kept) pending
+
+-- the top activation, of a function, has ended with a value, and its frame went back, if that was so
+abbrev pub snapshot_answered : TurnOf → Value → Space → Nodes → Snapshot
+snapshot_answered t v arena nodes =
+    with_stack (record t.machine { arena = arena; nodes = nodes }) t.process t.below (operands_answered t.pending t.below v) (pending_answered t.pending t.below)
 
 -- the stacks where the top level of process p, which has no operands, is that of a process more, at an index
 abbrev pub stacks_parted : {m : Snapshot} {p : ℕ} → HasLevels m p → ℕ → List Stack

@@ -5,12 +5,12 @@ unfoldable pub use Rattle.hep_state.specs.Showing.{AreThere, IsThere, node_under
 pub use Rattle.hep_state.specs.Showing.{code_level, code_levels, IsStack, kept_below, kept_by, levels_below, Shows}
 unfoldable pub use Rattle.hep_state.specs.Turns.{HasGaps}
 pub use Rattle.hep_state.specs.Turns.{HasNoGap, HasStepped, HasWaited, IsAbsent, IsAfter}
-unfoldable pub use Rattle.hep_state.specs.Tops.{fault_at, frame_under, keys_of, snapshot_failed, snapshot_moved, snapshot_parted, snapshot_printed, snapshot_resumed, snapshot_returned}
-unfoldable pub use Rattle.hep_state.specs.Tops.{levels_turning, snapshot_stopped, stacks_parted, stack_with, state_before, state_failed, state_returned, top_before, top_frame}
+unfoldable pub use Rattle.hep_state.specs.Tops.{fault_at, frame_under, keys_of, operands_answered, pending_answered, snapshot_answered, snapshot_failed, snapshot_moved, snapshot_parted, snapshot_printed, snapshot_resumed, snapshot_returned}
+unfoldable pub use Rattle.hep_state.specs.Tops.{levels_turning, snapshot_stopped, stacks_parted, stack_with, state_answered, state_before, state_failed, state_returned, top_before, top_frame}
 unfoldable pub use Rattle.hep_state.specs.Tops.{frames_before, HasMadeTurn, HaveLeft, IsEffectOf, IsTopRunning, running_top, turn_of, turn_settled, turn_with, with_contents, with_stack}
 pub use Rattle.hep_state.specs.Tops.{HasLevels, HoldsInTurn, IsTurning, TurnOf}
-unfoldable pub use Rattle.hep_state.specs.Calls.{call_in, entered_level, IsAfterCall, snapshot_made_by, stacks_made_by, state_made}
-pub use Rattle.hep_state.specs.Calls.{HasEntered, IsMaking, IsUnit, Makes}
+unfoldable pub use Rattle.hep_state.specs.Calls.{call_in, entered_level, HasResultBy, snapshot_made_by, stacks_made_by, state_made}
+pub use Rattle.hep_state.specs.Calls.{HasEntered, IsAfterCall, IsMaking, IsUnit, Makes}
 unfoldable pub use Rattle.hep_state.specs.Openings.{snapshot_opened, unset_opening}
 pub use Rattle.hep_state.specs.Openings.{IsEntered, IsGiven}
 unfoldable pub use Rattle.hep_state.specs.Rooms.{HasRoom, HasRoomAt}
@@ -18,10 +18,10 @@ pub use Rattle.hep_state.specs.Rooms.{HasRoomToPass, HaveRoom, IsMachineAfter}
 unfoldable pub use Rattle.hep_state.specs.Taking.{IsLeft, IsToEnd}
 pub use Rattle.hep_state.specs.Taking.{CanAdvance, IsAdvanced, IsBehind, IsEnding, IsPlace, IsSeenSame, IsSettled}
 unfoldable pub use Rattle.hep_state.specs.Givings.{AreOut}
-unfoldable pub use Rattle.hep_state.specs.CallsAhead.{given_of, HasCallAhead, HasNone, HasPurgeAhead, HasResumeAhead, IsAhead, IsAtCall, IsAtPurge, IsAtResume, IsInFront}
+unfoldable pub use Rattle.hep_state.specs.CallsAhead.{given_of, HasCallAhead, HasNone, HasPurgeAhead, HasResumeAhead, IsAhead, IsAtPurge, IsAtResume, IsInFront}
 unfoldable pub use Rattle.hep_state.specs.CallsAhead.{operation_of, ranges_ahead}
-pub use Rattle.hep_state.specs.CallsAhead.{IsAtStep, IsWithoutCall}
+pub use Rattle.hep_state.specs.CallsAhead.{IsAtCall, IsAtStep, IsWithoutCall}
 unfoldable pub use Rattle.hep_state.specs.Unturned.{IsUnturned}
 unfoldable pub use Rattle.hep_state.specs.Outcomes.{cell_wanted, HasTurned, IsInState, IsNow, IsTold}
 pub use Rattle.hep_state.specs.Outcomes.{HasPurged, Touches}
-pub use Rattle.hep_state.specs.Known.{AreRunning, IsKnown}
+pub use Rattle.hep_state.specs.Known.{AreRunning, IsKnown, IsMadeOf}

@@ -106,6 +106,7 @@ impl Process {
         ensures count { vec_len self.new.levels ≡ vec_len self.old.levels }
         ensures capacity { vec_capacity self.new.levels ≡ vec_capacity self.old.levels }
         ensures operands { self.new.operands ≡ self.old.operands }
+        ensures pending { self.new.pending ≡ self.old.pending }
     {
         let top = self.levels.len() - 1;
         self.levels[top] = level;

@@ -5,7 +5,7 @@ ghost use Rattle.hep_machine.specs.Words.{Units, Layout, State};
 ghost use Rattle.hep_layout.specs.Words.{is_stacked};
 ghost use Rattle.hep_frames.specs.Keeping.{CanAllLeave, CanLeave, HasLeft, IsEnded, Keeps, LeadUpwards, all_but, frames_in};
 ghost use Rattle.hep_frames.specs.Nodes.{nodes_of};
-ghost use Rattle.hep_step.specs.Effects.{fails, returns};
+ghost use Rattle.hep_step.specs.Effects.{answers, fails, returns};
 ghost use Rattle.hep_state.specs.declared.machine.Level.{Level as ALevel};
 ghost use Rattle.hep_state.specs.Words.{HaveRoom, snapshot_of, stack_of, IsToEnd, IsLeft, stack_with, keys_of, HasStepped, HasWaited};
 
@@ -14,6 +14,7 @@ use hep_blocked::Want;
 use hep_cells::CellState;
 use hep_frames::Frames;
 use hep_machine::{Fault, Kind};
+use hep_source::Value;
 use hep_step::Effect;
 
 // Several activations have ended, the last one first: their frames leave, and no levels are left.
@@ -63,6 +64,23 @@ impl Machine {
         self.frames.leave(ended.key);
     }
 
+    // The activation of a function on top of process p has ended with this value, which stands in the place of its reference: behind the
+    // operands that the one below it keeps, which it has again. There is room for them.
+    fn hand_down(&mut self, p: u64, value: Value)
+        requires { (program : Units) × (cells : ℕ) × (choices : List ℕ)
+            × IsToEnd program cells choices p (snapshot_of self.old) (answers value) × HaveRoom program cells self.old }
+        ensures stepped { (program : Units) (cells : ℕ) (choices : List ℕ)
+            → IsToEnd program cells choices p (snapshot_of self.old) (answers value)
+            → HasStepped program cells choices p (snapshot_of self.new) }
+        ensures rooms { (program : Units) (cells : ℕ) → HaveRoom program cells self.old → HaveRoom program cells self.new }
+        ensures processes { length self.new.processes.items ≡ length self.old.processes.items }
+    {
+        let process = &mut self.processes[(p - 1) as usize];
+        let ended = process.end_top();
+        process.take_value(value);
+        self.frames.leave(ended.key);
+    }
+
     // A fault has ended process p, in the statement with this initial line.
     pub(crate) fn fail(&mut self, p: u64, line: u32, kind: Kind)
         requires ending { (program : Units) × (cells : ℕ) × (choices : List ℕ)
@@ -92,7 +110,7 @@ impl Machine {
     // Ends a turn of process p, whose operation came to this; or answers what the process waits for.
     pub(crate) fn end_turn(&mut self, p: u64, effect: Effect) -> Option<Want>
         requires left { (program : Units) × (cells : ℕ) × (choices : List ℕ)
-            × IsLeft program cells choices p (snapshot_of self.old) effect }
+            × IsLeft program cells choices p (snapshot_of self.old) effect × HaveRoom program cells self.old }
         requires records { vec_len self.old.records < vec_capacity self.old.records }
         requires faults { vec_len self.old.faults < vec_capacity self.old.faults }
         ensures ended { MatchOption result ((program : Units) (cells : ℕ) (choices : List ℕ)
@@ -112,8 +130,9 @@ impl Machine {
                 return Some(Want { cell: at, full });
             }
             Effect::Returned => self.finish(p),
+            Effect::Answered(value) => self.hand_down(p, value),
             Effect::Stopped => self.halted = true,
-            // CALL, CREATE, PURGE and RESUME have turns of their own.
+            // CALL, CREATE, references, PURGE and RESUME have turns of their own.
             Effect::LeftOut => unreachable!(),
         }
         None

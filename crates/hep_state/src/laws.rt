@@ -1,6 +1,6 @@
 //! Laws of what a core keeps: what a turn changes in it is what the source machine's step changes in the state.
 ghost use Rattle.std.specs.Prelude.{◌≡◌, ◌<◌, ◌≤◌, ◌+◌, ◌∷◌, ℕ, Bool, true, false, List, Option, Some, None, Ok, Err, IsSome, []};
-ghost use Rattle.std.specs.Prelude.{is_some, length, nat_eq};
+ghost use Rattle.std.specs.Prelude.{◌-◌, is_some, length, nat_eq, take};
 ghost use Rattle.hep_machine.specs.Words.{Value, Units, dummies_of, main_among, main_unit, unit_at, Binding, Layout, activations_on};
 ghost use Rattle.hep_machine.specs.Words.{opening_layout, numbered, Work, Actual, Bounds};
 ghost use Rattle.hep_machine.specs.declared.event.Kind.{Kind};
@@ -10,7 +10,7 @@ ghost use Rattle.hep_machine.specs.State.{Level as SourceLevel, Process as Sourc
 ghost use Rattle.hep_machine.specs.declared.event.Kind.TheVariants.{Shape};
 ghost use Rattle.hep_conditions.specs.Words.{IsAccepted};
 ghost use Rattle.hep_arena.specs.Space.{Space};
-ghost use Rattle.hep_code.specs.Words.{entry_index, Stands, passed_from};
+ghost use Rattle.hep_code.specs.Words.{deepest, entry_index, operands_of_entries, Stands, passed_from};
 ghost use Rattle.hep_layout.specs.Words.{descriptor_slots, FrameNode, Nodes, but, is_stacked};
 ghost use Rattle.hep_layout_laws.specs.Within.{ArePlacedArrays};
 ghost use Rattle.hep_image.specs.declared.data.DataRow.{DataRow};
@@ -29,16 +29,16 @@ ghost use Rattle.hep_step.specs.declared.way.Way.{Way};
 ghost use Rattle.hep_step.specs.Calls.{is_creation, last_operands};
 ghost use Rattle.hep_step.specs.Cells.{HasFrame};
 ghost use Rattle.hep_step.specs.Ready.{frame_in_arena};
-ghost use Rattle.hep_step.specs.Effects.{fails, moves, prints, returns, stops, waits};
-ghost use Rattle.hep_step.specs.Simulation.{unit_addressed, unit_arrays};
+ghost use Rattle.hep_step.specs.Effects.{answers, fails, moves, prints, returns, stops, waits};
+ghost use Rattle.hep_step.specs.Simulation.{unit_addressed, unit_arrays, unit_code};
 ghost use Rattle.hep_entering.specs.Calling.{state_made_by};
 ghost use Rattle.hep_state.specs.declared.machine.Level.{Level as ALevel};
 ghost use Rattle.hep_state.specs.Words.{HasEntered, HasGaps, HasLevels, HasMadeTurn, HasNoGap, HasPurged, HasWaited, HaveLeft, IsAbsent};
 ghost use Rattle.hep_state.specs.Words.{IsAfter, IsAfterCall, IsAtCall, IsAtPurge, IsAtResume, IsEffectOf, IsEnding, IsEntered, IsGiven, IsKnown};
 ghost use Rattle.hep_state.specs.Words.{IsMaking, IsTopRunning, IsTurning, IsUnit, IsWithoutCall, Snapshot, Touches, TurnOf, given_of};
-ghost use Rattle.hep_state.specs.Words.{call_in, keys_of, node_under, ranges_ahead, snapshot_failed, snapshot_made_by};
+ghost use Rattle.hep_state.specs.Words.{call_in, keys_of, node_under, ranges_ahead, snapshot_answered, snapshot_failed, snapshot_made_by};
 ghost use Rattle.hep_state.specs.Words.{snapshot_moved, snapshot_opened, snapshot_printed, snapshot_resumed, snapshot_returned, snapshot_stopped};
-ghost use Rattle.hep_state.specs.Words.{state_before, state_failed, state_returned, top_frame, turn_settled, turn_with, unset_opening};
+ghost use Rattle.hep_state.specs.Words.{state_answered, state_before, state_failed, state_returned, top_frame, turn_settled, turn_with, unset_opening};
 ghost use Rattle.hep_state.specs.declared.upcoming.CallAhead.{CallAhead};
 ghost use Rattle.hep_state.specs.declared.upcoming.PurgeAhead.{PurgeAhead};
 ghost use Rattle.hep_frames.specs.Keeping.{frames_in};
@@ -118,6 +118,9 @@ pub fn frames_can_leave()
     ensures returned { (t : TurnOf) → (turning : IsTurning t)
         → IsEnded t.program turning.after.layout (but (top_frame t).activation (is_stacked (state_before t)))
         (state_before t) (state_returned t) × LeadUpwards (state_returned t) }
+    ensures answered { (t : TurnOf) (v : Value) → (turning : IsTurning t)
+        → IsEnded t.program turning.after.layout (but (top_frame t).activation (is_stacked (state_before t)))
+        (state_before t) (state_answered t v) × LeadUpwards (state_answered t v) }
     ensures all { (t : TurnOf) → IsTurning t → CanAllLeave t.machine.arena t.machine.nodes (keys_of (t.level ∷ t.below))
         × CanLeave t.machine.nodes (is_stacked (state_before t)) (keys_of (t.level ∷ t.below)) (activations_on (t.top.0 ∷ t.top.1)) }
     ensures failed { (t : TurnOf) (kind : Kind) → (turning : IsTurning t)
@@ -130,6 +133,14 @@ pub fn ends_are_shown()
     ensures { (t : TurnOf) (arena : Space) (nodes : Nodes) → (turning : IsTurning t) → HaveLeft t turning (state_returned t) arena nodes
         → length arena.contents ≡ length t.machine.arena.contents → IsEffectOf t turning returns
         → HasMadeTurn t (snapshot_returned t arena nodes) }
+{}
+
+/// Where the top activation, that of a function, has ended with a value and its frame has left, the one below it goes on with the
+/// operands that it kept, and with the value behind them.
+pub fn answers_are_shown()
+    ensures { (t : TurnOf) (v : Value) (arena : Space) (nodes : Nodes) → (turning : IsTurning t)
+        → HaveLeft t turning (state_answered t v) arena nodes → length arena.contents ≡ length t.machine.arena.contents
+        → IsEffectOf t turning (answers v) → HasMadeTurn t (snapshot_answered t v arena nodes) }
 {}
 
 /// Where a fault has ended the process and the frames of all its activations have left, the fault stands behind the
@@ -146,7 +157,9 @@ fn programs_are_known()
 {
     hep_code_laws::laws::works_come_from_statements();
     hep_code_laws::laws::calls_come_from_statements();
+    hep_code_laws::laws::references_come_from_statements();
     hep_code_laws::laws::subroutines_are_called();
+    hep_code_laws::laws::functions_are_referred_to();
     hep_code_laws::laws::programs_are_closed();
     hep_code_laws::laws::units_are_there();
     hep_code_laws::laws::activations_are_bound_in_runs();
@@ -154,8 +167,9 @@ fn programs_are_known()
     tops_are_running();
 }
 
-/// A process that is at a CALL or CREATE makes an activation of a subroutine of the program, with as many actual arguments
-/// as this has dummy arguments, and what its last operands, which are all of them, and the entries behind the CALL name can be passed.
+/// A process that is at a CALL, CREATE or reference makes an activation of a unit of the program, with as many actual arguments as this
+/// has dummy arguments, and what its last operands and the entries behind the operation name can be passed. The other operands are those
+/// with which it goes on, and no more than the deepest stack of its unit: none, where it calls or creates.
 pub fn calls_can_be_made()
     ensures inside { (t : TurnOf) (call : CallAhead) → IsAccepted t.program → is_some (main_among t.program) ≡ true → IsAtCall t call
         → call.unit < length t.program }
@@ -165,9 +179,9 @@ pub fn calls_can_be_made()
         → length t.machine.arena.contents ≤ most_cells → IsAtCall t call → HasFrame t.machine.arena (frame_in_arena (top_frame t)) }
     ensures passable { (t : TurnOf) (call : CallAhead) → IsAccepted t.program → is_some (main_among t.program) ≡ true
         → (at : IsAtCall t call) → ArePassable t.machine.arena (unit_arrays t.program t.level.unit) (frame_in_arena (top_frame t))
-        (passed_from call.count at.behind (last_operands call.count at.behind t.operands)) }
-    ensures all { (t : TurnOf) (call : CallAhead) → IsAccepted t.program → is_some (main_among t.program) ≡ true
-        → (at : IsAtCall t call) → last_operands call.count at.behind t.operands ≡ t.operands }
+        (passed_from call.count at.step.behind (last_operands call.count at.step.behind t.operands)) }
+    ensures few { (t : TurnOf) (call : CallAhead) → IsAccepted t.program → is_some (main_among t.program) ≡ true
+        → (at : IsAtCall t call) → length t.operands ≤ deepest (unit_code t.program t.level.unit) }
 {
     hep_passing::laws::callers_can_pass();
     programs_are_known();
@@ -226,13 +240,14 @@ pub fn resumes_are_shown()
     ensures gaps { (t : TurnOf) (next : ℕ) → IsAccepted t.program → is_some (main_among t.program) ≡ true → IsAtResume t next
         → HasGaps t.program t.cells t.choices t.process }
 {
+    hep_code_laws::laws::works_come_from_statements();
     hep_step::laws::resumes_are_ahead();
     hep_touched::laws::calls_and_purges_never_wait();
     hep_touched::laws::purges_stand_ahead();
     tops_are_running();
 }
 
-/// CALL and CREATE fill and empty nothing.
+/// CALL, CREATE and references fill and empty nothing.
 pub fn calls_touch_nothing()
     ensures { (t : TurnOf) (call : CallAhead) → IsAccepted t.program → is_some (main_among t.program) ≡ true → IsAtCall t call
         → Touches t.program t.cells t.choices t.process None }
@@ -253,7 +268,7 @@ pub fn calls_give_what_is_bound()
     ensures making { (t : TurnOf) (call : CallAhead) (given : List Given) → IsAccepted t.program → is_some (main_among t.program) ≡ true
         → (at : IsAtCall t call) → given_of call at ≡ Ok given
         → are_fitting t.machine.arena.contents given (dummy_arguments t.program (unit_at t.program call.unit)) ≡ true
-        → IsMaking call.way t call.unit call.next given
+        → IsMaking call.way t call.unit (length t.operands - operands_of_entries (take call.count at.step.behind)) call.next given
         (shapes_of t.machine.arena.contents given (dummy_arguments t.program (unit_at t.program call.unit))) }
     ensures range { (t : TurnOf) (call : CallAhead) (kind : Kind) → IsAccepted t.program → is_some (main_among t.program) ≡ true
         → (at : IsAtCall t call) → given_of call at ≡ Err kind → IsEnding t (fails call.line kind) }
@@ -262,6 +277,8 @@ pub fn calls_give_what_is_bound()
         → are_fitting t.machine.arena.contents given (dummy_arguments t.program (unit_at t.program call.unit)) ≡ false
         → IsEnding t (fails call.line Shape) }
 {
+    hep_code_laws::laws::calls_come_from_statements();
+    hep_code_laws::laws::references_come_from_statements();
     hep_code_laws::laws::actual_arguments_fit();
     hep_code_laws::laws::variables_are_placed();
     hep_conditions_laws::names::names_are_given_once();
@@ -276,17 +293,17 @@ pub fn calls_give_what_is_bound()
 /// Where the arena has no gap as long as the frame of the unit that is called, the step's frame has none; and where it has one, or
 /// where a fault ends the process, each frame has its gap.
 pub fn gaps_are_told()
-    ensures none { (way : Way) (t : TurnOf) (u n entry index : ℕ) (given : List Given) (shapes : List (Option Bounds))
-        → IsMaking way t u index given shapes → IsUnit t.program u n entry → first_fit n t.machine.arena.holes ≡ None
+    ensures none { (way : Way) (t : TurnOf) (u n entry kept index : ℕ) (given : List Given) (shapes : List (Option Bounds))
+        → IsMaking way t u kept index given shapes → IsUnit t.program u n entry → first_fit n t.machine.arena.holes ≡ None
         → HasNoGap t.program t.cells t.choices t.process }
-    ensures some { (way : Way) (t : TurnOf) (u n entry index : ℕ) (given : List Given) (shapes : List (Option Bounds))
-        → IsMaking way t u index given shapes → IsUnit t.program u n entry → IsSome (first_fit n t.machine.arena.holes)
+    ensures some { (way : Way) (t : TurnOf) (u n entry kept index : ℕ) (given : List Given) (shapes : List (Option Bounds))
+        → IsMaking way t u kept index given shapes → IsUnit t.program u n entry → IsSome (first_fit n t.machine.arena.holes)
         → HasGaps t.program t.cells t.choices t.process }
     ensures fault { (t : TurnOf) (line : ℕ) (kind : Kind) → IsEnding t (fails line kind)
         → HasGaps t.program t.cells t.choices t.process }
 {}
 
-/// Where what stands ahead of a process calls, creates and purges nothing, its step makes no activation, and so each frame has its
+/// Where what stands ahead of a process calls, creates, refers to and purges nothing, its step makes no activation, and so each frame has its
 /// gap.
 pub fn other_steps_find_gaps()
     ensures { (program : Units) (cells : ℕ) (choices : List ℕ) (m : Snapshot) (p : ℕ) → IsAccepted program
@@ -298,12 +315,13 @@ pub fn other_steps_find_gaps()
     tops_are_running();
 }
 
-/// Where the frame of the activation that a CALL or CREATE makes has entered and its cells are written, a step was made: the new
-/// activation is shown on top of its caller or as a process of its own, and the caller or creator goes on behind the statement.
+/// Where the frame of the activation that a CALL, CREATE or reference makes has entered and its cells are written, a step was made: the
+/// new activation is shown on top of the one that makes it, which keeps so many operands, or as a process of its own; and that one is to go
+/// on at an index.
 pub fn calls_are_shown()
-    ensures { (way : Way) (t : TurnOf) (u key index : ℕ) (actuals : List Actual) (b : Binding) (arena : Space) (nodes : Nodes)
+    ensures { (way : Way) (t : TurnOf) (u key kept index : ℕ) (actuals : List Actual) (b : Binding) (arena : Space) (nodes : Nodes)
         → (turning : IsTurning t) → HasEntered t turning u key (state_made_by (is_creation way) (call_in t u actuals b)) arena nodes
-        → IsAfterCall t index → HasMadeTurn t (snapshot_made_by way t u key index arena nodes) }
+        → IsAfterCall way t u kept index → HasMadeTurn t (snapshot_made_by (is_creation way) t u key kept index arena nodes) }
 {}
 
 /// Where the frame of the main program has entered and DATA has given the cells their values, the opening is shown, with process

@@ -8,6 +8,7 @@ mod advancing;
 mod calling;
 mod emptying;
 mod ending;
+mod keeping;
 pub mod laws;
 mod machine;
 mod opening;

@@ -33,11 +33,11 @@ pub struct Process {
     pub levels: Vec<Level>,
     /// Those of the top activation.
     pub operands: Vec<Value>,
-    /// Those of all others, the lowest one's first. No CALL leaves any, so no memory is asked for here.
+    /// Those of all others, the lowest one's first. No CALL leaves any, so that it asks for no memory here.
     pub pending: Vec<Value>,
 }
 
-/// What the actual arguments of a CALL give, and the targets of a PURGE name, while it is made.
+/// What the actual arguments of a CALL or a reference give, and the targets of a PURGE name, while it is made.
 pub struct Passing {
     /// What each dummy argument stands for.
     pub given: Vec<Given>,

@@ -102,6 +102,13 @@ fn dummies(unit: &Unit) -> usize
             },
             ..
         ] => dummies.as_slice().len(),
+        [
+            Statement {
+                form: Form::Function(_, _, dummies),
+                ..
+            },
+            ..
+        ] => dummies.as_slice().len(),
         _ => 0,
     }
 }

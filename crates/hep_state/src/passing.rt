@@ -1,5 +1,5 @@
-//! What the actual arguments of a CALL or CREATE give (X3.9-1978, 15.6.2 and 15.9.3).
-ghost use Rattle.std.specs.Prelude.{◌≡◌, ℕ, List, IfErr, OnOk};
+//! What the actual arguments of a CALL, CREATE or reference give (X3.9-1978, 15.5.2, 15.6.2 and 15.9.3).
+ghost use Rattle.std.specs.Prelude.{◌≡◌, ◌≤◌, ℕ, List, IfErr, IfOk, drop, length};
 ghost use Rattle.hep_step.specs.Effects.{fails};
 ghost use Rattle.hep_state.specs.Words.{IsMaking, HasCallAhead, HoldsInTurn, HaveRoom, IsMachineAfter, snapshot_of, IsToEnd};
 
@@ -8,22 +8,40 @@ use crate::machine::{Machine, Passing};
 use crate::upcoming::CallAhead;
 use hep_image::Image;
 use hep_machine::Kind;
-use hep_passing::{AllPassed, give_actuals};
+use hep_passing::{AllPassed, give_actuals, in_front};
 use hep_shaping::find_shapes;
+use hep_source::Value;
+
+// The operands behind the first ones, so many.
+fn past(operands: &[Value], first: usize) -> &[Value]
+    requires { first ≤ length operands.now }
+    ensures { result.now ≡ drop first operands.now }
+{
+    &operands[first..]
+}
+
+// The same number.
+fn narrowed(number: usize) -> u32
+    requires { number ≤ 4294967295 }
+    ensures { result ≡ number }
+{
+    number as u32
+}
 
 impl Machine {
-    // What the actual arguments of the CALL or CREATE ahead of process p give.
+    // What the actual arguments of the CALL, CREATE or reference ahead of process p give. Answers how many operands stand in front of
+    // those that they pass.
     //
     // Fails with Range where one of them is no element, and with Shape where a dummy argument has no shape or more elements than it is
     // given.
     // Nothing but `passing` changes.
-    pub(crate) fn give(&mut self, image: &Image, p: u64, call: CallAhead) -> Result<(), Kind>
+    pub(crate) fn give(&mut self, image: &Image, p: u64, call: CallAhead) -> Result<u32, Kind>
         requires at { (cells : ℕ) × (choices : List ℕ) × IsMachineAfter image.now cells choices self.old
             × HasCallAhead image.now cells choices p (snapshot_of self.old) call }
-        ensures given { OnOk result ((cells : ℕ) (choices : List ℕ) → IsMachineAfter image.now cells choices self.old
+        ensures given { IfOk result (λ kept. (cells : ℕ) (choices : List ℕ) → IsMachineAfter image.now cells choices self.old
             → HasCallAhead image.now cells choices p (snapshot_of self.old) call
             → HoldsInTurn image.now cells choices p (snapshot_of self.old)
-            (λ t. IsMaking call.way t call.unit call.next self.new.passing.given.items self.new.passing.shapes.items)) }
+            (λ t. IsMaking call.way t call.unit kept call.next self.new.passing.given.items self.new.passing.shapes.items)) }
         ensures fault { IfErr result (λ kind. (cells : ℕ) (choices : List ℕ) → IsMachineAfter image.now cells choices self.old
             → HasCallAhead image.now cells choices p (snapshot_of self.old) call
             → IsToEnd image.now cells choices p (snapshot_of self.old) (fails call.line kind)) }
@@ -41,10 +59,11 @@ impl Machine {
             values,
             ..
         } = &mut self.passing;
+        let kept = in_front(entries, call.count as usize, process.operands.len());
         let all = AllPassed {
             entries,
             count: call.count as usize,
-            operands: &process.operands,
+            operands: past(&process.operands, kept),
             arrays,
             arena: &self.frames.arena,
             frame,
@@ -53,7 +72,7 @@ impl Machine {
         let called = image.unit(call.unit as usize);
         let dummies = called.dummies.as_slice();
         if find_shapes(dummies, &self.frames.arena, given, values, shapes) {
-            Ok(())
+            Ok(narrowed(kept))
         } else {
             Err(Kind::Shape)
         }

@@ -56,16 +56,18 @@ pub enum Turned {
 }
 
 impl Process {
-    // Room for a level more, and for so many operands at once.
-    fn reserve(&mut self, operands: u32) -> Result<(), AllocError>
+    // Room for a level more, for so many operands at once, and for so many more that are pending.
+    fn reserve(&mut self, operands: u32, kept: u32) -> Result<(), AllocError>
         ensures level { OnOk result (vec_len self.new.levels < vec_capacity self.new.levels) }
         ensures operands { OnOk result (operands ≤ vec_capacity self.new.operands) }
+        ensures pending { OnOk result (vec_len self.new.pending + kept ≤ vec_capacity self.new.pending) }
         ensures same { (self.new.levels.items ≡ self.old.levels.items) × (self.new.operands.items ≡ self.old.operands.items)
             × (self.new.pending.items ≡ self.old.pending.items) }
         ensures capacity { vec_capacity self.old.operands ≤ vec_capacity self.new.operands }
     {
         self.levels.reserve(1)?;
-        self.operands.reserve(operands as usize)
+        self.operands.reserve(operands as usize)?;
+        self.pending.reserve(kept as usize)
     }
 }
 
@@ -99,11 +101,13 @@ impl Machine {
         history.reserve(1)
     }
 
-    // Room for an activation more of process p, with so many operands at once, and for the entry of its turn.
+    // Room for an activation more of process p, with so many operands at once, for so many of the one below it, and for the entry of its
+    // turn.
     fn reserve_activation(
         &mut self,
         p: u64,
         operands: u32,
+        kept: u32,
         history: &mut Vec<Entry>,
     ) -> Result<(), AllocError>
         requires { HasLevels (snapshot_of self.old) p }
@@ -112,6 +116,8 @@ impl Machine {
             → vec_len q.levels < vec_capacity q.levels) }
         ensures operands { OnOk result ((q : AProcess) → slice_get self.new.processes.items (p - 1) ≡ Some q
             → operands ≤ vec_capacity q.operands) }
+        ensures pending { OnOk result ((q : AProcess) → slice_get self.new.processes.items (p - 1) ≡ Some q
+            → vec_len q.pending + kept ≤ vec_capacity q.pending) }
         ensures entry { OnOk result (vec_len history.new < vec_capacity history.new) }
         ensures entries { history.new.items ≡ history.old.items }
         ensures shown { snapshot_of self.new ≡ snapshot_of self.old }
@@ -120,7 +126,7 @@ impl Machine {
     {
         history.reserve(1)?;
         self.frames.reserve()?;
-        self.processes[(p - 1) as usize].reserve(operands)
+        self.processes[(p - 1) as usize].reserve(operands, kept)
     }
 
     // Room for a process more, and for the entry of the turn that makes it; and that process, which is empty so far, with room for a level
@@ -186,7 +192,7 @@ impl Machine {
         Ok(process)
     }
 
-    // Performs the operation ahead of process p, which is neither CALL nor CREATE, and neither PURGE nor RESUME.
+    // Performs the operation ahead of process p, which is neither CALL, CREATE nor a reference, and neither PURGE nor RESUME.
     fn advance(&mut self, alloc: Global, image: &Image, p: u64) -> Result<Advanced, AllocError>
         requires after { (cells : ℕ) × (choices : List ℕ) × IsMachineAfter image.now cells choices self.old }
         requires running { self.old.halted ≡ false }
@@ -231,7 +237,7 @@ impl Machine {
         })
     }
 
-    // A turn of process p, ahead of which neither CALL nor CREATE stands, and neither PURGE nor RESUME.
+    // A turn of process p, ahead of which neither CALL, CREATE nor a reference stands, and neither PURGE nor RESUME.
     fn take_operation(
         &mut self,
         alloc: Global,
@@ -262,7 +268,7 @@ impl Machine {
         }
     }
 
-    // A turn of process p, which is at a CALL or CREATE: an activation more, or a fault.
+    // A turn of process p, which is at a CALL, CREATE or reference: an activation more, or a fault.
     //
     // Whether the frame has a gap is found before memory is asked for.
     fn take_call(
@@ -296,11 +302,14 @@ impl Machine {
         laws::calls_can_be_made();
         laws::calls_touch_nothing();
         laws::gaps_are_told();
-        if let Err(kind) = self.give(image, p, call) {
-            self.reserve(history)?;
-            self.fail(p, call.line, kind);
-            return Ok(Turned::Stepped { changed: None });
-        }
+        let kept = match self.give(image, p, call) {
+            Ok(kept) => kept,
+            Err(kind) => {
+                self.reserve(history)?;
+                self.fail(p, call.line, kind);
+                return Ok(Turned::Stepped { changed: None });
+            }
+        };
         let unit = image.unit(call.unit as usize);
         if !self.frames.fits(unit.cells) {
             return Err(TurnFault::ArenaFull);
@@ -312,12 +321,16 @@ impl Machine {
         };
         match call.way {
             Way::Calls => {
-                self.reserve_activation(p, unit.operands, history)?;
-                self.call(p, called, call.next as usize);
+                self.reserve_activation(p, unit.operands, kept, history)?;
+                self.call(p, called, kept, call.next);
+            }
+            Way::Refers => {
+                self.reserve_activation(p, unit.operands, kept, history)?;
+                self.call(p, called, kept, call.next);
             }
             Way::Creates => {
                 let process = self.reserve_creation(alloc, unit.operands, history, ready)?;
-                self.create(p, called, call.next as usize, process);
+                self.create(p, called, call.next, process);
             }
         }
         Ok(Turned::Stepped { changed: None })
@@ -328,7 +341,7 @@ impl Machine {
     ///
     /// # Errors
     ///
-    /// `ArenaFull` where a CALL or CREATE makes an activation for whose frame there is no gap, which is found before memory is asked for;
+    /// `ArenaFull` where a CALL, CREATE or reference makes an activation for whose frame there is no gap, which is found before memory is asked for;
     /// `NoMemory`. The same state is shown then.
     pub fn turn(
         &mut self,

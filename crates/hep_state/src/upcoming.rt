@@ -1,5 +1,6 @@
-//! What stands ahead of a process: a CALL or CREATE, a PURGE, RESUME, or another operation (X3.9-1978, 15.6.2, and docs/LANGUAGE.md, 9).
-ghost use Rattle.std.specs.Prelude.{◌≡◌, ◌∷◌, ℕ, List, false, drop};
+//! What stands ahead of a process: a CALL, CREATE or reference, a PURGE, RESUME, or another operation (X3.9-1978, 15.5.2 and 15.6.2, and
+//! docs/LANGUAGE.md, 9).
+ghost use Rattle.std.specs.Prelude.{◌≡◌, ◌<◌, ◌^◌, ◌∷◌, ℕ, List, false, drop, length};
 ghost use Rattle.hep_code.specs.declared.instruction.Instruction.{Instruction as AnInstruction};
 ghost use Rattle.hep_code.specs.declared.instruction.Instruction.TheVariants.{Step};
 ghost use Rattle.hep_state.specs.Words.{IsAhead, IsInFront, IsMachineAfter, snapshot_of, HasLevels, IsSeenSame};
@@ -9,7 +10,7 @@ use hep_code::{Instruction, Operation};
 use hep_image::Image;
 use hep_step::Way;
 
-/// A CALL or CREATE that stands ahead of a process.
+/// A CALL, CREATE or reference that stands ahead of a process.
 #[derive(Clone, Copy, Debug)]
 pub struct CallAhead {
     /// The initial line of its statement.
@@ -21,7 +22,7 @@ pub struct CallAhead {
     /// How many actual arguments it has.
     pub count: u32,
     /// The index in the code at which the one that makes it goes on.
-    pub next: u32,
+    pub next: usize,
 }
 
 /// A PURGE that stands ahead of a process.
@@ -38,7 +39,7 @@ pub struct PurgeAhead {
 /// What stands ahead of a process.
 #[derive(Clone, Copy, Debug)]
 pub enum StepAhead {
-    /// A CALL or CREATE.
+    /// A CALL, CREATE or reference.
     Call(CallAhead),
     /// A PURGE.
     Purge(PurgeAhead),
@@ -48,9 +49,10 @@ pub enum StepAhead {
     Other,
 }
 
-// What an operation is that stands ahead, in a statement with this initial line.
-fn as_ahead(line: u32, operation: Operation) -> StepAhead
-    ensures { (behind : List AnInstruction) → IsInFront (Step line operation ∷ behind) result }
+// What an operation is that stands ahead, at an index of the code, in a statement with this initial line.
+fn as_ahead(line: u32, index: usize, operation: Operation) -> StepAhead
+    requires { index < 2 ^ 63 }
+    ensures { (behind : List AnInstruction) → IsInFront index (Step line operation ∷ behind) result }
 {
     match operation {
         Operation::Call { unit, count, next } => StepAhead::Call(CallAhead {
@@ -58,14 +60,21 @@ fn as_ahead(line: u32, operation: Operation) -> StepAhead
             way: Way::Calls,
             unit,
             count,
-            next,
+            next: next as usize,
         }),
         Operation::Create { unit, count, next } => StepAhead::Call(CallAhead {
             line,
             way: Way::Creates,
             unit,
             count,
-            next,
+            next: next as usize,
+        }),
+        Operation::Refer { unit, count } => StepAhead::Call(CallAhead {
+            line,
+            way: Way::Refers,
+            unit,
+            count,
+            next: index + 1 + count as usize,
         }),
         Operation::Purge { count, next } => StepAhead::Purge(PurgeAhead { line, count, next }),
         Operation::Resume { next } => StepAhead::Resume { next },
@@ -75,10 +84,11 @@ fn as_ahead(line: u32, operation: Operation) -> StepAhead
 
 // What stands at an index of a unit's code.
 fn ahead_at(code: &[Instruction], index: usize) -> StepAhead
-    ensures { IsInFront (drop index code.now) result }
+    requires { length code.now < 2 ^ 63 }
+    ensures { IsInFront index (drop index code.now) result }
 {
     match code.get(index) {
-        Some(Instruction::Step { line, operation }) => as_ahead(*line, *operation),
+        Some(Instruction::Step { line, operation }) => as_ahead(*line, index, *operation),
         _ => StepAhead::Other,
     }
 }

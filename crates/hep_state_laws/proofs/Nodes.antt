@@ -91,22 +91,22 @@ module _ (program : Units) (s : State) (nodes : Nodes) (a n : ℕ) where
   found-here : (l : Level) (keys : List ℕ) (b : ℕ) → IsHere program s nodes l b → nat_eq a b ≡ true → IsFound nodes a (suc n) (l.key ∷ keys)
   found-here l keys b h same = found-first nodes a n l.key keys h.node h.there (sym h.activation ∙ sym (eqb-true a b same))
 
-  found-below : (pending : List Value) (ls : List Level) (q : Process) → AreStandingBelow program s nodes pending ls q → is_number_among a (activations_on q) ≡ true → IsFound nodes a (suc n) (keys_of ls)
-  found-below pending [] [] h among = absurd (true≢false (sym among))
-  found-below pending (l ∷ ls) (level ∷ levels) h among =
+  found-below : (above : ℕ) (pending : List Value) (ls : List Level) (q : Process) → AreStandingBelow program s nodes above pending ls q → is_number_among a (activations_on q) ≡ true → IsFound nodes a (suc n) (keys_of ls)
+  found-below above pending [] [] h among = absurd (true≢false (sym among))
+  found-below above pending (l ∷ ls) (level ∷ levels) h among =
       elim (or_cases (nat_eq a level.activation) (is_number_among a (activations_on levels)) among) [
         | inl here ↦ found-here l (keys_of ls) level.activation h.0.here here
-        | inr rest ↦ found-behind nodes a (suc n) (l.key ∷ []) (keys_of ls) (found-below (take (length pending - l.kept) pending) ls levels h.1 rest)
+        | inr rest ↦ found-behind nodes a (suc n) (l.key ∷ []) (keys_of ls) (found-below l.unit (take (length pending - l.kept) pending) ls levels h.1 rest)
       ]
-  found-below pending [] (level ∷ levels) h among = absurd h
-  found-below pending (l ∷ ls) [] h among = absurd h
+  found-below above pending [] (level ∷ levels) h among = absurd h
+  found-below above pending (l ∷ ls) [] h among = absurd h
 
   pub found-on : (vs pending : List Value) (ls : List Level) (q : Process) → AreStanding program s nodes vs pending ls q → is_number_among a (activations_on q) ≡ true → IsFound nodes a (suc n) (keys_of ls)
   found-on vs pending [] [] h among = absurd (true≢false (sym among))
   found-on vs pending (l ∷ ls) (level ∷ levels) h among =
       elim (or_cases (nat_eq a level.activation) (is_number_among a (activations_on levels)) among) [
         | inl here ↦ found-here l (keys_of ls) level.activation h.0.here here
-        | inr rest ↦ found-behind nodes a (suc n) (l.key ∷ []) (keys_of ls) (found-below pending ls levels h.1 rest)
+        | inr rest ↦ found-behind nodes a (suc n) (l.key ∷ []) (keys_of ls) (found-below l.unit pending ls levels h.1 rest)
       ]
   found-on vs pending [] (level ∷ levels) h among = absurd h
   found-on vs pending (l ∷ ls) [] h among = absurd h

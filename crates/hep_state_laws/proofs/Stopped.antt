@@ -123,18 +123,18 @@ module _ (program : Units) (s : State) where
       → IsOf program (addresses_of program) s f level
   of-going f level h = record { activation = h.activation; made = h.made; unit = h.unit }
 
-  below-going : (fs : List CodeLevel) (levels : Process) → AreBelow program (addresses_of program) stopped fs levels
-      → AreBelow program (addresses_of program) s fs levels
-  below-going [] [] h = tt
-  below-going (f ∷ fs) (level ∷ levels) h =
-      (record { is_of = of-going f level h.0.is_of; index = h.0.index; operands = h.0.operands; loops = h.0.loops }, below-going fs levels h.1)
-  below-going [] (level ∷ levels) h = absurd h
-  below-going (f ∷ fs) [] h = absurd h
+  below-going : (above : ℕ) (fs : List CodeLevel) (levels : Process) → AreBelow program (addresses_of program) stopped above fs levels
+      → AreBelow program (addresses_of program) s above fs levels
+  below-going above [] [] h = tt
+  below-going above (f ∷ fs) (level ∷ levels) h =
+      (record { is_of = of-going f level h.0.is_of; awaits = h.0.awaits; loops = h.0.loops }, below-going f.unit fs levels h.1)
+  below-going above [] (level ∷ levels) h = absurd h
+  below-going above (f ∷ fs) [] h = absurd h
 
   levels-going : (fs : List CodeLevel) (levels : Process) → AreLevels program (addresses_of program) stopped fs levels
       → AreLevels program (addresses_of program) s fs levels
   levels-going [] [] h = tt
-  levels-going (f ∷ fs) (level ∷ levels) h = (record { is_of = of-going f level h.0.is_of; at = h.0.at }, below-going fs levels h.1)
+  levels-going (f ∷ fs) (level ∷ levels) h = (record { is_of = of-going f level h.0.is_of; at = h.0.at }, below-going f.unit fs levels h.1)
   levels-going [] (level ∷ levels) h = absurd h
   levels-going (f ∷ fs) [] h = absurd h
 

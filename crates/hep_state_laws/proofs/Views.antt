@@ -3,7 +3,8 @@ use Rattle.std.proofs.Common.{◌≡◌, inl, inr, ℕ, zero, suc, ◌≤◌, tr
 use Rattle.std.specs.Option.{option_map, unwrap_or}
 use Rattle.std.proofs.lemmas.Bool.{cases_Bool}
 use Rattle.std.proofs.lemmas.Option.{none-some, same_Some, slice_get-get_or}
-use Rattle.hep_machine.specs.Words.{Name, Statement, index_among, same_name, Units, dummies_of, main_unit, unit_at, line_at, Binding, binding_for, binding_with_shapes, dummies_for, dummy_before, dummy_for, with_actuals, with_shape, with_shapes, with_store, no_activation, Actual, Next, wants, does, next_of, Scope}
+use Rattle.std.specs.List.{flat_map}
+use Rattle.hep_machine.specs.Words.{Name, Statement, index_among, same_name, Units, dummies_of, main_unit, unit_at, line_at, Binding, binding_for, binding_with_shapes, dummies_for, dummy_before, dummy_for, with_actuals, with_shape, with_shapes, with_store, no_activation, Actual, Next, evaluating, referring, wants, does, next_of, Scope}
 use Rattle.hep_machine.specs.Words.{opening, activation_of, unit_of, run, run_from, Activation, Dummy, State, Store, Process, Work, binding_of, next_activation, result_after_next, scope_of, step, Top, wanted_by, Value, Layout, is_held, process_view_of, process_views_from, view_of}
 use Rattle.hep_source.proofs.NameTests.{equal_names, same_name-self}
 use Rattle.hep_machine.specs.declared.event.Kind.{Kind}
@@ -17,7 +18,7 @@ use Rattle.hep_frames_laws.specs.Reading.{HasDummies, frame_read, frame_read_in,
 use Rattle.hep_arena.specs.Gaps.{frame_among}
 use Rattle.hep_code.specs.declared.instruction.Instruction.{Instruction}
 use Rattle.hep_code.specs.declared.instruction.Instruction.TheVariants.{Push}
-use Rattle.hep_code.specs.Words.{operands_of_action, operands_of_redex, line_ahead, Stands, work_code, AddressedUnit, code_of}
+use Rattle.hep_code.specs.Words.{operands_of_action, operands_of_actual, operands_of_redex, line_ahead, Stands, work_code, AddressedUnit, code_of}
 use Rattle.hep_code.proofs.Works.{NextIs, work_is}
 use Rattle.hep_layout.specs.Words.{FrameNode}
 use Rattle.hep_frames_laws.proofs.Read.{common-is-read, frames-are-read}
@@ -147,7 +148,9 @@ line-after (v ∷ vs) is = line-after vs is
 
 module _ (addressed : AddressedUnit) (k : ℕ) (work : Work) where
   line-of-next : (n : Next) (after : Value → List Instruction) (rest : List Instruction) → NextIs addressed (line_at addressed.unit k) k n (work_code addressed k work) after → line_ahead (work_code addressed k work ++ rest) ≡ line_at addressed.unit k
-  line-of-next (wants r) after rest h = ap (λ c. line_ahead (c ++ rest)) h.is ∙ ap line_ahead (append_assoc (map Push (h.before ++ operands_of_redex r)) _ rest) ∙ line-after (h.before ++ operands_of_redex r) _
+  line-of-next (wants (referring x actuals)) after rest h =
+      ap (λ c. line_ahead (c ++ rest)) h.is ∙ ap line_ahead (append_assoc (map Push (h.before ++ flat_map operands_of_actual actuals)) _ rest) ∙ line-after (h.before ++ flat_map operands_of_actual actuals) _
+  line-of-next (wants (evaluating r)) after rest h = ap (λ c. line_ahead (c ++ rest)) h.is ∙ ap line_ahead (append_assoc (map Push (h.before ++ operands_of_redex r)) _ rest) ∙ line-after (h.before ++ operands_of_redex r) _
   line-of-next (does a) after rest h = ap (λ c. line_ahead (c ++ rest)) h.1 ∙ ap line_ahead (append_assoc (map Push (operands_of_action a)) _ rest) ∙ line-after (operands_of_action a) _
 
   line-is : (operands : List Value) (index : ℕ) → Stands addressed k work operands index → line_ahead (drop index (code_of addressed)) ≡ line_at addressed.unit k

@@ -7,7 +7,7 @@ use Rattle.hep_code.specs.declared.instruction.Instruction.{Instruction}
 use Rattle.hep_code.specs.declared.instruction.Instruction.TheVariants.{Push, Step}
 use Rattle.hep_code.specs.Words.{Stands, IsPastPushes}
 use Rattle.hep_image.specs.declared.array.Array.{Array}
-use Rattle.hep_step.specs.Effects.{effect_ahead, effect_at, Effect, effect_of, fails, moves, prints, returns, stops, left_out, waits}
+use Rattle.hep_step.specs.Effects.{effect_ahead, effect_at, Effect, effect_of, fails, moves, prints, answers, returns, stops, left_out, waits}
 use Rattle.hep_step.specs.Simulation.{unit_addressed, unit_code, IsNotLeftOut, IsRunning, RunningTop, Simulates, arrays_running, code_running, is_left_out, unit_arrays}
 use Rattle.hep_state.specs.Words.{HasLevels, IsEffectOf, IsSettled, IsTopRunning, Shows, Snapshot, Stack, IsTurning, TurnOf, state_before, top_frame, turn_settled, turn_with, IsAbsent, IsAfter, running_top}
 use Rattle.hep_code.proofs.Ahead.{drop_one_more, pushed}
@@ -16,7 +16,7 @@ use Rattle.std.specs.Option.{option_map}
 use Rattle.hep_machine.specs.State.{Level as SourceLevel}
 use Rattle.hep_machine.specs.Step.{wanted_of}
 use Rattle.hep_code.specs.declared.instruction.Operation.{Operation}
-use Rattle.hep_code.specs.declared.instruction.Operation.TheVariants.{Call, Create, Purge, Resume}
+use Rattle.hep_code.specs.declared.instruction.Operation.TheVariants.{Call, Create, Refer, Purge, Resume}
 use Rattle.hep_layout.specs.Words.{address}
 use Rattle.hep_state.specs.declared.machine.Level.{Level}
 use Rattle.hep_state.proofs.Moved.{unit-is}
@@ -97,6 +97,7 @@ left-out-seen : (code : List Instruction) (arrays : List Array) (first : ℕ) (l
     (contents : List Slot) (operands : List Value) (index : ℕ) → is_left_out o ≡ true → effect_of code arrays first line o behind contents operands index ≡ left_out
 left-out-seen code arrays first line (Call u count next) behind contents operands index left = refl
 left-out-seen code arrays first line (Create u count next) behind contents operands index left = refl
+left-out-seen code arrays first line (Refer u count) behind contents operands index left = refl
 left-out-seen code arrays first line (Purge count next) behind contents operands index left = refl
 left-out-seen code arrays first line (Resume next) behind contents operands index left = refl
 left-out-seen code arrays first line _ behind contents operands index left = absurd cc
@@ -158,7 +159,8 @@ module _ {t : TurnOf} (h : IsTurning t) (known : IsKnown t.program t.cells) wher
   by-effect (prints items index) (after, is, reaches) = ap wanted_of is
   by-effect (fails line k) (is, at) = ap wanted_of is
   by-effect (waits cell full) (at, is, found) = ap wanted_of is ∙ sym (unit-kept at cell full found)
-  by-effect returns is = ap wanted_of is
+  by-effect returns (none, is) = ap wanted_of is
+  by-effect (answers v) (x, result, is) = ap wanted_of is
   by-effect stops is = ap wanted_of is
   by-effect left_out none = absurd none
 

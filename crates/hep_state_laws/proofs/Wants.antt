@@ -1,6 +1,6 @@
 -- What a step waits for, which goes by its statement and by what is stored, and that one which stops all processes changes no more than that.
 use Rattle.std.proofs.Common.{◌≡◌, ℕ, Bool, true, true≢false, List, [], ◌∷◌, refl, sym, ap, ◌∙◌, Option, Some, None, ◌⊎◌, inl, inr, false, Result, Ok, Err, ℤ, ◌+ℤ◌}
-use Rattle.hep_machine.specs.Words.{Value, Units, unit_at, integer_of, integer_or_overflow, Binding, variable_of, Action, Next, wants, does, next_of, assigning, entering_loop, ending_loop, calling, creating, purging, resuming, stopping, Scope, location_of_name, living, loop_at, unit_of, Level, Location, Loop}
+use Rattle.hep_machine.specs.Words.{Value, Units, unit_at, integer_of, integer_or_overflow, Binding, variable_of, Action, Next, wants, Name, evaluating, function_name, function_unit, leaving, referring, result_after_leaving, result_after_result, result_after_value, does, next_of, assigning, entering_loop, ending_loop, calling, creating, purging, resuming, stopping, Scope, location_of_name, living, loop_at, unit_of, Level, Location, Loop}
 use Rattle.hep_machine.specs.Words.{Process, State, state_resumed, stepped, Store, Work, Answer, StepResult, Top, Wanted, answer_of, answer_at, binding_of, iterations, fails, written, result_after_action, result_after_answer, result_after_assignment, result_after_call, result_after_create, result_after_do, result_after_increment}
 use Rattle.hep_machine.specs.Words.{result_after_loop_end, result_after_loop_variable, result_after_next, result_after_purge, result_after_write, scope_of, step_result_of, step_result_of_top, store_after_purge, unit_called, unit_on_top, wanted_by, wanted_of, step}
 use Rattle.hep_machine.specs.declared.event.Kind.{Kind}
@@ -30,7 +30,8 @@ waited_by scope store (assigning r v) = waited_at store r.0.asynchronous (locati
 waited_by scope store _ = None
 
 waited_next : Scope → Store → Next → Option Wanted
-waited_next scope store (wants r) = waited (answer_of scope store r)
+waited_next scope store (wants (evaluating r)) = waited (answer_of scope store r)
+waited_next scope store (wants (referring x actuals)) = None
 waited_next scope store (does a) = waited_by scope store a
 
 -- ---- that is what the step waits for
@@ -93,6 +94,18 @@ module _ (program : Units) (t : Top) where
   purged (Err k) = (refl, inl refl)
   purged (Ok store) = (refl, inl refl)
 
+  left-value : (v : Option Value) → Does t None (result_after_value program t v)
+  left-value None = (refl, inl refl)
+  left-value (Some v) = (refl, inl refl)
+
+  left-result : (at : Result Location Kind) → Does t None (result_after_result program t at)
+  left-result (Err k) = (refl, inl refl)
+  left-result (Ok at) = left-value (t.state.store at).value
+
+  left : (x : Option Name) → Does t None (result_after_leaving program t x)
+  left None = (refl, inl refl)
+  left (Some x) = left-result (location_of_name scope x [])
+
   resumed : (below : Process) → Does t None (stepped (state_resumed program t below))
   resumed [] = (refl, inl refl)
   resumed (caller ∷ callers) = (refl, inl refl)
@@ -105,13 +118,15 @@ module _ (program : Units) (t : Top) where
   acted (calling x actuals) = called (unit_called program x) (binding_of program t (unit_called program x) actuals)
   acted (creating x actuals) = created (unit_called program x) (binding_of program t (unit_called program x) actuals)
   acted (purging targets) = purged (store_after_purge scope targets t.state.store)
+  acted leaving = left (function_name (unit_on_top program t))
   acted resuming = resumed t.below
   acted stopping = (refl, inr refl)
   acted _ = (refl, inl refl)
 
   comes : (n : Next) → Does t (waited_next scope t.state.store n) (result_after_next program t n)
   unfolding waited_next
-  comes (wants r) = answered (answer_of scope t.state.store r)
+  comes (wants (evaluating r)) = answered (answer_of scope t.state.store r)
+  comes (wants (referring x actuals)) = called (function_unit program x) (binding_of program t (function_unit program x) actuals)
   comes (does a) = acted a
 
 -- a step that stops all processes changes no more than that
@@ -123,11 +138,12 @@ stopped-only program p s t e going halted =
 
 -- ---- what never waits
 
--- an operation that is left out calls, creates, purges or resumes
+-- an operation that is left out calls, creates, refers to, purges or resumes
 waitless-operation : (addressed : AddressedUnit) (k : ℕ) (work : Work) (operands : List Value) (index : ℕ) (o : Operation) (behind : List Instruction) (names : Scope) (store : Store) → is_left_out o ≡ true
     → (n : Next) → IsNext addressed k work operands index n o behind → waited_next names store n ≡ None
 unfolding waited_next waited_by
-waitless-operation addressed k work operands index o behind names store left (wants r) h = absurd (true≢false (sym left ∙ ap is_left_out h.operation))
+waitless-operation addressed k work operands index o behind names store left (wants (evaluating r)) h = absurd (true≢false (sym left ∙ ap is_left_out h.operation))
+waitless-operation addressed k work operands index o behind names store left (wants (referring x actuals)) h = refl
 waitless-operation addressed k work operands index o behind names store left (does (assigning r v)) h = absurd (true≢false (sym left ∙ ap is_left_out h.operation))
 waitless-operation addressed k work operands index o behind names store left (does _) h = refl
 

@@ -1,6 +1,8 @@
 -- What is read as declarators is so by the grammar, and the other way round: type statements and
 -- DIMENSION.
-use Rattle.std.proofs.Common.{◌≡◌, ◌≢◌, inl, inr, ℕ, ◌≤◌, true, false, List, [], ◌∷◌, length, Option, Some, None, refl, sym, ap, subst, arith, nat_le, not}
+use Rattle.std.proofs.Common.{◌≡◌, ◌≢◌, inl, inr, ℕ, suc, ◌≤◌, ◌<◌, Bool, true, false, codes, List, [], ◌∷◌, ◌++◌, length, Option, Some, None, refl, sym, ap, subst, ◌∙◌, arith, nat_eq, nat_le, not, if◌then◌else◌, true≢false}
+use Rattle.std.proofs.lemmas.Bool.Decides.{nat_tests}
+use Rattle.hep_expression.specs.Characters.{is_letter_or_digit, IsName, name_sign}
 use Rattle.std.specs.List.{list_all}
 use Rattle.hep_source.specs.Tree.{Tree}
 use Rattle.hep_source.specs.declared.declaration.ValueType.{ValueType}
@@ -13,7 +15,7 @@ use Rattle.hep_source.specs.declared.statement.Form.TheVariants as form
 use Rattle.hep_expression.specs.declared.characters.Context.{Context}
 use Rattle.hep_expression.specs.Expression as levels
 use Rattle.hep_expression.specs.Expression.{Reads}
-use Rattle.hep_expression.specs.Reading.{◌>>=◌, all_read, after}
+use Rattle.hep_expression.specs.Reading.{◌>>=◌, all_read, after, after_text, begins}
 use Rattle.hep_expression.specs.ReadingExpression.{expression_at}
 use Rattle.hep_expression.proofs.Leaves.{bind_some, either_some, chosen, after_is, place_fits, fits}
 use Rattle.hep_expression.proofs.Sound.{expression_at_sound}
@@ -151,6 +153,40 @@ declarators_read k xs m h = listed_complete (ReadsDeclarator k) (declarator_shor
 pub declare_read : (k : Context) (t : ValueType) (xs : List Declarator) (m : List ℕ) → AreListed (ReadsDeclarator k) xs m [] → declare k t m ≡ Some (form.Declare t xs)
 unfolding declare
 declare_read k t xs m h = ap (whole (form.Declare t)) (declarators_read k xs m h)
+
+-- letters and digits that are more than a name has don't stand where the name is all there is of them
+longer : (f w r : List ℕ) → length w < length f → list_all is_letter_or_digit f ≡ true → begins is_letter_or_digit r ≡ false → after_text f (w ++ r) ≡ None
+longer [] w r less all end = absurd (omega arith)
+longer (c ∷ f) [] [] less all end = refl
+longer (c ∷ f) [] (d ∷ r) less all end = go (nat_eq d c) refl
+  where
+    go : (b : Bool) → nat_eq d c ≡ b → ((if b then Some r else None) >>= after_text f) ≡ None
+    go false e = refl
+    go true e =
+        let same : d ≡ c = grind (arith, nat_tests) in
+        let is : is_letter_or_digit d ≡ true = ap is_letter_or_digit same ∙ (and_parts (is_letter_or_digit c) (list_all is_letter_or_digit f) all).0 in
+        absurd (true≢false (sym is ∙ end))
+longer (c ∷ f) (d ∷ w) r less all end = go (nat_eq d c) (longer f w r (omega (arith, less)) (and_parts (is_letter_or_digit c) (list_all is_letter_or_digit f) all).1 end)
+  where
+    go : (b : Bool) → after_text f (w ++ r) ≡ None → ((if b then Some (w ++ r) else None) >>= after_text f) ≡ None
+    go true e = e
+    go false e = refl
+
+-- no name begins with FUNCTION, so no type statement is read as the header of a function
+no_function_word : (a : Bool) (w r s : List ℕ) → IsName w → s ≡ name_sign a ++ (w ++ r) → begins is_letter_or_digit r ≡ false → after_text (codes "FUNCTION") s ≡ None
+no_function_word true w r s h e end = ap (after_text (codes "FUNCTION")) e
+no_function_word false [] r s h e end = absurd h
+no_function_word false (c ∷ w) r s h e end = ap (after_text (codes "FUNCTION")) e ∙ longer (codes "FUNCTION") (c ∷ w) r (omega (arith, h.2)) refl end
+
+pub no_function_after : (k : Context) (xs : List Declarator) (m : List ℕ) → AreListed (ReadsDeclarator k) xs m [] → after_text (codes "FUNCTION") m ≡ None
+no_function_after k [] m h = absurd h
+no_function_after k (x ∷ xs) m h =
+    let d = h.1 in
+    no_function_word x.occurrence.name.asynchronous d.1.0 d.0 m d.1.1 d.1.2 (name_ends (ReadsDimension k) x.dimensions d.0 h.0 d.2 (ends xs h.0 h.2))
+  where
+    ends : (ys : List Declarator) (s : List ℕ) → AreAfter (ReadsDeclarator k) ys s [] → begins is_letter_or_digit s ≡ false
+    ends [] s e = rw e refl
+    ends (y ∷ ys) s e = rw e.2 refl
 
 -- ---- DIMENSION
 

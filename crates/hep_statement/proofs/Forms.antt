@@ -52,6 +52,9 @@ module _ (k : Context) where
   after_word_is words.Stop s m f fit is e = stop_is k s m f is e
   after_word_is words.Program s m f fit is e = declaration_is k words.Program s m f fit is e
   after_word_is words.Subroutine s m f fit is e = declaration_is k words.Subroutine s m f fit is e
+  after_word_is words.IntegerFunction s m f fit is e = declaration_is k words.IntegerFunction s m f fit is e
+  after_word_is words.LogicalFunction s m f fit is e = declaration_is k words.LogicalFunction s m f fit is e
+  after_word_is words.Function s m f fit is e = declaration_is k words.Function s m f fit is e
   after_word_is words.Implicit s m f fit is e = declaration_is k words.Implicit s m f fit is e
   after_word_is words.Integer s m f fit is e = declaration_is k words.Integer s m f fit is e
   after_word_is words.Logical s m f fit is e = declaration_is k words.Logical s m f fit is e
@@ -180,6 +183,7 @@ module _ (k : Context) where
   unfolding worded
   worded_read (forms.Program p) s h = declarations_read k (forms.Program p) s refl h
   worded_read (forms.Subroutine p ds) s h = declarations_read k (forms.Subroutine p ds) s refl h
+  worded_read (forms.Function t p ds) s h = declarations_read k (forms.Function t p ds) s refl h
   worded_read (forms.Implicit xs) s h = declarations_read k (forms.Implicit xs) s refl h
   worded_read (forms.Declare t xs) s h = declarations_read k (forms.Declare t xs) s refl h
   worded_read (forms.Dimension xs) s h = declarations_read k (forms.Dimension xs) s refl h

@@ -1,6 +1,6 @@
 -- What is read as a header, as IMPLICIT or as PARAMETER is so by the grammar, and the other way
 -- round.
-use Rattle.std.proofs.Common.{◌≡◌, inl, inr, ℕ, ◌≤◌, true, false, List, [], ◌∷◌, ◌++◌, length, Some, None, refl, ap, subst, ◌∙◌, arith, nat_le, if◌then◌else◌, leb-true, le-leb}
+use Rattle.std.proofs.Common.{◌≡◌, inl, inr, ℕ, ◌≤◌, true, false, List, [], ◌∷◌, ◌++◌, length, Option, Some, None, refl, ap, subst, ◌∙◌, arith, nat_le, if◌then◌else◌, leb-true, le-leb}
 use Rattle.hep_source.specs.declared.name.Occurrence.{Occurrence}
 use Rattle.hep_source.specs.declared.declaration.ValueType.{ValueType}
 use Rattle.hep_source.specs.declared.declaration.ValueType.TheVariants.{Integer, Logical}
@@ -17,11 +17,11 @@ use Rattle.hep_expression.specs.ReadingExpression.{expression_at}
 use Rattle.hep_expression.proofs.Leaves.{bind_some, either_some, chosen, after_is, one_is, shorter, place_fits, is_place, is_plain_place, fits}
 use Rattle.hep_expression.proofs.Sound.{expression_at_sound}
 use Rattle.hep_expression.proofs.Complete.{place_read, plain_place_read, AfterExpression, after_comma, after_parenthesis, expression_read}
-use Rattle.hep_statement.specs.Lists.{AreListed, AreEnclosed, AreArguments}
-use Rattle.hep_statement.specs.ReadingLists.{listed, enclosed, arguments, name_and_arguments, whole}
+use Rattle.hep_statement.specs.Lists.{AreListed, AreEnclosed, AreArguments, AreParenthesized}
+use Rattle.hep_statement.specs.ReadingLists.{listed, enclosed, arguments, name_and_arguments, parenthesized, whole}
 use Rattle.hep_statement.specs.Declaration.{type_spelling, ReadsLetters, ReadsImplicit, ReadsNamedConstant}
-use Rattle.hep_statement.specs.ReadingDeclaration.{program_header, dummy_at, subroutine_header, letter_at, letter_range_at, letter_range_part, value_type_at, implicit_group_at, implicit, named_constant_at, parameter}
-use Rattle.hep_statement.proofs.Lists.{whole_is, IsSound, Shortens, IsComplete, enclosed_shortens, listed_sound, enclosed_sound, arguments_sound, listed_complete, enclosed_complete, arguments_complete}
+use Rattle.hep_statement.specs.ReadingDeclaration.{program_header, dummy_at, subroutine_header, function_header, letter_at, letter_range_at, letter_range_part, value_type_at, implicit_group_at, implicit, named_constant_at, parameter}
+use Rattle.hep_statement.proofs.Lists.{whole_is, IsSound, Shortens, IsComplete, enclosed_shortens, listed_sound, enclosed_sound, arguments_sound, parenthesized_sound, parenthesized_complete, listed_complete, enclosed_complete, arguments_complete}
 use Rattle.hep_statement.proofs.Targets.{begins_name, place_begins}
 use Rattle.std.proofs.lemmas.Option.{same_Some, none-some}
 
@@ -88,6 +88,29 @@ unfolding subroutine_header
 subroutine_header_read k p ds m n at h =
     let all = arguments_complete (ReadsOccurrence k) (dummy_shortens k) (dummy_at k) AfterWord (dummy_complete k) (λ m. refl) (λ m. refl) (dummy_opens k) ds n h in
     rw (name_and_arguments_read (ReadsOccurrence k) (dummy_shortens k) k (dummy_at k) p ds m n at h all) refl
+
+-- ---- the header of a function
+
+pub function_header_is : (k : Context) (t : Option ValueType) (m : List ℕ) (f : Form) → length m ≤ k.length → function_header k t m ≡ Some f
+    → (p : Occurrence) × (ds : List Occurrence) × (n : List ℕ) × (form.Function t p ds ≡ f) × ReadsPlainOccurrence k p m n × AreParenthesized (ReadsOccurrence k) ds n
+unfolding function_header
+function_header_is k t m f fit e =
+    let b = bind_some (plain_occurrence_at k m) (λ x. parenthesized (dummy_at k) x.1 >>= λ ds. Some (form.Function t x.0 ds)) f e in
+    let c = bind_some (parenthesized (dummy_at k) b.0.1) (λ ds. Some (form.Function t b.0.0 ds)) f b.2 in
+    let one = is_plain_place k m b.0 fit b.1 in
+    let fit' : length b.0.1 ≤ k.length = omega (arith, place_fits k b.0.0 m b.0.1 one.1) in
+    (b.0.0, c.0, b.0.1, same_Some (form.Function t b.0.0 c.0) f c.2, one, parenthesized_sound (ReadsOccurrence k) (dummy_shortens k) k (dummy_at k) (dummy_sound k) b.0.1 c.0 fit' c.1)
+
+-- dummy arguments in parentheses let a name end before them
+parenthesized_begin : (k : Context) (ds : List Occurrence) (s : List ℕ) → AreParenthesized (ReadsOccurrence k) ds s → AfterWord s
+parenthesized_begin k [] s e = rw e refl
+parenthesized_begin k (x ∷ xs) s h = rw h.1 refl
+
+pub function_header_read : (k : Context) (t : Option ValueType) (p : Occurrence) (ds : List Occurrence) (m n : List ℕ) → ReadsPlainOccurrence k p m n → AreParenthesized (ReadsOccurrence k) ds n → function_header k t m ≡ Some (form.Function t p ds)
+unfolding function_header
+function_header_read k t p ds m n at h =
+    let all = parenthesized_complete (ReadsOccurrence k) (dummy_shortens k) (dummy_at k) AfterWord (dummy_complete k) (λ m. refl) (λ m. refl) (dummy_opens k) ds n h in
+    rw (plain_place_read k p m n at (parenthesized_begin k ds n h), all) refl
 
 -- ---- IMPLICIT
 

@@ -3,8 +3,8 @@ use Rattle.std.proofs.Common.{◌≡◌, inl, inr, ℕ, zero, suc, ◌+◌, ◌�
 use Rattle.hep_expression.specs.declared.characters.Context.{Context}
 use Rattle.hep_expression.specs.Reading.{Reader, all_read, after}
 use Rattle.hep_expression.proofs.Leaves.{bind_some, either_some, after_is}
-use Rattle.hep_statement.specs.Lists.{AreAfter, AreListed, AreEnclosed, AreOptional, AreArguments}
-use Rattle.hep_statement.specs.ReadingLists.{part_after_comma, with_part, parts_after, listed, closed, enclosed, optional, whole, arguments_within, arguments}
+use Rattle.hep_statement.specs.Lists.{AreAfter, AreListed, AreEnclosed, AreOptional, AreArguments, AreParenthesized}
+use Rattle.hep_statement.specs.ReadingLists.{part_after_comma, with_part, parts_after, listed, closed, enclosed, optional, whole, arguments_within, arguments, parenthesized}
 use Rattle.std.proofs.lemmas.Option.{same_Some, none-some}
 
 -- ---- whole texts
@@ -129,6 +129,24 @@ module _ {A : Type 0} where
           go None q e = let a = all_is [] s ys e in subst (λ (z : List A). AreArguments P z s) a.1 (inl a.0)
           go (Some m) q e = within m (after_is 40 s m q) e
 
+      some_parenthesized : (xs : List A) (s : List ℕ) → AreEnclosed P xs s [] → AreParenthesized P xs s
+      some_parenthesized [] s h = absurd h.2
+      some_parenthesized (x ∷ xs) s h = h
+
+      pub parenthesized_sound : (s : List ℕ) (ys : List A) → length s ≤ k.length → parenthesized next s ≡ Some ys → AreParenthesized P ys s
+      unfolding parenthesized arguments_within
+      parenthesized_sound s ys fit e =
+          let b = bind_some _ _ ys e in
+          let is = after_is 40 s b.0 b.1 in
+          elim (either_some (after 41 b.0) (λ r. all_read [] r) (whole (λ xs. xs) (closed next b.0)) ys b.2) [
+            | inl g ↦ (
+                let a = all_is [] g.0 ys g.2 in
+                subst (λ (z : List A). AreParenthesized P z s) a.1 (is ∙ ap (λ (l : List ℕ). 40 ∷ l) (after_is 41 b.0 g.0 g.1 ∙ ap (λ (r : List ℕ). 41 ∷ r) a.0)))
+            | inr g ↦ (
+                let w = whole_is (λ xs. xs) (closed next b.0) ys g.1 in
+                subst (λ (z : List A). AreParenthesized P z s) w.2 (some_parenthesized w.0 s (b.0, is, closed_sound b.0 (w.0, []) (omega (arith, ap length is)) w.1)))
+          ]
+
     -- ---- what is so is read
 
     module _ (next : Reader A) (Follows : List ℕ → Type 0) (complete : IsComplete P next Follows) (comma : (m : List ℕ) → Follows (44 ∷ m)) where
@@ -191,4 +209,10 @@ module _ {A : Type 0} where
           arguments_complete [] s (inl e) = rw e refl
           arguments_complete [] s (inr e) = rw e refl
           arguments_complete (x ∷ xs) s h =
+              rw (h.1, not_closed_at_once (x ∷ xs) h.0 (41 ∷ []) h.2, closed_complete (x ∷ xs) h.0 [] h.2) refl
+
+          pub parenthesized_complete : (xs : List A) (s : List ℕ) → AreParenthesized P xs s → parenthesized next s ≡ Some xs
+          unfolding parenthesized arguments_within
+          parenthesized_complete [] s e = rw e refl
+          parenthesized_complete (x ∷ xs) s h =
               rw (h.1, not_closed_at_once (x ∷ xs) h.0 (41 ∷ []) h.2, closed_complete (x ∷ xs) h.0 [] h.2) refl

@@ -18,13 +18,13 @@ use Rattle.hep_source.specs.declared.declaration.DataGroup.{DataGroup}
 use Rattle.hep_source.specs.declared.statement.PrintItem.{PrintItem}
 use Rattle.hep_source.specs.declared.statement.PrintItem.TheVariants.{Expression, Characters}
 use Rattle.hep_source.specs.declared.statement.Form.{Form}
-use Rattle.hep_source.specs.declared.statement.Form.TheVariants.{Program, Subroutine, Implicit, Declare, Dimension as Dimensions, Common, Parameter, Data, Assign, GoTo, ComputedGoTo, ArithmeticIf, IfThen, ElseIf, Else, EndIf, Do, Call, Create, Purge, Print, Continue, Return, Resume, Stop, End}
+use Rattle.hep_source.specs.declared.statement.Form.TheVariants.{Program, Subroutine, Function, Resume, Implicit, Declare, Dimension as Dimensions, Common, Parameter, Data, Assign, GoTo, ComputedGoTo, ArithmeticIf, IfThen, ElseIf, Else, EndIf, Do, Call, Create, Purge, Print, Continue, Return, Stop, End}
 use Rattle.hep_expression.specs.declared.characters.Sizes.{Sizes}
 use Rattle.hep_expression.specs.declared.characters.Sizes.TheVariants.{Fitting, Any}
 use Rattle.hep_expression.specs.declared.characters.Context.{Context}
 use Rattle.hep_expression.specs.Characters.{number_of_digits, greatest, IsInteger, ReadsOccurrence}
 use Rattle.hep_expression.specs.Expression.{ReadsExpression, Reads, ReadsAll, equivalence, relation, left, right, term, spelling}
-use Rattle.hep_statement.specs.Lists.{AreAfter, AreListed, AreEnclosed, AreOptional, AreArguments}
+use Rattle.hep_statement.specs.Lists.{AreAfter, AreListed, AreEnclosed, AreOptional, AreArguments, AreParenthesized}
 use Rattle.hep_statement.specs.Target.{ReadsTarget}
 use Rattle.hep_statement.specs.Declaration.{ReadsUpper, ReadsLower, ReadsDimension, ReadsDeclarator, ReadsArrayDeclarator, ReadsBlockName, AreMoreBlocks, ReadsFirstName, AreBlocks, ReadsNamedConstant, ReadsDataConstant, ReadsRepeat, ReadsDataValue, ReadsGroup, AreMoreGroups, AreGroups}
 use Rattle.hep_statement.specs.Constant.{ReadsItem}
@@ -53,6 +53,10 @@ module _ {A : Type 0} (P Q : A → List ℕ → List ℕ → Type 0) (grows : (x
   any_optional : (xs : List A) (s r : List ℕ) → AreOptional P xs s r → AreOptional Q xs s r
   any_optional [] s r h = h
   any_optional (x ∷ xs) s r h = any_enclosed (x ∷ xs) s r h
+
+  any_parenthesized : (xs : List A) (s : List ℕ) → AreParenthesized P xs s → AreParenthesized Q xs s
+  any_parenthesized [] s h = h
+  any_parenthesized (x ∷ xs) s h = any_enclosed (x ∷ xs) s [] h
 
   any_arguments : (xs : List A) (s : List ℕ) → AreArguments P xs s → AreArguments Q xs s
   any_arguments [] s h = h
@@ -84,7 +88,7 @@ module _ (n : ℕ) where
     any_reads (binary o a b) l s r h = (h.0, h.1, any_reads a (left o) s (spelling o ++ h.1) h.2, any_reads b (right o) h.1 r h.3)
 
     any_all : (ts : Trees) (s r : List ℕ) → ReadsAll fitting ts s r → ReadsAll any ts s r
-    any_all no_trees s r h = absurd h
+    any_all no_trees s r h = h
     any_all (trees t no_trees) s r h = any_reads t equivalence s (codes ")" ++ r) h
     any_all (trees t (trees u ts)) s r h = (h.0, any_reads t equivalence s (codes "," ++ h.0) h.1, any_all (trees u ts) h.0 r h.2)
 
@@ -176,6 +180,7 @@ module _ (n : ℕ) where
   any_worded : (f : Form) (s : List ℕ) → IsWorded fitting f s → IsWorded any f s
   any_worded (Program p) s h = h
   any_worded (Subroutine p ds) s h = (h.0, h.1, h.2, h.3, any_arguments (ReadsOccurrence fitting) (ReadsOccurrence any) (λ x s r g. g) ds h.1 h.4)
+  any_worded (Function t p ds) s h = (h.0, h.1, h.2, h.3, any_parenthesized (ReadsOccurrence fitting) (ReadsOccurrence any) (λ x s r g. g) ds h.1 h.4)
   any_worded (Implicit xs) s h = h
   any_worded (Declare t xs) s h = (h.0, h.1, any_entries xs h.0 [] h.2)
   any_worded (Dimensions xs) s h = (h.0, h.1, any_listed (ReadsArrayDeclarator fitting) (ReadsArrayDeclarator any) any_array_declarator xs h.0 [] h.2)

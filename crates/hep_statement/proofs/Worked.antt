@@ -5,7 +5,8 @@ use Rattle.hep_source.specs.Tree.{Tree, with_list, no_trees, trees}
 use Rattle.hep_source.specs.declared.declaration.Target.{Target}
 use Rattle.hep_source.specs.declared.statement.PrintItem.TheVariants.{Expression, Characters}
 use Rattle.hep_source.specs.declared.statement.Form.{Form}
-use Rattle.hep_source.specs.declared.statement.Form.TheVariants.{Assign, GoTo, ComputedGoTo, ArithmeticIf, IfThen, ElseIf, Else, EndIf, Do, Call, Create, Purge, Print, Resume, Stop, End}
+use Rattle.hep_source.specs.declared.statement.Form.TheVariants.{Assign, GoTo, ComputedGoTo, ArithmeticIf, IfThen, ElseIf, Else, EndIf, Do, Call, Create, Purge, Print, Stop, End, Declare, Function, Resume}
+use Rattle.hep_source.specs.declared.declaration.ValueType.TheVariants.{Integer, Logical}
 use Rattle.hep_expression.specs.declared.characters.Sizes.TheVariants.{Fitting, Any}
 use Rattle.hep_expression.specs.ReadingExpression as reading
 use Rattle.hep_expression.specs.ReadingExpression.{chain, in_parentheses, primary, power_of, term, first_term, sum, relation, negation, conjunction, disjunction, expression, power, expression_at, whole_expression}
@@ -16,7 +17,7 @@ use Rattle.hep_statement.specs.ReadingLists as lists
 use Rattle.hep_statement.specs.ReadingTarget.{target_at}
 use Rattle.hep_statement.specs.ReadingConstant.{characters, constant_after, item_at}
 use Rattle.hep_statement.specs.ReadingExecutable.{print, assignment, computed_go_to, go_to, condition_at, arithmetic_if, if_then, else_if, limits, do_loop, call, create, purge, stop}
-use Rattle.hep_statement.specs.ReadingDeclaration.{declare, declarator_at}
+use Rattle.hep_statement.specs.ReadingDeclaration.{declare, declarator_at, function_header}
 use Rattle.hep_statement.specs.ReadingStatement.{worded, logical_if, conditions, form}
 use Rattle.hep_statement.proofs.Forms.{form_is, form_read}
 use Rattle.std.proofs.lemmas.Option.{none-some}
@@ -62,9 +63,14 @@ forms : Works (λ (r : String × List Tree × Form). IsForm Fitting (codes r.0) 
     ∷ ("CALLS(1,A(2))", [], Call (at false "S" 4) (int 1 ∷ with_list (at false "A" 8) (trees (int 2) no_trees) ∷ []))
     ∷ ("CREATEP(N)", [], Create (at false "P" 6) (name "N" 8 ∷ []))
     ∷ ("PURGE$A,B(1)", [], Purge (target true "A" 5 [] ∷ target false "B" 8 (int 1 ∷ []) ∷ []))
-    -- RESUME
+    -- headers of functions, and RESUME
+    ∷ ("INTEGERFUNCTIONF()", [], Function (Some Integer) (at false "F" 15) [])
+    ∷ ("LOGICALFUNCTIONL(I,$J)", [], Function (Some Logical) (at false "L" 15) (at false "I" 17 ∷ at true "J" 19 ∷ []))
+    ∷ ("FUNCTIONN(K)", [], Function None (at false "N" 8) (at false "K" 10 ∷ []))
+    ∷ ("INTEGERFUNCT", [], Declare Integer (record { occurrence = at false "FUNCT" 7; dimensions = [] } ∷ []))
     ∷ ("RESUME", [], Resume)
     ∷ ("IF(L)RESUME", name "L" 3 ∷ [], Resume)
+    ∷ ("RESUME=F()", [], Assign (target false "RESUME" 0 []) (with_list (at false "F" 7) no_trees))
     ∷ ("CALLRESUME", [], Call (at false "RESUME" 4) [])
     -- words as names
     ∷ ("PRINT=1", [], one_to "PRINT" 0)
@@ -76,7 +82,8 @@ forms : Works (λ (r : String × List Tree × Form). IsForm Fitting (codes r.0) 
     ∷ ("CALL=CALL", [], Assign (target false "CALL" 0 []) (name "CALL" 5))
     ∷ []) (
     -- labels of six digits and of zeros
-    "GOTO000010" ∷ "GOTO0" ∷ "DO000010I=1,3"
+    "INTEGERFUNCTIONF" ∷ "FUNCTIONF" ∷ "FUNCTION$F()" ∷ "FUNCTIONF(I,)" ∷ "RESUMEX" ∷ "IF(L)FUNCTIONF()" ∷ "X()=1"
+    ∷ "GOTO000010" ∷ "GOTO0" ∷ "DO000010I=1,3"
     -- a comma before each item, and an item after it
     ∷ "PRINT*," ∷ "PRINT*1"
     -- two labels, or after a condition a declaration, nothing, a parenthesis left open, or a block
@@ -86,7 +93,7 @@ forms : Works (λ (r : String × List Tree × Form). IsForm Fitting (codes r.0) 
     -- a real constant, names that are none, words that begin no form
     ∷ "I=1.5" ∷ "PRINT*=1" ∷ "ABCDEFG=1" ∷ "READ" ∷ "RESUMEX"
     ∷ [])
-unfolding chain in_parentheses reading.arguments reading.named primary power_of term first_term sum relation negation conjunction disjunction expression power expression_at whole_expression parts_after lists.listed closed enclosed optional arguments_within arguments target_at characters constant_after item_at print assignment computed_go_to go_to condition_at arithmetic_if if_then else_if limits do_loop call create purge stop declare declarator_at worded logical_if conditions form
+unfolding chain in_parentheses reading.arguments reading.listed reading.named primary power_of term first_term sum relation negation conjunction disjunction expression power expression_at whole_expression parts_after lists.listed closed enclosed optional arguments_within arguments lists.parenthesized function_header target_at characters constant_after item_at print assignment computed_go_to go_to condition_at arithmetic_if if_then else_if limits do_loop call create purge stop declare declarator_at worded logical_if conditions form
 forms =
     works _ _ (λ r. form Fitting (codes r.0)) (λ r. Some (r.1, r.2)) (λ s. form Any (codes s))
     (λ r. form_is Fitting (codes r.0) (r.1, r.2)) (λ s e ts f h. none-some (ts, f) (sym e ∙ form_read Any (codes s) ts f h)) _ _ refl refl

@@ -110,7 +110,7 @@ record Declarations : Type 0 where
       ∷ []) ("A/0*1/" ∷ "A/-2*1/" ∷ "A/2*2*1/" ∷ "A/-N/" ∷ "A/+.TRUE./" ∷ "A/$N/" ∷ "A//" ∷ "A/1" ∷ "A/1/," ∷ "A/1+1/" ∷ [])
 
 declarations : Declarations
-unfolding parts_after listed closed enclosed implicit_group_at implicit expressions.chain expressions.in_parentheses expressions.arguments expressions.named expressions.primary expressions.power_of expressions.term expressions.first_term expressions.sum expressions.relation expressions.negation expressions.conjunction expressions.disjunction expressions.expression expressions.power expressions.expression_at optional dimension_at declarator_at declare dimension parts_to_end block_at common named_constant_at parameter target_at data_value_at group_at data_statement
+unfolding parts_after listed closed enclosed implicit_group_at implicit expressions.chain expressions.in_parentheses expressions.arguments expressions.listed expressions.named expressions.primary expressions.power_of expressions.term expressions.first_term expressions.sum expressions.relation expressions.negation expressions.conjunction expressions.disjunction expressions.expression expressions.power expressions.expression_at optional dimension_at declarator_at declare dimension parts_to_end block_at common named_constant_at parameter target_at data_value_at group_at data_statement
 declarations = record {
   implicits = parts form.Implicit (λ xs ys e. cc) implicit _ implicit_is implicit_read _ _ refl refl;
   declarators = parts (form.Declare Integer) (λ xs ys e. cc) (λ k. declare k Integer) _ (λ k. declare_is k Integer) (λ k. declare_read k Integer) _ _ refl refl;

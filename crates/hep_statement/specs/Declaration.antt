@@ -35,6 +35,11 @@ abbrev pub type_spelling : ValueType → List ℕ
 type_spelling Integer = codes "INTEGER"
 type_spelling Logical = codes "LOGICAL"
 
+-- with which the header of a function begins, with a type or without (15.5.1)
+abbrev pub function_spelling : Option ValueType → List ℕ
+function_spelling None = codes "FUNCTION"
+function_spelling (Some t) = type_spelling t ++ codes "FUNCTION"
+
 -- a letter, or two with `-` between them, of which the first isn't after the second (8.5)
 abbrev pub ReadsLetters : LetterRange → List ℕ → List ℕ → Type 0
 ReadsLetters x s r =

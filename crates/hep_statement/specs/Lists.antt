@@ -26,6 +26,11 @@ abbrev pub AreArguments : {A : Type 0} → (A → List ℕ → List ℕ → Type
 AreArguments P [] s = (s ≡ []) ⊎ (s ≡ codes "()")
 AreArguments P (x ∷ more) s = AreEnclosed P (x ∷ more) s []
 
+-- The whole text is these dummy arguments in parentheses, which stand there without any too (X3.9-1978, 15.5.1).
+abbrev pub AreParenthesized : {A : Type 0} → (A → List ℕ → List ℕ → Type 0) → List A → List ℕ → Type 0
+AreParenthesized P [] s = s ≡ codes "()"
+AreParenthesized P (x ∷ more) s = AreEnclosed P (x ∷ more) s []
+
 -- a comma that may be missing
 abbrev pub IsOptionalComma : List ℕ → List ℕ → Type 0
 IsOptionalComma s r = (s ≡ r) ⊎ (s ≡ codes "," ++ r)

@@ -28,7 +28,7 @@ use Rattle.hep_expression.specs.Characters.{asterisk, plus, minus, slash, colon,
 use Rattle.hep_expression.specs.Reading.{Reader, ◌>>=◌, if_some, all_read, after, one_of, occurrence_at, plain_occurrence_at, integer_at, logical_at}
 use Rattle.hep_expression.specs.ReadingExpression.{expression_at}
 use Rattle.hep_statement.specs.Declaration.{type_spelling, most_dimensions, is_open}
-use Rattle.hep_statement.specs.ReadingLists.{listed, enclosed, optional, name_and_arguments, whole, after_optional_comma}
+use Rattle.hep_statement.specs.ReadingLists.{listed, enclosed, optional, name_and_arguments, parenthesized, whole, after_optional_comma}
 use Rattle.hep_statement.specs.ReadingTarget.{target_at}
 
 -- ---- headers
@@ -41,6 +41,9 @@ dummy_at k s = occurrence_at k s
 
 unfoldable pub subroutine_header : Context → List ℕ → Option Form
 subroutine_header k s = name_and_arguments k (dummy_at k) s >>= λ x. Some (form.Subroutine x.0 x.1)
+
+unfoldable pub function_header : Context → Option ValueType → List ℕ → Option Form
+function_header k t s = plain_occurrence_at k s >>= λ x. parenthesized (dummy_at k) x.1 >>= λ ds. Some (form.Function t x.0 ds)
 
 -- ---- IMPLICIT
 

@@ -2,11 +2,14 @@
 use Rattle.std.specs.Prelude.{ℕ, codes, List, [], ◌∷◌}
 use Rattle.hep_expression.specs.Reading.{Reader, one_of}
 use Rattle.hep_statement.specs.declared.keyword.Keyword.{Keyword}
-use Rattle.hep_statement.specs.declared.keyword.Keyword.TheVariants.{Program, Subroutine, Implicit, Integer, Logical, Dimension, Common, Parameter, Data, GoTo, ElseIf, Else, EndIf, End, Do, Call, Create, Purge, Print, Continue, Return, Resume, Stop}
+use Rattle.hep_statement.specs.declared.keyword.Keyword.TheVariants.{Program, Subroutine, IntegerFunction, LogicalFunction, Function, Resume, Implicit, Integer, Logical, Dimension, Common, Parameter, Data, GoTo, ElseIf, Else, EndIf, End, Do, Call, Create, Purge, Print, Continue, Return, Stop}
 
 abbrev pub spelling : Keyword → List ℕ
 spelling Program = codes "PROGRAM"
 spelling Subroutine = codes "SUBROUTINE"
+spelling IntegerFunction = codes "INTEGERFUNCTION"
+spelling LogicalFunction = codes "LOGICALFUNCTION"
+spelling Function = codes "FUNCTION"
 spelling Implicit = codes "IMPLICIT"
 spelling Integer = codes "INTEGER"
 spelling Logical = codes "LOGICAL"
@@ -32,7 +35,7 @@ spelling Stop = codes "STOP"
 -- the words, each one before those with which it begins
 abbrev pub keywords : List Keyword
 keywords =
-    Program ∷ Subroutine ∷ Implicit ∷ Integer ∷ Logical ∷ Dimension ∷ Common ∷ Parameter ∷ Data ∷ GoTo ∷ ElseIf ∷ Else
+    Program ∷ Subroutine ∷ IntegerFunction ∷ LogicalFunction ∷ Function ∷ Implicit ∷ Integer ∷ Logical ∷ Dimension ∷ Common ∷ Parameter ∷ Data ∷ GoTo ∷ ElseIf ∷ Else
     ∷ EndIf ∷ End ∷ Do ∷ Call ∷ Create ∷ Purge ∷ Print ∷ Continue ∷ Return ∷ Resume ∷ Stop ∷ []
 
 abbrev pub keyword_among : List Keyword → Reader Keyword

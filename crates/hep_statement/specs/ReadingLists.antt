@@ -43,6 +43,10 @@ arguments_within next s = if_some (after right_parenthesis s) (λ r. all_read []
 unfoldable pub arguments : {A : Type 0} → Reader A → List ℕ → Option (List A)
 arguments next s = elim (after left_parenthesis s) [ None ↦ all_read [] s | Some m ↦ arguments_within next m ]
 
+-- arguments in parentheses, which stand there without any too
+unfoldable pub parenthesized : {A : Type 0} → Reader A → List ℕ → Option (List A)
+parenthesized next s = after left_parenthesis s >>= arguments_within next
+
 -- a name without `$`, and arguments after it
 abbrev pub name_and_arguments : {A : Type 0} → Context → Reader A → List ℕ → Option (Occurrence × List A)
 name_and_arguments k next s = plain_occurrence_at k s >>= λ x. arguments next x.1 >>= λ xs. Some (x.0, xs)

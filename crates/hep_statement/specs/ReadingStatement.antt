@@ -16,7 +16,7 @@ use Rattle.hep_statement.specs.declared.keyword.Keyword.{Keyword}
 use Rattle.hep_statement.specs.declared.keyword.Keyword.TheVariants as words
 use Rattle.hep_statement.specs.ReadingKeyword.{keyword_at}
 use Rattle.hep_source.specs.declared.declaration.ValueType.TheVariants.{Integer, Logical}
-use Rattle.hep_statement.specs.ReadingDeclaration.{program_header, subroutine_header, implicit, declare, dimension, common, parameter, data_statement}
+use Rattle.hep_statement.specs.ReadingDeclaration.{program_header, subroutine_header, function_header, implicit, declare, dimension, common, parameter, data_statement}
 use Rattle.hep_statement.specs.ReadingExecutable.{print, assignment, go_to, if_condition_at, arithmetic_if, if_then, else_if, do_loop, call, create, purge, stop}
 
 -- ---- forms that begin with their words
@@ -25,6 +25,9 @@ use Rattle.hep_statement.specs.ReadingExecutable.{print, assignment, go_to, if_c
 abbrev pub declaration : Context → Keyword → List ℕ → Option Form
 declaration k words.Program s = program_header k s
 declaration k words.Subroutine s = subroutine_header k s
+declaration k words.IntegerFunction s = function_header k (Some Integer) s
+declaration k words.LogicalFunction s = function_header k (Some Logical) s
+declaration k words.Function s = function_header k None s
 declaration k words.Implicit s = implicit k s
 declaration k words.Integer s = declare k Integer s
 declaration k words.Logical s = declare k Logical s

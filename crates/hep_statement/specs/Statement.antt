@@ -3,15 +3,15 @@ use Rattle.std.specs.Prelude.{◌≡◌, ℕ, zero, suc, ◌&&◌, ◌||◌, not
 use Rattle.hep_source.specs.Tree.{Tree}
 use Rattle.hep_source.specs.Units.{is_executable}
 use Rattle.hep_source.specs.declared.statement.Form.{Form}
-use Rattle.hep_source.specs.declared.statement.Form.TheVariants.{Program, Subroutine, Implicit, Declare, Dimension, Common, Parameter, Data, Assign, GoTo, ComputedGoTo, ArithmeticIf, IfThen, ElseIf, Else, EndIf, Do, Call, Create, Purge, Print, Continue, Return, Resume, Stop, End}
+use Rattle.hep_source.specs.declared.statement.Form.TheVariants.{Program, Subroutine, Function, Resume, Implicit, Declare, Dimension, Common, Parameter, Data, Assign, GoTo, ComputedGoTo, ArithmeticIf, IfThen, ElseIf, Else, EndIf, Do, Call, Create, Purge, Print, Continue, Return, Stop, End}
 use Rattle.hep_expression.specs.declared.characters.Sizes.{Sizes}
 use Rattle.hep_expression.specs.declared.characters.Context.{Context}
 use Rattle.hep_expression.specs.Characters.{apostrophe, left_parenthesis, right_parenthesis, comma, equals, is_digit, ReadsOccurrence, ReadsPlainOccurrence}
 use Rattle.hep_expression.specs.Expression.{ReadsExpression}
 use Rattle.hep_expression.specs.Reading.{after_text}
-use Rattle.hep_statement.specs.Lists.{AreListed, AreEnclosed, AreArguments}
+use Rattle.hep_statement.specs.Lists.{AreListed, AreEnclosed, AreArguments, AreParenthesized}
 use Rattle.hep_statement.specs.Target.{ReadsTarget}
-use Rattle.hep_statement.specs.Declaration.{type_spelling, ReadsImplicit, ReadsDeclarator, ReadsArrayDeclarator, AreBlocks, ReadsNamedConstant, AreGroups}
+use Rattle.hep_statement.specs.Declaration.{type_spelling, function_spelling, ReadsImplicit, ReadsDeclarator, ReadsArrayDeclarator, AreBlocks, ReadsNamedConstant, AreGroups}
 use Rattle.hep_statement.specs.Executable.{IsPrint, IsAssignment, IsGoTo, IsComputedGoTo, IsArithmeticIf, IsIfThen, IsElseIf, IsDo, IsStopText}
 use Rattle.hep_statement.specs.declared.rule.Rule.{Rule}
 use Rattle.hep_statement.specs.declared.rule.Rule.TheVariants.{Assignment, BlockIf, SignIf, LogicalIf, Unclosed, Worded}
@@ -83,6 +83,7 @@ module _ (k : Context) where
   abbrev pub IsWorded : Form → List ℕ → Type 0
   IsWorded (Program p) s = (m : List ℕ) × (s ≡ codes "PROGRAM" ++ m) × ReadsPlainOccurrence k p m []
   IsWorded (Subroutine p ds) s = (m : List ℕ) × (n : List ℕ) × (s ≡ codes "SUBROUTINE" ++ m) × ReadsPlainOccurrence k p m n × AreArguments (ReadsOccurrence k) ds n
+  IsWorded (Function t p ds) s = (m : List ℕ) × (n : List ℕ) × (s ≡ function_spelling t ++ m) × ReadsPlainOccurrence k p m n × AreParenthesized (ReadsOccurrence k) ds n
   IsWorded (Implicit xs) s = (m : List ℕ) × (s ≡ codes "IMPLICIT" ++ m) × AreListed ReadsImplicit xs m []
   IsWorded (Declare t xs) s = (m : List ℕ) × (s ≡ type_spelling t ++ m) × AreListed (ReadsDeclarator k) xs m []
   IsWorded (Dimension xs) s = (m : List ℕ) × (s ≡ codes "DIMENSION" ++ m) × AreListed (ReadsArrayDeclarator k) xs m []

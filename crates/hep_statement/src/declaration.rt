@@ -5,7 +5,9 @@ ghost use Rattle.std.specs.List.{list_all};
 ghost use Rattle.hep_expression.specs.Reading.{Gives};
 ghost use Rattle.hep_statement.specs.ReadingDeclaration as reading;
 
-use crate::list::{Readable, after_optional_comma, enclosed, listed, name_and_arguments, optional};
+use crate::list::{
+    Readable, after_optional_comma, enclosed, listed, name_and_arguments, optional, parenthesized,
+};
 use hep_expression::Unread;
 use hep_expression::characters::{
     Context, after, after_text, all_read, integer_at, logical_at, occurrence_at,
@@ -55,6 +57,25 @@ pub fn subroutine_header(alloc: Global, context: Context, s: &[u8]) -> Result<Fo
 {
     let (name, dummies) = name_and_arguments::<Occurrence>(alloc, context, s)?;
     Ok(Form::Subroutine(name, Sequence::from(dummies)))
+}
+
+/// The header of a function (15.5.1): the type that stands before it, its name and its dummy arguments.
+///
+/// # Errors
+///
+/// No reading, or no memory.
+#[tactic(auto, unfolding(crate::specs::ReadingDeclaration::function_header))]
+pub fn function_header(
+    alloc: Global,
+    context: Context,
+    value_type: Option<ValueType>,
+    s: &[u8],
+) -> Result<Form, Unread>
+    ensures { Gives (λ x. x) result (reading.function_header context value_type s.now) }
+{
+    let (name, rest) = plain_occurrence_at(context, s).ok_or(Unread::NoReading)?;
+    let dummies = parenthesized::<Occurrence>(alloc, context, rest)?;
+    Ok(Form::Function(value_type, name, Sequence::from(dummies)))
 }
 
 /// A letter at the front, and what follows it.

@@ -11,6 +11,12 @@ pub enum Keyword {
     Program,
     /// SUBROUTINE (15.6.1).
     Subroutine,
+    /// INTEGER FUNCTION (15.5.1).
+    IntegerFunction,
+    /// LOGICAL FUNCTION (15.5.1).
+    LogicalFunction,
+    /// FUNCTION (15.5.1).
+    Function,
     /// IMPLICIT (8.5).
     Implicit,
     /// INTEGER (8.4.1).
@@ -63,6 +69,9 @@ impl Keyword {
         match self {
             Keyword::Program => b"PROGRAM",
             Keyword::Subroutine => b"SUBROUTINE",
+            Keyword::IntegerFunction => b"INTEGERFUNCTION",
+            Keyword::LogicalFunction => b"LOGICALFUNCTION",
+            Keyword::Function => b"FUNCTION",
             Keyword::Implicit => b"IMPLICIT",
             Keyword::Integer => b"INTEGER",
             Keyword::Logical => b"LOGICAL",
@@ -108,6 +117,9 @@ pub fn keyword_at(s: &[u8]) -> Option<(Keyword, &[u8])>
     let keywords = [
         Keyword::Program,
         Keyword::Subroutine,
+        Keyword::IntegerFunction,
+        Keyword::LogicalFunction,
+        Keyword::Function,
         Keyword::Implicit,
         Keyword::Integer,
         Keyword::Logical,

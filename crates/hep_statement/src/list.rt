@@ -135,6 +135,25 @@ pub fn arguments<P: Readable>(alloc: Global, context: Context, s: &[u8]) -> Resu
     }
 }
 
+/// The arguments that a whole text has in parentheses, which stand there without any too.
+///
+/// # Errors
+///
+/// No reading, or no memory.
+#[tactic(auto, unfolding(crate::specs::ReadingLists::parenthesized))]
+pub(crate) fn parenthesized<P: Readable>(
+    alloc: Global,
+    context: Context,
+    s: &[u8],
+) -> Result<Vec<P>, Unread>
+    ensures { Gives (λ x. x.items) result (reading.parenthesized (P.part_at context) s.now) }
+{
+    match after(b'(', s) {
+        Some(inside) => arguments_within::<P>(alloc, context, inside),
+        None => Err(Unread::NoReading),
+    }
+}
+
 /// A name without `$`, and the arguments after it.
 pub(crate) fn name_and_arguments<P: Readable>(
     alloc: Global,

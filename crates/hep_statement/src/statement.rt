@@ -6,8 +6,8 @@ ghost use Rattle.hep_statement.specs.ReadingStatement as reading;
 ghost use Rattle.hep_statement.specs.Statement as rules;
 
 use crate::declaration::{
-    common, data_statement, declare, dimension, implicit, parameter, program_header,
-    subroutine_header,
+    common, data_statement, declare, dimension, function_header, implicit, parameter,
+    program_header, subroutine_header,
 };
 use crate::executable::{
     arithmetic_if, assignment, call, create, do_loop, else_if, go_to, if_condition_at, if_then,
@@ -27,6 +27,9 @@ fn declaration(alloc: Global, context: Context, keyword: Keyword, s: &[u8]) -> R
     match keyword {
         Keyword::Program => program_header(context, s),
         Keyword::Subroutine => subroutine_header(alloc, context, s),
+        Keyword::IntegerFunction => { function_header(alloc, context, Some(ValueType::Integer), s) }
+        Keyword::LogicalFunction => { function_header(alloc, context, Some(ValueType::Logical), s) }
+        Keyword::Function => function_header(alloc, context, None, s),
         Keyword::Implicit => implicit(alloc, context, s),
         Keyword::Integer => declare(alloc, context, ValueType::Integer, s),
         Keyword::Logical => declare(alloc, context, ValueType::Logical, s),
@@ -59,6 +62,9 @@ fn after_word(alloc: Global, context: Context, keyword: Keyword, s: &[u8]) -> Re
         Keyword::Stop => stop(alloc, s),
         Keyword::Program
         | Keyword::Subroutine
+        | Keyword::IntegerFunction
+        | Keyword::LogicalFunction
+        | Keyword::Function
         | Keyword::Implicit
         | Keyword::Integer
         | Keyword::Logical
@@ -140,6 +146,7 @@ fn is_executable(form: &Form) -> bool
     match form {
         Form::Program(_)
         | Form::Subroutine(..)
+        | Form::Function(..)
         | Form::Implicit(_)
         | Form::Declare(..)
         | Form::Dimension(_)

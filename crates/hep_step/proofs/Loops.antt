@@ -1,6 +1,6 @@
 -- DO: its count is set, or one iteration is over, and its variable is set. X3.9-1978, 11.10.3 to 11.10.7.
 use Rattle.std.proofs.Common.{◌≡◌, ◌≢◌, ℕ, suc, ◌+◌, ◌-◌, ℤ, Bool, true, false, List, [], ◌∷◌, length, Option, Some, None, Result, Ok, Err, refl, ap, sym, ◌∙◌, subst, arith, pos, ◌+ℤ◌, ◌-ℤ◌, int_lt, nat_eq, if◌then◌else◌, slice_set, eq-eqb, ne_eqb, length-set}
-use Rattle.hep_machine.specs.Words.{Name, Value, Int, statement_at, integer_of, integer_or_overflow, level_after_loop, level_in_range, entering_loop, ending_loop, Next, does, location_of_name, loop_at, with_loop, natural, Level, Location, Loop, State, iterations}
+use Rattle.hep_machine.specs.Words.{Name, Value, Int, statement_at, integer_of, integer_or_overflow, level_after_loop, level_in_range, entering_loop, ending_loop, Next, does, evaluating, leaving, wants, location_of_name, loop_at, with_loop, natural, Level, Location, Loop, State, iterations}
 use Rattle.hep_machine.specs.Words.{level_after_count, result_after_do, result_after_fault, result_after_increment, result_after_loop_end, result_after_loop_variable, state_after_count, state_with_store, stepped, with_cell, with_value, is_do}
 use Rattle.hep_machine.specs.declared.event.Kind.{Kind}
 use Rattle.hep_machine.specs.declared.event.Kind.TheVariants.{Undefined}
@@ -11,7 +11,7 @@ use Rattle.hep_code.specs.declared.instruction.Instruction.TheVariants.{Step}
 use Rattle.hep_code.specs.declared.instruction.Operation.TheVariants.{EndLoop, EnterLoop}
 use Rattle.hep_code.specs.declared.variable.Variable.{Variable}
 use Rattle.hep_code.specs.declared.variable.Variable.TheVariants.{Absent}
-use Rattle.hep_code.specs.Words.{IsCounted, first_operand, led_by_count, IsSame, second_operand, Counts, counts_of, AddressedUnit}
+use Rattle.hep_code.specs.Words.{IsCounted, table_of, first_operand, led_by_count, IsSame, second_operand, Counts, counts_of, AddressedUnit}
 use Rattle.hep_code.proofs.Leads.{ended_is_do, entered_is_do, ended_leads, entered_leads, loop_index, one_less}
 use Rattle.hep_code.proofs.Moves.{Keeps, StandsAt, after_loop_keeps}
 use Rattle.hep_layout.specs.Words.{IsLaid, IsMemory, address, frame_address, Describes, number, descriptor_slots, iteration}
@@ -21,7 +21,7 @@ use Rattle.hep_image.specs.Finding.{cells_in, counts_at}
 use Rattle.hep_image.specs.Places.{loop_cells, variable_of}
 use Rattle.hep_step.specs.Effects.{moves, effect_of_end, effect_of_enter, effect_of_raised, effect_of_variable, third_operand, with_counts, with_value_at}
 use Rattle.hep_step.specs.Simulation.{IsRunning, RunningTop, Simulates, addressed_on_top, arrays_running, code_ahead, code_running, counts_in, effect_running, step_result_running, unit_running}
-use Rattle.hep_step.proofs.Running.{Comes, action_made, cells_found, coming, fault_is, found_running, is_at, next_is, scope_running}
+use Rattle.hep_step.proofs.Running.{Comes, action_made, cells_found, coming, fault_is, found_running, is_at, next_is, no_end, scope_running}
 
 -- ---- counts, one of them another one
 
@@ -130,6 +130,8 @@ module _ (r : RunningTop) (running : IsRunning r) where
           let e : effect_running r line (EnterLoop x cells inside outside) behind ≡ effect_of_enter (code_running r) (arrays_running r) r.frame.first (EnterLoop x cells inside outside) line r.arena.contents r.index (loop_cells (unit_running r) r.top.level.statement) (integer_of m) (integer_of i) (found_running r (variable_of r.program (unit_running r) y) []) (iterations (integer_of m) (integer_of n) (integer_of i)) =
           λ j. effect_of_enter (code_running r) (arrays_running r) r.frame.first (EnterLoop x cells inside outside) line r.arena.contents r.index (cells_are j) (integer_of (first_operand (values j))) (integer_of (third_operand (values j))) (found_running r (x_is j) []) (iterations (integer_of (first_operand (values j))) (integer_of (second_operand (values j))) (integer_of (third_operand (values j)))) in
           subst (Simulates r) (sym e) (enter_by y m n i is (found_running r (variable_of r.program (unit_running r) y) []) (location_of_name (scope_running r) y []) (iterations (integer_of m) (integer_of n) (integer_of i)) same (action_made r running (entering_loop y m n i) is))
+      enter_next (wants (evaluating q)) is h = absurd (cc h.operation)
+      enter_next (does leaving) is h = no_end (EnterLoop x cells inside outside) (table_of addressed).result h.operation refl
       enter_next _ is h = absurd (cc h.operation)
 
       pub loop_is_entered : Simulates r (effect_running r line (EnterLoop x cells inside outside) behind)
@@ -187,6 +189,8 @@ module _ (r : RunningTop) (running : IsRunning r) where
           let e : effect_running r line (EndLoop x cells inside outside) behind ≡ effect_of_end (code_running r) (arrays_running r) r.frame.first (EndLoop x cells inside outside) line r.arena.contents r.index (loop_cells (unit_running r) d) (found_running r (variable_of r.program (unit_running r) y) []) =
           λ j. effect_of_end (code_running r) (arrays_running r) r.frame.first (EndLoop x cells inside outside) line r.arena.contents r.index (cells_are j) (found_running r (x_is j) []) in
           subst (Simulates r) (sym e) (end_by d is (found_running r (variable_of r.program (unit_running r) y) []) (location_of_name (scope_running r) y []) same (action_made r running (ending_loop d) is))
+      end_next (wants (evaluating q)) is h = absurd (cc h.operation)
+      end_next (does leaving) is h = no_end (EndLoop x cells inside outside) (table_of addressed).result h.operation refl
       end_next _ is h = absurd (cc h.operation)
 
       pub loop_is_ended : Simulates r (effect_running r line (EndLoop x cells inside outside) behind)

@@ -2,13 +2,13 @@
 use Rattle.std.proofs.Common.{◌≡◌, true, false, refl, ap, sym, subst}
 use Rattle.hep_machine.specs.Words.{line_at}
 use Rattle.hep_code.specs.declared.instruction.Operation.{Operation}
-use Rattle.hep_code.specs.declared.instruction.Operation.TheVariants.{Evaluate, Store, Jump, Choose, BySign, Condition, Branch, EnterLoop, EndLoop, Print, Return, Stop}
+use Rattle.hep_code.specs.declared.instruction.Operation.TheVariants.{Evaluate, Store, Jump, Choose, BySign, Condition, Branch, EnterLoop, EndLoop, Print, Return, Answer, Stop}
 use Rattle.hep_code.specs.Words.{IsPastPushes}
 use Rattle.hep_code.proofs.Ahead.{step_is_ahead}
 use Rattle.hep_step.specs.Effects.{effect_ahead, effect_at}
 use Rattle.hep_step.specs.Simulation.{is_left_out, IsNotLeftOut, IsRunning, IsSimulated, RunningTop, Simulates, addressed_on_top, arrays_running, code_running, unit_running}
 use Rattle.hep_step.proofs.Replied.{evaluated, value_stored}
-use Rattle.hep_step.proofs.Actions.{activation_ends, jump_is_made, record_is_printed, run_stops}
+use Rattle.hep_step.proofs.Actions.{activation_ends, function_ends, jump_is_made, record_is_printed, run_stops}
 use Rattle.hep_step.proofs.Loops.{loop_is_ended, loop_is_entered}
 
 pub simulated : (o : Operation) → is_left_out o ≡ false → IsSimulated o
@@ -23,6 +23,7 @@ simulated (EnterLoop x cells inside outside) done r line behind running ahead = 
 simulated (EndLoop x cells inside outside) done r line behind running ahead = loop_is_ended r running line behind x cells inside outside ahead
 simulated (Print count next) done r line behind running ahead = record_is_printed r line behind running count next ahead
 simulated Return done r line behind running ahead = activation_ends r line behind running ahead
+simulated (Answer x) done r line behind running ahead = function_ends r line behind running x ahead
 simulated Stop done r line behind running ahead = run_stops r line behind running ahead
 simulated _ done r line behind running ahead = absurd (let e : true ≡ false = done in cc)
 

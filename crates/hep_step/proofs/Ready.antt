@@ -1,8 +1,8 @@
 -- An activation that runs can do the operation ahead.
-use Rattle.std.proofs.Common.{◌≡◌, ◌≢◌, ℕ, ◌+◌, ◌≤◌, true, List, [], ◌∷◌, ◌++◌, drop, length, Some, Result, Ok, Err, refl, ap, sym, ◌∙◌, subst, arith, length-append}
-use Rattle.std.specs.Option.{ForSome}
+use Rattle.std.proofs.Common.{◌≡◌, ◌≢◌, ℕ, ◌+◌, ◌≤◌, true, List, [], ◌∷◌, ◌++◌, drop, length, Option, Some, None, Result, Ok, Err, refl, ap, sym, ◌∙◌, subst, arith, length-append}
+use Rattle.std.specs.Option.{ForSome, option_map}
 use Rattle.std.proofs.Math.Seq.{drop-append_seam}
-use Rattle.hep_machine.specs.Words.{Name, Value, statement_at, no_value, Next, Redex, does, ending_loop, entering_loop, testing, wants, plug_work, frame_cells, is_do}
+use Rattle.hep_machine.specs.Words.{Name, Value, function_name, statement_at, no_value, Next, Redex, does, evaluating, leaving, referring, ending_loop, entering_loop, testing, wants, plug_work, frame_cells, is_do}
 use Rattle.hep_machine.specs.declared.event.Kind.{Kind}
 use Rattle.hep_machine.specs.Control.{variable_of as loop_variable}
 use Rattle.hep_machine.specs.Evaluation.{reading}
@@ -10,10 +10,10 @@ use Rattle.hep_code.specs.declared.instruction.Evaluation.{Evaluation}
 use Rattle.hep_code.specs.declared.instruction.Instruction.{Instruction}
 use Rattle.hep_code.specs.declared.instruction.Instruction.TheVariants.{Step}
 use Rattle.hep_code.specs.declared.instruction.Operation.{Operation}
-use Rattle.hep_code.specs.declared.instruction.Operation.TheVariants.{Evaluate, Store, EnterLoop, EndLoop}
+use Rattle.hep_code.specs.declared.instruction.Operation.TheVariants.{Evaluate, Store, EnterLoop, EndLoop, Answer}
 use Rattle.hep_code.specs.declared.variable.Variable.{Variable}
 use Rattle.hep_code.specs.declared.variable.Variable.TheVariants.{Absent}
-use Rattle.hep_code.specs.Words.{arity, evaluation_of, operands_of_action, operands_of_redex, deepest}
+use Rattle.hep_code.specs.Words.{ending_of, table_of, arity, evaluation_of, operands_of_action, operands_of_redex, deepest}
 use Rattle.hep_code.proofs.Leads.{ended_is_do, entered_is_do}
 use Rattle.hep_code.proofs.Depths.{stands_within}
 use Rattle.hep_image.specs.Image.{most_cells}
@@ -28,9 +28,12 @@ use Rattle.hep_step.specs.Effects.{subscripts_in}
 use Rattle.hep_step.specs.Ready.{IsAheadReady, IsEvaluationReady, IsLoopReady, IsOperationReady, IsReady, IsVariableReady, frame_in_arena, last_operands}
 use Rattle.hep_step.specs.Simulation.{IsRunning, RunningTop, addressed_on_top, arrays_running, code_ahead, code_running, unit_running, variable_in}
 use Rattle.hep_step.proofs.Replied.{arity_is, assigns, in_front, no_action}
-use Rattle.hep_step.proofs.Running.{Comes, coming, found_running, next_is, scope_running}
+use Rattle.hep_step.proofs.Running.{Comes, coming, found_running, next_is, no_end, scope_running}
 
 module _ (r : RunningTop) (running : IsRunning r) (placed : ArePlacedArrays r.program (unit_running r)) where
+  abbrev result : Option Variable
+  result = (table_of (addressed_on_top r.program r.top)).result
+
   abbrev variables : Name → Variable
   variables = variable_of r.program (unit_running r)
 
@@ -83,7 +86,7 @@ module _ (r : RunningTop) (running : IsRunning r) (placed : ArePlacedArrays r.pr
           subst (Ready q.1) place (variable_ready q.0 q.1 (in_place (Evaluate e) q.0 ahead (ap (λ e. variable_in (Evaluate e)) same)))
       redex_accesses _ same = λ x is. absurd (cc is)
 
-      redex_ready : (q : Redex) (capacity : ℕ) → deepest (code_running r) ≤ capacity → Comes r (wants q) (Evaluate e) behind
+      redex_ready : (q : Redex) (capacity : ℕ) → deepest (code_running r) ≤ capacity → Comes r (wants (evaluating q)) (Evaluate e) behind
           → IsEvaluationReady r.arena (arrays_running r) (frame_in_arena r.frame) capacity r.operands e
       redex_ready q capacity room redex =
           let same : e ≡ evaluation_of variables q = let o = redex.operation in cc in
@@ -97,14 +100,16 @@ module _ (r : RunningTop) (running : IsRunning r) (placed : ArePlacedArrays r.pr
 
       next_ready : (n : Next) (capacity : ℕ) → deepest (code_running r) ≤ capacity → Comes r n (Evaluate e) behind
           → IsEvaluationReady r.arena (arrays_running r) (frame_in_arena r.frame) capacity r.operands e
-      next_ready (wants q) capacity room next = redex_ready q capacity room next
+      next_ready (wants (evaluating q)) capacity room next = redex_ready q capacity room next
+      next_ready (wants (referring y actuals)) capacity room next = absurd (cc next.operation)
       next_ready (does a) capacity room next = absurd (no_action (addressed_on_top r.program r.top) r.top.level.statement e a next.operation)
 
     -- ---- assignments
 
     module _ (x : Variable) (n next : ℕ) (ahead : IsAhead (Store x n next)) where
       store_ready : (m : Next) → Comes r m (Store x n next) behind → Ready (subscripts_in r.operands) x
-      store_ready (wants q) redex = absurd (cc redex.operation)
+      store_ready (wants (evaluating q)) next = absurd (cc next.operation)
+      store_ready (wants (referring y actuals)) next = absurd (cc next.operation)
       store_ready (does a) action =
           let s = assigns (addressed_on_top r.program r.top) r.top.level.statement x n next a action.operation in
           let q = s.target in
@@ -125,6 +130,8 @@ module _ (r : RunningTop) (running : IsRunning r) (placed : ArePlacedArrays r.pr
       enter_ready ahead (does (entering_loop y m n i)) is h =
           loop_ready (EnterLoop x cells inside outside) y r.top.level.statement cells x ahead refl (cc h.operation) (cc h.operation) (
           entered_is_do (unit_running r) r.top.level.statement r.top.level.work y m n i running.stands.fits is)
+      enter_ready ahead (wants (evaluating q)) is h = absurd (cc h.operation)
+      enter_ready ahead (does leaving) is h = no_end (EnterLoop x cells inside outside) result h.operation refl
       enter_ready ahead _ is h = absurd (cc h.operation)
 
       end_ready : IsAhead (EndLoop x cells inside outside) → (m : Next) → coming r ≡ m → Comes r m (EndLoop x cells inside outside) behind
@@ -132,7 +139,23 @@ module _ (r : RunningTop) (running : IsRunning r) (placed : ArePlacedArrays r.pr
       end_ready ahead (does (ending_loop d)) is h =
           loop_ready (EndLoop x cells inside outside) (loop_variable (unit_running r) d) d cells x ahead refl (cc h.operation) (cc h.operation) (
           ended_is_do (unit_running r) r.top.level.statement r.top.level.work d running.stands.fits is)
+      end_ready ahead (wants (evaluating q)) is h = absurd (cc h.operation)
+      end_ready ahead (does leaving) is h = no_end (EndLoop x cells inside outside) result h.operation refl
       end_ready ahead _ is h = absurd (cc h.operation)
+
+    -- ---- the result of a function
+
+    module _ (x : Variable) (ahead : IsAhead (Answer x)) where
+      by_function : (q : Option Name) → Answer x ≡ ending_of (option_map variables q) → Ready [] x
+      by_function None same = absurd (cc same)
+      by_function (Some y) same =
+          let place : variables y ≡ x = cc same in
+          subst (Ready []) place (variable_ready y [] (in_place (Answer x) y ahead (ap Some (sym place))))
+
+      answer_ready : (m : Next) → Comes r m (Answer x) behind → Ready [] x
+      answer_ready (does leaving) h = by_function (function_name (unit_running r)) h.operation
+      answer_ready (wants (evaluating q)) h = absurd (cc h.operation)
+      answer_ready _ h = absurd (cc h.operation)
 
   -- ---- all of them
 
@@ -146,6 +169,7 @@ module _ (r : RunningTop) (running : IsRunning r) (placed : ArePlacedArrays r.pr
         enter_ready line behind x cells inside outside ahead (coming r) refl (next_is r running line (EnterLoop x cells inside outside) behind ahead)
     operation_ready (EndLoop x cells inside outside) line behind ahead =
         end_ready line behind x cells inside outside ahead (coming r) refl (next_is r running line (EndLoop x cells inside outside) behind ahead)
+    operation_ready (Answer x) line behind ahead = answer_ready line behind x ahead (coming r) (next_is r running line (Answer x) behind ahead)
     operation_ready _ line behind ahead = tt
 
     ahead_ready : (is : List Instruction) → code_ahead r ≡ is → IsAheadReady r.arena (arrays_running r) (frame_in_arena r.frame) capacity r.operands is

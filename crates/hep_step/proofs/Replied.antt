@@ -1,7 +1,7 @@
 -- Operations that give a value, and that store one, do what the source machine does with the redex and the assignment.
 use Rattle.std.proofs.Common.{◌≡◌, ℕ, ◌+◌, ◌-◌, List, [], ◌∷◌, ◌++◌, take, drop, length, refl, ap, sym, ◌∙◌, subst, arith, Some, length-append}
 use Rattle.std.proofs.Math.Seq.{take-append_seam, drop-append_seam}
-use Rattle.hep_machine.specs.Words.{Name, Value, line_at, Redex, testing, Action, assigning, Next, wants, does, plug_work, Reference, Level, Answer, answer_of, result_after_answer, result_after_next, result_after_write, level_after_statement, location_of_name}
+use Rattle.hep_machine.specs.Words.{Name, Value, line_at, Redex, testing, evaluating, referring, leaving, Action, assigning, Next, wants, does, plug_work, Reference, Level, Answer, answer_of, result_after_answer, result_after_next, result_after_write, level_after_statement, location_of_name}
 use Rattle.hep_machine.specs.Evaluation.{reading}
 use Rattle.hep_machine.specs.Step.{gives}
 use Rattle.hep_code.specs.declared.instruction.Evaluation.{Evaluation}
@@ -17,7 +17,7 @@ use Rattle.hep_image.specs.Finding.{cells_in}
 use Rattle.hep_image.specs.Places.{variable_of}
 use Rattle.hep_step.specs.Effects.{Effect, effect_of_reply, moves, subscripts_in}
 use Rattle.hep_step.specs.Simulation.{IsRunning, RunningTop, Simulates, addressed_on_top, code_ahead, effect_running, unit_running, variable_in}
-use Rattle.hep_step.proofs.Running.{Comes, after_answer, cells_found, coming, found_running, replied, scope_running, step_is}
+use Rattle.hep_step.proofs.Running.{Comes, after_answer, cells_found, coming, found_running, no_end, replied, scope_running, step_is}
 use Rattle.hep_code.proofs.Moves.{after_statement_keeps, after_statement_stands}
 
 -- an evaluation takes the operands of its redex
@@ -33,6 +33,7 @@ in_front e operands before vs taken same =
 
 pub no_action : (addressed : AddressedUnit) (k : ℕ) (e : Evaluation) (a : Action) → Evaluate e ≡ operation_of addressed k a → ⊥
 no_action addressed k e (assigning r v) same = cc
+no_action addressed k e leaving same = no_end (Evaluate e) (table_of addressed).result same refl
 no_action addressed k e _ same = cc
 
 -- an operation that stores a value is that of an assignment
@@ -45,6 +46,7 @@ pub record Assigns (addressed : AddressedUnit) (k : ℕ) (x : Variable) (next : 
 
 pub assigns : (addressed : AddressedUnit) (k : ℕ) (x : Variable) (n next : ℕ) (a : Action) → Store x n next ≡ operation_of addressed k a → Assigns addressed k x next a
 assigns addressed k x n next (assigning r v) same = record { target = r; stored = v; action = refl; place = cc; leads = cc }
+assigns addressed k x n next leaving same = no_end (Store x n next) (table_of addressed).result same refl
 assigns addressed k x n next _ same = absurd cc
 
 module _ (r : RunningTop) (running : IsRunning r) where
@@ -71,7 +73,7 @@ module _ (r : RunningTop) (running : IsRunning r) where
     effect_with before e vs =
         effect_of_reply line r.arena.contents (λ new v. moves new (before ++ v ∷ []) (r.index + 1)) (reply_of (cells_in r.arena.contents) (found_running r) e vs)
 
-    redex_evaluated : (q : Redex) → coming r ≡ wants q → line_at (unit_running r) r.top.level.statement ≡ line → Comes r (wants q) (Evaluate e) behind
+    redex_evaluated : (q : Redex) → coming r ≡ wants (evaluating q) → line_at (unit_running r) r.top.level.statement ≡ line → Comes r (wants (evaluating q)) (Evaluate e) behind
         → Simulates r (effect_running r line (Evaluate e) behind)
     redex_evaluated q is line_is redex =
         let same : e ≡ evaluation_of addressed.variables q = let o = redex.operation in cc in
@@ -88,7 +90,8 @@ module _ (r : RunningTop) (running : IsRunning r) where
 
     next_evaluated : (n : Next) → coming r ≡ n → line_at (unit_running r) r.top.level.statement ≡ line → Comes r n (Evaluate e) behind
         → Simulates r (effect_running r line (Evaluate e) behind)
-    next_evaluated (wants q) is line_is next = redex_evaluated q is line_is next
+    next_evaluated (wants (evaluating q)) is line_is next = redex_evaluated q is line_is next
+    next_evaluated (wants (referring y actuals)) is line_is next = absurd (cc next.operation)
     next_evaluated (does a) is line_is next = absurd (no_action addressed r.top.level.statement e a next.operation)
 
     pub evaluated : Simulates r (effect_running r line (Evaluate e) behind)
@@ -132,7 +135,8 @@ module _ (r : RunningTop) (running : IsRunning r) where
 
     next_stored : (m : Next) → coming r ≡ m → line_at (unit_running r) r.top.level.statement ≡ line → Comes r m (Store x n next) behind
         → Simulates r (effect_running r line (Store x n next) behind)
-    next_stored (wants q) is line_is redex = absurd (cc redex.operation)
+    next_stored (wants (evaluating q)) is line_is next = absurd (cc next.operation)
+    next_stored (wants (referring y actuals)) is line_is next = absurd (cc next.operation)
     next_stored (does a) is line_is action = action_stored a is line_is action
 
     pub value_stored : Simulates r (effect_running r line (Store x n next) behind)

@@ -1,11 +1,11 @@
 -- An activation that is running: what it does next, what stays where its level moves, and what a reply leads to.
-use Rattle.std.proofs.Common.{◌≡◌, ℕ, Bool, true, false, List, refl, ap, sym, ◌∙◌, subst, [], ◌∷◌, nat_eq, Result, Ok, Err, slice_set, eqb-true}
+use Rattle.std.proofs.Common.{◌≡◌, ℕ, Bool, true, false, List, refl, ap, sym, ◌∙◌, subst, [], ◌∷◌, Option, Some, None, nat_eq, Result, Ok, Err, slice_set, eqb-true}
 use Rattle.std.specs.Option.{unwrap_or}
 use Rattle.hep_machine.specs.Words.{Value, Units, line_at, makes, undefined, unset_cell, next_of, Action, Next, does, Level, Store, State, Answer, Scope, StepResult, Top, scope_of, stepped, waiting, result_after_fault, result_after_next, state_with_level, state_with_store, step_result_of, step_result_of_top, result_after_action, with_cell}
 use Rattle.hep_machine.specs.declared.slot.Slot.{Slot}
 use Rattle.hep_machine.specs.Access.{gives, waits}
 use Rattle.hep_machine.specs.Step as step
-use Rattle.hep_code.specs.Words.{Answers, Finds, Reply, accessed, result, Stands, IsAt, IsNext}
+use Rattle.hep_code.specs.Words.{ending_of, Answers, Finds, Reply, accessed, result, Stands, IsAt, IsNext}
 use Rattle.hep_layout.specs.Words.{IsMemory, address, Describes, level_of, loop_among, slot_of_loop, slot_on_level, descriptor_slots}
 use Rattle.hep_layout.proofs.Descriptors.{described-same, described-written, wanted-same}
 use Rattle.hep_layout.proofs.Memory.{memory-same, memory-written}
@@ -16,6 +16,7 @@ use Rattle.hep_machine.specs.declared.event.Kind.{Kind}
 use Rattle.hep_code.specs.declared.instruction.Instruction.{Instruction}
 use Rattle.hep_code.specs.declared.instruction.Instruction.TheVariants.{Step}
 use Rattle.hep_code.specs.declared.instruction.Operation.{Operation}
+use Rattle.hep_code.specs.declared.instruction.Operation.TheVariants.{Answer as Answering, Return}
 use Rattle.hep_code.specs.declared.variable.Variable.{Variable}
 use Rattle.hep_code.proofs.Ahead.{next_is_ahead}
 use Rattle.hep_code.proofs.Moves.{Keeps, StandsAt}
@@ -41,6 +42,21 @@ coming r = next_of (unit_running r) r.top.level.work
 -- this does, and the operation ahead, with the operands and with these instructions behind it, is what stands for it
 abbrev pub Comes : RunningTop → Next → Operation → List Instruction → Type 0
 Comes r = IsNext (addressed_on_top r.program r.top) r.top.level.statement r.top.level.work r.operands r.index
+
+-- ---- the end of an activation is one of two operations
+
+abbrev pub is_end : Operation → Bool
+is_end Return = true
+is_end (Answering x) = true
+is_end _ = false
+
+ending_is_end : (q : Option Variable) → is_end (ending_of q) ≡ true
+ending_is_end None = refl
+ending_is_end (Some x) = refl
+
+-- no other one is
+pub no_end : {A : Type 0} (o : Operation) (q : Option Variable) → o ≡ ending_of q → is_end o ≡ false → A
+no_end o q same none = absurd (let both : true ≡ false = sym (ending_is_end q) ∙ (sym (ap is_end same) ∙ none) in cc)
 
 module _ (r : RunningTop) (running : IsRunning r) where
   -- it is at the index, with the counts of its DOs

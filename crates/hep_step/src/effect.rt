@@ -2,6 +2,7 @@
 
 use hep_cells::CellState;
 use hep_machine::{Kind, Record};
+use hep_source::Value;
 
 /// What the operation ahead of an activation came to.
 #[derive(Debug, Drop)]
@@ -16,8 +17,10 @@ pub enum Effect {
     Waits { at: u32, state: CellState },
     /// The activation ends, by RETURN or END of its unit (15.8 and 11.14).
     Returned,
+    /// The activation of a function ends with this value, by RETURN or END of its unit (15.5.3).
+    Answered(Value),
     /// All processes end, by STOP (11.12).
     Stopped,
-    /// A CALL, CREATE, PURGE or RESUME stands ahead, which isn't done here, or no operation. Nothing has changed.
+    /// A CALL, CREATE, reference, PURGE or RESUME stands ahead, which isn't done here, or no operation. Nothing has changed.
     LeftOut,
 }

@@ -7,13 +7,13 @@ ghost use Rattle.hep_code.specs.declared.instruction.Evaluation.{Evaluation};
 ghost use Rattle.hep_code.specs.declared.instruction.Instruction.{Instruction};
 ghost use Rattle.hep_code.specs.declared.instruction.Instruction.TheVariants.{Step};
 ghost use Rattle.hep_code.specs.declared.instruction.Operation.TheVariants.{Evaluate, Store, Jump, Choose, BySign, Condition, Branch};
-ghost use Rattle.hep_code.specs.declared.instruction.Operation.TheVariants.{EnterLoop, EndLoop, Print, Resume, Return, Stop};
+ghost use Rattle.hep_code.specs.declared.instruction.Operation.TheVariants.{EnterLoop, EndLoop, Print, Resume, Return, Answer, Stop};
 ghost use Rattle.hep_code.specs.declared.variable.Variable.{Variable};
 ghost use Rattle.hep_code.specs.Words.{IsPastPushes, deepest, operands_of_actual};
 ghost use Rattle.hep_image.specs.Image.{most_cells};
 ghost use Rattle.hep_layout_laws.specs.Within.{ArePlacedArrays};
 ghost use Rattle.hep_step.specs.declared.way.Way.{Way};
-ghost use Rattle.hep_step.specs.Calls.{IsCallAhead, last_operands, making};
+ghost use Rattle.hep_step.specs.Calls.{IsBehindEntries, IsCallAhead, last_operands, making};
 ghost use Rattle.hep_step.specs.Effects.{effect_at, fails, moves};
 ghost use Rattle.hep_step.specs.Ready.{IsReady, frame_in_arena};
 ghost use Rattle.hep_step.specs.Resuming.{IsResumeAhead};
@@ -60,9 +60,11 @@ pub fn records_are_printed()
     ensures { (count next : ℕ) → IsSimulated (Print count next) }
 {}
 
-/// RETURN, and END of a unit (15.8 and 11.14).
+/// RETURN, and END of a unit (15.8 and 11.14): a function ends with the value of its result, which stands in the place of its
+/// reference then (15.5.3).
 pub fn activations_end()
-    ensures { IsSimulated Return }
+    ensures subroutine { IsSimulated Return }
+    ensures function { (x : Variable) → IsSimulated (Answer x) }
 {}
 
 /// STOP (11.12).
@@ -70,11 +72,11 @@ pub fn runs_stop()
     ensures { IsSimulated Stop }
 {}
 
-/// CALL (15.6.2) and CREATE: where one stands ahead, the source machine calls or creates its subroutine, with the actual arguments
-/// that the last operands and the entries behind it pass; and where these bind no dummy arguments, there is the same fault.
+/// CALL (15.6.2), CREATE, and a reference of a function (15.5.2): where one stands ahead, the source machine calls or creates its
+/// subroutine, or refers to its function, with the actual arguments that the last operands and the entries behind it pass; and where these bind no dummy arguments, there is the same fault.
 pub fn calls_are_ahead()
     ensures ahead { (way : Way) (r : RunningTop) (line u count next : ℕ) (behind : List Instruction)
-        → IsRunning r → code_ahead r ≡ Step line (making way u count next) ∷ behind
+        → IsRunning r → code_ahead r ≡ Step line (making way u count next) ∷ behind → IsBehindEntries way r.index count next
         → IsCallAhead way r.program r.top r.operands u count next behind }
     ensures fails { (way : Way) (r : RunningTop) (line u count next : ℕ) (behind : List Instruction)
         → IsRunning r → code_ahead r ≡ Step line (making way u count next) ∷ behind
@@ -95,7 +97,7 @@ pub fn resumes_are_ahead()
 {}
 
 /// Where no value stands ahead that is to be put behind the operands, whatever operation stands there does what
-/// the source machine does, if it isn't CALL, CREATE, PURGE or RESUME.
+/// the source machine does, if it isn't CALL, CREATE, a reference, PURGE or RESUME.
 pub fn operations_do_what_the_machine_does()
     ensures { (r : RunningTop) → IsRunning r → IsPastPushes (code_running r) r.index → IsNotLeftOut (code_running r) r.index
         → Simulates r (effect_at (code_running r) (arrays_running r) r.frame.first r.arena.contents r.operands r.index) }

@@ -11,7 +11,7 @@ use crate::iterating::{Loop, end_loop, enter_loop};
 use crate::moving::jump;
 use crate::printing::print;
 use crate::storage::Storage;
-use crate::values::{evaluate, store};
+use crate::values::{evaluate, store, value_in};
 use hep_arena::Arena;
 use hep_code::{Instruction, Operation};
 use hep_image::Array;
@@ -114,9 +114,14 @@ pub fn perform(
         }
         Operation::Print { count, next } => print(alloc, count, next, entries, operands, index),
         Operation::Return => Ok(Effect::Returned),
+        Operation::Answer { variable } => match value_in(storage, arena, variable) {
+            Ok(value) => Ok(Effect::Answered(value)),
+            Err(kind) => Ok(Effect::Failed { line, kind }),
+        },
         Operation::Stop => Ok(Effect::Stopped),
         Operation::Call { .. }
         | Operation::Create { .. }
+        | Operation::Refer { .. }
         | Operation::Purge { .. }
         | Operation::Resume { .. } => Ok(Effect::LeftOut),
         Operation::Jump { .. }

@@ -3,16 +3,19 @@ ghost use Rattle.std.specs.Prelude.{◌≡◌, ◌+◌, ◌<◌, ◌≤◌, ◌^
 ghost use Rattle.hep_code.specs.declared.instruction.Operation.TheVariants.{Store};
 ghost use Rattle.hep_code.specs.Words.{first_operand};
 ghost use Rattle.hep_step.specs.Cells.{HasFrame};
-ghost use Rattle.hep_step.specs.Effects.{effect_of, effect_of_evaluation, subscripts_in};
+ghost use Rattle.hep_image.specs.Finding.{address_of, cells_in};
+ghost use Rattle.hep_step.specs.Effects.{effect_of, effect_of_evaluation, subscripts_in, value_found};
 ghost use Rattle.hep_step.specs.Performed.{IsPerformed, snapshot};
 ghost use Rattle.hep_step.specs.Ready.{IsEvaluationReady, IsVariableReady};
 
 use crate::effect::Effect;
+use crate::finding::address;
 use crate::granted::granted;
 use crate::reply::{reply_of, reply_to_store};
 use crate::storage::Storage;
 use hep_arena::Arena;
 use hep_code::{Evaluation, Variable};
+use hep_machine::Kind;
 use hep_source::Value;
 
 // Puts a value in the place of all operands but so many, for which there is room.
@@ -103,5 +106,25 @@ pub(crate) fn store(
             Effect::Moved
         }
         Err(obstacle) => obstacle.effect(line),
+    }
+}
+
+/// The value of a variable, with which a function ends (15.5.3).
+#[inline(always)]
+pub(crate) fn value_in(
+    storage: &Storage<'_>,
+    arena: &Arena,
+    variable: Variable,
+) -> Result<Value, Kind>
+    requires frame { HasFrame arena.now storage.now.frame }
+    requires ready { IsVariableReady arena.now storage.now.arrays.now storage.now.frame [] variable }
+    ensures { result ≡ value_found arena.now.contents
+        (address_of (cells_in arena.now.contents) storage.now.frame.first storage.now.arrays.now variable []) }
+{
+    let Storage { arrays, frame } = *storage;
+    let at = address(arena, frame, arrays, variable, &[])?;
+    match arena.get(at).value {
+        Some(value) => Ok(value),
+        None => Err(Kind::Undefined),
     }
 }

@@ -7,4 +7,6 @@ pub enum Way {
     Calls,
     /// A CREATE: it is a process of its own (`docs/LANGUAGE.md`).
     Creates,
+    /// A reference of a function, above whose activation it is (15.5.2).
+    Refers,
 }

@@ -52,7 +52,7 @@ fn is_single_steps(history: &[Entry], count: usize) -> bool {
 const UNDEFINED: &[u8] = b"      I=3\n      PRINT *,I*I-1\n      PRINT *,J\n      END\n";
 
 // Each form of the language.
-const FORMS: [&[u8]; 36] = [
+const FORMS: [&[u8]; 40] = [
     b"      PROGRAM P",
     b"      IMPLICIT INTEGER (A-C,X), LOGICAL (L)",
     b"      PARAMETER (N=2*3,M=-N)",
@@ -89,6 +89,10 @@ const FORMS: [&[u8]; 36] = [
     b"      STOP 77",
     b"      RETURN",
     b"      END",
+    b"      LOGICAL FUNCTION F(N,$B)",
+    b"      F=G().GT.N",
+    b"      RETURN",
+    b"      END",
 ];
 
 // Lines, each with its end.
@@ -106,7 +110,7 @@ fn forms(rt: HostRuntime) -> Result<(), Fail> {
     let alloc = rt.alloc();
     let source = source_of(alloc, &FORMS)?;
     let program = program_of(alloc, &source)?;
-    assert_eq!(rt; program.as_slice().len(), 2);
+    assert_eq!(rt; program.as_slice().len(), 3);
     let copy = program.copy(alloc)?;
     assert!(rt; program.same(&copy));
     let other = program_of(alloc, UNDEFINED)?;

@@ -1,7 +1,7 @@
 -- The storage unit that the next step may fill or empty is kept in the cell that the operation ahead may fill or empty.
 use Rattle.std.proofs.Common.{◌≡◌, ℕ, Bool, true, false, List, ◌∷◌, drop, length, Option, Some, Result, Ok, Err, refl, ap, sym, ◌∙◌, subst}
 use Rattle.std.proofs.Math.Seq.{drop-append_seam}
-use Rattle.hep_machine.specs.Words.{StateFunction, IsFull, IsEmpty, ValueOf, SetEmpty, WaitFull, Name, Value, line_at, Next, Redex, assigning, does, testing, wants, location_of_name, Location}
+use Rattle.hep_machine.specs.Words.{StateFunction, IsFull, IsEmpty, ValueOf, SetEmpty, WaitFull, Name, Value, line_at, Next, Redex, assigning, does, evaluating, referring, testing, wants, location_of_name, Location}
 use Rattle.hep_machine.specs.declared.event.Kind.{Kind}
 use Rattle.hep_machine.specs.Evaluation.{reading}
 use Rattle.hep_code.specs.declared.instruction.Instruction.{Instruction}
@@ -66,7 +66,7 @@ module _ (r : RunningTop) (at : Location) (running : IsRunning r) where
     addressed : (x : Name) (vs : List Value) → variable_in o ≡ Some (variables x) → IsAddressed (address r.program r.top.state r.layout) (scope_running r) (found_running r) variables x vs
     addressed x vs is = running.addressed x vs (λ absent. running.placed r.index line o behind ahead (is ∙ ap Some absent))
 
-    redex_kept : (q : Redex) → variable_in o ≡ variable_in (Evaluate (evaluation_of variables q)) → touched_by_next (scope_running r) (wants q) ≡ Some at
+    redex_kept : (q : Redex) → variable_in o ≡ variable_in (Evaluate (evaluation_of variables q)) → touched_by_next (scope_running r) (wants (evaluating q)) ≡ Some at
         → Kept (touched_by_evaluation (arrays_running r) r.frame.first r.arena.contents (evaluation_of variables q) (operands_of_redex q))
     redex_kept (reading q) of touches =
         let there = addressed q.0 q.1 of in
@@ -75,7 +75,8 @@ module _ (r : RunningTop) (at : Location) (running : IsRunning r) where
     redex_kept _ of touches = absurd (cc touches)
 
     next_kept : (n : Next) → Comes r n o behind → touched_by_next (scope_running r) n ≡ Some at → Kept (touched_by_that o r.operands)
-    next_kept (wants q) redex touches =
+    next_kept (wants (referring x actuals)) next touches = absurd (cc touches)
+    next_kept (wants (evaluating q)) redex touches =
         let e = evaluation_of variables q in
         let vs = operands_of_redex q in
         let front = in_front e r.operands redex.before vs (arity_is variables q) redex.operands_are in

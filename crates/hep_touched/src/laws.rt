@@ -19,7 +19,7 @@ pub fn touched_units_are_in_touched_cells()
         × (address r.program r.top.state r.layout at ≡ Some cell) }
 {}
 
-/// CALL, CREATE, PURGE and RESUME never wait, and none of them fills or empties the one storage unit of a step: a PURGE empties those of
+/// CALL, CREATE, references, PURGE and RESUME never wait, and none of them fills or empties the one storage unit of a step: a PURGE empties those of
 /// its targets, and the others none.
 pub fn calls_and_purges_never_wait()
     ensures waits { (r : RunningTop) (line : ℕ) (o : Operation) (behind : List Instruction) → IsRunning r

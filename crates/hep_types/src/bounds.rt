@@ -6,9 +6,8 @@ ghost use Rattle.std.specs.Vec.{vec_items};
 ghost use Rattle.hep_source.specs.declared.name.Occurrence.{Occurrence as PureOccurrence};
 ghost use Rattle.hep_machine.specs.Arithmetic as arithmetic;
 ghost use Rattle.hep_machine.specs.Constants as values;
-ghost use Rattle.hep_machine.specs.Words.{value_among, is_nonempty};
+ghost use Rattle.hep_machine.specs.Words.{value_among, is_nonempty, trees_in_upper};
 ghost use Rattle.hep_conditions.specs.Constants as conditions;
-ghost use Rattle.hep_conditions.specs.Statements as statements;
 ghost use Rattle.hep_types.specs.Bounds as walks;
 
 use crate::parameters::has_value;
@@ -69,7 +68,7 @@ fn is_bound(scope: &Scope, is_of_dummy: bool, expression: &Expr) -> Result<bool,
     let has_value = has_value(scope, expression)?;
     let is_adjusted = is_adjusted(scope, expression)?;
     Ok(
-        is_typed_as(scope.symbols, ValueType::Integer, expression)
+        is_typed_as(None, scope.symbols, ValueType::Integer, expression)
             && (has_value || (is_of_dummy && is_adjusted)),
     )
 }
@@ -146,7 +145,7 @@ fn is_lower_open(scope: &Scope, lower: &Option<Expr>) -> Result<bool, AllocError
 
 fn is_upper_open(scope: &Scope, upper: &UpperBound) -> Result<bool, AllocError>
     ensures { IfOk result (λ is_open. is_open
-        ≡ list_any (conditions.is_open scope.now.symbols.now scope.now.parameters.now) (statements.trees_in_upper upper.now)) }
+        ≡ list_any (conditions.is_open scope.now.symbols.now scope.now.parameters.now) (trees_in_upper upper.now)) }
 {
     match upper {
         UpperBound::Expression(upper) => is_open(scope, upper),

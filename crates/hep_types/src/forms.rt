@@ -1,17 +1,25 @@
-//! Types in executable statements (X3.9-1978, sections 10, 11 and 12, and docs/LANGUAGE.md, 9).
+//! Types in executable statements, and of functions in type statements (X3.9-1978, sections 10, 11, 12 and 15.5,
+//! and docs/LANGUAGE.md, 9).
 ghost use Rattle.std.specs.Prelude.{◌≡◌, option_to_list};
 ghost use Rattle.std.specs.List.{list_all};
+ghost use Rattle.hep_machine.specs.Words.{names_declared};
 ghost use Rattle.hep_conditions.specs.Types as types;
+ghost use Rattle.hep_names.specs.Functions.{functions_of};
 
 use crate::types::{
-    KnownType, agree, are_actuals, is_list_typed, is_of, is_typed, is_typed_as, type_of_tree,
+    KnownType, agree, are_actuals, is_list_typed, is_of, is_typed, is_typed_as, type_of_name,
+    type_of_tree,
 };
-use hep_names::{Meaning, Symbols};
-use hep_source::{DoControl, Expr, Form, PrintItem, Target, ValueType};
+use hep_names::{Meaning, ProgramSymbols, Symbols, function_type};
+use hep_source::{Declarator, DoControl, Expr, Form, Name, PrintItem, Target, ValueType};
 
 /// The subscripts of what is assigned, given a value by DATA or purged.
-pub fn is_target_typed(symbols: &Symbols, target: &Target) -> bool
-    ensures { result ≡ types.is_target_typed symbols.now target.now }
+pub fn is_target_typed(
+    functions: Option<&ProgramSymbols>,
+    symbols: &Symbols,
+    target: &Target,
+) -> bool
+    ensures { result ≡ types.is_target_typed (functions_of functions.entry) symbols.now target.now }
 {
     let name = &target.occurrence.name;
     let subscripts = target.subscripts.as_slice();
@@ -21,17 +29,21 @@ pub fn is_target_typed(symbols: &Symbols, target: &Target) -> bool
     let listed = if symbols.is_array(name) {
         Meaning::Element
     } else {
-        Meaning::Unknown
+        Meaning::External
     };
-    is_list_typed(symbols, listed, name, subscripts)
+    is_list_typed(functions, symbols, listed, name, subscripts)
 }
 
-fn are_targets_typed(symbols: &Symbols, targets: &[Target]) -> bool
-    ensures { result ≡ list_all (types.is_target_typed symbols.now) targets.now }
+fn are_targets_typed(
+    functions: Option<&ProgramSymbols>,
+    symbols: &Symbols,
+    targets: &[Target],
+) -> bool
+    ensures { result ≡ list_all (types.is_target_typed (functions_of functions.entry) symbols.now) targets.now }
 {
     targets
         .iter()
-        .all(|target| is_target_typed(symbols, target))
+        .all(|target| is_target_typed(functions, symbols, target))
 }
 
 fn is_scalar_target(symbols: &Symbols, target: &Target) -> bool
@@ -40,83 +52,149 @@ fn is_scalar_target(symbols: &Symbols, target: &Target) -> bool
     !target.subscripts.as_slice().is_empty() || !symbols.is_array(&target.occurrence.name)
 }
 
-fn type_of_target(symbols: &Symbols, target: &Target) -> KnownType
-    ensures { result ≡ types.type_of_target symbols.now target.now }
+fn type_of_target(
+    functions: Option<&ProgramSymbols>,
+    symbols: &Symbols,
+    target: &Target,
+) -> KnownType
+    ensures { result ≡ types.type_of_target (functions_of functions.entry) symbols.now target.now }
 {
     let name = &target.occurrence.name;
-    if !target.subscripts.as_slice().is_empty() && !symbols.is_array(name) {
-        None
-    } else {
+    if target.subscripts.as_slice().is_empty() {
+        type_of_name(functions, symbols, name)
+    } else if symbols.is_array(name) {
         Some(symbols.type_of(name))
+    } else {
+        None
     }
 }
 
 // An assignment is of one type on both sides (10.1 and 10.2).
-fn is_assignment_typed(symbols: &Symbols, target: &Target, value: &Expr) -> bool
-    ensures { result ≡ types.is_form_typed symbols.now (Form.Assign target.now value.now) }
+fn is_assignment_typed(
+    functions: Option<&ProgramSymbols>,
+    symbols: &Symbols,
+    target: &Target,
+    value: &Expr,
+) -> bool
+    ensures { result ≡ types.is_form_typed (functions_of functions.entry) symbols.now (Form.Assign target.now value.now) }
 {
     is_scalar_target(symbols, target)
-        && is_target_typed(symbols, target)
-        && is_typed(symbols, value)
+        && is_target_typed(functions, symbols, target)
+        && is_typed(functions, symbols, value)
         && agree(
-            type_of_target(symbols, target),
-            type_of_tree(symbols, value),
+            type_of_target(functions, symbols, target),
+            type_of_tree(functions, symbols, value),
         )
 }
 
-fn is_some_integer(symbols: &Symbols, expression: &Option<Expr>) -> bool
-    ensures { result ≡ list_all (types.is_typed_as symbols.now ValueType.Integer) (option_to_list expression.now) }
+fn is_some_integer(
+    functions: Option<&ProgramSymbols>,
+    symbols: &Symbols,
+    expression: &Option<Expr>,
+) -> bool
+    ensures { result ≡ list_all (types.is_typed_as (functions_of functions.entry) symbols.now ValueType.Integer) (option_to_list expression.now) }
 {
     match expression {
-        Some(expression) => is_typed_as(symbols, ValueType::Integer, expression),
+        Some(expression) => is_typed_as(functions, symbols, ValueType::Integer, expression),
         None => true,
     }
 }
 
-fn is_control_typed(symbols: &Symbols, control: &DoControl) -> bool
-    ensures { result ≡ types.is_form_typed symbols.now (Form.Do control.now) }
+fn is_control_typed(
+    functions: Option<&ProgramSymbols>,
+    symbols: &Symbols,
+    control: &DoControl,
+) -> bool
+    ensures { result ≡ types.is_form_typed (functions_of functions.entry) symbols.now (Form.Do control.now) }
 {
     !symbols.is_array(&control.variable.name)
-        && is_typed_as(symbols, ValueType::Integer, &control.initial)
-        && is_typed_as(symbols, ValueType::Integer, &control.limit)
-        && is_some_integer(symbols, &control.increment)
+        && is_typed_as(functions, symbols, ValueType::Integer, &control.initial)
+        && is_typed_as(functions, symbols, ValueType::Integer, &control.limit)
+        && is_some_integer(functions, symbols, &control.increment)
 }
 
 // A printed expression is an integer or logical (12.8.2).
-fn is_item_typed(symbols: &Symbols, item: &PrintItem) -> bool
-    ensures { result ≡ types.is_item_typed symbols.now item.now }
+fn is_item_typed(functions: Option<&ProgramSymbols>, symbols: &Symbols, item: &PrintItem) -> bool
+    ensures { result ≡ types.is_item_typed (functions_of functions.entry) symbols.now item.now }
 {
     match item {
         PrintItem::Expression(expression) => {
-            let known_type = type_of_tree(symbols, expression);
-            is_typed(symbols, expression)
+            let known_type = type_of_tree(functions, symbols, expression);
+            is_typed(functions, symbols, expression)
                 && (is_of(ValueType::Integer, known_type) || is_of(ValueType::Logical, known_type))
         }
         PrintItem::Characters(_) => true,
     }
 }
 
-fn are_items_typed(symbols: &Symbols, items: &[PrintItem]) -> bool
-    ensures { result ≡ list_all (types.is_item_typed symbols.now) items.now }
+fn are_items_typed(
+    functions: Option<&ProgramSymbols>,
+    symbols: &Symbols,
+    items: &[PrintItem],
+) -> bool
+    ensures { result ≡ list_all (types.is_item_typed (functions_of functions.entry) symbols.now) items.now }
 {
-    items.iter().all(|item| is_item_typed(symbols, item))
+    items
+        .iter()
+        .all(|item| is_item_typed(functions, symbols, item))
 }
 
-/// The operands of an executable statement have the right types.
-pub fn is_form_typed(symbols: &Symbols, form: &Form) -> bool
-    ensures { result ≡ types.is_form_typed symbols.now form.now }
+// A type statement gives a function that the unit refers to the type that it has (15.5.1).
+fn is_type_of(
+    functions: Option<&ProgramSymbols>,
+    symbols: &Symbols,
+    value_type: ValueType,
+    name: &Name,
+) -> bool
+    ensures { result ≡ types.is_type_of (functions_of functions.entry) symbols.now value_type name.now }
+{
+    !symbols.is_referenced(name) || agree(Some(Some(value_type)), function_type(functions, name))
+}
+
+fn are_types_of(
+    functions: Option<&ProgramSymbols>,
+    symbols: &Symbols,
+    value_type: ValueType,
+    declarators: &[Declarator],
+) -> bool
+    ensures { result ≡ list_all (types.is_type_of (functions_of functions.entry) symbols.now value_type) (names_declared declarators.now) }
+{
+    for declarator in declarators {
+        if !is_type_of(functions, symbols, value_type, &declarator.occurrence.name) {
+            return false;
+        }
+    }
+    true
+}
+
+/// The operands of an executable statement have the right types, and a type statement gives functions theirs.
+pub fn is_form_typed(functions: Option<&ProgramSymbols>, symbols: &Symbols, form: &Form) -> bool
+    ensures { result ≡ types.is_form_typed (functions_of functions.entry) symbols.now form.now }
 {
     match form {
-        Form::Assign(target, value) => is_assignment_typed(symbols, target, value),
-        Form::ComputedGoTo(_, selector) => is_typed_as(symbols, ValueType::Integer, selector),
-        Form::ArithmeticIf(tested, _) => is_typed_as(symbols, ValueType::Integer, tested),
-        Form::IfThen(condition) => is_typed_as(symbols, ValueType::Logical, condition),
-        Form::ElseIf(condition) => is_typed_as(symbols, ValueType::Logical, condition),
-        Form::Do(control) => is_control_typed(symbols, control),
-        Form::Call(_, actuals) => are_actuals(symbols, actuals.as_slice()),
-        Form::Create(_, actuals) => are_actuals(symbols, actuals.as_slice()),
-        Form::Purge(targets) => are_targets_typed(symbols, targets.as_slice()),
-        Form::Print(items) => are_items_typed(symbols, items.as_slice()),
+        Form::Assign(target, value) => is_assignment_typed(functions, symbols, target, value),
+        Form::ComputedGoTo(_, selector) => is_typed_as(
+            functions,
+            symbols,
+            ValueType::Integer,
+            selector,
+        ),
+        Form::ArithmeticIf(tested, _) => is_typed_as(
+            functions,
+            symbols,
+            ValueType::Integer,
+            tested,
+        ),
+        Form::IfThen(condition) => is_typed_as(functions, symbols, ValueType::Logical, condition),
+        Form::ElseIf(condition) => is_typed_as(functions, symbols, ValueType::Logical, condition),
+        Form::Do(control) => is_control_typed(functions, symbols, control),
+        Form::Declare(value_type, declarators) => {
+            are_types_of(functions, symbols, *value_type, declarators.as_slice())
+        }
+        Form::Call(_, actuals) => are_actuals(functions, symbols, actuals.as_slice()),
+        Form::Create(_, actuals) => are_actuals(functions, symbols, actuals.as_slice()),
+        Form::Purge(targets) => are_targets_typed(functions, symbols, targets.as_slice()),
+        Form::Print(items) => are_items_typed(functions, symbols, items.as_slice()),
         _ => true,
     }
 }

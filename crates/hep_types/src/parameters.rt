@@ -153,7 +153,7 @@ pub fn is_constant_of(
         ≡ conditions.is_constant_of scope.now.symbols.now scope.now.parameters.now value_type expression.now) }
 {
     let has_value = has_value(scope, expression)?;
-    Ok(is_typed_as(scope.symbols, value_type, expression) && has_value)
+    Ok(is_typed_as(None, scope.symbols, value_type, expression) && has_value)
 }
 
 /// A constant expression of the type of its name (6.1.3, 6.4.4 and 8.6).
@@ -168,9 +168,9 @@ pub fn is_constant_given(scope: &Scope, constant: &NamedConstant) -> Result<bool
     let has_value = has_value(scope, &constant.value)?;
     let declared = Some(scope.symbols.type_of(&constant.occurrence.name));
     Ok(
-        is_typed(scope.symbols, &constant.value)
+        is_typed(None, scope.symbols, &constant.value)
             && has_value
-            && agree(declared, type_of_tree(scope.symbols, &constant.value)),
+            && agree(declared, type_of_tree(None, scope.symbols, &constant.value)),
     )
 }
 

@@ -1,12 +1,14 @@
-//! Types of expressions (X3.9-1978, 6.1.4, 6.3.3, 6.4.2 and 15.10).
+//! Types of expressions (X3.9-1978, 6.1.4, 6.3.3, 6.4.2, 15.5 and 15.10). Where only constants stand, no
+//! functions are handed over.
 ghost use Rattle.std.specs.Prelude.{◌≡◌};
 ghost use Rattle.hep_machine.specs.Words.{trees_of};
 ghost use Rattle.hep_conditions.specs.Types as types;
+ghost use Rattle.hep_names.specs.Functions.{functions_of};
 ghost use Rattle.hep_names.specs.Meanings.{meaning};
 ghost use Rattle.hep_types.specs.Types as walks;
 
 use hep_conditions::types::same_declared;
-use hep_names::{Meaning, Symbols};
+use hep_names::{Meaning, ProgramSymbols, Symbols, function_type, is_function_in};
 use hep_source::{Expr, Name, Node, Operator, StateFunction, Value, ValueType};
 
 /// The type of an expression, as far as it is known: integer, logical, or none where it is real, which no
@@ -75,15 +77,30 @@ fn type_of_operands(operator: Operator) -> ValueType
     }
 }
 
+/// The type of a name by itself. The name of a function is no operand, and its type is open.
+pub fn type_of_name(functions: Option<&ProgramSymbols>, symbols: &Symbols, name: &Name) -> KnownType
+    ensures { result ≡ types.type_of_name (functions_of functions.entry) symbols.now name.now }
+{
+    if is_function_in(functions, symbols, name) {
+        None
+    } else {
+        Some(symbols.type_of(name))
+    }
+}
+
 // The type of what FULL, EMPTY, VALUE, SETE and WAITF are given.
-fn type_of_tested(symbols: &Symbols, arguments: &[Expr]) -> KnownType
-    ensures { result ≡ types.type_of_tested symbols.now (trees_of arguments.now) }
+fn type_of_tested(
+    functions: Option<&ProgramSymbols>,
+    symbols: &Symbols,
+    arguments: &[Expr],
+) -> KnownType
+    ensures { result ≡ types.type_of_tested (functions_of functions.entry) symbols.now (trees_of arguments.now) }
 {
     let [argument, ..] = arguments else {
         return None;
     };
     match &argument.node {
-        Node::Occurrence(occurrence) => Some(symbols.type_of(&occurrence.name)),
+        Node::Occurrence(occurrence) => type_of_name(functions, symbols, &occurrence.name),
         Node::WithList(occurrence, _) if symbols.is_array(&occurrence.name) => {
             Some(symbols.type_of(&occurrence.name))
         }
@@ -92,24 +109,35 @@ fn type_of_tested(symbols: &Symbols, arguments: &[Expr]) -> KnownType
 }
 
 // FULL and EMPTY are logical, and VALUE, SETE and WAITF of the type of their first argument.
-fn type_of_test(symbols: &Symbols, function: StateFunction, arguments: &[Expr]) -> KnownType
-    ensures { result ≡ types.type_of_test symbols.now function (trees_of arguments.now) }
+fn type_of_test(
+    functions: Option<&ProgramSymbols>,
+    symbols: &Symbols,
+    function: StateFunction,
+    arguments: &[Expr],
+) -> KnownType
+    ensures { result ≡ types.type_of_test (functions_of functions.entry) symbols.now function (trees_of arguments.now) }
 {
     match function {
         StateFunction::IsFull | StateFunction::IsEmpty => Some(Some(ValueType::Logical)),
-        _ => type_of_tested(symbols, arguments),
+        _ => type_of_tested(functions, symbols, arguments),
     }
 }
 
 // The type of a name with a list.
-fn type_of_listed(symbols: &Symbols, listed: Meaning, name: &Name, arguments: &[Expr]) -> KnownType
-    ensures { result ≡ types.type_of_listed symbols.now (meaning listed) name.now (trees_of arguments.now) }
+fn type_of_listed(
+    functions: Option<&ProgramSymbols>,
+    symbols: &Symbols,
+    listed: Meaning,
+    name: &Name,
+    arguments: &[Expr],
+) -> KnownType
+    ensures { result ≡ types.type_of_listed (functions_of functions.entry) symbols.now (meaning listed) name.now (trees_of arguments.now) }
 {
     match listed {
         Meaning::Element => Some(symbols.type_of(name)),
         Meaning::Pure(_) => Some(Some(ValueType::Integer)),
-        Meaning::State(function) => type_of_test(symbols, function, arguments),
-        Meaning::Unknown => None,
+        Meaning::State(function) => type_of_test(functions, symbols, function, arguments),
+        Meaning::External => function_type(functions, name),
     }
 }
 
@@ -122,23 +150,30 @@ fn has_dimensions(symbols: &Symbols, name: &Name, subscripts: &[Expr]) -> bool
 }
 
 /// The list of a name is right: subscripts, as many as the dimensions, and arguments of pure functions are
-/// integers, and what FULL, EMPTY, VALUE, SETE, WAITF and an unknown name are given may be a name by itself.
+/// integers, and what FULL, EMPTY, VALUE, SETE, WAITF and any other name are given may be a name by itself.
 #[cycle(typing)]
-pub fn is_list_typed(symbols: &Symbols, listed: Meaning, name: &Name, list: &[Expr]) -> bool
+pub fn is_list_typed(
+    functions: Option<&ProgramSymbols>,
+    symbols: &Symbols,
+    listed: Meaning,
+    name: &Name,
+    list: &[Expr],
+) -> bool
     ensures { result ≡ types.is_list_typed symbols.now (meaning listed) name.now (trees_of list.now)
-        (types.are_integers symbols.now (trees_of list.now)) (types.are_actuals symbols.now (trees_of list.now)) }
+        (types.are_integers (functions_of functions.entry) symbols.now (trees_of list.now)) (types.are_actuals (functions_of functions.entry) symbols.now (trees_of list.now)) }
 {
     match listed {
-        Meaning::Element => has_dimensions(symbols, name, list) && are_integers(symbols, list),
-        Meaning::Pure(_) => are_integers(symbols, list),
-        Meaning::State(_) | Meaning::Unknown => are_actuals(symbols, list),
+        Meaning::Element => has_dimensions(symbols, name, list)
+            && are_integers(functions, symbols, list),
+        Meaning::Pure(_) => are_integers(functions, symbols, list),
+        Meaning::State(_) | Meaning::External => are_actuals(functions, symbols, list),
     }
 }
 
 #[cycle(typing)]
-fn typing(symbols: &Symbols, expression: &Expr) -> Operand
-    ensures known_type { result.known_type ≡ types.type_of_tree symbols.now expression.now }
-    ensures is_typed { result.is_typed ≡ types.is_typed symbols.now expression.now }
+fn typing(functions: Option<&ProgramSymbols>, symbols: &Symbols, expression: &Expr) -> Operand
+    ensures known_type { result.known_type ≡ types.type_of_tree (functions_of functions.entry) symbols.now expression.now }
+    ensures is_typed { result.is_typed ≡ types.is_typed (functions_of functions.entry) symbols.now expression.now }
 {
     match &expression.node {
         Node::Constant(value) => Operand {
@@ -146,32 +181,32 @@ fn typing(symbols: &Symbols, expression: &Expr) -> Operand
             is_typed: true,
         },
         Node::Occurrence(occurrence) => Operand {
-            known_type: Some(symbols.type_of(&occurrence.name)),
+            known_type: type_of_name(functions, symbols, &occurrence.name),
             is_typed: !symbols.is_array(&occurrence.name),
         },
         Node::WithList(occurrence, list) => {
             let name = &occurrence.name;
             let listed = symbols.listed_meaning(name);
             Operand {
-                known_type: type_of_listed(symbols, listed, name, list),
-                is_typed: is_list_typed(symbols, listed, name, list),
+                known_type: type_of_listed(functions, symbols, listed, name, list),
+                is_typed: is_list_typed(functions, symbols, listed, name, list),
             }
         }
-        Node::Parenthesized(inner) => typing(symbols, inner),
+        Node::Parenthesized(inner) => typing(functions, symbols, inner),
         Node::Signed(_, term) => Operand {
             known_type: Some(Some(ValueType::Integer)),
-            is_typed: typing(symbols, term).is_typed_as(ValueType::Integer),
+            is_typed: typing(functions, symbols, term).is_typed_as(ValueType::Integer),
         },
         Node::Negated(operand) => Operand {
             known_type: Some(Some(ValueType::Logical)),
-            is_typed: typing(symbols, operand).is_typed_as(ValueType::Logical),
+            is_typed: typing(functions, symbols, operand).is_typed_as(ValueType::Logical),
         },
         Node::Binary(operator, left, right) => {
             let operands = type_of_operands(*operator);
             Operand {
                 known_type: Some(Some(type_of_operation(*operator))),
-                is_typed: typing(symbols, left).is_typed_as(operands)
-                    && typing(symbols, right).is_typed_as(operands),
+                is_typed: typing(functions, symbols, left).is_typed_as(operands)
+                    && typing(functions, symbols, right).is_typed_as(operands),
             }
         }
     }
@@ -179,51 +214,57 @@ fn typing(symbols: &Symbols, expression: &Expr) -> Operand
 
 /// Subscripts, or arguments of a function of integers.
 #[cycle(typing)]
-pub fn are_integers(symbols: &Symbols, list: &[Expr]) -> bool
-    ensures { result ≡ types.are_integers symbols.now (trees_of list.now) }
+pub fn are_integers(functions: Option<&ProgramSymbols>, symbols: &Symbols, list: &[Expr]) -> bool
+    ensures { result ≡ types.are_integers (functions_of functions.entry) symbols.now (trees_of list.now) }
 {
     match list {
         [] => true,
         [first, rest @ ..] => {
-            typing(symbols, first).is_typed_as(ValueType::Integer) && are_integers(symbols, rest)
+            typing(functions, symbols, first).is_typed_as(ValueType::Integer)
+                && are_integers(functions, symbols, rest)
         }
     }
 }
 
 /// Actual arguments: a name by itself is no operand.
 #[cycle(typing)]
-pub fn are_actuals(symbols: &Symbols, list: &[Expr]) -> bool
-    ensures { result ≡ types.are_actuals symbols.now (trees_of list.now) }
+pub fn are_actuals(functions: Option<&ProgramSymbols>, symbols: &Symbols, list: &[Expr]) -> bool
+    ensures { result ≡ types.are_actuals (functions_of functions.entry) symbols.now (trees_of list.now) }
 {
     match list {
         [] => true,
-        [first, rest @ ..] => is_actual(symbols, first) && are_actuals(symbols, rest),
+        [first, rest @ ..] => is_actual(functions, symbols, first)
+            && are_actuals(functions, symbols, rest),
     }
 }
 
 #[cycle(typing)]
-fn is_actual(symbols: &Symbols, actual: &Expr) -> bool
-    ensures { result ≡ walks.is_actual symbols.now actual.now }
+fn is_actual(functions: Option<&ProgramSymbols>, symbols: &Symbols, actual: &Expr) -> bool
+    ensures { result ≡ walks.is_actual (functions_of functions.entry) symbols.now actual.now }
 {
     match &actual.node {
         Node::Occurrence(_) => true,
-        _ => typing(symbols, actual).is_typed,
+        _ => typing(functions, symbols, actual).is_typed,
     }
 }
 
 /// The type of an expression of a unit.
 #[cycle(type_of_tree)]
-pub fn type_of_tree(symbols: &Symbols, expression: &Expr) -> KnownType
-    ensures { result ≡ types.type_of_tree symbols.now expression.now }
+pub fn type_of_tree(
+    functions: Option<&ProgramSymbols>,
+    symbols: &Symbols,
+    expression: &Expr,
+) -> KnownType
+    ensures { result ≡ types.type_of_tree (functions_of functions.entry) symbols.now expression.now }
 {
     match &expression.node {
         Node::Constant(value) => Some(Some(type_of_value(*value))),
-        Node::Occurrence(occurrence) => Some(symbols.type_of(&occurrence.name)),
+        Node::Occurrence(occurrence) => type_of_name(functions, symbols, &occurrence.name),
         Node::WithList(occurrence, list) => {
             let listed = symbols.listed_meaning(&occurrence.name);
-            type_of_listed(symbols, listed, &occurrence.name, list)
+            type_of_listed(functions, symbols, listed, &occurrence.name, list)
         }
-        Node::Parenthesized(inner) => type_of_tree(symbols, inner),
+        Node::Parenthesized(inner) => type_of_tree(functions, symbols, inner),
         Node::Signed(..) => Some(Some(ValueType::Integer)),
         Node::Negated(_) => Some(Some(ValueType::Logical)),
         Node::Binary(operator, _, _) => Some(Some(type_of_operation(*operator))),
@@ -231,15 +272,20 @@ pub fn type_of_tree(symbols: &Symbols, expression: &Expr) -> KnownType
 }
 
 /// Each operand in an expression has the right type, and no array stands where a scalar must.
-pub fn is_typed(symbols: &Symbols, expression: &Expr) -> bool
-    ensures { result ≡ types.is_typed symbols.now expression.now }
+pub fn is_typed(functions: Option<&ProgramSymbols>, symbols: &Symbols, expression: &Expr) -> bool
+    ensures { result ≡ types.is_typed (functions_of functions.entry) symbols.now expression.now }
 {
-    typing(symbols, expression).is_typed
+    typing(functions, symbols, expression).is_typed
 }
 
 /// An expression of this type.
-pub fn is_typed_as(symbols: &Symbols, value_type: ValueType, expression: &Expr) -> bool
-    ensures { result ≡ types.is_typed_as symbols.now value_type expression.now }
+pub fn is_typed_as(
+    functions: Option<&ProgramSymbols>,
+    symbols: &Symbols,
+    value_type: ValueType,
+    expression: &Expr,
+) -> bool
+    ensures { result ≡ types.is_typed_as (functions_of functions.entry) symbols.now value_type expression.now }
 {
-    typing(symbols, expression).is_typed_as(value_type)
+    typing(functions, symbols, expression).is_typed_as(value_type)
 }

@@ -2,10 +2,11 @@
 ghost use Rattle.std.specs.Prelude.{◌≡◌, IfOk};
 ghost use Rattle.hep_machine.specs.Declarations as declarations;
 ghost use Rattle.hep_conditions.specs.Types as types;
+ghost use Rattle.hep_conditions.specs.Words.{function_types, is_loop_variable};
 ghost use Rattle.hep_types.specs.Types as walks;
 
 use hep_conditions::types::same_declared;
-use hep_names::Symbols;
+use hep_names::{ProgramSymbols, Symbols, is_function_in};
 use hep_source::{Form, Name, ValueType};
 use std::alloc::{AllocError, Global};
 
@@ -27,26 +28,38 @@ pub fn is_plain_integer_scalar(symbols: &Symbols, name: &Name) -> bool
         && same_declared(symbols.type_of(name), Some(ValueType::Integer))
 }
 
-fn has_loop_variable(symbols: &Symbols, form: &Form) -> bool
-    ensures { result ≡ walks.has_loop_variable symbols.now form.now }
+// A DO variable is a plain integer scalar, and no function.
+fn is_loop_variable(program: &ProgramSymbols, symbols: &Symbols, name: &Name) -> bool
+    ensures { result ≡ is_loop_variable (function_types program.now) symbols.now name.now }
+{
+    is_plain_integer_scalar(symbols, name) && !is_function_in(Some(program), symbols, name)
+}
+
+fn has_loop_variable(program: &ProgramSymbols, symbols: &Symbols, form: &Form) -> bool
+    ensures { result ≡ walks.has_loop_variable (function_types program.now) symbols.now form.now }
 {
     match form {
-        Form::Do(control) => is_plain_integer_scalar(symbols, &control.variable.name),
+        Form::Do(control) => is_loop_variable(program, symbols, &control.variable.name),
         _ => true,
     }
 }
 
-/// For each statement of a unit whether its DO variable, where it has one, is a plain integer scalar.
+/// For each statement of a unit whether its DO variable, where it has one, is a plain integer scalar and no
+/// function.
 ///
 /// # Errors
 ///
 /// Only where memory was refused.
-pub fn loop_variables(alloc: Global, symbols: &Symbols) -> Result<Vec<bool>, AllocError>
-    ensures { IfOk result (λ variables. variables.items ≡ walks.loop_variables symbols.now) }
+pub fn loop_variables(
+    alloc: Global,
+    program: &ProgramSymbols,
+    symbols: &Symbols,
+) -> Result<Vec<bool>, AllocError>
+    ensures { IfOk result (λ variables. variables.items ≡ walks.loop_variables (function_types program.now) symbols.now) }
 {
     symbols
         .statements()
         .iter()
-        .map(|statement| has_loop_variable(symbols, &statement.form))
+        .map(|statement| has_loop_variable(program, symbols, &statement.form))
         .collect(alloc)
 }

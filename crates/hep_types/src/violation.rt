@@ -3,7 +3,7 @@ ghost use Rattle.std.specs.Prelude.{◌≡◌, IfOk, OnOk};
 ghost use Rattle.std.specs.List.{list_all};
 ghost use Rattle.hep_conditions.specs.Constants as conditions;
 ghost use Rattle.hep_conditions.specs.Types as types;
-ghost use Rattle.hep_conditions.specs.Words.{first_of};
+ghost use Rattle.hep_conditions.specs.Words.{first_of, function_types};
 ghost use Rattle.hep_names.specs.Statements.{rest_after};
 ghost use Rattle.hep_types.specs.Passes as passes;
 
@@ -14,16 +14,21 @@ use crate::scope::Scope;
 use crate::types::is_typed_as;
 use hep_conditions::Violation;
 use hep_conditions::reported::{lesser, line_when, reported};
-use hep_names::Symbols;
 use hep_names::declarators::array_declarators;
+use hep_names::{ProgramSymbols, Symbols};
 use hep_source::{DataGroup, Declarator, Expr, Statement, Target, ValueType};
 use hep_values::statements::{constants_in, groups_in};
 use std::alloc::{AllocError, Global};
 
-fn are_conditions(symbols: &Symbols, conditions: &[Expr]) -> bool
-    ensures { result ≡ list_all (types.is_typed_as symbols.now ValueType.Logical) conditions.now }
+fn are_conditions(program: &ProgramSymbols, symbols: &Symbols, conditions: &[Expr]) -> bool
+    ensures { result ≡ list_all (types.is_typed_as (function_types program.now) symbols.now ValueType.Logical) conditions.now }
 {
-    conditions.iter().all(|condition| is_typed_as(symbols, ValueType::Logical, condition))
+    conditions.iter().all(|condition| is_typed_as(
+        Some(program),
+        symbols,
+        ValueType::Logical,
+        condition,
+    ))
 }
 
 fn are_bounded(scope: &Scope, declarators: &[&Declarator]) -> Result<bool, AllocError>
@@ -56,7 +61,7 @@ fn has_constant_subscripts(scope: &Scope, target: &Target) -> Result<bool, Alloc
         ≡ conditions.has_constant_subscripts scope.now.symbols.now scope.now.parameters.now target.now) }
 {
     let are_constant = are_constant(scope, target.subscripts.as_slice())?;
-    Ok(is_target_typed(scope.symbols, target) && are_constant)
+    Ok(is_target_typed(None, scope.symbols, target) && are_constant)
 }
 
 fn are_targets_typed(scope: &Scope, targets: &[Target]) -> Result<bool, AllocError>
@@ -87,17 +92,18 @@ fn are_groups_typed(scope: &Scope, groups: &[DataGroup]) -> Result<bool, AllocEr
 #[tactic(auto, using(crate::proofs::BoundedArrays::bounded_arrays))]
 fn is_statement_typed(
     alloc: Global,
+    program: &ProgramSymbols,
     symbols: &Symbols,
     parameters: &mut Parameters,
     statement: &Statement,
 ) -> Result<bool, AllocError>
-    ensures typed { IfOk result (λ is_typed. is_typed ≡ conditions.is_statement_typed symbols.now parameters.old statement.now) }
+    ensures typed { IfOk result (λ is_typed. is_typed ≡ conditions.is_statement_typed (function_types program.now) symbols.now parameters.old statement.now) }
     ensures taken { OnOk result (parameters.new ≡ passes.parameters_after symbols.now parameters.old statement.now) }
 {
     let form = &statement.form;
     let declarators = array_declarators(alloc, form)?;
-    let are_conditions = are_conditions(symbols, statement.conditions.as_slice());
-    let is_form = is_form_typed(symbols, form);
+    let are_conditions = are_conditions(program, symbols, statement.conditions.as_slice());
+    let is_form = is_form_typed(Some(program), symbols, form);
     let scope = Scope {
         alloc,
         symbols,
@@ -109,25 +115,33 @@ fn is_statement_typed(
     Ok(are_conditions && is_form && are_given && are_bounded && are_groups)
 }
 
-fn least_untyped(alloc: Global, symbols: &Symbols) -> Result<Option<u32>, AllocError>
-    ensures { IfOk result (λ line. line ≡ passes.least_untyped symbols.now conditions.no_parameters symbols.now) }
+fn least_untyped(
+    alloc: Global,
+    program: &ProgramSymbols,
+    symbols: &Symbols,
+) -> Result<Option<u32>, AllocError>
+    ensures { IfOk result (λ line. line ≡ passes.least_untyped (function_types program.now) symbols.now conditions.no_parameters symbols.now) }
 {
     let mut parameters = Parameters::new(alloc);
     let mut least = None;
     for statement in symbols.statements() {
-        let is_typed = is_statement_typed(alloc, symbols, &mut parameters, statement)?;
+        let is_typed = is_statement_typed(alloc, program, symbols, &mut parameters, statement)?;
         least = lesser(least, line_when(!is_typed, statement.line));
     }
     Ok(least)
 }
 
-/// The first violation of 302 in a unit: an expression, a constant or the bounds of an array are not right.
+/// The first violation of 302 in a unit of a program: an expression, a constant or the bounds of an array are not right.
 ///
 /// # Errors
 ///
 /// Only where memory was refused.
-pub fn type_violation(alloc: Global, symbols: &Symbols) -> Result<Option<Violation>, AllocError>
-    ensures { IfOk result (λ violation. violation ≡ first_of (conditions.type_violations symbols.now)) }
+pub fn type_violation(
+    alloc: Global,
+    program: &ProgramSymbols,
+    symbols: &Symbols,
+) -> Result<Option<Violation>, AllocError>
+    ensures { IfOk result (λ violation. violation ≡ first_of (conditions.type_violations (function_types program.now) symbols.now)) }
 {
-    Ok(reported(302, least_untyped(alloc, symbols)?))
+    Ok(reported(302, least_untyped(alloc, program, symbols)?))
 }

@@ -5,16 +5,16 @@ use Rattle.std.specs.Option.{option_map}
 use Rattle.std.proofs.lemmas.Bool.{and_parts}
 use Rattle.std.proofs.lemmas.Bool.Decides.{nat_tests}
 use Rattle.std.proofs.lemmas.List.{drop_more}
-use Rattle.hep_machine.specs.Words.{Name, Statement, name_eq, same_name, Units, CommonBlock, blocks_in, entries_of_blocks, is_nonempty, names_declared}
+use Rattle.hep_machine.specs.Words.{Name, Statement, function_named, is_external, name_eq, same_name, Units, CommonBlock, blocks_in, entries_of_blocks, is_nonempty, names_declared}
 use Rattle.hep_source.proofs.NameTests.{equal_names, name_eq-is, same_name-turned}
 use Rattle.hep_names.proofs.News.{declared-append}
-use Rattle.hep_conditions.specs.Words.{Use, overlap, letter_ranges_of, letters_repeated, uses_by, repeated, both_ways, given_twice, used_both_ways, misused_constants, dummy_names, typed_names, bounded_names, common_names, constant_names, data_names, assigned_names, called_names, variable_names, ambiguous_in, unit_uses, block_names, ambiguous_units, reported, least_line, line_when, least_line_of, first_of, when, at_line, repeated_after}
+use Rattle.hep_conditions.specs.Words.{Use, overlap, letter_ranges_of, letters_repeated, uses_by, repeated, both_ways, given_twice, used_both_ways, FunctionTypes, misused_constants, misused_results, misnamed, result_names, function_names, function_names_alone, dummy_names, typed_names, bounded_names, common_names, constant_names, data_names, assigned_names, called_names, variable_names, ambiguous_in, unit_uses, block_names, ambiguous_units, reported, least_line, line_when, least_line_of, first_of, when, at_line, repeated_after}
 use Rattle.hep_conditions.proofs.Lines.{reported-append, reported-of, reported-when, least_line-assoc, least_line-none, least_line_of-same, least_line_of-turned}
 use Rattle.hep_uses.specs.declared.uses.Way.{Way}
-use Rattle.hep_uses.specs.declared.uses.Way.TheVariants.{Dummy, Common, Constant, Called, Variable}
+use Rattle.hep_uses.specs.declared.uses.Way.TheVariants.{Dummy, Common, Constant, Called, Variable, Result, Function, Alone}
 use Rattle.hep_names.specs.Tables.{are_new, names_in_common}
 use Rattle.hep_uses.specs.Uses.{uses_of, used_at}
-use Rattle.hep_uses.specs.Ambiguous.{none_seen, with_seen, least_repeated, least_repeated_name, least_given_twice, least_named, later_line, least_met, least_both_ways, least_of_two_ways, least_misused, least_overlapping, given_once, no_constants, least_ambiguous, least_ambiguous_unit}
+use Rattle.hep_uses.specs.Ambiguous.{none_seen, with_seen, least_repeated, least_repeated_name, least_given_twice, least_named, later_line, least_met, least_both_ways, least_of_two_ways, least_misused, least_misused_name, least_misnamed, misnamed_line, least_overlapping, given_once, no_constants, no_results, least_ambiguous, least_ambiguous_unit}
 
 -- ---- what is given twice
 
@@ -125,33 +125,62 @@ least-turn line xs i d best next whole here lt h n e =
 
 -- ---- a unit, and a program
 
-reported-given_twice : (unit : List Statement) → first_of (given_twice unit) ≡ reported 309 (least_given_twice unit given_once)
-reported-given_twice unit =
-    reported-of 309 (λ (names : Statement → List Name). repeated (uses_by names unit)) (λ (names : Statement → List Name). least_repeated_name (uses_by names unit))
-    (λ names. reported-repeated same_name [] (uses_by names unit)) (dummy_names ∷ typed_names ∷ bounded_names ∷ common_names ∷ constant_names ∷ [])
+module _ (functions : FunctionTypes) where
+  reported-given_twice : (unit : List Statement) → first_of (given_twice unit) ≡ reported 309 (least_given_twice functions unit given_once)
+  reported-given_twice unit =
+      reported-of 309 (λ (names : Statement → List Name). repeated (uses_by names unit)) (λ (names : Statement → List Name). least_repeated_name (uses_by names unit))
+      (λ names. reported-repeated same_name [] (uses_by names unit)) (dummy_names ∷ typed_names ∷ bounded_names ∷ common_names ∷ constant_names ∷ [])
 
-reported-misused : (unit : List Statement) → first_of (misused_constants unit) ≡ reported 309 (least_misused unit no_constants)
-reported-misused unit =
-    reported-of 309 (used_both_ways unit constant_names) (λ (names : Statement → List Name). least_both_ways (uses_of Constant unit) (uses_by names unit))
-    (λ names. reported-both_ways (uses_of Constant unit) (uses_by names unit)) (dummy_names ∷ bounded_names ∷ common_names ∷ data_names ∷ assigned_names ∷ called_names ∷ [])
+  reported-misused : (unit : List Statement) → first_of (misused_constants unit) ≡ reported 309 (least_misused functions unit Constant no_constants)
+  reported-misused unit =
+      reported-of 309 (used_both_ways unit constant_names) (λ (names : Statement → List Name). least_both_ways (uses_of functions Constant unit) (uses_by names unit))
+      (λ names. reported-both_ways (uses_of functions Constant unit) (uses_by names unit)) (dummy_names ∷ bounded_names ∷ common_names ∷ data_names ∷ assigned_names ∷ called_names ∷ [])
 
-pub reported-ambiguous : (unit : List Statement) → first_of (ambiguous_in unit) ≡ reported 309 (least_ambiguous unit)
-reported-ambiguous unit =
-    let letters = least_overlapping (letter_ranges_of unit) in
-    let twice = least_given_twice unit given_once in
-    let common = least_of_two_ways unit Dummy Common in
-    let constant = least_misused unit no_constants in
-    let called = least_of_two_ways unit Called Variable in
-    let commons = used_both_ways unit dummy_names common_names in
-    let calls = used_both_ways unit called_names (variable_names unit) in
-    reported-append 309 (letters_repeated unit) (given_twice unit ++ (commons ++ (misused_constants unit ++ calls))) letters (least_line twice (least_line common (least_line constant called)))
-    (reported-repeated overlap [] (letter_ranges_of unit)) (
-    reported-append 309 (given_twice unit) (commons ++ (misused_constants unit ++ calls)) twice (least_line common (least_line constant called))
-    (reported-given_twice unit) (
-    reported-append 309 commons (misused_constants unit ++ calls) common (least_line constant called)
-    (reported-both_ways (uses_of Dummy unit) (uses_of Common unit)) (
-    reported-append 309 (misused_constants unit) calls constant called
-    (reported-misused unit) (reported-both_ways (uses_of Called unit) (uses_of Variable unit)))))
+  reported-results : (unit : List Statement) → first_of (misused_results unit) ≡ reported 309 (least_misused functions unit Result no_results)
+  reported-results unit =
+      reported-of 309 (used_both_ways unit result_names) (λ (names : Statement → List Name). least_both_ways (uses_of functions Result unit) (uses_by names unit))
+      (λ names. reported-both_ways (uses_of functions Result unit) (uses_by names unit)) (dummy_names ∷ bounded_names ∷ common_names ∷ constant_names ∷ [])
+
+  reported-misnamed : (unit : List Statement) → first_of (misnamed unit) ≡ reported 309 (least_misnamed unit)
+  reported-misnamed unit =
+      reported-of 309 (λ (s : Statement). flat_map (λ (x : Name). when (not (is_external (function_named x))) (at_line 309 s.line)) (result_names s)) misnamed_line
+      (λ s. reported-of 309 (λ (x : Name). when (not (is_external (function_named x))) (at_line 309 s.line)) (λ (x : Name). line_when (not (is_external (function_named x))) s.line)
+      (λ x. reported-when 309 s.line (not (is_external (function_named x)))) (result_names s)) unit
+
+  -- a name that is used for something else too
+  reported-misused_name : (unit : List Statement)
+      → first_of (misused_constants unit ++ (misused_results unit ++ (misnamed unit ++ (used_both_ways unit called_names (variable_names functions unit) ++ used_both_ways unit (function_names functions unit) (function_names_alone functions unit)))))
+      ≡ reported 309 (least_misused_name functions unit)
+  reported-misused_name unit =
+      let result = least_misused functions unit Result no_results in
+      let named = least_misnamed unit in
+      let called = least_of_two_ways functions unit Called Variable in
+      let referred = least_of_two_ways functions unit Function Alone in
+      let calls = used_both_ways unit called_names (variable_names functions unit) in
+      let references = used_both_ways unit (function_names functions unit) (function_names_alone functions unit) in
+      reported-append 309 (misused_constants unit) (misused_results unit ++ (misnamed unit ++ (calls ++ references))) (least_misused functions unit Constant no_constants) (least_line result (least_line named (least_line called referred)))
+      (reported-misused unit) (
+      reported-append 309 (misused_results unit) (misnamed unit ++ (calls ++ references)) result (least_line named (least_line called referred))
+      (reported-results unit) (
+      reported-append 309 (misnamed unit) (calls ++ references) named (least_line called referred)
+      (reported-misnamed unit) (
+      reported-append 309 calls references called referred
+      (reported-both_ways (uses_of functions Called unit) (uses_of functions Variable unit)) (reported-both_ways (uses_of functions Function unit) (uses_of functions Alone unit)))))
+
+  pub reported-ambiguous : (unit : List Statement) → first_of (ambiguous_in functions unit) ≡ reported 309 (least_ambiguous functions unit)
+  reported-ambiguous unit =
+      let letters = least_overlapping (letter_ranges_of unit) in
+      let twice = least_given_twice functions unit given_once in
+      let common = least_of_two_ways functions unit Dummy Common in
+      let misused = least_misused_name functions unit in
+      let commons = used_both_ways unit dummy_names common_names in
+      let others = misused_constants unit ++ (misused_results unit ++ (misnamed unit ++ (used_both_ways unit called_names (variable_names functions unit) ++ used_both_ways unit (function_names functions unit) (function_names_alone functions unit)))) in
+      reported-append 309 (letters_repeated unit) (given_twice unit ++ (commons ++ others)) letters (least_line twice (least_line common misused))
+      (reported-repeated overlap [] (letter_ranges_of unit)) (
+      reported-append 309 (given_twice unit) (commons ++ others) twice (least_line common misused)
+      (reported-given_twice unit) (
+      reported-append 309 commons others common misused
+      (reported-both_ways (uses_of functions Dummy unit) (uses_of functions Common unit)) (reported-misused_name unit)))
 
 pub reported-ambiguous_units : (program : Units) → first_of (ambiguous_units program) ≡ reported 309 (least_ambiguous_unit program)
 reported-ambiguous_units program =
@@ -173,9 +202,9 @@ met-none (w ∷ ws) = met-none ws
 pub both-none : (us ws : List Use) → us ≡ [] → least_both_ways us ws ≡ None
 both-none us ws e = ap (λ vs. least_both_ways vs ws) e ∙ met-none ws
 
-pub misused-none : (unit : List Statement) (ways : List Way) → uses_of Constant unit ≡ [] → least_misused unit ways ≡ None
-misused-none unit [] e = refl
-misused-none unit (way ∷ ways) e = ap (λ l. least_line l (least_misused unit ways)) (both-none (uses_of Constant unit) (uses_of way unit) e) ∙ misused-none unit ways e
+pub misused-none : (functions : FunctionTypes) (unit : List Statement) (one : Way) (ways : List Way) → uses_of functions one unit ≡ [] → least_misused functions unit one ways ≡ None
+misused-none functions unit one [] e = refl
+misused-none functions unit one (way ∷ ways) e = ap (λ l. least_line l (least_misused functions unit one ways)) (both-none (uses_of functions one unit) (uses_of functions way unit) e) ∙ misused-none functions unit one ways e
 
 -- ---- names of COMMON that all are new
 
@@ -209,5 +238,5 @@ common-used (s ∷ ss) =
     ∙ (ap (λ xs. xs ++ map (λ (u : Use). u.0) (uses_by common_names ss)) (names-used s.line (common_names s))
     ∙ (ap (λ ys. common_names s ++ ys) (common-used ss) ∙ ap (λ xs. xs ++ names_in_common ss) (sym (block-names (blocks_in s.form)))))
 
-pub common-once : (unit : List Statement) → are_new (λ x. false) (names_in_common unit) ≡ true → least_repeated_name (uses_of Common unit) ≡ None
-common-once unit h = new-unrepeated (uses_of Common unit) none_seen (ap (are_new (λ x. false)) (common-used unit) ∙ h)
+pub common-once : (functions : FunctionTypes) (unit : List Statement) → are_new (λ x. false) (names_in_common unit) ≡ true → least_repeated_name (uses_of functions Common unit) ≡ None
+common-once functions unit h = new-unrepeated (uses_of functions Common unit) none_seen (ap (are_new (λ x. false)) (common-used unit) ∙ h)

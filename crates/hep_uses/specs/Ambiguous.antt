@@ -1,11 +1,11 @@
 -- 309 by lines, as passes over uses tell it: X3.9-1978, 8.5, 18.1 and 18.2.
-use Rattle.std.specs.Prelude.{ℕ, ◌+◌, max, Bool, false, ◌||◌, nat_le, List, [], ◌∷◌, map, take, Option, Some, None}
+use Rattle.std.specs.Prelude.{ℕ, ◌+◌, max, Bool, false, not, ◌||◌, nat_le, List, [], ◌∷◌, map, take, Option, Some, None}
 use Rattle.std.specs.List.{flat_map, list_any}
 use Rattle.std.specs.Option.{option_map}
-use Rattle.hep_machine.specs.Words.{LetterRange, Name, Statement, same_name, Units}
-use Rattle.hep_conditions.specs.Words.{Use, overlap, letter_ranges_of, least_line, line_when, least_line_of, least_line_where}
+use Rattle.hep_machine.specs.Words.{LetterRange, Name, Statement, function_named, is_external, same_name, Units}
+use Rattle.hep_conditions.specs.Words.{FunctionTypes, function_types, result_names, Use, overlap, letter_ranges_of, least_line, line_when, least_line_of, least_line_where}
 use Rattle.hep_uses.specs.declared.uses.Way.{Way}
-use Rattle.hep_uses.specs.declared.uses.Way.TheVariants.{Header, Block, Dummy, Typed, Bounded, Common, Constant, Data, Assigned, Called, Variable}
+use Rattle.hep_uses.specs.declared.uses.Way.TheVariants.{Header, Block, Dummy, Typed, Bounded, Common, Constant, Data, Assigned, Called, Variable, Result, Function, Alone}
 use Rattle.hep_uses.specs.Uses.{uses_of}
 
 -- ---- what is given twice
@@ -25,8 +25,8 @@ none_seen x = false
 abbrev pub least_repeated_name : List Use → Option ℕ
 least_repeated_name us = least_repeated same_name none_seen us
 
-abbrev pub least_given_twice : List Statement → List Way → Option ℕ
-least_given_twice unit ways = least_line_of (λ way. least_repeated_name (uses_of way unit)) ways
+abbrev pub least_given_twice : FunctionTypes → List Statement → List Way → Option ℕ
+least_given_twice functions unit ways = least_line_of (λ way. least_repeated_name (uses_of functions way unit)) ways
 
 -- ---- what is used in two ways
 
@@ -50,12 +50,19 @@ least_met lines ws = least_line_of (later_line lines) ws
 abbrev pub least_both_ways : List Use → List Use → Option ℕ
 least_both_ways us ws = least_met (least_named us) ws
 
-abbrev pub least_of_two_ways : List Statement → Way → Way → Option ℕ
-least_of_two_ways unit one other = least_both_ways (uses_of one unit) (uses_of other unit)
+abbrev pub least_of_two_ways : FunctionTypes → List Statement → Way → Way → Option ℕ
+least_of_two_ways functions unit one other = least_both_ways (uses_of functions one unit) (uses_of functions other unit)
 
--- the least line at which a constant is used in another of these ways
-abbrev pub least_misused : List Statement → List Way → Option ℕ
-least_misused unit ways = least_line_of (least_of_two_ways unit Constant) ways
+-- the least line at which a name that is used in one way is used in another of these ways
+abbrev pub least_misused : FunctionTypes → List Statement → Way → List Way → Option ℕ
+least_misused functions unit one ways = least_line_of (least_of_two_ways functions unit one) ways
+
+-- the line of a header that gives a function the name of one of the language
+abbrev pub misnamed_line : Statement → Option ℕ
+misnamed_line s = least_line_of (λ (x : Name). line_when (not (is_external (function_named x))) s.line) (result_names s)
+
+abbrev pub least_misnamed : List Statement → Option ℕ
+least_misnamed unit = least_line_of misnamed_line unit
 
 -- ---- letters that IMPLICIT names twice
 
@@ -87,15 +94,26 @@ given_once = Dummy ∷ Typed ∷ Bounded ∷ Common ∷ Constant ∷ []
 abbrev pub no_constants : List Way
 no_constants = Dummy ∷ Bounded ∷ Common ∷ Data ∷ Assigned ∷ Called ∷ []
 
-abbrev pub least_ambiguous : List Statement → Option ℕ
-least_ambiguous unit =
+abbrev pub no_results : List Way
+no_results = Dummy ∷ Bounded ∷ Common ∷ Constant ∷ []
+
+-- a constant, a result, what is called or a function, used for something else too
+abbrev pub least_misused_name : FunctionTypes → List Statement → Option ℕ
+least_misused_name functions unit =
+    least_line (least_misused functions unit Constant no_constants) (
+    least_line (least_misused functions unit Result no_results) (
+    least_line (least_misnamed unit) (
+    least_line (least_of_two_ways functions unit Called Variable) (
+    least_of_two_ways functions unit Function Alone))))
+
+abbrev pub least_ambiguous : FunctionTypes → List Statement → Option ℕ
+least_ambiguous functions unit =
     least_line (least_overlapping (letter_ranges_of unit)) (
-    least_line (least_given_twice unit given_once) (
-    least_line (least_of_two_ways unit Dummy Common) (
-    least_line (least_misused unit no_constants) (
-    least_of_two_ways unit Called Variable))))
+    least_line (least_given_twice functions unit given_once) (
+    least_line (least_of_two_ways functions unit Dummy Common) (
+    least_misused_name functions unit)))
 
 abbrev pub least_ambiguous_unit : Units → Option ℕ
 least_ambiguous_unit program =
-    let units = flat_map (uses_of Header) program in
-    least_line (least_repeated_name units) (least_both_ways units (flat_map (uses_of Block) program))
+    let units = flat_map (uses_of (function_types program) Header) program in
+    least_line (least_repeated_name units) (least_both_ways units (flat_map (uses_of (function_types program) Block) program))

@@ -1,8 +1,8 @@
 //! 309: a name stands for two things, or is given something twice (X3.9-1978, 18.1 and 18.2).
-ghost use Rattle.std.specs.Prelude.{◌≡◌, true, None, IfOk};
+ghost use Rattle.std.specs.Prelude.{◌≡◌, not, true, None, IfOk};
 ghost use Rattle.hep_conditions.specs.Names as conditions;
-ghost use Rattle.hep_conditions.specs.Words.{first_of};
-ghost use Rattle.hep_machine.specs.Words.{is_nonempty};
+ghost use Rattle.hep_conditions.specs.Words.{first_of, FunctionTypes, function_types};
+ghost use Rattle.hep_machine.specs.Words.{function_named, is_external, is_nonempty};
 ghost use Rattle.hep_uses.specs.Ambiguous as passes;
 ghost use Rattle.hep_uses.specs.Uses as rows;
 
@@ -10,13 +10,14 @@ use crate::letters::{least_overlapping, letter_ranges};
 use crate::repeated::{least_both_ways, least_met, least_repeated, lines_by_name};
 use crate::uses::{Use, Way, uses_in_program, uses_of};
 use hep_conditions::Violation;
-use hep_conditions::reported::{lesser, reported};
-use hep_names::{ProgramSymbols, Symbols};
+use hep_conditions::reported::{lesser, line_when, reported};
+use hep_names::{Meaning, ProgramSymbols, Symbols, function_named};
+use hep_source::{Form, Name, Statement};
 use std::alloc::{AllocError, Global};
 
 // No name is used twice in a way, as the tables of the unit know already: they were made by names of COMMON, each once.
 fn is_known_once(symbols: &Symbols, way: Way) -> bool
-    ensures { result ≡ true → passes.least_repeated_name (rows.uses_of way symbols.now) ≡ None }
+    ensures { result ≡ true → (functions : FunctionTypes) → passes.least_repeated_name (rows.uses_of functions way symbols.now) ≡ None }
 {
     match way {
         Way::Common => symbols.are_common_once(),
@@ -25,27 +26,33 @@ fn is_known_once(symbols: &Symbols, way: Way) -> bool
 }
 
 // The least line at which a name is used once more in a way.
-fn least_used_twice(alloc: Global, symbols: &Symbols, way: Way) -> Result<Option<u32>, AllocError>
-    ensures { IfOk result (λ line. line ≡ passes.least_repeated_name (rows.uses_of way symbols.now)) }
+fn least_used_twice(
+    alloc: Global,
+    program: &ProgramSymbols,
+    symbols: &Symbols,
+    way: Way,
+) -> Result<Option<u32>, AllocError>
+    ensures { IfOk result (λ line. line ≡ passes.least_repeated_name (rows.uses_of (function_types program.now) way symbols.now)) }
 {
     if is_known_once(symbols, way) {
         return Ok(None);
     }
-    let uses = uses_of(alloc, symbols, way)?;
+    let uses = uses_of(alloc, program, symbols, way)?;
     least_repeated(alloc, &uses)
 }
 
 // The least line at which a name is used once more in one of these ways.
 fn least_given_twice(
     alloc: Global,
+    program: &ProgramSymbols,
     symbols: &Symbols,
     ways: &[Way],
 ) -> Result<Option<u32>, AllocError>
-    ensures { IfOk result (λ line. line ≡ passes.least_given_twice symbols.now ways.now) }
+    ensures { IfOk result (λ line. line ≡ passes.least_given_twice (function_types program.now) symbols.now ways.now) }
 {
     let mut least = None;
     for way in ways {
-        least = lesser(least, least_used_twice(alloc, symbols, *way)?);
+        least = lesser(least, least_used_twice(alloc, program, symbols, *way)?);
     }
     Ok(least)
 }
@@ -57,18 +64,24 @@ fn are_some(uses: &[Use]) -> bool
     !uses.is_empty()
 }
 
-// The least line at which a constant is used in one of these ways too.
-fn least_misused(alloc: Global, symbols: &Symbols, ways: &[Way]) -> Result<Option<u32>, AllocError>
-    ensures { IfOk result (λ line. line ≡ passes.least_misused symbols.now ways.now) }
+// The least line at which a name that is used in one way is used in another of these ways too.
+fn least_misused(
+    alloc: Global,
+    program: &ProgramSymbols,
+    symbols: &Symbols,
+    one: Way,
+    ways: &[Way],
+) -> Result<Option<u32>, AllocError>
+    ensures { IfOk result (λ line. line ≡ passes.least_misused (function_types program.now) symbols.now one ways.now) }
 {
-    let constants = uses_of(alloc, symbols, Way::Constant)?;
-    if !are_some(&constants) {
+    let named = uses_of(alloc, program, symbols, one)?;
+    if !are_some(&named) {
         return Ok(None);
     }
-    let lines = lines_by_name(alloc, &constants)?;
+    let lines = lines_by_name(alloc, &named)?;
     let mut least = None;
     for way in ways {
-        let uses = uses_of(alloc, symbols, *way)?;
+        let uses = uses_of(alloc, program, symbols, *way)?;
         least = lesser(least, least_met(&lines, &uses));
     }
     Ok(least)
@@ -77,31 +90,61 @@ fn least_misused(alloc: Global, symbols: &Symbols, ways: &[Way]) -> Result<Optio
 // The least line at which a name is used in one of two ways, and before or there in the other.
 fn least_of_two_ways(
     alloc: Global,
+    program: &ProgramSymbols,
     symbols: &Symbols,
     one: Way,
     other: Way,
 ) -> Result<Option<u32>, AllocError>
-    ensures { IfOk result (λ line. line ≡ passes.least_of_two_ways symbols.now one other) }
+    ensures { IfOk result (λ line. line ≡ passes.least_of_two_ways (function_types program.now) symbols.now one other) }
 {
-    let uses = uses_of(alloc, symbols, one)?;
+    let uses = uses_of(alloc, program, symbols, one)?;
     if !are_some(&uses) {
         return Ok(None);
     }
-    let others = uses_of(alloc, symbols, other)?;
+    let others = uses_of(alloc, program, symbols, other)?;
     least_both_ways(alloc, &uses, &others)
 }
 
-// The least line at which a unit uses a name or a letter twice or in two ways.
-fn least_ambiguous(alloc: Global, symbols: &Symbols) -> Result<Option<u32>, AllocError>
-    ensures { IfOk result (λ line. line ≡ passes.least_ambiguous symbols.now) }
+// The line of a header that gives a function the name of one of the language.
+fn misnamed_line(statement: &Statement) -> Option<u32>
+    ensures { result ≡ passes.misnamed_line statement.now }
 {
-    let given_once = [
-        Way::Dummy,
-        Way::Typed,
-        Way::Bounded,
-        Way::Common,
-        Way::Constant,
-    ];
+    match &statement.form {
+        Form::Function(_, occurrence, _) => {
+            let is_taken = is_of_the_language(&occurrence.name);
+            lesser(line_when(is_taken, statement.line), None)
+        }
+        _ => None,
+    }
+}
+
+fn is_of_the_language(name: &Name) -> bool
+    ensures { result ≡ not (is_external (function_named name.now)) }
+{
+    match function_named(name) {
+        Meaning::External => false,
+        _ => true,
+    }
+}
+
+fn least_misnamed(unit: &[Statement]) -> Option<u32>
+    ensures { result ≡ passes.least_misnamed unit.now }
+{
+    let mut least = None;
+    for statement in unit {
+        least = lesser(least, misnamed_line(statement));
+    }
+    least
+}
+
+// The least line at which a constant, a result, what is called or a function is used for something else too.
+fn least_misused_name(
+    alloc: Global,
+    program: &ProgramSymbols,
+    symbols: &Symbols,
+) -> Result<Option<u32>, AllocError>
+    ensures { IfOk result (λ line. line ≡ passes.least_misused_name (function_types program.now) symbols.now) }
+{
     let no_constants = [
         Way::Dummy,
         Way::Bounded,
@@ -110,30 +153,55 @@ fn least_ambiguous(alloc: Global, symbols: &Symbols) -> Result<Option<u32>, Allo
         Way::Assigned,
         Way::Called,
     ];
+    let no_results = [Way::Dummy, Way::Bounded, Way::Common, Way::Constant];
+    let constant = least_misused(alloc, program, symbols, Way::Constant, &no_constants)?;
+    let result = least_misused(alloc, program, symbols, Way::Result, &no_results)?;
+    let named = least_misnamed(symbols.statements());
+    let called = least_of_two_ways(alloc, program, symbols, Way::Called, Way::Variable)?;
+    let referred = least_of_two_ways(alloc, program, symbols, Way::Function, Way::Alone)?;
+    let used = lesser(called, referred);
+    let headed = lesser(result, lesser(named, used));
+    Ok(lesser(constant, headed))
+}
+
+// The least line at which a unit uses a name or a letter twice or in two ways.
+fn least_ambiguous(
+    alloc: Global,
+    program: &ProgramSymbols,
+    symbols: &Symbols,
+) -> Result<Option<u32>, AllocError>
+    ensures { IfOk result (λ line. line ≡ passes.least_ambiguous (function_types program.now) symbols.now) }
+{
+    let given_once = [
+        Way::Dummy,
+        Way::Typed,
+        Way::Bounded,
+        Way::Common,
+        Way::Constant,
+    ];
     let ranges = letter_ranges(alloc, symbols.statements())?;
     let letters = least_overlapping(&ranges);
-    let twice = least_given_twice(alloc, symbols, &given_once)?;
-    let common = least_of_two_ways(alloc, symbols, Way::Dummy, Way::Common)?;
-    let constant = least_misused(alloc, symbols, &no_constants)?;
-    let called = least_of_two_ways(alloc, symbols, Way::Called, Way::Variable)?;
-    let misused = lesser(constant, called);
+    let twice = least_given_twice(alloc, program, symbols, &given_once)?;
+    let common = least_of_two_ways(alloc, program, symbols, Way::Dummy, Way::Common)?;
+    let misused = least_misused_name(alloc, program, symbols)?;
     let used = lesser(common, misused);
     let named = lesser(twice, used);
     Ok(lesser(letters, named))
 }
 
-/// The first violation of 309 in a unit: the unit gives a name something twice, or uses it in two ways.
+/// The first violation of 309 in a unit of a program: the unit gives a name something twice, or uses it in two ways.
 ///
 /// # Errors
 ///
 /// Only where memory was refused.
 pub fn ambiguous_violation(
     alloc: Global,
+    program: &ProgramSymbols,
     symbols: &Symbols,
 ) -> Result<Option<Violation>, AllocError>
-    ensures { IfOk result (λ violation. violation ≡ first_of (conditions.ambiguous_in symbols.now)) }
+    ensures { IfOk result (λ violation. violation ≡ first_of (conditions.ambiguous_in (function_types program.now) symbols.now)) }
 {
-    Ok(reported(309, least_ambiguous(alloc, symbols)?))
+    Ok(reported(309, least_ambiguous(alloc, program, symbols)?))
 }
 
 // The least line at which a unit has the name of another one or of a common block, or a block that of a unit.

@@ -1,17 +1,20 @@
 //! The names that statements use, by what they use them for (X3.9-1978, 18.1 and 18.2).
-ghost use Rattle.std.specs.Prelude.{◌≡◌, [], ◌++◌, option_to_list, IfOk, OnOk};
-ghost use Rattle.std.specs.List.{flat_map};
+ghost use Rattle.std.specs.Prelude.{◌≡◌, [], ◌++◌, map, option_to_list, IfOk, OnOk};
+ghost use Rattle.std.specs.List.{filter, flat_map};
 ghost use Rattle.hep_source.specs.declared.declaration.CommonBlock.{CommonBlock as PureBlock};
 ghost use Rattle.hep_source.specs.Units as units;
 ghost use Rattle.hep_machine.specs.Declarations as declarations;
 ghost use Rattle.hep_conditions.specs.Names as conditions;
 ghost use Rattle.hep_conditions.specs.Statements as statements;
+ghost use Rattle.hep_conditions.specs.Words.{function_types};
+ghost use Rattle.hep_machine.specs.Words.{is_referenced, names_listed_by};
+ghost use Rattle.hep_names.specs.Lists.{listed};
 ghost use Rattle.hep_uses.specs.Uses as rows;
 ghost use Rattle.hep_uses.specs.Uses.{used_at};
 
 use hep_names::declarators::{block_of, blocks_in};
 use hep_names::occurrences::{occurrences, occurrences_in_groups};
-use hep_names::{ProgramSymbols, Symbols};
+use hep_names::{NameWithList, ProgramSymbols, Symbols, is_function_in, names_with_lists};
 use hep_source::{
     CommonBlock, DataGroup, Declarator, Form, Name, NamedConstant, Occurrence, Statement, Target,
 };
@@ -46,6 +49,12 @@ pub(crate) enum Way {
     Called,
     /// A variable, wherever it stands but for the values of DATA.
     Variable,
+    /// A function, in its own header.
+    Result,
+    /// A function of the program that is referred to.
+    Function,
+    /// A function of the program without a list.
+    Alone,
 }
 
 type Names = Result<Vec<Name>, AllocError>;
@@ -166,20 +175,77 @@ fn targets_of_groups(alloc: Global, groups: &[DataGroup]) -> Names
     Ok(names)
 }
 
-fn is_variable(symbols: &Symbols, name: &Name) -> bool
-    ensures { result ≡ rows.is_variable symbols.now name.now }
+fn is_variable(program: &ProgramSymbols, symbols: &Symbols, name: &Name) -> bool
+    ensures { result ≡ rows.is_variable (function_types program.now) symbols.now name.now }
 {
-    !symbols.is_constant_name(name)
+    !symbols.is_constant_name(name) && !is_function_in(Some(program), symbols, name)
 }
 
-fn variables(alloc: Global, symbols: &Symbols, occurrences: &[Occurrence]) -> Names
-    ensures { IfOk result (λ names. names.items ≡ rows.variables_among symbols.now occurrences.now) }
+// Those of these names that are variables'.
+fn variables_among(
+    alloc: Global,
+    program: &ProgramSymbols,
+    symbols: &Symbols,
+    names: &[Name],
+) -> Names
+    ensures { IfOk result (λ found. found.items ≡ filter (rows.is_variable (function_types program.now) symbols.now) names.now) }
 {
-    occurrences
-        .iter()
-        .map(|occurrence| occurrence.name)
-        .filter(|name| is_variable(symbols, name))
-        .collect(alloc)
+    let mut found = Vec::new(alloc);
+    for name in names {
+        if is_variable(program, symbols, name) {
+            found.push(*name)?;
+        }
+    }
+    Ok(found)
+}
+
+// Those of these names that the unit refers to as functions, if the program has them.
+fn referenced_among(alloc: Global, symbols: &Symbols, names: &[Name]) -> Names
+    ensures { IfOk result (λ found. found.items ≡ filter (is_referenced symbols.now) names.now) }
+{
+    let mut found = Vec::new(alloc);
+    for name in names {
+        if symbols.is_referenced(name) {
+            found.push(*name)?;
+        }
+    }
+    Ok(found)
+}
+
+// Those of these names that are functions' of the program, and which the unit refers to.
+fn functions_among(
+    alloc: Global,
+    program: &ProgramSymbols,
+    symbols: &Symbols,
+    names: &[Name],
+) -> Names
+    ensures { IfOk result (λ found. found.items ≡ rows.functions_among (function_types program.now) symbols.now names.now) }
+{
+    let mut found = Vec::new(alloc);
+    for name in names {
+        if is_function_in(Some(program), symbols, name) {
+            found.push(*name)?;
+        }
+    }
+    Ok(found)
+}
+
+fn names_of_lists(alloc: Global, lists: &[NameWithList]) -> Names
+    ensures { IfOk result (λ names. names.items ≡ rows.names_of_lists (map listed lists.now)) }
+{
+    let mut names = Vec::new(alloc);
+    for list in lists {
+        names.push(list.occurrence.name)?;
+    }
+    Ok(names)
+}
+
+// The names with lists in a statement.
+#[tactic(auto, using(hep_names::proofs::Referenced::names_by_statement))]
+fn names_listed(alloc: Global, statement: &Statement) -> Names
+    ensures { IfOk result (λ names. names.items ≡ names_listed_by statement.now) }
+{
+    names_of_lists(alloc, &names_with_lists(alloc, statement)?)
 }
 
 fn is_given(groups: &[DataGroup]) -> bool
@@ -204,6 +270,17 @@ fn occurrences_of_variables(
     }
 }
 
+// What a statement names, and what it gives a type where the unit refers to it.
+fn names_in(alloc: Global, symbols: &Symbols, statement: &Statement) -> Names
+    ensures { IfOk result (λ names. names.items ≡ rows.names_in symbols.now statement.now) }
+{
+    let occurrences = occurrences_of_variables(alloc, symbols, statement)?;
+    let typed = typed(alloc, &statement.form)?;
+    let mut names = names_of(alloc, &occurrences)?;
+    names.extend_from_slice(&referenced_among(alloc, symbols, &typed)?)?;
+    Ok(names)
+}
+
 fn at_most_one(alloc: Global, name: Option<Name>) -> Names
     ensures { IfOk result (λ names. names.items ≡ option_to_list name) }
 {
@@ -214,7 +291,9 @@ fn header_name(form: &Form) -> Option<Name>
     ensures { option_to_list result ≡ conditions.header_name form.now }
 {
     match form {
-        Form::Program(occurrence) | Form::Subroutine(occurrence, _) => Some(occurrence.name),
+        Form::Program(occurrence)
+        | Form::Subroutine(occurrence, _)
+        | Form::Function(_, occurrence, _) => Some(occurrence.name),
         _ => None,
     }
 }
@@ -223,17 +302,29 @@ fn dummies(form: &Form) -> &[Occurrence]
     ensures { units.names_of_occurrences result.now ≡ units.dummies_by_header form.now }
 {
     match form {
-        Form::Subroutine(_, dummies) => dummies.as_slice(),
+        Form::Subroutine(_, dummies) | Form::Function(_, _, dummies) => dummies.as_slice(),
         _ => &[],
     }
 }
 
-fn typed(form: &Form) -> &[Declarator]
-    ensures { declarations.names_declared result.now ≡ conditions.names_typed form.now }
+// The header of a function with a type is as a type statement of its name.
+fn typed(alloc: Global, form: &Form) -> Names
+    ensures { IfOk result (λ names. names.items ≡ conditions.names_typed form.now) }
 {
     match form {
-        Form::Declare(_, declarators) => declarators.as_slice(),
-        _ => &[],
+        Form::Declare(_, declarators) => declared(alloc, declarators.as_slice()),
+        Form::Function(Some(_), occurrence, _) => at_most_one(alloc, Some(occurrence.name)),
+        _ => Ok(Vec::new(alloc)),
+    }
+}
+
+/// The name of a function, where its header stands.
+pub(crate) fn result_name(form: &Form) -> Option<Name>
+    ensures { option_to_list result ≡ conditions.names_of_result form.now }
+{
+    match form {
+        Form::Function(_, occurrence, _) => Some(occurrence.name),
+        _ => None,
     }
 }
 
@@ -267,15 +358,21 @@ fn called(form: &Form) -> Option<Name>
 }
 
 // The names that a statement uses so.
-fn names_by(alloc: Global, symbols: &Symbols, way: Way, statement: &Statement) -> Names
-    ensures { IfOk result (λ names. names.items ≡ rows.names_by symbols.now way statement.now) }
+fn names_by(
+    alloc: Global,
+    program: &ProgramSymbols,
+    symbols: &Symbols,
+    way: Way,
+    statement: &Statement,
+) -> Names
+    ensures { IfOk result (λ names. names.items ≡ rows.names_by (function_types program.now) symbols.now way statement.now) }
 {
     let form = &statement.form;
     match way {
         Way::Header => at_most_one(alloc, header_name(form)),
         Way::Block => names_of_blocks(alloc, blocks_in(form)),
         Way::Dummy => names_of(alloc, dummies(form)),
-        Way::Typed => declared(alloc, typed(form)),
+        Way::Typed => typed(alloc, form),
         Way::Bounded => all_bounded(alloc, form),
         Way::Common => entries(alloc, blocks_in(form)),
         Way::Constant => constants(alloc, constants_in(form)),
@@ -283,8 +380,17 @@ fn names_by(alloc: Global, symbols: &Symbols, way: Way, statement: &Statement) -
         Way::Assigned => at_most_one(alloc, assigned(form)),
         Way::Called => at_most_one(alloc, called(form)),
         Way::Variable => {
-            let occurrences = occurrences_of_variables(alloc, symbols, statement)?;
-            variables(alloc, symbols, &occurrences)
+            let names = names_in(alloc, symbols, statement)?;
+            variables_among(alloc, program, symbols, &names)
+        }
+        Way::Result => at_most_one(alloc, result_name(form)),
+        Way::Function => {
+            let names = names_listed(alloc, statement)?;
+            functions_among(alloc, program, symbols, &names)
+        }
+        Way::Alone => {
+            let names = names_of(alloc, &occurrences(alloc, symbols, statement)?)?;
+            functions_among(alloc, program, symbols, &names)
         }
     }
 }
@@ -300,25 +406,31 @@ fn add(uses: &mut Vec<Use>, line: u32, names: &[Name]) -> Result<(), AllocError>
 
 fn add_uses(
     alloc: Global,
+    program: &ProgramSymbols,
     uses: &mut Vec<Use>,
     symbols: &Symbols,
     way: Way,
 ) -> Result<(), AllocError>
-    ensures { OnOk result (uses.new.items ≡ uses.old.items ++ rows.uses_of way symbols.now) }
+    ensures { OnOk result (uses.new.items ≡ uses.old.items ++ rows.uses_of (function_types program.now) way symbols.now) }
 {
     for statement in symbols.statements() {
-        let names = names_by(alloc, symbols, way, statement)?;
+        let names = names_by(alloc, program, symbols, way, statement)?;
         add(uses, statement.line, &names)?;
     }
     Ok(())
 }
 
 /// The names that a unit uses so, in the order of its text.
-pub(crate) fn uses_of(alloc: Global, symbols: &Symbols, way: Way) -> Result<Vec<Use>, AllocError>
-    ensures { IfOk result (λ uses. uses.items ≡ rows.uses_of way symbols.now) }
+pub(crate) fn uses_of(
+    alloc: Global,
+    program: &ProgramSymbols,
+    symbols: &Symbols,
+    way: Way,
+) -> Result<Vec<Use>, AllocError>
+    ensures { IfOk result (λ uses. uses.items ≡ rows.uses_of (function_types program.now) way symbols.now) }
 {
     let mut uses = Vec::new(alloc);
-    add_uses(alloc, &mut uses, symbols, way)?;
+    add_uses(alloc, program, &mut uses, symbols, way)?;
     Ok(uses)
 }
 
@@ -328,11 +440,11 @@ pub(crate) fn uses_in_program(
     program: &ProgramSymbols,
     way: Way,
 ) -> Result<Vec<Use>, AllocError>
-    ensures { IfOk result (λ uses. uses.items ≡ flat_map (rows.uses_of way) program.now) }
+    ensures { IfOk result (λ uses. uses.items ≡ flat_map (rows.uses_of (function_types program.now) way) program.now) }
 {
     let mut uses = Vec::new(alloc);
     for symbols in program.units() {
-        add_uses(alloc, &mut uses, symbols, way)?;
+        add_uses(alloc, program, &mut uses, symbols, way)?;
     }
     Ok(uses)
 }

@@ -2,7 +2,7 @@
 use Rattle.std.proofs.Common.{◌≡◌, Bool, true, false, not, ◌&&◌, ◌||◌, Option, Some, None, List, [], ◌∷◌, ◌++◌, append_assoc, append-nil, is_some, refl, ap, sym, ◌∙◌, if◌then◌else◌}
 use Rattle.std.specs.List.{list_all, list_any}
 use Rattle.std.proofs.lemmas.List.Folds.{list_any-append, list_all-append}
-use Rattle.hep_machine.specs.Words.{Tree, Trees, binary, with_list, trees, Name, Occurrence, Operator, Statement, Value, is_among, combined_value, Constants, both, by_meaning, value_of, value_among, with_two, is_array, Meaning, element, pure, state, unknown, occurrences_in, occurrences_in_all, array_occurrence}
+use Rattle.hep_machine.specs.Words.{Tree, Trees, binary, with_list, trees, Name, Occurrence, Operator, Statement, Value, is_among, combined_value, Constants, both, by_meaning, value_of, value_among, with_two, is_array, Meaning, element, pure, state, external, occurrences_in, occurrences_in_all, array_occurrence}
 use Rattle.hep_conditions.specs.Words.{Parameters, is_open, has_value_or_is_open, is_counted, NameWithList, names_with_lists_in, names_with_lists_in_all, subexpressions_of, subexpressions_of_all}
 use Rattle.hep_values.specs.Evaluation.{parameters, with_last, values_after, applied, is_any_open, are_parts_known, are_all_parts_known}
 
@@ -87,4 +87,4 @@ applied_is element vs = refl
 applied_is (pure f) None = refl
 applied_is (pure f) (Some vs) = refl
 applied_is (state f) vs = refl
-applied_is unknown vs = refl
+applied_is external vs = refl

@@ -1,12 +1,13 @@
 -- A process that waits: where its top activation is, in the machine and in the source, and what it waits for.
 use Rattle.std.proofs.Common.{◌≡◌, ℕ, zero, suc, ◌<◌, Bool, true, false, true≢false, List, [], ◌∷◌, ◌++◌, map, drop, length, Option, Some, None, refl, sym, ap, ◌∙◌, subst, arith, append_assoc, if◌then◌else◌, is_some, not}
 use Rattle.std.proofs.lemmas.Option.{none-some, same_Some}
-use Rattle.hep_machine.specs.Words.{Value, Units, line_at, unit_at, Next, wants, does, next_of, living, numbered, top_of, unit_of, run, Process, State, Store, Work, Wanted, wanted_by}
+use Rattle.std.specs.List.{flat_map}
+use Rattle.hep_machine.specs.Words.{Value, Units, line_at, unit_at, Next, wants, evaluating, referring, does, next_of, living, numbered, top_of, unit_of, run, Process, State, Store, Work, Wanted, wanted_by}
 use Rattle.hep_machine.specs.State.{Level as SourceLevel}
 use Rattle.hep_blocked.specs.declared.want.Want.{Want}
 use Rattle.hep_code.specs.declared.instruction.Instruction.{Instruction}
 use Rattle.hep_code.specs.declared.instruction.Instruction.TheVariants.{Push}
-use Rattle.hep_code.specs.Words.{operands_of_action, operands_of_redex, line_ahead, Stands, work_code, AddressedUnit, code_of}
+use Rattle.hep_code.specs.Words.{operands_of_action, operands_of_actual, operands_of_redex, line_ahead, Stands, work_code, AddressedUnit, code_of}
 use Rattle.hep_code.proofs.Works.{NextIs, work_is}
 use Rattle.hep_layout.specs.Words.{IsOwnedAbove, FrameNode, Nodes}
 use Rattle.hep_layout.proofs.References.{references}
@@ -31,7 +32,10 @@ module _ (addressed : AddressedUnit) (k : ℕ) (work : Work) where
   line-of-next : (n : Next) (after : Value → List Instruction) (rest : List Instruction)
       → NextIs addressed (line_at addressed.unit k) k n (work_code addressed k work) after
       → line_ahead (work_code addressed k work ++ rest) ≡ line_at addressed.unit k
-  line-of-next (wants r) after rest h =
+  line-of-next (wants (referring x actuals)) after rest h =
+      ap (λ c. line_ahead (c ++ rest)) h.is ∙ ap line_ahead (append_assoc (map Push (h.before ++ flat_map operands_of_actual actuals)) _ rest)
+      ∙ line-after (h.before ++ flat_map operands_of_actual actuals) _
+  line-of-next (wants (evaluating r)) after rest h =
       ap (λ c. line_ahead (c ++ rest)) h.is ∙ ap line_ahead (append_assoc (map Push (h.before ++ operands_of_redex r)) _ rest)
       ∙ line-after (h.before ++ operands_of_redex r) _
   line-of-next (does a) after rest h =

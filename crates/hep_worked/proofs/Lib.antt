@@ -11,3 +11,4 @@ mod WorkedValues
 mod WorkedCalls
 mod WorkedProcesses
 mod WorkedResume
+mod WorkedFunctions

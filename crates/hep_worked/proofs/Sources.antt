@@ -13,7 +13,7 @@ use Rattle.hep_statement.specs.ReadingLists.{parts_after, closed, enclosed, opti
 use Rattle.hep_statement.specs.ReadingTarget.{target_at}
 use Rattle.hep_statement.specs.ReadingConstant.{characters, constant_after, item_at}
 use Rattle.hep_statement.specs.ReadingExecutable.{print, assignment, computed_go_to, go_to, condition_at, arithmetic_if, if_then, else_if, limits, do_loop, call, create, purge, stop}
-use Rattle.hep_statement.specs.ReadingDeclaration.{subroutine_header, implicit_group_at, implicit, dimension_at, declarator_at, declare, dimension, parts_to_end, block_at, common, named_constant_at, parameter, data_value_at, group_at, data_statement}
+use Rattle.hep_statement.specs.ReadingDeclaration.{function_header, subroutine_header, implicit_group_at, implicit, dimension_at, declarator_at, declare, dimension, parts_to_end, block_at, common, named_constant_at, parameter, data_value_at, group_at, data_statement}
 use Rattle.hep_statement.specs.ReadingStatement.{worded, logical_if, conditions, form}
 use Rattle.hep_parse.specs.ReadingProgram.{Refusal, left_out, nameless_refusal, refusal_of, statement, placed, units, program}
 
@@ -30,5 +30,5 @@ units_of_statements (Err e) = Err (e.number, e.line, [])
 
 -- the program that is read from these lines
 unfoldable pub units_of : List String → Result Units Refusal
-unfolding statements_of columns joined kind labelled chain in_parentheses reading.arguments reading.named primary power_of term first_term sum relation negation conjunction disjunction expression power expression_at whole_expression parts_after lists.listed closed enclosed optional arguments_within arguments target_at characters constant_after item_at print assignment computed_go_to go_to condition_at arithmetic_if if_then else_if limits do_loop call create purge stop subroutine_header implicit_group_at implicit dimension_at declarator_at declare dimension parts_to_end block_at common named_constant_at parameter data_value_at group_at data_statement worded logical_if conditions form left_out nameless_refusal refusal_of statement placed units
+unfolding statements_of columns joined kind labelled chain in_parentheses reading.arguments reading.listed reading.named primary power_of term first_term sum relation negation conjunction disjunction expression power expression_at whole_expression parts_after lists.listed closed enclosed optional arguments_within arguments lists.parenthesized target_at characters constant_after item_at print assignment computed_go_to go_to condition_at arithmetic_if if_then else_if limits do_loop call create purge stop subroutine_header function_header implicit_group_at implicit dimension_at declarator_at declare dimension parts_to_end block_at common named_constant_at parameter data_value_at group_at data_statement worded logical_if conditions form left_out nameless_refusal refusal_of statement placed units
 units_of lines = units_of_statements (statements_of (text_of lines))

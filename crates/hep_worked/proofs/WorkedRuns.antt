@@ -74,8 +74,8 @@ left_out_runs = refl
 reading_3 : AllRun (
     -- real constant
     ("      I=1.5" ∷ "      END" ∷ [], rejected 201 1 [])
-    -- typed function
-    ∷ ("      INTEGER FUNCTION F(I)" ∷ "      END" ∷ [], rejected 202 1 (codes "FUNCTION"))
+    -- typed function without a main program
+    ∷ ("      INTEGER FUNCTION F(I)" ∷ "      END" ∷ [], rejected 204 0 [])
     -- constant too large
     ∷ ("      I=-9223372036854775808" ∷ "      END" ∷ [], rejected 203 1 [])
     -- no main program

@@ -5,14 +5,15 @@ endif
 
 syntax case ignore
 
-syntax keyword hepfStatement PROGRAM SUBROUTINE IMPLICIT INTEGER LOGICAL DIMENSION COMMON PARAMETER DATA
+syntax keyword hepfStatement PROGRAM SUBROUTINE FUNCTION INTEGERFUNCTION LOGICALFUNCTION
+syntax keyword hepfStatement IMPLICIT INTEGER LOGICAL DIMENSION COMMON PARAMETER DATA
 syntax keyword hepfStatement GOTO IF THEN ELSEIF ELSE ENDIF END DO CALL CREATE PURGE PRINT CONTINUE RETURN RESUME STOP
 syntax match hepfStatement "\<go\s\+to\>"
 
 " A statement that the language leaves out is refused (202), but its word may be the name of a variable.
 syntax keyword hepfLeftOut contained REAL DOUBLEPRECISION COMPLEX CHARACTER READ WRITE FORMAT OPEN CLOSE INQUIRE REWIND
 syntax keyword hepfLeftOut contained BACKSPACE ENDFILE EQUIVALENCE SAVE ENTRY EXTERNAL INTRINSIC ASSIGN PAUSE BLOCKDATA
-syntax keyword hepfLeftOut contained INCLUDE FUNCTION
+syntax keyword hepfLeftOut contained INCLUDE
 syntax match hepfFirstWord "\%>6c\%(^.\{6}\s*\)\@<=\a\+\>\%(\s*=\)\@!" contains=hepfLeftOut,hepfStatement
 
 syntax match hepfFunction "\<\%(ABS\|IABS\|MOD\|SIGN\|ISIGN\|DIM\|IDIM\|MAX\|MAX0\|MIN\|MIN0\)\ze\s*("

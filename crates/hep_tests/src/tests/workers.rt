@@ -59,6 +59,52 @@ fn tickets(rt: HostRuntime) -> Result<(), Fail> {
     Ok(())
 }
 
+const OVERFLOW: [&[u8]; 8] = [
+    b"      PROGRAM P",
+    b"      CREATE ADD",
+    b"      PRINT *,'OK'",
+    b"      END",
+    b"      SUBROUTINE ADD",
+    b"      I=9223372036854775807",
+    b"      I=I+1",
+    b"      END",
+];
+
+// At the opening there is process 1 alone; while it is out it isn't chosen, and of two segments of its ticket one is committed.
+#[test]
+fn at_the_opening(rt: HostRuntime) -> Result<(), Fail> {
+    let alloc = rt.alloc();
+    let source = source_of(alloc, &OVERFLOW)?;
+    let image = image_from(alloc, &source)?;
+    let mut shared = SharedCore::new(alloc, core_of(alloc, &source, 7)?);
+    for process in [99, 2] {
+        assert_eq!(rt;
+            shared.choose(process).err(),
+            Some(ShareFault::NoSuchProcess)
+        );
+        assert_eq!(rt; shared.core().history().len(), 0);
+    }
+    let ticket = shared.check_out(1)?;
+    assert_eq!(rt; shared.choose(1).err(), Some(ShareFault::IsOut));
+    let first = compute(&image, &ticket);
+    let second = compute(&image, &ticket);
+    let turn = shared.commit(&first)?;
+    assert_eq!(rt; (turn.steps, turn.blocked), (1, false));
+    assert_eq!(rt; shared.commit(&second).err(), Some(CommitFault::Stale));
+    assert_eq!(rt; shared.core().history().len(), 1);
+    let options = WorkOptions {
+        arena: 3,
+        steps: 7,
+        workers: 1,
+    };
+    let opening = core_of(alloc, &source, 7)?;
+    assert_eq!(rt;
+        close(alloc, opening, &image, options, Vec::new(alloc)).err(),
+        Some(CloseFault::StillRunning)
+    );
+    Ok(())
+}
+
 // A history that is full stops a check-out, and a stop is reported before all else.
 #[test]
 fn full_histories(rt: HostRuntime) -> Result<(), Fail> {

@@ -6,5 +6,5 @@ abbrev pub invariant-loop-passed : goal.invariant-loop-passed
 invariant-loop-passed l =
     record {
       known : Known l.code (length l.code - l.passed) l.operands l.line l.depth.operands l.depth.too_deep;
-      few : l.operands ≤ 4294967296 * l.passed;
+      few : l.operands ≤ 4503599627370496 * l.passed;
     }

@@ -1,5 +1,5 @@
-use Rattle.hep_code_laws.proofs.Calls.{called-agrees, called-subroutine, called-there}
+use Rattle.hep_code_laws.proofs.Calls.{called-agrees, called-result, called-subroutine, called-there}
 use Rattle.hep_code_laws.proofs.laws.subroutines_are_called.Goals as goal
 
 pub returns : goal.returns
-returns c = record { there = called-there; subroutine = called-subroutine; arguments = called-agrees }
+returns c = record { there = called-there; subroutine = called-subroutine; result = called-result; arguments = called-agrees }

@@ -4,4 +4,4 @@ use Rattle.hep_control.specs.Structure.{least_statement}
 use Rattle.hep_control.proofs.structure.least_statement.Given as goal
 
 abbrev pub invariant-loop-index : goal.invariant-loop-index
-invariant-loop-index l = least_line l.least (least_statement l.labels (indexed_from l.index (drop l.index l.labels))) ≡ least_statement l.labels (indexed_statements l.labels)
+invariant-loop-index l = least_line l.least (least_statement l.labels l.loop_variables (indexed_from l.index (drop l.index l.labels))) ≡ least_statement l.labels l.loop_variables (indexed_statements l.labels)

@@ -10,3 +10,9 @@ decreases-emit_listed l = 2 * nodes_of_all (trees_of l.list.now) + 1
 
 abbrev pub decreases-emit_all : goal.decreases-emit_all
 decreases-emit_all l = 2 * nodes_of_all (trees_of l.list.now)
+
+abbrev pub decreases-emit_actual : goal.decreases-emit_actual
+decreases-emit_actual l = 2 * nodes l.actual.now + 1
+
+abbrev pub decreases-emit_actuals : goal.decreases-emit_actuals
+decreases-emit_actuals l = 2 * nodes_of_all (trees_of l.list.now)

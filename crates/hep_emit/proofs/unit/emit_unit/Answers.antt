@@ -9,7 +9,7 @@ use Rattle.hep_emit.proofs.unit.emit_unit.Goals as goal
 use Rattle.hep_emit.proofs.unit.emit_unit.Goals.{After-emit_statements}
 
 abbrev blank : After-emit_statements → Tables
-blank c = record { names = c.args.names.now; program = c.args.program; control = c.args.control; starts = record { statements = c.new-statements.result; end = 0 } }
+blank c = record { names = c.args.names.now; control = c.args.control; starts = record { statements = c.new-statements.result; end = 0 } }
 
 is-blank : (c : After-emit_statements) → AreBlank (blank c)
 is-blank c = record { unit = c.requires.unit; constants = c.requires.constants; few_units = c.requires.few_units; statements = c.new-statements.ensures.items; end = refl }
@@ -36,7 +36,7 @@ pub returns-clause-entry : goal.returns-clause-entry
 returns-clause-entry c =
     let t = (goal.at.returns-clause-entry c).After-emit_statements in
     let found = c.in_ok-tables.ensures in
-    let whole = addressed_in c.args.names.now c.args.program.now in
+    let whole = addressed_in c.args.names.now in
     c.start-entry.ensures
     ∙ (found-start (blank t) (is-blank t) c.in_ok-tables.field-0.starts found.starts found.end c.first_executable.result
     ∙ ap (instructions_before (unplaced whole) 0 whole.unit) (c.first_executable.ensures ∙ ap (λ ss. executable_from ss 0) (c.unit.ensures ∙ c.requires.unit)))

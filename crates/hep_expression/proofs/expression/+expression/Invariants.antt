@@ -49,6 +49,9 @@ decreases-power l = 32 * l.depth + (rank Term - 1)
 abbrev pub decreases-primary : goal.decreases-primary
 decreases-primary l = 32 * l.depth + 5
 
+abbrev pub decreases-listed : goal.decreases-listed
+decreases-listed l = 32 * l.depth + 3
+
 abbrev pub decreases-named : goal.decreases-named
 decreases-named l = 32 * l.depth + 4
 
@@ -57,7 +60,7 @@ abbrev pub invariant-arguments-loop-turn : goal.invariant-arguments-loop-turn
 invariant-arguments-loop-turn l = after_read l.list.items (arguments (expression l.context l.depth) (length l.fn.s - l._turn) l.rest) ≡ arguments (expression l.context l.depth) (length l.fn.s) l.fn.s
 
 abbrev pub decreases-arguments : goal.decreases-arguments
-decreases-arguments l = 32 * l.depth + 3
+decreases-arguments l = 32 * l.depth + 2
 
 abbrev pub decreases-in_parentheses : goal.decreases-in_parentheses
 decreases-in_parentheses l = 32 * l.depth + 2

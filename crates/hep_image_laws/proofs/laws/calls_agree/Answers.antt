@@ -1,4 +1,4 @@
-use Rattle.hep_image_laws.proofs.Calls.{call_agrees, create_agrees}
+use Rattle.hep_image_laws.proofs.Calls.{call_agrees, create_agrees, reference_agrees}
 use Rattle.hep_image_laws.proofs.Facts.{facts_of}
 use Rattle.hep_image_laws.proofs.laws.calls_agree.Goals as goal
 
@@ -6,4 +6,5 @@ pub returns : goal.returns
 returns c = record {
   call = λ program u i line v n next accepted h e. call_agrees program u (facts_of c.constants_agree.ensures program u accepted h) accepted h i line v n next e;
   create = λ program u i line v n next accepted h e. create_agrees program u (facts_of c.constants_agree.ensures program u accepted h) accepted h i line v n next e;
+  refer = λ program u i line v n accepted h e. reference_agrees program u (facts_of c.constants_agree.ensures program u accepted h) accepted h i line v n e;
 }

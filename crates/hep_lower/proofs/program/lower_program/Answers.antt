@@ -1,6 +1,6 @@
 use Rattle.std.proofs.Common.{◌≡◌, ◌∙◌, ◌<◌, inl, inr, ap, arith, length, subst, sym}
 use Rattle.std.specs.Option.{unwrap_or}
-use Rattle.hep_machine.specs.Words.{no_unit, Units, is_main, main_unit, subroutine_name}
+use Rattle.hep_machine.specs.Words.{no_unit, Units, is_main, main_unit, procedure_name}
 use Rattle.hep_common.specs.Starts.{AreBlocks, AreStarts}
 use Rattle.hep_image.proofs.Mains.{index-inside}
 use Rattle.hep_code.specs.Words.{most_instructions}
@@ -45,7 +45,7 @@ lower_units-requires-clause-main c =
 
 pub lower_units-requires-clause-inside : goal.lower_units-requires-clause-inside
 lower_units-requires-clause-inside c =
-    subst (λ (p : Units). c.args.main < length p) (sym (same (goal.at.lower_units-requires-clause-inside c).In_ok-program)) (index-inside (λ unit. is_main (subroutine_name unit)) c.args.checked.now c.args.main c.requires)
+    subst (λ (p : Units). c.args.main < length p) (sym (same (goal.at.lower_units-requires-clause-inside c).In_ok-program)) (index-inside (λ unit. is_main (procedure_name unit)) c.args.checked.now c.args.main c.requires)
 
 pub image_tables-requires-clause-blocks : goal.image_tables-requires-clause-blocks
 image_tables-requires-clause-blocks c = are-blocks (goal.at.image_tables-requires-clause-blocks c).In_ok-common

@@ -2,7 +2,7 @@ use Rattle.std.proofs.Common.{◌≤◌, ◌∙◌, length, ap, sym, arith}
 use Rattle.std.proofs.lemmas.List.{drop_all}
 use Rattle.std.specs.Option.{option_or}
 use Rattle.indexmap.specs.IndexMap.{get}
-use Rattle.hep_machine.specs.Words.{name_eq}
+use Rattle.hep_machine.specs.Words.{subroutine_name, name_eq}
 use Rattle.hep_names.specs.Tables.{called_from}
 use Rattle.hep_names.proofs.Notes.{or-none}
 use Rattle.hep_names.proofs.program.subroutines.Goals as goal
@@ -11,6 +11,6 @@ pub returns : goal.returns
 returns c = λ x.
     let program = c.args.program.now in
     let i = c.loop-number.number in
-    let table = get name_eq c.loop-number.table x in
+    let table = get name_eq c.loop-number.numbers x in
     let k : length program ≤ i = omega arith in
-    sym (or-none table) ∙ (ap (λ us. option_or table (called_from i x us)) (sym (drop_all i program k)) ∙ c.loop-number.invariant x)
+    sym (or-none table) ∙ (ap (λ us. option_or table (called_from subroutine_name i x us)) (sym (drop_all i program k)) ∙ c.loop-number.invariant x)

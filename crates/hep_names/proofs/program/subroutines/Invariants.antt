@@ -1,9 +1,9 @@
 use Rattle.std.proofs.Common.{◌≡◌, drop}
 use Rattle.std.specs.Option.{option_or}
 use Rattle.indexmap.specs.IndexMap.{get}
-use Rattle.hep_machine.specs.Words.{Name, name_eq}
+use Rattle.hep_machine.specs.Words.{Name, subroutine_name, name_eq}
 use Rattle.hep_names.specs.Tables.{called_from}
 use Rattle.hep_names.proofs.program.subroutines.Given as goal
 
 abbrev pub invariant-loop-number : goal.invariant-loop-number
-invariant-loop-number l = (x : Name) → option_or (get name_eq l.table x) (called_from l.number x (drop l.number l.program)) ≡ called_from 0 x l.program
+invariant-loop-number l = (x : Name) → option_or (get name_eq l.numbers x) (called_from subroutine_name l.number x (drop l.number l.program)) ≡ called_from subroutine_name 0 x l.program

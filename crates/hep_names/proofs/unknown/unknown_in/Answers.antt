@@ -10,6 +10,6 @@ returns c =
     let s = c.args.statement.now in
     c.first_of_two-2.ensures
     ∙ (ap (first_of_two c.unknown_subroutine-called.result) c.first_of_two.ensures
-    ∙ three (unknown_subroutines c.args.program.now s) (unknown_references unit s) (unknown_targets unit s)
+    ∙ three (unknown_subroutines c.args.program.now s) (unknown_references c.args.program.now unit s) (unknown_targets unit s)
     c.unknown_subroutine-called.result c.in_ok-referenced.referenced c.unknown_in_form-targets.result
     c.unknown_subroutine-called.ensures c.in_ok-referenced.ensures (c.unknown_in_form-targets.ensures ∙ ap first_of (unknown-targets unit s.line s.form)))

@@ -4,7 +4,7 @@ use Rattle.hep_layout_laws.specs.Within.{ArePlacedArrays}
 use Rattle.hep_passing.specs.Ready.{ArePassable}
 use Rattle.hep_step.specs.Ready.{frame_in_arena}
 use Rattle.hep_state.specs.Words.{top_frame}
-use Rattle.hep_state.proofs.Callers.{as-many, called-inside, caller_at, calls, calls-so, passed-by, passes-all}
+use Rattle.hep_state.proofs.Callers.{as-many, called-inside, caller_at, calls, calls-so, operands-few, passed-by}
 use Rattle.hep_state.proofs.Moved.{unit-is}
 use Rattle.hep_state.proofs.laws.calls_can_be_made.Goals as goal
 
@@ -19,15 +19,15 @@ returns-clause-counted c t call accepted main at =
 pub returns-clause-framed : goal.returns-clause-framed
 returns-clause-framed c t call accepted main few at =
     let k = c.programs_are_known.ensures t.program accepted main in
-    c.callers_can_pass.ensures.frame (caller_at at) (calls-so at k.running) at.turning.after.shows.keeps.memory few
+    c.callers_can_pass.ensures.frame (caller_at at.step) (calls-so at.step k.running) at.step.turning.after.shows.keeps.memory few
 
 pub returns-clause-passable : goal.returns-clause-passable
 returns-clause-passable c t call accepted main at =
     let k = c.programs_are_known.ensures t.program accepted main in
     let ahead = calls call at k in
-    let placed = subst (λ u. ArePlacedArrays t.program (unit_at t.program u)) (sym (unit-is at.turning)) (c.tops_are_running.ensures.arrays t accepted main at.turning) in
+    let placed = subst (λ u. ArePlacedArrays t.program (unit_at t.program u)) (sym (unit-is at.step.turning)) (c.tops_are_running.ensures.arrays t accepted main at.step.turning) in
     passed-by call at k (λ xs ps. ArePassable t.machine.arena xs (frame_in_arena (top_frame t)) ps) (
-    c.callers_can_pass.ensures.actuals (caller_at at) ahead.actuals ahead.more (calls-so at k.running) at.turning.after.shows.keeps.memory placed)
+    c.callers_can_pass.ensures.actuals (caller_at at.step) ahead.actuals ahead.more (calls-so at.step k.running) at.step.turning.after.shows.keeps.memory placed)
 
-pub returns-clause-all : goal.returns-clause-all
-returns-clause-all c t call accepted main at = passes-all call at (c.programs_are_known.ensures t.program accepted main)
+pub returns-clause-few : goal.returns-clause-few
+returns-clause-few c t call accepted main at = operands-few at.step.turning

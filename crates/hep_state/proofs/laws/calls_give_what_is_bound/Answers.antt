@@ -1,24 +1,25 @@
 use Rattle.std.proofs.Common.{◌≡◌, ℕ, true, is_some, List, Some, slice_get}
-use Rattle.hep_machine.specs.Words.{Actual, Name, Units, dummies_of, main_among, unit_at, next_activation, scope_of}
+use Rattle.hep_machine.specs.Words.{Actual, Name, Units, Work, dummies_of, next_of, main_among, unit_at, next_activation, scope_of}
 use Rattle.hep_machine.specs.declared.event.Kind.TheVariants.{Shape}
 use Rattle.hep_state.specs.Words.{state_before}
 use Rattle.hep_conditions.specs.Words.{IsAccepted}
 use Rattle.hep_image.specs.Dummies.{dummy_arguments}
 use Rattle.hep_shaping.specs.Fitting.{shapes_of}
 use Rattle.hep_step.specs.declared.way.Way.{Way}
-use Rattle.hep_step.specs.declared.way.Way.TheVariants.{Calls, Creates}
-use Rattle.hep_step.specs.Calls.{unit_by}
+use Rattle.hep_step.specs.declared.way.Way.TheVariants.{Calls, Creates, Refers}
+use Rattle.hep_step.specs.Calls.{comes_by, unit_by}
 use Rattle.hep_code_laws.specs.Actuals.{FitsDummy}
-use Rattle.hep_code_laws.specs.Works.{IsCalledBy}
+use Rattle.hep_code_laws.specs.Works.{ComesFrom}
 use Rattle.hep_state.proofs.Callers.{IsKnownToBind, actuals, called-so, dummies-given, fault-ends, frameless, range-bound, called-inside}
 use Rattle.hep_image.proofs.Numbers.{unit-there}
 use Rattle.hep_state.proofs.laws.calls_give_what_is_bound.Goals as goal
 
--- the actual arguments of a CALL, and of a CREATE, fit
-fit-so : goal.After-programs_are_known → (program : Units) → IsAccepted program → (way : Way) (u k j : ℕ) (x y : Name) (actuals : List Actual) (a : Actual) → IsCalledBy (unit_at program u) k x actuals
+-- the actual arguments of a CALL, of a CREATE, and of a reference, fit
+fit-so : goal.After-programs_are_known → (program : Units) → IsAccepted program → (way : Way) (u k j : ℕ) (work : Work) (x y : Name) (actuals : List Actual) (a : Actual) → ComesFrom (unit_at program u) k work → next_of (unit_at program u) work ≡ comes_by way x actuals
     → slice_get (dummies_of (unit_at program (unit_by way program x))) j ≡ Some y → slice_get actuals j ≡ Some a → FitsDummy (unit_at program u) (unit_at program (unit_by way program x)) y a
-fit-so c program accepted Calls u k j x y actuals a = c.actual_arguments_fit.ensures program u k j x y actuals a accepted
-fit-so c program accepted Creates u k j x y actuals a = c.actual_arguments_fit.ensures program u k j x y actuals a accepted
+fit-so c program accepted Calls u k j work x y actuals a from is = c.actual_arguments_fit.ensures.called program u k j x y actuals a accepted (c.calls_come_from_statements.ensures.called (unit_at program u) k work x actuals from is)
+fit-so c program accepted Creates u k j work x y actuals a from is = c.actual_arguments_fit.ensures.called program u k j x y actuals a accepted (c.calls_come_from_statements.ensures.created (unit_at program u) k work x actuals from is)
+fit-so c program accepted Refers u k j work x y actuals a from is = c.actual_arguments_fit.ensures.referred program u k j x y actuals a accepted (c.references_come_from_statements.ensures (unit_at program u) k work x actuals from is)
 
 all-known : goal.After-programs_are_known → (program : Units) → IsAccepted program → is_some (main_among program) ≡ true → IsKnownToBind program
 all-known c program accepted main =
@@ -37,8 +38,8 @@ returns-clause-shapable c t call given room accepted main at gives few =
     let all = all-known c t.program accepted main in
     let s = state_before t in
     let dummies = dummies-given call at all given gives in
-    c.calls_are_shapable.ensures t.program s at.turning.after.layout t.machine.arena.contents t.machine.arena.holes call.unit (next_activation s) room (actuals call at all) given dummies.0 accepted (called-inside call at all.known)
-    at.turning.after.shows.keeps.memory dummies.2 few
+    c.calls_are_shapable.ensures t.program s at.step.turning.after.layout t.machine.arena.contents t.machine.arena.holes call.unit (next_activation s) room (actuals call at all) given dummies.0 accepted (called-inside call at all.known)
+    at.step.turning.after.shows.keeps.memory dummies.2 few
 
 pub returns-clause-making : goal.returns-clause-making
 returns-clause-making c t call given accepted main at gives fit =
@@ -46,8 +47,8 @@ returns-clause-making c t call given accepted main at gives fit =
     let s = state_before t in
     let dummies = dummies-given call at all given gives in
     let bound =
-    c.shapes_decide_bindings.ensures.fit t.program s at.turning.after.layout t.machine.arena.contents call.unit (next_activation s) (scope_of t.program s t.top.0.activation) (actuals call at all) given dummies.0 accepted (called-inside call at all.known)
-    (frameless call at all) at.turning.after.shows.keeps.memory.holds dummies.2 dummies.1 fit in
+    c.shapes_decide_bindings.ensures.fit t.program s at.step.turning.after.layout t.machine.arena.contents call.unit (next_activation s) (scope_of t.program s t.top.0.activation) (actuals call at all) given dummies.0 accepted (called-inside call at all.known)
+    (frameless call at all) at.step.turning.after.shows.keeps.memory.holds dummies.2 dummies.1 fit in
     called-so call at all given (shapes_of t.machine.arena.contents given (dummy_arguments t.program (unit_at t.program call.unit))) bound.0 gives bound.1 bound.2
 
 pub returns-clause-range : goal.returns-clause-range
@@ -61,5 +62,5 @@ returns-clause-shape c t call given accepted main at gives unfit =
     let s = state_before t in
     let dummies = dummies-given call at all given gives in
     fault-ends call at all Shape (
-    c.shapes_decide_bindings.ensures.unfit t.program s at.turning.after.layout t.machine.arena.contents call.unit (next_activation s) (scope_of t.program s t.top.0.activation) (actuals call at all) given dummies.0 accepted (called-inside call at all.known)
-    (frameless call at all) at.turning.after.shows.keeps.memory.holds dummies.2 dummies.1 unfit)
+    c.shapes_decide_bindings.ensures.unfit t.program s at.step.turning.after.layout t.machine.arena.contents call.unit (next_activation s) (scope_of t.program s t.top.0.activation) (actuals call at all) given dummies.0 accepted (called-inside call at all.known)
+    (frameless call at all) at.step.turning.after.shows.keeps.memory.holds dummies.2 dummies.1 unfit)

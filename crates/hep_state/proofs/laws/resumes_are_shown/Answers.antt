@@ -1,11 +1,13 @@
-use Rattle.std.proofs.Common.{◌≡◌, ℕ, List, [], refl, sym, ◌∙◌, subst}
+use Rattle.std.proofs.Common.{◌≡◌, ◌<◌, ℕ, List, [], None, length, refl, sym, ◌∙◌, subst}
 use Rattle.std.proofs.lemmas.Bool.{false_from_ne_true}
 use Rattle.std.proofs.lemmas.Option.{none-some}
-use Rattle.hep_machine.specs.Words.{Value}
+use Rattle.hep_machine.specs.Words.{Value, unit_of}
 use Rattle.hep_code.specs.declared.instruction.Operation.TheVariants.{Purge, Resume}
-use Rattle.hep_state.specs.Words.{HasMadeTurn, running_top, snapshot_moved}
+use Rattle.hep_state.specs.Words.{HasMadeTurn, running_top, snapshot_moved, state_before}
 use Rattle.hep_state.proofs.Callers.{ahead-on-top}
-use Rattle.hep_state.proofs.Moved.{moved-shown}
+use Rattle.hep_state.proofs.Moved.{moved-shown, result-is, unit-is}
+use Rattle.hep_state.proofs.Subroutines.{resumes-without-result}
+use Rattle.hep_state.proofs.Taken.{inside}
 use Rattle.hep_state.proofs.Resumed.{caller-there, none-below, resumed-gap, resumed-shown}
 use Rattle.hep_state.proofs.laws.resumes_are_shown.Goals as goal
 
@@ -14,9 +16,15 @@ resumed-is-none next n k e = cc
 
 pub returns-clause-apart : goal.returns-clause-apart
 returns-clause-apart c t next l ls accepted main at some =
-    let runs = c.tops_are_running.ensures.running t accepted main at.1.turning in
-    let caller = caller-there at.1.turning l ls some in
-    resumed-shown at.1.turning next (c.resumes_are_ahead.ensures.ahead (running_top t at.1.turning) at.0 next at.1.behind runs (ahead-on-top at.1)) caller.0 caller.1 caller.2
+    let turning = at.1.turning in
+    let runs = c.tops_are_running.ensures.running t accepted main turning in
+    let caller = caller-there turning l ls some in
+    let ahead = c.resumes_are_ahead.ensures.ahead (running_top t turning) at.0 next at.1.behind runs (ahead-on-top at.1) in
+    let u = unit_of (state_before t) t.top.0.activation in
+    let within : u < length t.program = subst (λ v. v < length t.program) (sym (unit-is turning)) (inside turning) in
+    let from = c.works_come_from_statements.ensures.top t.program t.choices t.process t.top turning.lives in
+    let none = result-is turning None (resumes-without-result t.program u t.top.0.statement t.top.0.work accepted within from ahead.does_so) in
+    resumed-shown turning next ahead none caller.0 caller.1 caller.2
 
 pub returns-clause-lowest : goal.returns-clause-lowest
 returns-clause-lowest c t next accepted main at lowest =

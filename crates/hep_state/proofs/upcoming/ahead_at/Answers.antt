@@ -19,4 +19,4 @@ returns-in-Some-Step c =
     let found = c.in-Some-Step.ensures.lookup in
     let inside : index < length code = grind (arith, nat_tests, found.0) in
     let there = slice_get-get_or code index c.in-Some-Step.field-0.now inside ∙ ap (λ x. Some x) (sym found.1 ∙ c.in-Some-Step.field-0-is) in
-    in-front code index (Step c.in-Some-Step.line c.in-Some-Step.operation) (λ is. IsInFront is c.as_ahead.result) there c.as_ahead.ensures
+    in-front code index (Step c.in-Some-Step.line c.in-Some-Step.operation) (λ is. IsInFront index is c.as_ahead.result) there c.as_ahead.ensures

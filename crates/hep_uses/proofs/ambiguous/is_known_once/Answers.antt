@@ -5,6 +5,6 @@ use Rattle.hep_uses.proofs.Ways.{common-once}
 use Rattle.hep_uses.proofs.ambiguous.is_known_once.Goals as goal
 
 pub returns-in-Common : goal.returns-in-Common
-returns-in-Common c = λ h.
+returns-in-Common c = λ h functions.
     let unit = c.args.symbols.now in
-    ap (λ way. least_repeated_name (uses_of way unit)) c.in-Common.is ∙ common-once unit (sym c.are_common_once.ensures ∙ h)
+    ap (λ way. least_repeated_name (uses_of functions way unit)) c.in-Common.is ∙ common-once functions unit (sym c.are_common_once.ensures ∙ h)

@@ -188,7 +188,7 @@ module _ (expression-crosses : Crosses expression.the_row) where
         let groups = sequence-send group.the_row group-crosses.0 in
         let targets = sequence-send target.the_row target-crosses.0 in
         let items = sequence-send item.the_row item-crosses.0 in
-        enum_send (shape form.the_type) ((occurrence-part.0, tt), ((occurrence-part.0, (names-crosses.0, tt)), ((ranges, tt), ((type-part.0, (declarators, tt)), ((declarators, tt), ((blocks, tt), ((constants, tt), ((groups, tt), ((target-part.0, (expression-crosses.0, tt)), ((u32-crosses.0, tt), ((labels-crosses.0, (expression-crosses.0, tt)), ((expression-crosses.0, (signs-part.0, tt)), ((expression-crosses.0, tt), ((expression-crosses.0, tt), (tt, (tt, ((control-part.0, tt), ((occurrence-part.0, (actuals, tt)), ((occurrence-part.0, (actuals, tt)), ((targets, tt), ((items, tt), (tt, (tt, (tt, (tt, (tt, tt))))))))))))))))))))))))))
+        enum_send (shape form.the_type) ((occurrence-part.0, tt), ((occurrence-part.0, (names-crosses.0, tt)), ((search (crosses, sendable, variants_send, as_row_send, type-part.0) depth 30 fits 5000, (occurrence-part.0, (names-crosses.0, tt))), ((ranges, tt), ((type-part.0, (declarators, tt)), ((declarators, tt), ((blocks, tt), ((constants, tt), ((groups, tt), ((target-part.0, (expression-crosses.0, tt)), ((u32-crosses.0, tt), ((labels-crosses.0, (expression-crosses.0, tt)), ((expression-crosses.0, (signs-part.0, tt)), ((expression-crosses.0, tt), ((expression-crosses.0, tt), (tt, (tt, ((control-part.0, tt), ((occurrence-part.0, (actuals, tt)), ((occurrence-part.0, (actuals, tt)), ((targets, tt), ((items, tt), (tt, (tt, (tt, (tt, (tt, tt)))))))))))))))))))))))))))
 
     of-share : IsSync (form.the_field).row
     of-share =
@@ -200,7 +200,7 @@ module _ (expression-crosses : Crosses expression.the_row) where
         let groups = sequence-sync group.the_row group-crosses.1 in
         let targets = sequence-sync target.the_row target-crosses.1 in
         let items = sequence-sync item.the_row item-crosses.1 in
-        enum_sync (shape form.the_type) ((occurrence-part.1, tt), ((occurrence-part.1, (names-crosses.1, tt)), ((ranges, tt), ((type-part.1, (declarators, tt)), ((declarators, tt), ((blocks, tt), ((constants, tt), ((groups, tt), ((target-part.1, (expression-crosses.1, tt)), ((u32-crosses.1, tt), ((labels-crosses.1, (expression-crosses.1, tt)), ((expression-crosses.1, (signs-part.1, tt)), ((expression-crosses.1, tt), ((expression-crosses.1, tt), (tt, (tt, ((control-part.1, tt), ((occurrence-part.1, (actuals, tt)), ((occurrence-part.1, (actuals, tt)), ((targets, tt), ((items, tt), (tt, (tt, (tt, (tt, (tt, tt))))))))))))))))))))))))))
+        enum_sync (shape form.the_type) ((occurrence-part.1, tt), ((occurrence-part.1, (names-crosses.1, tt)), ((search (crosses, sendable, variants_sync, as_row_sync, type-part.1) depth 30 fits 5000, (occurrence-part.1, (names-crosses.1, tt))), ((ranges, tt), ((type-part.1, (declarators, tt)), ((declarators, tt), ((blocks, tt), ((constants, tt), ((groups, tt), ((target-part.1, (expression-crosses.1, tt)), ((u32-crosses.1, tt), ((labels-crosses.1, (expression-crosses.1, tt)), ((expression-crosses.1, (signs-part.1, tt)), ((expression-crosses.1, tt), ((expression-crosses.1, tt), (tt, (tt, ((control-part.1, tt), ((occurrence-part.1, (actuals, tt)), ((occurrence-part.1, (actuals, tt)), ((targets, tt), ((items, tt), (tt, (tt, (tt, (tt, (tt, tt)))))))))))))))))))))))))))
 
   statement-crosses : Crosses statement.the_row
   statement-crosses = (

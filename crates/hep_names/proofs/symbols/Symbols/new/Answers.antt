@@ -14,11 +14,11 @@ invariant_of-result c =
     let numbered : (x : Name) → get name_eq c.in_ok-dummies.dummies.map x ≡ index_among x (dummies_of unit) = λ x. c.in_ok-dummies.ensures x ∙ dummies-by-header x unit in
     let common : (x : Name) → get name_eq c.in_ok-blocks.field-0.blocks.map x ≡ common_block unit x = λ x. c.in_ok-blocks.ensures.blocks x ∙ block-by-statements x unit in
     let constant : (x : Name) → contains name_eq c.in_ok-constants.constants.set x ≡ is_constant_name unit x = λ x. c.in_ok-constants.ensures x ∙ constant-by-statements x unit in
-    let names = c.in_ok-names.ensures ∙ ap names_of c.in_ok-arrays.ensures in
+    let names = c.in_ok-names.ensures ∙ ap names_of c.in_ok-listed.ensures in
     record {
       typed = c.in_ok-types.ensures;
       lettered = c.in_ok-letters.ensures;
-      bounded = c.in_ok-arrays.ensures;
+      bounded = c.in_ok-listed.ensures;
       numbered = numbered;
       common = common;
       once = c.in_ok-blocks.ensures.once;

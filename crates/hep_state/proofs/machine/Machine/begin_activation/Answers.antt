@@ -24,26 +24,26 @@ use Rattle.hep_state.proofs.machine.Machine.begin_activation.Goals as goal
 -- ---- the caller or creator
 
 pub top-parent-requires : goal.top-parent-requires
-top-parent-requires c = some-levels-at (process-at c.args.self.now.processes.items c.args.p c.requires.making.5.making.levels.kept c.index.ensures)
+top-parent-requires c = some-levels-at (process-at c.args.self.now.processes.items c.args.p c.requires.making.6.making.levels.kept c.index.ensures)
 
 pub begin-key-requires : goal.begin-key-requires
 begin-key-requires c =
     let r = c.requires.making in
-    let t = turn_of r.5.making in
-    let e = r.5.making.holds in
+    let t = turn_of r.6.making in
+    let e = r.6.making.holds in
     let s = state_before t in
     let m = t.machine in
     let slab = c.args.self.now.frames.nodes in
     let layout = e.turning.after.layout in
     let shows = e.turning.after.shows in
-    let it = process-at c.args.self.now.processes.items c.args.p r.5.making.levels.kept c.index.ensures in
+    let it = process-at c.args.self.now.processes.items c.args.p r.6.making.levels.kept c.index.ensures in
     let same = c.top-parent.ensures t.level t.below t.operands t.pending it.stack in
     let call = call_in t c.args.called.unit e.actuals e.binding in
     let many = passed-many r.1 s layout (scope_of r.1 s t.top.0.activation) e.actuals c.deref.result.now (subst (ArePassed call layout) (sym c.deref.ensures.value) e.passed) in
     record {
       room = c.requires.node;
       few = c.requires.few;
-      many = omega (arith, many, e.passing.as_many, r.5.unit.cells_are);
+      many = omega (arith, many, e.passing.as_many, r.6.unit.cells_are);
       gap = c.requires.gap;
       there = subst (λ (l : Level). ContainsKey slab l.key) (sym same) (some-value slab t.level.key (node_under m.nodes t.level.key) (top-node e.turning));
       kept = kept-now e.turning;
@@ -52,11 +52,11 @@ begin-key-requires c =
 
 -- ---- the frame with the cells of its dummy arguments written
 
-module _ (c : After-begin-key) (way : Way) (program : Units) (cells : ℕ) (choices : List ℕ) (index : ℕ) (makes : Makes way program cells choices c.args.p c.args.self.now c.args.called index) where
+module _ (c : After-begin-key) (way : Way) (program : Units) (cells : ℕ) (choices : List ℕ) (own index : ℕ) (makes : Makes way program cells choices c.args.p c.args.self.now c.args.called own index) where
   abbrev t : TurnOf
   t = turn_of makes.making
 
-  abbrev e : IsMaking way t c.args.called.unit index c.args.self.now.passing.given.items c.args.self.now.passing.shapes.items
+  abbrev e : IsMaking way t c.args.called.unit own index c.args.self.now.passing.given.items c.args.self.now.passing.shapes.items
   e = makes.making.holds
 
   abbrev s : State
@@ -136,7 +136,7 @@ shape_all-requires c =
     let r = c.requires.making in
     let frames = c.begin-key.new.frames in
     let key = c.begin-key.result in
-    let b = begun (goal.at.shape_all-requires c).After-begin-key r.0 r.1 r.2 r.3 r.4 r.5 in
+    let b = begun (goal.at.shape_all-requires c).After-begin-key r.0 r.1 r.2 r.3 r.4 r.5 r.6 in
     record {
       few = omega (arith, c.requires.few, c.begin-key.ensures.cells);
       there = some-value frames.nodes key b.node b.there;
@@ -145,7 +145,7 @@ shape_all-requires c =
     }
 
 pub returns-clause-entered : goal.returns-clause-entered
-returns-clause-entered c way program cells choices index makes =
+returns-clause-entered c way program cells choices own index makes =
     let t = turn_of makes.making in
     let e = makes.making.holds in
     let u = c.args.called.unit in
@@ -155,10 +155,10 @@ returns-clause-entered c way program cells choices index makes =
     let h = e.turning in
     let layout = h.after.layout in
     let before = (goal.at.returns-clause-entered c).After-begin-key in
-    let b = begun before way program cells choices index makes in
-    let act = number before way program cells choices index makes in
-    let big = size before way program cells choices index makes in
-    let above = parent before way program cells choices index makes in
+    let b = begun before way program cells choices own index makes in
+    let act = number before way program cells choices own index makes in
+    let big = size before way program cells choices own index makes in
+    let above = parent before way program cells choices own index makes in
     let shaping = subst (AreShaping program later n) (sym c.deref-2.ensures.value) b.shaping in
     record {
       made = e.made;
@@ -166,8 +166,8 @@ returns-clause-entered c way program cells choices index makes =
       first = b.first;
       gap = (λ i. lowest_gap (sym h.after.size i) (sym big i) (common_cells program) layout) ∙ b.gap;
       written =
-          c.shape_all.ensures.shaped (frames_with (frames_before t h) later b.first) n b.node (unset before way program cells choices index makes) b.there b.framed shaping;
-      kept = kept before way program cells choices index makes;
+          c.shape_all.ensures.shaped (frames_with (frames_before t h) later b.first) n b.node (unset before way program cells choices own index makes) b.there b.framed shaping;
+      kept = kept before way program cells choices own index makes;
       size = c.shape_all.ensures.cells ∙ (c.begin-key.ensures.cells ∙ h.after.size);
       vacant = c.begin-key.ensures.vacant;
       nodes_are = c.shape_all.ensures.nodes ∙ (c.begin-key.ensures.nodes b.first b.fit ∙ (λ i. with_node (snapshot_of c.args.self.now).nodes c.begin-key.result (new_node (act i) u b.first (big i) (above i)) (above i)));

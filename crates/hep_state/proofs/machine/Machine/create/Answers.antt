@@ -1,4 +1,4 @@
-use Rattle.std.proofs.Common.{◌≡◌, ◌+◌, ◌-◌, ◌≤◌, List, [], ◌∷◌, ◌++◌, length, map, reverse, sym, ap, ◌∙◌, subst, arith, slice_get, slice_set, vec_capacity}
+use Rattle.std.proofs.Common.{true, ◌≡◌, ◌+◌, ◌-◌, ◌≤◌, List, [], ◌∷◌, ◌++◌, length, map, reverse, sym, ap, ◌∙◌, subst, arith, slice_get, slice_set, vec_capacity}
 use Rattle.std.proofs.lemmas.List.{length-append, length-set, map-append}
 use Rattle.hep_machine.specs.Words.{with_numbered}
 use Rattle.hep_code.specs.Words.{deepest}
@@ -15,17 +15,17 @@ use Rattle.hep_state.proofs.Unchanged.{rooms-begun}
 use Rattle.hep_state.proofs.machine.Machine.create.Goals as goal
 
 pub begin_activation-level-requires-clause-making : goal.begin_activation-level-requires-clause-making
-begin_activation-level-requires-clause-making c = let r = c.requires.creating in (Creates, r.0, r.1, r.2, c.args.index, r.3)
+begin_activation-level-requires-clause-making c = let r = c.requires.creating in (Creates, r.0, r.1, r.2, r.3, c.args.index, r.4)
 
 pub index_mut-requires : goal.index_mut-requires
 index_mut-requires c =
     let same = ap (λ (m : Machine). m.processes.items) c.begin_activation-level.ensures.others in
-    omega (arith, (inside-at c.args.self.now.processes.items c.args.p _ c.requires.creating.3.making.levels.kept).1, ap length same)
+    omega (arith, (inside-at c.args.self.now.processes.items c.args.p _ c.requires.creating.4.making.levels.kept).1, ap length same)
 
 pub go_on-requires : goal.go_on-requires
 go_on-requires c =
     let same = ap (λ (m : Machine). m.processes.items) c.begin_activation-level.ensures.others in
-    some-levels-at (process-still c.args.self.now.processes.items c.begin_activation-level.new.self.processes.items c.args.p same c.requires.creating.3.making.levels.kept c.index_mut.ensures.value)
+    some-levels-at (process-still c.args.self.now.processes.items c.begin_activation-level.new.self.processes.items c.args.p same c.requires.creating.4.making.levels.kept c.index_mut.ensures.value)
 
 pub returns : goal.returns
 returns c =
@@ -44,7 +44,7 @@ returns c =
     let same = ap (λ (n : Machine). n.processes.items) begun.others in
     let alone : made.levels.items ≡ level ∷ [] = c.append.ensures ∙ ap (λ (ls : List Level). ls ++ level ∷ []) c.requires.empty.0 in
     record {
-      stepped = λ program cells choices makes.
+      stepped = λ program cells choices kept makes.
           let t = turn_of makes.making in
           let e = makes.making.holds in
           let it = process-still old.processes.items new.processes.items p same makes.making.levels.kept c.index_mut.ensures.value in
@@ -53,11 +53,11 @@ returns c =
           let entered : level ≡ entered_level program u level.key = begun.level ∙ (λ i. record { key = level.key; unit = u; kept = 0; index = makes.unit.entry_is i }) in
           let fresh : stack_of made ≡ record { levels = entered_level program u level.key ∷ []; operands = []; pending = [] } = λ i. record { levels = (ap reverse alone ∙ ap (λ l. l ∷ []) entered) i; operands = c.requires.empty.1 i; pending = c.requires.empty.2 i } in
           let stacks = ap (map stack_of) c.append-2.ensures ∙ (map-append stack_of (slice_set new.processes.items (p - 1) r) (made ∷ []) ∙ (λ i. own i ++ fresh i ∷ [])) in
-          let shown = ap (λ (n : Machine). snapshot_of (record n { processes = c.append-2.new.items })) begun.others ∙ (λ i. record (snapshot_made_by Creates t u level.key c.args.index arena nodes) { processes = stacks i }) in
+          let shown = ap (λ (n : Machine). snapshot_of (record n { processes = c.append-2.new.items })) begun.others ∙ (λ i. record (snapshot_made_by true t u level.key kept c.args.index arena nodes) { processes = stacks i }) in
           subst (HasMadeTurn t) (sym shown) (
-          made-shown e.turning u e.actuals e.binding Creates level.key c.args.index arena nodes (begun.entered Creates program cells choices c.args.index makes) e.after);
+          made-shown e.turning u e.actuals e.binding Creates level.key kept c.args.index arena nodes (begun.entered Creates program cells choices kept c.args.index makes) e.after);
       rooms = λ program cells h deep.
-          let e = c.requires.creating.3.making.levels in
+          let e = c.requires.creating.4.making.levels in
           let it = process-still old.processes.items new.processes.items p same e.kept c.index_mut.ensures.value in
           let had = rooms-begun program cells old new begun.others h in
           let others = all-set (HasRoom program) new.processes.items (p - 1) r had.room (room-moved program q r e.level c.args.index e.below e.operands [] e.pending it.stack (c.go_on.ensures.stack e.level e.below e.operands e.pending it.stack) (omega (arith, c.go_on.ensures.operands)) (had.room (p - 1) q it.there)) in

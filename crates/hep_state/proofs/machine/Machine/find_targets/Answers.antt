@@ -15,7 +15,7 @@ use Rattle.hep_state.proofs.machine.Machine.find_targets.Goals as goal
 -- ---- what is named
 
 -- by what was read
-read : (c : After-deref) → IsRead c.args.image.now c.args.self.now c.args.p c.index-process.result.now c.behind.result.0.now c.behind.result.1.now c.behind.result.2 c.deref.result.now
+read : (c : After-deref) → IsRead c.args.image.now c.args.self.now c.args.p c.index-process.result.now c.behind.result.0.now c.behind.result.1.now c.behind.result.2 0 c.deref.result.now
 read c = record { process = c.index-process.ensures; behind = c.behind.ensures; operands = c.deref.ensures.value }
 
 pub behind-requires : goal.behind-requires

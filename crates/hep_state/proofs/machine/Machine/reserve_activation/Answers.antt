@@ -1,4 +1,4 @@
-use Rattle.std.proofs.Common.{◌-◌, ◌<◌, ◌≤◌, refl, subst, vec_len, vec_capacity}
+use Rattle.std.proofs.Common.{◌+◌, ◌-◌, ◌<◌, ◌≤◌, refl, subst, vec_len, vec_capacity}
 use Rattle.std.proofs.lemmas.Result.{on_ok_weaker}
 use Rattle.hep_state.specs.declared.machine.Process.{Process}
 use Rattle.hep_state.specs.Words.{snapshot_of}
@@ -13,6 +13,10 @@ returns-clause-level c =
 pub returns-clause-operands : goal.returns-clause-operands
 returns-clause-operands c =
     on_ok_weaker c.reserve-3.result (λ room q e. subst (λ (z : Process). c.args.operands ≤ vec_capacity z.operands) (set-there c.args.self.now.processes.items (c.args.p - 1) c.reserve-3.new.self q e) room) c.reserve-3.ensures.operands
+
+pub returns-clause-pending : goal.returns-clause-pending
+returns-clause-pending c =
+    on_ok_weaker c.reserve-3.result (λ room q e. subst (λ (z : Process). vec_len z.pending + c.args.kept ≤ vec_capacity z.pending) (set-there c.args.self.now.processes.items (c.args.p - 1) c.reserve-3.new.self q e) room) c.reserve-3.ensures.pending
 
 pub returns-clause-shown : goal.returns-clause-shown
 returns-clause-shown c =

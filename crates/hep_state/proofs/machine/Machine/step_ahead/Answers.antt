@@ -5,7 +5,7 @@ use Rattle.hep_machine.specs.State.{Level as SourceLevel, Process as SourceProce
 use Rattle.hep_code.specs.declared.instruction.Instruction.{Instruction}
 use Rattle.hep_code.specs.declared.instruction.Instruction.TheVariants.{Step}
 use Rattle.hep_code.specs.declared.instruction.Operation.{Operation}
-use Rattle.hep_code.specs.declared.instruction.Operation.TheVariants.{Call, Create, Purge, Resume}
+use Rattle.hep_code.specs.declared.instruction.Operation.TheVariants.{Call, Create, Refer, Purge, Resume}
 use Rattle.hep_code.specs.Words.{IsPastPushes, values_ahead, deepest}
 use Rattle.hep_step.specs.Simulation.{IsNotLeftOut, is_left_out, unit_code}
 use Rattle.hep_state.specs.declared.machine.Level.{Level}
@@ -16,7 +16,7 @@ use Rattle.hep_state.specs.Words.{HasLevels, HasNone, IsAhead, IsInFront, IsMach
 use Rattle.hep_state.proofs.Processes.{process-at, room-moved, stacks-set, last-there, some-levels, some-levels-at}
 use Rattle.hep_state.proofs.Tops.{settled, turning}
 use Rattle.hep_state.proofs.Taken.{inside, room-ahead}
-use Rattle.hep_state.proofs.Unchanged.{machine-of, rooms-of, rooms-set}
+use Rattle.hep_state.proofs.Unchanged.{carry, machine-of, rooms-of, rooms-set}
 use Rattle.hep_state.proofs.machine.Machine.step_ahead.Goals as goal
 use Rattle.hep_entering.proofs.Calls.{set-numbered}
 
@@ -26,6 +26,7 @@ none-left-out code index none line o behind ahead = by_operation o (subst HasNon
   by_operation : (o : Operation) → HasNone (Step line o ∷ behind) → is_left_out o ≡ false
   by_operation (Call u count next) h = absurd h
   by_operation (Create u count next) h = absurd h
+  by_operation (Refer u count) h = absurd h
   by_operation (Purge count next) h = absurd h
   by_operation (Resume next) h = absurd h
   by_operation _ h = refl
@@ -67,10 +68,10 @@ top-requires c =
 found-ahead : (program : Units) (old : Machine) {m : Snapshot} {p : ℕ} (levels : HasLevels m p)
     → ((cells : ℕ) (choices : List ℕ) → IsMachineAfter program cells choices old → (top : SourceLevel × SourceProcess) × IsTurning (turn_with program cells choices levels top))
     → IsPastPushes (unit_code program levels.level.unit) levels.level.index
-    → (ahead : StepAhead) → IsInFront (drop levels.level.index (unit_code program levels.level.unit)) ahead → IsAhead program p old m ahead
+    → (ahead : StepAhead) → IsInFront levels.level.index (drop levels.level.index (unit_code program levels.level.unit)) ahead → IsAhead program p old m ahead
 found-ahead program old levels turns past (ahead.Call call) found = λ cells choices after.
     let turn = turns cells choices after in
-    record { levels = levels; top = turn.0; holds = record { turning = turn.1; behind = found.0; ahead = found.1 } }
+    record { levels = levels; top = turn.0; holds = record { step = record { turning = turn.1; behind = found.0; ahead = found.1 }; onward = found.2 } }
 found-ahead program old levels turns past (ahead.Purge purge) found = λ cells choices after.
     let turn = turns cells choices after in
     record { levels = levels; top = turn.0; holds = record { turning = turn.1; behind = found.0; ahead = found.1 } }
@@ -110,7 +111,7 @@ returns c =
           (λ cells choices after.
           let turn = turning p after.after e c.requires.running in
           (turn.0, settled turn.1 s.1 s.0 s.3.stands))
-          s.3.past c.ahead_at.result (subst (λ is. IsInFront is c.ahead_at.result) here c.ahead_at.ensures));
+          s.3.past c.ahead_at.result (carry (λ i. IsInFront (top i).index (here i) c.ahead_at.result) c.ahead_at.ensures));
       after = λ cells choices h.
           let turn = turning p h.after e c.requires.running in
           machine-of program cells choices _ (subst (IsAfter program cells choices) (sym shown) (settled turn.1 s.1 s.0 s.3.stands).after) (

@@ -19,7 +19,8 @@ returns-in_err-effect-clause-refused c =
 pub end_turn-requires-clause-left : goal.end_turn-requires-clause-left
 end_turn-requires-clause-left c =
     let h = c.requires.after in
-    (c.args.image.now, h.0, h.1, c.in_ok-effect.ensures.left h.0 h.1 (reserved (goal.at.end_turn-requires-clause-left c).After-reserve h.0 h.1 h.2))
+    let had = reserved (goal.at.end_turn-requires-clause-left c).After-reserve h.0 h.1 h.2 in
+    (c.args.image.now, h.0, h.1, c.in_ok-effect.ensures.left h.0 h.1 had, c.advance.ensures.rooms h.0 (rooms-of c.args.image.now h.0 h.1 c.reserve.new.self had))
 
 pub returns-in-Some-clause-turned : goal.returns-in-Some-clause-turned
 returns-in-Some-clause-turned c cells choices h =

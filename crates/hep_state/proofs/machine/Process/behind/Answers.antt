@@ -1,4 +1,5 @@
-use Rattle.std.proofs.Common.{◌+◌, ◌-◌, ◌<◌, drop, length, ap, ◌∙◌, arith, length-drop, take_all}
+use Rattle.std.proofs.Common.{◌+◌, ◌-◌, ◌<◌, ◌≤◌, drop, length, ap, subst, ◌∙◌, arith, length-drop, take_all}
+use Rattle.hep_code.specs.Words.{deepest, most_operands}
 use Rattle.hep_state.proofs.machine.Process.behind.Goals.{After-as_slice}
 use Rattle.hep_state.proofs.machine.Process.behind.Goals as goal
 
@@ -34,4 +35,5 @@ returns c l ls operands pending is =
       behind = rest ∙ (λ i. drop (at.at i + 1) ((c.as_slice.ensures ∙ at.code.code) i));
       arrays_are = c.as_slice-2.ensures ∙ at.code.arrays;
       framed = at.framed;
+      few = subst (λ xs. deepest xs ≤ most_operands) at.code.code (omega (arith, at.code.operands, at.code.few_operands));
     }

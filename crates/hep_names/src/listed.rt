@@ -1,0 +1,161 @@
+//! What names with lists are in a unit: its arrays, and the functions that it refers to (X3.9-1978, 5.1 and 15.5).
+ghost use Rattle.std.specs.Prelude.{◌≡◌, ◌&&◌, IfOk, OnOk};
+ghost use Rattle.indexmap.specs.IndexSet.{contains};
+ghost use Rattle.hep_source.specs.declared.name.Name.{Name as PureName};
+ghost use Rattle.hep_source.specs.Units as units;
+ghost use Rattle.hep_machine.specs.Declarations as declarations;
+ghost use Rattle.hep_machine.specs.Functions as functions;
+ghost use Rattle.hep_machine.specs.Words.{is_among, is_referenced, name_eq, names_listed_by};
+ghost use Rattle.hep_names.specs.Meanings.{meaning};
+ghost use Rattle.hep_names.specs.Tables as tables;
+
+use crate::arrays::Arrays;
+use crate::functions::{Meaning, function_named};
+use crate::lists::names_with_lists;
+use crate::table::{NameSet, add};
+use hep_source::{Dimension, Form, Name, Statement};
+use indexmap::IndexSet;
+use std::alloc::{AllocError, Global};
+use std::marker::Model;
+
+/// The arrays of a unit and the functions that it refers to, by look-ups of constant time. Contracts see the
+/// statements of the unit.
+pub(crate) struct Listed<'a> {
+    arrays: Arrays<'a>,
+    referenced: NameSet,
+}
+
+impl<'a> Drop for Listed<'a> {
+    fn drop(self) {
+        let Listed { arrays, referenced } = self;
+    }
+}
+
+impl<'a> Model for Listed<'a> {
+    ghost use Rattle.std.specs.Prelude.{◌≡◌, List};
+    ghost use Rattle.std.specs.Coded.{codes};
+    ghost use Rattle.indexmap.specs.IndexSet.{contains};
+    ghost use Rattle.hep_source.specs.declared.statement.Statement.{Statement as PureStatement};
+    ghost use Rattle.hep_source.specs.declared.name.Name.{Name as PureName};
+    ghost use Rattle.hep_source.specs.contracts.expression.Expr as expression;
+    ghost use Rattle.hep_source.specs.Names.{name_eq};
+    ghost use Rattle.hep_machine.specs.Listed.{is_referenced};
+
+    ghost Value = { List PureStatement };
+
+    ghost coded = { Prim.hlevel (codes, expression.the_row.coded) };
+
+    ghost view = { λ a. a.arrays };
+
+    ghost invariant = { λ a. (x : PureName) → contains name_eq a.referenced.set x ≡ is_referenced a.arrays x };
+}
+
+// The name by which a unit is referred to, where it is a function.
+pub(crate) fn function_name(unit: &[Statement]) -> Option<Name>
+    ensures { result ≡ units.function_name unit.now }
+{
+    match unit.first() {
+        Some(
+            Statement {
+                form: Form::Function(_, occurrence, _),
+                ..
+            },
+        ) => Some(occurrence.name),
+        _ => None,
+    }
+}
+
+fn listed_meaning(arrays: &Arrays, name: &Name) -> Meaning
+    ensures { meaning result ≡ functions.listed_meaning arrays.now name.now }
+{
+    if arrays.is_array(name) {
+        Meaning::Element
+    } else {
+        function_named(name)
+    }
+}
+
+// The name is that of the function itself, and so stands for its result.
+fn is_own_name(unit: &[Statement], name: &Name) -> bool
+    ensures { result ≡ units.is_named (units.function_name unit.now) name.now }
+{
+    match function_name(unit) {
+        Some(own) => own == *name,
+        None => false,
+    }
+}
+
+// A name with a list refers to a function of the program, if there is one.
+fn may_refer(arrays: &Arrays, name: &Name) -> bool
+    ensures { result ≡ tables.may_refer arrays.now name.now }
+{
+    match listed_meaning(arrays, name) {
+        Meaning::External => !is_own_name(arrays.statements(), name),
+        _ => false,
+    }
+}
+
+fn add_referenced(
+    alloc: Global,
+    arrays: &Arrays,
+    names: &mut IndexSet<Name>,
+    statement: &Statement,
+) -> Result<(), AllocError>
+    ensures { OnOk result ((x : PureName) → contains name_eq names.new x
+        ≡ tables.either (contains name_eq names.old x) (tables.may_refer arrays.now x && is_among x (names_listed_by statement.now))) }
+{
+    for name in &names_with_lists(alloc, statement)? {
+        if may_refer(arrays, &name.occurrence.name) {
+            add(names, name.occurrence.name)?;
+        }
+    }
+    Ok(())
+}
+
+fn referenced_names(alloc: Global, arrays: &Arrays) -> Result<NameSet, AllocError>
+    ensures { IfOk result (λ names. (x : PureName) → contains name_eq names.set x ≡ is_referenced arrays.now x) }
+{
+    let mut names = IndexSet::new(alloc);
+    for statement in arrays.statements() {
+        add_referenced(alloc, arrays, &mut names, statement)?;
+    }
+    Ok(NameSet { set: names })
+}
+
+impl<'a> Listed<'a> {
+    pub(crate) fn new(alloc: Global, statements: &'a [Statement]) -> Result<Listed<'a>, AllocError>
+        ensures { IfOk result (λ listed. listed ≡ statements.now) }
+    {
+        let arrays = Arrays::new(alloc, statements)?;
+        let referenced = referenced_names(alloc, &arrays)?;
+        Ok(Listed { arrays, referenced })
+    }
+
+    // The statements of the unit.
+    pub(crate) fn statements(&self) -> &'a [Statement]
+        ensures { result.now ≡ self.now }
+    {
+        self.arrays.statements()
+    }
+
+    // The dimensions of a name, the first one first; a scalar has none.
+    pub(crate) fn dimensions(&self, name: &Name) -> &'a [Dimension]
+        ensures { result.now ≡ declarations.dimensions_of self.now name.now }
+    {
+        self.arrays.dimensions(name)
+    }
+
+    // The name is an array's.
+    pub(crate) fn is_array(&self, name: &Name) -> bool
+        ensures { result ≡ declarations.is_array self.now name.now }
+    {
+        self.arrays.is_array(name)
+    }
+
+    // The unit refers to a function of the program by the name, if there is one.
+    pub(crate) fn is_referenced(&self, name: &Name) -> bool
+        ensures { result ≡ is_referenced self.now name.now }
+    {
+        self.referenced.set.contains(name)
+    }
+}
