@@ -2,7 +2,7 @@
 use Rattle.std.proofs.Common.{◌≡◌, ℕ, zero, suc, ◌<◌, ◌||◌, Bool, true, false, List, [], ◌∷◌, ◌++◌, ◌⊎◌, length, get_or, refl, sym, ap, ◌∙◌, inl, inr, arith, nat_eq}
 use Rattle.std.proofs.lemmas.Bool.{cases_lt, cases_eq, lt-ltb, le-ltb, ne_eqb, eq-eqb}
 use Rattle.hep_machine.specs.Words.{is_number_among}
-use Rattle.hep_ready.specs.Numbers.{with_number}
+use Rattle.hep_blocked.specs.Numbers.{with_number}
 use Rattle.hep_blocked.specs.Waiting.{with_numbers}
 use Rattle.hep_source.proofs.Tests.{or-true, or-turned}
 

@@ -5,3 +5,16 @@ pub mod Numbering
 pub mod Removing
 pub mod Above
 mod Worked
+pub mod Bits
+pub mod Listed
+mod WorkedNumbers
+pub mod Waiting
+pub mod Staying
+pub mod Touching
+pub mod Holding
+pub mod Placing
+pub mod Awaiting
+pub mod Members
+pub mod Living
+pub mod Waking
+pub mod Keeping

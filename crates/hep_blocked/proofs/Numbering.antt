@@ -5,7 +5,7 @@ use Rattle.std.proofs.lemmas.Bool.{cases_Bool, eqb-true}
 use Rattle.std.proofs.lemmas.List.{length-map}
 use Rattle.std.proofs.lemmas.Map.Views.{any-filter_same}
 use Rattle.hep_machine.specs.Words.{is_number_among, without}
-use Rattle.hep_ready.specs.Numbers.{Numbers, with_number}
+use Rattle.hep_blocked.specs.Numbers.{Numbers, with_number}
 use Rattle.hep_blocked.specs.declared.want.Want.{Want}
 use Rattle.hep_blocked.specs.Lists.{AreNumbers, IsTied, without_numbers}
 use Rattle.hep_blocked.specs.Waiting.{awake, waiting_at, want_eq, wants, with_want}

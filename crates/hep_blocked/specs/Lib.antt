@@ -1,2 +1,6 @@
 pub mod Waiting
 pub mod Lists
+pub mod Numbers
+pub mod Needs
+pub mod Awaiting
+pub mod Listing

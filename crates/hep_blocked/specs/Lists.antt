@@ -3,7 +3,7 @@ use Rattle.std.specs.Prelude.{◌≡◌, ℕ, ◌-◌, ◌≤◌, false, if◌th
 use Rattle.std.specs.Global.{Vec}
 use Rattle.indexmap.specs.IndexMap.{IndexMap, get}
 use Rattle.hep_machine.specs.Words.{is_number_among, without}
-use Rattle.hep_ready.specs.Numbers.{Numbers}
+use Rattle.hep_blocked.specs.Numbers.{Numbers}
 use Rattle.hep_blocked.specs.declared.want.Want.{Want}
 use Rattle.hep_blocked.specs.Waiting.{waiting_at, waits_for, want_eq}
 

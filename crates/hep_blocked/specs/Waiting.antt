@@ -1,7 +1,7 @@
 -- What processes wait for: docs/MACHINE.md, "Steps", and "Which process comes next".
 use Rattle.std.specs.Prelude.{ℕ, zero, suc, ◌-◌, ◌&&◌, Bool, false, if◌then◌else◌, nat_eq, nat_lt, List, [], ◌∷◌, ◌++◌, length, replicate, slice_index_or, slice_set, Option, Some, None, is_some}
 use mathlib.Core.Bool.{beq}
-use Rattle.hep_ready.specs.Numbers.{with_number}
+use Rattle.hep_blocked.specs.Numbers.{with_number}
 use Rattle.hep_blocked.specs.declared.want.Want.{Want}
 
 -- the same test as `==` makes it, by which the lists are looked up

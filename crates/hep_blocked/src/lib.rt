@@ -1,11 +1,16 @@
-//! Which processes wait, and for what: a cell of the arena that is to be full or to be empty.
+//! Which processes wait and which are ready: a process waits for a cell of the arena to be full or to be empty.
 //!
-//! A step that fills or empties a cell wakes those that wait for that and looks at no others.
+//! A step that fills or empties a cell wakes those that wait for that and looks at no others. That the lists are those of the source
+//! machine, whatever turns are taken, is said by the contracts of [`laws`], and what a process needs to go on by those of [`need_laws`].
 #![tactic(auto)]
 
+pub mod laws;
 mod lists;
+pub mod need_laws;
+mod ready;
 mod waits;
 mod want;
 
+pub use ready::Ready;
 pub use waits::Waits;
 pub use want::Want;

@@ -6,8 +6,8 @@ ghost use Rattle.hep_blocked.specs.declared.want.Want.{Want as PureWant};
 ghost use Rattle.hep_blocked.specs.Lists.{cleared, items_of, list_of, with_process, without_list, without_numbers, without_process};
 ghost use Rattle.hep_blocked.specs.Waiting.{want_eq, with_numbers};
 
+use crate::Ready;
 use crate::want::Want;
-use hep_ready::Ready;
 use indexmap::IndexMap;
 use std::alloc::{AllocError, Global};
 

@@ -5,9 +5,9 @@ ghost use Rattle.hep_machine.specs.Words.{is_number_among};
 ghost use Rattle.hep_blocked.specs.Waiting.{awake, next_waiting, numbers_waiting, waiting_at, waits_for};
 ghost use Rattle.hep_blocked.specs.Waiting.{with_numbers, with_want, without_want};
 
+use crate::Ready;
 use crate::lists::{Lists, add, grow, take, take_out, wake_each};
 use crate::want::Want;
-use hep_ready::Ready;
 use indexmap::IndexMap;
 use std::alloc::{AllocError, Global};
 use std::marker::Model;

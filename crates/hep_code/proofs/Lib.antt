@@ -8,3 +8,7 @@ pub mod Leads
 pub mod Stacks
 pub mod Replies
 pub mod Depths
+pub mod Coded
+pub mod Dimensions
+pub mod Sources
+mod WorkedBounds

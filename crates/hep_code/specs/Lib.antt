@@ -14,3 +14,7 @@ pub mod Stacks
 pub mod Limits
 pub mod Depths
 pub mod Words
+pub mod BoundCode
+pub mod DimensionCode
+pub mod Sources
+pub mod Places

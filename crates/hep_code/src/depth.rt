@@ -18,8 +18,8 @@ pub struct Depth {
     pub too_deep: Option<u32>,
 }
 
-// The operands of an argument or an item.
-fn operands_of_entry(instruction: &Instruction) -> usize
+/// The operands of an entry, which stands behind its operation: of an argument, or of an item of PRINT.
+pub fn operands_of_entry(instruction: &Instruction) -> usize
     ensures number { result ≡ spec.operands_of_entry instruction.now }
     ensures bound { result ≤ 4294967295 }
 {

@@ -5,7 +5,7 @@ use Rattle.std.proofs.lemmas.Option.{none-some}
 use Rattle.hep_machine.specs.Words.{DataGroup, Target, Name, Statement, Value, is_among, Units, main_unit, unit_at, unset_cell, cells_of, constant_value, Stretch, data_groups, elements_named, item_at, common_cells, storage_of, StorageUnits, cell_given, index_of_location, index_within, opening, storage_units_named, storage_units_of, with_group, with_groups, Cell, Location, Store, distance, further, locals_of}
 use Rattle.hep_code.specs.declared.variable.Variable.{Variable}
 use Rattle.hep_layout.specs.Words.{address, first_of_part, variable}
-use Rattle.hep_conditions_laws.proofs.Members.{Has, has_more}
+use Rattle.hep_accepted_laws.proofs.Members.{Has, has_more}
 use Rattle.hep_image.specs.declared.array.Array.{Array}
 use Rattle.hep_image.specs.declared.data.DataRow.{DataRow}
 use Rattle.hep_image.specs.Data.{AreInitial, AreOfUnits, first_frames, value_in_rows}

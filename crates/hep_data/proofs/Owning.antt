@@ -5,7 +5,7 @@ use Rattle.std.specs.Option.{unwrap_or}
 use Rattle.std.proofs.lemmas.Option.{none-some}
 use Rattle.hep_machine.specs.Words.{DataGroup, Target, Name, Form, Statement, index_among, is_among, groups_in, is_array, is_nonempty, array_occurrence, is_local, locals_of, names_of, occurrences_in, occurrences_in_data_value, occurrences_in_form, occurrences_in_group, occurrences_in_statement, occurrences_in_target}
 use Rattle.hep_source.specs.declared.statement.Form.TheVariants as form
-use Rattle.hep_conditions_laws.proofs.Members.{Has, has_behind, has_filter, has_flat, has_front, has_among, name_of_unit}
+use Rattle.hep_accepted_laws.proofs.Members.{Has, has_behind, has_filter, has_flat, has_front, has_among, name_of_unit}
 use Rattle.hep_image.proofs.Members.{indexed}
 
 -- a name stands at its index

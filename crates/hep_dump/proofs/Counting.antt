@@ -4,7 +4,7 @@ use Rattle.std.specs.Option.{option_or}
 use Rattle.hep_machine.specs.declared.event.Entry.{Entry}
 use Rattle.hep_machine.specs.Words.{Units}
 use Rattle.hep_image.specs.Names.{names_in_order}
-use Rattle.hep_waiting.specs.declared.listed.Listed.{Listed}
+use Rattle.hep_views.specs.declared.listed.Listed.{Listed}
 use Rattle.hep_scheduler.proofs.Histories.{number-listed}
 use Rattle.hep_scheduler.specs.Value.{first_listed, listed_after}
 use Rattle.hep_dump.specs.Waiting as words

@@ -11,7 +11,7 @@ use Rattle.hep_code.specs.Words.{tree_code, operands_code, operation_code, form_
 use Rattle.hep_emit.specs.declared.names.Names.{Names}
 use Rattle.hep_emit.specs.declared.tables.Starts.{Starts}
 use Rattle.hep_emit.specs.declared.tables.Tables.{Tables}
-use Rattle.hep_variables.specs.Places.{variable_in, cells_in}
+use Rattle.hep_code.specs.Places.{variable_in, cells_in}
 use Rattle.hep_emit.specs.Starts.{starts_from, end_from}
 use Rattle.hep_emit.specs.Tables.{names_in, greatest, number_called, number_referred, start_in, index_in, table_in, addressed_in}
 

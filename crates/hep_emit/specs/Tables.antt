@@ -4,10 +4,10 @@ use Rattle.std.specs.Option.{option_map, unwrap_or}
 use Rattle.hep_machine.specs.Words.{Name, Statement, Units, line_at, value_among, terminal_of, listed_meaning, unit_called, function_name, function_unit}
 use Rattle.hep_code.specs.Words.{NameTable, Table, Target, at, end_of, onward, outward, inward, aside, labelled, AddressedUnit}
 use Rattle.hep_emit.specs.declared.names.Names.{Names}
-use Rattle.hep_variables.specs.declared.places.Placement.{Placement}
+use Rattle.hep_code.specs.declared.places.Placement.{Placement}
 use Rattle.hep_emit.specs.declared.tables.Starts.{Starts}
 use Rattle.hep_emit.specs.declared.tables.Tables.{Tables}
-use Rattle.hep_variables.specs.Places.{variable_in, cells_in}
+use Rattle.hep_code.specs.Places.{variable_in, cells_in}
 
 -- ---- numbers of 32 bits
 

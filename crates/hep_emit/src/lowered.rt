@@ -7,12 +7,11 @@ ghost use Rattle.hep_emit.specs.Tables.{greatest, addressed_by};
 use crate::fault::EmitFault;
 use crate::names::Names;
 use crate::unit::{EmittedUnit, emit_unit};
-use hep_code::{Depth, Instruction, depth_of};
+use hep_code::{Depth, Instruction, Placement, depth_of};
 use hep_control::control::Control;
 use hep_control::labels::Labels;
 use hep_names::{ProgramSymbols, Symbols};
 use hep_values::given::constants;
-use hep_variables::Placement;
 use std::alloc::Global;
 
 /// The code of a unit, the index at which an activation of it begins, and its deepest stack of operands.

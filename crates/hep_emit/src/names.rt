@@ -4,11 +4,10 @@ ghost use Rattle.hep_names.specs.Meanings.{meaning};
 ghost use Rattle.hep_emit.specs.Tables as spec;
 ghost use Rattle.hep_emit.specs.Tables.{names_in};
 
-use hep_code::Variable;
+use hep_code::{Placement, Variable};
 use hep_names::{Meaning, ProgramSymbols, Symbols};
 use hep_source::{Name, Value};
 use hep_values::Constants;
-use hep_variables::Placement;
 
 /// The tables of a unit by which its names are looked up.
 #[derive(Clone, Copy)]

@@ -12,8 +12,8 @@ use Rattle.hep_code.specs.declared.instruction.Operation.TheVariants.{Call, Crea
 use Rattle.hep_code.specs.Words.{Stands, code_of, deepest}
 use Rattle.hep_image.specs.declared.array.Array.{Array}
 use Rattle.hep_image.specs.Image.{most_cells}
-use Rattle.hep_layout_laws.specs.Within.{ArePlacedArrays}
-use Rattle.hep_entering.proofs.Calls.{set-numbered}
+use Rattle.hep_image.specs.Arrays.{ArePlacedArrays}
+use Rattle.hep_binding.proofs.Calls.{set-numbered}
 use Rattle.hep_step.specs.Effects.{effect_ahead, moves}
 use Rattle.hep_step.specs.Performed as step
 use Rattle.hep_step.specs.Ready.{frame_in_arena}

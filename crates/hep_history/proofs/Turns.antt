@@ -18,7 +18,7 @@ use Rattle.hep_scheduler.specs.Going as going
 use Rattle.hep_scheduler.proofs.Going.{choices-began}
 use Rattle.hep_history.specs.Progress.{AreMade, again, begun, EntryMade, HasTurn, IsCutShort, IsStanding, RunMade, SomeMade, SomeStepsMade, StepsMade, TurnMade, longer, turn_entry}
 use Rattle.hep_history.specs.Replays.{HaveGaps, most_entries, standing, ArePossible, IsPossible, IsThere, replayed, single_entries, single_steps}
-use Rattle.hep_blocked_laws.proofs.Living.{waits-idle}
+use Rattle.hep_blocked.proofs.Living.{waits-idle}
 use Rattle.hep_machine.proofs.Replays.{run_after}
 use Rattle.std.proofs.lemmas.Bool.{cases_lt}
 use Rattle.hep_history.specs.declared.fault.ReplayFault.{ReplayFault}

@@ -7,3 +7,11 @@ pub mod FrameOwners
 pub mod BlockOwners
 pub mod Members
 pub mod Numbers
+pub mod Named
+pub mod Found
+pub mod Counted
+pub mod Variables
+pub mod Within
+pub mod ArrayExtents
+pub mod Activations
+pub mod Added

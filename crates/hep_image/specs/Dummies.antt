@@ -2,7 +2,7 @@
 use Rattle.std.specs.Prelude.{ℕ, nat_eq, if◌then◌else◌, List, map, Option, Some, None}
 use Rattle.std.specs.Option.{unwrap_or}
 use Rattle.hep_machine.specs.Words.{Name, Statement, Units, dummies_of, constant_shape, adjustable_dimensions, BlockName, common_block, is_array, no_shape}
-use Rattle.hep_bounds.specs.Sources.{adjustable_code}
+use Rattle.hep_code.specs.Sources.{adjustable_code}
 use Rattle.hep_layout.specs.Words.{first_in_common}
 use Rattle.hep_image.specs.declared.dummy.DummyArgument.{DummyArgument}
 use Rattle.hep_image.specs.declared.dummy.DummyArgument.TheVariants.{Scalar, Array, Adjustable}

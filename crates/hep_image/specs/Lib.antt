@@ -7,3 +7,6 @@ pub mod Data
 pub mod Names
 pub mod Owners
 pub mod Image
+pub mod Constant
+pub mod Arrays
+pub mod Bound

@@ -1,7 +1,7 @@
 //! Dummy arguments without their names.
 
 use hep_base::Sequence;
-use hep_bounds::BoundOperation;
+use hep_code::BoundOperation;
 use hep_shape::Shape;
 use hep_source::Syntax;
 use std::alloc::{AllocError, Global};

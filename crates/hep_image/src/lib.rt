@@ -1,12 +1,14 @@
 //! Images: a checked program as a core runs it, with its tree, the code of its units, and where their variables are.
 //!
 //! Where variables are stands in `specs/Places`, how their storage units are found from the cells of the arena in
-//! `specs/Finding`, whose a cell is in `specs/Owners`, and which number a name has in `specs/Names`.
+//! `specs/Finding`, whose a cell is in `specs/Owners`, and which number a name has in `specs/Names`. That what is found is where the
+//! source machine has it is said by the contracts of [`frame_laws`].
 #![tactic(auto)]
 
 pub mod array;
 pub mod data;
 pub mod dummy;
+pub mod frame_laws;
 pub mod image;
 pub mod laws;
 pub mod names;

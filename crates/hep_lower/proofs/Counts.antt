@@ -7,7 +7,7 @@ use Rattle.hep_machine.specs.Words.{Units, Statement}
 use Rattle.hep_code.specs.Words.{line_too_deep, statement_code, statements_code, Table, addressed_unit, AddressedUnit, code_of, table_of}
 use Rattle.hep_image.specs.declared.unit.UnitCode.{UnitCode}
 use Rattle.hep_image.specs.Image.{IsUnitCode}
-use Rattle.hep_image_laws.specs.Placed.{code_in}
+use Rattle.hep_accepted_laws.specs.Placed.{code_in}
 use Rattle.hep_lower.specs.declared.units.LoweredUnit.TheVariants.{Runnable}
 use Rattle.hep_lower.specs.declared.units.LoweredUnits.{LoweredUnits}
 use Rattle.hep_lower.specs.Refusals.{IsFirstDeep, instructions_in}

@@ -11,9 +11,9 @@ use Rattle.hep_image.specs.Places.{addresses_of, loop_cells, variable_of}
 use Rattle.hep_data.specs.Frame.{IsMainFrame}
 use Rattle.hep_places.specs.declared.unit.UnitPlaces.{UnitPlaces}
 use Rattle.hep_places.specs.Unit.{ArePlaces}
-use Rattle.hep_variables.specs.declared.places.Placement.{Placement}
-use Rattle.hep_variables.specs.Places.{cells_in, variable_in}
-use Rattle.hep_image_laws.specs.Placed.{code_in}
+use Rattle.hep_code.specs.declared.places.Placement.{Placement}
+use Rattle.hep_code.specs.Places.{cells_in, variable_in}
+use Rattle.hep_accepted_laws.specs.Placed.{code_in}
 use Rattle.hep_emit.specs.declared.fault.EmitFault.{EmitFault}
 use Rattle.hep_emit.specs.declared.fault.EmitFault.TheVariants as emit_fault
 use Rattle.hep_emit.specs.Limits.{IsOverLimit}

@@ -6,7 +6,7 @@ use Rattle.hep_source.specs.declared.declaration.UpperBound.TheVariants as bound
 use Rattle.hep_source.specs.declared.statement.Form.TheVariants as form
 use Rattle.hep_source.specs.declared.statement.PrintItem.TheVariants as item
 use Rattle.hep_code.specs.Words.{line_too_deep, most_operands}
-use Rattle.hep_image_laws.specs.Placed.{code_in}
+use Rattle.hep_accepted_laws.specs.Placed.{code_in}
 
 -- what may be left out counts 1 where it is there
 abbrev pub if_there : {A : Type 0} → Option A → ℕ

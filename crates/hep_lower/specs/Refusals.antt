@@ -5,7 +5,7 @@ use Rattle.hep_base.specs.declared.refusal.Refusal.TheVariants.{NoMemory, Refuse
 use Rattle.hep_machine.specs.Words.{Units, main_among, unit_at, common_cells, frame_cells}
 use Rattle.hep_code.specs.Words.{line_too_deep, most_instructions}
 use Rattle.hep_image.specs.Image.{most_cells}
-use Rattle.hep_image_laws.specs.Placed.{code_in}
+use Rattle.hep_accepted_laws.specs.Placed.{code_in}
 use Rattle.hep_emit.specs.declared.fault.EmitFault.{EmitFault}
 use Rattle.hep_emit.specs.declared.fault.EmitFault.TheVariants as emit_fault
 

@@ -6,7 +6,7 @@ use Rattle.hep_image.specs.declared.data.DataRow.{DataRow}
 use Rattle.hep_image.specs.declared.unit.UnitCode.{UnitCode}
 use Rattle.hep_image.specs.Data.{AreInitial, AreOfUnits}
 use Rattle.hep_image.specs.Image.{IsImage, IsUnitCode}
-use Rattle.hep_image_laws.specs.Placed.{code_in}
+use Rattle.hep_accepted_laws.specs.Placed.{code_in}
 use Rattle.hep_lower.specs.declared.program.ImageTables.{ImageTables}
 use Rattle.hep_lower.specs.declared.units.LoweredUnit.{LoweredUnit}
 use Rattle.hep_lower.specs.declared.units.LoweredUnit.TheVariants.{Runnable, TooDeep}

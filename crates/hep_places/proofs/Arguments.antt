@@ -3,9 +3,9 @@ use Rattle.std.proofs.Common.{◌≡◌, ℕ, ◌≤◌, Bool, true, false, List
 use Rattle.std.specs.Option.{unwrap_or}
 use Rattle.std.proofs.lemmas.Option.{none-some}
 use Rattle.hep_machine.specs.Words.{Name, Statement, index_among, Units, dummies_of, adjustable_dimensions, constant_shape, constant_value, BlockName, common_block, dimensions_of, is_array, is_common, no_shape, common_cells, Bounds, frame_cells}
-use Rattle.hep_bounds.specs.BoundCode.{Sources}
-use Rattle.hep_bounds.specs.DimensionCode.{code_of_dimensions}
-use Rattle.hep_bounds.specs.Sources.{source_by, source_of}
+use Rattle.hep_code.specs.BoundCode.{Sources}
+use Rattle.hep_code.specs.DimensionCode.{code_of_dimensions}
+use Rattle.hep_code.specs.Sources.{source_by, source_of}
 use Rattle.hep_image.specs.declared.dummy.DummyArgument.TheVariants.{Scalar, Array, Adjustable}
 use Rattle.hep_image.specs.Dummies.{common_cell, common_cell_by, dummy_of}
 use Rattle.hep_common.specs.Starts.{AreStarts}

@@ -8,7 +8,7 @@ use Rattle.hep_source.proofs.NameTests.{equal_names, same_name-self, same_name-t
 use Rattle.hep_machine.specs.Words.{Name, Statement, index_among, is_among, same_name, Units, dummies_of, cells_of, cells_of_shape, constant_shape, BlockName, common_block, is_array, names_in_block, same_block, no_name, common_cells, Bounds, are_dimensions, elements, extent, is_between, is_most, is_shape, product, frame_cells, locals_of, names_of}
 use Rattle.hep_machine.proofs.Locations.{equal_blocks}
 use Rattle.hep_shape.proofs.Extents.{between_extent}
-use Rattle.hep_conditions_laws.proofs.Members.{Has, has_behind, has_first_or, has_front, has_more, has_among}
+use Rattle.hep_accepted_laws.proofs.Members.{Has, has_behind, has_first_or, has_front, has_more, has_among}
 use Rattle.hep_image.specs.declared.array.Start.{Start}
 use Rattle.hep_image.specs.Places.{arrays_of, start_by, start_of}
 use Rattle.hep_image.proofs.Distinct.{AreDistinct, fewer_distinct, names_distinct}

@@ -4,7 +4,7 @@ use Rattle.std.specs.List.{flat_map}
 use Rattle.std.specs.Option.{option_map}
 use Rattle.std.proofs.lemmas.Option.{same_Some, none-some}
 use Rattle.hep_machine.specs.Words.{CommonBlock, Declarator, Name, Statement, is_among, same_name, Units, cells_of, BlockName, block_holding, block_of, blocks_of, blocks_of_unit, common_block, entries_under, is_block_among, names_declared, same_block, with_blocks}
-use Rattle.hep_conditions_laws.proofs.Members.{Has, has_flat, has_more}
+use Rattle.hep_accepted_laws.proofs.Members.{Has, has_flat, has_more}
 use Rattle.hep_layout.specs.Words.{Row, block_row, first_in}
 use Rattle.hep_layout.proofs.Rows.{has_key}
 use Rattle.hep_common.specs.Starts.{narrowed}

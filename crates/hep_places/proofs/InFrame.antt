@@ -2,7 +2,7 @@
 use Rattle.std.proofs.Common.{◌≡◌, ◌+◌, ◌*◌, ◌≤◌, true, List, ◌++◌, Some, ap, ap₂, ◌∙◌}
 use Rattle.std.specs.Option.{unwrap_or}
 use Rattle.hep_machine.specs.Words.{Name, Statement, is_among, dummies_of, is_array, frame_cells, locals_of}
-use Rattle.hep_conditions_laws.proofs.Members.{Has, has_among}
+use Rattle.hep_accepted_laws.proofs.Members.{Has, has_among}
 use Rattle.hep_layout.specs.Words.{first_of_part, variable}
 use Rattle.hep_image.specs.Names.{variable_index}
 use Rattle.hep_image.specs.declared.owners.FrameVariable.{FrameVariable}

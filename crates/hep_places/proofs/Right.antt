@@ -7,7 +7,7 @@ use Rattle.hep_source.proofs.NameTests.{equal_names}
 use Rattle.hep_machine.specs.Words.{CommonBlock, Declarator, Name, Occurrence, Form, Statement, index_among, is_among, same_name, Units, dummies_by_header, dummies_of, adjustable_dimensions, bounds_of, constant_shape, constant_value, constants_of, if_shape, BlockName, blocks_in, blocks_of_unit, common_block}
 use Rattle.hep_machine.specs.Words.{dimensions_of, is_array, is_nonempty, names_declared, no_shape, Bounds, is_local, locals_of, names_of, occurrences_in_block, occurrences_in_declarator, occurrences_in_form, occurrences_in_statement, occurrences_of}
 use Rattle.hep_source.specs.declared.statement.Form.TheVariants as form
-use Rattle.hep_conditions_laws.proofs.Members.{Has, among_has, flat_has, has_behind, has_filter, has_flat, has_front, has_more, map_at, has_among, name_of_unit}
+use Rattle.hep_accepted_laws.proofs.Members.{Has, among_has, flat_has, has_behind, has_filter, has_flat, has_front, has_more, map_at, has_among, name_of_unit}
 use Rattle.hep_code.specs.declared.variable.Variable.{Variable}
 use Rattle.hep_code.specs.declared.variable.Variable.TheVariants as variables
 use Rattle.hep_layout.specs.Words.{bounds, first_of_part, variable}
@@ -21,7 +21,7 @@ use Rattle.hep_common.specs.Starts.{narrowed}
 use Rattle.hep_places.specs.Found.{Table, array_found, arrays_with, constant_extents, extents_found, variable_among, variable_found}
 use Rattle.hep_places.proofs.InBlocks.{held-by, none-before}
 use Rattle.hep_places.proofs.Narrowed.{narrowed-more, narrowed-small, narrowed-zero}
-use Rattle.hep_image_laws.proofs.Arrays.{kept_passes}
+use Rattle.hep_accepted_laws.proofs.Arrays.{kept_passes}
 
 -- ---- lists
 

@@ -3,9 +3,9 @@ use Rattle.std.specs.Prelude.{ℕ, ◌+◌, nat_eq, if◌then◌else◌, List, O
 use Rattle.std.specs.Option.{unwrap_or}
 use Rattle.indexmap.specs.IndexMap.{get}
 use Rattle.hep_machine.specs.Words.{Dimension, Name, Statement, name_eq, index_among, dummies_of, Values, adjustable_dimensions, constant_shape, value_among, BlockName, common_block, dimensions_of, is_array, is_common, Bounds}
-use Rattle.hep_bounds.specs.BoundCode.{Sources}
-use Rattle.hep_bounds.specs.DimensionCode.{code_of_dimensions}
-use Rattle.hep_bounds.specs.Sources.{source_by}
+use Rattle.hep_code.specs.BoundCode.{Sources}
+use Rattle.hep_code.specs.DimensionCode.{code_of_dimensions}
+use Rattle.hep_code.specs.Sources.{source_by}
 use Rattle.hep_image.specs.declared.dummy.DummyArgument.{DummyArgument}
 use Rattle.hep_image.specs.declared.dummy.DummyArgument.TheVariants.{Scalar, Array, Adjustable}
 use Rattle.hep_common.specs.Starts.{narrowed, start_in}

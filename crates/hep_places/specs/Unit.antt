@@ -6,7 +6,7 @@ use Rattle.hep_image.specs.Owners.{AreInOrder, frame_variables}
 use Rattle.hep_image.specs.Places.{array_of, arrays_of, loop_cells, variable_of}
 use Rattle.hep_image.specs.Private.{private_cells}
 use Rattle.hep_places.specs.declared.unit.UnitPlaces.{UnitPlaces}
-use Rattle.hep_variables.specs.Places.{cells_in, variable_in}
+use Rattle.hep_code.specs.Places.{cells_in, variable_in}
 
 -- what is kept of a unit of a program is where its things are
 pub record ArePlaces (program : Units) (unit : List Statement) (p : UnitPlaces) : Type 0 where

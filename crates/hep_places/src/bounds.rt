@@ -1,15 +1,15 @@
 //! The code of bounds (X3.9-1978, 5.5.1).
 ghost use Rattle.std.specs.Prelude.{◌≡◌, ◌++◌, ◌∷◌, [], OnOk};
 ghost use Rattle.hep_machine.specs.Words.{trees_of};
-ghost use Rattle.hep_bounds.specs.BoundCode as codes;
-ghost use Rattle.hep_bounds.specs.DimensionCode.{code_of_lower, code_of_dimensions};
+ghost use Rattle.hep_code.specs.BoundCode as codes;
+ghost use Rattle.hep_code.specs.DimensionCode.{code_of_lower, code_of_dimensions};
 ghost use Rattle.hep_code.specs.Words.{count};
 ghost use Rattle.hep_names.specs.Meanings.{meaning};
 ghost use Rattle.hep_places.specs.Dummies.{source_in};
 
 use crate::cells::further;
 use crate::tables::Tables;
-use hep_bounds::BoundOperation;
+use hep_code::BoundOperation;
 use hep_common::CommonStarts;
 use hep_names::{Meaning, Symbols};
 use hep_source::{Dimension, Expr, Name, Node, UpperBound, Value};

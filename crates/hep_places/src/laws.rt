@@ -4,8 +4,8 @@ ghost use Rattle.hep_machine.specs.Words.{Units, unit_at, common_cells, frame_ce
 ghost use Rattle.hep_conditions.specs.Words.{IsAccepted};
 ghost use Rattle.hep_image.specs.Places.{arrays_of};
 
-use hep_conditions_laws::values::arrays_have_shapes;
-use hep_image_laws::laws::arrays_are_there;
+use hep_accepted_laws::code::arrays_are_there;
+use hep_accepted_laws::values::arrays_have_shapes;
 
 /// A unit whose frame, and a program whose COMMON, have no more than 16,777,216 cells has no more than twice as many
 /// arrays: each one has cells of its own.

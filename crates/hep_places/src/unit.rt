@@ -13,14 +13,14 @@ use crate::laws::arrays_are_few;
 use crate::owners::variables_in_frame;
 use crate::tables::tables_of;
 use crate::variables::{private_among, variables_among};
+use hep_accepted_laws::code::constant_shapes;
+use hep_accepted_laws::names::names_are_given_once;
+use hep_accepted_laws::values::arrays_have_shapes;
+use hep_code::Placement;
 use hep_common::CommonStarts;
-use hep_conditions_laws::names::names_are_given_once;
-use hep_conditions_laws::values::arrays_have_shapes;
 use hep_image::{Array, DummyArgument, FrameVariable};
-use hep_image_laws::laws::constant_shapes;
 use hep_names::Symbols;
 use hep_values::given::constants;
-use hep_variables::Placement;
 use std::alloc::{AllocError, Global};
 use std::mem::replace;
 

@@ -14,15 +14,15 @@ use Rattle.hep_code.proofs.Moves.{after_statement_keeps}
 use Rattle.hep_code.proofs.Entries.{references_passed}
 use Rattle.hep_layout.proofs.Addresses.{address-out}
 use Rattle.hep_layout.proofs.Memory.{memory-same}
-use Rattle.hep_layout_laws.specs.Within.{ArePlacedArrays}
-use Rattle.hep_layout_laws.proofs.Named.{absent-or}
+use Rattle.hep_image.specs.Arrays.{ArePlacedArrays}
+use Rattle.hep_image.proofs.Named.{absent-or}
 use Rattle.hep_image.specs.Finding.{cells_in}
 use Rattle.hep_image.specs.Places.{variable_of}
-use Rattle.hep_passing.specs.Agreement.{IsPassedAs, IsTopCaller, caller_running, storage_passed}
-use Rattle.hep_passing.specs.Passing.{passed_at}
-use Rattle.hep_passing.specs.Ready.{ArePassable}
-use Rattle.hep_passing.proofs.Ready.{variable-passable}
-use Rattle.hep_passing.proofs.References.{reference-passed}
+use Rattle.hep_step.specs.Agreement.{IsPassedAs, IsTopCaller, caller_running, storage_passed}
+use Rattle.hep_step.specs.Passing.{passed_at}
+use Rattle.hep_step.specs.ReadyToPass.{ArePassable}
+use Rattle.hep_step.proofs.ReadyToPass.{variable-passable}
+use Rattle.hep_step.proofs.References.{reference-passed}
 use Rattle.hep_step.specs.Ready.{frame_in_arena}
 use Rattle.hep_step.specs.Simulation.{IsRunning, RunningTop, Simulates, addressed_on_top, arrays_running, code_ahead, counts_in, unit_running}
 use Rattle.hep_step.proofs.Running.{Comes, action_made, coming, fault_is, is_at, next_is, no_end, reached, scope_running}

@@ -11,8 +11,8 @@ use Rattle.hep_code.specs.declared.variable.Variable.TheVariants as variable
 use Rattle.hep_code.specs.Words.{Passed, by_value, by_reference}
 use Rattle.hep_image.specs.declared.array.Array.{Array}
 use Rattle.hep_image.specs.Finding.{base_at, bounds_at, cells_in}
-use Rattle.hep_passing.specs.Passing.{count_of, made_before, passed_at, passed_from_element, passed_of_array, passed_of_scalar}
-use Rattle.hep_passing.specs.Ready.{ArePassable, AreUnitsIn}
+use Rattle.hep_step.specs.Passing.{count_of, made_before, passed_at, passed_from_element, passed_of_array, passed_of_scalar}
+use Rattle.hep_step.specs.ReadyToPass.{ArePassable, AreUnitsIn}
 use Rattle.hep_step.specs.declared.frame.Frame.{Frame}
 use Rattle.hep_purging.specs.declared.range.ClosedRange.{ClosedRange}
 use Rattle.hep_purging.specs.Ranges.{is_whole, range_for, range_in, ranges_of}

@@ -9,8 +9,8 @@ use Rattle.hep_layout.proofs.Memory.{address-same, memory-written}
 use Rattle.hep_layout.proofs.Runs.{runs-from, runs-fewer}
 use Rattle.hep_image.specs.Finding.{cells_in}
 use Rattle.hep_purging.specs.Purged.{purged_from, purged}
-use Rattle.hep_layout_laws.proofs.Variables.{further-none}
-use Rattle.hep_layout_laws.proofs.Named.{by-kind}
+use Rattle.hep_image.proofs.Variables.{further-none}
+use Rattle.hep_image.proofs.Named.{by-kind}
 use Rattle.hep_machine.specs.declared.event.Kind.{Kind}
 use Rattle.hep_code.specs.declared.variable.Variable.{Variable}
 use Rattle.hep_code.specs.declared.variable.Variable.TheVariants.{Absent}
@@ -19,9 +19,9 @@ use Rattle.hep_code.specs.Words.{passed_reference}
 use Rattle.hep_image.specs.declared.array.Start.{Start}
 use Rattle.hep_image.specs.declared.array.Start.TheVariants as start
 use Rattle.hep_image.specs.Places.{arrays_of, scalar}
-use Rattle.hep_passing.specs.Agreement.{CallerOf, IsCaller, IsPassedAs, arrays_calling, scope_calling, storage_passed, unit_calling, variables_calling}
-use Rattle.hep_passing.specs.Passing.{made_before}
-use Rattle.hep_passing.proofs.References.{caller-found, reference-passed}
+use Rattle.hep_step.specs.Agreement.{CallerOf, IsCaller, IsPassedAs, arrays_calling, scope_calling, storage_passed, unit_calling, variables_calling}
+use Rattle.hep_step.specs.Passing.{made_before}
+use Rattle.hep_step.proofs.References.{caller-found, reference-passed}
 use Rattle.hep_purging.specs.declared.range.ClosedRange.{ClosedRange}
 use Rattle.hep_purging.specs.Ranges.{is_whole, range_for, range_in, ranges_of}
 

@@ -6,7 +6,7 @@ use Rattle.hep_arena.specs.Space.{Space}
 use Rattle.hep_code.specs.Words.{Passed, by_value, by_reference}
 use Rattle.hep_image.specs.declared.array.Array.{Array}
 use Rattle.hep_image.specs.Finding.{cells_in}
-use Rattle.hep_passing.specs.Passing.{passed_at}
+use Rattle.hep_step.specs.Passing.{passed_at}
 use Rattle.hep_step.specs.declared.frame.Frame.{Frame}
 use Rattle.hep_purging.specs.declared.range.ClosedRange.{ClosedRange}
 

@@ -1,6 +1,6 @@
 //! Which cells a PURGE empties (`docs/LANGUAGE.md`, 9).
 ghost use Rattle.std.specs.Prelude.{◌≡◌, ◌≤◌, Ok, Err, IfOk, IfErr, vec_capacity};
-ghost use Rattle.hep_passing.specs.All.{AreAllPassable, all_passed, made_of_all};
+ghost use Rattle.hep_step.specs.All.{AreAllPassable, all_passed, made_of_all};
 ghost use Rattle.hep_step.specs.Cells.{HasFrame};
 ghost use Rattle.hep_purging.specs.Ranges as definitions;
 ghost use Rattle.hep_purging.specs.Ranges.{range_for};
@@ -11,9 +11,8 @@ use hep_arena::Arena;
 use hep_code::Variable;
 use hep_image::Array;
 use hep_machine::Kind;
-use hep_passing::{AllPassed, FromPassed, Given, Passed, make_from_entries, passed};
 use hep_source::Value;
-use hep_step::Frame;
+use hep_step::{AllPassed, Frame, FromPassed, Given, Passed, make_from_entries, passed};
 
 // No cells.
 const NONE: ClosedRange = ClosedRange { first: 0, cells: 0 };

@@ -7,10 +7,10 @@ ghost use Rattle.hep_code.specs.declared.instruction.Instruction.TheVariants.{St
 ghost use Rattle.hep_code.specs.declared.instruction.Operation.TheVariants.{Purge};
 ghost use Rattle.hep_code.specs.Words.{passed_from};
 ghost use Rattle.hep_image.specs.Image.{most_cells};
-ghost use Rattle.hep_layout_laws.specs.Within.{ArePlacedArrays};
+ghost use Rattle.hep_image.specs.Arrays.{ArePlacedArrays};
 ghost use Rattle.hep_step.specs.Cells.{HasFrame};
-ghost use Rattle.hep_passing.specs.Agreement.{IsTopCaller};
-ghost use Rattle.hep_passing.specs.Ready.{ArePassable};
+ghost use Rattle.hep_step.specs.Agreement.{IsTopCaller};
+ghost use Rattle.hep_step.specs.ReadyToPass.{ArePassable};
 ghost use Rattle.hep_step.specs.Ready.{frame_in_arena};
 ghost use Rattle.hep_step.specs.Simulation.{IsRunning, RunningTop, Simulates, arrays_running, code_ahead, unit_running};
 ghost use Rattle.hep_purging.specs.declared.range.ClosedRange.{ClosedRange};

@@ -8,8 +8,8 @@ use Rattle.hep_source.proofs.Tests.{some-there}
 use Rattle.hep_machine.specs.declared.event.Entry.{Entry}
 use Rattle.hep_machine.specs.Words.{Units, IsLegal, Layout, is_held, is_number_among, is_purge, layout_of, living, Location, Progress, progress_after, progress_after_step, ready_in, run, schedule_of, State, state_after, state_made, step, step_result_of, view_of}
 use Rattle.hep_blocked.specs.declared.want.Want.{Want}
-use Rattle.hep_blocked_laws.specs.Listing.{AreListed, GoesAlong, IsTold, is_noted}
-use Rattle.hep_blocked_laws.proofs.Members.{ready-rise, rising-same}
+use Rattle.hep_blocked.specs.Listing.{AreListed, GoesAlong, IsTold, is_noted}
+use Rattle.hep_blocked.proofs.Members.{ready-rise, rising-same}
 use Rattle.hep_state.specs.declared.machine.Machine.{Machine}
 use Rattle.hep_state.specs.Words.{IsMachineAfter, snapshot_of}
 use Rattle.hep_going.specs.Gone.{HasGone, IsPlainTurn, none, more}

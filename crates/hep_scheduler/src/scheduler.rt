@@ -10,22 +10,21 @@ ghost use Rattle.hep_scheduler.specs.Value.{IsAtPosition, next_listed_of, verdic
 use crate::fault::{ChooseFault, NewFault};
 use crate::lists::{note_ready, wait, wake_after};
 use crate::stop::{ChoiceStop, Turn, Turns, Verdict};
-use hep_blocked::Waits;
-use hep_blocked_laws::laws::{
+use hep_blocked::laws::{
     lists_are_those_of_definitions, lists_go_along_with_purges, lists_go_along_with_steps,
     openings_list_nobody, waiting_processes_are_listed,
 };
+use hep_blocked::need_laws::waiting_processes_need_it;
+use hep_blocked::{Ready, Waits};
 use hep_going::go_on;
 use hep_image::Image;
 use hep_layout::laws::layouts_have_what_is_held;
 use hep_machine::{Entry, Fault, Record, Slot};
-use hep_needs_laws::laws::waiting_processes_need_it;
-use hep_ready::Ready;
 use hep_state::laws::activations_are_few;
 use hep_state::{Machine, TurnFault, Turned, fits};
-use hep_state_laws::laws::views_are_of_states;
-use hep_waiting::Listed;
-use hep_waiting::finding::listed;
+use hep_views::Listed;
+use hep_views::finding::listed;
+use hep_views::laws::views_are_of_states;
 use std::alloc::{AllocError, Global};
 use std::marker::Model;
 

@@ -5,7 +5,7 @@ use Rattle.hep_machine.specs.Words.{Name, Value, Units, executable_from, functio
 use Rattle.hep_arena.specs.Space.{Space}
 use Rattle.hep_code.specs.Words.{Awaits, Stands}
 use Rattle.hep_code.proofs.Moves.{StandsAt, after_statement_stands, entry_stands}
-use Rattle.hep_layout_laws.specs.Bound.{AreKept}
+use Rattle.hep_image.specs.Bound.{AreKept}
 use Rattle.hep_layout.specs.Words.{FrameNode, Nodes, also, is_stacked, new_node, frame_from}
 use Rattle.hep_layout.proofs.Memory.{memory-fits}
 use Rattle.hep_frames.specs.Keeping.{AreOfSomeState as ArenaKept}
@@ -19,16 +19,16 @@ use Rattle.hep_state.proofs.Leaving.{kept-entered}
 use Rattle.hep_state.proofs.Standing.{AreOn, AreMade, AreStanding, AreStandingBelow, IsHere, StandsOnTop, below-still, here-at, here-still, keeps-last, made-more}
 use Rattle.hep_state.proofs.Moved.{standing-before}
 use Rattle.hep_state.proofs.Runs.{layout-more, all-remain, standing-changed, standing-more, stepped-after, layout-left}
-use Rattle.hep_entering.specs.Calling.{AreActualsPassed, CallOf, IsKeptIn, called_activation, frames_with, layout_with, level_behind, level_called, state_begun, state_called, state_created, state_made_by, IsWritten, unit_begun}
-use Rattle.hep_entering.proofs.Begun.{long, unit-is}
-use Rattle.hep_entering.proofs.Calls.{behind-keeps, entry-number, made-begun, made-stacks}
-use Rattle.hep_entering.proofs.Entered.{made-keeps}
-use Rattle.hep_entering.proofs.Nodes.{node-new, node-stays}
+use Rattle.hep_binding.specs.Calling.{AreActualsPassed, CallOf, IsKeptIn, called_activation, frames_with, layout_with, level_behind, level_called, state_begun, state_called, state_created, state_made_by, IsWritten, unit_begun}
+use Rattle.hep_binding.proofs.Begun.{long, unit-is}
+use Rattle.hep_binding.proofs.Calls.{behind-keeps, entry-number, made-begun, made-stacks}
+use Rattle.hep_binding.proofs.Entered.{made-keeps}
+use Rattle.hep_binding.proofs.Nodes.{node-new, node-stays}
 use Rattle.hep_arena.specs.Holes.{first_fit}
-use Rattle.hep_passing.specs.declared.given.Given.{Given}
-use Rattle.hep_entering.specs.Shapes.{AreShaping, IsFramedBy, cells_of_shapes, cells_to_locals}
-use Rattle.hep_entering.specs.Writing.{written_up_to}
-use Rattle.hep_entering.proofs.Shaped.{shapes-last}
+use Rattle.hep_step.specs.declared.given.Given.{Given}
+use Rattle.hep_binding.specs.Shapes.{AreShaping, IsFramedBy, cells_of_shapes, cells_to_locals}
+use Rattle.hep_binding.specs.Writing.{written_up_to}
+use Rattle.hep_binding.proofs.Shaped.{shapes-last}
 use Rattle.std.specs.Option.{option_map}
 use Rattle.hep_machine.specs.declared.event.Kind.{Kind}
 use Rattle.hep_step.specs.Effects.{fails}

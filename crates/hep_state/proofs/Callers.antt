@@ -10,11 +10,11 @@ use Rattle.hep_code.specs.Words.{deepest, most_operands, operands_of_actual, ope
 use Rattle.hep_code.proofs.Depths.{stands_within}
 use Rattle.hep_image.specs.declared.array.Array.{Array}
 use Rattle.hep_image.specs.Places.{variable_of}
-use Rattle.hep_passing.specs.Agreement.{CallerOf, IsCaller, AreGiven, AreGivenAs, ArePlaced, IsGiven, arrays_calling, caller_running, given_passed, passed_by_entries, scope_calling, variables_calling}
+use Rattle.hep_step.specs.Agreement.{CallerOf, IsCaller, AreGiven, AreGivenAs, ArePlaced, IsGiven, arrays_calling, caller_running, given_passed, passed_by_entries, scope_calling, variables_calling}
 use Rattle.hep_step.specs.declared.way.Way.{Way}
 use Rattle.hep_step.specs.Calls.{GoesOn, IsCallAhead, comes_by, is_creation, last_operands, making, unit_by}
 use Rattle.hep_step.specs.Simulation.{IsRunning, code_on_top, unit_addressed, unit_arrays, unit_code, Simulates, RunningTop, code_ahead}
-use Rattle.hep_code_laws.specs.Works.{ComesFrom}
+use Rattle.hep_accepted_laws.specs.Works.{ComesFrom}
 use Rattle.hep_state.specs.declared.upcoming.CallAhead.{CallAhead}
 use Rattle.hep_state.specs.Words.{HasResultBy, HoldsInTurn, IsAfterCall, IsAtCall, IsAtStep, IsMadeOf, IsTopRunning, IsTurning, TurnOf, given_of, AreRunning, IsKnown, snapshot_of, stack_of, state_before, top_before, top_frame, turn_of, IsMaking, call_in, IsEnding, IsBehind, stack_with, IsThere, running_top}
 use Rattle.hep_state.proofs.Standing.{are-on}
@@ -26,15 +26,15 @@ use Rattle.hep_code.specs.declared.instruction.Instruction.{Instruction}
 use Rattle.hep_code.specs.declared.variable.Variable.TheVariants.{Absent}
 use Rattle.hep_layout.specs.Words.{IsMemory, RunsFrom}
 use Rattle.hep_image.specs.Finding.{cells_in}
-use Rattle.hep_passing.specs.declared.given.Given.{Given}
-use Rattle.hep_passing.specs.declared.given.Given.TheVariants as giving
-use Rattle.hep_passing.specs.Passing.{given_by}
-use Rattle.hep_passing.specs.Shapes.{AreShapesOf}
+use Rattle.hep_step.specs.declared.given.Given.{Given}
+use Rattle.hep_step.specs.declared.given.Given.TheVariants as giving
+use Rattle.hep_step.specs.Passing.{given_by}
+use Rattle.hep_step.specs.Shapes.{AreShapesOf}
 use Rattle.hep_step.specs.Effects.{fails}
 use Rattle.hep_step.proofs.Actions.{passed_last}
-use Rattle.hep_code_laws.specs.Actuals.{FitsDummy, IsVariableOf}
-use Rattle.hep_entering.specs.Calling.{AreActualsPassed, CallOf, IsPassed, IsPassing, caller, state_before_call, state_made_by}
-use Rattle.hep_entering.specs.Giving.{AreDistinct}
+use Rattle.hep_accepted_laws.specs.Actuals.{FitsDummy, IsVariableOf}
+use Rattle.hep_binding.specs.Calling.{AreActualsPassed, CallOf, IsPassed, IsPassing, caller, state_before_call, state_made_by}
+use Rattle.hep_binding.specs.Giving.{AreDistinct}
 use Rattle.hep_state.proofs.Tops.{there-too, dropped-first}
 use Rattle.std.proofs.lemmas.Option.{slice_get_within}
 use Rattle.hep_code.proofs.Ahead.{drop_one_more}

@@ -9,14 +9,14 @@ use Rattle.hep_layout.proofs.Descriptors.{wanted-same}
 use Rattle.hep_layout.proofs.Stacks.{once}
 use Rattle.hep_step.specs.Simulation.{unit_addressed}
 use Rattle.hep_frames.specs.Keeping.{all_but, frames_of}
-use Rattle.hep_entering.proofs.Found.{IsAmong, all_levels, among-numbered, among-parts, among-set, find-among, found, times-all}
+use Rattle.hep_binding.proofs.Found.{IsAmong, all_levels, among-numbered, among-parts, among-set, find-among, found, times-all}
 use Rattle.std.proofs.lemmas.Bool.{cases_Bool, eqb-true}
 use Rattle.hep_arena.specs.Gaps.{frame_among}
 use Rattle.hep_layout.proofs.Addresses.{address-alike}
 use Rattle.hep_layout.proofs.Memory.{activation-kept, address-same, same-activation}
 use Rattle.hep_layout.proofs.References.{references-held}
 use Rattle.hep_layout.proofs.Runs.{runs-entered, owned-further}
-use Rattle.hep_layout_laws.specs.Bound.{AreKept}
+use Rattle.hep_image.specs.Bound.{AreKept}
 
 -- ---- stacks that leave
 

@@ -29,7 +29,7 @@ use Rattle.hep_machine.specs.declared.event.Kind.{Kind}
 use Rattle.hep_arena.specs.Space.{Space}
 use Rattle.hep_layout.proofs.References.{references}
 use Rattle.hep_layout.proofs.FrameTree.{on-stacked}
-use Rattle.hep_layout_laws.specs.Bound.{AreKept as kept_of}
+use Rattle.hep_image.specs.Bound.{AreKept as kept_of}
 use Rattle.hep_machine.proofs.Changes.{on-stack_after_return, on-stack_after_value}
 
 -- ---- what leads upwards

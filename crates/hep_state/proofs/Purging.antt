@@ -15,8 +15,8 @@ use Rattle.hep_layout.specs.Words.{address}
 use Rattle.hep_layout.proofs.Memory.{address-same}
 use Rattle.hep_image.specs.declared.array.Array.{Array}
 use Rattle.hep_image.specs.Finding.{cells_in}
-use Rattle.hep_image_laws.specs.Instructions.{variables_in}
-use Rattle.hep_image_laws.specs.Placed.{ArePlaced, code_in}
+use Rattle.hep_accepted_laws.specs.Instructions.{variables_in}
+use Rattle.hep_accepted_laws.specs.Placed.{ArePlaced, code_in}
 use Rattle.hep_purging.specs.declared.range.ClosedRange.{ClosedRange}
 use Rattle.hep_purging.specs.Placed.{AreEntriesPlaced}
 use Rattle.hep_purging.specs.Purged.{effect_of_purge, effect_of_ranges, have_cell, purged}

@@ -9,7 +9,7 @@ use Rattle.hep_code.specs.Words.{AreBelow, AreLevels, Awaits, IsOf, HoldsLoops, 
 use Rattle.hep_code.proofs.Moves.{StandsAt, after_statement_keeps, after_statement_stands}
 use Rattle.hep_layout.specs.Words.{Describes, level_of, descriptor_slots, AreFramed, is_stacked, FrameNode, Nodes, times}
 use Rattle.hep_layout.proofs.Memory.{activation-kept}
-use Rattle.hep_layout_laws.proofs.Counted.{counted}
+use Rattle.hep_image.proofs.Counted.{counted}
 use Rattle.hep_image.specs.Places.{addresses_of}
 use Rattle.hep_step.specs.Simulation.{counts_in, unit_addressed}
 use Rattle.hep_state.specs.declared.machine.Level.{Level}
@@ -19,7 +19,7 @@ use Rattle.std.proofs.lemmas.List.{drop_all}
 use Rattle.std.proofs.Math.Seq.{drop-append_seam, take-append_seam}
 use Rattle.hep_layout.proofs.Stacks.{once}
 use Rattle.hep_layout.proofs.FrameTree.{on-stacked}
-use Rattle.hep_entering.proofs.Found.{IsAmong, all_levels, among-numbered, found, times-all}
+use Rattle.hep_binding.proofs.Found.{IsAmong, all_levels, among-numbered, found, times-all}
 
 -- ---- on stacks, where each is found by its activation
 

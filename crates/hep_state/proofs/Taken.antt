@@ -6,7 +6,7 @@ use Rattle.hep_machine.specs.Words.{unit_at, unset_cell, Layout, is_held, layout
 use Rattle.hep_machine.specs.declared.slot.Slot.{Slot}
 use Rattle.hep_code.specs.Words.{IsPastPushes, values_ahead, deepest}
 use Rattle.hep_code.proofs.Depths.{room_for}
-use Rattle.hep_layout_laws.specs.Within.{ArePlacedArrays}
+use Rattle.hep_image.specs.Arrays.{ArePlacedArrays}
 use Rattle.hep_layout.specs.Words.{address}
 use Rattle.hep_layout.proofs.HeldFrames.{run-last}
 use Rattle.hep_image.specs.Finding.{cells_in}
@@ -31,7 +31,7 @@ use Rattle.hep_code.specs.declared.instruction.Instruction.TheVariants.{Step}
 use Rattle.hep_code.specs.declared.instruction.Operation.{Operation}
 use Rattle.hep_code.specs.declared.instruction.Operation.TheVariants.{Purge}
 use Rattle.hep_code.proofs.Ahead.{step_is_ahead}
-use Rattle.hep_needs_laws.specs.Needs.{touched_by}
+use Rattle.hep_blocked.specs.Needs.{touched_by}
 use Rattle.hep_touched.specs.Touched.{touched_at}
 use Rattle.std.proofs.lemmas.Bool.{false_from_ne_true}
 

@@ -14,25 +14,25 @@ use Rattle.hep_code.specs.Words.{IsAddressed, HoldsLoops, Stands}
 use Rattle.hep_layout.specs.Words.{address, Describes, level_of, descriptor_slots, times, is_stacked}
 use Rattle.hep_layout.proofs.Stacks.{level-found, levels-stay, once, times_on-numbered}
 use Rattle.hep_layout.proofs.FrameTree.{on-stacked}
-use Rattle.hep_layout_laws.specs.Bound.{AreClosed, IsBound}
-use Rattle.hep_layout_laws.specs.Constant.{HasConstantShape}
-use Rattle.hep_layout_laws.proofs.Counted.{counted, loop-at}
-use Rattle.hep_layout_laws.proofs.Named.{array-listed}
-use Rattle.hep_layout_laws.proofs.Variables.{any-addressed}
-use Rattle.hep_layout_laws.proofs.Within.{few-dimensions}
-use Rattle.hep_layout_laws.specs.Within.{ArePlacedArrays}
+use Rattle.hep_image.specs.Bound.{AreClosed, IsBound}
+use Rattle.hep_image.specs.Constant.{HasConstantShape}
+use Rattle.hep_image.proofs.Counted.{counted, loop-at}
+use Rattle.hep_image.proofs.Named.{array-listed}
+use Rattle.hep_image.proofs.Variables.{any-addressed}
+use Rattle.hep_image.proofs.Within.{few-dimensions}
+use Rattle.hep_image.specs.Arrays.{ArePlacedArrays}
 use Rattle.hep_image.specs.Places.{arrays_of, start_of, variable_of}
 use Rattle.hep_image.specs.declared.array.Start.{Start}
 use Rattle.hep_image.proofs.Numbers.{unit-there}
-use Rattle.hep_image_laws.specs.Instructions.{variables_in_operation}
-use Rattle.hep_image_laws.specs.Placed.{ArePlaced, code_in}
+use Rattle.hep_accepted_laws.specs.Instructions.{variables_in_operation}
+use Rattle.hep_accepted_laws.specs.Placed.{ArePlaced, code_in}
 use Rattle.hep_step.specs.Simulation.{counts_in, found_in, unit_addressed, unit_code, variable_in}
 use Rattle.hep_state.specs.declared.machine.Level.{Level}
 use Rattle.hep_state.specs.Words.{HasLevels, Snapshot, Stack, IsTopRunning, IsTurning, TurnOf, stack_with, state_before, top_before, top_frame, turn_settled, turn_with, Shows, IsAbsent, IsAfter}
 use Rattle.hep_state.proofs.Moved.{top-activation, top-node, standing-before, unit-is}
-use Rattle.hep_entering.proofs.Found.{all_levels, among-numbered, found, times-all}
+use Rattle.hep_binding.proofs.Found.{all_levels, among-numbered, found, times-all}
 use Rattle.hep_image.proofs.Distinct.{index_of}
-use Rattle.hep_entering.proofs.Calls.{set-numbered}
+use Rattle.hep_binding.proofs.Calls.{set-numbered}
 use Rattle.hep_state.proofs.Standing.{are-on, AreStanding, made-same, stack-again, stack-standing, top-stands}
 use Rattle.hep_state.proofs.Runs.{set-same, standing-changed, there}
 

@@ -3,10 +3,10 @@ use Rattle.std.specs.Prelude.{◌≡◌, ℕ, ◌+◌, ◌<◌, ◌≤◌, Bool,
 use Rattle.hep_machine.specs.Words.{Name, Units, function_name, unit_at, Binding, Actual, common_cells, frame_of, lowest_gap, with_numbered, State, step, Bounds, frame_cells}
 use Rattle.hep_arena.specs.Space.{Space}
 use Rattle.hep_code.specs.Words.{entry_index}
-use Rattle.hep_layout_laws.specs.Bound.{AreKept}
+use Rattle.hep_image.specs.Bound.{AreKept}
 use Rattle.hep_layout.specs.Words.{Nodes, new_node, with_node}
-use Rattle.hep_passing.specs.declared.given.Given.{Given}
-use Rattle.hep_passing.specs.Shapes.{AreShapesOf}
+use Rattle.hep_step.specs.declared.given.Given.{Given}
+use Rattle.hep_step.specs.Shapes.{AreShapesOf}
 use Rattle.hep_step.specs.declared.way.Way.{Way}
 use Rattle.hep_step.specs.declared.way.Way.TheVariants.{Calls, Creates, Refers}
 use Rattle.hep_step.specs.Calls.{GoesOn, is_creation}
@@ -16,7 +16,7 @@ use Rattle.hep_state.specs.declared.machine.Level.{Level}
 use Rattle.hep_state.specs.declared.machine.Machine.{Machine}
 use Rattle.hep_state.specs.Snapshots.{Snapshot, Stack, snapshot_of}
 use Rattle.hep_state.specs.Tops.{HoldsInTurn, IsTurning, TurnOf, frames_before, state_before}
-use Rattle.hep_entering.specs.Calling.{ArePassed, CallOf, IsAllWritten, IsPassing, layout_with, state_made_by}
+use Rattle.hep_binding.specs.Calling.{ArePassed, CallOf, IsAllWritten, IsPassing, layout_with, state_made_by}
 
 -- the level of a new activation of unit u, whose node is under a key, at its first executable statement
 abbrev pub entered_level : Units → ℕ → ℕ → Level

@@ -8,8 +8,8 @@ use Rattle.hep_code.specs.declared.instruction.Operation.{Operation}
 use Rattle.hep_code.specs.declared.instruction.Operation.TheVariants.{Call, Create, Refer, Purge, Resume}
 use Rattle.hep_code.specs.Words.{IsPastPushes, passed_from}
 use Rattle.hep_image.specs.Finding.{cells_in}
-use Rattle.hep_passing.specs.declared.given.Given.{Given}
-use Rattle.hep_passing.specs.Passing.{given_by}
+use Rattle.hep_step.specs.declared.given.Given.{Given}
+use Rattle.hep_step.specs.Passing.{given_by}
 use Rattle.hep_purging.specs.declared.range.ClosedRange.{ClosedRange}
 use Rattle.hep_purging.specs.Ranges.{ranges_of}
 use Rattle.hep_step.specs.Calls.{IsBehindEntries, last_operands, making}

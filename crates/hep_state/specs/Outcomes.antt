@@ -4,7 +4,7 @@ use Rattle.hep_machine.specs.Words.{Units, is_purge, Layout, is_held, layout_of,
 use Rattle.hep_blocked.specs.declared.want.Want.{Want}
 use Rattle.hep_layout.specs.Words.{address}
 use Rattle.hep_image.specs.Finding.{cells_in}
-use Rattle.hep_needs_laws.specs.Needs.{touched_by}
+use Rattle.hep_blocked.specs.Needs.{touched_by}
 use Rattle.hep_purging.specs.declared.range.ClosedRange.{ClosedRange}
 use Rattle.hep_purging.specs.Purged.{have_cell}
 use Rattle.hep_purging.specs.Ready.{AreReached}

@@ -6,7 +6,7 @@ use Rattle.hep_machine.specs.declared.slot.Slot.{Slot}
 use Rattle.hep_code.specs.Words.{AreLevels, CodeLevel}
 use Rattle.hep_layout.specs.Words.{is_stacked, FrameNode, Nodes}
 use Rattle.hep_image.specs.Places.{addresses_of}
-use Rattle.hep_layout_laws.specs.Bound.{AreKept}
+use Rattle.hep_image.specs.Bound.{AreKept}
 use Rattle.hep_frames.specs.Keeping.{Keeps, frames_in}
 use Rattle.hep_step.specs.Simulation.{counts_in}
 use Rattle.hep_state.specs.declared.machine.Level.{Level}

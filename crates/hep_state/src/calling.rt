@@ -18,7 +18,7 @@ ghost use Rattle.hep_step.specs.Simulation.{unit_code};
 
 use crate::keeping::keep_back;
 use crate::machine::{Level, Machine, Process, append};
-use hep_entering::{begin, shape_all};
+use hep_binding::{begin, shape_all};
 
 /// A unit that is called, created or referred to: its index in the program, how many cells its frame has, and where its first executable statement is in its
 /// code.
@@ -84,9 +84,9 @@ impl Machine {
         ensures others { self.new ≡ record self.old { frames = self.new.frames; activations = self.old.activations + 1 } }
     {
         hep_frames::laws::children_are_activations();
-        hep_entering::laws::dummies_are_bound();
-        hep_entering::laws::other_cells_are_unset();
-        hep_entering::laws::references_are_kept();
+        hep_binding::laws::dummies_are_bound();
+        hep_binding::laws::other_cells_are_unset();
+        hep_binding::laws::references_are_kept();
         let activation = self.activations + 1;
         let parent = self.processes[(p - 1) as usize].top().key;
         let Called { unit, cells, entry } = called;

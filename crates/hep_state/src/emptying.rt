@@ -15,8 +15,8 @@ use crate::machine::Machine;
 use crate::upcoming::PurgeAhead;
 use hep_image::Image;
 use hep_machine::Kind;
-use hep_passing::AllPassed;
 use hep_purging::find_ranges;
+use hep_step::AllPassed;
 
 impl Machine {
     // The cells that the targets of the PURGE ahead of process p name, into `passing`.

@@ -77,8 +77,8 @@ impl Machine {
     {
         let process = &mut self.processes[(p - 1) as usize];
         let ended = process.end_top();
-        process.take_value(value);
         self.frames.leave(ended.key);
+        process.take_value(value);
     }
 
     // A fault has ended process p, in the statement with this initial line.

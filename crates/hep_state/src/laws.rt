@@ -12,26 +12,26 @@ ghost use Rattle.hep_conditions.specs.Words.{IsAccepted};
 ghost use Rattle.hep_arena.specs.Space.{Space};
 ghost use Rattle.hep_code.specs.Words.{deepest, entry_index, operands_of_entries, Stands, passed_from};
 ghost use Rattle.hep_layout.specs.Words.{descriptor_slots, FrameNode, Nodes, but, is_stacked};
-ghost use Rattle.hep_layout_laws.specs.Within.{ArePlacedArrays};
+ghost use Rattle.hep_image.specs.Arrays.{ArePlacedArrays};
 ghost use Rattle.hep_image.specs.declared.data.DataRow.{DataRow};
 ghost use Rattle.hep_image.specs.Data.{AreInitial, AreOfUnits, first_frames};
 ghost use Rattle.hep_frames.specs.Keeping.{AreOfSomeState, CanAllLeave, CanLeave, IsEnded, IsOpening, Keeps, LeadUpwards, all_but};
 ghost use Rattle.hep_arena.specs.Holes.{first_fit};
 ghost use Rattle.hep_image.specs.Dummies.{dummy_arguments};
 ghost use Rattle.hep_image.specs.Image.{most_cells};
-ghost use Rattle.hep_passing.specs.declared.given.Given.{Given};
-ghost use Rattle.hep_passing.specs.Ready.{ArePassable};
+ghost use Rattle.hep_step.specs.declared.given.Given.{Given};
+ghost use Rattle.hep_step.specs.ReadyToPass.{ArePassable};
 ghost use Rattle.hep_purging.specs.declared.range.ClosedRange.{ClosedRange};
 ghost use Rattle.hep_purging.specs.Purged.{purged};
 ghost use Rattle.hep_purging.specs.Ready.{AreOut};
-ghost use Rattle.hep_shaping.specs.Fitting.{AreShapable, are_fitting, longest_code, shapes_of};
+ghost use Rattle.hep_binding.specs.Fitting.{AreShapable, are_fitting, longest_code, shapes_of};
 ghost use Rattle.hep_step.specs.declared.way.Way.{Way};
 ghost use Rattle.hep_step.specs.Calls.{is_creation, last_operands};
 ghost use Rattle.hep_step.specs.Cells.{HasFrame};
 ghost use Rattle.hep_step.specs.Ready.{frame_in_arena};
 ghost use Rattle.hep_step.specs.Effects.{answers, fails, moves, prints, returns, stops, waits};
 ghost use Rattle.hep_step.specs.Simulation.{unit_addressed, unit_arrays, unit_code};
-ghost use Rattle.hep_entering.specs.Calling.{state_made_by};
+ghost use Rattle.hep_binding.specs.Calling.{state_made_by};
 ghost use Rattle.hep_state.specs.declared.machine.Level.{Level as ALevel};
 ghost use Rattle.hep_state.specs.Words.{HasEntered, HasGaps, HasLevels, HasMadeTurn, HasNoGap, HasPurged, HasWaited, HaveLeft, IsAbsent};
 ghost use Rattle.hep_state.specs.Words.{IsAfter, IsAfterCall, IsAtCall, IsAtPurge, IsAtResume, IsEffectOf, IsEnding, IsEntered, IsGiven, IsKnown};
@@ -67,10 +67,10 @@ pub fn tops_are_running()
     ensures arrays { (t : TurnOf) → IsAccepted t.program → is_some (main_among t.program) ≡ true → IsTurning t
         → ArePlacedArrays t.program (unit_at t.program t.level.unit) }
 {
-    hep_image_laws::laws::variables_of_the_code_are_placed();
-    hep_image_laws::laws::arrays_are_there();
-    hep_code_laws::laws::programs_are_closed();
-    hep_code_laws::laws::activations_are_bound_in_runs();
+    hep_accepted_laws::code::variables_of_the_code_are_placed();
+    hep_accepted_laws::code::arrays_are_there();
+    hep_accepted_laws::runs::programs_are_closed();
+    hep_accepted_laws::runs::activations_are_bound_in_runs();
 }
 
 /// A turn makes one activation at most, and the opening has one.
@@ -155,14 +155,14 @@ pub fn faults_are_shown()
 fn programs_are_known()
     ensures { (program : Units) → IsAccepted program → is_some (main_among program) ≡ true → IsKnown program }
 {
-    hep_code_laws::laws::works_come_from_statements();
-    hep_code_laws::laws::calls_come_from_statements();
-    hep_code_laws::laws::references_come_from_statements();
-    hep_code_laws::laws::subroutines_are_called();
-    hep_code_laws::laws::functions_are_referred_to();
-    hep_code_laws::laws::programs_are_closed();
-    hep_code_laws::laws::units_are_there();
-    hep_code_laws::laws::activations_are_bound_in_runs();
+    hep_accepted_laws::runs::works_come_from_statements();
+    hep_accepted_laws::runs::calls_come_from_statements();
+    hep_accepted_laws::runs::references_come_from_statements();
+    hep_accepted_laws::runs::subroutines_are_called();
+    hep_accepted_laws::runs::functions_are_referred_to();
+    hep_accepted_laws::runs::programs_are_closed();
+    hep_accepted_laws::runs::units_are_there();
+    hep_accepted_laws::runs::activations_are_bound_in_runs();
     hep_step::laws::calls_are_ahead();
     tops_are_running();
 }
@@ -183,7 +183,7 @@ pub fn calls_can_be_made()
     ensures few { (t : TurnOf) (call : CallAhead) → IsAccepted t.program → is_some (main_among t.program) ≡ true
         → (at : IsAtCall t call) → length t.operands ≤ deepest (unit_code t.program t.level.unit) }
 {
-    hep_passing::laws::callers_can_pass();
+    hep_step::passing_laws::callers_can_pass();
     programs_are_known();
     tops_are_running();
 }
@@ -221,7 +221,7 @@ pub fn purges_are_shown()
     ensures gaps { (t : TurnOf) (purge : PurgeAhead) → IsAccepted t.program → is_some (main_among t.program) ≡ true → IsAtPurge t purge
         → HasGaps t.program t.cells t.choices t.process }
 {
-    hep_image_laws::laws::variables_of_the_code_are_placed();
+    hep_accepted_laws::code::variables_of_the_code_are_placed();
     hep_purging::laws::purges_do_what_the_machine_does();
     hep_purging::laws::ranges_are_emptied();
     gaps_are_told();
@@ -240,7 +240,7 @@ pub fn resumes_are_shown()
     ensures gaps { (t : TurnOf) (next : ℕ) → IsAccepted t.program → is_some (main_among t.program) ≡ true → IsAtResume t next
         → HasGaps t.program t.cells t.choices t.process }
 {
-    hep_code_laws::laws::works_come_from_statements();
+    hep_accepted_laws::runs::works_come_from_statements();
     hep_step::laws::resumes_are_ahead();
     hep_touched::laws::calls_and_purges_never_wait();
     hep_touched::laws::purges_stand_ahead();
@@ -277,15 +277,15 @@ pub fn calls_give_what_is_bound()
         → are_fitting t.machine.arena.contents given (dummy_arguments t.program (unit_at t.program call.unit)) ≡ false
         → IsEnding t (fails call.line Shape) }
 {
-    hep_code_laws::laws::calls_come_from_statements();
-    hep_code_laws::laws::references_come_from_statements();
-    hep_code_laws::laws::actual_arguments_fit();
-    hep_code_laws::laws::variables_are_placed();
-    hep_conditions_laws::names::names_are_given_once();
-    hep_passing::laws::all_actuals_are_passed();
-    hep_shaping::laws::calls_are_shapable();
-    hep_shaping::laws::shapes_decide_bindings();
-    hep_entering::laws::calls_make_activations();
+    hep_accepted_laws::runs::calls_come_from_statements();
+    hep_accepted_laws::runs::references_come_from_statements();
+    hep_accepted_laws::runs::actual_arguments_fit();
+    hep_accepted_laws::runs::variables_are_placed();
+    hep_accepted_laws::names::names_are_given_once();
+    hep_step::passing_laws::all_actuals_are_passed();
+    hep_binding::shape_laws::calls_are_shapable();
+    hep_binding::shape_laws::shapes_decide_bindings();
+    hep_binding::laws::calls_make_activations();
     hep_step::laws::calls_are_ahead();
     programs_are_known();
 }

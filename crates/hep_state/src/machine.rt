@@ -3,10 +3,10 @@ ghost use Rattle.std.specs.Prelude.{◌≡◌, ◌<◌, ◌++◌, ◌∷◌, [],
 
 use hep_frames::Frames;
 use hep_machine::{Fault, Record};
-use hep_passing::Given;
 use hep_purging::ClosedRange;
 use hep_shape::Shape;
 use hep_source::Value;
+use hep_step::Given;
 
 // Appends an element, for which there is room.
 pub(crate) fn append<T: Drop>(items: &mut Vec<T>, added: T)

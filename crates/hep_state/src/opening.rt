@@ -11,17 +11,17 @@ ghost use Rattle.hep_frames.specs.Keeping.{IsUnused};
 ghost use Rattle.hep_frames.specs.Nodes.{nodes_of};
 ghost use Rattle.hep_purging.specs.Room as room;
 ghost use Rattle.hep_purging.specs.Room.{most_of};
-ghost use Rattle.hep_shaping.specs.Fitting as shaping;
+ghost use Rattle.hep_binding.specs.Fitting as shaping;
 ghost use Rattle.hep_step.specs.Simulation.{unit_code};
 ghost use Rattle.hep_state.specs.Words.{AreOut, IsEntered, IsGiven, HasRoomToPass, IsMachineAfter};
 
 use crate::laws;
 use crate::machine::{Level, Machine, Passing, Process};
+use hep_binding::longest_code;
 use hep_frames::Frames;
 use hep_image::{DataRow, Image, UnitCode};
 use hep_machine::Slot;
 use hep_purging::most_targets;
-use hep_shaping::longest_code;
 use hep_source::{Form, Statement, Unit, Value};
 use std::alloc::{AllocError, Global};
 
@@ -49,7 +49,7 @@ fn enter_main(frames: &mut Frames, image: &Image) -> usize
 {
     hep_image::laws::openings_fit_by_numbers();
     hep_frames::laws::openings_want_unset_cells();
-    hep_code_laws::laws::programs_are_closed();
+    hep_accepted_laws::runs::programs_are_closed();
     laws::openings_are_shown();
     frames.open(image.main(), main_program(image).cells)
 }

@@ -6,11 +6,11 @@ ghost use Rattle.hep_state.specs.Words.{IsMaking, HasCallAhead, HoldsInTurn, Hav
 use crate::laws;
 use crate::machine::{Machine, Passing};
 use crate::upcoming::CallAhead;
+use hep_binding::find_shapes;
 use hep_image::Image;
 use hep_machine::Kind;
-use hep_passing::{AllPassed, give_actuals, in_front};
-use hep_shaping::find_shapes;
 use hep_source::Value;
+use hep_step::{AllPassed, give_actuals, in_front};
 
 // The operands behind the first ones, so many.
 fn past(operands: &[Value], first: usize) -> &[Value]

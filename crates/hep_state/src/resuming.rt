@@ -9,9 +9,9 @@ ghost use Rattle.hep_state.specs.Words.{snapshot_parted};
 
 use crate::laws;
 use crate::machine::{Level, Machine, Process, append};
+use hep_blocked::Ready;
 use hep_image::Image;
 use hep_machine::Entry;
-use hep_ready::Ready;
 use std::alloc::{AllocError, Global};
 
 impl Machine {

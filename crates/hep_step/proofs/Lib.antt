@@ -9,3 +9,7 @@ pub mod Items
 pub mod Loops
 pub mod Operations
 pub mod Ready
+pub mod References
+pub mod Entries
+pub mod ReadyToPass
+mod WorkedPassing

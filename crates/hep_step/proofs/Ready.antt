@@ -19,9 +19,9 @@ use Rattle.hep_code.proofs.Depths.{stands_within}
 use Rattle.hep_image.specs.Image.{most_cells}
 use Rattle.hep_image.specs.Places.{loop_cells, variable_of}
 use Rattle.hep_image.specs.Within.{LiesIn}
-use Rattle.hep_layout_laws.specs.Within.{ArePlacedArrays}
-use Rattle.hep_layout_laws.proofs.Variables.{frame-reached, reached}
-use Rattle.hep_layout_laws.proofs.Within.{loop-within, variable-within}
+use Rattle.hep_image.specs.Arrays.{ArePlacedArrays}
+use Rattle.hep_image.proofs.Variables.{frame-reached, reached}
+use Rattle.hep_image.proofs.Within.{loop-within, variable-within}
 use Rattle.hep_step.specs.Cells.{HasFrame, IsReached}
 use Rattle.hep_step.specs.Replies.{accessed_by}
 use Rattle.hep_step.specs.Effects.{subscripts_in}

@@ -7,3 +7,9 @@ pub mod Ready
 pub mod Simulation
 pub mod Calls
 pub mod Resuming
+pub mod Passing
+pub mod Agreement
+pub mod Entries
+pub mod ReadyToPass
+pub mod All
+pub mod Shapes

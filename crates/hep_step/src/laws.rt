@@ -11,7 +11,7 @@ ghost use Rattle.hep_code.specs.declared.instruction.Operation.TheVariants.{Ente
 ghost use Rattle.hep_code.specs.declared.variable.Variable.{Variable};
 ghost use Rattle.hep_code.specs.Words.{IsPastPushes, deepest, operands_of_actual};
 ghost use Rattle.hep_image.specs.Image.{most_cells};
-ghost use Rattle.hep_layout_laws.specs.Within.{ArePlacedArrays};
+ghost use Rattle.hep_image.specs.Arrays.{ArePlacedArrays};
 ghost use Rattle.hep_step.specs.declared.way.Way.{Way};
 ghost use Rattle.hep_step.specs.Calls.{IsBehindEntries, IsCallAhead, last_operands, making};
 ghost use Rattle.hep_step.specs.Effects.{effect_at, fails, moves};

@@ -1,18 +1,25 @@
 //! A step of a process: what the operation ahead finds in the cells of its frame, what it does to the arena and the operands, and
-//! where it leads.
+//! where it leads; and what the actual arguments of a CALL, CREATE or reference give.
 //!
-//! What an operation comes to that gives a value or stores one is said in `specs/Replies`, what any does in `specs/Effects`, and that
-//! the source machine does the same by the contracts of [`laws`].
+//! The outcome of an operation that gives a value or stores one is said in `specs/Replies`, that of any operation in `specs/Effects`, and
+//! that the source machine does the same by the contracts of [`laws`] and [`passing_laws`].
 #![tactic(auto)]
 
 pub mod effect;
+pub mod entry;
 pub mod finding;
 pub mod frame;
+pub mod fronting;
+pub mod given;
+pub mod giving;
 mod granted;
 mod iterating;
 pub mod laws;
+pub mod making;
 mod moving;
 mod outcome;
+pub mod passing;
+pub mod passing_laws;
 pub mod performing;
 mod printing;
 pub mod reply;
@@ -21,8 +28,14 @@ mod values;
 pub mod way;
 
 pub use effect::Effect;
+pub use entry::Passed;
 pub use finding::address;
 pub use frame::{Frame, counts};
+pub use fronting::in_front;
+pub use given::Given;
+pub use giving::give_actuals;
+pub use making::{AllPassed, FromPassed, make_from_entries};
+pub use passing::passed;
 pub use performing::perform;
 pub use reply::{Reply, reply_of, reply_to_store};
 pub use way::Way;

@@ -4,7 +4,7 @@ use Rattle.std.specs.List.{filter}
 use Rattle.std.proofs.lemmas.Bool.{cases_Bool, cases_lt, le-ltb, lt-ltb}
 use Rattle.std.proofs.lemmas.Option.{same_Some}
 use Rattle.hep_machine.specs.Words.{first_above}
-use Rattle.hep_ready.specs.Numbers.{AreRising}
+use Rattle.hep_blocked.specs.Numbers.{AreRising}
 
 -- it is above, and one of them
 pub is-above : (least greatest p q : ℕ) (xs : List ℕ) → AreRising least greatest xs → first_above p xs None ≡ Some q → (p < q) × (q ≤ greatest)

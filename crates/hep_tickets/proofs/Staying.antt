@@ -1,6 +1,6 @@
 -- A process that isn't chosen lives on.
 use Rattle.std.proofs.Common.{◌≡◌, ◌≢◌, ℕ, zero, suc, ◌++◌, ◌∷◌, [], Bool, true, false, Option, None, Some, Result, Ok, Err, inl, inr, refl, sym, ap, ◌∙◌, is_some}
-use Rattle.hep_blocked_laws.proofs.Living.{living-within}
+use Rattle.hep_blocked.proofs.Living.{living-within}
 use Rattle.hep_machine.proofs.Others.{others_stay}
 use Rattle.hep_machine.specs.Words.{living, top_of, run, state_after, State}
 use Rattle.hep_scheduler.proofs.Histories.{schedule-waited, state-is, state-stepped}

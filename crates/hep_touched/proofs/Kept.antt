@@ -13,8 +13,8 @@ use Rattle.hep_code.specs.Words.{evaluation_of, operands_of_redex, IsPastPushes,
 use Rattle.hep_code.proofs.Ahead.{step_is_ahead}
 use Rattle.hep_layout.specs.Words.{address}
 use Rattle.hep_image.specs.Places.{variable_of}
-use Rattle.hep_needs_laws.specs.Needs.{if_so, named_location, touched_by, touched_by_next}
-use Rattle.hep_needs_laws.specs.Needs as needs
+use Rattle.hep_blocked.specs.Needs.{if_so, named_location, touched_by, touched_by_next}
+use Rattle.hep_blocked.specs.Needs as needs
 use Rattle.hep_step.specs.Ready.{last_operands}
 use Rattle.hep_step.specs.Simulation.{IsRunning, RunningTop, addressed_on_top, arrays_running, code_ahead, code_running, unit_running, variable_in}
 use Rattle.hep_step.proofs.Replied.{arity_is, in_front}

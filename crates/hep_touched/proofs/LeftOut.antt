@@ -8,7 +8,7 @@ use Rattle.hep_code.specs.declared.instruction.Operation.{Operation}
 use Rattle.hep_code.specs.declared.instruction.Operation.TheVariants.{Purge}
 use Rattle.hep_code.specs.declared.variable.Variable.{Variable}
 use Rattle.hep_code.specs.Words.{ending_of, table_of}
-use Rattle.hep_needs_laws.specs.Needs.{touched_by, touched_by_next}
+use Rattle.hep_blocked.specs.Needs.{touched_by, touched_by_next}
 use Rattle.hep_step.specs.Simulation.{IsRunning, RunningTop, addressed_on_top, code_ahead, is_left_out}
 use Rattle.hep_step.proofs.Running.{Comes, action_made, coming, next_is, scope_running, step_is}
 use Rattle.hep_touched.proofs.Next.{purge_is, touched_is}

@@ -1,7 +1,7 @@
 -- What the next step of an activation that runs touches, and whether it is a PURGE, by what comes next of its statement.
 use Rattle.std.proofs.Common.{◌≡◌, ap}
 use Rattle.hep_machine.specs.Words.{is_purge, purges, top_purges}
-use Rattle.hep_needs_laws.specs.Needs.{on_top, touched_by, touched_by_next}
+use Rattle.hep_blocked.specs.Needs.{on_top, touched_by, touched_by_next}
 use Rattle.hep_step.specs.Simulation.{IsRunning, RunningTop}
 use Rattle.hep_step.proofs.Running.{coming, scope_running}
 

@@ -13,7 +13,7 @@ use Rattle.hep_code.specs.declared.variable.Variable.{Variable}
 use Rattle.hep_code.specs.Words.{is_asynchronous}
 use Rattle.hep_image.specs.declared.array.Array.{Array}
 use Rattle.hep_image.specs.Finding.{address_of, cells_in}
-use Rattle.hep_needs_laws.specs.Needs.{if_so}
+use Rattle.hep_blocked.specs.Needs.{if_so}
 use Rattle.hep_step.specs.Effects.{subscripts_in}
 use Rattle.hep_step.specs.Ready.{last_operands}
 

@@ -7,7 +7,7 @@ ghost use Rattle.hep_code.specs.declared.instruction.Operation.{Operation};
 ghost use Rattle.hep_code.specs.declared.instruction.Operation.TheVariants.{Purge};
 ghost use Rattle.hep_code.specs.Words.{IsPastPushes};
 ghost use Rattle.hep_layout.specs.Words.{address};
-ghost use Rattle.hep_needs_laws.specs.Needs.{touched_by};
+ghost use Rattle.hep_blocked.specs.Needs.{touched_by};
 ghost use Rattle.hep_step.specs.Simulation.{IsRunning, RunningTop, arrays_running, code_ahead, code_running, is_left_out};
 ghost use Rattle.hep_touched.specs.Touched.{touched_at};
 

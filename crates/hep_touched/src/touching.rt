@@ -5,7 +5,7 @@ ghost use Rattle.hep_arena.specs.Holes.{IsOut};
 ghost use Rattle.hep_code.specs.Replies as replies;
 ghost use Rattle.hep_step.specs.Cells.{HasFrame};
 ghost use Rattle.hep_step.specs.Replies.{accessed_by};
-ghost use Rattle.hep_needs_laws.specs.Needs.{if_so};
+ghost use Rattle.hep_blocked.specs.Needs.{if_so};
 ghost use Rattle.hep_step.specs.Effects.{subscripts_in};
 ghost use Rattle.hep_step.specs.Ready as ready;
 ghost use Rattle.hep_step.specs.Ready.{IsReady, IsVariableReady};

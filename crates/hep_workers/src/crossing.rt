@@ -6,9 +6,8 @@ ghost use Rattle.hep_source.specs.contracts.expression.Expr as expression;
 ghost use Rattle.hep_source.specs.contracts.program.Program as program;
 ghost use Rattle.hep_tickets.specs.contracts.shared.SharedCore as shared;
 
-use hep_blocked::Waits;
+use hep_blocked::{Ready, Waits};
 use hep_image::{BlockStart, DataRow, UnitCode};
-use hep_ready::Ready;
 use hep_source::{Expr, Sequence, Text};
 use hep_state::Machine;
 

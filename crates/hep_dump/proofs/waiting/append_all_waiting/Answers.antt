@@ -1,7 +1,7 @@
 use Rattle.std.proofs.Common.{◌≡◌, suc, ◌++◌, ◌+◌, ◌-◌, List, ℕ, Option, Some, None, refl, length, sym, ap, ◌∙◌, append_assoc, append-nil, arith}
 use Rattle.hep_machine.specs.Words.{Units}
 use Rattle.hep_image.specs.Names.{names_in_order}
-use Rattle.hep_waiting.specs.declared.listed.Listed.{Listed}
+use Rattle.hep_views.specs.declared.listed.Listed.{Listed}
 use Rattle.hep_scheduler.specs.Value.{state_of}
 use Rattle.hep_dump.specs.Waiting as words
 use Rattle.hep_dump.proofs.Counting.{first-of, no-lines}

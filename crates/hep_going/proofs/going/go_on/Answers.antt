@@ -2,7 +2,7 @@ use Rattle.std.proofs.Common.{◌≡◌, ℕ, ◌-◌, ◌≤◌, List, ◌∷�
 use Rattle.std.specs.Vec.{with_item}
 use Rattle.hep_machine.specs.Words.{Value, Units, main_among, numbered}
 use Rattle.hep_conditions.specs.Words.{IsAccepted}
-use Rattle.hep_entering.proofs.Calls.{set-numbered}
+use Rattle.hep_binding.proofs.Calls.{set-numbered}
 use Rattle.hep_frames.specs.Nodes.{nodes_of}
 use Rattle.hep_frames.specs.declared.frames.Frames.{Frames}
 use Rattle.hep_image.specs.Image.{most_cells}

@@ -1,5 +1,5 @@
-use Rattle.hep_passing.specs.Agreement.{caller_running}
-use Rattle.hep_passing.proofs.Ready.{caller-framed}
+use Rattle.hep_step.specs.Agreement.{caller_running}
+use Rattle.hep_step.proofs.ReadyToPass.{caller-framed}
 use Rattle.hep_purging.proofs.Purges.{targets-out, targets-passable}
 use Rattle.hep_purging.proofs.laws.purges_are_ready.Goals as goal
 

@@ -1,7 +1,7 @@
 use Rattle.std.proofs.Common.{sym, subst, ◌∙◌}
 use Rattle.hep_machine.specs.Words.{unit_at}
-use Rattle.hep_layout_laws.specs.Within.{ArePlacedArrays}
-use Rattle.hep_passing.specs.Ready.{ArePassable}
+use Rattle.hep_image.specs.Arrays.{ArePlacedArrays}
+use Rattle.hep_step.specs.ReadyToPass.{ArePassable}
 use Rattle.hep_step.specs.Ready.{frame_in_arena}
 use Rattle.hep_state.specs.Words.{top_frame}
 use Rattle.hep_state.proofs.Callers.{as-many, called-inside, caller_at, calls, calls-so, operands-few, passed-by}

@@ -4,7 +4,7 @@ use Rattle.hep_conditions.specs.Words.{IsAccepted}
 use Rattle.hep_step.specs.declared.way.Way.{Way}
 use Rattle.hep_step.specs.declared.way.Way.TheVariants.{Calls, Creates, Refers}
 use Rattle.hep_step.specs.Calls.{comes_by}
-use Rattle.hep_code_laws.specs.Works.{ComesFrom, IsCalledBy}
+use Rattle.hep_accepted_laws.specs.Works.{ComesFrom, IsCalledBy}
 use Rattle.hep_state.specs.Words.{IsMadeOf}
 use Rattle.hep_state.proofs.laws.programs_are_known.Goals as goal
 

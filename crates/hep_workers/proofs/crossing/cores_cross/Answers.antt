@@ -5,7 +5,7 @@ use denote.Param.Send.{IsSend, sendable, view_send}
 use denote.Param.SendFields.{as_row_send, declared_send, variants_send}
 use Rattle.hep_blocked.specs.contracts.waits.Waits as waits
 use Rattle.hep_machine.specs.contracts.event.Entry as entry
-use Rattle.hep_ready.specs.contracts.ready.Ready as ready
+use Rattle.hep_blocked.specs.contracts.ready.Ready as ready
 use Rattle.hep_scheduler.specs.contracts.scheduler.Core as core
 use Rattle.hep_scheduler.specs.contracts.scheduler.Core.TheInside as inside
 use Rattle.hep_scheduler.specs.contracts.stop.ChoiceStop as stop

@@ -2,7 +2,7 @@ use Rattle.std.proofs.Common.{◌≤◌, length, arith, Result, Ok, Err, IfOk, O
 use Rattle.std.proofs.lemmas.Result.{IfErr-weaker}
 use Rattle.hep_image.specs.Finding.{cells_in}
 use Rattle.hep_image.specs.Image.{most_cells}
-use Rattle.hep_passing.specs.Ready.{ArePassable}
+use Rattle.hep_step.specs.ReadyToPass.{ArePassable}
 use Rattle.hep_purging.specs.Ranges.{ranges_of}
 use Rattle.hep_purging.specs.Ready.{AreOut}
 use Rattle.hep_step.specs.Cells.{HasFrame}

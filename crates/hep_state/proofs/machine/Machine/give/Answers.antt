@@ -5,10 +5,10 @@ use Rattle.hep_code.specs.Words.{operands_of_entries, passed_from}
 use Rattle.hep_image.specs.Finding.{cells_in}
 use Rattle.hep_image.specs.Dummies.{dummy_arguments}
 use Rattle.hep_image.specs.Image.{most_cells}
-use Rattle.hep_passing.specs.declared.given.Given.{Given}
-use Rattle.hep_passing.specs.Passing.{given_by}
-use Rattle.hep_passing.specs.Ready.{ArePassable}
-use Rattle.hep_shaping.specs.Fitting.{AreShapable, are_fitting, shapes_of}
+use Rattle.hep_step.specs.declared.given.Given.{Given}
+use Rattle.hep_step.specs.Passing.{given_by}
+use Rattle.hep_step.specs.ReadyToPass.{ArePassable}
+use Rattle.hep_binding.specs.Fitting.{AreShapable, are_fitting, shapes_of}
 use Rattle.hep_step.specs.Cells.{HasFrame}
 use Rattle.hep_step.specs.Effects.{fails}
 use Rattle.hep_step.specs.Ready.{frame_in_arena}

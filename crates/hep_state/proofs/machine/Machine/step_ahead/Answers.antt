@@ -18,7 +18,7 @@ use Rattle.hep_state.proofs.Tops.{settled, turning}
 use Rattle.hep_state.proofs.Taken.{inside, room-ahead}
 use Rattle.hep_state.proofs.Unchanged.{carry, machine-of, rooms-of, rooms-set}
 use Rattle.hep_state.proofs.machine.Machine.step_ahead.Goals as goal
-use Rattle.hep_entering.proofs.Calls.{set-numbered}
+use Rattle.hep_binding.proofs.Calls.{set-numbered}
 
 -- where none of them stands
 none-left-out : (code : List Instruction) (index : ℕ) → HasNone (drop index code) → IsNotLeftOut code index

@@ -1,5 +1,5 @@
 use Rattle.std.proofs.Common.{◌≡◌, ◌∙◌, ◌<◌, ◌≤◌, ℕ, false, true, None, Some, length, sym, ap, arith, rules, if◌then◌else◌, not}
-use Rattle.hep_blocked_laws.proofs.Members.{ready-rise}
+use Rattle.hep_blocked.proofs.Members.{ready-rise}
 use Rattle.hep_machine.specs.Words.{Progress, first_above, progress_after}
 use Rattle.hep_scheduler.specs.Value.{ready_of}
 use Rattle.hep_tickets.specs.Shared.{SharedValue, free_of}

@@ -1,7 +1,7 @@
 use Rattle.std.proofs.Common.{◌≡◌, ◌∙◌, None, ap, length, sym, not, slice_get}
-use Rattle.hep_blocked_laws.proofs.Members.{ready-rise, rising-filter}
+use Rattle.hep_blocked.proofs.Members.{ready-rise, rising-filter}
 use Rattle.hep_machine.specs.Words.{first_above, last_process, progress_after}
-use Rattle.hep_ready.proofs.Listed.{first-least, first-other, first-some}
+use Rattle.hep_blocked.proofs.Listed.{first-least, first-other, first-some}
 use Rattle.hep_scheduler.specs.Value.{ready_of}
 use Rattle.hep_tickets.specs.Shared.{SharedValue, free_of}
 use Rattle.hep_tickets.specs.Tickets.{is_out}

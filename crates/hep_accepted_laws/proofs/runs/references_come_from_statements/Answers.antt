@@ -1,0 +1,5 @@
+use Rattle.hep_accepted_laws.proofs.Referred.{comes-reference}
+use Rattle.hep_accepted_laws.proofs.runs.references_come_from_statements.Goals as goal
+
+pub returns : goal.returns
+returns c = λ unit k work x actuals h e. comes-reference unit x actuals k work h e

@@ -1,0 +1,10 @@
+pub mod Agreement
+pub mod Flow
+pub mod Meanings
+pub mod Typing
+pub mod Initial
+pub mod Instructions
+pub mod Placed
+pub mod Filled
+pub mod Works
+pub mod Actuals

@@ -1,0 +1,72 @@
+//! What actual arguments give is written to the cells of dummy arguments.
+ghost use Rattle.std.specs.Prelude.{◌≡◌, ◌+◌, ◌*◌, ◌<◌, ◌≤◌, ℕ, Some, length};
+ghost use Rattle.hep_machine.specs.Words.{Name, dummies_of, unset_cell, State, local};
+ghost use Rattle.hep_arena.specs.Holes.{IsOut};
+ghost use Rattle.hep_layout.specs.Descriptors.{number as slot_of_number};
+ghost use Rattle.hep_frames.specs.Keeping.{FramesOf, Keeps};
+ghost use Rattle.hep_frames.specs.Nodes.{nodes_of};
+ghost use Rattle.hep_binding.specs.Giving.{with_given};
+ghost use Rattle.hep_binding.specs.Shapes.{cells_to_locals};
+ghost use Rattle.hep_binding.specs.Writing.{IsBinding, IsPut, unit_framed, unwritten, written_up_to};
+
+use hep_frames::Frames;
+use hep_machine::Slot;
+use hep_source::Value;
+use hep_step::Given;
+
+pub(crate) fn number(value: i64) -> Slot
+    ensures { result ≡ slot_of_number value }
+{
+    Slot {
+        value: Some(Value::Int(value)),
+        full: false,
+    }
+}
+
+// Writes what is given to the two cells of a dummy argument, of which the second one has no value yet.
+fn put(frames: &mut Frames, at: u32, given: Given)
+    requires few { length frames.old.arena.contents ≤ 16777216 }
+    requires inside { at + 2 ≤ length frames.old.arena.contents }
+    requires first { IsOut at frames.old.arena.holes }
+    requires second { IsOut (at + 1) frames.old.arena.holes }
+    ensures put { IsPut at given frames.old.arena frames.new.arena }
+    ensures nodes { nodes_of frames.new.nodes ≡ nodes_of frames.old.nodes }
+    ensures holes { frames.new.arena.holes ≡ frames.old.arena.holes }
+    ensures cells { length frames.new.arena.contents ≡ length frames.old.arena.contents }
+{
+    match given {
+        Given::Value(value) => {
+            let slot = Slot {
+                value: Some(value),
+                full: false,
+            };
+            frames.set(at, slot);
+        }
+        Given::Units { first, count } => {
+            frames.set(at, number(i64::from(first)));
+            frames.set(at + 1, number(i64::from(count)));
+        }
+    }
+}
+
+/// Writes what is given to the cells of a new activation's dummy arguments, whose frame begins at a cell.
+///
+/// The frame is out, and has a header and two cells for each that is given.
+pub fn bind(frames: &mut Frames, first: u32, given: &[Given])
+    requires few { length frames.old.arena.contents ≤ 16777216 }
+    requires inside { first + (1 + 2 * length given.now) ≤ length frames.old.arena.contents }
+    requires out { (p : ℕ) → first ≤ p → p < first + (1 + 2 * length given.now) → IsOut p frames.old.arena.holes }
+    ensures bound { (f : FramesOf) (s : State) (a : ℕ) → Keeps (unwritten f s a) frames.old.arena (nodes_of frames.old.nodes)
+        → f.state.activations ≡ s.activations → f.state.store ≡ with_given s.store a (dummies_of (unit_framed f a)) given.now
+        → ((y : Name) → s.store (local a y 1) ≡ unset_cell) → IsBinding f.program f.state f.layout a first given.now
+        → Keeps (written_up_to f a (cells_to_locals (unit_framed f a))) frames.new.arena (nodes_of frames.new.nodes) }
+    ensures nodes { nodes_of frames.new.nodes ≡ nodes_of frames.old.nodes }
+    ensures holes { frames.new.arena.holes ≡ frames.old.arena.holes }
+    ensures cells { length frames.new.arena.contents ≡ length frames.old.arena.contents }
+{
+    let mut at = first + 1;
+    for one in given {
+        put(frames, at, *one);
+        at += 2;
+    }
+}

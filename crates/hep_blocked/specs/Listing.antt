@@ -1,0 +1,84 @@
+-- Which processes are listed as waiting and which are ready, as a core keeps them: docs/MACHINE.md, "Which process comes next".
+use Rattle.std.specs.Prelude.{◌≡◌, ℕ, ◌&&◌, ◌||◌, Bool, true, false, not, nat_eq, nat_lt, if◌then◌else◌, List, [], ◌∷◌, ◌++◌, length, Option, Some, None, is_some}
+use Rattle.std.specs.Option.{unwrap_or}
+use Rattle.hep_machine.specs.Words.{Units, Layout, is_number_among, living, run, Progress, ready_in, Location, is_waiting}
+use Rattle.hep_blocked.specs.declared.want.Want.{Want}
+use Rattle.hep_blocked.specs.Waiting.{awake, waiting_at, waits_for}
+use Rattle.hep_layout.specs.Words.{address}
+use Rattle.hep_blocked.specs.Awaiting.{NeedsCell}
+use Rattle.hep_blocked.specs.Needs.{touched_by}
+
+-- ---- what is kept
+
+-- process p waits for a cell to be so
+abbrev pub IsBlocked : Units → ℕ → List ℕ → ℕ → Want → Type 0
+IsBlocked program cells choices p w = NeedsCell program cells choices p w.cell w.full × (is_waiting program (run program choices) p ≡ true)
+
+-- after turns of these processes: who is listed waits for what is kept of it, and who is ready is so by the definition
+pub record AreListed (program : Units) (cells : ℕ) (choices : List ℕ) (x : Progress) (waiting : List (Option Want)) (ready : List ℕ) : Type 0 where
+  pub state : x.state ≡ run program choices
+  pub listed : (p : ℕ) → is_number_among p x.listed ≡ is_some (waiting_at waiting p)
+  pub blocked : (p : ℕ) (w : Want) → waiting_at waiting p ≡ Some w → IsBlocked program cells choices p w
+  pub are_ready : (p : ℕ) → is_number_among p ready ≡ is_number_among p (ready_in x)
+
+-- ---- process p was found waiting
+
+-- it waits for this, if it didn't wait before; the others wait as before
+abbrev pub WaitsNow : ℕ → Want → List (Option Want) → List (Option Want) → Type 0
+WaitsNow p w before after = (q : ℕ) → waiting_at after q ≡ (if nat_eq p q then Some (unwrap_or (waiting_at before p) w) else waiting_at before q)
+
+abbrev pub IsReadyNoMore : ℕ → List ℕ → List ℕ → Type 0
+IsReadyNoMore p before after = (q : ℕ) → is_number_among q after ≡ (not (nat_eq p q) && is_number_among q before)
+
+-- ---- process p made a step
+
+-- those wait no more that waited for what has changed to be as it is now
+abbrev pub awake_by : Option Want → Option Want → Option Want
+awake_by None waiting = waiting
+awake_by (Some w) waiting = awake w waiting
+
+abbrev pub is_woken : Option Want → List (Option Want) → ℕ → Bool
+is_woken None waiting q = false
+is_woken (Some w) waiting q = waits_for w waiting q
+
+-- process p isn't ready any more where it has ended, and a process that it made is; so many processes were made before and after
+abbrev pub is_noted : ℕ → Bool → ℕ → ℕ → List ℕ → ℕ → Bool
+is_noted p lives before after ready q = (is_number_among q ready && (not (nat_eq p q) || lives)) || (nat_lt before after && nat_eq q after)
+
+-- the step touches no storage unit but the one kept in this cell, which is so after it
+pub record IsTold (program : Units) (choices : List ℕ) (p : ℕ) (layout : Layout) (changed : Option Want) : Type 0 where
+  pub touched : (at : Location) → touched_by program p (run program choices) ≡ Some at → (w : Want) × (changed ≡ Some w) × (address program (run program choices) layout at ≡ Some w.cell)
+  pub now : (w : Want) (at : Location) → changed ≡ Some w → address program (run program choices) layout at ≡ Some w.cell → ((run program (choices ++ p ∷ [])).store at).full ≡ w.full
+
+-- what is kept of who waits and who is ready goes along with the step
+pub record GoesAlong (program : Units) (choices : List ℕ) (p : ℕ) (changed : Option Want) (waiting waiting_after : List (Option Want)) (ready ready_after : List ℕ) : Type 0 where
+  pub waits : (q : ℕ) → waiting_at waiting_after q ≡ awake_by changed (waiting_at waiting q)
+  pub are_ready : (q : ℕ) → is_number_among q ready_after
+      ≡ (is_woken changed waiting q || is_noted p (is_some (living (run program (choices ++ p ∷ [])) p)) (length (run program choices).processes) (length (run program (choices ++ p ∷ [])).processes) ready q)
+
+-- ---- process p made a PURGE
+
+-- those wait no more that waited for one of these cells to be empty
+abbrev pub awake_where : (ℕ → Bool) → Option Want → Option Want
+awake_where emptied None = None
+awake_where emptied (Some w) = if not w.full && emptied w.cell then None else Some w
+
+-- what is waited for, if anything is, is that one of them is empty
+abbrev pub wants_emptied : (ℕ → Bool) → Option Want → Bool
+wants_emptied emptied None = false
+wants_emptied emptied (Some w) = not w.full && emptied w.cell
+
+-- process q waits for it
+abbrev pub is_woken_where : (ℕ → Bool) → List (Option Want) → ℕ → Bool
+is_woken_where emptied waiting q = wants_emptied emptied (waiting_at waiting q)
+
+-- the step leaves each storage unit as full as it was whose cell isn't among these, and those of these cells are empty after it
+pub record HasEmptied (program : Units) (choices : List ℕ) (p : ℕ) (layout : Layout) (emptied : ℕ → Bool) : Type 0 where
+  pub others : (at : Location) (c : ℕ) → address program (run program choices) layout at ≡ Some c → emptied c ≡ false → ((run program (choices ++ p ∷ [])).store at).full ≡ ((run program choices).store at).full
+  pub now : (at : Location) (c : ℕ) → address program (run program choices) layout at ≡ Some c → emptied c ≡ true → ((run program (choices ++ p ∷ [])).store at).full ≡ false
+
+-- what is kept of who waits and who is ready goes along with a step that empties these cells
+pub record GoesAlongEmptying (program : Units) (choices : List ℕ) (p : ℕ) (emptied : ℕ → Bool) (waiting waiting_after : List (Option Want)) (ready ready_after : List ℕ) : Type 0 where
+  pub waits : (q : ℕ) → waiting_at waiting_after q ≡ awake_where emptied (waiting_at waiting q)
+  pub are_ready : (q : ℕ) → is_number_among q ready_after
+      ≡ (is_woken_where emptied waiting q || is_noted p (is_some (living (run program (choices ++ p ∷ [])) p)) (length (run program choices).processes) (length (run program (choices ++ p ∷ [])).processes) ready q)

@@ -1,4 +1,0 @@
-pub mod Members
-pub mod Living
-pub mod Waking
-pub mod Keeping

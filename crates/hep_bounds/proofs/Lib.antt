@@ -1,4 +1,0 @@
-pub mod Coded
-pub mod Dimensions
-pub mod Sources
-mod Worked

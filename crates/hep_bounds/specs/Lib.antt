@@ -1,3 +1,0 @@
-pub mod BoundCode
-pub mod DimensionCode
-pub mod Sources

@@ -1,0 +1,58 @@
+//! What the code of a bound is made of.
+ghost use Rattle.std.specs.Prelude.{◌≡◌};
+ghost use Rattle.hep_code.specs.BoundCode as code;
+
+use hep_source::{Operator, PureFunction, Sign, Syntax, Value};
+use std::alloc::{AllocError, Global};
+
+/// An operation of the code of a bound. It takes its operands, which are the last values so far, and puts a value in
+/// their place.
+#[derive(Clone, Copy, Debug, PartialEq, Eq)]
+pub enum BoundOperation {
+    /// A constant, or the value of a named constant (X3.9-1978, 8.6).
+    Value(Value),
+    /// What is stored in a cell of COMMON, by its number in the arena.
+    InCommon(u32),
+    /// What is stored in a scalar dummy argument, by its number among the unit's dummy arguments, from 0.
+    InDummy(usize),
+    /// Puts a sign before an operand (6.1.2).
+    Sign(Sign),
+    /// `.NOT.` (6.4.1).
+    Not,
+    /// Combines two operands (6.1.1, 6.3.1 and 6.4.1).
+    Combine(Operator),
+    /// A function of integers (15.10).
+    Apply {
+        function: PureFunction,
+        arguments: usize,
+    },
+    /// What has no value in a bound.
+    Nowhere,
+}
+
+impl BoundOperation {
+    /// How many operands the operation takes.
+    pub fn arity(self) -> usize
+        ensures { result ≡ code.arity self }
+    {
+        match self {
+            BoundOperation::Value(_)
+            | BoundOperation::InCommon(_)
+            | BoundOperation::InDummy(_)
+            | BoundOperation::Nowhere => 0,
+            BoundOperation::Sign(_) | BoundOperation::Not => 1,
+            BoundOperation::Combine(_) => 2,
+            BoundOperation::Apply { arguments, .. } => arguments,
+        }
+    }
+}
+
+impl Syntax for BoundOperation {
+    fn copy(&self, _alloc: Global) -> Result<BoundOperation, AllocError> {
+        Ok(*self)
+    }
+
+    fn same(&self, other: &BoundOperation) -> bool {
+        self == other
+    }
+}

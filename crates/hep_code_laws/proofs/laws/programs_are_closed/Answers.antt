@@ -1,5 +1,0 @@
-use Rattle.hep_code_laws.proofs.Closed.{closed, main-plain}
-use Rattle.hep_code_laws.proofs.laws.programs_are_closed.Goals as goal
-
-pub returns : goal.returns
-returns c = record { closed = closed c.arrays_have_shapes.ensures.constant; main = main-plain }

@@ -1,5 +1,0 @@
-use Rattle.hep_code_laws.proofs.Referred.{comes-reference}
-use Rattle.hep_code_laws.proofs.laws.references_come_from_statements.Goals as goal
-
-pub returns : goal.returns
-returns c = λ unit k work x actuals h e. comes-reference unit x actuals k work h e

@@ -1,5 +1,0 @@
-use Rattle.hep_code_laws.proofs.Levels.{top-comes, works-come}
-use Rattle.hep_code_laws.proofs.laws.works_come_from_statements.Goals as goal
-
-pub returns : goal.returns
-returns c = record { level = works-come; top = top-comes }

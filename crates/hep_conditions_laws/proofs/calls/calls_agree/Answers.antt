@@ -1,5 +1,0 @@
-use Rattle.hep_conditions_laws.proofs.Agreed.{calls_agree}
-use Rattle.hep_conditions_laws.proofs.calls.calls_agree.Goals as goal
-
-pub returns : goal.returns
-returns c = calls_agree

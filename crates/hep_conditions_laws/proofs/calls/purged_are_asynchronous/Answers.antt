@@ -1,5 +1,0 @@
-use Rattle.hep_conditions_laws.proofs.Agreed.{purged_asynchronous, purged_element, purged_no_constant}
-use Rattle.hep_conditions_laws.proofs.calls.purged_are_asynchronous.Goals as goal
-
-pub returns : goal.returns
-returns c = record { asynchronous = purged_asynchronous; variable = purged_no_constant; element = purged_element }

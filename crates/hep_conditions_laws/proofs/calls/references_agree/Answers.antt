@@ -1,5 +1,0 @@
-use Rattle.hep_conditions_laws.proofs.Agreed.{references_agree}
-use Rattle.hep_conditions_laws.proofs.calls.references_agree.Goals as goal
-
-pub returns : goal.returns
-returns c = references_agree

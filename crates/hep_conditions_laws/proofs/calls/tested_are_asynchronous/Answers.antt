@@ -1,5 +1,0 @@
-use Rattle.hep_conditions_laws.proofs.Agreed.{tested_are_asynchronous}
-use Rattle.hep_conditions_laws.proofs.calls.tested_are_asynchronous.Goals as goal
-
-pub returns : goal.returns
-returns c = tested_are_asynchronous

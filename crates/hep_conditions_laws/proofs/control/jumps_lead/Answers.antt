@@ -1,5 +1,0 @@
-use Rattle.hep_conditions_laws.proofs.Nested.{jumps_lead}
-use Rattle.hep_conditions_laws.proofs.control.jumps_lead.Goals as goal
-
-pub returns : goal.returns
-returns c = jumps_lead

@@ -1,5 +1,0 @@
-use Rattle.hep_conditions_laws.proofs.Nested.{labels_are_unique}
-use Rattle.hep_conditions_laws.proofs.control.labels_are_unique.Goals as goal
-
-pub returns : goal.returns
-returns c = labels_are_unique

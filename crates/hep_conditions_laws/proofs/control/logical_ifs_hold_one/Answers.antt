@@ -1,5 +1,0 @@
-use Rattle.hep_conditions_laws.proofs.Nested.{one_is_held, held_is_allowed}
-use Rattle.hep_conditions_laws.proofs.control.logical_ifs_hold_one.Goals as goal
-
-pub returns : goal.returns
-returns c = record { condition = one_is_held; held = held_is_allowed }

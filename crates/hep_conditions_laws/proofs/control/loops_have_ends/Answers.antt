@@ -1,5 +1,0 @@
-use Rattle.hep_conditions_laws.proofs.Nested.{loop_terminal, loop_variable}
-use Rattle.hep_conditions_laws.proofs.control.loops_have_ends.Goals as goal
-
-pub returns : goal.returns
-returns c = record { terminal = loop_terminal; variable = loop_variable }

@@ -1,5 +1,0 @@
-use Rattle.hep_conditions_laws.proofs.Assigned.{values_are_given}
-use Rattle.hep_conditions_laws.proofs.initial.values_are_given.Goals as goal
-
-pub returns : goal.returns
-returns c = values_are_given

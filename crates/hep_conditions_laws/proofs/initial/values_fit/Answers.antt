@@ -1,5 +1,0 @@
-use Rattle.hep_conditions_laws.proofs.Assigned.{values_fit}
-use Rattle.hep_conditions_laws.proofs.initial.values_fit.Goals as goal
-
-pub returns : goal.returns
-returns c = values_fit c.constants_agree.ensures

@@ -1,5 +1,0 @@
-use Rattle.hep_conditions_laws.proofs.Formed.{conditions_are_logical}
-use Rattle.hep_conditions_laws.proofs.types.conditions_are_logical.Goals as goal
-
-pub returns : goal.returns
-returns c = conditions_are_logical

@@ -1,5 +1,0 @@
-use Rattle.hep_conditions_laws.proofs.Formed.{names_have_types}
-use Rattle.hep_conditions_laws.proofs.types.names_have_types.Goals as goal
-
-pub returns : goal.returns
-returns c = names_have_types

@@ -1,4 +1,0 @@
-pub mod Giving
-pub mod Writing
-pub mod Calling
-pub mod Shapes

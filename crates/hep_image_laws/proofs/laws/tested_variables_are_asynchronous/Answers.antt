@@ -1,6 +1,0 @@
-use Rattle.hep_image_laws.proofs.Facts.{facts_of}
-use Rattle.hep_image_laws.proofs.Placed.{tested_variables}
-use Rattle.hep_image_laws.proofs.laws.tested_variables_are_asynchronous.Goals as goal
-
-pub returns : goal.returns
-returns c = λ program u i line n f x accepted h e. tested_variables program u (facts_of c.constants_agree.ensures program u accepted h) i line n f x e

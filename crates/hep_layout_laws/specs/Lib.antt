@@ -1,3 +1,0 @@
-pub mod Constant
-pub mod Within
-pub mod Bound

@@ -1,8 +1,0 @@
-use Rattle.std.proofs.Common.{sym, ◌∙◌}
-use Rattle.hep_needs_laws.specs.Needs.{need_of}
-use Rattle.hep_needs_laws.proofs.Awaiting.{unmet-needed}
-use Rattle.hep_needs_laws.proofs.Waiting.{waits-unmet}
-use Rattle.hep_needs_laws.proofs.laws.waiting_processes_need_it.Goals as goal
-
-pub returns : goal.returns
-returns c program p s w waits = unmet-needed (need_of program p s) s.store w (sym (waits-unmet program p s) ∙ waits)

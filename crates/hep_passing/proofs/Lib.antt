@@ -1,4 +1,0 @@
-pub mod References
-pub mod Entries
-pub mod Ready
-mod Worked

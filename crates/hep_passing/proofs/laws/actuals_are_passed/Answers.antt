@@ -1,5 +1,0 @@
-use Rattle.hep_passing.proofs.References.{reference-passed}
-use Rattle.hep_passing.proofs.laws.actuals_are_passed.Goals as goal
-
-pub returns : goal.returns
-returns c = λ caller b x y vs calls. reference-passed caller calls x vs b y

@@ -1,0 +1,11 @@
+pub mod Read
+mod Nodes
+pub mod Cells
+pub mod Wants
+mod Stopped
+mod Waits
+pub mod Views
+pub mod Above
+pub mod Holders
+pub mod Places
+pub mod Waiting

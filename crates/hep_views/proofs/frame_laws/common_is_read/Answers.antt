@@ -1,0 +1,5 @@
+use Rattle.hep_views.proofs.Read.{common-is-read}
+use Rattle.hep_views.proofs.frame_laws.common_is_read.Goals as goal
+
+pub returns : goal.returns
+returns c f arena nodes keeps = common-is-read f.program f.state f.layout arena.contents keeps.memory.holds

@@ -1,0 +1,6 @@
+pub mod Reading
+pub mod Nodes
+pub mod Waited
+pub mod Seen
+pub mod Sought
+pub mod Listed

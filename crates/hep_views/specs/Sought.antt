@@ -1,0 +1,33 @@
+-- Where the storage unit that is kept in a cell is looked for: in COMMON, and in the frames from an activation upwards.
+use Rattle.std.specs.Prelude.{◌≡◌, ◌+◌, ◌≤◌, ℕ, zero, suc, ◌&&◌, Bool, false, nat_le, nat_lt, if◌then◌else◌, List, Option, Some, None}
+use Rattle.std.specs.Option.{option_map_or}
+use Rattle.hep_machine.specs.Words.{Units, run, Location}
+use Rattle.hep_layout.specs.Words.{address, IsOwnedAbove, FrameNode, Nodes}
+use Rattle.hep_image.specs.Image.{most_cells}
+use Rattle.hep_frames.specs.Nodes.{nodes_of}
+use Rattle.hep_state.specs.declared.machine.Machine.{Machine}
+use Rattle.hep_state.specs.Words.{snapshot_of, IsAfter}
+use Rattle.hep_views.specs.Nodes.{parent_in}
+
+-- the frame of a node has a cell
+abbrev pub has_cell : FrameNode → ℕ → Bool
+has_cell n cell = nat_le n.first cell && nat_lt cell (n.first + n.cells)
+
+abbrev pub has_among : ℕ → Option FrameNode → Bool
+has_among cell None = false
+has_among cell (Some n) = has_cell n cell
+
+-- the key of the first node whose frame has a cell, of that under a key, its parent's, and so on, so many at most
+abbrev pub holder_above : Nodes → ℕ → ℕ → ℕ → Option ℕ
+holder_above nodes cell zero key = None
+holder_above nodes cell (suc n) key = if has_among cell (nodes key) then Some key else option_map_or (holder_above nodes cell n) (parent_in (nodes key)) None
+
+-- after turns of these processes a machine keeps a storage unit in a cell, and it is of COMMON, of the activation whose node is under a key, or of one
+-- above that
+pub record IsSought (program : Units) (cells : ℕ) (choices : List ℕ) (m : Machine) (key cell : ℕ) (at : Location) : Type 0 where
+  pub after : IsAfter program cells choices (snapshot_of m)
+  pub few : cells ≤ most_cells
+  pub kept : address program (run program choices) after.layout at ≡ Some cell
+  pub node : FrameNode
+  pub there : nodes_of m.frames.nodes key ≡ Some node
+  pub owned : IsOwnedAbove (run program choices) node.activation at

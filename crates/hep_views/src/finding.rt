@@ -1,0 +1,150 @@
+//! From the cell for which a process waits to the storage unit that is kept there.
+ghost use Rattle.std.specs.Prelude.{◌≡◌, ◌+◌, ◌-◌, ◌<◌, ◌&&◌, ℕ, IsSome, List, Some, drop, length};
+ghost use Rattle.slab.specs.Slab.{ContainsKey};
+ghost use Rattle.hep_machine.specs.Words.{Name, unit_at, BlockName, run, Location};
+ghost use Rattle.hep_code.specs.Depths as depths;
+ghost use Rattle.hep_layout.specs.Words.{FrameNode};
+ghost use Rattle.hep_image.specs.Image.{most_cells};
+ghost use Rattle.hep_image.specs.Owners.{IsBlockTold, IsTold};
+ghost use Rattle.hep_frames.specs.Nodes.{nodes_of};
+ghost use Rattle.hep_state.specs.Words.{IsMachineAfter, snapshot_of, HasLevels};
+ghost use Rattle.hep_blocked.specs.Listing.{IsBlocked};
+ghost use Rattle.hep_views.specs.Listed.{block_place, listed_by, place_of, variable_place};
+ghost use Rattle.hep_views.specs.Sought.{IsSought, has_cell as frame_has_cell, holder_above};
+
+use crate::listed::Listed;
+use crate::place::Place;
+use hep_blocked::Want;
+use hep_code::Instruction;
+use hep_frames::Frames;
+use hep_image::Image;
+use hep_state::{Level, Machine};
+
+// The level of the top activation of process p.
+fn top(machine: &Machine, p: u64) -> Level
+    requires { HasLevels (snapshot_of machine.now) p }
+    ensures { (levels : HasLevels (snapshot_of machine.now) p) → result ≡ levels.level }
+{
+    let levels = &machine.processes[(p - 1) as usize].levels;
+    levels[levels.len() - 1]
+}
+
+// The line of the first operation from an index on.
+fn line_from(code: &[Instruction], index: usize) -> u32
+    ensures { result ≡ depths.line_ahead (drop index code.now) }
+{
+    let mut at = index;
+    while let Some(instruction) = code.get(at) {
+        if let Instruction::Step { line, .. } = instruction {
+            return *line;
+        }
+        at += 1;
+    }
+    0
+}
+
+// The frame under a key has a cell.
+fn has_cell(frames: &Frames, key: usize, cell: u32) -> bool
+    requires { ContainsKey frames.now.nodes key }
+    ensures { (n : FrameNode) → nodes_of frames.now.nodes key ≡ Some n → result ≡ frame_has_cell n cell }
+{
+    let first = frames.first(key);
+    first <= cell && cell - first < frames.cells(key)
+}
+
+// The key of the node whose frame has a cell: the one under this key, its parent's, and so on, so many at most.
+fn holder(frames: &Frames, key: usize, cell: u32, most: u64) -> usize
+    requires { IsSome (holder_above (nodes_of frames.now.nodes) cell most key) }
+    ensures { holder_above (nodes_of frames.now.nodes) cell most key ≡ Some result }
+{
+    let mut at = key;
+    for _ in 0..most {
+        if has_cell(frames, at, cell) {
+            return at;
+        }
+        let Some(above) = frames.parent(at) else {
+            return at;
+        };
+        at = above;
+    }
+    at
+}
+
+// What COMMON keeps in a cell.
+fn in_common(image: &Image, cell: u32) -> Place
+    requires few { cell < most_cells }
+    requires there { (b : BlockName) × (i : ℕ) × IsBlockTold image.now cell b i }
+    ensures { (b : BlockName) (i : ℕ) → IsBlockTold image.now cell b i → result ≡ block_place image.now b (i + 1) }
+{
+    let start = image.block_at(cell).unwrap();
+    Place {
+        owner: 0,
+        name: image.block_number(start),
+        element: cell - start.first + 1,
+    }
+}
+
+// What the frame of an activation of the unit of this number keeps in a cell, counted from the frame's first one.
+fn in_frame(image: &Image, unit: usize, cell: u32, owner: u64) -> Place
+    requires few { cell < most_cells }
+    requires unit { unit < length image.now }
+    requires there { (x : Name) × (i : ℕ) × IsTold (unit_at image.now unit) cell x i }
+    ensures { (x : Name) (i : ℕ) → IsTold (unit_at image.now unit) cell x i → result ≡ variable_place image.now unit x (i + 1) owner }
+{
+    let variable = image.unit(unit).variable_at(cell).unwrap();
+    let element = if variable.is_array {
+        cell - variable.first + 1
+    } else {
+        0
+    };
+    Place {
+        owner,
+        name: image.variable_number(unit, variable),
+        element,
+    }
+}
+
+// The storage unit that is kept in a cell: of COMMON, or of the activation whose node is under a key or of one above it.
+fn place_at(machine: &Machine, image: &Image, key: usize, cell: u32) -> Place
+    requires { (cells : ℕ) × (choices : List ℕ) × (at : Location) × IsSought image.now cells choices machine.now key cell at }
+    ensures { (cells : ℕ) (choices : List ℕ) (at : Location) → IsSought image.now cells choices machine.now key cell at
+        → result ≡ place_of image.now (run image.now choices) at }
+{
+    image.is_runnable();
+    if cell < image.common() {
+        return in_common(image, cell);
+    }
+    let frames = &machine.frames;
+    let at = holder(frames, key, cell, machine.activations);
+    in_frame(
+        image,
+        frames.unit(at) as usize,
+        cell - frames.first(at),
+        frames.activation(at),
+    )
+}
+
+/// Process p, which waits for a cell to be so, as a person reads of it.
+///
+/// This costs the logarithm of the variables of a unit, and a step for each activation from the process's top one up to the one whose
+/// variable it is.
+pub fn listed(machine: &Machine, image: &Image, p: u64, want: Want) -> Listed
+    requires { (cells : ℕ) × (choices : List ℕ) × IsMachineAfter image.now cells choices machine.now
+        × IsBlocked image.now cells choices p want }
+    ensures { (cells : ℕ) (choices : List ℕ) → IsMachineAfter image.now cells choices machine.now → IsBlocked image.now cells choices p want
+        → listed_by image.now p (run image.now choices) ≡ Some result }
+{
+    let level = top(machine, p);
+    let unit = image.unit(level.unit as usize);
+    let line = line_from(unit.code.as_slice(), level.index);
+    let place = place_at(machine, image, level.key, want.cell);
+    Listed {
+        process: p,
+        unit: level.unit,
+        line,
+        full: want.full,
+        owner: place.owner,
+        name: place.name,
+        element: place.element,
+    }
+}

@@ -1,4 +1,0 @@
-pub mod Above
-pub mod Holders
-pub mod Places
-pub mod Waiting
