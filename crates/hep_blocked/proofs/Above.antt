@@ -3,7 +3,7 @@ use Rattle.std.proofs.Common.{◌≡◌, ◌≢◌, ℕ, zero, suc, ◌+◌, ◌
 use Rattle.std.proofs.lemmas.Bool.{cases_lt, cases_eq, lt-ltb, le-ltb, ne_eqb, eq-eqb}
 use Rattle.hep_machine.specs.Words.{is_number_among, first_above}
 use Rattle.hep_blocked.specs.Numbers.{AreRising, Numbers}
-use Rattle.hep_blocked.specs.declared.want.Want.{Want}
+use Rattle.hep_cells.specs.declared.want.Want.{Want}
 use Rattle.hep_blocked.specs.Lists.{AreNumbers}
 use Rattle.hep_blocked.specs.Waiting.{next_from, next_waiting, waiting_at}
 use Rattle.hep_source.proofs.Tests.{and-false, none-from-not}

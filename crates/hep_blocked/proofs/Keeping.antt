@@ -5,7 +5,7 @@ use Rattle.std.proofs.Math.Bool.{and-false, and-true, not-not, or-false}
 use Rattle.std.proofs.lemmas.Bool.{cases_eq, ne_eqb, eq-eqb}
 use Rattle.std.proofs.lemmas.Option.{none-some, same_Some}
 use Rattle.hep_machine.specs.Words.{Units, is_number_among, living, run, Progress, progress_after_entry, progress_after_step, ready_in, without, State, is_waiting, step}
-use Rattle.hep_blocked.specs.declared.want.Want.{Want}
+use Rattle.hep_cells.specs.declared.want.Want.{Want}
 use Rattle.hep_blocked.specs.Waiting.{waiting_at}
 use Rattle.hep_blocked.specs.Awaiting.{NeedsCell}
 use Rattle.hep_blocked.proofs.Awaiting.{stepped}

@@ -6,7 +6,7 @@ use Rattle.std.proofs.lemmas.List.{length-map}
 use Rattle.std.proofs.lemmas.Map.Views.{any-filter_same}
 use Rattle.hep_machine.specs.Words.{is_number_among, without}
 use Rattle.hep_blocked.specs.Numbers.{Numbers, with_number}
-use Rattle.hep_blocked.specs.declared.want.Want.{Want}
+use Rattle.hep_cells.specs.declared.want.Want.{Want}
 use Rattle.hep_blocked.specs.Lists.{AreNumbers, IsTied, without_numbers}
 use Rattle.hep_blocked.specs.Waiting.{awake, waiting_at, want_eq, wants, with_want}
 use Rattle.hep_blocked.proofs.Adding.{among-one}

@@ -6,7 +6,7 @@ use Rattle.std.proofs.lemmas.Bool.{cases_lt, cases_eq, cases_Bool, or_parts, eqb
 use Rattle.std.proofs.lemmas.List.{ext_get_or, length-map, length-replicate}
 use Rattle.std.proofs.Math.ListN.{get_or-eq_default}
 use Rattle.hep_machine.specs.Words.{is_number_among}
-use Rattle.hep_blocked.specs.declared.want.Want.{Want}
+use Rattle.hep_cells.specs.declared.want.Want.{Want}
 use Rattle.hep_blocked.specs.Lists.{AreApart, IsTied, cleared, items_of, with_process, without_list}
 use Rattle.hep_blocked.specs.Waiting.{awake, numbers_waiting, waiting_at, want_eq, wants, with_numbers, with_want}
 use Rattle.hep_blocked.proofs.Adding.{among-behind, among-many, numbers-same}

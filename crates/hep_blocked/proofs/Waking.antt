@@ -4,13 +4,13 @@ use Rattle.std.proofs.lemmas.Bool.{cases_eq, ne_eqb, eq-eqb}
 use Rattle.std.proofs.lemmas.Option.{none-some, same_Some}
 use mathlib.Core.Bool.{beq}
 use Rattle.hep_machine.specs.Words.{Units, Layout, is_held, layout_of, run, Location, State, step, is_waiting}
-use Rattle.hep_blocked.specs.declared.want.Want.{Want}
+use Rattle.hep_cells.specs.Changes.{full_after}
+use Rattle.hep_cells.specs.declared.want.Want.{Want}
 use Rattle.hep_blocked.specs.Waiting.{waiting_at, want_eq}
 use Rattle.hep_layout.specs.Words.{address}
 use Rattle.hep_blocked.specs.Awaiting.{NeedsCell}
-use Rattle.hep_blocked.specs.Needs.{touched_by}
 use Rattle.hep_blocked.proofs.Awaiting.{need-after, waits-by-state}
-use Rattle.hep_blocked.specs.Listing.{HasEmptied, IsTold, awake_by, awake_where, is_woken, wants_emptied}
+use Rattle.hep_blocked.specs.Listing.{HasChanged, HasEmptied, awake_by, awake_where, is_woken, wants_emptied}
 
 -- ---- what is still waited for
 
@@ -76,11 +76,6 @@ wants-emptied emptied (Some v) = refl
 
 -- ---- after a step of process p
 
--- the step touches nothing that is kept in this cell
-abbrev pub IsElsewhere : Units → List ℕ → ℕ → Layout → ℕ → Type 0
-IsElsewhere program choices p layout cell =
-    (at : Location) → touched_by program p (run program choices) ≡ Some at → address program (run program choices) layout at ≢ Some cell
-
 -- process q waits for v
 module _ (program : Units) (cells : ℕ) (choices : List ℕ) (p q : ℕ) (layout : Layout) (v : Want)
     (needs : NeedsCell program cells choices q v.cell v.full)
@@ -103,25 +98,19 @@ module _ (program : Units) (cells : ℕ) (choices : List ℕ) (p q : ℕ) (layou
   waits-after : is_waiting program t q ≡ not (beq (t.store at).full needs.wanted.full)
   waits-after = waits-by-state program q t needs.wanted (need-after program choices p q needs.wanted there other needs.needed)
 
-  -- where the step makes the storage unit so it waits no more, and else it goes on waiting
-  pub goes-on : (changed : Option Want) → IsTold program choices p layout changed
-      → (IsElsewhere program choices p layout v.cell → is_waiting program t q ≡ is_waiting program s q)
-      → is_waiting program t q ≡ not (is_made changed v)
-  goes-on changed told untouched = by_change changed refl where
-    elsewhere : (x : Want) → changed ≡ Some x → x.cell ≢ v.cell → IsElsewhere program choices p layout v.cell
-    elsewhere x e apart unit touched here =
-        let found = told.touched unit touched in
-        let one : found.0 ≡ x = same_Some found.0 x (sym found.1 ∙ e) in
-        apart (ap (λ (z : Want). z.cell) (sym one) ∙ same_Some found.0.cell v.cell (sym found.2 ∙ here))
+  waits-before : not (beq (s.store at).full needs.wanted.full) ≡ true
+  waits-before = sym (waits-by-state program q s needs.wanted needs.needed) ∙ waits
 
-    by_change : (o : Option Want) → changed ≡ o → is_waiting program t q ≡ not (is_made o v)
-    by_change None e =
-        untouched (λ unit touched. absurd (let found = told.touched unit touched in none-some found.0 (sym e ∙ found.1))) ∙ waits
-    by_change (Some x) e = elim (cases_eq x.cell v.cell) [
-      | inl same ↦
-          let now = told.now x at e (kept ∙ ap (λ n. Some n) (sym same)) in
-          waits-after ∙ ((λ i. not (beq (now i) (needs.state i))) ∙ sym (rw (eq-eqb x.cell v.cell same) refl))
-      | inr apart ↦ untouched (elsewhere x e apart) ∙ (waits ∙ sym (rw (ne_eqb x.cell v.cell apart) refl))
+  -- where the step makes the storage unit so it waits no more, and else it goes on waiting
+  pub goes-on : (changed : Option Want) → HasChanged program choices p layout changed
+      → is_waiting program t q ≡ not (is_made changed v)
+  goes-on changed has = waits-after ∙ (ap (λ full. not (beq full needs.wanted.full)) (has at v.cell kept) ∙ by_change changed) where
+    by_change : (o : Option Want)
+        → not (beq (full_after o v.cell (s.store at).full) needs.wanted.full) ≡ not (is_made o v)
+    by_change None = waits-before
+    by_change (Some x) = elim (cases_eq x.cell v.cell) [
+      | inl same ↦ rw (eq-eqb x.cell v.cell same) (ap (λ full. not (beq x.full full)) needs.state)
+      | inr apart ↦ rw (ne_eqb x.cell v.cell apart) waits-before
     ]
 
   -- where it empties the cell, q waits no more for it to be empty, and else it goes on waiting
@@ -140,5 +129,4 @@ module _ (program : Units) (cells : ℕ) (choices : List ℕ) (p q : ℕ) (layou
     by_cell true e = waits-after ∙ ((λ i. not (beq (has.now at v.cell kept e i) (needs.state i))) ∙ empty v.full)
     by_cell false e =
         waits-after
-        ∙ (ap (λ b. not (beq b needs.wanted.full)) (has.others at v.cell kept e)
-        ∙ (sym (waits-by-state program q s needs.wanted needs.needed) ∙ (waits ∙ still v.full)))
+        ∙ (ap (λ b. not (beq b needs.wanted.full)) (has.others at v.cell kept e) ∙ (waits-before ∙ still v.full))

@@ -5,7 +5,7 @@ use Rattle.std.specs.Global.{Vec}
 use Rattle.std.proofs.lemmas.Bool.{cases_Bool, and_parts, and_from, eqb-true, ne_eqb, eq-eqb}
 use mathlib.Core.Bool.{beq}
 use Rattle.hep_machine.specs.Words.{is_number_among}
-use Rattle.hep_blocked.specs.declared.want.Want.{Want}
+use Rattle.hep_cells.specs.declared.want.Want.{Want}
 use Rattle.hep_blocked.specs.Lists.{items_of}
 use Rattle.hep_blocked.specs.Waiting.{awake, waiting_from, numbers_waiting, waiting_at, want_eq, wants}
 

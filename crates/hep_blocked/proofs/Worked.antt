@@ -1,7 +1,7 @@
 -- Of four processes 1 and 4 wait for cell 7 to be full and 3 waits for it to be empty: what is so once it is full, where process
 -- 6 waits too, where one waits no more, and who waits behind a number.
 use Rattle.std.proofs.Common.{◌≡◌, [], ◌∷◌, List, Option, None, Some, map, true, false, refl}
-use Rattle.hep_blocked.specs.declared.want.Want.{Want}
+use Rattle.hep_cells.specs.declared.want.Want.{Want}
 use Rattle.hep_blocked.specs.Waiting.{awake, next_waiting, numbers_waiting, with_numbers, with_want, without_want}
 
 abbrev filled : Want

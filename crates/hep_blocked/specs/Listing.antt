@@ -2,11 +2,11 @@
 use Rattle.std.specs.Prelude.{◌≡◌, ℕ, ◌&&◌, ◌||◌, Bool, true, false, not, nat_eq, nat_lt, if◌then◌else◌, List, [], ◌∷◌, ◌++◌, length, Option, Some, None, is_some}
 use Rattle.std.specs.Option.{unwrap_or}
 use Rattle.hep_machine.specs.Words.{Units, Layout, is_number_among, living, run, Progress, ready_in, Location, is_waiting}
-use Rattle.hep_blocked.specs.declared.want.Want.{Want}
+use Rattle.hep_cells.specs.Changes.{full_after}
+use Rattle.hep_cells.specs.declared.want.Want.{Want}
 use Rattle.hep_blocked.specs.Waiting.{awake, waiting_at, waits_for}
 use Rattle.hep_layout.specs.Words.{address}
 use Rattle.hep_blocked.specs.Awaiting.{NeedsCell}
-use Rattle.hep_blocked.specs.Needs.{touched_by}
 
 -- ---- what is kept
 
@@ -45,10 +45,11 @@ is_woken (Some w) waiting q = waits_for w waiting q
 abbrev pub is_noted : ℕ → Bool → ℕ → ℕ → List ℕ → ℕ → Bool
 is_noted p lives before after ready q = (is_number_among q ready && (not (nat_eq p q) || lives)) || (nat_lt before after && nat_eq q after)
 
--- the step touches no storage unit but the one kept in this cell, which is so after it
-pub record IsTold (program : Units) (choices : List ℕ) (p : ℕ) (layout : Layout) (changed : Option Want) : Type 0 where
-  pub touched : (at : Location) → touched_by program p (run program choices) ≡ Some at → (w : Want) × (changed ≡ Some w) × (address program (run program choices) layout at ≡ Some w.cell)
-  pub now : (w : Want) (at : Location) → changed ≡ Some w → address program (run program choices) layout at ≡ Some w.cell → ((run program (choices ++ p ∷ [])).store at).full ≡ w.full
+-- the step leaves each storage unit as full as it was but the one that is kept in the changed cell, and that one as the want has it
+abbrev pub HasChanged : Units → List ℕ → ℕ → Layout → Option Want → Type 0
+HasChanged program choices p layout changed =
+    (at : Location) (c : ℕ) → address program (run program choices) layout at ≡ Some c
+    → ((run program (choices ++ p ∷ [])).store at).full ≡ full_after changed c ((run program choices).store at).full
 
 -- what is kept of who waits and who is ready goes along with the step
 pub record GoesAlong (program : Units) (choices : List ℕ) (p : ℕ) (changed : Option Want) (waiting waiting_after : List (Option Want)) (ready ready_after : List ℕ) : Type 0 where

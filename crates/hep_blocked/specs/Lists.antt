@@ -4,7 +4,7 @@ use Rattle.std.specs.Global.{Vec}
 use Rattle.indexmap.specs.IndexMap.{IndexMap, get}
 use Rattle.hep_machine.specs.Words.{is_number_among, without}
 use Rattle.hep_blocked.specs.Numbers.{Numbers}
-use Rattle.hep_blocked.specs.declared.want.Want.{Want}
+use Rattle.hep_cells.specs.declared.want.Want.{Want}
 use Rattle.hep_blocked.specs.Waiting.{waiting_at, waits_for, want_eq}
 
 -- the processes in a list; none where there is no list

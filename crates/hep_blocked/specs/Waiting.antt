@@ -2,7 +2,7 @@
 use Rattle.std.specs.Prelude.{ℕ, zero, suc, ◌-◌, ◌&&◌, Bool, false, if◌then◌else◌, nat_eq, nat_lt, List, [], ◌∷◌, ◌++◌, length, replicate, slice_index_or, slice_set, Option, Some, None, is_some}
 use mathlib.Core.Bool.{beq}
 use Rattle.hep_blocked.specs.Numbers.{with_number}
-use Rattle.hep_blocked.specs.declared.want.Want.{Want}
+use Rattle.hep_cells.specs.declared.want.Want.{Want}
 
 -- the same test as `==` makes it, by which the lists are looked up
 abbrev pub want_eq : Want → Want → Bool

@@ -1,11 +1,11 @@
 //! Laws of lists of processes: what is kept of who waits and who is ready stays what the definitions say.
-ghost use Rattle.std.specs.Prelude.{◌≡◌, ◌≢◌, ◌++◌, ◌∷◌, ℕ, Bool, false, List, [], Option, Some, None};
-ghost use Rattle.hep_machine.specs.Words.{Units, is_purge, Layout, is_held, layout_of, opening, run, Progress, living_from};
+ghost use Rattle.std.specs.Prelude.{◌≡◌, ◌≢◌, ◌++◌, ◌∷◌, ℕ, Bool, List, [], Option, Some, None};
+ghost use Rattle.hep_machine.specs.Words.{Units, Layout, is_held, layout_of, opening, run, Progress, living_from};
 ghost use Rattle.hep_machine.specs.Words.{progress_after_entry, progress_after_step, ready_in, step};
-ghost use Rattle.hep_blocked.specs.declared.want.Want.{Want};
+ghost use Rattle.hep_cells.specs.declared.want.Want.{Want};
 ghost use Rattle.hep_blocked.specs.Waiting.{waiting_at};
 ghost use Rattle.hep_blocked.specs.Numbers.{AreRising};
-ghost use Rattle.hep_blocked.specs.Listing.{AreListed, GoesAlong, GoesAlongEmptying, HasEmptied, IsBlocked, IsReadyNoMore, IsTold};
+ghost use Rattle.hep_blocked.specs.Listing.{AreListed, GoesAlong, GoesAlongEmptying, HasChanged, HasEmptied, IsBlocked, IsReadyNoMore};
 ghost use Rattle.hep_blocked.specs.Listing.{WaitsNow};
 
 use crate::need_laws::others_need_the_same;
@@ -23,13 +23,13 @@ pub fn waiting_processes_are_listed()
         → AreListed program cells choices (progress_after_entry program x (record { process = p; steps = 0 }) 0) after left }
 {}
 
-/// After a step just those are listed that still wait, and just those of the others are ready that live.
+/// After a step that fills or empties one cell at most just those are listed that still wait, and just those of the others are ready that
+/// live.
 pub fn lists_go_along_with_steps()
     ensures { (program : Units) (cells : ℕ) (choices : List ℕ) (x : Progress) (waiting waiting_after : List (Option Want))
-        (ready ready_after : List ℕ) (p : ℕ) (changed : Option Want) (layout after : Layout)
+        (ready ready_after : List ℕ) (p : ℕ) (changed : Option Want) (layout : Layout)
         → AreListed program cells choices x waiting ready → step program p (run program choices) ≢ None
-        → is_purge program (run program choices) p ≡ false → layout_of program cells is_held choices ≡ Some layout
-        → layout_of program cells is_held (choices ++ p ∷ []) ≡ Some after → IsTold program choices p layout changed
+        → layout_of program cells is_held choices ≡ Some layout → HasChanged program choices p layout changed
         → GoesAlong program choices p changed waiting waiting_after ready ready_after
         → AreListed program cells (choices ++ p ∷ [])
         (progress_after_step program x p (run program (choices ++ p ∷ []))) waiting_after ready_after }

@@ -9,8 +9,7 @@ mod lists;
 pub mod need_laws;
 mod ready;
 mod waits;
-mod want;
 
+pub use hep_cells::Want;
 pub use ready::Ready;
 pub use waits::Waits;
-pub use want::Want;

@@ -2,12 +2,12 @@
 ghost use Rattle.std.specs.Prelude.{◌≡◌, ℕ, ◌≤◌, ◌-◌, ◌++◌, None, OnErr, OnOk, IsSome, true, length, replicate};
 ghost use Rattle.indexmap.specs.IndexMap.{IsUnique, get};
 ghost use Rattle.hep_machine.specs.Words.{is_number_among};
-ghost use Rattle.hep_blocked.specs.declared.want.Want.{Want as PureWant};
+ghost use Rattle.hep_cells.specs.declared.want.Want.{Want as PureWant};
 ghost use Rattle.hep_blocked.specs.Lists.{cleared, items_of, list_of, with_process, without_list, without_numbers, without_process};
 ghost use Rattle.hep_blocked.specs.Waiting.{want_eq, with_numbers};
 
 use crate::Ready;
-use crate::want::Want;
+use hep_cells::Want;
 use indexmap::IndexMap;
 use std::alloc::{AllocError, Global};
 

@@ -59,20 +59,12 @@ pub fn waiting_is_read_from_cells()
         → slice_get contents cell ≡ Some slot → is_waiting program (run program choices) p ≡ not (beq slot.full full) }
 {}
 
-/// A process that needs what is kept in a cell still needs just that once another one has stepped; and where the other one doesn't touch
-/// what is kept there, it waits as before.
+/// A process that needs what is kept in a cell still needs just that once another one has stepped.
 pub fn others_need_the_same()
-    ensures cell { (program : Units) (cells : ℕ) (choices : List ℕ) (p q cell : ℕ) (full : Bool) (layout : Layout)
+    ensures { (program : Units) (cells : ℕ) (choices : List ℕ) (p q cell : ℕ) (full : Bool) (layout : Layout)
         → NeedsCell program cells choices q cell full → step program p (run program choices) ≢ None → p ≢ q
         → layout_of program cells is_held choices ≡ Some layout → NeedsCell program cells (choices ++ p ∷ []) q cell full }
-    ensures untouched { (program : Units) (cells : ℕ) (choices : List ℕ) (p q cell : ℕ) (full : Bool) (layout : Layout)
-        → NeedsCell program cells choices q cell full → step program p (run program choices) ≢ None → p ≢ q
-        → is_purge program (run program choices) p ≡ false → layout_of program cells is_held choices ≡ Some layout
-        → ((at : Location) → touched_by program p (run program choices) ≡ Some at
-        → address program (run program choices) layout at ≢ Some cell)
-        → is_waiting program (run program (choices ++ p ∷ [])) q ≡ is_waiting program (run program choices) q }
 {
-    other_units_keep_their_states();
     needed_units_are_held();
     units_stay_in_their_cells();
 }

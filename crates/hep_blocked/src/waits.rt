@@ -7,7 +7,7 @@ ghost use Rattle.hep_blocked.specs.Waiting.{with_numbers, with_want, without_wan
 
 use crate::Ready;
 use crate::lists::{Lists, add, grow, take, take_out, wake_each};
-use crate::want::Want;
+use hep_cells::Want;
 use indexmap::IndexMap;
 use std::alloc::{AllocError, Global};
 use std::marker::Model;
@@ -39,8 +39,8 @@ impl Drop for Waits {
 impl Model for Waits {
     ghost use Rattle.std.specs.Prelude.{List, Option};
     ghost use Rattle.std.specs.Coded.{codes};
-    ghost use Rattle.hep_blocked.specs.declared.want.Want.{Want as PureWant};
-    ghost use Rattle.hep_blocked.specs.contracts.want.Want as want;
+    ghost use Rattle.hep_cells.specs.declared.want.Want.{Want as PureWant};
+    ghost use Rattle.hep_cells.specs.contracts.want.Want as want;
     ghost use Rattle.indexmap.specs.IndexMap.{IsUnique};
     ghost use Rattle.hep_blocked.specs.Lists.{AreNumbers, IsTied, list_of};
     ghost use Rattle.hep_blocked.specs.Waiting.{want_eq};

@@ -3,6 +3,7 @@ use Rattle.std.specs.Prelude.{◌≡◌, pos, true, false, Some, None, refl}
 use Rattle.hep_machine.specs.declared.slot.Slot.{Slot}
 use Rattle.hep_machine.specs.Words.{Value, Int, makes, undefined, purged_cell, reading_asynchronous, setting_empty, unset_cell, waiting_full, writing, writing_asynchronous}
 use Rattle.hep_machine.specs.Access.{gives, waits, reading}
+use Rattle.hep_cells.specs.Changes.{changed_cell, full_after}
 
 abbrev seven : Value
 seven = Int (pos 7)
@@ -67,3 +68,20 @@ empty_again = refl
 
 fill_empty : writing_asynchronous eight (empty_with seven) ≡ makes eight (full_with eight)
 fill_empty = refl
+
+-- ---- the cell at address 4, once it was accessed
+
+filled : changed_cell 4 (empty_with seven) (full_with eight) ≡ Some (record { cell = 4; full = true })
+filled = refl
+
+emptied : changed_cell 4 (full_with seven) (empty_with seven) ≡ Some (record { cell = 4; full = false })
+emptied = refl
+
+written : changed_cell 4 (full_with seven) (full_with eight) ≡ None
+written = refl
+
+full_there : full_after (changed_cell 4 (empty_with seven) (full_with eight)) 4 false ≡ true
+full_there = refl
+
+empty_elsewhere : full_after (changed_cell 4 (empty_with seven) (full_with eight)) 5 false ≡ false
+empty_elsewhere = refl

@@ -3,8 +3,10 @@ ghost use Rattle.std.specs.Prelude.{◌≡◌};
 ghost use Rattle.hep_machine.specs.Access.{reading};
 ghost use Rattle.hep_machine.specs.Words.{purged_cell, reading_asynchronous, setting_empty, waiting_full, writing, writing_asynchronous};
 ghost use Rattle.hep_cells.specs.Outcomes.{outcome_meant};
+ghost use Rattle.hep_cells.specs.Changes.{changed_cell};
 
-use crate::outcome::{AccessOutcome, CellState};
+use crate::outcome::AccessOutcome;
+use crate::want::Want;
 use hep_machine::Slot;
 use hep_source::Value;
 
@@ -38,7 +40,7 @@ pub fn async_read(slot: Slot) -> AccessOutcome
     if slot.full {
         set_empty(slot)
     } else {
-        AccessOutcome::Waits(CellState::Full)
+        AccessOutcome::Waits { full: true }
     }
 }
 
@@ -47,7 +49,7 @@ pub fn async_write(slot: Slot, value: Value) -> AccessOutcome
     ensures { outcome_meant result ≡ writing_asynchronous value slot }
 {
     if slot.full {
-        return AccessOutcome::Waits(CellState::Empty);
+        return AccessOutcome::Waits { full: false };
     }
     AccessOutcome::Makes {
         value,
@@ -65,7 +67,7 @@ pub fn wait_read(slot: Slot) -> AccessOutcome
     if slot.full {
         read(slot)
     } else {
-        AccessOutcome::Waits(CellState::Full)
+        AccessOutcome::Waits { full: true }
     }
 }
 
@@ -90,4 +92,17 @@ pub fn purged(slot: Slot) -> Slot
         value: slot.value,
         full: false,
     }
+}
+
+/// The cell at an address as it is now, if it was filled or emptied: before it was the first slot, and now it is the second.
+pub fn changed(at: u32, before: Slot, now: Slot) -> Option<Want>
+    ensures { result ≡ changed_cell at before now }
+{
+    if before.full == now.full {
+        return None;
+    }
+    Some(Want {
+        cell: at,
+        full: now.full,
+    })
 }

@@ -5,5 +5,7 @@
 
 pub mod cells;
 mod outcome;
+mod want;
 
-pub use outcome::{AccessOutcome, CellState};
+pub use outcome::AccessOutcome;
+pub use want::Want;

@@ -2,13 +2,6 @@
 use hep_machine::Slot;
 use hep_source::Value;
 
-/// The state of a cell.
-#[derive(Clone, Copy, Debug, PartialEq, Eq)]
-pub enum CellState {
-    Full,
-    Empty,
-}
-
 /// What an access to a cell comes to; it is not made yet.
 #[derive(Clone, Copy, Debug, PartialEq, Eq)]
 pub enum AccessOutcome {
@@ -16,8 +9,8 @@ pub enum AccessOutcome {
     Gives(Value),
     /// A value, and the cell is this one then.
     Makes { value: Value, slot: Slot },
-    /// Nothing yet: the process waits until the cell is so.
-    Waits(CellState),
+    /// Nothing yet: the process waits until the cell is full, or until it is empty.
+    Waits { full: bool },
     /// Nothing: no value was ever stored in the cell.
     Undefined,
 }

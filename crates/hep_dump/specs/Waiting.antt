@@ -5,7 +5,7 @@ use Rattle.hep_machine.specs.declared.event.Entry.{Entry}
 use Rattle.hep_machine.specs.Words.{Units}
 use Rattle.hep_image.specs.Names.{names_in_order}
 use Rattle.hep_views.specs.declared.listed.Listed.{Listed}
-use Rattle.hep_scheduler.specs.Value.{listed_after}
+use Rattle.hep_core.specs.Value.{listed_after}
 use Rattle.hep_dump.specs.Names.{name_found}
 
 -- ---- places

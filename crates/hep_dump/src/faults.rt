@@ -1,14 +1,14 @@
 //! The lines of faults.
 ghost use Rattle.std.specs.Prelude.{◌≡◌, ◌++◌, IfOk, OnOk, slice_get};
 ghost use Rattle.hep_image.specs.Names.{names_in_order};
-ghost use Rattle.hep_scheduler.specs.Value.{state_of};
+ghost use Rattle.hep_core.specs.Value.{state_of};
 ghost use Rattle.hep_dump.specs.Faults as words;
 ghost use Rattle.hep_dump.specs.Names.{name_found};
 
+use hep_core::Core;
 use hep_image::Image;
 use hep_machine::{Fault, Kind};
 use hep_output::append_number;
-use hep_scheduler::Core;
 use hep_source::MAIN_NAME;
 use std::alloc::{AllocError, Global};
 

@@ -5,4 +5,4 @@ pub mod faults;
 pub mod waiting;
 
 pub use faults::{append_fault, append_faults, fault_text};
-pub use waiting::{append_all_waiting, append_waiting};
+pub use waiting::{append_all_waiting, append_waiting, dump_text};

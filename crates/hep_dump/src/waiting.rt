@@ -1,14 +1,14 @@
 //! The lines of processes that wait.
-ghost use Rattle.std.specs.Prelude.{◌≡◌, ◌++◌, OnOk, length};
+ghost use Rattle.std.specs.Prelude.{◌≡◌, ◌++◌, IfOk, OnOk, length};
 ghost use Rattle.hep_image.specs.Names.{names_in_order};
-ghost use Rattle.hep_scheduler.specs.Value.{state_of};
+ghost use Rattle.hep_core.specs.Value.{state_of};
 ghost use Rattle.hep_dump.specs.Waiting as words;
 
 use crate::faults::name_of;
+use hep_core::{Core, Listed};
 use hep_image::Image;
 use hep_output::append_number;
-use hep_scheduler::{Core, Listed};
-use std::alloc::AllocError;
+use std::alloc::{AllocError, Global};
 
 // A position of a common block of this name: `/block/#k`.
 fn append_position(text: &mut Vec<u8>, block: &[u8], position: u32) -> Result<(), AllocError>
@@ -105,4 +105,18 @@ pub fn append_all_waiting(text: &mut Vec<u8>, core: &Core) -> Result<(), AllocEr
         last = listed.process;
     }
     Ok(())
+}
+
+/// The lines of all processes that were found waiting and wait since, by their numbers.
+///
+/// # Errors
+///
+/// Only where memory was refused.
+pub fn dump_text(alloc: Global, core: &Core) -> Result<Vec<u8>, AllocError>
+    ensures { IfOk result (λ text. text.items
+        ≡ words.waiting_text core.now.program core.now.history 1 (length (state_of core.now).processes)) }
+{
+    let mut text = Vec::new(alloc);
+    append_all_waiting(&mut text, core)?;
+    Ok(text)
 }

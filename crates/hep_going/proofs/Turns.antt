@@ -1,30 +1,31 @@
 -- A process that goes on keeps what the machine shows: each of its steps is a plain turn.
-use Rattle.std.proofs.Common.{◌≡◌, ◌≢◌, ℕ, zero, suc, ◌+◌, ◌-◌, ◌≤◌, true, false, List, [], ◌∷◌, ◌++◌, drop, length, Some, None, refl, ap, sym, ◌∙◌, subst, arith, slice_set, is_some, length-set}
+use Rattle.std.proofs.Common.{◌≡◌, ℕ, zero, suc, ◌-◌, ◌≤◌, false, List, [], ◌∷◌, ◌++◌, drop, length, refl, ap, sym, ◌∙◌, subst, arith, slice_set, length-set}
 use Rattle.std.proofs.lemmas.Option.{none-some}
-use Rattle.hep_machine.specs.Words.{Value, Units, Layout, main_among, living, numbered, with_numbered, run, Work, unit_at}
+use Rattle.hep_machine.specs.Words.{Value, unit_at}
 use Rattle.hep_machine.specs.declared.slot.Slot.{Slot}
 use Rattle.hep_machine.specs.State.{Level as SourceLevel, Process as SourceProcess}
-use Rattle.hep_conditions.specs.Words.{IsAccepted}
 use Rattle.hep_code.specs.declared.instruction.Instruction.{Instruction}
 use Rattle.hep_code.specs.declared.instruction.Instruction.TheVariants.{Step}
 use Rattle.hep_code.specs.declared.instruction.Operation.{Operation}
 use Rattle.hep_code.specs.declared.instruction.Operation.TheVariants.{Call, Create, Refer, Purge, Resume}
-use Rattle.hep_code.specs.Words.{Stands, code_of, deepest}
+use Rattle.hep_code.specs.Words.{deepest}
 use Rattle.hep_image.specs.declared.array.Array.{Array}
 use Rattle.hep_image.specs.Image.{most_cells}
 use Rattle.hep_image.specs.Arrays.{ArePlacedArrays}
 use Rattle.hep_binding.proofs.Calls.{set-numbered}
 use Rattle.hep_step.specs.Effects.{effect_ahead, moves}
 use Rattle.hep_step.specs.Performed as step
+use Rattle.hep_step.specs.Performed.{changed_in, performed}
 use Rattle.hep_step.specs.Ready.{frame_in_arena}
-use Rattle.hep_step.specs.Simulation.{IsNotLeftOut, is_left_out, unit_addressed, unit_arrays, unit_code}
-use Rattle.hep_state.specs.Words.{HasLevels, IsAfter, IsEffectOf, IsTopRunning, IsTurning, Snapshot, Stack, TurnOf, frame_under, node_under, snapshot_moved, stack_with, top_before, top_frame, turn_settled}
-use Rattle.hep_state.proofs.Moved.{moved-shown, standing-before, top-node}
+use Rattle.hep_step.specs.Simulation.{IsNotLeftOut, is_left_out, unit_arrays, unit_code}
+use Rattle.hep_state.specs.Words.{Changes, HasLevels, IsAfter, IsEffectOf, IsTopRunning, IsTurning, Snapshot, TurnOf, snapshot_moved, stack_with, top_frame, turn_settled}
+use Rattle.hep_state.proofs.Moved.{moved-shown}
 use Rattle.hep_state.proofs.Runs.{set-same}
-use Rattle.hep_state.proofs.Taken.{TellsCell, TellsPurge, ahead-simulated, inside, ready, room-ahead, touches-only}
+use Rattle.hep_state.proofs.Changes.{changes-only}
+use Rattle.hep_state.proofs.Taken.{ahead-simulated, before, ready, room-ahead}
 use Rattle.hep_state.proofs.Tops.{settled, turning}
 use Rattle.hep_moves.specs.Moves.{CanGoOn, Goes, IsMove, IsSettledTo, stays, settles, steps}
-use Rattle.hep_going.specs.Gone.{HasGone, IsPlainTurn, none, more}
+use Rattle.hep_going.specs.Gone.{HasGone, none, more}
 
 -- ---- what only moves calls, creates, refers to and purges nothing
 
@@ -84,8 +85,6 @@ module _ (t : TurnOf) where
   pub record HasLaws : Type 0 where
     pub running : (r : TurnOf) → r.program ≡ t.program → (turning : IsTurning r) → IsTopRunning r turning
     pub arrays : (r : TurnOf) → r.program ≡ t.program → IsTurning r → ArePlacedArrays r.program (unit_at r.program r.level.unit)
-    pub cell : (r : TurnOf) (turning : IsTurning r) → TellsCell turning
-    pub purge : (r : TurnOf) (turning : IsTurning r) → TellsPurge turning
     pub few : t.cells ≤ most_cells
 
   module _ (known : HasLaws) (turns : IsTurning t) where
@@ -140,7 +139,7 @@ module _ (t : TurnOf) where
           after = after;
           gone = more t.choices n come.after come.gone (record {
             stepped = made.stepped;
-            touches = touches-only come.turns runs is.past others (known.cell r come.turns) (known.purge r come.turns) None (sym is.untouched);
+            unchanged = subst (Changes t.program t.cells come.after t.process) (λ i. changed_in (performed (is.effect i) (is.unchanged i) (before come.turns)).0) (changes-only come.turns runs is.past others);
             going = next.1.running;
             lives = λ e. none-some next.0 (sym e ∙ next.1.lives);
             made = sym kept.shows.processes ∙ (count ∙ come.turns.after.shows.processes);

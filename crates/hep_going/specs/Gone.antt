@@ -1,14 +1,18 @@
 -- Turns of one process, one after the other, which only move it: docs/MACHINE.md, "Steps" and "The opening and runs".
-use Rattle.std.specs.Prelude.{◌≡◌, ◌≢◌, ℕ, suc, ◌<◌, false, List, [], ◌∷◌, ◌++◌, length, Some, None}
+use Rattle.std.specs.Prelude.{◌≡◌, ◌≢◌, ℕ, suc, ◌<◌, false, List, [], ◌∷◌, ◌++◌, length, Some, None, vec_capacity}
 use Rattle.hep_machine.specs.Words.{Value, Units, Layout, is_held, layout_of, living, run, step}
 use Rattle.hep_arena.specs.Space.{Space}
 use Rattle.hep_layout.specs.Words.{Nodes}
+use Rattle.hep_frames.specs.declared.frames.Frames.{Frames}
+use Rattle.hep_frames.specs.Nodes.{nodes_of}
 use Rattle.hep_step.specs.Performed as step
 use Rattle.hep_step.specs.Performed.{snapshot}
 use Rattle.hep_step.specs.Ready.{frame_in_arena}
 use Rattle.hep_step.specs.Simulation.{unit_arrays, unit_code}
 use Rattle.hep_state.specs.declared.machine.Level.{Level}
-use Rattle.hep_state.specs.Words.{HasLevels, Snapshot, Stack, Touches, frame_under, node_under, stack_with}
+use Rattle.hep_state.specs.declared.machine.Machine.{Machine}
+use Rattle.hep_state.specs.declared.machine.Process.{Process}
+use Rattle.hep_state.specs.Words.{Changes, HasLevels, IsMachineAfter, Snapshot, Stack, frame_under, node_under, stack_of, stack_with}
 use Rattle.hep_moves.specs.Moves.{CanGoOn, Goes, HasNoMove}
 
 -- ---- the top activation
@@ -41,6 +45,15 @@ pub record HasGoneOn (program : Units) (nodes : Nodes) (l : Level) (ls : List Le
   pub gone : GoesAt program nodes l (snapshot before.contents operands l.index) n (snapshot after.contents left next)
   pub all : n < most → HasNoMoveAt program nodes l (snapshot after.contents left next)
 
+-- so of the top activation of a process, whose frame is among these
+abbrev pub CanGoTop : Units → Process → Frames → Type 0
+CanGoTop program q frames = CanGo program (stack_of q) (vec_capacity q.operands) frames.arena (nodes_of frames.nodes)
+
+abbrev pub GoesTop : Units → Process → Frames → ℕ → ℕ → Process → Frames → Type 0
+GoesTop program old frames most made new after =
+    (l : Level) (ls : List Level) (operands pending : List Value) → stack_of old ≡ stack_with l ls operands pending
+    → HasGoneOn program (nodes_of frames.nodes) l ls operands pending frames.arena after.arena most made (stack_of new)
+
 -- a process lives, and no plain operation stands ahead of it that moves it
 pub record HasNoMoveAhead (program : Units) (p : ℕ) (m : Snapshot) : Type 0 where
   pub living : HasLevels m p
@@ -52,7 +65,7 @@ pub record HasNoMoveAhead (program : Units) (p : ℕ) (m : Snapshot) : Type 0 wh
 -- and leaves each frame where it is
 pub record IsPlainTurn (program : Units) (cells : ℕ) (choices : List ℕ) (p : ℕ) : Type 0 where
   pub stepped : step program p (run program choices) ≢ None
-  pub touches : Touches program cells choices p None
+  pub unchanged : Changes program cells choices p None
   pub going : (run program (choices ++ p ∷ [])).halted ≡ false
   pub lives : living (run program (choices ++ p ∷ [])) p ≢ None
   pub made : length (run program (choices ++ p ∷ [])).processes ≡ length (run program choices).processes
@@ -63,3 +76,9 @@ pub record IsPlainTurn (program : Units) (cells : ℕ) (choices : List ℕ) (p :
 pub data HasGone (program : Units) (cells p : ℕ) : List ℕ → ℕ → List ℕ → Type 0 where
   none : (choices : List ℕ) → HasGone program cells p choices 0 choices
   more : (choices : List ℕ) (n : ℕ) (after : List ℕ) → HasGone program cells p choices n after → IsPlainTurn program cells after p → HasGone program cells p choices (suc n) (after ++ p ∷ [])
+
+-- after whatever turns a machine keeps the state, p made so many more of them, and it keeps the state after those
+abbrev pub MakesMoves : Units → ℕ → Machine → ℕ → Machine → Type 0
+MakesMoves program p old made new =
+    (cells : ℕ) (choices : List ℕ) → IsMachineAfter program cells choices old
+    → (after : List ℕ) × HasGone program cells p choices made after × IsMachineAfter program cells after new

@@ -1,10 +1,6 @@
 //! The top activation of a process, and steps that only move it.
-ghost use Rattle.std.specs.Prelude.{◌≡◌, ◌≤◌, ℕ, List, vec_capacity};
-ghost use Rattle.hep_source.specs.declared.value.Value.{Value as OperandValue};
-ghost use Rattle.hep_frames.specs.Nodes.{nodes_of};
-ghost use Rattle.hep_state.specs.declared.machine.Level.{Level as ALevel};
-ghost use Rattle.hep_state.specs.Words.{stack_of, stack_with};
-ghost use Rattle.hep_going.specs.Gone.{CanGo, HasGoneOn};
+ghost use Rattle.std.specs.Prelude.{◌≡◌, ◌≤◌, vec_capacity};
+ghost use Rattle.hep_going.specs.Gone.{CanGoTop, GoesTop};
 
 use hep_frames::Frames;
 use hep_image::Image;
@@ -20,11 +16,8 @@ pub(crate) fn go_top(
     image: &Image,
     most: u64,
 ) -> u64
-    requires { CanGo image.now (stack_of process.old) (vec_capacity process.old.operands) frames.old.arena
-        (nodes_of frames.old.nodes) }
-    ensures gone { (l : ALevel) (ls : List ALevel) (operands pending : List OperandValue)
-        → stack_of process.old ≡ stack_with l ls operands pending → HasGoneOn image.now (nodes_of frames.old.nodes) l ls operands pending
-        frames.old.arena frames.new.arena most result (stack_of process.new) }
+    requires { CanGoTop image.now process.old frames.old }
+    ensures gone { GoesTop image.now process.old frames.old most result process.new frames.new }
     ensures few { result ≤ most }
     ensures nodes { frames.new.nodes ≡ frames.old.nodes }
     ensures holes { frames.new.arena.holes ≡ frames.old.arena.holes }

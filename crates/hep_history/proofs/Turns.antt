@@ -8,14 +8,15 @@ use Rattle.hep_machine.specs.declared.event.Entry.{Entry}
 use Rattle.hep_machine.specs.Words.{is_held, layout_of, opening, living, run, run_from, state_after_turn, AreSteps, schedule_of, state_after, State, absent, step_result_of, step_result_of_top, state_made, step, wanted_of, is_waiting, Units, view_of}
 use Rattle.hep_state.specs.Words.{HasNoGap}
 use Rattle.hep_state.proofs.Runs.{laid-before}
-use Rattle.hep_scheduler.specs.declared.fault.ChooseFault.TheVariants as refused
-use Rattle.hep_scheduler.specs.declared.stop.ChoiceStop.{ChoiceStop}
-use Rattle.hep_scheduler.specs.declared.stop.ChoiceStop.TheVariants.{Halted}
-use Rattle.hep_scheduler.specs.declared.stop.Turn.{Turn as CoreTurn}
-use Rattle.hep_scheduler.specs.Value.{CoreValue, state_of, core_after_choice, stop_after, HasNoStop, IsTurn, IsChoice}
-use Rattle.hep_scheduler.specs.Going.{AreChoices}
-use Rattle.hep_scheduler.specs.Going as going
-use Rattle.hep_scheduler.proofs.Going.{choices-began}
+use Rattle.hep_core.specs.declared.fault.ChooseFault.TheVariants as refused
+use Rattle.hep_core.specs.declared.stop.ChoiceStop.{ChoiceStop}
+use Rattle.hep_core.specs.declared.stop.ChoiceStop.TheVariants.{Halted}
+use Rattle.hep_core.specs.declared.stop.Turn.{Turn as CoreTurn}
+use Rattle.hep_core.specs.Tickets.{is_out}
+use Rattle.hep_core.specs.Value.{CoreValue, state_of, core_after_choice, stop_after, HasNoStop, IsTurn, IsChoice}
+use Rattle.hep_core.specs.Going.{AreChoices}
+use Rattle.hep_core.specs.Going as going
+use Rattle.hep_core.proofs.Going.{choices-began}
 use Rattle.hep_history.specs.Progress.{AreMade, again, begun, EntryMade, HasTurn, IsCutShort, IsStanding, RunMade, SomeMade, SomeStepsMade, StepsMade, TurnMade, longer, turn_entry}
 use Rattle.hep_history.specs.Replays.{HaveGaps, most_entries, standing, ArePossible, IsPossible, IsThere, replayed, single_entries, single_steps}
 use Rattle.hep_blocked.proofs.Living.{waits-idle}
@@ -90,34 +91,35 @@ gaps_before program cells es fs gaps =
 
 -- a core with this history and state
 with_state : Units → ℕ → ℕ → List Entry → State → CoreValue
-with_state program cells limit history s = record { program = program; cells = cells; limit = limit; history = history; stop = stop_after s; view = view_of program is_held s }
+with_state program cells limit history s = record { program = program; cells = cells; limit = limit; history = history; stop = stop_after s; view = view_of program is_held s; out = []; given = 0 }
 
 -- a choice that was made leaves the core with one entry more
-grown_is : (old : CoreValue) (p n : ℕ) (s : State) → old.limit ≡ most_entries → state_after old.program (old.history ++ record { process = p; steps = n } ∷ []) ≡ s → core_after_choice old p n s ≡ longer old (record { process = p; steps = n } ∷ [])
+grown_is : (old : CoreValue) (p n : ℕ) (s : State) → IsStanding old → state_after old.program (old.history ++ record { process = p; steps = n } ∷ []) ≡ s → core_after_choice old p n s ≡ longer old (record { process = p; steps = n } ∷ [])
 unfolding with_state
-grown_is old p n s limit same =
+grown_is old p n s h same =
     let history : List Entry = old.history ++ record { process = p; steps = n } ∷ [] in
-    ap (λ (l : ℕ). with_state old.program old.cells l history s) limit ∙ ap (λ (t : State). with_state old.program old.cells most_entries history t) (sym same)
+    ap (λ (c : CoreValue). record (with_state old.program old.cells c.limit history s) { out = c.out; given = c.given }) h
+    ∙ ap (λ (t : State). with_state old.program old.cells most_entries history t) (sym same)
 
 limit_is : (old : CoreValue) → IsStanding old → old.limit ≡ most_entries
 limit_is old h = ap (λ c. c.limit) h
 
 turned : (old new : CoreValue) (p n : ℕ) (blocked waits : Bool) → IsStanding old → HasNoStop old → length old.history < old.limit → IsTurn old p n blocked new → TurnMade old p waits (Ok (beq blocked waits)) new
 turned old new p zero true true h going room t =
-    (omega (arith, limit_is old h), (going.1, t.0), t.1 ∙ grown_is old p 0 (state_of old) (limit_is old h) (state_waited old.program old.history p))
+    (omega (arith, limit_is old h), (going.1, t.0), t.1 ∙ grown_is old p 0 (state_of old) h (state_waited old.program old.history p))
 turned old new p zero true false h going room t = λ within has gaps. has (waits-idle old.program p (state_of old) t.0)
 turned old new p (suc zero) false true h going room t = λ within has gaps. cc (t.1, waits-idle old.program p (state_of old) has.1)
 turned old new p (suc zero) false false h going room t = (
   omega (arith, limit_is old h),
   (λ none. cc (t.1, none)),
-  t.2 ∙ grown_is old p 1 t.0 (limit_is old h) (state_stepped old.program old.history p t.0 t.1),
+  t.2 ∙ grown_is old p 1 t.0 h (state_stepped old.program old.history p t.0 t.1),
 )
 turned old new p zero false waits h going room t = absurd t
 turned old new p (suc zero) true waits h going room t = absurd t
 turned old new p (suc (suc n)) blocked waits h going room t = absurd t
 
 pub turn_made : (old new : CoreValue) (p : ℕ) (waits : Bool) (t : CoreTurn) → IsStanding old → IsChoice old p (Ok t) new → TurnMade old p waits (Ok (beq t.blocked waits)) new
-turn_made old new p waits t h c = turned old new p t.steps t.blocked waits h c.0 c.1 c.2
+turn_made old new p waits t h c = turned old new p t.steps t.blocked waits h c.0 c.2 c.3
 
 no_turn : (program : Units) (s : State) (p : ℕ) (waits : Bool) → living s p ≡ None → HasTurn program s p waits → ⊥
 no_turn program s p true dead has = absurd (cc (has.1, (dead_stays program p s dead).1))
@@ -136,8 +138,12 @@ halted_turn program s p false halted has = has (halted_stays program p s halted)
 pub stopped_turns : (old new : CoreValue) (p : ℕ) (waits : Bool) (stop : ChoiceStop) → IsStanding old → IsChoice old p (Err (refused.Stopped stop)) new → TurnMade old p waits (Ok false) new
 stopped_turns old new p waits stop h (inl c) = λ room has gaps.
     halted_turn old.program (state_of old) p waits (is_halted (state_of old) stop (sym (ap (λ k. k.stop) h) ∙ c.0)) has
-stopped_turns old new p waits stop h (inr (inl c)) = λ room has gaps. omega (arith, limit_is old h, c.2)
-stopped_turns old new p waits stop h (inr (inr c)) = λ room has gaps. no_gap_turns old.program old.cells old.history p waits c.3 has gaps
+stopped_turns old new p waits stop h (inr (inl c)) = λ room has gaps. omega (arith, limit_is old h, c.1)
+stopped_turns old new p waits stop h (inr (inr c)) = λ room has gaps. no_gap_turns old.program old.cells old.history p waits c.2 has gaps
+
+-- nobody is out
+pub nobody_out : (old new : CoreValue) (p : ℕ) → IsStanding old → IsChoice old p (Err refused.IsOut) new → ⊥
+nobody_out old new p h c = true≢false (sym c.1 ∙ ap (λ (k : CoreValue). is_out p k.out) h)
 
 -- ---- many turns
 

@@ -1,7 +1,7 @@
 -- Texts of lines, and the first bad one: docs/MACHINE.md, "Histories and choices as texts".
 use Rattle.std.specs.Prelude.{◌≡◌, ◌≢◌, ◌⊎◌, ℕ, zero, suc, ◌+◌, ◌<◌, ◌≤◌, List, [], ◌++◌, length}
 use Rattle.std.specs.List.{AllByRecursion, flat_map}
-use Rattle.hep_base.specs.declared.refusal.Refusal.{Refusal as HistoryFault}
+use Rattle.hep_base.specs.declared.refusal.Refusal.{Refusal as HistFault}
 use Rattle.hep_base.specs.declared.refusal.Refusal.TheVariants.{NoMemory, Refused}
 
 -- the most bytes of a text
@@ -40,6 +40,6 @@ IsRefusedText line Allows text k =
     ((k ≡ 0) × (most_bytes < length text)) ⊎ ((length text ≤ most_bytes) × IsFirstBad line Allows text k)
 
 -- the fault has this number and names a line that is refused so; want of memory says nothing of the text
-abbrev pub ReportsLine : ℕ → (ℕ → Type 0) → HistoryFault → Type 0
+abbrev pub ReportsLine : ℕ → (ℕ → Type 0) → HistFault → Type 0
 ReportsLine n IsAt NoMemory = Unit {0}
 ReportsLine n IsAt (Refused number line name) = (number ≡ n) × (name ≡ []) × IsAt line

@@ -2,7 +2,7 @@
 use Rattle.std.specs.Prelude.{◌≡◌, ◌≢◌, ◌⊎◌, ℕ, zero, suc, ◌+◌, ◌<◌, ◌≤◌, Bool, true, false, List, [], ◌∷◌, ◌++◌, length, replicate, Result, Ok, Err, None}
 use Rattle.hep_machine.specs.declared.event.Entry.{Entry}
 use Rattle.hep_machine.specs.Words.{AreSteps, State, step, is_waiting, Units}
-use Rattle.hep_scheduler.specs.Value.{CoreValue, state_of}
+use Rattle.hep_core.specs.Value.{CoreValue, state_of}
 use Rattle.hep_history.specs.declared.fault.ReplayFault.{ReplayFault}
 use Rattle.hep_history.specs.declared.fault.ReplayFault.TheVariants.{NoMemory}
 use Rattle.hep_history.specs.Replays.{HaveGaps, IsThere, most_entries, single_steps, standing}

@@ -3,9 +3,9 @@ use Rattle.std.specs.Prelude.{◌≡◌, ℕ, zero, suc, ◌+◌, ◌^◌, ◌<�
 use Rattle.std.specs.List.{flat_map}
 use Rattle.hep_machine.specs.declared.event.Entry.{Entry}
 use Rattle.hep_machine.specs.Words.{is_held, layout_of, opening_layout, AreSteps, schedule_of, state_after, State, is_waiting, Units, view_of}
-use Rattle.hep_scheduler.specs.declared.fault.NewFault.{NewFault}
-use Rattle.hep_scheduler.specs.declared.fault.NewFault.TheVariants as new
-use Rattle.hep_scheduler.specs.Value.{CoreValue, stop_after}
+use Rattle.hep_core.specs.declared.fault.NewFault.{NewFault}
+use Rattle.hep_core.specs.declared.fault.NewFault.TheVariants as new
+use Rattle.hep_core.specs.Value.{CoreValue, stop_after}
 use Rattle.hep_history.specs.declared.fault.ReplayFault.{ReplayFault}
 use Rattle.hep_history.specs.declared.fault.ReplayFault.TheVariants.{NoMemory, ArenaFull, Refused}
 
@@ -57,7 +57,7 @@ pub record IsFirstImpossible (program : Units) (cells : ℕ) (entries : List Ent
 
 -- ---- what comes of making entries again
 
--- the core that has made a history of entries of one step and of none, whose stop is a STOP's alone
+-- the core that has made a history of entries of one step and of none, whose stop is a STOP's alone, and of which no process is out
 abbrev pub standing : Units → ℕ → List Entry → CoreValue
 standing program cells history =
     record {
@@ -67,6 +67,8 @@ standing program cells history =
       history = history;
       stop = stop_after (state_after program history);
       view = view_of program is_held (state_after program history);
+      out = [];
+      given = 0;
     }
 
 abbrev pub replayed : Units → ℕ → List Entry → CoreValue

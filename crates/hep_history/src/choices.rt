@@ -7,7 +7,7 @@ ghost use Rattle.hep_history.specs.Choices.{choice_text, IsProcess};
 use crate::history::MOST_PROCESS;
 use crate::lines::{FromLine, Row, read_lines};
 use crate::number::number_before;
-use hep_base::{Refusal as HistoryFault, Sequence};
+use hep_base::{Refusal as HistFault, Sequence};
 use std::alloc::{AllocError, Global};
 
 /// Process numbers, in the order in which they are to be chosen.
@@ -44,7 +44,7 @@ impl Row<u64> for Vec<u64> {
 ///
 /// `Refused` with 602 at the first bad line, or at line 0 where the text has more than 150,000,000
 /// bytes; `NoMemory`.
-pub fn read_choices(alloc: Global, text: &[u8]) -> Result<Choices, HistoryFault>
+pub fn read_choices(alloc: Global, text: &[u8]) -> Result<Choices, HistFault>
     ensures read { IfOk result (λ choices. AreLines choice_text IsProcess text.now choices) }
     ensures refused { IfErr result (λ fault.
         ReportsLine 602 (IsRefusedText choice_text IsProcess text.now) fault) }

@@ -2,7 +2,7 @@
 
 ghost use Rattle.std.specs.Prelude.{◌≡◌};
 
-use hep_scheduler::NewFault;
+use hep_core::NewFault;
 use thiserror::Error;
 
 /// Why a history isn't made again.

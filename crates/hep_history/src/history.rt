@@ -8,7 +8,7 @@ ghost use Rattle.hep_history.specs.Histories.{entry_text, history_text, IsAllowe
 use crate::alike::Runs;
 use crate::lines::{FromLine, read_lines};
 use crate::number::number_before;
-use hep_base::{Refusal as HistoryFault, Sequence};
+use hep_base::{Refusal as HistFault, Sequence};
 use hep_machine::Entry;
 use hep_output::append_number;
 use std::alloc::{AllocError, Global};
@@ -73,7 +73,7 @@ impl FromLine for Entry {
 ///
 /// `Refused` with 601 at the first bad line, or at line 0 where the text has more than 150,000,000
 /// bytes; `NoMemory`.
-pub fn read_text(alloc: Global, text: &[u8]) -> Result<Runs, HistoryFault>
+pub fn read_text(alloc: Global, text: &[u8]) -> Result<Runs, HistFault>
     ensures read { IfOk result (λ history. AreLines entry_text IsAllowed text.now history) }
     ensures refused { IfErr result (λ fault.
         ReportsLine 601 (IsRefusedText entry_text IsAllowed text.now) fault) }

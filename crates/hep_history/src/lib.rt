@@ -19,6 +19,6 @@ pub use choices::{Choices, read_choices};
 pub use fault::ReplayFault;
 /// Why a text is refused: 601 for a history, 602 for choices, with the first bad line, and line 0
 /// where the text is too long. Neither is about a name.
-pub use hep_base::Refusal as HistoryFault;
+pub use hep_base::Refusal as HistFault;
 pub use history::{History, read_text, write_text};
 pub use replays::replay;

@@ -4,7 +4,7 @@ ghost use Rattle.hep_base.specs.declared.refusal.Refusal.TheVariants.{NoMemory};
 ghost use Rattle.hep_history.specs.Lines.{AreApart, AreLines, IsRefusedText, ReportsLine, most_bytes, repeated};
 
 use crate::history::MOST_BYTES;
-use hep_base::Refusal as HistoryFault;
+use hep_base::Refusal as HistFault;
 use std::alloc::{AllocError, Global};
 
 // What has a line in a text.
@@ -71,7 +71,7 @@ pub(crate) fn read_lines<T: FromLine, R: Row<T>>(
     text: &[u8],
     number: u16,
     mut row: R,
-) -> Result<R, HistoryFault>
+) -> Result<R, HistFault>
     requires apart { AreApart T.line T.allows }
     requires empty { R.items row ≡ [] }
     ensures read { IfOk result (λ row. AreLines T.line T.allows text.now (R.items row)) }
@@ -81,13 +81,13 @@ pub(crate) fn read_lines<T: FromLine, R: Row<T>>(
         → MatchResult result (λ row. R.items row ≡ xs) (λ fault. fault ≡ NoMemory) }
 {
     if MOST_BYTES < text.len() {
-        return Err(HistoryFault::refused(alloc, number, 0));
+        return Err(HistFault::refused(alloc, number, 0));
     }
     let mut count = 0;
     let mut rest = text;
     while !rest.is_empty() {
         let Some((item, rest_after)) = T::from_front(rest) else {
-            return Err(HistoryFault::refused(alloc, number, count + 1));
+            return Err(HistFault::refused(alloc, number, count + 1));
         };
         let line = &rest[..rest.len() - rest_after.len()];
         let (more, rest_after) = past_again(line, rest_after);

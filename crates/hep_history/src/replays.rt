@@ -6,9 +6,9 @@ ghost use Rattle.hep_history.specs.Progress.{EntryMade, IsStanding, RunMade, Som
 
 use crate::alike::Runs;
 use crate::fault::ReplayFault;
+use hep_core::{ChooseFault, Core};
 use hep_image::Image;
 use hep_machine::Entry;
-use hep_scheduler::{ChooseFault, Core};
 use std::alloc::Global;
 
 /// The longest history of the core on which a history is made again.
@@ -28,6 +28,7 @@ fn make_turn(core: &mut Core, process: u64, waits: bool) -> Result<bool, ReplayF
         Err(ChooseFault::NoMemory) => Err(ReplayFault::NoMemory),
         Err(ChooseFault::Stopped(_)) => Ok(false),
         Err(ChooseFault::NoSuchProcess) => Ok(false),
+        Err(ChooseFault::IsOut | ChooseFault::NoTicket) => unreachable!(),
     }
 }
 
@@ -75,6 +76,7 @@ fn make_some_steps(core: &mut Core, process: u64, most: u64) -> Result<u64, Repl
         Err(ChooseFault::NoMemory) => Err(ReplayFault::NoMemory),
         Err(ChooseFault::Stopped(_)) => Ok(0),
         Err(ChooseFault::NoSuchProcess) => Ok(0),
+        Err(ChooseFault::IsOut | ChooseFault::NoTicket) => unreachable!(),
     }
 }
 

@@ -8,4 +8,6 @@ mod program;
 mod spellings;
 mod units;
 
+pub use hep_base::Refusal as LowerFault;
+pub use hep_image::Image;
 pub use program::{MOST_CELLS, lower};

@@ -27,7 +27,7 @@ fn moved(performed: Result<Effect, AllocError>) -> bool
     ensures { result ≡ is_moved performed }
 {
     match performed {
-        Ok(Effect::Moved) => true,
+        Ok(Effect::Moved { .. }) => true,
         _ => false,
     }
 }

@@ -1,10 +1,10 @@
 -- The outcome of a run, from the core that it left.
 use Rattle.std.proofs.Common.{◌≡◌, ℕ, List, Option, Some, None, Result, Ok, Err, refl, subst, inl, inr, IfOk}
 use Rattle.hep_machine.specs.Words.{IsLegal, Units}
-use Rattle.hep_scheduler.specs.declared.stop.ChoiceStop.{ChoiceStop}
-use Rattle.hep_scheduler.specs.declared.stop.ChoiceStop.TheVariants.{Halted, ArenaFull, StepLimit}
-use Rattle.hep_scheduler.specs.Value as core
-use Rattle.hep_scheduler.specs.Value.{CoreValue}
+use Rattle.hep_core.specs.declared.stop.ChoiceStop.{ChoiceStop}
+use Rattle.hep_core.specs.declared.stop.ChoiceStop.TheVariants.{Halted, ArenaFull, StepLimit}
+use Rattle.hep_core.specs.Value as core
+use Rattle.hep_core.specs.Value.{CoreValue}
 use Rattle.hep_run.specs.declared.options.Options.{Options}
 use Rattle.hep_run.specs.declared.options.Run.{Run}
 use Rattle.hep_run.specs.declared.transcript.Transcript.{Transcript}

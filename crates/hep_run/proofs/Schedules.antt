@@ -1,22 +1,24 @@
 -- A choice makes a history longer by one entry, of the process that comes next.
-use Rattle.std.proofs.Common.{◌≡◌, ℕ, zero, suc, ◌+◌, ◌<◌, ◌≤◌, Bool, true, false, List, [], ◌∷◌, ◌++◌, length, take, Option, Some, None, refl, sym, ap, ◌∙◌, subst, arith, inl, inr, Ok, Err, length-append, ◌≢◌, slice_get, nat_lt, not, replicate, cond, if◌then◌else◌}
+use Rattle.std.proofs.Common.{◌≡◌, ℕ, zero, suc, ◌+◌, ◌<◌, ◌≤◌, Bool, true, false, List, [], ◌∷◌, ◌++◌, length, take, Option, Some, None, refl, sym, ap, ◌∙◌, subst, arith, inl, inr, Ok, Err, length-append, ◌≢◌, slice_get, nat_lt, not, true≢false, replicate, cond, if◌then◌else◌}
 use Rattle.std.specs.List.{filter}
 use Rattle.hep_state.specs.Words.{HasNoGap}
-use Rattle.hep_scheduler.specs.declared.stop.ChoiceStop.{ChoiceStop}
-use Rattle.hep_scheduler.specs.declared.stop.ChoiceStop.TheVariants.{ArenaFull, Halted, StepLimit}
-use Rattle.hep_scheduler.specs.declared.fault.ChooseFault.{ChooseFault}
-use Rattle.hep_scheduler.specs.declared.fault.ChooseFault.TheVariants.{NoSuchProcess, Stopped}
+use Rattle.hep_core.specs.declared.stop.ChoiceStop.{ChoiceStop}
+use Rattle.hep_core.specs.declared.stop.ChoiceStop.TheVariants.{ArenaFull, Halted, StepLimit}
+use Rattle.hep_core.specs.declared.fault.ChooseFault.{ChooseFault}
+use Rattle.hep_core.specs.declared.fault.ChooseFault.TheVariants.{IsOut, NoSuchProcess, Stopped}
 use Rattle.std.proofs.lemmas.Bool.{cases_lt}
 use Rattle.std.proofs.lemmas.List.{take-append-le}
 use Rattle.std.proofs.Math.Seq.{take-append_seam}
 use Rattle.std.proofs.lemmas.Option.{slice_get_within, slice_get_past}
 use Rattle.hep_machine.specs.declared.event.Entry.{Entry}
 use Rattle.hep_machine.specs.Words.{Units, State, Process, opening, run, run_from, schedule_of, state_after, state_after_turn, Progress, progress_after_step, progress_after_steps, progress_after_entry, progress_from, progress_after, living_from, ready_in, last_process, first_above, next_of_ready, next_ready, living, top_of, is_number_among}
-use Rattle.hep_scheduler.specs.declared.stop.Turn.{Turn}
-use Rattle.hep_scheduler.specs.declared.stop.Turns.{Turns}
-use Rattle.hep_scheduler.specs.Going.{AreChoices, AreTurns, again, begun}
-use Rattle.hep_scheduler.proofs.Going.{choices-began, unmoved}
-use Rattle.hep_scheduler.specs.Value.{CoreValue, state_of, core_after_choice, ready_of, stop_after, HasNoStop, IsTurn, IsChoice}
+use Rattle.hep_core.specs.declared.stop.Turn.{Turn}
+use Rattle.hep_core.specs.declared.stop.Turns.{Turns}
+use Rattle.hep_core.specs.Going.{AreChoices, AreTurns, again, begun}
+use Rattle.hep_core.proofs.Going.{choices-began, unmoved}
+use Rattle.hep_core.specs.declared.ticket.TicketId.{TicketId}
+use Rattle.hep_core.specs.Tickets.{is_out}
+use Rattle.hep_core.specs.Value.{CoreValue, state_of, core_after_choice, free_of, next_ready_of, ready_of, stop_after, HasNoStop, IsFree, IsTurn, IsChoice}
 use Rattle.hep_run.specs.declared.options.Options.{Options}
 use Rattle.hep_run.specs.declared.run.Halt.TheVariants as halts
 use Rattle.hep_run.specs.Outcome.{first_choice, next_process, IsNextEntry, IsScheduled}
@@ -81,6 +83,7 @@ grown_running options old p n s few running next =
     record {
       cells = running.cells;
       limit = running.limit;
+      out = running.out;
       scheduled = one_more old.program options.choices old.history (record { process = p; steps = n }) running.scheduled (next, few);
       stop = no_stop options (core_after_choice old p n s) s;
     }
@@ -105,8 +108,8 @@ longer options old p n s few room running next =
 
 pub chosen : (options : Options) (old new : CoreValue) (p : ℕ) (state_after_turn : Turn) → IsChoice old p (Ok state_after_turn) new → IsRunning options old → next_process old.program options.choices old.history ≡ Some p → IsLonger options old 1 new
 chosen options old new p state_after_turn c running next =
-    let t = turned old new p state_after_turn.steps state_after_turn.blocked c.2 in
-    subst (IsLonger options old 1) (sym t.3) (longer options old p t.0 t.2 t.1 c.1 running next)
+    let t = turned old new p state_after_turn.steps state_after_turn.blocked c.3 in
+    subst (IsLonger options old 1) (sym t.3) (longer options old p t.0 t.2 t.1 c.2 running next)
 
 -- and one more
 one_longer : (options : Options) (old mid new : CoreValue) (n : ℕ) → (n ≡ 0 → old ≡ mid) → IsLonger options old n mid → IsLonger options mid 1 new → IsLonger options old (suc n) new
@@ -262,23 +265,25 @@ stopped options old new p stop c running next = elim c [ inl before ↦ at_stop 
     at_stop : (old.stop ≡ Some stop) × (new ≡ old) → IsRunning options new
     at_stop (is, same) = subst (IsRunning options) (sym same) running
 
-    at_limit : HasNoStop old × (living (state_of old) p ≢ None) × (length old.history ≡ old.limit) × (stop ≡ StepLimit) × (new ≡ record old { stop = Some StepLimit }) → IsRunning options new
-    at_limit (going, alive, full, is, same) =
+    at_limit : IsFree old p × (length old.history ≡ old.limit) × (stop ≡ StepLimit) × (new ≡ record old { stop = Some StepLimit }) → IsRunning options new
+    at_limit (free, full, is, same) =
         let cut : IsRunning options (record old { stop = Some StepLimit }) = record {
           cells = running.cells;
           limit = running.limit;
+          out = running.out;
           scheduled = running.scheduled;
-          stop = (full ∙ running.limit, p, next going, alive);
+          stop = (full ∙ running.limit, p, next free.0, free.1);
         } in
         subst (IsRunning options) (sym same) cut
 
-    at_gap : HasNoStop old × (living (state_of old) p ≢ None) × (length old.history < old.limit) × HasNoGap old.program old.cells (schedule_of old.history) p × (stop ≡ ArenaFull) × (new ≡ record old { stop = Some ArenaFull }) → IsRunning options new
-    at_gap (going, alive, room, gap, is, same) =
+    at_gap : IsFree old p × (length old.history < old.limit) × HasNoGap old.program old.cells (schedule_of old.history) p × (stop ≡ ArenaFull) × (new ≡ record old { stop = Some ArenaFull }) → IsRunning options new
+    at_gap (free, room, gap, is, same) =
         let full : IsRunning options (record old { stop = Some ArenaFull }) = record {
           cells = running.cells;
           limit = running.limit;
+          out = running.out;
           scheduled = running.scheduled;
-          stop = (omega (arith, room, running.limit), p, next going, subst (λ (n : ℕ). HasNoGap old.program n (schedule_of old.history) p) running.cells gap);
+          stop = (omega (arith, room, running.limit), p, next free.0, subst (λ (n : ℕ). HasNoGap old.program n (schedule_of old.history) p) running.cells gap);
         } in
         subst (IsRunning options) (sym same) full
 
@@ -288,6 +293,20 @@ nobody_chosen options old new p i c running count here =
     let refused : IsHaltedBy options old (halts.NoSuchProcess (i + 1)) =
     (running, omega (arith, count), (c.0.1, p, subst (λ (k : ℕ). slice_get options.choices k ≡ Some p) (sym count) here, c.1)) in
     subst (λ (v : CoreValue). IsHaltedBy options v (halts.NoSuchProcess (i + 1))) (sym c.2) refused
+
+-- nobody is out
+pub nobody_out : (options : Options) (old new : CoreValue) (p : ℕ) → IsRunning options old → IsChoice old p (Err IsOut) new → ⊥
+nobody_out options old new p running c = true≢false (sym c.1 ∙ ap (is_out p) running.out)
+
+-- so what comes next by itself is what is ready
+all_free : (ps : List ℕ) (out : List TicketId) → out ≡ [] → filter (λ p. not (is_out p out)) ps ≡ ps
+all_free ps out none = ap (λ ts. filter (λ p. not (is_out p ts)) ps) none ∙ whole ps where
+  whole : (qs : List ℕ) → filter (λ p. not (is_out p [])) qs ≡ qs
+  whole [] = refl
+  whole (q ∷ qs) = ap (λ rest. q ∷ rest) (whole qs)
+
+pub comes_next : (options : Options) (core : CoreValue) → IsRunning options core → next_ready_of core ≡ next_ready core.program core.history
+comes_next options core running = ap (next_of_ready (last_process core.history)) (all_free (ready_of core) core.out running.out)
 
 pub is_none : (o : Option ℕ) → ((p : ℕ) → o ≡ Some p → ⊥) → o ≡ None
 is_none None h = refl
@@ -320,7 +339,7 @@ module _ (options : Options) (p : ℕ) (old : CoreValue) (running : IsRunning op
       let same : n ≡ 0 → old ≡ core = λ z. unmoved p old n core z before in
       let going = is.chosen.0.1 in
       let comes = next_is_ready core.program options.choices core.history going (omega (arith, past, gone.far.entries)) ∙ alone_next n core (λ some. alone (omega (arith, some))) same gone in
-      let made = turned core new p 1 false is.chosen.2 in
+      let made = turned core new p 1 false is.chosen.3 in
       record {
         far = one_longer options old core new n same gone.far (chosen options core new p (record { steps = 1; blocked = false }) is.chosen gone.far.running comes);
         same = is.ready ∙ gone.same;

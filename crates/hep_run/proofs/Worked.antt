@@ -1,7 +1,7 @@
 -- What workers leave.
 use Rattle.std.proofs.Common.{◌≡◌, ℕ, Bool, true, List, Option, Some, None, inr, refl, sym, ap, ◌∙◌, subst}
 use Rattle.hep_machine.specs.Words.{IsLegal, Units}
-use Rattle.hep_scheduler.specs.Value.{CoreValue, IsStop}
+use Rattle.hep_core.specs.Value.{CoreValue, IsStop}
 use Rattle.hep_workers.specs.declared.fault.CloseFault.TheVariants as close
 use Rattle.hep_workers.specs.declared.fault.CrewFault.TheVariants as crew
 use Rattle.hep_workers.specs.declared.fault.WorkFault.{WorkFault}

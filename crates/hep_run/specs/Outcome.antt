@@ -4,11 +4,11 @@ use Rattle.hep_machine.specs.declared.event.Entry.{Entry}
 use Rattle.hep_machine.specs.declared.event.Fault.{Fault}
 use Rattle.hep_machine.specs.Words.{Units, opening_layout, living_from, next_ready, progress_after, ready_in, schedule_of, state_after, IsLegal, living}
 use Rattle.hep_state.specs.Words.{HasNoGap}
-use Rattle.hep_scheduler.specs.declared.stop.ChoiceStop.{ChoiceStop}
-use Rattle.hep_scheduler.specs.declared.stop.ChoiceStop.TheVariants.{Halted, ArenaFull, StepLimit}
-use Rattle.hep_scheduler.specs.declared.stop.Verdict.{Verdict}
-use Rattle.hep_scheduler.specs.declared.stop.Verdict.TheVariants as verdicts
-use Rattle.hep_scheduler.specs.Value.{verdict_by}
+use Rattle.hep_core.specs.declared.stop.ChoiceStop.{ChoiceStop}
+use Rattle.hep_core.specs.declared.stop.ChoiceStop.TheVariants.{Halted, ArenaFull, StepLimit}
+use Rattle.hep_core.specs.declared.stop.Verdict.{Verdict}
+use Rattle.hep_core.specs.declared.stop.Verdict.TheVariants as verdicts
+use Rattle.hep_core.specs.Value.{verdict_by}
 use Rattle.hep_image.specs.Names.{names_in_order}
 use Rattle.hep_run.specs.declared.options.Options.{Options}
 use Rattle.hep_run.specs.declared.status.Status.{Status}

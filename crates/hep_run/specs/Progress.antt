@@ -1,9 +1,9 @@
 -- How far a run has come: docs/ARCHITECTURE.md, "Forms".
-use Rattle.std.specs.Prelude.{◌≡◌, ℕ, ◌+◌, List, length, Option, Some, None, IsSome}
+use Rattle.std.specs.Prelude.{◌≡◌, ℕ, ◌+◌, List, [], length, Option, Some, None, IsSome}
 use Rattle.hep_machine.specs.Words.{Units, opening_layout}
-use Rattle.hep_scheduler.specs.declared.stop.ChoiceStop.{ChoiceStop}
-use Rattle.hep_scheduler.specs.declared.stop.ChoiceStop.TheVariants.{Halted, ArenaFull, StepLimit}
-use Rattle.hep_scheduler.specs.Value.{CoreValue, opening_of}
+use Rattle.hep_core.specs.declared.stop.ChoiceStop.{ChoiceStop}
+use Rattle.hep_core.specs.declared.stop.ChoiceStop.TheVariants.{Halted, ArenaFull, StepLimit}
+use Rattle.hep_core.specs.Value.{CoreValue, opening_of}
 use Rattle.hep_run.specs.declared.options.Options.{Options}
 use Rattle.hep_run.specs.declared.run.Halt.{Halt}
 use Rattle.hep_run.specs.declared.run.Halt.TheVariants.{NoMemory, NoSuchProcess}
@@ -22,10 +22,11 @@ IsStopOfRun options core (Some StepLimit) = IsCutShort core.program options core
 IsStopOfRun options core (Some Halted) = Unit {0}
 IsStopOfRun options core (Some ArenaFull) = IsFull core.program options core.history
 
--- the core runs by these options
+-- the core runs by these options, and no process is out
 pub record IsRunning (options : Options) (core : CoreValue) : Type 0 where
   pub cells : core.cells ≡ options.arena
   pub limit : core.limit ≡ options.steps
+  pub out : core.out ≡ []
   pub scheduled : IsScheduled core.program options.choices core.history
   pub stop : IsStopOfRun options core core.stop
 

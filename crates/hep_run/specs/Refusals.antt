@@ -3,8 +3,8 @@ use Rattle.std.specs.Prelude.{◌≡◌, ℕ, List, None}
 use Rattle.hep_base.specs.declared.refusal.Refusal.{Refusal}
 use Rattle.hep_base.specs.declared.refusal.Refusal.TheVariants.{NoMemory, Refused}
 use Rattle.hep_machine.specs.Words.{Units, opening_layout}
-use Rattle.hep_scheduler.specs.declared.fault.NewFault.{NewFault}
-use Rattle.hep_scheduler.specs.declared.fault.NewFault.TheVariants as new
+use Rattle.hep_core.specs.declared.fault.NewFault.{NewFault}
+use Rattle.hep_core.specs.declared.fault.NewFault.TheVariants as new
 use Rattle.hep_run.specs.declared.options.Options.{Options}
 use Rattle.hep_run.specs.declared.refusal.OpeningFault.{OpeningFault}
 use Rattle.hep_run.specs.declared.refusal.OpeningFault.TheVariants.{Source, ArenaFull}

@@ -3,9 +3,9 @@ use Rattle.std.specs.Prelude.{◌≡◌, ◌≢◌, ◌⊎◌, ℕ, true, Bool, 
 use Rattle.std.specs.List.{list_any}
 use Rattle.hep_machine.specs.declared.event.Entry.{Entry}
 use Rattle.hep_machine.specs.Words.{IsLegal, opening_layout, Units}
-use Rattle.hep_scheduler.specs.declared.stop.ChoiceStop.{ChoiceStop}
-use Rattle.hep_scheduler.specs.declared.stop.Verdict.TheVariants.{Running}
-use Rattle.hep_scheduler.specs.Value.{IsStop}
+use Rattle.hep_core.specs.declared.stop.ChoiceStop.{ChoiceStop}
+use Rattle.hep_core.specs.declared.stop.Verdict.TheVariants.{Running}
+use Rattle.hep_core.specs.Value.{IsStop}
 use Rattle.hep_workers.specs.declared.options.WorkOptions.{WorkOptions}
 use Rattle.hep_run.specs.declared.status.Status.TheVariants as statuses
 use Rattle.hep_run.specs.Outcome.{Outcome, RunsTo, outcome_of_end, outcome_of_full_arena, verdict_after}

@@ -1,7 +1,7 @@
 //! Why a source isn't run.
 
 use hep_base::Refusal;
-use hep_scheduler::NewFault;
+use hep_core::NewFault;
 
 /// Why a source has no core.
 #[derive(Drop)]

@@ -1,7 +1,7 @@
 //! From a source's bytes to what its run writes.
 ghost use Rattle.std.specs.Prelude.{◌≡◌, ◌≤◌, ◌<◌, ℕ, [], None, Some, IfOk, IfErr, OnOk, length, slice_get};
 ghost use Rattle.hep_machine.specs.Words.{last_process};
-ghost use Rattle.hep_scheduler.specs.Value.{opening_of};
+ghost use Rattle.hep_core.specs.Value.{opening_of};
 ghost use Rattle.hep_run.specs.Outcome.{IsOutcome, IsRunOutcome, next_process};
 ghost use Rattle.hep_run.specs.Refusals.{IsOpeningFault};
 ghost use Rattle.hep_run.specs.Transcripts.{outcome_of};
@@ -14,7 +14,7 @@ use crate::transcript::{
     Transcript, choice_transcript, ended_transcript, full_transcript, refused_transcript,
 };
 use hep_base::Refusal;
-use hep_scheduler::{ChooseFault, Core};
+use hep_core::{ChooseFault, Core};
 use std::alloc::{AllocError, Global};
 
 // How many choices of one process are asked for at once, at most: their entries get room together.
@@ -76,6 +76,7 @@ fn make_alike(
             Ok(turns) => index += turns.made as usize,
             Err(ChooseFault::Stopped(_)) => return Ok(()),
             Err(ChooseFault::NoSuchProcess) => return Err(Halt::NoSuchProcess(index + 1)),
+            Err(ChooseFault::IsOut | ChooseFault::NoTicket) => unreachable!(),
             Err(ChooseFault::NoMemory) => return Err(Halt::NoMemory),
         }
     }
@@ -129,8 +130,9 @@ fn run_on(core: &mut Core, options: &Options) -> Result<(), AllocError>
         match core.go_on(process, most) {
             Ok(_) => {}
             Err(ChooseFault::Stopped(_)) => return Ok(()),
-            Err(ChooseFault::NoSuchProcess) => unreachable!(),
             Err(ChooseFault::NoMemory) => return Err(AllocError),
+            Err(ChooseFault::NoSuchProcess) => unreachable!(),
+            Err(ChooseFault::IsOut | ChooseFault::NoTicket) => unreachable!(),
         }
     }
     Ok(())

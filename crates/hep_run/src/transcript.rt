@@ -11,10 +11,10 @@ ghost use Rattle.hep_run.specs.Workers.{outcome_of_refused_workers};
 
 use crate::status::Status;
 use crate::texts::put_refusal;
+use hep_core::{ChoiceStop, Core, Fault, Verdict};
 use hep_dump::{append_all_waiting, append_faults};
 use hep_history::History;
 use hep_output::{append_number, append_records};
-use hep_scheduler::{ChoiceStop, Core, Fault, Verdict};
 use hep_source::Text;
 use std::alloc::{AllocError, Global};
 

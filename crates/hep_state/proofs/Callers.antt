@@ -1,5 +1,5 @@
 -- What a process calls whose top activation is at a CALL, what its actual arguments give and bind, and what a machine reads of it there.
-use Rattle.std.proofs.Common.{◌≡◌, ℕ, ◌<◌, ◌≤◌, List, ◌∷◌, drop, length, length-append, length-drop, take, sym, ap, ◌∙◌, ◌++◌, subst, ◌≢◌, suc, false, [], Option, Some, None, Result, Ok, Err, refl, arith, ◌-◌, get_or, slice_get}
+use Rattle.std.proofs.Common.{◌≡◌, ℕ, ◌<◌, ◌≤◌, List, ◌∷◌, drop, length, length-append, length-drop, take, sym, ap, ◌∙◌, subst, ◌≢◌, suc, false, [], Option, Some, None, Result, Ok, Err, refl, arith, ◌-◌, get_or, slice_get}
 use Rattle.hep_machine.specs.Words.{Name, Units, Work, dummies_of, function_name, unit_at, unit_of, State, Dummy, Top, binding_of, next_activation, scope_of, step, unit_on_top, Statement, Value, Binding, binding_with_shapes, dummies_for, dummy_before, dummy_for, with_actuals, Actual, Reference, evaluated, next_of, referred, Frame, Layout, Scope, Bounds}
 use Rattle.hep_code.specs.declared.instruction.Operation.{Operation}
 use Rattle.hep_code.specs.declared.instruction.Instruction.TheVariants.{Step}

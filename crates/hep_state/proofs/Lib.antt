@@ -8,7 +8,9 @@ pub mod Tops
 pub mod Opened
 pub mod Processes
 pub mod Taken
+pub mod Changes
 pub mod Callers
 pub mod Unchanged
 pub mod Purging
 pub mod Subroutines
+pub mod Histories

@@ -5,7 +5,7 @@ use Rattle.hep_machine.specs.Words.{Form, Statement, Units, no_statement, functi
 use Rattle.hep_machine.specs.Words.{purging, printing, jumping, continuing, leaving, resuming, stopping, does, next_by, next_of, next_of_form, Work, doing, ending}
 use Rattle.hep_source.specs.Units.{subroutine_by_header}
 use Rattle.hep_source.specs.declared.statement.Form.TheVariants as form
-use Rattle.hep_conditions.specs.Words.{IsAccepted, argument_violations, common_violations, count_violations, data_violations, function_types, jump_violations, label_violations, name_violations, resume_violations, structure_violations, type_missing_violations, type_violations, unknown_name_violations, violations_in, is_resume, when}
+use Rattle.hep_conditions.specs.Words.{IsAccepted, argument_violations, common_violations, count_violations, data_violations, function_types, jump_violations, label_violations, name_violations, resume_violations, structure_violations, type_missing_violations, type_violations, unknown_name_violations, violations_in, is_resume}
 use Rattle.hep_accepted_laws.proofs.Parts.{none-append, none-each, none-when}
 use Rattle.hep_accepted_laws.specs.Filled.{IsFilledForm}
 use Rattle.hep_accepted_laws.specs.Works.{ComesFrom}

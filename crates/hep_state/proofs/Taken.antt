@@ -1,8 +1,8 @@
 -- The operation ahead of a process whose turn it is can be done, what is left of the turn then, and what its step touches and makes.
-use Rattle.std.proofs.Common.{◌≡◌, ℕ, ◌+◌, ◌<◌, ◌≤◌, Bool, true, false, List, [], ◌∷◌, ◌++◌, drop, length, Option, Some, None, refl, sym, ap, ◌∙◌, subst, arith, true≢false, ◌≢◌, if◌then◌else◌, slice_get}
+use Rattle.std.proofs.Common.{◌≡◌, ℕ, ◌+◌, ◌<◌, ◌≤◌, List, [], ◌∷◌, ◌++◌, drop, length, Option, Some, None, refl, sym, ap, ◌∙◌, subst, arith, ◌≢◌, if◌then◌else◌, slice_get}
 use Rattle.std.specs.Option.{unwrap_or}
-use Rattle.std.proofs.lemmas.Option.{same_Some, none-some}
-use Rattle.hep_machine.specs.Words.{unit_at, unset_cell, Layout, is_held, layout_of, unit_of, run, state_after_turn, Location, State, Store, step, Top, Wanted, state_made, step_result_of, waiting, is_purge}
+use Rattle.std.proofs.lemmas.Option.{none-some}
+use Rattle.hep_machine.specs.Words.{unit_at, unset_cell, Layout, is_held, layout_of, unit_of, run, state_after_turn, Location, State, Store, step, Top, Wanted, state_made, step_result_of, waiting}
 use Rattle.hep_machine.specs.declared.slot.Slot.{Slot}
 use Rattle.hep_code.specs.Words.{IsPastPushes, values_ahead, deepest}
 use Rattle.hep_code.proofs.Depths.{room_for}
@@ -11,29 +11,21 @@ use Rattle.hep_layout.specs.Words.{address}
 use Rattle.hep_layout.proofs.HeldFrames.{run-last}
 use Rattle.hep_image.specs.Finding.{cells_in}
 use Rattle.hep_image.specs.Image.{most_cells}
-use Rattle.hep_cells.specs.Outcomes.{is_full_state}
+use Rattle.hep_cells.specs.declared.want.Want.{Want}
 use Rattle.hep_step.specs.declared.effect.Effect.{Effect}
 use Rattle.hep_step.specs.Effects as effects
 use Rattle.hep_step.specs.Effects.{answers, effect_at, fails, moves, prints, returns, stops, left_out, waits}
 use Rattle.hep_step.specs.Performed as performed
-use Rattle.hep_step.specs.Performed.{performed as done, snapshot, state_named}
+use Rattle.hep_step.specs.Performed.{performed as done, snapshot}
 use Rattle.hep_step.specs.Ready.{IsReady, frame_in_arena}
-use Rattle.hep_step.specs.Simulation.{IsNotLeftOut, unit_addressed, unit_arrays, unit_code, addressed_on_top, arrays_on_top, code_on_top, is_left_out}
+use Rattle.hep_step.specs.Simulation.{IsNotLeftOut, unit_addressed, unit_arrays, unit_code}
 use Rattle.hep_step.proofs.Operations.{operation_simulated}
 use Rattle.hep_step.proofs.Ready.{is_ready}
-use Rattle.hep_state.specs.Words.{IsInState, Touches, Snapshot, IsEnding, IsLeft, IsToEnd, stack_with, IsEffectOf, IsTopRunning, IsTurning, TurnOf, snapshot_moved, snapshot_stopped, state_before, top_before, top_frame, HasMadeTurn, HasWaited, running_top}
+use Rattle.hep_state.specs.Words.{Snapshot, IsEnding, IsLeft, IsToEnd, stack_with, IsEffectOf, IsTopRunning, IsTurning, TurnOf, snapshot_moved, snapshot_stopped, state_before, top_before, top_frame, HasMadeTurn, HasWaited, running_top}
 use Rattle.hep_state.proofs.Unchanged.{carry}
 use Rattle.hep_state.proofs.Moved.{next-is, moved-shown, printed-shown, standing-before, stopped-shown, unit-is, waited-shown}
 use Rattle.hep_state.proofs.Runs.{in-turn, layout-stays, set-same}
 use Rattle.hep_machine.proofs.Others.{step-is}
-use Rattle.hep_code.specs.declared.instruction.Instruction.{Instruction}
-use Rattle.hep_code.specs.declared.instruction.Instruction.TheVariants.{Step}
-use Rattle.hep_code.specs.declared.instruction.Operation.{Operation}
-use Rattle.hep_code.specs.declared.instruction.Operation.TheVariants.{Purge}
-use Rattle.hep_code.proofs.Ahead.{step_is_ahead}
-use Rattle.hep_blocked.specs.Needs.{touched_by}
-use Rattle.hep_touched.specs.Touched.{touched_at}
-use Rattle.std.proofs.lemmas.Bool.{false_from_ne_true}
 
 module _ {t : TurnOf} (turning : IsTurning t) where
   abbrev old : State
@@ -84,44 +76,39 @@ module _ {t : TurnOf} (turning : IsTurning t) where
   abbrev IsDone : Effect × performed.Snapshot → Type 0
   IsDone x = IsLeft t.program t.cells t.choices t.process (with_performed x.1) x.0
 
-  abbrev before : performed.Snapshot
+  abbrev pub before : performed.Snapshot
   before = snapshot t.machine.arena.contents t.operands t.level.index
 
   -- nothing was performed
   pub unperformed : with_performed before ≡ t.machine
   unperformed = λ i. record t.machine { processes = sym (set-same t.machine.processes t.process (stack_with t.level t.below t.operands t.pending) turning.kept) i }
 
-  -- a state that is named is the one that is meant
-  state-is : (full : Bool) → is_full_state (state_named full) ≡ full
-  state-is true = refl
-  state-is false = refl
-
   ends-so : (e : effects.Effect) → Does e → IsToEnd t.program t.cells t.choices t.process (with_performed before) e
   ends-so e sim =
       subst (λ (n : Snapshot). IsToEnd t.program t.cells t.choices t.process n e) (sym unperformed) (in-turn turning (λ t. IsEnding t e) (record { turning = turning; simulated = sim }))
 
-  done-by : (e : effects.Effect) → Does e → length (done e before).1.contents ≡ length t.machine.arena.contents → IsDone (done e before)
-  done-by (moves contents new next) sim size = moved-shown turning contents new next size sim
-  done-by (prints items next) sim size = printed-shown turning items next sim
-  done-by (fails line kind) sim size = ends-so (fails line kind) sim
-  done-by (waits at full) sim size = carry (λ i. HasWaited t.program t.cells t.choices t.process at (sym (state-is full) i) (sym unperformed i)) (waited-shown turning at full sim)
-  done-by returns sim size = ends-so returns sim
-  done-by (answers v) sim size = ends-so (answers v) sim
-  done-by stops sim size = subst (λ (n : Snapshot). HasMadeTurn t (snapshot_stopped n)) (sym unperformed) (stopped-shown turning sim)
-  done-by left_out sim size = absurd sim
+  done-by : (e : effects.Effect) (changed : Option Want) → Does e → length (done e changed before).1.contents ≡ length t.machine.arena.contents → IsDone (done e changed before)
+  done-by (moves contents new next) changed sim size = moved-shown turning contents new next size sim
+  done-by (prints items next) changed sim size = printed-shown turning items next sim
+  done-by (fails line kind) changed sim size = ends-so (fails line kind) sim
+  done-by (waits at full) changed sim size = carry (λ i. HasWaited t.program t.cells t.choices t.process at full (sym unperformed i)) (waited-shown turning at full sim)
+  done-by returns changed sim size = ends-so returns sim
+  done-by (answers v) changed sim size = ends-so (answers v) sim
+  done-by stops changed sim size = subst (λ (n : Snapshot). HasMadeTurn t (snapshot_stopped n)) (sym unperformed) (stopped-shown turning sim)
+  done-by left_out changed sim size = absurd sim
 
-  pub left-over : (e : effects.Effect) (effect : Effect) (after : performed.Snapshot) → Does e → length after.contents ≡ length t.machine.arena.contents → (effect, after) ≡ done e before → IsLeft t.program t.cells t.choices t.process (with_performed after) effect
-  left-over e effect after sim size is =
-      subst IsDone (sym is) (done-by e sim (subst (λ (x : Effect × performed.Snapshot). length x.1.contents ≡ length t.machine.arena.contents) is size))
+  pub left-over : (e : effects.Effect) (changed : Option Want) (effect : Effect) (after : performed.Snapshot) → Does e → length after.contents ≡ length t.machine.arena.contents → (effect, after) ≡ done e changed before → IsLeft t.program t.cells t.choices t.process (with_performed after) effect
+  left-over e changed effect after sim size is =
+      subst IsDone (sym is) (done-by e changed sim (subst (λ (x : Effect × performed.Snapshot). length x.1.contents ≡ length t.machine.arena.contents) is size))
 
   -- ---- the storage unit that is kept in a cell
 
   -- the store after the step, whatever its effect, and what is in the cell then
-  abbrev AreAlike : Effect × performed.Snapshot → Type 0
+  abbrev pub AreAlike : Effect × performed.Snapshot → Type 0
   AreAlike x = (at : Location) (c : ℕ) → address t.program old layout at ≡ Some c → ((run t.program (t.choices ++ t.process ∷ [])).store at).full ≡ (cells_in x.1.contents c).full
 
   -- a cell that holds what is stored there is as full as that
-  full-there : (store : Store) (contents : List Slot) (at : Location) (c : ℕ) → slice_get contents c ≡ Some (store at) → (store at).full ≡ (cells_in contents c).full
+  pub full-there : (store : Store) (contents : List Slot) (at : Location) (c : ℕ) → slice_get contents c ≡ Some (store at) → (store at).full ≡ (cells_in contents c).full
   full-there store contents at c e = ap (λ o. (unwrap_or o unset_cell).full) (sym e)
 
   -- no state is made where it waits
@@ -132,51 +119,17 @@ module _ {t : TurnOf} (turning : IsTurning t) where
   stored-same s next same at c there =
       ap (λ (z : State). (z.store at).full) next ∙ (ap (λ (store : Store). (store at).full) same ∙ full-there old.store t.machine.arena.contents at c (turning.after.shows.keeps.memory.holds at c there))
 
-  alike-by : (e : effects.Effect) → Does e → AreAlike (done e before)
-  alike-by (moves contents new next) sim = λ at c there. ap (λ (z : State). (z.store at).full) (next-is turning _ sim.2) ∙ full-there sim.0 contents at c (sim.3.memory.holds at c there)
-  alike-by (prints items next) sim = stored-same _ (next-is turning _ sim.1) refl
-  alike-by (fails line kind) sim = stored-same _ (next-is turning _ sim.0) refl
-  alike-by (waits cell full) sim = stored-same old (run-last t.program t.choices t.process ∙ ap (λ o. unwrap_or o old) (unmade _ sim.1)) refl
-  alike-by returns sim = stored-same _ (next-is turning _ sim.1) refl
-  alike-by (answers v) sim = stored-same _ (next-is turning _ sim.2) refl
-  alike-by stops sim = stored-same _ (next-is turning _ sim) refl
-  alike-by left_out sim = absurd sim
-
-  pub alike : (e : effects.Effect) (effect : Effect) (after : performed.Snapshot) → Does e → (effect, after) ≡ done e before → (cell : Option ℕ) → IsInState t.program t.cells t.choices t.process cell (with_performed after)
-  alike e effect after sim is cell c fs at told laid there =
-      subst AreAlike (sym is) (alike-by e sim) at c (subst (λ (fs : Layout). address t.program old fs at ≡ Some c) (same_Some fs layout (sym laid ∙ turning.after.laid)) there)
-
-  -- ---- what it may fill or empty is what its next step may
-
-  -- by the laws of what operations touch
-  abbrev pub TellsCell : Type 0
-  TellsCell = (at : Location) → Runs → IsPastPushes (code_on_top t.program top) t.level.index → touched_by t.program t.process old ≡ Some at
-      → (cell : ℕ) × (touched_at (code_on_top t.program top) (arrays_on_top t.program top) (top_frame t).first t.machine.arena.contents t.operands t.level.index ≡ Some cell) × (address t.program old layout at ≡ Some cell)
-
-  abbrev pub TellsPurge : Type 0
-  TellsPurge = (line : ℕ) (o : Operation) (behind : List Instruction) → Runs → drop t.level.index (code_on_top t.program top) ≡ Step line o ∷ behind → is_purge t.program old t.process ≡ true → (count next : ℕ) × (o ≡ Purge count next)
+  pub alike-by : (e : effects.Effect) (changed : Option Want) → Does e → AreAlike (done e changed before)
+  alike-by (moves contents new next) changed sim = λ at c there. ap (λ (z : State). (z.store at).full) (next-is turning _ sim.2) ∙ full-there sim.0 contents at c (sim.3.memory.holds at c there)
+  alike-by (prints items next) changed sim = stored-same _ (next-is turning _ sim.1) refl
+  alike-by (fails line kind) changed sim = stored-same _ (next-is turning _ sim.0) refl
+  alike-by (waits cell full) changed sim = stored-same old (run-last t.program t.choices t.process ∙ ap (λ o. unwrap_or o old) (unmade _ sim.1)) refl
+  alike-by returns changed sim = stored-same _ (next-is turning _ sim.1) refl
+  alike-by (answers v) changed sim = stored-same _ (next-is turning _ sim.2) refl
+  alike-by stops changed sim = stored-same _ (next-is turning _ sim) refl
+  alike-by left_out changed sim = absurd sim
 
   module _ (runs : Runs) (past : IsPastPushes (unit_code t.program t.level.unit) t.level.index) (others : IsNotLeftOut (unit_code t.program t.level.unit) t.level.index) where
-    past-here : IsPastPushes (code_on_top t.program top) t.level.index
-    past-here = subst (λ u. IsPastPushes (unit_code t.program u) t.level.index) (sym unit-here) past
-
-    no-purge : TellsPurge → is_purge t.program old t.process ≡ false
-    no-purge tells = false_from_ne_true _ (λ is.
-        let s = step_is_ahead (addressed_on_top t.program top) t.top.0.statement t.top.0.work t.operands t.level.index runs.stands past-here in
-        let told = tells _ s.0 s.1 runs s.2 is in
-        let out : is_left_out s.0 ≡ false = others _ s.0 s.1 (ap (λ u. drop t.level.index (unit_code t.program u)) (sym unit-here) ∙ s.2) in
-        true≢false (sym (ap is_left_out told.2) ∙ out))
-
-    pub touches-only : TellsCell → TellsPurge → (cell : Option ℕ) → cell ≡ touched_at (unit_code t.program t.level.unit) (unit_arrays t.program t.level.unit) (top_frame t).first t.machine.arena.contents t.operands t.level.index → Touches t.program t.cells t.choices t.process cell
-    touches-only cell-told purge-told cell is =
-        record {
-          plain = no-purge purge-told;
-          told = λ fs at laid touched.
-              let told = cell-told at runs past-here touched in
-              let found = is ∙ (ap (λ u. touched_at (unit_code t.program u) (unit_arrays t.program u) (top_frame t).first t.machine.arena.contents t.operands t.level.index) (sym unit-here) ∙ told.1) in
-              (told.0, found, subst (λ fs. address t.program old fs at ≡ Some told.0) (same_Some layout fs (sym turning.after.laid ∙ laid)) told.2);
-        }
-
     -- ---- it makes no activation, and so each frame has its gap after the turn
 
     stay : (o : Option State) → step t.program t.process old ≡ o → (unwrap_or o old).activations ≡ old.activations → (state_after_turn t.program t.process old).activations ≡ old.activations

@@ -1,16 +1,17 @@
 -- A machine that keeps what it kept: where only room was made, or what a CALL gives was written.
-use Rattle.std.proofs.Common.{◌≡◌, ℕ, ◌+◌, ◌∷◌, ◌++◌, [], None, List, Result, Ok, Err, Option, sym, ap, ◌∙◌, subst, IfErr, OnErr, slice_get, slice_set}
+use Rattle.std.proofs.Common.{◌≡◌, ℕ, ◌+◌, ◌∷◌, ◌++◌, [], None, List, Result, Ok, Err, sym, ap, ◌∙◌, subst, IfErr, OnErr, slice_get, slice_set, length}
 use Rattle.std.specs.Result.{IsErr, IsErrAnd}
 use Rattle.std.proofs.lemmas.Result.{err_from_is_err_and}
-use Rattle.std.proofs.lemmas.Option.{none-some}
-use Rattle.hep_machine.specs.Words.{Units}
-use Rattle.hep_blocked.specs.declared.want.Want.{Want}
+use Rattle.std.proofs.lemmas.List.{length-map}
+use Rattle.hep_machine.specs.declared.event.Entry.{Entry}
+use Rattle.hep_machine.specs.Words.{Units, schedule_of}
+use Rattle.hep_arena.specs.Space.{Space}
 use Rattle.hep_state.specs.declared.machine.Machine.{Machine}
 use Rattle.hep_state.specs.declared.machine.Process.{Process}
 use Rattle.hep_state.specs.declared.turn.Turned.TheVariants.{Stepped}
 use Rattle.hep_state.specs.declared.turn.TurnFault.{TurnFault}
 use Rattle.hep_state.specs.declared.turn.TurnFault.TheVariants.{NoMemory}
-use Rattle.hep_state.specs.Words.{HasStepped, HasTurned, IsInState, IsNow, Touches, IsTold, cell_wanted, HasRoom, HasRoomToPass, HaveRoom, IsMachineAfter, Snapshot, snapshot_of, IsAfter}
+use Rattle.hep_state.specs.Words.{Changes, HasStepped, HasTurned, HasRoom, HasRoomToPass, HaveRoom, IsMachineAfter, Snapshot, snapshot_of, stack_of, IsAfter, IsAfterHistory, IsSeenSame, LeavesAlone, cells_of}
 use Rattle.hep_state.proofs.Processes.{all-set}
 
 -- ---- answers
@@ -67,13 +68,65 @@ pub machine-written : (program : Units) (cells : ℕ) (choices : List ℕ) (old 
 machine-written program cells choices old new others records faults =
     machine-same program cells choices old new (shown-written old new others records faults) (ap (λ (m : Machine). m.processes) others) (ap (λ (m : Machine). m.passing) others)
 
--- ---- what a step touches
+-- with the room that there was
+pub rooms-written : (program : Units) (cells : ℕ) (old new : Machine) → new ≡ record old { records = new.records; faults = new.faults } → HaveRoom program cells old → HaveRoom program cells new
+rooms-written program cells old new others h = subst (HaveRoom program cells) (sym others) (record { few = h.few; to_pass = h.to_pass; room = h.room })
 
--- the state that was told is that after the step
-pub now-told : (program : Units) (cells : ℕ) (choices : List ℕ) (p : ℕ) (cell : Option ℕ) (changed : Option Want) (m : Snapshot) → cell_wanted changed ≡ cell → IsTold m changed → IsInState program cells choices p cell m → IsNow program cells choices p changed
-now-told program cells choices p cell changed m is told state w layout at same laid there = state w.cell layout at (sym is ∙ ap cell_wanted same) laid there ∙ told w same
+-- ---- machines that are seen as others
 
--- a step that touched nothing
-pub turned-so : (program : Units) (cells : ℕ) (choices : List ℕ) (p : ℕ) (new : Machine) → Touches program cells choices p None → HasStepped program cells choices p (snapshot_of new) → HaveRoom program cells new → HasTurned program cells choices p (Stepped None) new
-turned-so program cells choices p new untouched stepped rooms =
-    (stepped.stepped, machine-of program cells (choices ++ p ∷ []) new stepped.after rooms, untouched, λ w layout location is. absurd (none-some w is))
+pub seen-shown : (old new : Snapshot) → new ≡ old → IsSeenSame old new
+seen-shown old new shown =
+    record {
+      arena = ap (λ (n : Snapshot). n.arena) shown;
+      nodes = ap (λ (n : Snapshot). n.nodes) shown;
+      processes = ap (λ (n : Snapshot). length n.processes) shown;
+      activations = ap (λ (n : Snapshot). n.activations) shown;
+      records = ap (λ (n : Snapshot). n.records) shown;
+      faults = ap (λ (n : Snapshot). n.faults) shown;
+      halted = ap (λ (n : Snapshot). n.halted) shown;
+    }
+
+-- of three, one after the other
+pub seen-again : (old mid new : Snapshot) → IsSeenSame old mid → IsSeenSame mid new → IsSeenSame old new
+seen-again old mid new h k =
+    record {
+      arena = k.arena ∙ h.arena;
+      nodes = k.nodes ∙ h.nodes;
+      processes = k.processes ∙ h.processes;
+      activations = k.activations ∙ h.activations;
+      records = k.records ∙ h.records;
+      faults = k.faults ∙ h.faults;
+      halted = k.halted ∙ h.halted;
+    }
+
+-- as many processes
+pub as-many : (old new : Machine) → IsSeenSame (snapshot_of old) (snapshot_of new) → length new.processes.items ≡ length old.processes.items
+as-many old new h = sym (length-map new.processes.items stack_of) ∙ (h.processes ∙ length-map old.processes.items stack_of)
+
+-- as large an arena
+pub as-large : (old new : Machine) → IsSeenSame (snapshot_of old) (snapshot_of new) → cells_of new ≡ cells_of old
+as-large old new h = ap (λ (a : Space). length a.contents) h.arena
+
+-- one that shows the same, with the room that there was
+pub alone : (program : Units) (history : List Entry) (old new : Machine) → snapshot_of new ≡ snapshot_of old → (HaveRoom program (cells_of old) old → HaveRoom program (cells_of old) new) → IsAfterHistory program history old → LeavesAlone program history old new
+alone program history old new shown rooms h =
+    let same = seen-shown (snapshot_of old) (snapshot_of new) shown in
+    record { after = machine-reserved program (cells_of old) (schedule_of history) old new shown rooms h; same = same; processes = as-many old new same }
+
+-- one that is left alone after it was seen the same
+pub alone-after : (program : Units) (history : List Entry) (old mid new : Machine) → IsSeenSame (snapshot_of old) (snapshot_of mid) → LeavesAlone program history mid new → LeavesAlone program history old new
+alone-after program history old mid new same h =
+    record {
+      after = subst (λ n. IsMachineAfter program n (schedule_of history) new) (as-large old mid same) h.after;
+      same = seen-again (snapshot_of old) (snapshot_of mid) (snapshot_of new) same h.same;
+      processes = h.processes ∙ as-many old mid same;
+    }
+
+-- by the size of its own arena
+pub own-size : (program : Units) (cells : ℕ) (choices : List ℕ) (m : Machine) → IsMachineAfter program cells choices m → IsMachineAfter program (cells_of m) choices m
+own-size program cells choices m h = subst (λ n. IsMachineAfter program n choices m) (sym h.after.size) h
+
+-- ---- a step that filled and emptied nothing
+
+pub turned-so : (program : Units) (cells : ℕ) (choices : List ℕ) (p : ℕ) (new : Machine) → Changes program cells choices p None → HasStepped program cells choices p (snapshot_of new) → HaveRoom program cells new → HasTurned program cells choices p (Stepped None) new
+turned-so program cells choices p new unchanged stepped rooms = (stepped.stepped, machine-of program cells (choices ++ p ∷ []) new stepped.after rooms, unchanged)

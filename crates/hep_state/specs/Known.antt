@@ -1,6 +1,6 @@
 -- What is known of an accepted program with a main program, and of what is called, created and referred to in it: docs/MACHINE.md, "Steps".
 use Rattle.std.specs.Prelude.{◌≡◌, ℕ, ◌<◌, ◌≤◌, List, ◌∷◌, length, Some, slice_get}
-use Rattle.hep_machine.specs.Words.{Name, Statement, Units, dummies_of, function_name, unit_at, Actual, next_of, living, unit_of, run, Process, Work}
+use Rattle.hep_machine.specs.Words.{Name, Units, dummies_of, function_name, unit_at, Actual, next_of, living, unit_of, run, Process, Work}
 use Rattle.hep_machine.specs.State.{Level as SourceLevel}
 use Rattle.hep_code.specs.declared.instruction.Instruction.{Instruction}
 use Rattle.hep_code.specs.declared.instruction.Instruction.TheVariants.{Step}

@@ -11,4 +11,8 @@ pub mod CallsAhead
 pub mod Unturned
 pub mod Outcomes
 pub mod Known
+pub mod Stacks
+pub mod Parts
+pub mod Reserving
+pub mod Histories
 pub mod Words

@@ -7,6 +7,7 @@ use Rattle.hep_layout.specs.Words.{FrameNode, Nodes}
 use Rattle.hep_image.specs.declared.data.DataRow.{DataRow}
 use Rattle.hep_image.specs.Data.{value_in_rows}
 use Rattle.hep_frames.specs.Keeping.{Keeps, frames_in}
+use Rattle.hep_state.specs.declared.machine.Machine.{Machine}
 use Rattle.hep_state.specs.Snapshots.{Snapshot}
 
 -- the opening before DATA gives values
@@ -41,3 +42,9 @@ snapshot_opened program key entry arena nodes =
       faults = [];
       halted = false;
     }
+
+-- a machine has written nothing, and nothing has stopped it
+pub record IsQuiet (m : Machine) : Type 0 where
+  pub running : m.halted ≡ false
+  pub records : m.records.items ≡ []
+  pub faults : m.faults.items ≡ []

@@ -5,18 +5,17 @@ use Rattle.hep_arena.specs.Space.{Space}
 use Rattle.hep_code.specs.declared.instruction.Instruction.{Instruction}
 use Rattle.hep_code.specs.Words.{IsPastPushes, Stands, deepest, most_operands}
 use Rattle.hep_layout.specs.Words.{Nodes}
-use Rattle.hep_cells.specs.Outcomes.{is_full_state}
 use Rattle.hep_image.specs.declared.array.Array.{Array}
 use Rattle.hep_image.specs.declared.unit.UnitCode.{UnitCode}
 use Rattle.hep_image.specs.Image.{IsUnitCode}
 use Rattle.hep_step.specs.declared.frame.Frame.{Frame as CellFrame}
 use Rattle.hep_step.specs.declared.effect.Effect.{Effect}
 use Rattle.hep_step.specs.declared.effect.Effect.TheVariants.{Moved, Printed, Failed, Waits, Returned, Answered, Stopped, LeftOut}
+use Rattle.hep_step.specs.Changes.{changed_at}
 use Rattle.hep_step.specs.Effects as effects
 use Rattle.hep_step.specs.Performed.{IsPerformed, snapshot}
 use Rattle.hep_step.specs.Ready.{IsReady, frame_in_arena}
 use Rattle.hep_step.specs.Simulation.{unit_addressed, unit_arrays, unit_code}
-use Rattle.hep_state.specs.declared.advancing.Advanced.{Advanced}
 use Rattle.hep_state.specs.declared.machine.Level.{Level}
 use Rattle.hep_state.specs.Showing.{node_under}
 use Rattle.hep_state.specs.Snapshots.{Snapshot, Stack}
@@ -58,11 +57,11 @@ pub record CanAdvance (program : Units) (k : Stack) (capacity : ℕ) (arena : Sp
   pub ready : IsReady (unit_code program l.unit) (unit_arrays program l.unit) arena (frame_in_arena (frame_under nodes l.key)) operands capacity l.index
 
 -- then the operation ahead was performed, which changed the cells and the stack; or memory was refused, which changed nothing more
-pub record IsAdvanced {E : Type 0} (program : Units) (nodes : Nodes) (l : Level) (ls : List Level) (operands pending : List Value) (before after : Space) (result : Result Advanced E) (k : Stack) : Type 0 where
+pub record IsAdvanced {E : Type 0} (program : Units) (nodes : Nodes) (l : Level) (ls : List Level) (operands pending : List Value) (before after : Space) (result : Result Effect E) (k : Stack) : Type 0 where
   pub next : ℕ
   pub left : List Value
   pub stack : k ≡ stack_with (record l { index = next }) ls left pending
-  pub performed : IfOk result (λ advanced. IsPerformed (effects.effect_at (unit_code program l.unit) (unit_arrays program l.unit) (node_under nodes l.key).first before.contents operands l.index) (snapshot before.contents operands l.index) advanced.effect (snapshot after.contents left next))
+  pub performed : IfOk result (λ effect. IsPerformed (effects.effect_at (unit_code program l.unit) (unit_arrays program l.unit) (node_under nodes l.key).first before.contents operands l.index) (changed_at (unit_code program l.unit) (unit_arrays program l.unit) (node_under nodes l.key).first before.contents operands l.index) (snapshot before.contents operands l.index) effect (snapshot after.contents left next))
   pub refused : OnErr result (snapshot after.contents left next ≡ snapshot before.contents operands l.index)
 
 -- ---- what is left of a turn then
@@ -79,10 +78,10 @@ IsToEnd program cells choices p m effect = HoldsInTurn program cells choices p m
 -- once the operation was performed: the state after the turn is shown, with the record or the stop; or the process waits; or an activation
 -- is to end
 abbrev pub IsLeft : Units → ℕ → List ℕ → ℕ → Snapshot → Effect → Type 0
-IsLeft program cells choices p m Moved = HasStepped program cells choices p m
+IsLeft program cells choices p m (Moved changed) = HasStepped program cells choices p m
 IsLeft program cells choices p m (Printed items) = HasStepped program cells choices p (record m { records = m.records ++ items ∷ [] })
 IsLeft program cells choices p m (Failed line kind) = IsToEnd program cells choices p m (effects.fails line kind)
-IsLeft program cells choices p m (Waits at state) = HasWaited program cells choices p at (is_full_state state) m
+IsLeft program cells choices p m (Waits want) = HasWaited program cells choices p want.cell want.full m
 IsLeft program cells choices p m Returned = IsToEnd program cells choices p m effects.returns
 IsLeft program cells choices p m (Answered v) = IsToEnd program cells choices p m (effects.answers v)
 IsLeft program cells choices p m Stopped = HasStepped program cells choices p (snapshot_stopped m)

@@ -12,7 +12,7 @@ pub use Rattle.hep_state.specs.Tops.{HasLevels, HoldsInTurn, IsTurning, TurnOf}
 unfoldable pub use Rattle.hep_state.specs.Calls.{call_in, entered_level, HasResultBy, snapshot_made_by, stacks_made_by, state_made}
 pub use Rattle.hep_state.specs.Calls.{HasEntered, IsAfterCall, IsMaking, IsUnit, Makes}
 unfoldable pub use Rattle.hep_state.specs.Openings.{snapshot_opened, unset_opening}
-pub use Rattle.hep_state.specs.Openings.{IsEntered, IsGiven}
+pub use Rattle.hep_state.specs.Openings.{IsEntered, IsGiven, IsQuiet}
 unfoldable pub use Rattle.hep_state.specs.Rooms.{HasRoom, HasRoomAt}
 pub use Rattle.hep_state.specs.Rooms.{HasRoomToPass, HaveRoom, IsMachineAfter}
 unfoldable pub use Rattle.hep_state.specs.Taking.{IsLeft, IsToEnd}
@@ -22,6 +22,21 @@ unfoldable pub use Rattle.hep_state.specs.CallsAhead.{given_of, HasCallAhead, Ha
 unfoldable pub use Rattle.hep_state.specs.CallsAhead.{operation_of, ranges_ahead}
 pub use Rattle.hep_state.specs.CallsAhead.{IsAtCall, IsAtStep, IsWithoutCall}
 unfoldable pub use Rattle.hep_state.specs.Unturned.{IsUnturned}
-unfoldable pub use Rattle.hep_state.specs.Outcomes.{cell_wanted, HasTurned, IsInState, IsNow, IsTold}
-pub use Rattle.hep_state.specs.Outcomes.{HasPurged, Touches}
+unfoldable pub use Rattle.hep_state.specs.Outcomes.{HasTurned}
+pub use Rattle.hep_state.specs.Outcomes.{Changes, HasPurged}
 pub use Rattle.hep_state.specs.Known.{AreRunning, IsKnown, IsMadeOf}
+unfoldable pub use Rattle.hep_state.specs.Stacks.{AdvancesTop, CanAdvanceTop, CanSettle, EndsTop, GoesOnAt, HasBehind, HasPlace}
+unfoldable pub use Rattle.hep_state.specs.Stacks.{HasRoomForValue, HasTop, IsInCode, IsPlaced}
+unfoldable pub use Rattle.hep_state.specs.Stacks.{PutsAbove, PutsTop, Settles, StandsAt, TakesValue}
+unfoldable pub use Rattle.hep_state.specs.Parts.{Begins, ChangesNext, EmptiesTargets, EndsBy, FailsAtCall, FailsAtPurge, HaveFramesLeft}
+unfoldable pub use Rattle.hep_state.specs.Parts.{IsAtCallAhead, IsAtPurgeAhead}
+unfoldable pub use Rattle.hep_state.specs.Parts.{IsEndingBy, IsEndingWithRoom, IsGivenBy, IsLeftWithRoom, IsReached, IsWhetherLives}
+unfoldable pub use Rattle.hep_state.specs.Parts.{KeepsRoomAt, KeepsRoomOf, KeepsRoomParting}
+unfoldable pub use Rattle.hep_state.specs.Parts.{KeepsRoomWith, KeepsState, LeavesBy, NamesRanges, PartsAt, StepsByCall, StepsAfter}
+unfoldable pub use Rattle.hep_state.specs.Parts.{StepsByCreation, TurnsByPurge, WaitsAfter}
+pub use Rattle.hep_state.specs.Parts.{CanBegin, CanCall, CanCreate, CanEmpty, CanPart, IsAtOperation, IsItsTurn, IsSeenAlike, KeepsWritten}
+unfoldable pub use Rattle.hep_state.specs.Reserving.{KeepsRoom}
+pub use Rattle.hep_state.specs.Reserving.{HasRoomForEntry, HasRoomForLevel, HasRoomForProcess, IsEmptyProcess, KeepsReady, KeepsReadyFor}
+pub use Rattle.hep_state.specs.Reserving.{ShowsSame}
+unfoldable pub use Rattle.hep_state.specs.Histories.{cells_of, IsAfterHistory, IsTurn, IsUntaken}
+pub use Rattle.hep_state.specs.Histories.{CanTakeCall, CanTakeOperation, CanTakeResume, CanTurn, LeavesAlone}

@@ -1,13 +1,8 @@
 //! A PURGE: the cells that its targets name are found, and then all of them are emptied (docs/LANGUAGE.md, 9).
-ghost use Rattle.std.specs.Prelude.{◌≡◌, ◌<◌, ◌≤◌, ◌∷◌, ℕ, List, [], Ok, IfErr, OnOk, length, vec_len, vec_capacity};
-ghost use Rattle.hep_machine.specs.Words.{Units};
-ghost use Rattle.hep_image.specs.Image.{most_cells};
-ghost use Rattle.hep_purging.specs.Purged.{purged};
+ghost use Rattle.std.specs.Prelude.{◌≡◌, ◌<◌, IfErr, OnOk, length, vec_len, vec_capacity};
 ghost use Rattle.hep_purging.specs.Ready.{AreReached};
-ghost use Rattle.hep_step.specs.Effects.{fails};
-ghost use Rattle.hep_state.specs.declared.turn.Turned.TheVariants.{Purged};
-ghost use Rattle.hep_state.specs.Words.{HasPurgeAhead, ranges_ahead, HasTurned, HaveRoom, IsMachineAfter, snapshot_of, HasLevels, IsToEnd};
-ghost use Rattle.hep_state.specs.Words.{with_contents, with_stack};
+ghost use Rattle.hep_state.specs.Words.{CanEmpty, EmptiesTargets, FailsAtPurge, IsAtPurgeAhead, KeepsRoom, KeepsRoomOf, NamesRanges};
+ghost use Rattle.hep_state.specs.Words.{TurnsByPurge};
 
 use crate::calling::go_on;
 use crate::laws;
@@ -23,17 +18,12 @@ impl Machine {
     //
     // Fails with Range where one of them isn't there. Nothing but `passing` changes.
     fn find_targets(&mut self, image: &Image, p: u64, purge: PurgeAhead) -> Result<(), Kind>
-        requires at { (cells : ℕ) × (choices : List ℕ) × IsMachineAfter image.now cells choices self.old
-            × HasPurgeAhead image.now cells choices p (snapshot_of self.old) purge }
-        ensures found { OnOk result ((cells : ℕ) (choices : List ℕ)
-            → (at : HasPurgeAhead image.now cells choices p (snapshot_of self.old) purge)
-            → ranges_ahead purge at.holds ≡ Ok self.new.passing.ranges.items) }
+        requires at { IsAtPurgeAhead image.now p self.old purge }
+        ensures found { OnOk result (NamesRanges image.now p self.old purge self.new.passing.ranges.items) }
         ensures reached { OnOk result (AreReached self.old.frames.arena self.new.passing.ranges.items) }
-        ensures fault { IfErr result (λ kind. (cells : ℕ) (choices : List ℕ)
-            → HasPurgeAhead image.now cells choices p (snapshot_of self.old) purge
-            → IsToEnd image.now cells choices p (snapshot_of self.old) (fails purge.line kind)) }
+        ensures fault { IfErr result (FailsAtPurge image.now p self.old purge) }
         ensures others { self.new ≡ record self.old { passing = self.new.passing } }
-        ensures rooms { (cells : ℕ) → HaveRoom image.now cells self.old → HaveRoom image.now cells self.new }
+        ensures rooms { KeepsRoomOf image.now self.old self.new }
     {
         image.is_runnable();
         laws::purges_can_be_made();
@@ -53,14 +43,10 @@ impl Machine {
 
     // Process p empties the cells in `passing` and is to go on at an index.
     fn empty_targets(&mut self, p: u64, index: usize)
-        requires living { HasLevels (snapshot_of self.old) p }
-        requires reached { AreReached self.old.frames.arena self.old.passing.ranges.items }
-        requires few { length self.old.frames.arena.contents ≤ most_cells }
-        ensures moved { (levels : HasLevels (snapshot_of self.old) p) → snapshot_of self.new ≡ with_stack (with_contents
-            (snapshot_of self.old) (purged self.old.passing.ranges.items self.old.frames.arena.contents))
-            p (record levels.level { index = index } ∷ levels.below) [] levels.pending }
+        requires { CanEmpty p self.old }
+        ensures moved { EmptiesTargets p index self.old self.new }
         ensures passing { self.new.passing ≡ self.old.passing }
-        ensures rooms { (program : Units) (cells : ℕ) → HaveRoom program cells self.old → HaveRoom program cells self.new }
+        ensures rooms { KeepsRoom self.old self.new }
         ensures processes { length self.new.processes.items ≡ length self.old.processes.items }
     {
         hep_purging::purge(&mut self.frames.arena, &self.passing.ranges);
@@ -69,11 +55,9 @@ impl Machine {
 
     // Makes the PURGE ahead of process p, or ends the process with a fault. The cells that were emptied are in `passing`.
     pub(crate) fn purge(&mut self, image: &Image, p: u64, purge: PurgeAhead)
-        requires at { (cells : ℕ) × (choices : List ℕ) × IsMachineAfter image.now cells choices self.old
-            × HasPurgeAhead image.now cells choices p (snapshot_of self.old) purge }
+        requires at { IsAtPurgeAhead image.now p self.old purge }
         requires room { vec_len self.old.faults < vec_capacity self.old.faults }
-        ensures purged { (cells : ℕ) (choices : List ℕ) → IsMachineAfter image.now cells choices self.old
-            → HasPurgeAhead image.now cells choices p (snapshot_of self.old) purge → HasTurned image.now cells choices p Purged self.new }
+        ensures purged { TurnsByPurge image.now p purge self.old self.new }
         ensures processes { length self.new.processes.items ≡ length self.old.processes.items }
     {
         image.is_runnable();

@@ -1,8 +1,6 @@
 //! Operands of activations above which others are (X3.9-1978, 15.5.2).
-ghost use Rattle.std.specs.Prelude.{◌≡◌, ◌≤◌, ◌<◌, ◌+◌, ◌-◌, ◌++◌, List, [], drop, length, take, vec_len, vec_capacity};
-ghost use Rattle.hep_source.specs.declared.value.Value.{Value as OperandValue};
-ghost use Rattle.hep_state.specs.declared.machine.Level.{Level as ALevel};
-ghost use Rattle.hep_state.specs.Words.{operands_answered, pending_answered, stack_of, stack_with};
+ghost use Rattle.std.specs.Prelude.{◌≡◌, ◌≤◌, ◌<◌, ◌+◌, ◌-◌, ◌++◌, [], drop, length, take, vec_len, vec_capacity};
+ghost use Rattle.hep_state.specs.Words.{HasRoomForValue, TakesValue};
 
 use crate::machine::Process;
 use hep_source::Value;
@@ -37,11 +35,8 @@ impl Process {
     // value. There is room for them.
     pub(crate) fn take_value(&mut self, value: Value)
         requires none { self.old.operands.items ≡ [] }
-        requires room { (l : ALevel) (ls : List ALevel) (operands pending : List OperandValue)
-            → stack_of self.old ≡ stack_with l ls operands pending → l.kept + 1 ≤ vec_capacity self.old.operands }
-        ensures stack { (ls : List ALevel) (pending : List OperandValue)
-            → stack_of self.old ≡ record { levels = ls; operands = []; pending = pending }
-            → stack_of self.new ≡ record { levels = ls; operands = operands_answered pending ls value; pending = pending_answered pending ls } }
+        requires room { HasRoomForValue self.old }
+        ensures stack { TakesValue self.old value self.new }
         ensures levels { self.new.levels ≡ self.old.levels }
         ensures capacity { vec_capacity self.old.operands ≤ vec_capacity self.new.operands }
     {

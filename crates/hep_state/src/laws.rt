@@ -33,9 +33,9 @@ ghost use Rattle.hep_step.specs.Effects.{answers, fails, moves, prints, returns,
 ghost use Rattle.hep_step.specs.Simulation.{unit_addressed, unit_arrays, unit_code};
 ghost use Rattle.hep_binding.specs.Calling.{state_made_by};
 ghost use Rattle.hep_state.specs.declared.machine.Level.{Level as ALevel};
-ghost use Rattle.hep_state.specs.Words.{HasEntered, HasGaps, HasLevels, HasMadeTurn, HasNoGap, HasPurged, HasWaited, HaveLeft, IsAbsent};
+ghost use Rattle.hep_state.specs.Words.{Changes, HasEntered, HasGaps, HasLevels, HasMadeTurn, HasNoGap, HasPurged, HasWaited, HaveLeft, IsAbsent};
 ghost use Rattle.hep_state.specs.Words.{IsAfter, IsAfterCall, IsAtCall, IsAtPurge, IsAtResume, IsEffectOf, IsEnding, IsEntered, IsGiven, IsKnown};
-ghost use Rattle.hep_state.specs.Words.{IsMaking, IsTopRunning, IsTurning, IsUnit, IsWithoutCall, Snapshot, Touches, TurnOf, given_of};
+ghost use Rattle.hep_state.specs.Words.{IsMaking, IsTopRunning, IsTurning, IsUnit, IsWithoutCall, Snapshot, TurnOf, given_of};
 ghost use Rattle.hep_state.specs.Words.{call_in, keys_of, node_under, ranges_ahead, snapshot_answered, snapshot_failed, snapshot_made_by};
 ghost use Rattle.hep_state.specs.Words.{snapshot_moved, snapshot_opened, snapshot_printed, snapshot_resumed, snapshot_returned, snapshot_stopped};
 ghost use Rattle.hep_state.specs.Words.{state_answered, state_before, state_failed, state_returned, top_frame, turn_settled, turn_with, unset_opening};
@@ -236,24 +236,20 @@ pub fn resumes_are_shown()
     ensures lowest { (t : TurnOf) (next : ℕ) → IsAccepted t.program → is_some (main_among t.program) ≡ true → IsAtResume t next
         → t.below ≡ [] → HasMadeTurn t (snapshot_moved t t.machine.arena.contents t.operands next) }
     ensures nothing { (t : TurnOf) (next : ℕ) → IsAccepted t.program → is_some (main_among t.program) ≡ true → IsAtResume t next
-        → Touches t.program t.cells t.choices t.process None }
+        → Changes t.program t.cells t.choices t.process None }
     ensures gaps { (t : TurnOf) (next : ℕ) → IsAccepted t.program → is_some (main_among t.program) ≡ true → IsAtResume t next
         → HasGaps t.program t.cells t.choices t.process }
 {
     hep_accepted_laws::runs::works_come_from_statements();
     hep_step::laws::resumes_are_ahead();
-    hep_touched::laws::calls_and_purges_never_wait();
-    hep_touched::laws::purges_stand_ahead();
     tops_are_running();
 }
 
 /// CALL, CREATE and references fill and empty nothing.
 pub fn calls_touch_nothing()
     ensures { (t : TurnOf) (call : CallAhead) → IsAccepted t.program → is_some (main_among t.program) ≡ true → IsAtCall t call
-        → Touches t.program t.cells t.choices t.process None }
+        → Changes t.program t.cells t.choices t.process None }
 {
-    hep_touched::laws::calls_and_purges_never_wait();
-    hep_touched::laws::purges_stand_ahead();
     tops_are_running();
 }
 

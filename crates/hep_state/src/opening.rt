@@ -1,6 +1,6 @@
 //! A machine before its first turn: process 1 at the main program, whose frame is just behind COMMON, with what DATA
 //! gives (X3.9-1978, section 9).
-ghost use Rattle.std.specs.Prelude.{◌≡◌, ◌+◌, ◌<◌, ◌≤◌, ◌∷◌, ℕ, [], false, Some, IfOk, IsSome, length, slice_get, vec_capacity};
+ghost use Rattle.std.specs.Prelude.{◌≡◌, ◌+◌, ◌<◌, ◌≤◌, ◌∷◌, [], false, Some, IfOk, IsSome, length, vec_capacity};
 ghost use Rattle.std.specs.Option.{is_some};
 ghost use Rattle.slab.specs.Slab.{HasRoomFor};
 ghost use Rattle.hep_machine.specs.Words.{dummies_of, main_unit, unit_at, common_cells, opening_layout};
@@ -13,7 +13,7 @@ ghost use Rattle.hep_purging.specs.Room as room;
 ghost use Rattle.hep_purging.specs.Room.{most_of};
 ghost use Rattle.hep_binding.specs.Fitting as shaping;
 ghost use Rattle.hep_step.specs.Simulation.{unit_code};
-ghost use Rattle.hep_state.specs.Words.{AreOut, IsEntered, IsGiven, HasRoomToPass, IsMachineAfter};
+ghost use Rattle.hep_state.specs.Words.{AreOut, HasRoomToPass, IsEntered, IsGiven, IsMachineAfter, IsQuiet};
 
 use crate::laws;
 use crate::machine::{Level, Machine, Passing, Process};
@@ -188,8 +188,7 @@ impl Machine {
         requires fits { IsSome (opening_layout image.now cells) }
         ensures opened { IfOk result (λ machine. IsMachineAfter image.now cells [] machine) }
         ensures alone { IfOk result (λ machine. length machine.processes.items ≡ 1) }
-        ensures running { IfOk result (λ machine. machine.halted ≡ false) }
-        ensures unwritten { IfOk result (λ machine. (machine.records.items ≡ []) × (machine.faults.items ≡ [])) }
+        ensures quiet { IfOk result (λ machine. IsQuiet machine) }
     {
         hep_image::laws::openings_fit_by_numbers();
         laws::openings_are_shown();

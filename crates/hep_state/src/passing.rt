@@ -1,7 +1,6 @@
 //! What the actual arguments of a CALL, CREATE or reference give (X3.9-1978, 15.5.2, 15.6.2 and 15.9.3).
-ghost use Rattle.std.specs.Prelude.{◌≡◌, ◌≤◌, ℕ, List, IfErr, IfOk, drop, length};
-ghost use Rattle.hep_step.specs.Effects.{fails};
-ghost use Rattle.hep_state.specs.Words.{IsMaking, HasCallAhead, HoldsInTurn, HaveRoom, IsMachineAfter, snapshot_of, IsToEnd};
+ghost use Rattle.std.specs.Prelude.{◌≡◌, ◌≤◌, IfErr, IfOk, drop, length};
+ghost use Rattle.hep_state.specs.Words.{FailsAtCall, IsAtCallAhead, IsGivenBy, KeepsRoomOf};
 
 use crate::laws;
 use crate::machine::{Machine, Passing};
@@ -36,17 +35,11 @@ impl Machine {
     // given.
     // Nothing but `passing` changes.
     pub(crate) fn give(&mut self, image: &Image, p: u64, call: CallAhead) -> Result<u32, Kind>
-        requires at { (cells : ℕ) × (choices : List ℕ) × IsMachineAfter image.now cells choices self.old
-            × HasCallAhead image.now cells choices p (snapshot_of self.old) call }
-        ensures given { IfOk result (λ kept. (cells : ℕ) (choices : List ℕ) → IsMachineAfter image.now cells choices self.old
-            → HasCallAhead image.now cells choices p (snapshot_of self.old) call
-            → HoldsInTurn image.now cells choices p (snapshot_of self.old)
-            (λ t. IsMaking call.way t call.unit kept call.next self.new.passing.given.items self.new.passing.shapes.items)) }
-        ensures fault { IfErr result (λ kind. (cells : ℕ) (choices : List ℕ) → IsMachineAfter image.now cells choices self.old
-            → HasCallAhead image.now cells choices p (snapshot_of self.old) call
-            → IsToEnd image.now cells choices p (snapshot_of self.old) (fails call.line kind)) }
+        requires at { IsAtCallAhead image.now p self.old call }
+        ensures given { IfOk result (λ kept. IsGivenBy image.now p self.old call kept self.new.passing) }
+        ensures fault { IfErr result (FailsAtCall image.now p self.old call) }
         ensures others { self.new ≡ record self.old { passing = self.new.passing } }
-        ensures rooms { (cells : ℕ) → HaveRoom image.now cells self.old → HaveRoom image.now cells self.new }
+        ensures rooms { KeepsRoomOf image.now self.old self.new }
     {
         image.is_runnable();
         laws::calls_can_be_made();

@@ -1,25 +1,21 @@
 //! One turn of a process.
-ghost use Rattle.std.specs.Prelude.{◌≡◌, ◌<◌, ◌≤◌, ◌+◌, ◌^◌, ◌-◌, ℕ, true, false, List, [], None, Some, IfOk, IfErr};
-ghost use Rattle.std.specs.Prelude.{IfSome, OnErr, OnOk, length, slice_get, vec_len, vec_capacity};
-ghost use Rattle.std.specs.Option.{is_some};
+ghost use Rattle.std.specs.Prelude.{◌≡◌, ◌<◌, ◌≤◌, ◌+◌, true, IfOk, IfErr, OnErr, OnOk, length, vec_len, vec_capacity};
 ghost use Rattle.slab.specs.Slab.{HasRoomFor};
-ghost use Rattle.hep_machine.specs.Words.{Units, living, run};
-ghost use Rattle.hep_arena.specs.Holes.{IsOut};
-ghost use Rattle.hep_image.specs.Image.{most_cells};
-ghost use Rattle.hep_state.specs.declared.machine.Process.{Process as AProcess};
-ghost use Rattle.hep_state.specs.Words.{HasCallAhead, IsWithoutCall, HaveRoom, IsMachineAfter, snapshot_of, HasLevels, IsLeft, IsSeenSame};
-ghost use Rattle.hep_state.specs.Words.{HasTurned, IsInState, IsTold, Touches, cell_wanted, IsAfter, IsUnturned};
+ghost use Rattle.hep_step.specs.Performed.{changed_in};
+ghost use Rattle.hep_state.specs.Words.{CanTakeCall, CanTakeOperation, CanTurn, ChangesNext, HasLevels, HasRoomForEntry, HasRoomForLevel};
+ghost use Rattle.hep_state.specs.Words.{HasRoomForProcess, IsAtOperation, IsEmptyProcess, IsSeenAlike, IsTurn, IsUntaken, IsWhetherLives};
+ghost use Rattle.hep_state.specs.Words.{KeepsReady, KeepsReadyFor, KeepsWritten, LeavesAlone, LeavesBy, ShowsSame, snapshot_of};
 
-use crate::advancing::{Advanced, advance};
+use crate::advancing::advance;
 use crate::calling::Called;
 use crate::laws;
 use crate::machine::{Machine, Process};
 use crate::upcoming::{CallAhead, StepAhead};
-use hep_blocked::{Ready, Want};
+use hep_blocked::Ready;
+use hep_cells::Want;
 use hep_image::Image;
 use hep_machine::Entry;
-use hep_step::Way;
-use hep_touched::laws::{purges_stand_ahead, touched_units_are_in_touched_cells};
+use hep_step::{Effect, Way};
 use std::alloc::{AllocError, Global};
 
 /// Why a turn was not taken. The same state is shown then.
@@ -73,8 +69,7 @@ impl Process {
 impl Machine {
     /// Process p, counted from 1, was made and has activations.
     pub fn lives(&self, p: u64) -> bool
-        ensures lives { (program : Units) (cells : ℕ) (choices : List ℕ) → IsAfter program cells choices (snapshot_of self.now)
-            → result ≡ is_some (living (run program choices) p) }
+        ensures lives { IsWhetherLives result p self.now }
         ensures levels { result ≡ true → HasLevels (snapshot_of self.now) p }
     {
         if p == 0 {
@@ -90,8 +85,7 @@ impl Machine {
     fn reserve(&mut self, history: &mut Vec<Entry>) -> Result<(), AllocError>
         ensures records { OnOk result (vec_len self.new.records < vec_capacity self.new.records) }
         ensures faults { OnOk result (vec_len self.new.faults < vec_capacity self.new.faults) }
-        ensures entry { OnOk result (vec_len history.new < vec_capacity history.new) }
-        ensures entries { history.new.items ≡ history.old.items }
+        ensures entry { HasRoomForEntry history.old result history.new }
         ensures written { (self.new.records.items ≡ self.old.records.items) × (self.new.faults.items ≡ self.old.faults.items) }
         ensures others { self.new ≡ record self.old { records = self.new.records; faults = self.new.faults } }
     {
@@ -110,18 +104,9 @@ impl Machine {
         history: &mut Vec<Entry>,
     ) -> Result<(), AllocError>
         requires { HasLevels (snapshot_of self.old) p }
-        ensures node { OnOk result (HasRoomFor self.new.frames.nodes 1) }
-        ensures level { OnOk result ((q : AProcess) → slice_get self.new.processes.items (p - 1) ≡ Some q
-            → vec_len q.levels < vec_capacity q.levels) }
-        ensures operands { OnOk result ((q : AProcess) → slice_get self.new.processes.items (p - 1) ≡ Some q
-            → operands ≤ vec_capacity q.operands) }
-        ensures pending { OnOk result ((q : AProcess) → slice_get self.new.processes.items (p - 1) ≡ Some q
-            → vec_len q.pending + kept ≤ vec_capacity q.pending) }
-        ensures entry { OnOk result (vec_len history.new < vec_capacity history.new) }
-        ensures entries { history.new.items ≡ history.old.items }
-        ensures shown { snapshot_of self.new ≡ snapshot_of self.old }
-        ensures passing { self.new.passing ≡ self.old.passing }
-        ensures rooms { (program : Units) (cells : ℕ) → HaveRoom program cells self.old → HaveRoom program cells self.new }
+        ensures level { OnOk result (HasRoomForLevel self.new p operands kept) }
+        ensures entry { HasRoomForEntry history.old result history.new }
+        ensures same { ShowsSame self.old self.new }
     {
         history.reserve(1)?;
         self.frames.reserve()?;
@@ -132,26 +117,17 @@ impl Machine {
     // and for so many operands at once. Its number has room to be ready.
     pub(crate) fn reserve_process(
         &mut self,
-        alloc: Global,
         operands: u32,
         history: &mut Vec<Entry>,
         ready: &mut Ready,
     ) -> Result<Process, AllocError>
-        ensures process { OnOk result (vec_len self.new.processes < vec_capacity self.new.processes) }
-        ensures empty { IfOk result (λ process. (process.levels.items ≡ []) × (process.operands.items ≡ [])
-            × (process.pending.items ≡ [])) }
-        ensures level { IfOk result (λ process. vec_len process.levels < vec_capacity process.levels) }
-        ensures operands { IfOk result (λ process. operands ≤ vec_capacity process.operands) }
-        ensures entry { OnOk result (vec_len history.new < vec_capacity history.new) }
-        ensures entries { history.new.items ≡ history.old.items }
-        ensures numbers { OnOk result (length self.new.processes.items + 1 ≤ ready.new.room) }
-        ensures room { ready.old.room ≤ ready.new.room }
-        ensures ready { ready.new.ready ≡ ready.old.ready }
-        ensures shown { snapshot_of self.new ≡ snapshot_of self.old }
-        ensures processes { self.new.processes.items ≡ self.old.processes.items }
-        ensures passing { self.new.passing ≡ self.old.passing }
-        ensures rooms { (program : Units) (cells : ℕ) → HaveRoom program cells self.old → HaveRoom program cells self.new }
+        ensures made { IfOk result (IsEmptyProcess operands) }
+        ensures process { OnOk result (HasRoomForProcess self.new ready.new) }
+        ensures entry { HasRoomForEntry history.old result history.new }
+        ensures ready { KeepsReady ready.old ready.new }
+        ensures same { ShowsSame self.old self.new }
     {
+        let alloc = *self.processes.allocator();
         history.reserve(1)?;
         self.processes.reserve(1)?;
         ready.reserve(self.processes.len() as u64 + 1)?;
@@ -165,75 +141,34 @@ impl Machine {
     // The same, and room for the node of its activation.
     fn reserve_creation(
         &mut self,
-        alloc: Global,
         operands: u32,
         history: &mut Vec<Entry>,
         ready: &mut Ready,
     ) -> Result<Process, AllocError>
         ensures node { OnOk result (HasRoomFor self.new.frames.nodes 1) }
-        ensures process { OnOk result (vec_len self.new.processes < vec_capacity self.new.processes) }
-        ensures empty { IfOk result (λ process. (process.levels.items ≡ []) × (process.operands.items ≡ [])
-            × (process.pending.items ≡ [])) }
-        ensures level { IfOk result (λ process. vec_len process.levels < vec_capacity process.levels) }
-        ensures operands { IfOk result (λ process. operands ≤ vec_capacity process.operands) }
-        ensures entry { OnOk result (vec_len history.new < vec_capacity history.new) }
-        ensures entries { history.new.items ≡ history.old.items }
-        ensures numbers { OnOk result (length self.new.processes.items + 1 ≤ ready.new.room) }
-        ensures room { ready.old.room ≤ ready.new.room }
-        ensures ready { ready.new.ready ≡ ready.old.ready }
-        ensures shown { snapshot_of self.new ≡ snapshot_of self.old }
-        ensures processes { self.new.processes.items ≡ self.old.processes.items }
-        ensures passing { self.new.passing ≡ self.old.passing }
-        ensures rooms { (program : Units) (cells : ℕ) → HaveRoom program cells self.old → HaveRoom program cells self.new }
+        ensures made { IfOk result (IsEmptyProcess operands) }
+        ensures process { OnOk result (HasRoomForProcess self.new ready.new) }
+        ensures entry { HasRoomForEntry history.old result history.new }
+        ensures ready { KeepsReady ready.old ready.new }
+        ensures same { ShowsSame self.old self.new }
     {
-        let process = self.reserve_process(alloc, operands, history, ready)?;
+        let process = self.reserve_process(operands, history, ready)?;
         self.frames.reserve()?;
         Ok(process)
     }
 
     // Performs the operation ahead of process p, which is neither CALL, CREATE nor a reference, and neither PURGE nor RESUME.
-    fn advance(&mut self, alloc: Global, image: &Image, p: u64) -> Result<Advanced, AllocError>
-        requires after { (cells : ℕ) × (choices : List ℕ) × IsMachineAfter image.now cells choices self.old }
-        requires running { self.old.halted ≡ false }
-        requires plain { IsWithoutCall image.now p (snapshot_of self.old) }
-        ensures left { IfOk result (λ advanced. (cells : ℕ) (choices : List ℕ) → IsMachineAfter image.now cells choices self.old
-            → IsLeft image.now cells choices p (snapshot_of self.new) advanced.effect) }
-        ensures touched { IfOk result (λ advanced. (cells : ℕ) (choices : List ℕ) → IsMachineAfter image.now cells choices self.old
-            → Touches image.now cells choices p advanced.touched) }
-        ensures state { IfOk result (λ advanced. (cells : ℕ) (choices : List ℕ) → IsMachineAfter image.now cells choices self.old
-            → IsInState image.now cells choices p advanced.touched (snapshot_of self.new)) }
-        ensures inside { IfOk result (λ advanced. IfSome advanced.touched (λ cell. cell < length self.new.frames.arena.contents)) }
-        ensures out { IfOk result (λ advanced. IfSome advanced.touched (λ cell. IsOut cell self.new.frames.arena.holes)) }
-        ensures cells { length self.new.frames.arena.contents ≡ length self.old.frames.arena.contents }
-        ensures refused { OnErr result ((cells : ℕ) (choices : List ℕ) → IsAfter image.now cells choices (snapshot_of self.old)
-            → IsAfter image.now cells choices (snapshot_of self.new)) }
-        ensures same { OnErr result (IsSeenSame (snapshot_of self.old) (snapshot_of self.new)) }
-        ensures rooms { (cells : ℕ) → HaveRoom image.now cells self.old → HaveRoom image.now cells self.new }
-        ensures records { self.new.records ≡ self.old.records }
-        ensures faults { self.new.faults ≡ self.old.faults }
-        ensures processes { length self.new.processes.items ≡ length self.old.processes.items }
+    fn advance(&mut self, alloc: Global, image: &Image, p: u64) -> Result<Effect, AllocError>
+        requires { IsAtOperation image.now p self.old }
+        ensures left { IfOk result (LeavesBy image.now p self.old self.new) }
+        ensures changed { IfOk result (λ effect. ChangesNext image.now p self.old (changed_in effect)) }
+        ensures refused { OnErr result (IsSeenAlike image.now self.old self.new) }
+        ensures kept { KeepsWritten image.now self.old self.new }
     {
         image.is_runnable();
         laws::tops_are_running();
-        touched_units_are_in_touched_cells();
-        purges_stand_ahead();
         let process = &mut self.processes[(p - 1) as usize];
         advance(process, &mut self.frames, alloc, image)
-    }
-
-    // How a cell is now for which others may wait, if there is one.
-    fn state_of(&self, cell: Option<u32>) -> Option<Want>
-        requires few { length self.now.frames.arena.contents ≤ most_cells }
-        requires inside { IfSome cell (λ cell. cell < length self.now.frames.arena.contents) }
-        requires out { IfSome cell (λ cell. IsOut cell self.now.frames.arena.holes) }
-        ensures cell { cell_wanted result ≡ cell }
-        ensures state { IsTold (snapshot_of self.now) result }
-    {
-        let cell = cell?;
-        Some(Want {
-            cell,
-            full: self.frames.arena.get(cell).full,
-        })
     }
 
     // A turn of process p, ahead of which neither CALL, CREATE nor a reference stands, and neither PURGE nor RESUME.
@@ -244,23 +179,16 @@ impl Machine {
         p: u64,
         history: &mut Vec<Entry>,
     ) -> Result<Turned, AllocError>
-        requires after { (cells : ℕ) × (choices : List ℕ) × IsMachineAfter image.now cells choices self.old }
-        requires running { self.old.halted ≡ false }
-        requires plain { IsWithoutCall image.now p (snapshot_of self.old) }
-        ensures turned { IfOk result (λ turned. (cells : ℕ) (choices : List ℕ) → IsMachineAfter image.now cells choices self.old
-            → HasTurned image.now cells choices p turned self.new) }
-        ensures refused { OnErr result ((cells : ℕ) (choices : List ℕ) → IsMachineAfter image.now cells choices self.old
-            → IsMachineAfter image.now cells choices self.new) }
-        ensures same { OnErr result (IsSeenSame (snapshot_of self.old) (snapshot_of self.new)) }
+        requires { CanTakeOperation image.now history.old.items p self.old }
+        ensures turned { IfOk result (λ turned. IsTurn image.now history.old.items p self.old turned self.new) }
+        ensures refused { OnErr result (LeavesAlone image.now history.old.items self.old self.new) }
         ensures processes { length self.new.processes.items ≡ length self.old.processes.items }
-        ensures room { OnOk result (vec_len history.new < vec_capacity history.new) }
-        ensures entries { history.new.items ≡ history.old.items }
+        ensures entry { HasRoomForEntry history.old result history.new }
     {
         // What the turn may write has room before anything changes.
         self.reserve(history)?;
-        let Advanced { effect, touched } = self.advance(alloc, image, p)?;
-        // The cell may be of a frame that is given back at the end of the turn.
-        let changed = self.state_of(touched);
+        let effect = self.advance(alloc, image, p)?;
+        let changed = effect.changed();
         match self.end_turn(p, effect) {
             Some(want) => Ok(Turned::Waits(want)),
             None => Ok(Turned::Stepped { changed }),
@@ -272,30 +200,18 @@ impl Machine {
     // Whether the frame has a gap is found before memory is asked for.
     fn take_call(
         &mut self,
-        alloc: Global,
         image: &Image,
         p: u64,
         call: CallAhead,
         history: &mut Vec<Entry>,
         ready: &mut Ready,
     ) -> Result<Turned, TurnFault>
-        requires at { (cells : ℕ) × (choices : List ℕ) × IsMachineAfter image.now cells choices self.old
-            × HasCallAhead image.now cells choices p (snapshot_of self.old) call }
-        requires countable { self.old.activations + 1 < 2 ^ 64 }
-        requires numbers { length self.old.processes.items ≤ ready.old.room }
-        ensures turned { IfOk result (λ turned. (cells : ℕ) (choices : List ℕ) → IsMachineAfter image.now cells choices self.old
-            → HasCallAhead image.now cells choices p (snapshot_of self.old) call → HasTurned image.now cells choices p turned self.new) }
-        ensures unturned { IfErr result (λ e. (cells : ℕ) (choices : List ℕ) → IsMachineAfter image.now cells choices self.old
-            → HasCallAhead image.now cells choices p (snapshot_of self.old) call → IsUnturned e image.now cells choices p) }
-        ensures refused { OnErr result ((cells : ℕ) (choices : List ℕ) → IsMachineAfter image.now cells choices self.old
-            → IsMachineAfter image.now cells choices self.new) }
-        ensures same { OnErr result (IsSeenSame (snapshot_of self.old) (snapshot_of self.new)) }
-        ensures processes { OnErr result (length self.new.processes.items ≡ length self.old.processes.items) }
-        ensures room { OnOk result (vec_len history.new < vec_capacity history.new) }
-        ensures entries { history.new.items ≡ history.old.items }
-        ensures numbers { length self.new.processes.items ≤ ready.new.room }
-        ensures grows { ready.old.room ≤ ready.new.room }
-        ensures ready { ready.new.ready ≡ ready.old.ready }
+        requires { CanTakeCall image.now history.old.items p self.old call ready.old }
+        ensures turned { IfOk result (λ turned. IsTurn image.now history.old.items p self.old turned self.new) }
+        ensures unturned { IfErr result (IsUntaken image.now history.old.items p self.old) }
+        ensures refused { OnErr result (LeavesAlone image.now history.old.items self.old self.new) }
+        ensures entry { HasRoomForEntry history.old result history.new }
+        ensures ready { KeepsReadyFor self.new ready.old ready.new }
     {
         image.is_runnable();
         laws::calls_can_be_made();
@@ -328,7 +244,7 @@ impl Machine {
                 self.call(p, called, kept, call.next);
             }
             Way::Creates => {
-                let process = self.reserve_creation(alloc, unit.operands, history, ready)?;
+                let process = self.reserve_creation(unit.operands, history, ready)?;
                 self.create(p, called, call.next, process);
             }
         }
@@ -340,8 +256,8 @@ impl Machine {
     ///
     /// # Errors
     ///
-    /// `ArenaFull` where a CALL, CREATE or reference makes an activation for whose frame there is no gap, which is found before memory is asked for;
-    /// `NoMemory`. The same state is shown then.
+    /// `ArenaFull` where a CALL, CREATE or reference makes an activation for whose frame there is no gap, which is found before memory is
+    /// asked for; `NoMemory`. The same state is shown then.
     pub fn turn(
         &mut self,
         alloc: Global,
@@ -350,38 +266,26 @@ impl Machine {
         history: &mut Vec<Entry>,
         ready: &mut Ready,
     ) -> Result<Turned, TurnFault>
-        requires after { (cells : ℕ) × (choices : List ℕ) × IsMachineAfter image.now cells choices self.old }
-        requires running { self.old.halted ≡ false }
-        requires living { HasLevels (snapshot_of self.old) p }
-        requires countable { self.old.activations + 1 < 2 ^ 64 }
-        requires numbers { length self.old.processes.items ≤ ready.old.room }
-        ensures turned { IfOk result (λ turned. (cells : ℕ) (choices : List ℕ) → IsMachineAfter image.now cells choices self.old
-            → HasTurned image.now cells choices p turned self.new) }
-        ensures unturned { IfErr result (λ e. (cells : ℕ) (choices : List ℕ) → IsMachineAfter image.now cells choices self.old
-            → IsUnturned e image.now cells choices p) }
-        ensures refused { OnErr result ((cells : ℕ) (choices : List ℕ) → IsMachineAfter image.now cells choices self.old
-            → IsMachineAfter image.now cells choices self.new) }
-        ensures same { OnErr result (IsSeenSame (snapshot_of self.old) (snapshot_of self.new)) }
-        ensures processes { OnErr result (length self.new.processes.items ≡ length self.old.processes.items) }
-        ensures room { OnOk result (vec_len history.new < vec_capacity history.new) }
-        ensures entries { history.new.items ≡ history.old.items }
-        ensures numbers { length self.new.processes.items ≤ ready.new.room }
-        ensures grows { ready.old.room ≤ ready.new.room }
-        ensures ready { ready.new.ready ≡ ready.old.ready }
+        requires { CanTurn image.now history.old.items p self.old ready.old }
+        ensures turned { IfOk result (λ turned. IsTurn image.now history.old.items p self.old turned self.new) }
+        ensures unturned { IfErr result (IsUntaken image.now history.old.items p self.old) }
+        ensures refused { OnErr result (LeavesAlone image.now history.old.items self.old self.new) }
+        ensures entry { HasRoomForEntry history.old result history.new }
+        ensures ready { KeepsReadyFor self.new ready.old ready.new }
     {
         image.is_runnable();
         laws::other_steps_find_gaps();
         laws::purges_are_shown();
         laws::resumes_are_shown();
         match self.step_ahead(image, p) {
-            StepAhead::Call(call) => self.take_call(alloc, image, p, call, history, ready),
+            StepAhead::Call(call) => self.take_call(image, p, call, history, ready),
             StepAhead::Purge(purge) => {
                 self.reserve(history)?;
                 self.purge(image, p, purge);
                 Ok(Turned::Purged)
             }
             StepAhead::Resume { next } => {
-                self.take_resume(alloc, image, p, next, history, ready)?;
+                self.take_resume(image, p, next, history, ready)?;
                 Ok(Turned::Stepped { changed: None })
             }
             StepAhead::Other => Ok(self.take_operation(alloc, image, p, history)?),

@@ -1,9 +1,9 @@
 //! What stands ahead of a process: a CALL, CREATE or reference, a PURGE, RESUME, or another operation (X3.9-1978, 15.5.2 and 15.6.2, and
 //! docs/LANGUAGE.md, 9).
-ghost use Rattle.std.specs.Prelude.{◌≡◌, ◌<◌, ◌^◌, ◌∷◌, ℕ, List, false, drop, length};
+ghost use Rattle.std.specs.Prelude.{◌<◌, ◌^◌, ◌∷◌, List, drop, length};
 ghost use Rattle.hep_code.specs.declared.instruction.Instruction.{Instruction as AnInstruction};
 ghost use Rattle.hep_code.specs.declared.instruction.Instruction.TheVariants.{Step};
-ghost use Rattle.hep_state.specs.Words.{IsAhead, IsInFront, IsMachineAfter, snapshot_of, HasLevels, IsSeenSame};
+ghost use Rattle.hep_state.specs.Words.{IsItsTurn, HasLevels, IsAhead, IsInFront, IsSeenSame, KeepsState, snapshot_of};
 
 use crate::machine::{Level, Machine};
 use hep_code::{Instruction, Operation};
@@ -96,12 +96,9 @@ fn ahead_at(code: &[Instruction], index: usize) -> StepAhead
 impl Machine {
     // What stands ahead of process p, once the values in front of it are operands.
     pub(crate) fn step_ahead(&mut self, image: &Image, p: u64) -> StepAhead
-        requires after { (cells : ℕ) × (choices : List ℕ) × IsMachineAfter image.now cells choices self.old }
-        requires running { self.old.halted ≡ false }
-        requires living { HasLevels (snapshot_of self.old) p }
+        requires { IsItsTurn image.now p self.old }
         ensures ahead { IsAhead image.now p self.old (snapshot_of self.new) result }
-        ensures after { (cells : ℕ) (choices : List ℕ) → IsMachineAfter image.now cells choices self.old
-            → IsMachineAfter image.now cells choices self.new }
+        ensures after { KeepsState image.now self.old self.new }
         ensures same { IsSeenSame (snapshot_of self.old) (snapshot_of self.new) }
         ensures living { HasLevels (snapshot_of self.new) p }
     {

@@ -4,7 +4,7 @@
 use Rattle.std.proofs.Common.{◌≡◌, ◌≢◌, ℕ, suc, ◌+◌, ◌-◌, Bool, true, false, List, [], ◌∷◌, refl, ap, sym, ◌∙◌, ◌++◌, map, length, subst, Option, Some, None, Result, Ok, Err, arith, drop, length-append, take}
 use Rattle.std.proofs.Math.Seq.{drop-append_seam}
 use Rattle.hep_machine.specs.Words.{integer_of, logical_of, label_by_sign, label_chosen, level_after_condition, level_after_statement, level_at_choice, level_at_label, level_in_block, Action, jumping, choosing, branching, testing_condition, entering_block, continuing, Next, does}
-use Rattle.hep_machine.specs.Words.{printing, leaving, referring, resuming, wants, function_unit, state_resumed, stopping, Actual, evaluated, referred, calling, creating, Top, Units, Value, unit_on_top, Level, result_after_action, state_with_level, stepped, binding_of, result_after_call, result_after_create, result_after_fault, Name, Location, evaluating, function_name, location_of_name, plug_work, result_after_leaving, result_after_next, result_after_result, result_after_value}
+use Rattle.hep_machine.specs.Words.{printing, leaving, referring, resuming, wants, state_resumed, stopping, Actual, evaluated, referred, calling, creating, Top, Units, Value, unit_on_top, Level, result_after_action, state_with_level, stepped, binding_of, result_after_call, result_after_create, result_after_fault, Name, Location, evaluating, function_name, location_of_name, plug_work, result_after_leaving, result_after_next, result_after_result, result_after_value}
 use Rattle.hep_code.specs.declared.instruction.Instruction.{Instruction}
 use Rattle.hep_code.specs.declared.instruction.Instruction.TheVariants.{Pass, Step, Show}
 use Rattle.hep_code.specs.declared.variable.Variable.{Variable}

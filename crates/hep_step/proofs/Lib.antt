@@ -1,3 +1,4 @@
+pub mod Changes
 pub mod Elements
 pub mod Worked
 pub mod Running
@@ -13,3 +14,4 @@ pub mod References
 pub mod Entries
 pub mod ReadyToPass
 mod WorkedPassing
+mod WorkedChanges

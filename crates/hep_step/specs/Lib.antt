@@ -4,6 +4,7 @@ pub mod Effects
 pub mod Items
 pub mod Performed
 pub mod Ready
+pub mod Changes
 pub mod Simulation
 pub mod Calls
 pub mod Resuming

@@ -4,68 +4,63 @@ ghost use Rattle.hep_arena.specs.Holes.{IsOut};
 ghost use Rattle.hep_image.specs.Image.{most_cells};
 ghost use Rattle.hep_cells.specs.Outcomes.{outcome_meant};
 ghost use Rattle.hep_step.specs.Replies.{reply_meant};
-ghost use Rattle.hep_step.specs.Performed.{access_made, effect_of_obstacle, reply_made};
+ghost use Rattle.hep_step.specs.Performed.{access_made, reply_made};
 ghost use Rattle.hep_step.specs.Ready.{IsReplyReached};
 
 use crate::effect::Effect;
 use crate::reply::Reply;
 use hep_arena::Arena;
-use hep_cells::{AccessOutcome, CellState};
+use hep_cells::{AccessOutcome, Want, cells};
 use hep_machine::Kind;
 use hep_source::Value;
 
-/// Why an operation has no value.
-#[derive(Clone, Copy, Debug, PartialEq, Eq)]
-pub(crate) enum Obstacle {
-    Fault(Kind),
-    /// The cell at this address has to be so first.
-    Wait { at: u32, state: CellState },
-}
-
-impl Obstacle {
-    // The effect of the operation, whose statement has this initial line.
-    pub(crate) fn effect(self, line: u32) -> Effect
-        ensures { result ≡ effect_of_obstacle line self }
-    {
-        match self {
-            Obstacle::Fault(kind) => Effect::Failed { line, kind },
-            Obstacle::Wait { at, state } => Effect::Waits { at, state },
-        }
-    }
-}
-
-// Makes an access to the cell at an address, which has to be out, where it gives a value.
+// Makes an access to the cell at an address, which has to be out, where it gives a value. It belongs to a statement with this initial line.
 #[inline(always)]
-fn accessed(arena: &mut Arena, at: u32, outcome: AccessOutcome) -> Result<Value, Obstacle>
+fn accessed(
+    arena: &mut Arena,
+    line: u32,
+    at: u32,
+    outcome: AccessOutcome,
+) -> Result<(Value, Option<Want>), Effect>
     requires inside { at < length arena.old.contents }
     requires out { IsOut at arena.old.holes }
-    ensures made { (arena.new.contents, result) ≡ access_made arena.old.contents at (outcome_meant outcome) }
+    requires few { length arena.old.contents ≤ most_cells }
+    ensures made { (arena.new.contents, result) ≡ access_made line arena.old.contents at (outcome_meant outcome) }
     ensures holes { arena.new.holes ≡ arena.old.holes }
     ensures cells { length arena.new.contents ≡ length arena.old.contents }
 {
     match outcome {
-        AccessOutcome::Gives(value) => Ok(value),
+        AccessOutcome::Gives(value) => Ok((value, None)),
         AccessOutcome::Makes { value, slot } => {
+            let changed = cells::changed(at, arena.get(at), slot);
             arena.set(at, slot);
-            Ok(value)
+            Ok((value, changed))
         }
-        AccessOutcome::Waits(state) => Err(Obstacle::Wait { at, state }),
-        AccessOutcome::Undefined => Err(Obstacle::Fault(Kind::Undefined)),
+        AccessOutcome::Waits { full } => Err(Effect::Waits(Want { cell: at, full })),
+        AccessOutcome::Undefined => Err(Effect::Failed {
+            line,
+            kind: Kind::Undefined,
+        }),
     }
 }
 
-/// The value of a reply, once the access is made that it asks for. Where there is none, nothing has changed.
+/// The value of a reply, once the access is made that it asks for, and the cell that this filled or emptied, if it did. Where there is no
+/// value, it is the effect of an operation of a statement with this initial line, and nothing has changed.
 #[inline(always)]
-pub(crate) fn granted(arena: &mut Arena, reply: Reply) -> Result<Value, Obstacle>
+pub(crate) fn granted(
+    arena: &mut Arena,
+    line: u32,
+    reply: Reply,
+) -> Result<(Value, Option<Want>), Effect>
     requires reached { IsReplyReached arena.old reply }
     requires few { length arena.old.contents ≤ most_cells }
-    ensures made { (arena.new.contents, result) ≡ reply_made arena.old.contents (reply_meant reply) }
+    ensures made { (arena.new.contents, result) ≡ reply_made line arena.old.contents (reply_meant reply) }
     ensures holes { arena.new.holes ≡ arena.old.holes }
     ensures cells { length arena.new.contents ≡ length arena.old.contents }
 {
     match reply {
-        Reply::Result(Ok(value)) => Ok(value),
-        Reply::Result(Err(kind)) => Err(Obstacle::Fault(kind)),
-        Reply::Accessed { at, outcome } => accessed(arena, at, outcome),
+        Reply::Result(Ok(value)) => Ok((value, None)),
+        Reply::Result(Err(kind)) => Err(Effect::Failed { line, kind }),
+        Reply::Accessed { at, outcome } => accessed(arena, line, at, outcome),
     }
 }

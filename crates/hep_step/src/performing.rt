@@ -1,6 +1,7 @@
 //! What the operation ahead of an activation does.
 ghost use Rattle.std.specs.Prelude.{◌≡◌, ◌<◌, ◌≤◌, ◌∷◌, IfOk, OnErr, MatchOption, drop, length, vec_capacity};
 ghost use Rattle.hep_code.specs.declared.instruction.Instruction.TheVariants.{Step};
+ghost use Rattle.hep_step.specs.Changes.{changed_at};
 ghost use Rattle.hep_step.specs.Effects.{effect_at};
 ghost use Rattle.hep_step.specs.Performed.{HasNoStep, HasPrint, IsPerformed, snapshot};
 ghost use Rattle.hep_step.specs.Ready.{IsReady};
@@ -43,7 +44,8 @@ fn operation_at(code: &[Instruction], index: usize) -> Option<Ahead<'_>>
 }
 
 /// Does the operation at an index of the code, with these operands: what it does to the arena and the operands,
-/// and where it leads, is what `specs/Effects` says. No memory is taken but for a record.
+/// and where it leads, is what `specs/Effects` says, and which cell it fills or empties, what `specs/Changes` says. No memory is taken but
+/// for a record.
 ///
 /// # Errors
 ///
@@ -62,6 +64,7 @@ pub fn perform(
     requires ready { IsReady code.now arrays.now arena.old frame operands.old.items (vec_capacity operands.old) index.old }
     ensures performed { IfOk result (λ effect. IsPerformed
         (effect_at code.now arrays.now frame.first arena.old.contents operands.old.items index.old)
+        (changed_at code.now arrays.now frame.first arena.old.contents operands.old.items index.old)
         (snapshot arena.old.contents operands.old.items index.old) effect (snapshot arena.new.contents operands.new.items index.new)) }
     ensures refused { OnErr result (snapshot arena.new.contents operands.new.items index.new
         ≡ snapshot arena.old.contents operands.old.items index.old) }
@@ -130,7 +133,7 @@ pub fn perform(
         | Operation::Condition { .. }
         | Operation::Branch { .. } => {
             jump(entries, operation, operands, index);
-            Ok(Effect::Moved)
+            Ok(Effect::Moved { changed: None })
         }
     }
 }

@@ -3,6 +3,7 @@ ghost use Rattle.std.specs.Prelude.{◌≡◌, ◌+◌, ◌<◌, ◌≤◌, ◌^
 ghost use Rattle.hep_code.specs.declared.instruction.Operation.TheVariants.{Store};
 ghost use Rattle.hep_code.specs.Words.{first_operand};
 ghost use Rattle.hep_step.specs.Cells.{HasFrame};
+ghost use Rattle.hep_step.specs.Changes.{changed_by, changed_by_evaluation};
 ghost use Rattle.hep_image.specs.Finding.{address_of, cells_in};
 ghost use Rattle.hep_step.specs.Effects.{effect_of, effect_of_evaluation, subscripts_in, value_found};
 ghost use Rattle.hep_step.specs.Performed.{IsPerformed, snapshot};
@@ -46,6 +47,7 @@ pub(crate) fn evaluate(
     // What stands elsewhere in the code doesn't count.
     ensures performed { IsPerformed (effect_of_evaluation [] storage.now.arrays.now storage.now.frame.first line evaluation
         arena.old.contents operands.old.items index.old)
+        (changed_by_evaluation storage.now.arrays.now storage.now.frame.first evaluation arena.old.contents operands.old.items)
         (snapshot arena.old.contents operands.old.items index.old) result
         (snapshot arena.new.contents operands.new.items index.new) }
     ensures holes { arena.new.holes ≡ arena.old.holes }
@@ -55,13 +57,13 @@ pub(crate) fn evaluate(
     let kept = operands.len().saturating_sub(evaluation.arity() as usize);
     let Storage { arrays, frame } = *storage;
     let reply = reply_of(arena, frame, arrays, evaluation, &operands[kept..]);
-    match granted(arena, reply) {
-        Ok(value) => {
+    match granted(arena, line, reply) {
+        Ok((value, changed)) => {
             replace(operands, kept, value);
             *index += 1;
-            Effect::Moved
+            Effect::Moved { changed }
         }
-        Err(obstacle) => obstacle.effect(line),
+        Err(effect) => effect,
     }
 }
 
@@ -91,6 +93,7 @@ pub(crate) fn store(
     requires ready { IsVariableReady arena.old storage.now.arrays.now storage.now.frame (subscripts_in operands.old.items) variable }
     ensures performed { IsPerformed (effect_of [] storage.now.arrays.now storage.now.frame.first line
         (Store variable 0 next) [] arena.old.contents operands.old.items index.old)
+        (changed_by storage.now.arrays.now storage.now.frame.first (Store variable 0 next) arena.old.contents operands.old.items)
         (snapshot arena.old.contents operands.old.items index.old) result (snapshot arena.new.contents operands.new.items index.new) }
     ensures holes { arena.new.holes ≡ arena.old.holes }
     ensures cells { length arena.new.contents ≡ length arena.old.contents }
@@ -99,13 +102,13 @@ pub(crate) fn store(
     let Storage { arrays, frame } = *storage;
     let (value, subscripts) = value_and_subscripts(operands);
     let reply = reply_to_store(arena, frame, arrays, variable, value, subscripts);
-    match granted(arena, reply) {
-        Ok(_) => {
+    match granted(arena, line, reply) {
+        Ok((_, changed)) => {
             operands.clear();
             *index = next as usize;
-            Effect::Moved
+            Effect::Moved { changed }
         }
-        Err(obstacle) => obstacle.effect(line),
+        Err(effect) => effect,
     }
 }
 

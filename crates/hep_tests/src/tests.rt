@@ -8,11 +8,11 @@ mod parts;
 mod workers;
 
 use hep_check::check;
+use hep_core::{ChooseFault, Core, Entry, Turn, Verdict};
 use hep_image::Image;
 use hep_lower::lower;
 use hep_parse::parse;
 use hep_run::{Options, run_source};
-use hep_scheduler::{ChooseFault, Core, Entry, Turn, Verdict};
 use hep_source::Program;
 use hep_text::statements;
 use std::alloc::{AllocError, Global};

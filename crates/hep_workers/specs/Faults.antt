@@ -1,7 +1,7 @@
 -- Why a run by workers leaves no report: docs/MACHINE.md, "Workers".
 use Rattle.std.specs.Prelude.{ℕ, Option, Some, None}
-use Rattle.hep_scheduler.specs.declared.fault.NewFault.{NewFault}
-use Rattle.hep_scheduler.specs.declared.fault.NewFault.TheVariants as new
+use Rattle.hep_core.specs.declared.fault.NewFault.{NewFault}
+use Rattle.hep_core.specs.declared.fault.NewFault.TheVariants as new
 use Rattle.hep_workers.specs.declared.fault.CloseFault.TheVariants as close
 use Rattle.hep_workers.specs.declared.fault.CrewFault.TheVariants as crew
 use Rattle.hep_workers.specs.declared.fault.WorkFault.{WorkFault}

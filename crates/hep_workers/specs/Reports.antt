@@ -1,8 +1,8 @@
 -- What a report says, and why there is none: docs/MACHINE.md, "Workers".
 use Rattle.std.specs.Prelude.{◌≡◌, ◌≢◌, true, false, List, None}
 use Rattle.hep_machine.specs.Words.{opening_layout, Units}
-use Rattle.hep_scheduler.specs.Value.{CoreValue, verdict_of}
-use Rattle.hep_scheduler.specs.declared.stop.Verdict.TheVariants.{Running}
+use Rattle.hep_core.specs.Value.{CoreValue, verdict_of}
+use Rattle.hep_core.specs.declared.stop.Verdict.TheVariants.{Running}
 use Rattle.hep_workers.specs.declared.fault.CloseFault.{CloseFault}
 use Rattle.hep_workers.specs.declared.fault.CloseFault.TheVariants.{NoMemory, NotTheEntries, NotRising, NotTheRun, StillRunning}
 use Rattle.hep_workers.specs.declared.fault.WorkFault.{WorkFault}

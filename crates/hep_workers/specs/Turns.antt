@@ -1,9 +1,10 @@
 -- What a turn of a worker does: docs/MACHINE.md, "Workers".
 use Rattle.std.specs.Prelude.{◌≡◌, ℕ, List, [], ◌∷◌, ◌++◌, Ok, length}
 use Rattle.hep_machine.specs.declared.event.Entry.{Entry}
-use Rattle.hep_scheduler.specs.declared.stop.Turn.{Turn}
-use Rattle.hep_tickets.specs.declared.ticket.TicketId.{TicketId}
-use Rattle.hep_tickets.specs.Shared.{IsCommitted, SharedValue}
+use Rattle.hep_core.specs.declared.stop.Turn.{Turn}
+use Rattle.hep_core.specs.declared.ticket.TicketId.{TicketId}
+use Rattle.hep_core.specs.Commits.{IsCommitted}
+use Rattle.hep_core.specs.Value.{CoreValue}
 use Rattle.hep_workers.specs.declared.receipt.Receipt.{Receipt}
 use Rattle.hep_workers.specs.Receipts.{entry_of}
 
@@ -12,5 +13,5 @@ abbrev pub IsReceipt : List Entry → ℕ → Receipt → List Entry → Type 0
 IsReceipt old worker r new = (r.worker ≡ worker) × (r.index ≡ length old) × (new ≡ old ++ entry_of r ∷ [])
 
 -- the commit of the ticket's segment made the receipt's steps
-abbrev pub HasCommitted : SharedValue → TicketId → Receipt → SharedValue → Type 0
+abbrev pub HasCommitted : CoreValue → TicketId → Receipt → CoreValue → Type 0
 HasCommitted old id r new = (turn : Turn) × (turn.steps ≡ r.steps) × IsCommitted old id (Ok turn) new

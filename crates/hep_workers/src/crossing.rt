@@ -4,7 +4,7 @@ ghost use Rattle.std.specs.Thread.{IsSend, IsSync};
 ghost use Rattle.hep_image.specs.contracts.image.Image as image;
 ghost use Rattle.hep_source.specs.contracts.expression.Expr as expression;
 ghost use Rattle.hep_source.specs.contracts.program.Program as program;
-ghost use Rattle.hep_tickets.specs.contracts.shared.SharedCore as shared;
+ghost use Rattle.hep_core.specs.contracts.scheduler.Core as core;
 
 use hep_blocked::{Ready, Waits};
 use hep_image::{BlockStart, DataRow, UnitCode};
@@ -47,9 +47,9 @@ pub(crate) fn images_cross()
     cross::<Sequence<BlockStart>>();
 }
 
-/// A shared core may be sent to another thread.
+/// A core may be sent to another thread.
 pub(crate) fn cores_cross()
-    ensures send { IsSend shared.the_row }
+    ensures send { IsSend core.the_row }
 {
     images_cross();
     pass::<Machine>();

@@ -2,7 +2,7 @@
 ghost use Rattle.std.specs.Prelude.{◌≡◌};
 ghost use Rattle.hep_workers.specs.Faults.{number_of};
 
-use hep_scheduler::NewFault;
+use hep_core::NewFault;
 use std::alloc::AllocError;
 use thiserror::Error;
 

@@ -9,9 +9,8 @@ use crate::options::WorkOptions;
 use crate::receipt::Log;
 use crate::report::{Report, close};
 use crate::turn::worker_turn;
+use hep_core::{ChooseFault, CommitFault, Core, Ticket, Verdict};
 use hep_image::Image;
-use hep_scheduler::{Core, Verdict};
-use hep_tickets::{CommitFault, ShareFault, SharedCore, Ticket};
 use std::alloc::Global;
 use std::sync::atomic::{AtomicBool, Ordering};
 use std::sync::{Condvar, Mutex, Wait};
@@ -21,7 +20,7 @@ use std::thread::Threads;
 // What the workers share.
 #[derive(Drop)]
 struct Floor {
-    core: Mutex<SharedCore>,
+    core: Mutex<Core>,
     // Notified after each change of the core and of `ended`.
     changed: Condvar,
     // The workers are to end. It is set under the lock, and never taken back.
@@ -55,10 +54,10 @@ pub fn run_workers<R: Threads + Wait + Sync, G: Gate + Sync>(
     ensures fault { IfErr result (λ fault. IsWorkFault fault image.now options) }
 {
     let core = Core::new(alloc, image.copy(alloc)?, options.arena, options.steps)?;
-    let floor = Floor::new(SharedCore::new(alloc, core));
+    let floor = Floor::new(core);
     let logs = work_all(rt, alloc, &floor, image, options.workers, gate)?;
     let Floor { core, .. } = floor;
-    Ok(close(alloc, core.into_inner().into_core(), image, options, logs)?)
+    Ok(close(alloc, core.into_inner(), image, options, logs)?)
 }
 
 // Starts the workers, waits for their ends, and gives their logs, or the first fault of one.
@@ -109,7 +108,7 @@ fn work_all<R: Threads + Wait + Sync, G: Gate + Sync>(
 }
 
 impl Floor {
-    fn new(core: SharedCore) -> Floor {
+    fn new(core: Core) -> Floor {
         Floor {
             core: Mutex::new(core),
             changed: Condvar::new(),
@@ -196,10 +195,10 @@ impl Floor {
     fn check_out<R: Wait>(&self, rt: &R) -> Result<Option<Ticket>, CrewFault> {
         let mut core = self.changed.wait_while(rt, self.core.lock(rt), |core| {
             !self.ended.load(Ordering::SeqCst)
-                && core.core().verdict() == Verdict::Running
+                && core.verdict() == Verdict::Running
                 && core.next_ready().is_none()
         });
-        if self.ended.load(Ordering::SeqCst) || core.core().verdict() != Verdict::Running {
+        if self.ended.load(Ordering::SeqCst) || core.verdict() != Verdict::Running {
             return Ok(None);
         }
         let Some(process) = core.next_ready() else {
@@ -207,8 +206,8 @@ impl Floor {
         };
         match core.check_out(process) {
             Ok(ticket) => Ok(Some(ticket)),
-            Err(ShareFault::NoMemory) => Err(CrewFault::NoMemory),
-            Err(ShareFault::NoTicket) => Err(CrewFault::NoTicket),
+            Err(ChooseFault::NoMemory) => Err(CrewFault::NoMemory),
+            Err(ChooseFault::NoTicket) => Err(CrewFault::NoTicket),
             Err(_) => {
                 self.changed.notify_all();
                 Ok(None)

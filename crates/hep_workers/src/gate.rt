@@ -1,8 +1,8 @@
 //! Where the segments are made.
-ghost use Rattle.hep_tickets.specs.Segments.{IsComputed};
+ghost use Rattle.hep_core.specs.Segments.{IsComputed};
 
+use hep_core::{Segment, Ticket, compute};
 use hep_image::Image;
-use hep_tickets::{Segment, Ticket, compute};
 
 /// Makes the segments of workers, without the lock. Both numbers count from 1: the worker's, and that of its call.
 ///

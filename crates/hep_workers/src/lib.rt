@@ -13,7 +13,7 @@ mod turn;
 pub use fault::{CloseFault, CrewFault, WorkFault};
 pub use floor::run_workers;
 pub use gate::{Gate, NoGate};
-pub use hep_tickets::{Segment, Ticket, compute};
+pub use hep_core::{Segment, Ticket, compute};
 pub use options::WorkOptions;
 pub use receipt::{Log, Receipt};
 pub use report::{Report, close};

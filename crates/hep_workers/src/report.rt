@@ -8,9 +8,9 @@ ghost use Rattle.hep_workers.specs.Reports.{IsOfRun, IsReport, IsUnclosed};
 use crate::fault::CloseFault;
 use crate::options::WorkOptions;
 use crate::receipt::{Log, Receipt};
+use hep_core::{Core, Verdict};
 use hep_image::Image;
 use hep_machine::Entry;
-use hep_scheduler::{Core, Verdict};
 use std::alloc::{AllocError, Global};
 
 /// A run by workers that is over.

@@ -2,8 +2,8 @@
 
 use super::{FIRST, UNDEFINED, chosen, core_of, image_from, is_single_steps, source_of};
 use hep_arena::Arena;
+use hep_core::{ChoiceStop, ChooseFault, Core, NewFault, Verdict};
 use hep_run::{Options, run_source};
-use hep_scheduler::{ChoiceStop, ChooseFault, Core, NewFault, Verdict};
 use hep_text::{Span, statements};
 use std::alloc::Global;
 use std::io;

@@ -2,10 +2,9 @@
 ghost use Rattle.std.specs.Prelude.{◌≤◌};
 
 use super::{core_of, image_from, source_of};
+use hep_core::{ChoiceStop, ChooseFault, CommitFault, Core, Segment, Ticket, Verdict, compute};
 use hep_image::Image;
-use hep_scheduler::{ChoiceStop, Core, Verdict};
 use hep_source::Value;
-use hep_tickets::{CommitFault, Segment, ShareFault, SharedCore, Ticket, compute};
 use hep_workers::{
     CloseFault, Gate, Log, NoGate, Receipt, Report, WorkOptions, close, run_workers, worker_turn,
 };
@@ -33,29 +32,29 @@ fn options_of(steps: u64, workers: u32) -> WorkOptions
 fn tickets(rt: HostRuntime) -> Result<(), Fail> {
     let alloc = rt.alloc();
     let image = image_from(alloc, WAITING)?;
-    let mut shared = SharedCore::new(alloc, Core::new(alloc, image.copy(alloc)?, 3, 3)?);
-    assert_eq!(rt; shared.check_out(2).err(), Some(ShareFault::NoSuchProcess));
-    assert_eq!(rt; shared.next_ready(), Some(1));
-    let cancelled = shared.check_out(1)?;
-    assert_eq!(rt; shared.next_ready(), None);
-    assert_eq!(rt; shared.core().verdict(), Verdict::Running);
-    shared.cancel(&cancelled)?;
-    assert_eq!(rt; shared.cancel(&cancelled).err(), Some(CommitFault::Stale));
+    let mut core = Core::new(alloc, image.copy(alloc)?, 3, 3)?;
+    assert_eq!(rt; core.check_out(2).err(), Some(ChooseFault::NoSuchProcess));
+    assert_eq!(rt; core.next_ready(), Some(1));
+    let cancelled = core.check_out(1)?;
+    assert_eq!(rt; core.next_ready(), None);
+    assert_eq!(rt; core.verdict(), Verdict::Running);
+    core.cancel(&cancelled)?;
+    assert_eq!(rt; core.cancel(&cancelled).err(), Some(CommitFault::Stale));
     assert_eq!(rt;
-        shared.commit(&compute(&image, &cancelled)).err(),
+        core.commit(&compute(&image, &cancelled)).err(),
         Some(CommitFault::Stale)
     );
-    let ticket = shared.check_out(1)?;
+    let ticket = core.check_out(1)?;
     assert_eq!(rt; ticket.id().number, 2);
-    assert_eq!(rt; shared.choose(1).err(), Some(ShareFault::IsOut));
-    assert_eq!(rt; shared.check_out(1).err(), Some(ShareFault::IsOut));
+    assert_eq!(rt; core.choose(1).err(), Some(ChooseFault::IsOut));
+    assert_eq!(rt; core.check_out(1).err(), Some(ChooseFault::IsOut));
     let first = compute(&image, &ticket);
     let second = compute(&image, &ticket);
-    let turn = shared.commit(&first)?;
+    let turn = core.commit(&first)?;
     assert_eq!(rt; (turn.steps, turn.blocked), (0, true));
-    assert_eq!(rt; shared.commit(&second).err(), Some(CommitFault::Stale));
-    assert_eq!(rt; shared.core().history().len(), 1);
-    assert_eq!(rt; shared.core().verdict(), Verdict::Waiting);
+    assert_eq!(rt; core.commit(&second).err(), Some(CommitFault::Stale));
+    assert_eq!(rt; core.history().len(), 1);
+    assert_eq!(rt; core.verdict(), Verdict::Waiting);
     Ok(())
 }
 
@@ -76,22 +75,22 @@ fn at_the_opening(rt: HostRuntime) -> Result<(), Fail> {
     let alloc = rt.alloc();
     let source = source_of(alloc, &OVERFLOW)?;
     let image = image_from(alloc, &source)?;
-    let mut shared = SharedCore::new(alloc, core_of(alloc, &source, 7)?);
+    let mut core = core_of(alloc, &source, 7)?;
     for process in [99, 2] {
         assert_eq!(rt;
-            shared.choose(process).err(),
-            Some(ShareFault::NoSuchProcess)
+            core.choose(process).err(),
+            Some(ChooseFault::NoSuchProcess)
         );
-        assert_eq!(rt; shared.core().history().len(), 0);
+        assert_eq!(rt; core.history().len(), 0);
     }
-    let ticket = shared.check_out(1)?;
-    assert_eq!(rt; shared.choose(1).err(), Some(ShareFault::IsOut));
+    let ticket = core.check_out(1)?;
+    assert_eq!(rt; core.choose(1).err(), Some(ChooseFault::IsOut));
     let first = compute(&image, &ticket);
     let second = compute(&image, &ticket);
-    let turn = shared.commit(&first)?;
+    let turn = core.commit(&first)?;
     assert_eq!(rt; (turn.steps, turn.blocked), (1, false));
-    assert_eq!(rt; shared.commit(&second).err(), Some(CommitFault::Stale));
-    assert_eq!(rt; shared.core().history().len(), 1);
+    assert_eq!(rt; core.commit(&second).err(), Some(CommitFault::Stale));
+    assert_eq!(rt; core.history().len(), 1);
     let options = WorkOptions {
         arena: 3,
         steps: 7,
@@ -110,19 +109,19 @@ fn at_the_opening(rt: HostRuntime) -> Result<(), Fail> {
 fn full_histories(rt: HostRuntime) -> Result<(), Fail> {
     let alloc = rt.alloc();
     let image = image_from(alloc, WAITING)?;
-    let mut shared = SharedCore::new(alloc, Core::new(alloc, image.copy(alloc)?, 3, 1)?);
-    shared.choose(1)?;
+    let mut core = Core::new(alloc, image.copy(alloc)?, 3, 1)?;
+    core.choose(1)?;
     assert_eq!(rt;
-        shared.check_out(1).err(),
-        Some(ShareFault::Stopped(ChoiceStop::StepLimit))
+        core.check_out(1).err(),
+        Some(ChooseFault::Stopped(ChoiceStop::StepLimit))
     );
     assert_eq!(rt;
-        shared.check_out(7).err(),
-        Some(ShareFault::Stopped(ChoiceStop::StepLimit))
+        core.check_out(7).err(),
+        Some(ChooseFault::Stopped(ChoiceStop::StepLimit))
     );
     assert_eq!(rt;
-        shared.choose(7).err(),
-        Some(ShareFault::Stopped(ChoiceStop::StepLimit))
+        core.choose(7).err(),
+        Some(ChooseFault::Stopped(ChoiceStop::StepLimit))
     );
     Ok(())
 }
@@ -164,9 +163,9 @@ fn closing(rt: HostRuntime) -> Result<(), Fail> {
     );
     assert_eq!(rt; shorter.err(), Some(CloseFault::NotTheRun));
 
-    let mut shared = SharedCore::new(alloc, core_of(alloc, source, 7)?);
-    let ticket = shared.check_out(1)?;
-    let receipt = worker_turn(&mut shared, 1, &compute(&image, &ticket))?;
+    let mut core = core_of(alloc, source, 7)?;
+    let ticket = core.check_out(1)?;
+    let receipt = worker_turn(&mut core, 1, &compute(&image, &ticket))?;
     assert_eq!(rt;
         receipt,
         Receipt {
@@ -176,7 +175,6 @@ fn closing(rt: HostRuntime) -> Result<(), Fail> {
             steps: 1,
         }
     );
-    let core = shared.into_core();
     assert_eq!(rt;
         close(alloc, core, &image, options, Vec::new(alloc)).err(),
         Some(CloseFault::NotTheEntries)

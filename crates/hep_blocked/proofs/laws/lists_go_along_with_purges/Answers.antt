@@ -1,6 +1,6 @@
 use Rattle.std.proofs.Common.{◌≡◌, ◌≢◌, ℕ, Bool, [], ◌∷◌, ◌++◌, not}
 use Rattle.hep_machine.specs.Words.{run, is_waiting}
-use Rattle.hep_blocked.specs.declared.want.Want.{Want}
+use Rattle.hep_cells.specs.declared.want.Want.{Want}
 use Rattle.hep_blocked.specs.Awaiting.{NeedsCell}
 use Rattle.hep_blocked.specs.Listing.{IsBlocked}
 use Rattle.hep_blocked.proofs.Keeping.{GoesAlongBy, along-emptied, step-kept}
@@ -15,7 +15,7 @@ returns c program cells choices x waiting waiting_after ready ready_after p empt
     along = along-emptied program choices p waiting waiting_after ready ready_after emptied goes
 
     still : (q cell : ℕ) (full : Bool) → NeedsCell program cells choices q cell full → p ≢ q → NeedsCell program cells (choices ++ p ∷ []) q cell full
-    still q cell full needs other = c.others_need_the_same.ensures.cell program cells choices p q cell full layout needs there other placed
+    still q cell full needs other = c.others_need_the_same.ensures program cells choices p q cell full layout needs there other placed
 
     waits : (q : ℕ) (v : Want) → IsBlocked program cells choices q v → p ≢ q → is_waiting program (run program (choices ++ p ∷ [])) q ≡ not (is_emptied emptied v)
     waits q v blocked other = goes-on-emptying program cells choices p q layout v blocked.0 placed there other blocked.1 emptied has

@@ -1,6 +1,6 @@
 use Rattle.std.proofs.Common.{◌≡◌, ◌≢◌, ℕ, Bool, [], ◌∷◌, ◌++◌, not}
 use Rattle.hep_machine.specs.Words.{run, is_waiting}
-use Rattle.hep_blocked.specs.declared.want.Want.{Want}
+use Rattle.hep_cells.specs.declared.want.Want.{Want}
 use Rattle.hep_blocked.specs.Awaiting.{NeedsCell}
 use Rattle.hep_blocked.specs.Listing.{IsBlocked}
 use Rattle.hep_blocked.proofs.Keeping.{GoesAlongBy, along-made, step-kept}
@@ -8,16 +8,14 @@ use Rattle.hep_blocked.proofs.Waking.{goes-on, is_made}
 use Rattle.hep_blocked.proofs.laws.lists_go_along_with_steps.Goals as goal
 
 pub returns : goal.returns
-returns c program cells choices x waiting waiting_after ready ready_after p changed layout after are there calm placed turned told goes =
+returns c program cells choices x waiting waiting_after ready ready_after p changed layout are there placed has goes =
     step-kept program cells choices x waiting ready are waiting_after ready_after p (is_made changed) there along still waits
   where
     along : GoesAlongBy program choices p (is_made changed) waiting waiting_after ready ready_after
     along = along-made program choices p waiting waiting_after ready ready_after changed goes
 
     still : (q cell : ℕ) (full : Bool) → NeedsCell program cells choices q cell full → p ≢ q → NeedsCell program cells (choices ++ p ∷ []) q cell full
-    still q cell full needs other = c.others_need_the_same.ensures.cell program cells choices p q cell full layout needs there other placed
+    still q cell full needs other = c.others_need_the_same.ensures program cells choices p q cell full layout needs there other placed
 
     waits : (q : ℕ) (v : Want) → IsBlocked program cells choices q v → p ≢ q → is_waiting program (run program (choices ++ p ∷ [])) q ≡ not (is_made changed v)
-    waits q v blocked other =
-        goes-on program cells choices p q layout v blocked.0 placed there other blocked.1 changed told (
-        c.others_need_the_same.ensures.untouched program cells choices p q v.cell v.full layout blocked.0 there other calm placed)
+    waits q v blocked other = goes-on program cells choices p q layout v blocked.0 placed there other blocked.1 changed has

@@ -2,7 +2,7 @@ use Rattle.std.proofs.Common.{◌≡◌, suc, ◌++◌, ◌+◌, ◌-◌, List, 
 use Rattle.hep_machine.specs.Words.{Units}
 use Rattle.hep_image.specs.Names.{names_in_order}
 use Rattle.hep_views.specs.declared.listed.Listed.{Listed}
-use Rattle.hep_scheduler.specs.Value.{state_of}
+use Rattle.hep_core.specs.Value.{state_of}
 use Rattle.hep_dump.specs.Waiting as words
 use Rattle.hep_dump.proofs.Counting.{first-of, no-lines}
 use Rattle.hep_dump.proofs.waiting.append_all_waiting.Goals as goal

@@ -1,6 +1,6 @@
-use Rattle.std.proofs.Common.{◌≡◌, ℕ, ◌-◌, ◌≤◌, List, ◌∷◌, true, refl, sym, ap, ◌∙◌, subst, is_some, vec_capacity}
+use Rattle.std.proofs.Common.{◌≡◌, ℕ, ◌-◌, ◌≤◌, List, ◌∷◌, refl, sym, ap, ◌∙◌, subst, is_some, vec_capacity}
 use Rattle.std.specs.Vec.{with_item}
-use Rattle.hep_machine.specs.Words.{Value, Units, main_among, numbered}
+use Rattle.hep_machine.specs.Words.{Value, main_among, numbered}
 use Rattle.hep_conditions.specs.Words.{IsAccepted}
 use Rattle.hep_binding.proofs.Calls.{set-numbered}
 use Rattle.hep_frames.specs.Nodes.{nodes_of}
@@ -10,25 +10,23 @@ use Rattle.hep_step.specs.Performed as step
 use Rattle.hep_state.specs.declared.machine.Level.{Level}
 use Rattle.hep_state.specs.declared.machine.Machine.{Machine}
 use Rattle.hep_state.specs.declared.machine.Process.{Process}
-use Rattle.hep_state.specs.Words.{IsAfter, TurnOf, running_top, snapshot_of, stack_of, stack_with, turn_with, with_contents, with_stack}
+use Rattle.hep_state.specs.Words.{IsAfter, TurnOf, snapshot_of, stack_of, stack_with, turn_with, with_contents, with_stack}
 use Rattle.hep_state.proofs.Moved.{top-node}
 use Rattle.hep_state.proofs.Processes.{last-there, process-at, room-moved, stacks-set}
 use Rattle.hep_state.proofs.Taken.{inside}
 use Rattle.hep_state.proofs.Tops.{turning}
 use Rattle.hep_state.proofs.Unchanged.{carry, machine-of, rooms-of, rooms-set}
 use Rattle.hep_going.specs.Gone.{HasNoMoveAt}
-use Rattle.hep_going.proofs.Turns.{HasLaws, can-go, come-so, machine_at}
-use Rattle.hep_going.proofs.going.go_on.Goals.{After-purges_stand_ahead}
+use Rattle.hep_going.proofs.Turns.{HasLaws, can-go, come-so}
+use Rattle.hep_going.proofs.going.go_on.Goals.{After-tops_are_running}
 use Rattle.hep_going.proofs.going.go_on.Goals as goal
 
 -- what the laws called say of the program
-known : (c : After-purges_stand_ahead) (t : TurnOf) → t.program ≡ c.args.image.now → t.cells ≤ most_cells → HasLaws t
+known : (c : After-tops_are_running) (t : TurnOf) → t.program ≡ c.args.image.now → t.cells ≤ most_cells → HasLaws t
 known c t is few =
     record {
       running = λ r same turns. c.tops_are_running.ensures.running r (subst IsAccepted (sym (same ∙ is)) c.is_runnable.ensures.accepted) (ap (λ program. is_some (main_among program)) (same ∙ is) ∙ c.is_runnable.ensures.main) turns;
       arrays = λ r same turns. c.tops_are_running.ensures.arrays r (subst IsAccepted (sym (same ∙ is)) c.is_runnable.ensures.accepted) (ap (λ program. is_some (main_among program)) (same ∙ is) ∙ c.is_runnable.ensures.main) turns;
-      cell = λ r turns. c.touched_units_are_in_touched_cells.ensures (running_top r turns);
-      purge = λ r turns. c.purges_stand_ahead.ensures (running_top r turns);
       few = few;
     }
 
@@ -50,7 +48,7 @@ go_top-requires c =
       stack = it.stack;
       inside = inside turn.1;
       there = top-node turn.1;
-      ready = can-go t (known (goal.at.go_top-requires c).After-purges_stand_ahead t refl h.few) turn.1 (vec_capacity q.operands) (h.room (p - 1) q it.there _ e.level (last-there q e.level e.below e.operands e.pending it.stack));
+      ready = can-go t (known (goal.at.go_top-requires c).After-tops_are_running t refl h.few) turn.1 (vec_capacity q.operands) (h.room (p - 1) q it.there _ e.level (last-there q e.level e.below e.operands e.pending it.stack));
     }
 
 -- what the machine shows, where a process has another stack and cells of the arena have changed
@@ -82,7 +80,7 @@ returns-clause-gone c cells choices h =
     let turn = turning p h.after e c.requires.running in
     let t = turn_with program cells choices e turn.0 in
     let a = done.gone l ls vs ws it.stack in
-    let come = come-so t (known (goal.at.returns-clause-gone c).After-purges_stand_ahead t refl h.few) turn.1 c.go_top.result (step.snapshot c.go_top.new.frames.arena.contents a.left a.next) a.gone in
+    let come = come-so t (known (goal.at.returns-clause-gone c).After-tops_are_running t refl h.few) turn.1 c.go_top.result (step.snapshot c.go_top.new.frames.arena.contents a.left a.next) a.gone in
     let shown = shown-now old p r c.go_top.new.frames l ls a.left ws a.next a.stack done.holes done.nodes in (
       come.after,
       come.gone,

@@ -1,12 +1,5 @@
-use Rattle.std.proofs.Common.{◌≡◌, ◌<◌, ℕ, List, sym, ap, ◌∙◌, subst, vec_capacity}
-use Rattle.hep_machine.specs.Words.{Value}
-use Rattle.hep_code.specs.declared.instruction.Instruction.{Instruction}
-use Rattle.hep_image.specs.declared.array.Array.{Array}
-use Rattle.hep_frames.specs.Nodes.{nodes_of}
+use Rattle.std.proofs.Common.{ℕ, sym, ◌∙◌, vec_capacity}
 use Rattle.hep_step.specs.Performed.{Snapshot, snapshot}
-use Rattle.hep_step.specs.Simulation.{unit_arrays, unit_code}
-use Rattle.hep_state.specs.declared.machine.Level.{Level}
-use Rattle.hep_state.specs.Words.{node_under, stack_of, stack_with}
 use Rattle.hep_state.proofs.Unchanged.{carry}
 use Rattle.hep_state.proofs.Processes.{operands-are, some-levels}
 use Rattle.hep_moves.specs.Moves.{CanGoOn, Goes, HasNoMove}

@@ -1,6 +1,6 @@
 use Rattle.std.proofs.Common.{◌≡◌, ◌≢◌, ℕ, zero, suc, false, Ok, refl, inl, inr, arith}
 use Rattle.hep_machine.specs.declared.event.Entry.{Entry}
-use Rattle.hep_scheduler.specs.Value.{CoreValue}
+use Rattle.hep_core.specs.Value.{CoreValue}
 use Rattle.hep_history.specs.Progress.{AreMade, EntryMade, SomeMade, begun}
 use Rattle.hep_history.proofs.Turns.{joined, still_standing}
 use Rattle.hep_history.proofs.replays.make_run.Goals as goal

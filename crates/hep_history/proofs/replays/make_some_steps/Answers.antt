@@ -1,8 +1,8 @@
 use Rattle.std.proofs.Common.{◌≡◌, ◌≤◌, ℕ, Err, Ok, false, inl, inr, subst}
-use Rattle.hep_scheduler.specs.declared.fault.ChooseFault.{ChooseFault}
-use Rattle.hep_scheduler.specs.declared.stop.Turns.{Turns}
-use Rattle.hep_scheduler.specs.Going.{AreTurns}
-use Rattle.hep_scheduler.specs.Value.{CoreValue, IsChoice}
+use Rattle.hep_core.specs.declared.fault.ChooseFault.{ChooseFault}
+use Rattle.hep_core.specs.declared.stop.Turns.{Turns}
+use Rattle.hep_core.specs.Going.{AreTurns}
+use Rattle.hep_core.specs.Value.{CoreValue, IsChoice}
 use Rattle.hep_history.specs.Progress.{IsStanding, SomeStepsMade}
 use Rattle.hep_history.proofs.Turns.{nobody_turns, steps_moved, steps_turned, stopped_turns}
 use Rattle.hep_history.proofs.replays.make_some_steps.Goals as goal

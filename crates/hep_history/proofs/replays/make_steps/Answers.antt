@@ -1,6 +1,6 @@
 use Rattle.std.proofs.Common.{◌≡◌, ℕ, ◌+◌, ◌≤◌, Bool, false, Ok, length, replicate, subst, arith}
 use Rattle.hep_machine.specs.Words.{AreSteps}
-use Rattle.hep_scheduler.specs.Value.{state_of}
+use Rattle.hep_core.specs.Value.{state_of}
 use Rattle.hep_history.specs.Progress.{longer, TurnMade}
 use Rattle.hep_history.specs.Replays.{most_entries}
 use Rattle.hep_history.proofs.Turns.{one, standing_longer, steps_end, steps_more}

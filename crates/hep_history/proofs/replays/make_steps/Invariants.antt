@@ -1,6 +1,6 @@
 use Rattle.std.proofs.Common.{◌≡◌, ◌+◌, ◌≤◌, length, replicate}
 use Rattle.hep_machine.specs.Words.{AreSteps}
-use Rattle.hep_scheduler.specs.Value.{state_of}
+use Rattle.hep_core.specs.Value.{state_of}
 use Rattle.hep_history.specs.Progress.{longer}
 use Rattle.hep_history.specs.Replays.{most_entries}
 use Rattle.hep_history.proofs.replays.make_steps.Given as goal

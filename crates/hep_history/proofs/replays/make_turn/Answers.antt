@@ -1,6 +1,6 @@
 use Rattle.std.proofs.Common.{Err, subst}
-use Rattle.hep_scheduler.specs.declared.fault.ChooseFault.{ChooseFault}
-use Rattle.hep_scheduler.specs.Value.{IsChoice}
+use Rattle.hep_core.specs.declared.fault.ChooseFault.{ChooseFault}
+use Rattle.hep_core.specs.Value.{IsChoice}
 use Rattle.hep_history.proofs.Turns.{nobody_turns, stopped_turns, turn_made}
 use Rattle.hep_history.proofs.replays.make_turn.Goals as goal
 

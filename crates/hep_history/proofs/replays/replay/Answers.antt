@@ -1,7 +1,7 @@
 use Rattle.std.proofs.Common.{◌≡◌, ◌+◌, ◌<◌, ◌∙◌, ℕ, List, Ok, Some, length, take, get_or, sym, subst, arith, ap, refl, slice_get, take_all}
 use Rattle.hep_machine.specs.declared.event.Entry.{Entry}
 use Rattle.hep_machine.specs.Words.{schedule_of}
-use Rattle.hep_scheduler.specs.Value.{CoreValue}
+use Rattle.hep_core.specs.Value.{CoreValue}
 use Rattle.hep_history.specs.Alike.{entry_of}
 use Rattle.hep_history.specs.Progress.{IsStanding, RunMade}
 use Rattle.hep_history.specs.Replays.{replayed}

@@ -1,7 +1,7 @@
-use Rattle.std.proofs.Common.{◌≡◌, ◌≤◌, ◌+◌, ℕ, suc, refl, sym, ◌∙◌, subst, arith, vec_capacity}
-use Rattle.hep_step.specs.Performed.{Snapshot, snapshot}
+use Rattle.std.proofs.Common.{◌≡◌, ◌+◌, suc, refl, sym, ◌∙◌, subst, arith}
+use Rattle.hep_step.specs.Performed.{snapshot}
 use Rattle.hep_step.specs.Ready.{IsReady}
-use Rattle.hep_moves.specs.Moves.{Goes, IsSettledTo, stays, settles, steps}
+use Rattle.hep_moves.specs.Moves.{Goes, stays, settles, steps}
 use Rattle.hep_moves.proofs.Moved.{rested, went}
 use Rattle.hep_moves.proofs.moving.move_on.Goals as goal
 

@@ -1,6 +1,5 @@
 use Rattle.std.proofs.Common.{refl, sym, ◌∙◌, vec_capacity}
-use Rattle.hep_step.specs.Performed.{Snapshot, snapshot}
-use Rattle.hep_moves.specs.Moves.{IsSettledTo}
+use Rattle.hep_step.specs.Performed.{snapshot}
 use Rattle.hep_moves.proofs.Moved.{gone-no-further, gone-so}
 use Rattle.hep_moves.proofs.moving.step.Goals as goal
 

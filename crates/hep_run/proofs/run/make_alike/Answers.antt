@@ -1,7 +1,5 @@
 use Rattle.std.proofs.Common.{◌≡◌, ◌+◌, ◌<◌, ◌≤◌, ℕ, Some, ◌∙◌, arith, slice_get}
-use Rattle.hep_scheduler.specs.declared.fault.ChooseFault.TheVariants.{NoSuchProcess, Stopped}
-use Rattle.hep_scheduler.specs.Value.{CoreValue, HasNoStop}
-use Rattle.hep_run.specs.Outcome.{next_process}
+use Rattle.hep_core.specs.declared.fault.ChooseFault.TheVariants.{NoSuchProcess, Stopped}
 use Rattle.hep_run.proofs.Schedules.{choice_is_next, named_turns, nobody_chosen, refused_for, stopped, turns_began}
 use Rattle.hep_run.proofs.run.make_alike.Goals as goal
 

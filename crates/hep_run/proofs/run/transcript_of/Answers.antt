@@ -1,6 +1,6 @@
 use Rattle.std.proofs.Common.{◌≡◌, ap, subst, inl, inr}
 use Rattle.hep_machine.specs.Words.{Units}
-use Rattle.hep_scheduler.specs.Value.{CoreValue}
+use Rattle.hep_core.specs.Value.{CoreValue}
 use Rattle.hep_run.specs.Outcome.{IsRunOutcome}
 use Rattle.hep_run.specs.Refusals.{IsOpeningFault}
 use Rattle.hep_run.specs.Transcripts.{outcome_of}

@@ -1,43 +1,34 @@
-use Rattle.std.proofs.Common.{◌≡◌, ℕ, List, sym, ap, ◌∙◌, subst, vec_capacity}
-use Rattle.std.proofs.lemmas.Result.{IfOk-from_err}
+use Rattle.std.proofs.Common.{◌≡◌, ℕ, List, sym, ◌∙◌, vec_capacity, IfOk, OnErr}
 use Rattle.hep_machine.specs.Words.{Value}
 use Rattle.hep_code.specs.declared.instruction.Instruction.{Instruction}
 use Rattle.hep_image.specs.declared.array.Array.{Array}
 use Rattle.hep_frames.specs.Nodes.{nodes_of}
+use Rattle.hep_step.specs.Changes.{changed_at}
 use Rattle.hep_step.specs.Effects.{effect_at}
 use Rattle.hep_step.specs.Performed as performed
 use Rattle.hep_step.specs.Performed.{IsPerformed, snapshot}
 use Rattle.hep_step.specs.Ready.{IsReady}
 use Rattle.hep_step.specs.Simulation.{unit_arrays, unit_code}
-use Rattle.hep_touched.specs.Touched.{touched_at}
 use Rattle.hep_state.specs.declared.machine.Level.{Level}
 use Rattle.hep_state.specs.Words.{node_under, stack_of, stack_with}
-use Rattle.hep_state.proofs.Unchanged.{carry, on-err}
+use Rattle.hep_state.proofs.Unchanged.{carry}
 use Rattle.hep_state.proofs.Processes.{operands-are, some-levels}
-use Rattle.hep_state.proofs.advancing.advance.Goals.{After-deref, After-stand_at}
+use Rattle.hep_state.proofs.advancing.advance.Goals.{After-stand_at}
 use Rattle.hep_state.proofs.advancing.advance.Goals as goal
 
 pub place-index-requires : goal.place-index-requires
 place-index-requires c = let r = c.requires in (r.l, r.ls, r.operands, r.pending, r.stack, (r.inside, r.there))
 
 -- what is ahead can be done, by the code, the arrays and the frame that were read
-ready-here : (c : After-deref) → IsReady c.as_slice-code.result.now c.as_slice-arrays.result.now c.args.frames.now.arena c.place-index.result.1 c.args.process.now.operands.items (vec_capacity c.args.process.now.operands) c.place-index.result.2
-ready-here c =
+pub perform-performed-requires : goal.perform-performed-requires
+perform-performed-requires c =
     let r = c.requires in
     let q = c.args.process.now in
     let at = c.place-index.ensures r.l r.ls r.operands r.pending r.stack in
     let code = sym (c.as_slice-code.ensures ∙ at.code.code) in
     let arrays = sym (c.as_slice-arrays.ensures ∙ at.code.arrays) in
     let vs = sym (operands-are q r.l r.ls r.operands r.pending r.stack) in
-    carry (λ i. IsReady (code i) (arrays i) c.args.frames.now.arena (sym at.framed i) (vs i) (vec_capacity q.operands) (sym at.at i)) r.ready
-
-pub touched-touched-requires : goal.touched-touched-requires
-touched-touched-requires c =
-    let room = vec_capacity c.args.process.now.operands in
-    (room, subst (λ vs. IsReady c.as_slice-code.result.now c.as_slice-arrays.result.now c.args.frames.now.arena c.place-index.result.1 vs room c.place-index.result.2) (sym c.deref.ensures.value) (ready-here (goal.at.touched-touched-requires c).After-deref))
-
-pub perform-performed-requires : goal.perform-performed-requires
-perform-performed-requires c = record { ready = ready-here (goal.at.perform-performed-requires c).After-deref }
+    record { ready = carry (λ i. IsReady (code i) (arrays i) c.args.frames.now.arena (sym at.framed i) (vs i) (vec_capacity q.operands) (sym at.at i)) r.ready }
 
 pub stand_at-requires : goal.stand_at-requires
 stand_at-requires c =
@@ -70,23 +61,6 @@ returns-clause-advanced c l ls operands pending is =
       next = c.perform-performed.new.index;
       left = c.perform-performed.new.operands.items;
       stack = stood at l ls operands pending is;
-      performed = of-level at l ls operands pending is (λ code arrays first ws index. IsPerformed (effect_at code arrays first before.contents ws index) (snapshot before.contents ws index) c.in_ok-performed.field-0 (left at)) c.in_ok-performed.ensures.performed;
-      refused = tt;
+      performed = of-level at l ls operands pending is (λ code arrays first ws index. IfOk c.perform-performed.result (λ effect. IsPerformed (effect_at code arrays first before.contents ws index) (changed_at code arrays first before.contents ws index) (snapshot before.contents ws index) effect (left at))) c.perform-performed.ensures.performed;
+      refused = of-level at l ls operands pending is (λ code arrays first ws index. OnErr c.perform-performed.result (left at ≡ snapshot before.contents ws index)) c.perform-performed.ensures.refused;
     }
-
-pub returns-in_err-performed-clause-advanced : goal.returns-in_err-performed-clause-advanced
-returns-in_err-performed-clause-advanced c l ls operands pending is =
-    let at = (goal.at.returns-in_err-performed-clause-advanced c).After-stand_at in
-    record {
-      next = c.perform-performed.new.index;
-      left = c.perform-performed.new.operands.items;
-      stack = stood at l ls operands pending is;
-      performed = IfOk-from_err c.from_residual.result _ c.from_residual.ensures.0;
-      refused = on-err c.from_residual.result c.from_residual.ensures.0 (
-          of-level at l ls operands pending is (λ code arrays first ws index. left at ≡ snapshot c.args.frames.now.arena.contents ws index) c.in_err-performed.ensures.refused);
-    }
-
-pub returns-clause-touched : goal.returns-clause-touched
-returns-clause-touched c l ls operands pending is =
-    of-level (goal.at.returns-clause-touched c).After-stand_at l ls operands pending is (λ code arrays first ws index. c.touched-touched.result ≡ touched_at code arrays first c.args.frames.now.arena.contents ws index) (
-    c.touched-touched.ensures.touched ∙ ap (λ vs. touched_at c.as_slice-code.result.now c.as_slice-arrays.result.now c.place-index.result.1.first c.args.frames.now.arena.contents vs c.place-index.result.2) c.deref.ensures.value)

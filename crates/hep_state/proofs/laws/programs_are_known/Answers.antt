@@ -1,4 +1,4 @@
-use Rattle.std.proofs.Common.{◌≡◌, ℕ, ◌<◌, List, length, true, is_some, subst, sym}
+use Rattle.std.proofs.Common.{◌≡◌, ℕ, List, true, is_some, subst, sym}
 use Rattle.hep_machine.specs.Words.{Name, Actual, Units, main_among, next_of, unit_at, Work}
 use Rattle.hep_conditions.specs.Words.{IsAccepted}
 use Rattle.hep_step.specs.declared.way.Way.{Way}

@@ -1,18 +1,14 @@
-use Rattle.std.proofs.Common.{◌≡◌, ◌<◌, ℕ, List, [], None, length, refl, sym, ◌∙◌, subst}
-use Rattle.std.proofs.lemmas.Bool.{false_from_ne_true}
-use Rattle.std.proofs.lemmas.Option.{none-some}
+use Rattle.std.proofs.Common.{◌<◌, List, [], None, length, refl, sym, subst}
 use Rattle.hep_machine.specs.Words.{Value, unit_of}
-use Rattle.hep_code.specs.declared.instruction.Operation.TheVariants.{Purge, Resume}
+use Rattle.hep_code.specs.declared.instruction.Operation.TheVariants.{Resume}
 use Rattle.hep_state.specs.Words.{HasMadeTurn, running_top, snapshot_moved, state_before}
 use Rattle.hep_state.proofs.Callers.{ahead-on-top}
+use Rattle.hep_state.proofs.Changes.{none-ahead}
 use Rattle.hep_state.proofs.Moved.{moved-shown, result-is, unit-is}
 use Rattle.hep_state.proofs.Subroutines.{resumes-without-result}
 use Rattle.hep_state.proofs.Taken.{inside}
 use Rattle.hep_state.proofs.Resumed.{caller-there, none-below, resumed-gap, resumed-shown}
 use Rattle.hep_state.proofs.laws.resumes_are_shown.Goals as goal
-
-resumed-is-none : (next n k : ℕ) → Resume next ≡ Purge n k → ⊥
-resumed-is-none next n k e = cc
 
 pub returns-clause-apart : goal.returns-clause-apart
 returns-clause-apart c t next l ls accepted main at some =
@@ -37,13 +33,7 @@ returns-clause-lowest c t next accepted main at lowest =
 pub returns-clause-nothing : goal.returns-clause-nothing
 returns-clause-nothing c t next accepted main at =
     let runs = c.tops_are_running.ensures.running t accepted main at.1.turning in
-    let r = running_top t at.1.turning in
-    let purge = c.purges_stand_ahead.ensures r at.0 (Resume next) at.1.behind runs (ahead-on-top at.1) in
-    let untouched = c.calls_and_purges_never_wait.ensures.touches r at.0 (Resume next) at.1.behind runs (ahead-on-top at.1) refl in
-    record {
-      plain = false_from_ne_true _ (λ is. let told = purge is in absurd (resumed-is-none next told.0 told.1 told.2));
-      told = λ layout location laid touched. absurd (none-some location (sym untouched ∙ touched));
-    }
+    none-ahead at.1.turning runs at.0 (Resume next) at.1.behind (ahead-on-top at.1) refl
 
 pub returns-clause-gaps : goal.returns-clause-gaps
 returns-clause-gaps c t next accepted main at =

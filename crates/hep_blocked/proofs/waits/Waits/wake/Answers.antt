@@ -1,6 +1,6 @@
 use Rattle.std.proofs.Common.{List, [], Option, sym, ap, ◌∙◌}
 use Rattle.hep_machine.specs.Words.{is_number_among}
-use Rattle.hep_blocked.specs.declared.want.Want.{Want}
+use Rattle.hep_cells.specs.declared.want.Want.{Want}
 use Rattle.hep_blocked.specs.Lists.{list_of}
 use Rattle.hep_blocked.specs.Waiting.{waiting_at}
 use Rattle.hep_blocked.proofs.Numbering.{numbers-woken}

@@ -1,21 +1,24 @@
-use Rattle.std.proofs.Common.{◌≡◌, ℕ, ◌-◌, List, ◌∷◌, length, refl, sym, ap, ◌∙◌, subst, arith, ◌<◌, IfSome, Option, Some, None, vec_capacity, length-set}
+use Rattle.std.proofs.Common.{◌≡◌, ℕ, ◌-◌, List, ◌∷◌, length, refl, sym, ap, ◌∙◌, subst, vec_capacity, length-set}
 use Rattle.std.proofs.lemmas.Result.{IfOk-weaker, on_err_weaker}
 use Rattle.hep_machine.specs.Words.{Value}
-use Rattle.hep_arena.specs.Holes.{IsOut}
 use Rattle.hep_frames.specs.Nodes.{nodes_of}
+use Rattle.hep_step.specs.declared.effect.Effect.{Effect}
+use Rattle.hep_step.specs.Changes.{changed_at}
 use Rattle.hep_step.specs.Effects.{effect_at}
 use Rattle.hep_step.specs.Performed as performed
+use Rattle.hep_step.specs.Performed.{changed_in}
 use Rattle.hep_step.specs.Simulation.{unit_arrays, unit_code}
 use Rattle.hep_frames.specs.declared.frames.Frames.{Frames}
 use Rattle.std.specs.Vec.{with_item}
 use Rattle.hep_state.specs.declared.machine.Level.{Level}
 use Rattle.hep_state.specs.declared.machine.Machine.{Machine}
 use Rattle.hep_state.specs.declared.machine.Process.{Process}
-use Rattle.hep_state.specs.Words.{node_under, Snapshot, snapshot_of, stack_of, IsLeft, stack_with, turn_with, with_contents, with_stack, IsAfter, running_top}
+use Rattle.hep_state.specs.Words.{Changes, node_under, Snapshot, snapshot_of, stack_of, IsLeft, stack_with, turn_with, with_contents, with_stack, IsAfter}
 use Rattle.hep_state.proofs.Moved.{top-node}
 use Rattle.hep_state.proofs.Processes.{process-at, room-moved, stacks-set, last-there}
 use Rattle.hep_state.proofs.Tops.{turning}
-use Rattle.hep_state.proofs.Taken.{ahead-simulated, alike, inside, left-over, ready, unperformed, with_performed, touches-only}
+use Rattle.hep_state.proofs.Changes.{changes-only}
+use Rattle.hep_state.proofs.Taken.{ahead-simulated, inside, left-over, ready, unperformed, with_performed}
 use Rattle.hep_state.proofs.Unchanged.{rooms-set}
 use Rattle.hep_state.proofs.machine.Machine.advance.Goals as goal
 
@@ -80,46 +83,36 @@ returns c =
     let k = stack_with (record l { index = a.next }) ls a.left ws in
     let after = performed.snapshot c.advance.new.frames.arena.contents a.left a.next in
     let ahead = effect_at (unit_code program l.unit) (unit_arrays program l.unit) (node_under m.nodes l.key).first m.arena.contents vs l.index in
+    let changed = changed_at (unit_code program l.unit) (unit_arrays program l.unit) (node_under m.nodes l.key).first m.arena.contents vs l.index in
     let shown = shown-now old p r c.advance.new.frames l ls a.left ws a.next a.stack done.holes done.nodes in
     record {
-      left = IfOk-weaker c.advance.result _ _ (λ advanced is cells choices h.
+      left = IfOk-weaker c.advance.result _ _ (λ effect is cells choices h.
           let turn = turning p h.after e.levels c.requires.running in
           let simulated = ahead-simulated turn.1 (law (turn_with program cells choices e.levels turn.0) accepted main turn.1) e.past e.plain in
-          subst (λ (n : Snapshot). IsLeft program cells choices p n advanced.effect) (sym shown) (left-over turn.1 ahead advanced.effect after simulated done.cells is)) a.performed;
-      touched = IfOk-weaker c.advance.result _ _ (λ advanced is cells choices h.
+          subst (λ (n : Snapshot). IsLeft program cells choices p n effect) (sym shown) (left-over turn.1 ahead changed effect after simulated done.cells is)) a.performed;
+      changed = IfOk-weaker c.advance.result _ _ (λ effect is cells choices h.
           let turn = turning p h.after e.levels c.requires.running in
-          let t = turn_with program cells choices e.levels turn.0 in
-          let top = running_top t turn.1 in
-          touches-only turn.1 (law t accepted main turn.1) e.past e.plain
-          (c.touched_units_are_in_touched_cells.ensures top)
-          (c.purges_stand_ahead.ensures top)
-          advanced.touched (is l ls vs ws it.stack)) done.touched;
-      state = IfOk-weaker c.advance.result _ _ (λ advanced is cells choices h.
-          let turn = turning p h.after e.levels c.requires.running in
-          let simulated = ahead-simulated turn.1 (law (turn_with program cells choices e.levels turn.0) accepted main turn.1) e.past e.plain in
-          alike turn.1 ahead advanced.effect after simulated is advanced.touched) a.performed;
-      inside = IfOk-weaker c.advance.result _ _ (λ advanced inside. within advanced.touched inside done.cells) done.inside;
-      out = IfOk-weaker c.advance.result _ _ (λ advanced out. subst (λ holes. IfSome advanced.touched (λ cell. IsOut cell holes)) (sym done.holes) out) done.out;
-      cells = done.cells;
-      refused = on_err_weaker c.advance.result (λ is cells choices h.
-          let turn = turning p h e.levels c.requires.running in
-          let same = shown ∙ (ap (with_performed turn.1) is ∙ unperformed turn.1) in
-          subst (IsAfter program cells choices) (sym same) h) a.refused;
-      same = on_err_weaker c.advance.result (λ is. record {
-        arena = λ i. record { contents = (is i).contents; holes = done.holes i };
-        nodes = ap nodes_of done.nodes;
-        processes = ap length (stacks-set old.processes.items p r k a.stack) ∙ length-set m.processes (p - 1) k;
-        activations = refl;
+          let told = changes-only turn.1 (law (turn_with program cells choices e.levels turn.0) accepted main turn.1) e.past e.plain in
+          subst (Changes program cells choices p) (sym (ap (λ (x : Effect × performed.Snapshot). changed_in x.0) is)) told) a.performed;
+      refused = on_err_weaker c.advance.result (λ is. record {
+        shown = λ cells choices h.
+            let turn = turning p h e.levels c.requires.running in
+            let same = shown ∙ (ap (with_performed turn.1) is ∙ unperformed turn.1) in
+            subst (IsAfter program cells choices) (sym same) h;
+        same = record {
+          arena = λ i. record { contents = (is i).contents; holes = done.holes i };
+          nodes = ap nodes_of done.nodes;
+          processes = ap length (stacks-set old.processes.items p r k a.stack) ∙ length-set m.processes (p - 1) k;
+          activations = refl;
+          records = refl;
+          faults = refl;
+          halted = refl;
+        };
+      }) a.refused;
+      kept = record {
+        rooms = λ cells h. rooms-set program cells old _ (p - 1) r refl refl (room-moved program q r l a.next ls vs a.left ws it.stack a.stack done.capacity (h.room (p - 1) q it.there)) h;
         records = refl;
         faults = refl;
-        halted = refl;
-      }) a.refused;
-      rooms = λ cells h. rooms-set program cells old _ (p - 1) r refl refl (room-moved program q r l a.next ls vs a.left ws it.stack a.stack done.capacity (h.room (p - 1) q it.there)) h;
-      records = refl;
-      faults = refl;
-      processes = length-set old.processes.items (p - 1) r;
+        processes = length-set old.processes.items (p - 1) r;
+      };
     }
-  where
-    within : {n m : ℕ} (o : Option ℕ) → IfSome o (λ cell. cell < n) → m ≡ n → IfSome o (λ cell. cell < m)
-    within None h e = tt
-    within (Some cell) h e = omega (arith, h, e)

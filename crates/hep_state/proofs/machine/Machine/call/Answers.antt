@@ -12,8 +12,10 @@ use Rattle.hep_state.proofs.Processes.{inside-at, operands-are, process-still, r
 use Rattle.hep_state.proofs.Unchanged.{rooms-begun, rooms-set}
 use Rattle.hep_state.proofs.machine.Machine.call.Goals as goal
 
-pub begin_activation-level-requires-clause-making : goal.begin_activation-level-requires-clause-making
-begin_activation-level-requires-clause-making c = let r = c.requires.calling in (r.0, r.1, r.2, r.3, c.args.kept, c.args.index, r.5)
+pub begin_activation-level-requires : goal.begin_activation-level-requires
+begin_activation-level-requires c =
+    let r = c.requires.calling in
+    record { making = (r.0, r.1, r.2, r.3, c.args.kept, c.args.index, r.5); few = c.requires.few; countable = c.requires.countable; gap = c.requires.gap; node = c.requires.node }
 
 pub index_mut-requires : goal.index_mut-requires
 index_mut-requires c =

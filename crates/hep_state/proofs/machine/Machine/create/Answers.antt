@@ -14,8 +14,10 @@ use Rattle.hep_state.proofs.Processes.{inside-at, all-more, all-set, process-sti
 use Rattle.hep_state.proofs.Unchanged.{rooms-begun}
 use Rattle.hep_state.proofs.machine.Machine.create.Goals as goal
 
-pub begin_activation-level-requires-clause-making : goal.begin_activation-level-requires-clause-making
-begin_activation-level-requires-clause-making c = let r = c.requires.creating in (Creates, r.0, r.1, r.2, r.3, c.args.index, r.4)
+pub begin_activation-level-requires : goal.begin_activation-level-requires
+begin_activation-level-requires c =
+    let r = c.requires.creating in
+    record { making = (Creates, r.0, r.1, r.2, r.3, c.args.index, r.4); few = c.requires.few; countable = c.requires.countable; gap = c.requires.gap; node = c.requires.node }
 
 pub index_mut-requires : goal.index_mut-requires
 index_mut-requires c =

@@ -1,4 +1,4 @@
-use Rattle.std.proofs.Common.{◌≡◌, ℕ, ◌-◌, ◌<◌, ◌≤◌, List, drop, length, take, sym, ap, ◌∙◌, subst, arith, Result, Ok, Err, IfErr, IsErr, IsErrAnd, vec_capacity}
+use Rattle.std.proofs.Common.{◌≡◌, ℕ, ◌-◌, ◌≤◌, List, drop, length, take, sym, ap, ◌∙◌, subst, arith, Result, Ok, Err, IfErr, IsErr, IsErrAnd, vec_capacity}
 use Rattle.hep_machine.specs.Words.{unit_at}
 use Rattle.hep_machine.specs.declared.event.Kind.{Kind}
 use Rattle.hep_code.specs.Words.{operands_of_entries, passed_from}

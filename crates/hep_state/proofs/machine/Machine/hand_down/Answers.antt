@@ -1,11 +1,10 @@
-use Rattle.std.proofs.Common.{◌≡◌, ◌+◌, ◌≤◌, ◌-◌, List, [], ◌∷◌, refl, sym, ap, ◌∙◌, subst, arith, vec_capacity}
+use Rattle.std.proofs.Common.{◌≡◌, ◌-◌, [], ◌∷◌, refl, sym, ap, ◌∙◌, subst, arith}
 use Rattle.slab.specs.Slab.{ContainsKey}
-use Rattle.hep_machine.specs.Words.{Value, is_held}
+use Rattle.hep_machine.specs.Words.{is_held}
 use Rattle.hep_frames.specs.Nodes.{nodes_of}
 use Rattle.hep_frames.proofs.Slabs.{some-value}
 use Rattle.hep_state.specs.declared.machine.Level.{Level}
-use Rattle.hep_state.specs.declared.machine.Process.{Process}
-use Rattle.hep_state.specs.Words.{HasMadeTurn, HasRoom, Stack, node_under, operands_answered, pending_answered, snapshot_answered, snapshot_of, stack_of, stack_with, state_answered, state_before, turn_of}
+use Rattle.hep_state.specs.Words.{HasMadeTurn, HasRoom, Stack, node_under, operands_answered, pending_answered, snapshot_answered, snapshot_of, stack_of, state_answered, state_before, turn_of}
 use Rattle.hep_state.proofs.Moved.{answer-room, answered-ended, answered-shown, kept-now, lead-upwards, top-node}
 use Rattle.hep_state.proofs.Processes.{last-there, process-at, room-fewer, room-reserved, stacks-set, some-levels-at}
 use Rattle.hep_state.proofs.Unchanged.{rooms-set}

@@ -1,15 +1,15 @@
 use Rattle.std.proofs.Common.{◌≡◌, ℕ, ◌+◌, ◌<◌, ◌≤◌, ◌-◌, List, [], ◌∷◌, ◌++◌, length, length-append, reverse, refl, sym, ap, ◌∙◌, subst, arith, vec_capacity, vec_len}
 use Rattle.std.specs.Vec.{with_item}
 use Rattle.std.proofs.lemmas.List.{reverse-append}
-use Rattle.hep_machine.specs.Words.{Value, numbered, with_numbered}
+use Rattle.hep_machine.specs.Words.{Value, numbered, schedule_of, with_numbered}
 use Rattle.hep_code.specs.Words.{deepest}
 use Rattle.hep_step.specs.Simulation.{unit_code}
 use Rattle.hep_state.specs.declared.machine.Level.{Level}
 use Rattle.hep_state.specs.declared.machine.Process.{Process}
-use Rattle.hep_state.specs.Words.{HasLevels, HasStepped, Snapshot, snapshot_moved, snapshot_of, snapshot_parted, stack_of, stack_with, turn_of}
+use Rattle.hep_state.specs.Words.{cells_of, HasLevels, HasStepped, Snapshot, snapshot_moved, snapshot_of, snapshot_parted, stack_of, stack_with, turn_of}
 use Rattle.hep_state.proofs.Processes.{inside-at, last-index, process-at, room-moved, some-levels, some-levels-at, stacks-set}
 use Rattle.hep_state.proofs.Taken.{inside}
-use Rattle.hep_state.proofs.Unchanged.{rooms-of, rooms-set, turned-so}
+use Rattle.hep_state.proofs.Unchanged.{alone, on-err, rooms-of, rooms-set, turned-so}
 use Rattle.hep_state.proofs.machine.Machine.take_resume.Goals.{After-reserve_process}
 use Rattle.hep_state.proofs.machine.Machine.take_resume.Goals as goal
 
@@ -27,22 +27,26 @@ some-by [] n e other = absurd (other (omega (arith, e)))
 some-by (l ∷ ls) n e other = (l, ls, refl)
 
 pub index-requires-2 : goal.index-requires-2
-index-requires-2 c = omega (arith, (inside-at c.args.self.now.processes.items c.args.p _ c.requires.at.3.levels.kept).1)
+index-requires-2 c = omega (arith, (inside-at c.args.self.now.processes.items c.args.p _ c.requires.at.levels.kept).1)
 
 pub top-requires : goal.top-requires
-top-requires c = some-levels-at (process-at c.args.self.now.processes.items c.args.p c.requires.at.3.levels.kept c.index-2.ensures)
+top-requires c = some-levels-at (process-at c.args.self.now.processes.items c.args.p c.requires.at.levels.kept c.index-2.ensures)
 
 pub unit-unit-requires : goal.unit-unit-requires
 unit-unit-requires c =
-    let at = c.requires.at.3 in
+    let at = c.requires.at in
     let it = process-at c.args.self.now.processes.items c.args.p at.levels.kept c.index-2.ensures in
     subst (λ (l : Level). l.unit < length c.args.image.now) (sym (c.top.ensures at.levels.level at.levels.below at.levels.operands at.levels.pending it.stack)) (inside at.holds.1.turning)
 
 -- ---- the lowest activation goes on
 
 pub returns-then-len-eq1-clause-turned : goal.returns-then-len-eq1-clause-turned
-returns-then-len-eq1-clause-turned c cells choices h at =
+returns-then-len-eq1-clause-turned c =
     let program = c.args.image.now in
+    let cells = cells_of c.args.self.now in
+    let choices = schedule_of c.args.history.now.items in
+    let h = c.requires.after in
+    let at = c.requires.at in
     let p = c.args.p in
     let old = c.args.self.now in
     let t = turn_of at in
@@ -61,9 +65,19 @@ returns-then-len-eq1-clause-turned c cells choices h at =
 
 -- ---- another one is a process of its own
 
+pub returns-in_err-process-clause-refused : goal.returns-in_err-process-clause-refused
+returns-in_err-process-clause-refused c =
+    let r = c.from_residual-in_err-process in
+    let same = c.reserve_process.ensures.same in
+    on-err r.result r.ensures.0 (alone c.args.image.now c.args.history.now.items c.args.self.now c.reserve_process.new.self same.shown (same.rooms c.args.image.now (cells_of c.args.self.now)) c.requires.after)
+
 pub returns-clause-turned : goal.returns-clause-turned
-returns-clause-turned c cells choices h at =
+returns-clause-turned c =
     let program = c.args.image.now in
+    let cells = cells_of c.args.self.now in
+    let choices = schedule_of c.args.history.now.items in
+    let h = c.requires.after in
+    let at = c.requires.at in
     let p = c.args.p in
     let old = c.args.self.now in
     let new = c.reserve_process.new.self in
@@ -72,7 +86,7 @@ returns-clause-turned c cells choices h at =
     let seen = process-at old.processes.items p at.levels.kept c.index.ensures in
     let many : c.len.result ≡ length (reverse t.below) + 1 = counted c.index.result.now t.level t.below t.operands t.pending seen.stack c.len.result c.len.ensures in
     let above = some-by t.below c.len.result many c.if-len-eq1.false in
-    let shown : snapshot_of new ≡ snapshot_of old = c.reserve_process.ensures.shown in
+    let shown : snapshot_of new ≡ snapshot_of old = c.reserve_process.ensures.same.shown in
     let levels : HasLevels (snapshot_of new) p =
     record { level = t.level; below = t.below; operands = t.operands; pending = t.pending; kept = ap (λ (s : Snapshot). numbered s.processes p) shown ∙ at.levels.kept } in
     let parted : snapshot_of c.part.new.self ≡ snapshot_parted at.levels c.args.next =
@@ -80,7 +94,7 @@ returns-clause-turned c cells choices h at =
     ∙ (λ i. record (shown i) { processes = with_numbered (shown i).processes p (record { levels = t.below; operands = []; pending = t.pending }) ++ record { levels = record t.level { index = c.args.next } ∷ []; operands = []; pending = [] } ∷ [] }) in
     let made = c.resumes_are_shown.ensures.apart t c.args.next above.0 above.1 c.is_runnable.ensures.accepted c.is_runnable.ensures.main at.holds above.2 in
     let unit = ap (λ (l : Level). deepest (unit_code program l.unit)) (c.top.ensures t.level t.below t.operands t.pending it.stack) in
-    let deep : deepest (unit_code program t.level.unit) ≤ vec_capacity c.in_ok-process.process.operands = omega (arith, unit, c.in_ok-process.ensures.operands, c.unit-unit.ensures.operands ∙ ap deepest c.unit-unit.ensures.code) in
+    let deep : deepest (unit_code program t.level.unit) ≤ vec_capacity c.in_ok-process.process.operands = omega (arith, unit, c.in_ok-process.ensures.made.operands, c.unit-unit.ensures.operands ∙ ap deepest c.unit-unit.ensures.code) in
     turned-so program cells choices p c.part.new.self (c.resumes_are_shown.ensures.nothing t c.args.next c.is_runnable.ensures.accepted c.is_runnable.ensures.main at.holds)
     (subst (HasStepped program cells choices p) (sym parted) made)
-    (c.part.ensures.rooms program cells (c.reserve_process.ensures.rooms program cells (rooms-of program cells choices old h)) levels deep)
+    (c.part.ensures.rooms program cells (c.reserve_process.ensures.same.rooms program cells (rooms-of program cells choices old h)) levels deep)

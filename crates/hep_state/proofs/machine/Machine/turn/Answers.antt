@@ -1,98 +1,161 @@
-use Rattle.std.proofs.Common.{ℕ, List, sym, ◌∙◌, subst}
-use Rattle.std.proofs.lemmas.Result.{IfOk-weaker, on_err_weaker}
-use Rattle.hep_machine.specs.Words.{Units}
-use Rattle.hep_state.specs.declared.turn.TurnFault.{TurnFault}
-use Rattle.hep_state.specs.Words.{HasPurgeAhead, IsMachineAfter, Snapshot, snapshot_of, IsUnturned, turn_of}
-use Rattle.hep_state.proofs.Unchanged.{machine-written, on-err, shown-written, without-memory}
-use Rattle.hep_state.proofs.machine.Machine.turn.Goals.{After-reserve}
+use Rattle.std.proofs.Common.{◌≡◌, ◌≤◌, ◌<◌, ◌+◌, ◌^◌, ℕ, List, None, length, arith, sym, ◌∙◌, subst}
+use Rattle.std.proofs.lemmas.Result.{IfErr-weaker, IfOk-weaker, on_err_weaker}
+use Rattle.hep_machine.specs.Words.{schedule_of}
+use Rattle.hep_state.specs.declared.machine.Machine.{Machine}
+use Rattle.hep_state.specs.declared.turn.Turned.{Turned}
+use Rattle.hep_state.specs.declared.turn.Turned.TheVariants.{Stepped}
+use Rattle.hep_state.specs.Words.{HasCallAhead, HasPurgeAhead, HasResumeAhead, HasTurned, IsMachineAfter, IsSeenSame, IsTurn, IsUntaken, IsUnturned, Snapshot, cells_of, snapshot_of, turn_of}
+use Rattle.hep_state.proofs.Unchanged.{alone-after, as-large, machine-written, on-err, own-size, seen-again, seen-shown, shown-written, without-memory, as-many}
+use Rattle.hep_state.proofs.machine.Machine.turn.Goals.{After-reserve, After-step_ahead}
 use Rattle.hep_state.proofs.machine.Machine.turn.Goals as goal
 
--- why a turn was not taken, wherever a machine comes to
-abbrev unturned-by : Units → ℕ → (ℕ → List ℕ → Type 0) → TurnFault → Type 0
-unturned-by program p there e = (cells : ℕ) (choices : List ℕ) → there cells choices → IsUnturned e program cells choices p
+pub step_ahead-requires : goal.step_ahead-requires
+step_ahead-requires c =
+    record {
+      after = (cells_of c.args.self.now, schedule_of c.args.history.now.items, c.requires.after);
+      running = c.requires.running;
+      living = c.requires.living;
+    }
 
--- it is at a PURGE still where room was made
-reserved-at : (c : After-reserve) (cells : ℕ) (choices : List ℕ) → IsMachineAfter c.args.image.now cells choices c.step_ahead.new.self → HasPurgeAhead c.args.image.now cells choices c.args.p (snapshot_of c.step_ahead.new.self) c.in-Purge.purge
-    → IsMachineAfter c.args.image.now cells choices c.reserve.new.self × HasPurgeAhead c.args.image.now cells choices c.args.p (snapshot_of c.reserve.new.self) c.in-Purge.purge
-reserved-at c cells choices h at =
-    let program = c.args.image.now in
-    let made = c.reserve.ensures in
-    let shown = shown-written c.step_ahead.new.self c.reserve.new.self made.others made.written.0 made.written.1 in
-    (machine-written program cells choices c.step_ahead.new.self c.reserve.new.self made.others made.written.0 made.written.1 h, subst (λ (n : Snapshot). HasPurgeAhead program cells choices c.args.p n c.in-Purge.purge) (sym shown) at)
+module _ (c : After-step_ahead) where
+  abbrev cells : ℕ
+  cells = cells_of c.args.self.now
 
-pub take_call-requires-clause-at : goal.take_call-requires-clause-at
-take_call-requires-clause-at c =
-    let h = c.requires.after in
-    (h.0, h.1, c.in-Call.ensures.after h.0 h.1 h.2, c.in-Call.ensures.ahead h.0 h.1 h.2)
+  abbrev choices : List ℕ
+  choices = schedule_of c.args.history.now.items
 
-pub take_operation-requires-clause-after : goal.take_operation-requires-clause-after
-take_operation-requires-clause-after c =
-    let h = c.requires.after in
-    (h.0, h.1, c.in-Other.ensures.after h.0 h.1 h.2)
+  abbrev between : Machine
+  between = c.step_ahead.new.self
+
+  -- once it was looked what is ahead
+  looked : IsMachineAfter c.args.image.now cells choices between
+  looked = c.step_ahead.ensures.after cells choices c.requires.after
+
+  large : cells_of between ≡ cells
+  large = as-large c.args.self.now between c.step_ahead.ensures.same
+
+  -- a turn from there is one from before
+  turned : (t : Turned) (new : Machine) → IsTurn c.args.image.now c.args.history.now.items c.args.p between t new → IsTurn c.args.image.now c.args.history.now.items c.args.p c.args.self.now t new
+  turned t new h = subst (λ n. HasTurned c.args.image.now n choices c.args.p t new) large h
+
+-- ---- CALL, CREATE and references
+
+pub take_call-requires : goal.take_call-requires
+take_call-requires c =
+    let before = (goal.at.take_call-requires c).After-step_ahead in
+    let same = c.in-Call.ensures.same in
+    record {
+      after = own-size c.args.image.now (cells before) (choices before) (between before) (looked before);
+      at = subst (λ n. HasCallAhead c.args.image.now n (choices before) c.args.p (snapshot_of (between before)) c.in-Call.call) (sym (large before)) (c.in-Call.ensures.ahead (cells before) (choices before) c.requires.after);
+      countable = omega (arith, same.activations, c.requires.countable);
+      numbers = omega (arith, as-many c.args.self.now (between before) same, c.requires.numbers);
+    }
+
+pub returns-in-Call-clause-turned : goal.returns-in-Call-clause-turned
+returns-in-Call-clause-turned c =
+    let before = (goal.at.returns-in-Call-clause-turned c).After-step_ahead in
+    IfOk-weaker c.take_call.result _ _ (λ t told. turned before t c.take_call.new.self told) c.take_call.ensures.turned
+
+pub returns-in-Call-clause-unturned : goal.returns-in-Call-clause-unturned
+returns-in-Call-clause-unturned c =
+    let before = (goal.at.returns-in-Call-clause-unturned c).After-step_ahead in
+    IfErr-weaker c.take_call.result _ _ (λ e told. subst (λ n. IsUnturned e c.args.image.now n (choices before) c.args.p) (large before) told) c.take_call.ensures.unturned
+
+pub returns-in-Call-clause-refused : goal.returns-in-Call-clause-refused
+returns-in-Call-clause-refused c =
+    on_err_weaker c.take_call.result (alone-after c.args.image.now c.args.history.now.items c.args.self.now c.step_ahead.new.self c.take_call.new.self c.in-Call.ensures.same) c.take_call.ensures.refused
+
+-- ---- an operation
+
+pub take_operation-requires : goal.take_operation-requires
+take_operation-requires c =
+    let before = (goal.at.take_operation-requires c).After-step_ahead in
+    record {
+      after = own-size c.args.image.now (cells before) (choices before) (between before) (looked before);
+      running = c.in-Other.ensures.same.halted ∙ c.requires.running;
+      plain = c.in-Other.ensures.ahead;
+    }
 
 pub returns-in_err-take_operation-in-Other-clause-unturned : goal.returns-in_err-take_operation-in-Other-clause-unturned
 returns-in_err-take_operation-in-Other-clause-unturned c =
-    let program = c.args.image.now in
-    without-memory (unturned-by program c.args.p (λ cells choices. IsMachineAfter program cells choices c.args.self.now)) c.from_residual-in_err-take_operation-in-Other.result c.from_residual-in_err-take_operation-in-Other.ensures.1 (λ cells choices h.
-    c.other_steps_find_gaps.ensures program cells choices (snapshot_of c.step_ahead.new.self) c.args.p c.is_runnable.ensures.accepted c.is_runnable.ensures.main (c.in-Other.ensures.after cells choices h).after (c.in-Other.ensures.same.halted ∙ c.requires.running) c.in-Other.ensures.ahead)
+    let before = (goal.at.returns-in_err-take_operation-in-Other-clause-unturned c).After-step_ahead in
+    let r = c.from_residual-in_err-take_operation-in-Other in
+    without-memory (IsUntaken c.args.image.now c.args.history.now.items c.args.p c.args.self.now) r.result r.ensures.1 (
+    c.other_steps_find_gaps.ensures c.args.image.now (cells before) (choices before) (snapshot_of c.step_ahead.new.self) c.args.p c.is_runnable.ensures.accepted c.is_runnable.ensures.main (looked before).after (c.in-Other.ensures.same.halted ∙ c.requires.running) c.in-Other.ensures.ahead)
 
 pub returns-in_err-take_operation-in-Other-clause-refused : goal.returns-in_err-take_operation-in-Other-clause-refused
 returns-in_err-take_operation-in-Other-clause-refused c =
-    on-err c.from_residual-in_err-take_operation-in-Other.result c.from_residual-in_err-take_operation-in-Other.ensures.0 (λ cells choices h. c.in_err-take_operation-in-Other.ensures.refused cells choices (c.in-Other.ensures.after cells choices h))
-
-pub returns-in-Call-clause-turned : goal.returns-in-Call-clause-turned
-returns-in-Call-clause-turned c = IfOk-weaker c.take_call.result _ _ (λ turned told cells choices h. told cells choices (c.in-Call.ensures.after cells choices h) (c.in-Call.ensures.ahead cells choices h)) c.take_call.ensures.turned
-
-pub returns-in-Call-clause-refused : goal.returns-in-Call-clause-refused
-returns-in-Call-clause-refused c = on_err_weaker c.take_call.result (λ refused cells choices h. refused cells choices (c.in-Call.ensures.after cells choices h)) c.take_call.ensures.refused
+    let r = c.from_residual-in_err-take_operation-in-Other in
+    on-err r.result r.ensures.0 (alone-after c.args.image.now c.args.history.now.items c.args.self.now c.step_ahead.new.self c.take_operation.new.self c.in-Other.ensures.same c.in_err-take_operation-in-Other.ensures.refused)
 
 pub returns-in_ok-take_operation-in-Other-clause-turned : goal.returns-in_ok-take_operation-in-Other-clause-turned
-returns-in_ok-take_operation-in-Other-clause-turned c cells choices h = c.in_ok-take_operation-in-Other.ensures.turned cells choices (c.in-Other.ensures.after cells choices h)
+returns-in_ok-take_operation-in-Other-clause-turned c =
+    turned (goal.at.returns-in_ok-take_operation-in-Other-clause-turned c).After-step_ahead _ c.take_operation.new.self c.in_ok-take_operation-in-Other.ensures.turned
 
 -- ---- PURGE
 
+-- it is at a PURGE still where room was made
+module _ (c : After-reserve) where
+  reserved-shown : snapshot_of c.reserve.new.self ≡ snapshot_of c.step_ahead.new.self
+  reserved-shown = shown-written c.step_ahead.new.self c.reserve.new.self c.reserve.ensures.others c.reserve.ensures.written.0 c.reserve.ensures.written.1
+
+  reserved-same : IsSeenSame (snapshot_of c.args.self.now) (snapshot_of c.reserve.new.self)
+  reserved-same = seen-again (snapshot_of c.args.self.now) (snapshot_of c.step_ahead.new.self) (snapshot_of c.reserve.new.self) c.in-Purge.ensures.same (seen-shown (snapshot_of c.step_ahead.new.self) (snapshot_of c.reserve.new.self) reserved-shown)
+
+  reserved : IsMachineAfter c.args.image.now (cells_of c.args.self.now) (schedule_of c.args.history.now.items) c.reserve.new.self
+  reserved =
+      machine-written c.args.image.now (cells_of c.args.self.now) (schedule_of c.args.history.now.items) c.step_ahead.new.self c.reserve.new.self c.reserve.ensures.others c.reserve.ensures.written.0 c.reserve.ensures.written.1 (
+      c.in-Purge.ensures.after (cells_of c.args.self.now) (schedule_of c.args.history.now.items) c.requires.after)
+
+  at-purge : HasPurgeAhead c.args.image.now (cells_of c.args.self.now) (schedule_of c.args.history.now.items) c.args.p (snapshot_of c.reserve.new.self) c.in-Purge.purge
+  at-purge =
+      subst (λ (n : Snapshot). HasPurgeAhead c.args.image.now (cells_of c.args.self.now) (schedule_of c.args.history.now.items) c.args.p n c.in-Purge.purge) (sym reserved-shown) (
+      c.in-Purge.ensures.ahead (cells_of c.args.self.now) (schedule_of c.args.history.now.items) c.requires.after)
+
 pub purge-requires-clause-at : goal.purge-requires-clause-at
 purge-requires-clause-at c =
-    let h = c.requires.after in
-    let at = reserved-at (goal.at.purge-requires-clause-at c).After-reserve h.0 h.1 (c.in-Purge.ensures.after h.0 h.1 h.2) (c.in-Purge.ensures.ahead h.0 h.1 h.2) in
-    (h.0, h.1, at.0, at.1)
+    let before = (goal.at.purge-requires-clause-at c).After-reserve in
+    (cells_of c.args.self.now, schedule_of c.args.history.now.items, reserved before, at-purge before)
 
 pub returns-in_err-reserve-in-Purge-clause-unturned : goal.returns-in_err-reserve-in-Purge-clause-unturned
 returns-in_err-reserve-in-Purge-clause-unturned c =
-    let program = c.args.image.now in
-    without-memory (unturned-by program c.args.p (λ cells choices. IsMachineAfter program cells choices c.args.self.now)) c.from_residual.result c.from_residual.ensures.1 (λ cells choices h.
-    let at = c.in-Purge.ensures.ahead cells choices h in
+    let at = c.in-Purge.ensures.ahead (cells_of c.args.self.now) (schedule_of c.args.history.now.items) c.requires.after in
+    without-memory (IsUntaken c.args.image.now c.args.history.now.items c.args.p c.args.self.now) c.from_residual.result c.from_residual.ensures.1 (
     c.purges_are_shown.ensures.gaps (turn_of at) c.in-Purge.purge c.is_runnable.ensures.accepted c.is_runnable.ensures.main at.holds)
 
 pub returns-in_err-reserve-in-Purge-clause-refused : goal.returns-in_err-reserve-in-Purge-clause-refused
 returns-in_err-reserve-in-Purge-clause-refused c =
-    on-err c.from_residual.result c.from_residual.ensures.0 (λ cells choices h.
-    (reserved-at (goal.at.returns-in_err-reserve-in-Purge-clause-refused c).After-reserve cells choices (c.in-Purge.ensures.after cells choices h) (c.in-Purge.ensures.ahead cells choices h)).0)
+    let before = (goal.at.returns-in_err-reserve-in-Purge-clause-refused c).After-reserve in
+    on-err c.from_residual.result c.from_residual.ensures.0 (record { after = reserved before; same = reserved-same before; processes = as-many c.args.self.now c.reserve.new.self (reserved-same before) })
 
 pub returns-in_ok-reserve-in-Purge-clause-turned : goal.returns-in_ok-reserve-in-Purge-clause-turned
-returns-in_ok-reserve-in-Purge-clause-turned c cells choices h =
-    let at = reserved-at (goal.at.returns-in_ok-reserve-in-Purge-clause-turned c).After-reserve cells choices (c.in-Purge.ensures.after cells choices h) (c.in-Purge.ensures.ahead cells choices h) in
-    c.purge.ensures.purged cells choices at.0 at.1
+returns-in_ok-reserve-in-Purge-clause-turned c =
+    let before = (goal.at.returns-in_ok-reserve-in-Purge-clause-turned c).After-reserve in
+    c.purge.ensures.purged (cells_of c.args.self.now) (schedule_of c.args.history.now.items) (reserved before) (at-purge before)
 
 -- ---- RESUME
 
-pub take_resume-requires-clause-at : goal.take_resume-requires-clause-at
-take_resume-requires-clause-at c =
-    let h = c.requires.after in
-    (h.0, h.1, c.in-Resume.ensures.after h.0 h.1 h.2, c.in-Resume.ensures.ahead h.0 h.1 h.2)
+pub take_resume-requires : goal.take_resume-requires
+take_resume-requires c =
+    let before = (goal.at.take_resume-requires c).After-step_ahead in
+    record {
+      after = own-size c.args.image.now (cells before) (choices before) (between before) (looked before);
+      at = subst (λ n. HasResumeAhead c.args.image.now n (choices before) c.args.p (snapshot_of (between before)) c.in-Resume.next) (sym (large before)) (c.in-Resume.ensures.ahead (cells before) (choices before) c.requires.after);
+      numbers = omega (arith, as-many c.args.self.now (between before) c.in-Resume.ensures.same, c.requires.numbers);
+    }
 
 pub returns-in_err-take_resume-in-Resume-clause-unturned : goal.returns-in_err-take_resume-in-Resume-clause-unturned
 returns-in_err-take_resume-in-Resume-clause-unturned c =
     let r = c.from_residual-in_err-take_resume-in-Resume in
-    without-memory (unturned-by c.args.image.now c.args.p (λ cells choices. IsMachineAfter c.args.image.now cells choices c.args.self.now)) r.result r.ensures.1 (λ cells choices h.
-    let at = c.in-Resume.ensures.ahead cells choices h in
+    let at = c.in-Resume.ensures.ahead (cells_of c.args.self.now) (schedule_of c.args.history.now.items) c.requires.after in
+    without-memory (IsUntaken c.args.image.now c.args.history.now.items c.args.p c.args.self.now) r.result r.ensures.1 (
     c.resumes_are_shown.ensures.gaps (turn_of at) c.in-Resume.next c.is_runnable.ensures.accepted c.is_runnable.ensures.main at.holds)
 
 pub returns-in_err-take_resume-in-Resume-clause-refused : goal.returns-in_err-take_resume-in-Resume-clause-refused
 returns-in_err-take_resume-in-Resume-clause-refused c =
     let r = c.from_residual-in_err-take_resume-in-Resume in
-    on-err r.result r.ensures.0 (λ cells choices h. c.in_err-take_resume-in-Resume.ensures.refused cells choices (c.in-Resume.ensures.after cells choices h))
+    on-err r.result r.ensures.0 (alone-after c.args.image.now c.args.history.now.items c.args.self.now c.step_ahead.new.self c.take_resume.new.self c.in-Resume.ensures.same c.in_err-take_resume-in-Resume.ensures.refused)
 
 pub returns-in_ok-take_resume-in-Resume-clause-turned : goal.returns-in_ok-take_resume-in-Resume-clause-turned
-returns-in_ok-take_resume-in-Resume-clause-turned c cells choices h =
-    c.in_ok-take_resume-in-Resume.ensures.turned cells choices (c.in-Resume.ensures.after cells choices h) (c.in-Resume.ensures.ahead cells choices h)
+returns-in_ok-take_resume-in-Resume-clause-turned c =
+    turned (goal.at.returns-in_ok-take_resume-in-Resume-clause-turned c).After-step_ahead (Stepped None) c.take_resume.new.self c.in_ok-take_resume-in-Resume.ensures.turned

@@ -1,5 +1,4 @@
-use Rattle.std.proofs.Common.{◌≡◌, ◌-◌, ◌≤◌, ◌∷◌, ◌++◌, List, [], Bool, true, false, not, nat_eq, drop, length, length-drop, reverse, refl, sym, ap, ◌∙◌, arith, vec_len}
-use Rattle.hep_machine.specs.Words.{Value}
+use Rattle.std.proofs.Common.{◌≡◌, ◌-◌, ◌≤◌, ◌∷◌, ◌++◌, List, [], Bool, true, false, not, nat_eq, length, length-drop, reverse, refl, sym, ap, ◌∙◌, arith, vec_len}
 use Rattle.hep_state.specs.declared.machine.Level.{Level}
 use Rattle.hep_state.specs.declared.machine.Process.{Process}
 use Rattle.hep_state.specs.Words.{Stack, operands_answered, pending_answered, stack_of, stack_with}

@@ -1,0 +1,214 @@
+-- A core goes on: after each step that only moves a process its history is legal, and its lists are those of the definitions.
+use Rattle.std.proofs.Common.{◌≡◌, ◌≢◌, ℕ, zero, suc, ◌+◌, ◌<◌, ◌≤◌, Bool, true, false, ◌||◌, if◌then◌else◌, List, [], ◌∷◌, ◌++◌, length, length-append, Ok, inl, inr, Option, Some, None, is_some, refl, sym, ap, ◌∙◌, subst, arith, Global}
+use Rattle.std.specs.declared.vec.Vec.{Vec}
+use Rattle.std.proofs.lemmas.Bool.{cases_lt}
+use Rattle.std.proofs.lemmas.Bool.Decides.{nat_tests}
+use Rattle.std.proofs.lemmas.Option.{none-some}
+use Rattle.hep_source.proofs.Tests.{some-there}
+use Rattle.hep_machine.specs.declared.event.Entry.{Entry}
+use Rattle.hep_machine.specs.Words.{Units, IsLegal, Layout, is_held, is_number_among, layout_of, living, Progress, progress_after, progress_after_step, ready_in, run, schedule_of, State, state_after, state_made, step, step_result_of, view_of}
+use Rattle.hep_cells.specs.declared.want.Want.{Want}
+use Rattle.hep_blocked.specs.Listing.{AreListed, GoesAlong, HasChanged, is_noted}
+use Rattle.hep_blocked.proofs.Members.{ready-rise, rising-same}
+use Rattle.hep_state.specs.declared.machine.Machine.{Machine}
+use Rattle.hep_state.specs.Words.{IsMachineAfter, snapshot_of}
+use Rattle.hep_going.specs.Gone.{HasGone, IsPlainTurn, none, more}
+use Rattle.hep_core.specs.Going.{AreChoices, IsPlainChoice, again, begun, entries_along}
+use Rattle.hep_core.specs.Invariant.{AreLiving, CoreInvariant, core_value}
+use Rattle.hep_core.specs.Tickets.{is_out}
+use Rattle.hep_core.specs.Value.{CoreValue, HasNoStop, IsChoice, IsStop, stop_after}
+use Rattle.hep_core.specs.declared.stop.ChoiceStop.TheVariants.{Halted}
+use Rattle.hep_core.specs.declared.scheduler.Core.TheInside.{Inside}
+use Rattle.hep_core.specs.declared.ticket.TicketId.{TicketId}
+use Rattle.hep_core.proofs.Histories.{legal-stepped, state-is}
+use Rattle.hep_core.proofs.Kept.{AreSeen, halted-is, listed-next, living-next, next, schedule-next, single-next, state-next, steps-on, view-is}
+
+-- the law of lists that go along with a step
+abbrev pub GoAlong : Type 0
+GoAlong =
+    (program : Units) (cells : ℕ) (choices : List ℕ) (x : Progress) (waiting waiting_after : List (Option Want)) (ready ready_after : List ℕ) (p : ℕ) (changed : Option Want) (layout : Layout)
+    → AreListed program cells choices x waiting ready → step program p (run program choices) ≢ None → layout_of program cells is_held choices ≡ Some layout
+    → HasChanged program choices p layout changed → GoesAlong program choices p changed waiting waiting_after ready ready_after
+    → AreListed program cells (choices ++ p ∷ []) (progress_after_step program x p (run program (choices ++ p ∷ []))) waiting_after ready_after
+
+there-some : {A : Type 0} (o : Option A) → o ≢ None → is_some o ≡ true
+there-some None h = absurd (h refl)
+there-some (Some x) h = refl
+
+noted-same : (p before after q : ℕ) (ready : List ℕ) (lives : Bool) → lives ≡ true → after ≡ before → is_number_among q ready ≡ (false || is_noted p lives before after ready q)
+noted-same p before after q ready lives alive same = grind (arith, nat_tests, alive, same)
+
+-- what makes a step isn't halted
+goes : (program : Units) (p : ℕ) (s : State) → step program p s ≢ None → s.halted ≡ false
+goes program p s made = by-halted s.halted (state_made (step_result_of program p s)) made where
+  by-halted : (b : Bool) (o : Option State) → (if b then None else o) ≢ None → b ≡ false
+  by-halted true o h = absurd (h refl)
+  by-halted false o h = refl
+
+-- ---- histories with an entry for each turn
+
+pub entries-more : (h : List Entry) (p n : ℕ) → length (entries_along h p n) ≡ length h + n
+entries-more h p zero = omega arith
+entries-more h p (suc n) = omega (arith, length-append (entries_along h p n) (let e : Entry = record { process = p; steps = 1 } in e ∷ []), entries-more h p n)
+
+module _ (law : GoAlong) (program : Units) (cells limit p : ℕ) (waiting : List (Option Want)) (ready : List ℕ) (out : List TicketId) (home : is_out p out ≡ false) where
+  abbrev one : Entry
+  one = record { process = p; steps = 1 }
+
+  -- what holds of a history, with the same lists of who waits, who is ready and who is out
+  pub record Far (es : List Entry) : Type 0 where
+    pub layout : Layout
+    pub laid : layout_of program cells is_held (schedule_of es) ≡ Some layout
+    pub listed : AreListed program cells (schedule_of es) (progress_after program es) waiting ready
+    pub single : length (schedule_of es) ≤ length es
+    pub legal : length es ≤ limit → IsLegal program cells limit es
+    pub living : AreLiving program es out
+
+  further : (es : List Entry) → Far es → IsPlainTurn program cells (schedule_of es) p → Far (es ++ one ∷ [])
+  further es far is =
+      let es' = es ++ one ∷ [] in
+      let made = is.stepped in
+      let laid : layout_of program cells is_held (schedule_of es') ≡ Some is.layout = ap (layout_of program cells is_held) (schedule-next program cells es p es' refl made) ∙ is.laid in
+      let lists = law program cells (schedule_of es) (progress_after program es) waiting waiting ready ready p None far.layout far.listed made far.laid (is.unchanged.told far.layout far.laid)
+      (record {
+        waits = λ q. refl;
+        are_ready = λ q. noted-same p (length (run program (schedule_of es)).processes) (length (run program (schedule_of es ++ p ∷ [])).processes) q ready (is_some (living (run program (schedule_of es ++ p ∷ [])) p)) (there-some (living (run program (schedule_of es ++ p ∷ [])) p) is.lives) is.made;
+      }) in
+      record {
+        layout = is.layout;
+        laid = laid;
+        listed = listed-next program cells es p es' refl made waiting ready far.listed.state lists;
+        single = single-next program cells es p es' refl made far.single;
+        legal = λ le. legal-stepped program cells limit es p (next program cells es p es' refl made) (far.legal (omega (arith, le, length-append es (one ∷ [])))) (omega (arith, le, length-append es (one ∷ [])))
+            (some-there (layout_of program cells is_held (schedule_of es')) is.layout laid) (steps-on program cells es p es' refl made);
+        living = living-next program cells es p es' refl made out home far.living;
+      }
+
+  module _ (h : List Entry) (start : Far h) where
+    abbrev entries : ℕ → List Entry
+    entries n = entries_along h p n
+
+    -- so many turns later
+    pub record HasCome (n : ℕ) (after : List ℕ) : Type 0 where
+      pub turns : schedule_of (entries n) ≡ after
+      pub far : Far (entries n)
+
+    turn-so : (n : ℕ) (after : List ℕ) → HasCome n after → IsPlainTurn program cells after p → IsPlainTurn program cells (schedule_of (entries n)) p
+    turn-so n after come is = subst (λ ps. IsPlainTurn program cells ps p) (sym come.turns) is
+
+    pub come-so : (n : ℕ) (after : List ℕ) → HasGone program cells p (schedule_of h) n after → HasCome n after
+    come-so _ _ (none _) = record { turns = refl; far = start }
+    come-so _ _ (more _ n after gone is) =
+        let come = come-so n after gone in
+        let turn = turn-so n after come is in
+        record {
+          turns = schedule-next program cells (entries n) p (entries (suc n)) refl turn.stepped ∙ ap (λ ps. ps ++ p ∷ []) come.turns;
+          far = further (entries n) come.far turn;
+        }
+
+-- ---- cores
+
+-- a core at no stop with so many entries of p more
+abbrev pub core_gone : CoreValue → ℕ → ℕ → CoreValue
+core_gone old p n =
+    record old {
+      history = entries_along old.history p n;
+      view = view_of old.program is_held (state_after old.program (entries_along old.history p n));
+    }
+
+-- its inside with these entries and this machine
+abbrev pub core_along : Inside → Vec Entry Global → Machine → Inside
+core_along i history machine = record i { history = history; machine = machine }
+
+module _ (law : GoAlong) (i : Inside) (p : ℕ) (k : CoreInvariant i) (running : i.stop ≡ None) (home : is_out p i.out.items ≡ false) where
+  abbrev h : List Entry
+  h = i.history.items
+
+  start : Far law i.image i.cells i.limit p i.waits i.ready.ready i.out.items home h
+  start = record { layout = k.after.after.layout; laid = k.after.after.laid; listed = k.listed; single = k.single; legal = λ within. k.legal; living = k.living }
+
+  come : (n : ℕ) (after : List ℕ) → HasGone i.image i.cells p (schedule_of h) n after → HasCome law i.image i.cells i.limit p i.waits i.ready.ready i.out.items home h start n after
+  come n after gone = come-so law i.image i.cells i.limit p i.waits i.ready.ready i.out.items home h start n after gone
+
+  -- it keeps what a core keeps
+  pub core-goes-on : (n : ℕ) (after : List ℕ) (machine : Machine) (history : Vec Entry Global) → HasGone i.image i.cells p (schedule_of h) n after → IsMachineAfter i.image i.cells after machine
+      → machine.halted ≡ false → length machine.processes.items ≡ length i.machine.processes.items → length h + n ≤ i.limit → history.items ≡ entries_along h p n → CoreInvariant (core_along i history machine)
+  core-goes-on n after machine history gone kept unhalted count room is =
+      let c = come n after gone in
+      let far = subst (Far law i.image i.cells i.limit p i.waits i.ready.ready i.out.items home) (sym is) c.far in
+      let there : IsMachineAfter i.image i.cells (schedule_of history.items) machine = subst (λ ps. IsMachineAfter i.image i.cells ps machine) (sym (ap schedule_of is ∙ c.turns)) kept in
+      record {
+        after = there;
+        listed = far.listed;
+        numbers = omega (arith, k.numbers, count);
+        waiting = k.waiting;
+        legal = far.legal (omega (arith, room, ap length is, entries-more h p n));
+        single = far.single;
+        named = subst (λ stop. IsStop i.image i.cells i.limit history.items stop) (sym running) (sym (halted-is i.image i.cells history.items (snapshot_of machine) there.after) ∙ unhalted);
+        living = far.living;
+      }
+
+  -- each of its entries is of a choice
+  plain : (n : ℕ) (after : List ℕ) → HasGone i.image i.cells p (schedule_of h) n after → IsPlainTurn i.image i.cells after p → length h + suc n ≤ i.limit
+      → IsPlainChoice (core_gone (core_value i) p n) p (core_gone (core_value i) p (suc n))
+  plain n after gone is room =
+      let program = i.image in
+      let es = entries_along h p n in
+      let es' = entries_along h p (suc n) in
+      let c = come n after gone in
+      let c' = come (suc n) (after ++ p ∷ []) (more (schedule_of h) n after gone is) in
+      let turn = subst (λ ps. IsPlainTurn program i.cells ps p) (sym c.turns) is in
+      let s = next program i.cells es p es' refl turn.stepped in
+      let steps = steps-on program i.cells es p es' refl turn.stepped in
+      let same : state_after program es' ≡ s = state-next program i.cells es p es' refl turn.stepped in
+      let unhalted : s.halted ≡ false = ap (λ (t : State). t.halted) (sym same ∙ (state-is program es' ∙ ap (run program) c'.turns)) ∙ is.going in
+      let going : (state_after program es).halted ≡ false = goes program p (state_after program es) (λ none. none-some s (sym none ∙ steps)) in
+      let stop : i.stop ≡ stop_after s = running ∙ sym (ap (λ b. if b then Some Halted else None) unhalted) in
+      record {
+        chosen = (
+          (running, going),
+          home,
+          omega (arith, room, entries-more h p n),
+          (s, steps, λ j. record (core_gone (core_value i) p (suc n)) { stop = stop j; view = view_of program is_held (same j) }),
+        );
+        going = running;
+        ready = rising-same 1 (length (progress_after program es').state.processes) (length (progress_after program es).state.processes) (ready_in (progress_after program es')) (ready_in (progress_after program es))
+            (ready-rise (progress_after program es')) (ready-rise (progress_after program es)) (λ q. sym (c'.far.listed.are_ready q) ∙ c.far.listed.are_ready q);
+      }
+
+  are-choices : (n : ℕ) (after : List ℕ) → HasGone i.image i.cells p (schedule_of h) n after → length h + n ≤ i.limit → AreChoices p (core_gone (core_value i) p 0) n (core_gone (core_value i) p n)
+  are-choices _ _ (none _) room = begun (core_gone (core_value i) p 0)
+  are-choices _ _ (more _ n after gone is) room =
+      again (core_gone (core_value i) p 0) n (core_gone (core_value i) p n) (core_gone (core_value i) p (suc n)) (are-choices n after gone (omega (arith, room))) (plain n after gone is room)
+
+  -- from the core that it was to the one with this inside
+  pub chosen-so : AreSeen i.image i.cells → (n : ℕ) (after : List ℕ) (machine : Machine) (history : Vec Entry Global) → HasGone i.image i.cells p (schedule_of h) n after → CoreInvariant (core_along i history machine)
+      → length h + n ≤ i.limit → history.items ≡ entries_along h p n → AreChoices p (core_value i) n (core_value (core_along i history machine))
+  chosen-so seen n after machine history gone kept room is =
+      let first = view-is i.image i.cells h (snapshot_of i.machine) k.after.after seen in
+      let last = view-is i.image i.cells history.items (snapshot_of machine) kept.after.after seen ∙ ap (λ es. view_of i.image is_held (state_after i.image es)) is in
+      let begins : core_gone (core_value i) p 0 ≡ core_value i = λ j. record (core_value i) { view = sym first j } in
+      let ends : core_gone (core_value i) p n ≡ core_value (core_along i history machine) = λ j. record (core_value i) { history = sym is j; view = sym last j } in
+      subst (λ v. AreChoices p v n (core_value (core_along i history machine))) begins (subst (AreChoices p (core_gone (core_value i) p 0) n) ends (are-choices n after gone room))
+
+-- ---- what choices come to
+
+-- none leave the core as it was
+pub unmoved : (p : ℕ) (old : CoreValue) (n : ℕ) (new : CoreValue) → n ≡ 0 → AreChoices p old n new → old ≡ new
+unmoved p _ _ _ z (begun core) = refl
+unmoved p _ _ _ z (again old n core new before is) = absurd (omega (arith, z))
+
+-- one is that choice
+pub chosen-once : (p : ℕ) (old : CoreValue) (n : ℕ) (new : CoreValue) → n ≡ 1 → AreChoices p old n new → IsChoice old p (Ok (record { steps = 1; blocked = false })) new
+chosen-once p _ _ _ z (begun core) = absurd (omega (arith, z))
+chosen-once p _ _ _ z (again old n core new before is) =
+    let first : n ≡ 0 = omega (arith, z) in
+    subst (λ c. IsChoice c p (Ok (record { steps = 1; blocked = false })) new) (sym (unmoved p old n core first before)) is.chosen
+
+-- where some were made the core was at no stop, and its history not full
+pub choices-began : (p : ℕ) (old : CoreValue) (n : ℕ) (new : CoreValue) → 1 ≤ n → AreChoices p old n new → HasNoStop old × (length old.history < old.limit)
+choices-began p _ _ _ some (begun core) = absurd (omega (arith, some))
+choices-began p _ _ _ some (again old n core new before is) = elim (cases_lt 0 n) [
+  | inl above ↦ choices-began p old n core above before
+  | inr first ↦ subst (λ c. HasNoStop c × (length c.history < c.limit)) (sym (unmoved p old n core (omega (arith, first)) before)) (is.chosen.0, is.chosen.2)
+]

@@ -1,0 +1,29 @@
+use Rattle.std.proofs.Common.{◌≡◌, ◌∙◌, None, ap, length, sym, not, slice_get}
+use Rattle.hep_blocked.proofs.Listed.{first-least, first-other, first-some}
+use Rattle.hep_blocked.proofs.Members.{ready-rise, rising-filter}
+use Rattle.hep_machine.specs.Words.{first_above, last_process, progress_after}
+use Rattle.hep_core.specs.Tickets.{is_out}
+use Rattle.hep_core.specs.Value.{CoreValue, free_of, ready_of}
+use Rattle.hep_core.proofs.scheduler.Core.next_ready.Goals as goal
+
+-- of those that aren't out the least of all is the first one above 0
+least : (core : CoreValue) → first_above 0 (free_of core) None ≡ slice_get (free_of core) 0
+least core =
+    let x = progress_after core.program core.history in
+    let n = length x.state.processes in
+    first-least n (free_of core) (rising-filter (λ p. not (is_out p core.out)) 1 n (ready_of core) (ready-rise x))
+
+pub returns-in-Some : goal.returns-in-Some
+returns-in-Some c =
+    let core = c.args.self.now in
+    let free = free_of core in
+    let last : c.last_process.result ≡ last_process core.history = c.last_process.ensures in
+    sym (ap (λ n. first_above n free (slice_get free 0)) (sym last) ∙ first-some c.last_process.result c.in-Some.p free (slice_get free 0) (sym c.in-Some.ensures))
+
+pub returns-in-None : goal.returns-in-None
+returns-in-None c =
+    let core = c.args.self.now in
+    let free = free_of core in
+    let last : c.last_process.result ≡ last_process core.history = c.last_process.ensures in
+    c.free_above-in-None.ensures ∙ least core
+    ∙ sym (ap (λ n. first_above n free (slice_get free 0)) (sym last) ∙ first-other c.last_process.result free (slice_get free 0) (sym c.in-None.ensures))

@@ -1,0 +1,351 @@
+use Rattle.std.proofs.Common.{◌≡◌, ◌≢◌, ◌<◌, ◌≤◌, ℕ, List, ◌++◌, ◌∷◌, [], ◌∙◌, inl, inr, sym, ap, subst, rules, false, true, Option, None, Some, length, arith, refl, ◌||◌, is_some}
+use Rattle.std.proofs.lemmas.List.{length-map}
+use Rattle.hep_machine.specs.declared.event.Entry.{Entry}
+use Rattle.hep_machine.specs.Words.{is_number_among, living, run, schedule_of, state_after, progress_after, progress_after_step, State, is_waiting, step}
+use Rattle.hep_blocked.specs.Waiting.{waiting_at}
+use Rattle.hep_blocked.specs.Listing.{AreListed, IsBlocked, IsReadyNoMore, is_noted}
+use Rattle.hep_purging.specs.Purged.{have_cell}
+use Rattle.hep_blocked.specs.Numbers.{Numbers}
+use Rattle.hep_state.specs.declared.turn.Turned.{Turned}
+use Rattle.hep_state.specs.declared.turn.Turned.TheVariants.{Stepped, Purged, Waits}
+use Rattle.hep_state.specs.Words.{HasTurned, IsMachineAfter, snapshot_of, stack_of, IsUnturned}
+use Rattle.hep_state.proofs.Histories.{after-history, still-after, turned-at, unturned-at}
+use Rattle.hep_core.specs.Invariant.{CoreInvariant, core_value}
+use Rattle.hep_views.specs.Seen.{machine_view}
+use Rattle.hep_core.specs.Tickets.{is_out}
+use Rattle.hep_core.specs.Value.{CoreValue, IsStop, IsTurn, stop_after}
+use Rattle.hep_core.specs.declared.stop.ChoiceStop.{ChoiceStop}
+use Rattle.hep_core.specs.Waking.{AreInArena, awake_after, is_woken_after}
+use Rattle.hep_core.specs.declared.stop.ChoiceStop.TheVariants.{ArenaFull, Halted}
+use Rattle.hep_core.proofs.Histories.{state-is}
+use Rattle.hep_core.proofs.Kept.{AreSeen, halted-is, halted-next, named-left, next, some-of, state-next, stepped-kept, steps-on, unturned-kept, unturned-view, view-is, view-next, waited-kept, IsNoWait, along, along-emptying, as-many, blocked-now, emptied-to-lists, in-arena, made-step, no-memory, waits-unstepped, within}
+use Rattle.hep_core.proofs.scheduler.Core.turn.Goals.{After-len, After-lives, After-turn, After-wait, After-wake_after}
+use Rattle.hep_core.proofs.scheduler.Core.turn.Goals as goal
+use Rattle.hep_source.proofs.Tests.{none-from-not}
+
+-- ---- what is known once a turn is asked for
+
+going-on : (c : After-lives) → (c.self.inside.stop ≡ None) × IsStop c.self.inside.image c.self.inside.cells c.self.inside.limit c.self.inside.history.items None
+going-on c =
+    let i = c.self.inside in
+    let none : i.stop ≡ None = search rules in
+    (none, subst (IsStop i.image i.cells i.limit i.history.items) none c.self.invariant.named)
+
+is-alive : (c : After-len) → living (state_after c.self.inside.image c.self.inside.history.items) c.args.p ≢ None
+is-alive c =
+    let i = c.self.inside in
+    let lives : c.lives.result ≡ true = search rules in
+    some-of (living (state_after i.image i.history.items) c.args.p) (ap (λ (s : State). is_some (living s c.args.p)) (state-is i.image i.history.items) ∙ sym (c.lives.ensures.lives i.image i.cells (schedule_of i.history.items) c.self.invariant.after.after) ∙ lives)
+
+is-asked : (c : After-turn) → length c.self.inside.history.items < c.self.inside.limit
+is-asked c = omega (arith, c.len.ensures)
+
+are-seen : (c : After-turn) → AreSeen c.self.inside.image c.self.inside.cells
+are-seen c choices n = c.views_are_of_states.ensures c.self.inside.image c.self.inside.cells choices n c.is_runnable.ensures.accepted c.is_runnable.ensures.main
+
+-- p isn't out
+at-home : (c : After-lives) → is_out c.args.p c.self.inside.out.items ≡ false
+at-home c = subst (λ (v : CoreValue). is_out c.args.p v.out ≡ false) (sym c.self.view_is) c.requires
+
+-- ---- no turn is asked for
+
+pub returns-then-not-lives : goal.returns-then-not-lives
+returns-then-not-lives c =
+    let i = c.self.inside in
+    let h = i.history.items in
+    let going = going-on (goal.at.returns-then-not-lives c).After-lives in
+    let dead : c.lives.result ≡ false = search rules in
+    let ended = none-from-not (living (state_after i.image h) c.args.p) (ap (λ (s : State). is_some (living s c.args.p)) (state-is i.image h) ∙ sym (c.lives.ensures.lives i.image i.cells (schedule_of h) c.self.invariant.after.after) ∙ dead) in
+    rw (← c.self.view_is) (going, ended, refl)
+
+pub returns-then-self-len : goal.returns-then-self-len
+returns-then-self-len c =
+    let i = c.self.inside in
+    let h = i.history.items in
+    let going = going-on (goal.at.returns-then-self-len c).After-lives in
+    let alive = is-alive (goal.at.returns-then-self-len c).After-len in
+    let full : length h ≡ i.limit = omega (arith, c.len.ensures, c.if-self-len.true, c.self.invariant.legal.within) in
+    rw (← c.self.view_is) (inr (inl ((going, alive, at-home (goal.at.returns-then-self-len c).After-lives), full, refl, refl)))
+
+-- each activation was made by an entry of its own, and the history is a vector
+pub turn-requires : goal.turn-requires
+turn-requires c =
+    let i = c.self.inside in
+    let h = i.history.items in
+    let k = c.self.invariant in
+    let going = going-on (goal.at.turn-requires c).After-lives in
+    let lives : c.lives.result ≡ true = search rules in
+    record {
+      after = after-history i.image i.cells h i.machine k.after;
+      running = halted-is i.image i.cells h (snapshot_of i.machine) k.after.after ∙ going.1;
+      living = c.lives.ensures.levels lives;
+      countable = omega (arith, c.activations_are_few.ensures i.image i.cells (schedule_of h) (snapshot_of i.machine) k.after.after, k.single, i.history.ok.0, i.history.ok.1, i.history.small);
+      numbers = k.numbers;
+    }
+
+-- ---- a turn that wasn't taken
+
+-- the core keeps its invariant, whatever it has stopped
+unturned : (c : After-turn) → IsMachineAfter c.self.inside.image c.self.inside.cells (schedule_of c.self.inside.history.items) c.turn.new.self
+    → (stop : Option ChoiceStop) → IsStop c.self.inside.image c.self.inside.cells c.self.inside.limit c.self.inside.history.items stop
+    → CoreInvariant (record c.self.inside { history = c.turn.new.history; stop = stop; machine = c.turn.new.self; ready = c.turn.new.ready })
+unturned c after =
+    let i = c.self.inside in
+    let k = c.self.invariant in
+    unturned-kept i k c.turn.new.history c.turn.new.self c.turn.new.ready c.turn.ensures.entry.entries after c.turn.ensures.ready.ready c.turn.ensures.ready.numbers (omega (arith, k.waiting, c.turn.ensures.ready.grows)) i.waits refl
+
+-- what is seen of it is what was seen, but for the stop
+unturned-value : (c : After-turn) → IsMachineAfter c.self.inside.image c.self.inside.cells (schedule_of c.self.inside.history.items) c.turn.new.self
+    → (stop : Option ChoiceStop) → record (core_value c.self.inside) { history = c.turn.new.history.items; stop = stop; view = machine_view c.self.inside.image (snapshot_of c.turn.new.self) }
+    ≡ record (core_value c.self.inside) { stop = stop }
+unturned-value c after stop =
+    let view = unturned-view c.self.inside c.self.invariant c.turn.new.self after (are-seen c) in
+    λ j. record (core_value c.self.inside) { history = c.turn.ensures.entry.entries j; stop = stop; view = view j }
+
+pub invariant_of-self-in-Err-NoMemory : goal.invariant_of-self-in-Err-NoMemory
+invariant_of-self-in-Err-NoMemory c =
+    let i = c.self.inside in
+    let k = c.self.invariant in
+    unturned (goal.at.invariant_of-self-in-Err-NoMemory c).After-turn (still-after i.image i.cells i.history.items i.machine k.after c.turn.new.self c.in-Err-NoMemory.ensures.refused) i.stop k.named
+
+pub returns-in-Err-NoMemory : goal.returns-in-Err-NoMemory
+returns-in-Err-NoMemory c =
+    let at = goal.at.returns-in-Err-NoMemory c in
+    let i = c.self.inside in
+    let h = i.history.items in
+    let after = still-after i.image i.cells h i.machine c.self.invariant.after c.turn.new.self c.in-Err-NoMemory.ensures.refused in
+    let gapped = subst (λ e. IsUnturned e i.image i.cells (schedule_of h) c.args.p) c.in-Err-NoMemory.field-0-is (unturned-at i.image i.cells h i.machine c.self.invariant.after c.args.p c.in-Err-NoMemory.field-0 c.in-Err-NoMemory.ensures.unturned) in
+    rw (← c.self.view_is) ((going-on at.After-lives, is-alive at.After-len, at-home at.After-lives), is-asked at.After-turn, (λ gap. gapped gap.full), unturned-value at.After-turn after i.stop)
+
+pub invariant_of-self-in-Err-ArenaFull : goal.invariant_of-self-in-Err-ArenaFull
+invariant_of-self-in-Err-ArenaFull c =
+    let at = goal.at.invariant_of-self-in-Err-ArenaFull c in
+    let i = c.self.inside in
+    let h = i.history.items in
+    let k = c.self.invariant in
+    let gap = subst (λ e. IsUnturned e i.image i.cells (schedule_of h) c.args.p) c.in-Err-ArenaFull.field-0-is (unturned-at i.image i.cells h i.machine k.after c.args.p c.in-Err-ArenaFull.field-0 c.in-Err-ArenaFull.ensures.unturned) in
+    unturned at.After-turn (still-after i.image i.cells h i.machine k.after c.turn.new.self c.in-Err-ArenaFull.ensures.refused) (Some ArenaFull) ((going-on at.After-lives).1, (c.args.p, gap))
+
+pub returns-in-Err-ArenaFull : goal.returns-in-Err-ArenaFull
+returns-in-Err-ArenaFull c =
+    let at = goal.at.returns-in-Err-ArenaFull c in
+    let i = c.self.inside in
+    let h = i.history.items in
+    let after = still-after i.image i.cells h i.machine c.self.invariant.after c.turn.new.self c.in-Err-ArenaFull.ensures.refused in
+    let gap = subst (λ e. IsUnturned e i.image i.cells (schedule_of h) c.args.p) c.in-Err-ArenaFull.field-0-is (unturned-at i.image i.cells h i.machine c.self.invariant.after c.args.p c.in-Err-ArenaFull.field-0 c.in-Err-ArenaFull.ensures.unturned) in
+    rw (← c.self.view_is) (inr (inr ((going-on at.After-lives, is-alive at.After-len, at-home at.After-lives), is-asked at.After-turn, gap, refl, unturned-value at.After-turn after (Some ArenaFull))))
+
+-- ---- a turn that made a step
+
+-- what is known once it is noted
+turned-now : (c : After-wake_after) → HasTurned c.self.inside.image c.self.inside.cells (schedule_of c.self.inside.history.items) c.args.p c.in-Ok.turned c.turn.new.self
+turned-now c =
+    let i = c.self.inside in
+    turned-at i.image i.cells i.history.items i.machine c.self.invariant.after c.args.p c.in-Ok.turned c.turn.new.self c.in-Ok.ensures.turned
+
+no-wait : (c : After-wake_after) → IsNoWait c.in-Ok.turned
+no-wait c = c.in_default-turned.not-Waits
+
+stepped-now : (c : After-wake_after) → (step c.self.inside.image c.args.p (run c.self.inside.image (schedule_of c.self.inside.history.items)) ≢ None) × IsMachineAfter c.self.inside.image c.self.inside.cells (schedule_of c.self.inside.history.items ++ c.args.p ∷ []) c.turn.new.self
+stepped-now c =
+    let i = c.self.inside in
+    made-step i.image i.cells (schedule_of i.history.items) c.args.p c.in-Ok.turned c.turn.new.self (no-wait c) (turned-now c)
+
+entry-is : (c : After-wake_after) → c.note-in_default-turned.new.history.items ≡ c.self.inside.history.items ++ record { process = c.args.p; steps = 1 } ∷ []
+entry-is c = c.note-in_default-turned.ensures ∙ ap (λ (es : List Entry). es ++ record { process = c.args.p; steps = 1 } ∷ []) c.turn.ensures.entry.entries
+
+counted-before : (c : After-wake_after) → c.len-made.result ≡ length (run c.self.inside.image (schedule_of c.self.inside.history.items)).processes
+counted-before c =
+    let i = c.self.inside in
+    omega (arith, c.len-made.ensures, i.machine.processes.ok.0, as-many i.image i.cells (schedule_of i.history.items) i.machine c.self.invariant.after.after)
+
+counted-after : (c : After-wake_after) → length c.turn.new.self.processes.items ≡ length (run c.self.inside.image (schedule_of c.self.inside.history.items ++ c.args.p ∷ [])).processes
+counted-after c =
+    let i = c.self.inside in
+    as-many i.image i.cells (schedule_of i.history.items ++ c.args.p ∷ []) c.turn.new.self (stepped-now c).1.after
+
+noted-now : (c : After-wake_after) (q : ℕ) → is_number_among q c.note_ready.new.ready.ready
+    ≡ is_noted c.args.p (is_some (living (run c.self.inside.image (schedule_of c.self.inside.history.items ++ c.args.p ∷ [])) c.args.p)) c.len-made.result (length c.turn.new.self.processes.items) c.self.inside.ready.ready q
+noted-now c q =
+    let i = c.self.inside in
+    let p = c.args.p in
+    let lives = is_some (living (run i.image (schedule_of i.history.items ++ p ∷ [])) p) in
+    c.note_ready.ensures.ready i.image i.cells (schedule_of i.history.items ++ p ∷ []) (stepped-now c).1.after q ∙ ap (λ ns. is_noted p lives c.len-made.result (length c.turn.new.self.processes.items) ns q) c.turn.ensures.ready.ready
+
+-- the lists go along with what the turn came to
+lists-by : (c : After-wake_after) (turned : Turned) → IsNoWait turned → HasTurned c.self.inside.image c.self.inside.cells (schedule_of c.self.inside.history.items) c.args.p turned c.turn.new.self
+    → ((q : ℕ) → waiting_at c.wake_after.new.waits q ≡ awake_after turned c.turn.new.self.passing.ranges.items (waiting_at c.self.inside.waits q))
+    → ((q : ℕ) → is_number_among q c.wake_after.new.ready.ready ≡ (is_woken_after turned c.turn.new.self.passing.ranges.items c.self.inside.waits q || is_number_among q c.note_ready.new.ready.ready))
+    → AreListed c.self.inside.image c.self.inside.cells (schedule_of c.self.inside.history.items ++ c.args.p ∷ [])
+    (progress_after_step c.self.inside.image (progress_after c.self.inside.image c.self.inside.history.items) c.args.p (run c.self.inside.image (schedule_of c.self.inside.history.items ++ c.args.p ∷ []))) c.wake_after.new.waits c.wake_after.new.ready.ready
+lists-by c (Stepped changed) other done waits woken =
+    let i = c.self.inside in
+    let k = c.self.invariant in
+    let p = c.args.p in
+    let choices = schedule_of i.history.items in
+    let before = k.after.after in
+    c.lists_go_along_with_steps.ensures i.image i.cells choices (progress_after i.image i.history.items) i.waits c.wake_after.new.waits i.ready.ready c.wake_after.new.ready.ready p changed before.layout
+    k.listed done.0 before.laid (done.2.told before.layout before.laid)
+    (along i.image choices p changed i.waits c.wake_after.new.waits i.ready.ready c.note_ready.new.ready.ready c.wake_after.new.ready.ready c.len-made.result (length c.turn.new.self.processes.items) (counted-before c) (counted-after c) waits (noted-now c) woken)
+lists-by c Purged other done waits woken =
+    let i = c.self.inside in
+    let k = c.self.invariant in
+    let p = c.args.p in
+    let choices = schedule_of i.history.items in
+    let ranges = c.turn.new.self.passing.ranges.items in
+    let before = k.after.after in
+    c.lists_go_along_with_purges.ensures i.image i.cells choices (progress_after i.image i.history.items) i.waits c.wake_after.new.waits i.ready.ready c.wake_after.new.ready.ready p (have_cell ranges) before.layout
+    k.listed done.0 before.laid (emptied-to-lists i.image i.cells choices p before.layout ranges before.laid done.2)
+    (along-emptying i.image choices p (have_cell ranges) i.waits c.wake_after.new.waits i.ready.ready c.note_ready.new.ready.ready c.wake_after.new.ready.ready c.len-made.result (length c.turn.new.self.processes.items) (counted-before c) (counted-after c) waits (noted-now c) woken)
+lists-by c (Waits want) other done waits woken = absurd (other want refl)
+
+lists-now : (c : After-wake_after) → AreListed c.self.inside.image c.self.inside.cells (schedule_of c.self.inside.history.items ++ c.args.p ∷ [])
+    (progress_after_step c.self.inside.image (progress_after c.self.inside.image c.self.inside.history.items) c.args.p (run c.self.inside.image (schedule_of c.self.inside.history.items ++ c.args.p ∷ []))) c.wake_after.new.waits c.wake_after.new.ready.ready
+lists-now c =
+    let same = c.deref.ensures.value in
+    lists-by c c.in-Ok.turned (no-wait c) (turned-now c) (subst (λ rs. (q : ℕ) → waiting_at c.wake_after.new.waits q ≡ awake_after c.in-Ok.turned rs (waiting_at c.self.inside.waits q)) same c.wake_after.ensures.waits)
+    (subst (λ rs. (q : ℕ) → is_number_among q c.wake_after.new.ready.ready ≡ (is_woken_after c.in-Ok.turned rs c.self.inside.waits q || is_number_among q c.note_ready.new.ready.ready)) same c.wake_after.ensures.ready)
+
+-- the state that the step leads to, and that the machine has stopped just where it has
+after-step : (c : After-wake_after) → State
+after-step c = next c.self.inside.image c.self.inside.cells c.self.inside.history.items c.args.p c.note-in_default-turned.new.history.items (entry-is c) (stepped-now c).0
+
+halted-after : (c : After-wake_after) → c.turn.new.self.halted ≡ (after-step c).halted
+unfolding after-step
+halted-after c =
+    let i = c.self.inside in
+    halted-next i.image i.cells i.history.items c.args.p c.note-in_default-turned.new.history.items (entry-is c) (stepped-now c).0 c.turn.new.self (stepped-now c).1
+
+halted-history : (c : After-wake_after) → (state_after c.self.inside.image c.note-in_default-turned.new.history.items).halted ≡ c.turn.new.self.halted
+unfolding after-step
+halted-history c =
+    let i = c.self.inside in
+    ap (λ (s : State). s.halted) (state-next i.image i.cells i.history.items c.args.p c.note-in_default-turned.new.history.items (entry-is c) (stepped-now c).0) ∙ sym (halted-after c)
+
+-- the core keeps its invariant, whatever it has stopped
+step-kept : (c : After-wake_after) → length c.self.inside.history.items < c.self.inside.limit → is_out c.args.p c.self.inside.out.items ≡ false
+    → (stop : Option ChoiceStop) → IsStop c.self.inside.image c.self.inside.cells c.self.inside.limit c.note-in_default-turned.new.history.items stop
+    → CoreInvariant (record c.self.inside { history = c.note-in_default-turned.new.history; stop = stop; machine = c.turn.new.self; waits = c.wake_after.new.waits; ready = c.wake_after.new.ready })
+step-kept c lt home =
+    let done = stepped-now c in
+    stepped-kept c.self.inside c.self.invariant c.args.p lt home c.note-in_default-turned.new.history (entry-is c) c.turn.new.self done.0 done.1 c.wake_after.new.waits c.wake_after.new.ready (lists-now c)
+    (omega (arith, c.turn.ensures.ready.numbers, c.note_ready.ensures.room, c.wake_after.ensures.room))
+    (omega (arith, c.self.invariant.waiting, c.wake_after.ensures.size, c.turn.ensures.ready.grows, c.note_ready.ensures.room, c.wake_after.ensures.room))
+
+-- the turn is one that made a step
+step-made : (c : After-wake_after) → AreSeen c.self.inside.image c.self.inside.cells → (stop : Option ChoiceStop) → stop ≡ stop_after (after-step c)
+    → IsTurn (core_value c.self.inside) c.args.p 1 false (record (core_value c.self.inside) {
+      history = c.note-in_default-turned.new.history.items;
+      stop = stop;
+      view = machine_view c.self.inside.image (snapshot_of c.turn.new.self);
+    })
+unfolding after-step
+step-made c seen stop stops =
+    let i = c.self.inside in
+    let h = i.history.items in
+    let is = entry-is c in
+    let done = stepped-now c in
+    let view = view-next i.image i.cells h c.args.p c.note-in_default-turned.new.history.items is done.0 c.turn.new.self done.1 seen in
+    (after-step c, steps-on i.image i.cells h c.args.p c.note-in_default-turned.new.history.items is done.0, λ j. record (core_value i) { history = is j; stop = stops j; view = view j })
+
+pub invariant_of-self-then-self : goal.invariant_of-self-then-self
+invariant_of-self-then-self c =
+    let at = goal.at.invariant_of-self-then-self c in
+    step-kept at.After-wake_after (is-asked at.After-turn) (at-home at.After-lives) (Some Halted) (halted-history at.After-wake_after ∙ c.if-self.true)
+
+pub invariant_of-self-else-self : goal.invariant_of-self-else-self
+invariant_of-self-else-self c =
+    let at = goal.at.invariant_of-self-else-self c in
+    let i = c.self.inside in
+    step-kept at.After-wake_after (is-asked at.After-turn) (at-home at.After-lives) i.stop
+    (subst (IsStop i.image i.cells i.limit c.note-in_default-turned.new.history.items) (sym (going-on at.After-lives).0) (halted-history at.After-wake_after ∙ c.if-self.false))
+
+pub returns-then-self : goal.returns-then-self
+returns-then-self c =
+    let at = goal.at.returns-then-self c in
+    let halted : (after-step at.After-wake_after).halted ≡ true = sym (halted-after at.After-wake_after) ∙ c.if-self.true in
+    rw (← c.self.view_is) (going-on at.After-lives, at-home at.After-lives, is-asked at.After-turn, step-made at.After-wake_after (are-seen at.After-turn) (Some Halted) (rw halted refl))
+
+pub returns-else-self : goal.returns-else-self
+returns-else-self c =
+    let at = goal.at.returns-else-self c in
+    let going = going-on at.After-lives in
+    let halted : (after-step at.After-wake_after).halted ≡ false = sym (halted-after at.After-wake_after) ∙ c.if-self.false in
+    rw (← c.self.view_is) (going, at-home at.After-lives, is-asked at.After-turn, step-made at.After-wake_after (are-seen at.After-turn) c.self.inside.stop (going.0 ∙ rw halted refl))
+
+pub wake_after-requires-clause-few : goal.wake_after-requires-clause-few
+wake_after-requires-clause-few c =
+    let i = c.self.inside in
+    subst (AreInArena c.in-Ok.turned) (sym c.deref.ensures.value) (
+    in-arena i.image i.cells (schedule_of i.history.items) c.args.p c.in-Ok.turned c.turn.new.self (turned-at i.image i.cells i.history.items i.machine c.self.invariant.after c.args.p c.in-Ok.turned c.turn.new.self c.in-Ok.ensures.turned))
+
+-- ---- a turn that found its process waiting
+
+waited-now : (c : After-wait) → HasTurned c.self.inside.image c.self.inside.cells (schedule_of c.self.inside.history.items) c.args.p (Waits c.in-Waits.want) c.turn.new.self
+waited-now c =
+    let i = c.self.inside in
+    subst (λ turned. HasTurned i.image i.cells (schedule_of i.history.items) c.args.p turned c.turn.new.self) c.in-Waits.is (turned-at i.image i.cells i.history.items i.machine c.self.invariant.after c.args.p c.in-Ok.turned c.turn.new.self c.in-Ok.ensures.turned)
+
+is-blocked : (c : After-wait) → IsBlocked c.self.inside.image c.self.inside.cells (schedule_of c.self.inside.history.items) c.args.p c.in-Waits.want
+is-blocked c =
+    let i = c.self.inside in
+    let choices = schedule_of i.history.items in
+    let h = (waited-now c).0 in
+    blocked-now i.image i.cells choices c.args.p c.in-Waits.want (snapshot_of c.turn.new.self) h (c.waiting_processes_need_it.ensures i.image c.args.p (run i.image choices) h.wanted h.waits)
+
+pub invariant_of-self-in_err-wait-in-Waits : goal.invariant_of-self-in_err-wait-in-Waits
+invariant_of-self-in_err-wait-in-Waits c =
+    let i = c.self.inside in
+    let k = c.self.invariant in
+    let done = waited-now (goal.at.invariant_of-self-in_err-wait-in-Waits c).After-wait in
+    let same = c.in_err-wait-in-Waits.ensures.refused in
+    unturned-kept i k c.turn.new.history c.turn.new.self c.wait.new.ready c.turn.ensures.entry.entries done.1 (ap (λ (r : Numbers). r.ready) same.1 ∙ c.turn.ensures.ready.ready) (omega (arith, c.turn.ensures.ready.numbers, c.wait.ensures.room))
+    (omega (arith, k.waiting, c.turn.ensures.ready.grows, c.wait.ensures.room)) c.wait.new.waits same.0 i.stop k.named
+
+pub returns-in_err-wait-in-Waits : goal.returns-in_err-wait-in-Waits
+returns-in_err-wait-in-Waits c =
+    let i = c.self.inside in
+    let done = waited-now (goal.at.returns-in_err-wait-in-Waits c).After-wait in
+    let at = goal.at.returns-in_err-wait-in-Waits c in
+    let unstepped = waits-unstepped i.image c.args.p (run i.image (schedule_of i.history.items)) done.0.wanted done.0.waits in
+    rw (← c.self.view_is) (
+    no-memory (core_value i) c.args.p c.from_residual.result (record (core_value i) { history = c.turn.new.history.items; view = machine_view i.image (snapshot_of c.turn.new.self) }) c.from_residual.ensures.1
+    ((going-on at.After-lives, is-alive at.After-len, at-home at.After-lives), is-asked at.After-turn, (λ gap. gap.stepped unstepped), unturned-value at.After-turn done.1 i.stop))
+
+pub invariant_of-self-in-Waits : goal.invariant_of-self-in-Waits
+invariant_of-self-in-Waits c =
+    let at = (goal.at.invariant_of-self-in-Waits c).After-wait in
+    let i = c.self.inside in
+    let k = c.self.invariant in
+    let h = i.history.items in
+    let p = c.args.p in
+    let done = waited-now at in
+    let blocked = is-blocked at in
+    let is : c.note.new.history.items ≡ h ++ record { process = p; steps = 0 } ∷ [] = c.note.ensures ∙ ap (λ (es : List Entry). es ++ record { process = p; steps = 0 } ∷ []) c.turn.ensures.entry.entries in
+    let lt = is-asked (goal.at.invariant_of-self-in-Waits c).After-turn in
+    let going = going-on (goal.at.invariant_of-self-in-Waits c).After-lives in
+    let listed = c.waiting_processes_are_listed.ensures i.image i.cells (schedule_of h) (progress_after i.image h) i.waits c.wait.new.waits i.ready.ready c.wait.new.ready.ready p c.in-Waits.want k.listed blocked
+    c.in_ok-wait-in-Waits.ensures.waits (subst (λ ns. IsReadyNoMore p ns c.wait.new.ready.ready) c.turn.ensures.ready.ready c.in_ok-wait-in-Waits.ensures.ready) in
+    let lives : c.lives.result ≡ true = search rules in
+    let there = c.lives.ensures.levels lives in
+    let many : length c.turn.new.self.processes.items ≡ length i.machine.processes.items = as-many i.image i.cells (schedule_of h) c.turn.new.self done.1.after ∙ sym (as-many i.image i.cells (schedule_of h) i.machine k.after.after) in
+    let numbered : p ≤ length c.turn.new.self.processes.items = omega (arith, within (snapshot_of i.machine) p there, length-map i.machine.processes.items stack_of, many) in
+    let numbers : length c.turn.new.self.processes.items ≤ c.wait.new.ready.room = omega (arith, c.turn.ensures.ready.numbers, c.wait.ensures.room) in
+    let room : length c.wait.new.waits ≤ c.wait.new.ready.room = omega (arith, k.waiting, c.turn.ensures.ready.grows, c.wait.ensures.room, c.in_ok-wait-in-Waits.ensures.size, numbered, numbers) in
+    waited-kept i k p lt c.note.new.history is c.turn.new.self done.1 blocked.1 c.wait.new.waits c.wait.new.ready listed numbers room i.stop
+    (subst (IsStop i.image i.cells i.limit c.note.new.history.items) (sym going.0) (named-left i k p lt c.note.new.history is c.turn.new.self done.1 blocked.1 c.wait.new.waits c.wait.new.ready listed numbers room going.1))
+
+pub returns-in_ok-wait-in-Waits : goal.returns-in_ok-wait-in-Waits
+returns-in_ok-wait-in-Waits c =
+    let at = (goal.at.returns-in_ok-wait-in-Waits c).After-wait in
+    let i = c.self.inside in
+    let h = i.history.items in
+    let p = c.args.p in
+    let done = waited-now at in
+    let is : c.note.new.history.items ≡ h ++ record { process = p; steps = 0 } ∷ [] = c.note.ensures ∙ ap (λ (es : List Entry). es ++ record { process = p; steps = 0 } ∷ []) c.turn.ensures.entry.entries in
+    let lt = is-asked (goal.at.returns-in_ok-wait-in-Waits c).After-turn in
+    let going = going-on (goal.at.returns-in_ok-wait-in-Waits c).After-lives in
+    let stop : i.stop ≡ stop_after (state_after i.image h) = going.0 ∙ rw going.1 refl in
+    let seen = are-seen (goal.at.returns-in_ok-wait-in-Waits c).After-turn in
+    let view = view-is i.image i.cells h (snapshot_of c.turn.new.self) done.1.after seen in
+    rw (← c.self.view_is) (going, at-home (goal.at.returns-in_ok-wait-in-Waits c).After-lives, lt, (ap (λ (s : State). is_waiting i.image s p) (state-is i.image h) ∙ (is-blocked at).1, λ j. record (core_value i) { history = is j; stop = stop j; view = view j }))

@@ -1,0 +1,39 @@
+-- Choices of one process in a row, each of which only moves it: docs/MACHINE.md, "Histories" and "Which process comes next".
+use Rattle.std.specs.Prelude.{◌≡◌, ◌≢◌, ◌⊎◌, ℕ, zero, suc, false, List, [], ◌∷◌, ◌++◌, length, Ok, None}
+use Rattle.hep_machine.specs.declared.event.Entry.{Entry}
+use Rattle.hep_machine.specs.Words.{living, schedule_of}
+use Rattle.hep_state.specs.Words.{IsAfter, Snapshot}
+use Rattle.hep_going.specs.Gone.{HasNoMoveAhead}
+use Rattle.hep_core.specs.declared.stop.Turn.{Turn}
+use Rattle.hep_core.specs.declared.stop.Turns.{Turns}
+use Rattle.hep_core.specs.Value.{CoreValue, IsChoice, ready_of, state_of}
+
+-- p was chosen and made a step, after which the core isn't at a stop, and the same processes are ready
+pub record IsPlainChoice (old : CoreValue) (p : ℕ) (new : CoreValue) : Type 0 where
+  pub chosen : IsChoice old p (Ok (record { steps = 1; blocked = false })) new
+  pub going : new.stop ≡ None
+  pub ready : ready_of new ≡ ready_of old
+
+-- p was chosen so many times, one after the other
+pub data AreChoices (p : ℕ) : CoreValue → ℕ → CoreValue → Type 0 where
+  begun : (core : CoreValue) → AreChoices p core 0 core
+  again : (old : CoreValue) (n : ℕ) (core new : CoreValue) → AreChoices p old n core → IsPlainChoice core p new → AreChoices p old (suc n) new
+
+-- p was chosen once, and made a step or was found waiting
+abbrev pub IsTurnOnce : CoreValue → ℕ → Turns → CoreValue → Type 0
+IsTurnOnce old p turns new = (turns.made ≡ 1) × ((turn : Turn) × (turn.blocked ≡ turns.blocked) × IsChoice old p (Ok turn) new)
+
+-- p was chosen so often, and only moved; or once
+abbrev pub AreTurns : CoreValue → ℕ → Turns → CoreValue → Type 0
+AreTurns old p turns new = ((turns.blocked ≡ false) × AreChoices p old turns.made new) ⊎ IsTurnOnce old p turns new
+
+-- the core is at a stop, or p doesn't live, or the history is full, or no plain operation stands ahead of p that moves it
+abbrev pub IsAtRest : CoreValue → ℕ → Type 0
+IsAtRest core p =
+    (core.stop ≢ None) ⊎ (living (state_of core) p ≡ None) ⊎ (length core.history ≡ core.limit)
+    ⊎ ((m : Snapshot) × IsAfter core.program core.cells (schedule_of core.history) m × HasNoMoveAhead core.program p m)
+
+-- so many entries of p, each of one step, behind a history
+abbrev pub entries_along : List Entry → ℕ → ℕ → List Entry
+entries_along history p zero = history
+entries_along history p (suc n) = entries_along history p n ++ record { process = p; steps = 1 } ∷ []

@@ -1,0 +1,40 @@
+-- What a core keeps, and what is seen of it: docs/ARCHITECTURE.md, "Forms".
+use Rattle.std.specs.Prelude.{◌≡◌, ◌≢◌, ◌≤◌, ℕ, true, List, None, length}
+use Rattle.hep_machine.specs.declared.event.Entry.{Entry}
+use Rattle.hep_machine.specs.Words.{IsLegal, Units, living, progress_after, schedule_of, state_after}
+use Rattle.hep_blocked.specs.Listing.{AreListed}
+use Rattle.hep_state.specs.Words.{IsMachineAfter, snapshot_of}
+use Rattle.hep_views.specs.Seen.{machine_view}
+use Rattle.hep_core.specs.Tickets.{is_out}
+use Rattle.hep_core.specs.Value.{CoreValue, IsStop}
+use Rattle.hep_core.specs.declared.scheduler.Core.TheInside.{Inside}
+use Rattle.hep_core.specs.declared.ticket.TicketId.{TicketId}
+
+abbrev pub core_value : Inside → CoreValue
+core_value c =
+    record {
+      program = c.image;
+      cells = c.cells;
+      limit = c.limit;
+      history = c.history.items;
+      stop = c.stop;
+      view = machine_view c.image (snapshot_of c.machine);
+      out = c.out.items;
+      given = c.given;
+    }
+
+-- each process that is out lives after the history
+abbrev pub AreLiving : Units → List Entry → List TicketId → Type 0
+AreLiving program history out = (p : ℕ) → is_out p out ≡ true → living (state_after program history) p ≢ None
+
+-- the machine keeps the state after the history, which is legal, and each entry of which has one step at most; those that wait are the
+-- listed ones and the others that live are ready, and each process that was made has room to be; those that are out live
+pub record CoreInvariant (c : Inside) : Type 0 where
+  pub after : IsMachineAfter c.image c.cells (schedule_of c.history.items) c.machine
+  pub listed : AreListed c.image c.cells (schedule_of c.history.items) (progress_after c.image c.history.items) c.waits c.ready.ready
+  pub numbers : length c.machine.processes.items ≤ c.ready.room
+  pub waiting : length c.waits ≤ c.ready.room
+  pub legal : IsLegal c.image c.cells c.limit c.history.items
+  pub single : length (schedule_of c.history.items) ≤ length c.history.items
+  pub named : IsStop c.image c.cells c.limit c.history.items c.stop
+  pub living : AreLiving c.image c.history.items c.out.items

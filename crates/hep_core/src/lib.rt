@@ -1,0 +1,16 @@
+//! The core: the run of an image by single steps, choice by choice, with its history. Several workers may share it: a worker checks a process
+//! out, makes its segment without the core, and commits it. Meanwhile others check out, commit and choose other processes.
+#![tactic(auto)]
+
+pub mod fault;
+mod lists;
+pub mod scheduler;
+pub mod stop;
+pub mod ticket;
+
+pub use fault::{ChooseFault, CommitFault, NewFault};
+pub use hep_machine::{Entry, Fault, Kind};
+pub use hep_views::Listed;
+pub use scheduler::Core;
+pub use stop::{ChoiceStop, Turn, Turns, Verdict};
+pub use ticket::{Segment, Ticket, TicketId, compute};

@@ -1,0 +1,654 @@
+//! The core: a run of an image, one choice at a time, with its history.
+ghost use Rattle.std.specs.Prelude.{◌≡◌, ◌≢◌, ◌≤◌, ◌<◌, ◌++◌, ◌∷◌, [], None, Some, IsSome, IfNone, IfSome, IfOk, OnErr, OnOk, IfErr, Err, false, true};
+ghost use Rattle.std.specs.Prelude.{◌+◌, is_some, nat_lt, vec_len, vec_capacity};
+ghost use Rattle.hep_machine.specs.Words.{IsLegal, common_cells, is_held, opening_layout, used_cells, living, first_above, last_process};
+ghost use Rattle.hep_machine.specs.Words.{view_of};
+ghost use Rattle.hep_core.specs.Value.{state_of, opening_of, IsNewFault, IsChoice, HasNoStop, IsStop, IsStoppedWhereFull};
+ghost use Rattle.hep_core.specs.Commits.{IsCancelled, IsCheckedOut, IsCommitted, IsGivenTo, core_after_return, most_tickets};
+ghost use Rattle.hep_core.specs.Invariant.{AreLiving};
+ghost use Rattle.hep_core.specs.Tickets.{has_ticket, is_out};
+ghost use Rattle.hep_core.specs.Going.{AreChoices, AreTurns, IsAtRest, IsTurnOnce, entries_along};
+ghost use Rattle.hep_core.specs.Value.{IsAtPosition, free_of, next_listed_of, verdict_of, next_ready_of, ready_of};
+
+use crate::fault::{ChooseFault, CommitFault, NewFault};
+use crate::lists::{note_ready, wait, wake_after};
+use crate::stop::{ChoiceStop, Turn, Turns, Verdict};
+use crate::ticket::{Segment, Ticket, TicketId, come_back};
+use hep_blocked::laws::{
+    lists_are_those_of_definitions, lists_go_along_with_purges, lists_go_along_with_steps,
+    openings_list_nobody, waiting_processes_are_listed,
+};
+use hep_blocked::need_laws::waiting_processes_need_it;
+use hep_blocked::{Ready, Waits};
+use hep_going::go_on;
+use hep_image::Image;
+use hep_layout::laws::layouts_have_what_is_held;
+use hep_machine::{Entry, Fault, Record, Slot};
+use hep_state::laws::activations_are_few;
+use hep_state::{Machine, TurnFault, Turned, fits};
+use hep_views::Listed;
+use hep_views::finding::listed;
+use hep_views::laws::views_are_of_states;
+use std::alloc::{AllocError, Global};
+use std::marker::Model;
+use std::mem::replace;
+
+// The main program's process.
+const FIRST_PROCESS: u64 = 1;
+
+/// A run of an image. Contracts see the program, the cells of the arena, the longest history, the
+/// history, the stop, what is seen of the state, the tickets that are out, and how many were given.
+///
+/// A choice, a check-out, a commit and a cancellation each cost a step for each process that is out, besides.
+pub struct Core {
+    alloc: Global,
+    image: Image,
+    cells: u32,
+    limit: u64,
+    history: Vec<Entry>,
+    stop: Option<ChoiceStop>,
+    machine: Machine,
+    // The processes that were found waiting and wait since, and what they wait for.
+    waits: Waits,
+    // The others that live.
+    ready: Ready,
+    // The tickets that are out, and how many were given.
+    out: Vec<TicketId>,
+    given: u64,
+}
+
+// Written out, so that a caller's proof has one call of it at each exit.
+impl Drop for Core {
+    fn drop(self) {
+        let Core {
+            alloc,
+            image,
+            cells,
+            limit,
+            history,
+            stop,
+            machine,
+            waits,
+            ready,
+            out,
+            given,
+        } = self;
+    }
+}
+
+impl Model for Core {
+    ghost use Rattle.hep_core.specs.Value.{CoreValue};
+    ghost use Rattle.hep_source.specs.contracts.expression.Expr as expression;
+    ghost use Rattle.std.specs.Coded.{codes};
+
+    ghost Value = { CoreValue };
+
+    ghost coded = { Prim.hlevel (codes, expression.the_row.coded) };
+
+    ghost use Rattle.hep_core.specs.Invariant.{core_value, CoreInvariant};
+
+    ghost view = { core_value };
+
+    ghost invariant = { CoreInvariant };
+}
+
+impl Core {
+    /// A core at the program's opening: an arena of so many cells, 1 to 16,777,216, and so many entries of the
+    /// history at most.
+    ///
+    /// # Errors
+    ///
+    /// `ArenaFull` where COMMON and the main program's frame don't fit the arena, which is found before memory is
+    /// asked for; `NoMemory`.
+    pub fn new(alloc: Global, image: Image, cells: u32, steps: u64) -> Result<Core, NewFault>
+        requires some { 1 ≤ cells }
+        requires few { cells ≤ 16777216 }
+        ensures fits { OnOk result (IsSome (opening_layout image cells)) }
+        ensures made { IfOk result (λ core. core ≡ opening_of image cells steps) }
+        ensures unmade { IfErr result (λ e. IsNewFault e image cells) }
+    {
+        image.is_runnable();
+        views_are_of_states();
+        openings_list_nobody();
+        if !fits(&image, cells) {
+            return Err(NewFault::ArenaFull);
+        }
+        let machine = Machine::open(alloc, &image, cells)?;
+        let mut ready = Ready::new(alloc);
+        ready.reserve(1)?;
+        ready.add(FIRST_PROCESS);
+        Ok(Core {
+            alloc,
+            image,
+            cells,
+            limit: steps,
+            history: Vec::new(alloc),
+            stop: None,
+            machine,
+            waits: Waits::new(alloc),
+            ready,
+            out: Vec::new(alloc),
+            given: 0,
+        })
+    }
+
+    /// A turn of process p: one step, or none where it waits, and one entry of the history.
+    ///
+    /// # Errors
+    ///
+    /// In this order: `Stopped` at a stop that was set before; `NoSuchProcess` where p was never made or has ended; `IsOut`; `Stopped`
+    /// where the history has as many entries as it may have, or else the step makes an activation for whose frame there is no gap, each of
+    /// which sets the stop and adds no entry; `NoMemory`, which is asked for only where there is a gap.
+    pub fn choose(&mut self, p: u64) -> Result<Turn, ChooseFault>
+        ensures { IsChoice self.old p result self.new }
+    {
+        if let Some(stop) = self.stop() {
+            return Err(ChooseFault::Stopped(stop));
+        }
+        if self.is_out(p) {
+            return Err(ChooseFault::IsOut);
+        }
+        match self.move_on(p, 1) {
+            Ok(0) => self.turn(p),
+            Ok(_) => Ok(Turn {
+                steps: 1,
+                blocked: false,
+            }),
+            // A turn asks for memory only behind what comes first.
+            Err(_) => self.turn(p),
+        }
+    }
+
+    /// Chooses process p again and again, up to so many times, which are 1 at least: as long as each choice makes a step that only moves
+    /// the process, and else once. A step only moves its process if it fills and empties no cell, prints nothing, is no fault, and begins and ends no
+    /// activation; such steps cost less together than one by one.
+    ///
+    /// # Errors
+    ///
+    /// Those of `choose`, where not even one choice was made.
+    #[inline(always)]
+    pub fn go_on(&mut self, p: u64, most: u64) -> Result<Turns, ChooseFault>
+        requires { 1 ≤ most }
+        ensures made { IfOk result (λ turns. AreTurns self.old p turns self.new) }
+        ensures some { IfOk result (λ turns. 1 ≤ turns.made) }
+        ensures few { IfOk result (λ turns. turns.made ≤ most) }
+        ensures refused { IfErr result (λ fault. IsChoice self.old p (Err fault) self.new) }
+    {
+        if let Some(stop) = self.stop() {
+            return Err(ChooseFault::Stopped(stop));
+        }
+        if self.is_out(p) {
+            return Err(ChooseFault::IsOut);
+        }
+        match self.move_on(p, most) {
+            Ok(0) => self.turn_once(p),
+            Ok(made) => Ok(Turns {
+                made,
+                blocked: false,
+            }),
+            Err(_) => self.turn_once(p),
+        }
+    }
+
+    // A turn of process p, as what came of choosing it once.
+    fn turn_once(&mut self, p: u64) -> Result<Turns, ChooseFault>
+        requires { is_out p self.old.out ≡ false }
+        ensures made { IfOk result (λ turns. IsTurnOnce self.old p turns self.new) }
+        ensures refused { IfErr result (λ fault. IsChoice self.old p (Err fault) self.new) }
+    {
+        match self.turn(p) {
+            Ok(turn) => Ok(Turns {
+                made: 1,
+                blocked: turn.blocked,
+            }),
+            Err(fault) => Err(fault),
+        }
+    }
+
+    // Chooses process p up to so many times, as long as each choice makes a step that only moves the process, and says how often. Who waits
+    // and who is ready stays.
+    //
+    // It ends early only where the core is at a stop, p doesn't live, the history is full, or no plain operation stands ahead of p that
+    // moves it. It sets no stop. It fails only where memory was refused for so many entries; nothing has changed then.
+    fn move_on(&mut self, p: u64, most: u64) -> Result<u64, AllocError>
+        requires { is_out p self.old.out ≡ false }
+        ensures chosen { IfOk result (λ n. AreChoices p self.old n self.new) }
+        ensures few { IfOk result (λ n. n ≤ most) }
+        ensures all { IfOk result (λ n. n < most → IsAtRest self.new p) }
+        ensures refused { OnErr result (self.new ≡ self.old) }
+    {
+        if self.stop.is_some() {
+            return Ok(0);
+        }
+        if !self.machine.lives(p) {
+            return Ok(0);
+        }
+        self.image.is_runnable();
+        views_are_of_states();
+        lists_go_along_with_steps();
+        let most = most.min(self.limit - self.history.len() as u64);
+        self.history.reserve(most as usize)?;
+        let made = go_on(&mut self.machine, self.alloc, &self.image, p, most);
+        note_all(&mut self.history, p, made);
+        Ok(made)
+    }
+
+    // A turn of process p, as `choose` has it.
+    fn turn(&mut self, p: u64) -> Result<Turn, ChooseFault>
+        requires { is_out p self.old.out ≡ false }
+        ensures { IsChoice self.old p result self.new }
+    {
+        if let Some(stop) = self.stop {
+            return Err(ChooseFault::Stopped(stop));
+        }
+        if !self.machine.lives(p) {
+            return Err(ChooseFault::NoSuchProcess);
+        }
+        if self.limit <= self.history.len() as u64 {
+            self.stop = Some(ChoiceStop::StepLimit);
+            return Err(ChooseFault::Stopped(ChoiceStop::StepLimit));
+        }
+        self.image.is_runnable();
+        views_are_of_states();
+        activations_are_few();
+        waiting_processes_are_listed();
+        lists_go_along_with_steps();
+        lists_go_along_with_purges();
+        waiting_processes_need_it();
+        let made = self.machine.processes.len();
+        match self.machine.turn(
+            self.alloc,
+            &self.image,
+            p,
+            &mut self.history,
+            &mut self.ready,
+        ) {
+            Ok(turned) => match turned {
+                Turned::Waits(want) => {
+                    wait(&mut self.waits, &mut self.ready, p, want)?;
+                    note(&mut self.history, p, 0);
+                    Ok(Turn {
+                        steps: 0,
+                        blocked: true,
+                    })
+                }
+                _ => {
+                    note(&mut self.history, p, 1);
+                    note_ready(&mut self.ready, &self.machine, p, made);
+                    let emptied = &self.machine.passing.ranges;
+                    wake_after(&mut self.waits, &mut self.ready, turned, emptied);
+                    if self.machine.halted {
+                        self.stop = Some(ChoiceStop::Halted);
+                    }
+                    Ok(Turn {
+                        steps: 1,
+                        blocked: false,
+                    })
+                }
+            },
+            Err(TurnFault::NoMemory) => Err(ChooseFault::NoMemory),
+            Err(TurnFault::ArenaFull) => {
+                self.stop = Some(ChoiceStop::ArenaFull);
+                Err(ChooseFault::Stopped(ChoiceStop::ArenaFull))
+            }
+        }
+    }
+
+    // Process p is out.
+    fn is_out(&self, p: u64) -> bool
+        ensures { result ≡ is_out p self.now.out }
+    {
+        self.out.iter().any(|id| id.process == p)
+    }
+
+    // The ticket is the one that is out for its process.
+    fn has_ticket(&self, id: TicketId) -> bool
+        ensures ticket { result ≡ has_ticket id self.now.out }
+        ensures lives { result ≡ true → living (state_of self.now) id.process ≢ None }
+    {
+        self.out
+            .iter()
+            .any(|out| out.process == id.process && out.number == id.number)
+    }
+
+    /// A ticket for process p, which is out from now on, until its segment is committed or the ticket is cancelled. Its number is above
+    /// those of all that this core has given before.
+    ///
+    /// # Errors
+    ///
+    /// In this order: `Stopped` at a stop that was set before; `NoSuchProcess` where p was never made or has ended; `IsOut`;
+    /// `NoTicket` where 2^64 - 1 tickets were given; `Stopped` where the history has as many entries as it may have, which sets the stop;
+    /// `NoMemory`.
+    pub fn check_out(&mut self, p: u64) -> Result<Ticket, ChooseFault>
+        ensures { IsCheckedOut self.old p result self.new }
+    {
+        if let Some(stop) = self.stop() {
+            return Err(ChooseFault::Stopped(stop));
+        }
+        if !self.lives(p) {
+            return Err(ChooseFault::NoSuchProcess);
+        }
+        if self.is_out(p) {
+            return Err(ChooseFault::IsOut);
+        }
+        if self.given() == u64::MAX {
+            return Err(ChooseFault::NoTicket);
+        }
+        if self.stop_where_full() {
+            return Err(ChooseFault::Stopped(ChoiceStop::StepLimit));
+        }
+        Ok(self.give(p)?)
+    }
+
+    // How many tickets were given.
+    fn given(&self) -> u64
+        ensures { result ≡ self.now.given }
+    {
+        self.given
+    }
+
+    // The next ticket, for process p.
+    fn give(&mut self, p: u64) -> Result<Ticket, AllocError>
+        requires lives { living (state_of self.old) p ≢ None }
+        requires left { self.old.given < most_tickets }
+        ensures given { IfOk result (λ ticket. IsGivenTo self.old p ticket self.new) }
+        ensures refused { OnErr result (self.new ≡ self.old) }
+    {
+        let id = TicketId {
+            number: self.given + 1,
+            process: p,
+        };
+        self.out.push(id)?;
+        self.given += 1;
+        Ok(Ticket::new(id))
+    }
+
+    /// The turn of a segment: the next step of its process, or none where it waits, and one entry of the history. The process isn't out
+    /// any more.
+    ///
+    /// # Errors
+    ///
+    /// In this order: `Stopped` at a stop that was set before; `Stale` where the segment's ticket isn't the one that is out
+    /// for its process; `Stopped` and `NoMemory` as `choose` has them. The ticket is out as before then.
+    pub fn commit(&mut self, segment: &Segment) -> Result<Turn, CommitFault>
+        ensures { IsCommitted self.old segment.now result self.new }
+    {
+        if let Some(stop) = self.stop() {
+            return Err(CommitFault::Stopped(stop));
+        }
+        let id = segment.ticket();
+        if !self.has_ticket(id) {
+            return Err(CommitFault::Stale);
+        }
+        // The turn may end the process, and each one that is out lives.
+        let mut out = self.put_aside();
+        match self.choose(id.process) {
+            Ok(turn) => {
+                come_back(&mut out, id.process);
+                self.put_back(out);
+                Ok(turn)
+            }
+            Err(ChooseFault::Stopped(stop)) => {
+                self.put_back(out);
+                Err(CommitFault::Stopped(stop))
+            }
+            Err(ChooseFault::NoMemory) => {
+                self.put_back(out);
+                Err(CommitFault::NoMemory)
+            }
+            Err(_) => unreachable!(),
+        }
+    }
+
+    // The tickets that are out, which aren't any more.
+    fn put_aside(&mut self) -> Vec<TicketId>
+        ensures aside { self.new ≡ record self.old { out = [] } }
+        ensures tickets { result.items ≡ self.old.out }
+        ensures living { AreLiving self.old.program self.old.history self.old.out }
+    {
+        replace(&mut self.out, Vec::new(self.alloc))
+    }
+
+    // These tickets are out.
+    fn put_back(&mut self, out: Vec<TicketId>)
+        requires { AreLiving self.old.program self.old.history out.items }
+        ensures { self.new ≡ record self.old { out = out.items } }
+    {
+        self.out = out;
+    }
+
+    /// The process of a ticket isn't out any more, and nothing else has changed.
+    ///
+    /// # Errors
+    ///
+    /// `Stopped` at a stop; `Stale` where the ticket isn't the one that is out for its process.
+    pub fn cancel(&mut self, ticket: &Ticket) -> Result<(), CommitFault>
+        ensures { IsCancelled self.old ticket.now result self.new }
+    {
+        if let Some(stop) = self.stop() {
+            return Err(CommitFault::Stopped(stop));
+        }
+        let id = ticket.id();
+        if !self.has_ticket(id) {
+            return Err(CommitFault::Stale);
+        }
+        self.bring_back(id.process);
+        Ok(())
+    }
+
+    // Process p isn't out any more.
+    fn bring_back(&mut self, p: u64)
+        ensures { self.new ≡ core_after_return self.old p }
+    {
+        come_back(&mut self.out, p);
+    }
+
+    /// Does nothing: its clauses say what every core is. What is seen of a core is what is seen of
+    /// the source machine after the core's own history, the history is one that a core may have,
+    /// and a stop is what its name says: a STOP ran, the history is full, or some process can't make its step, for whose new
+    /// activation's frame there is no gap.
+    pub fn headline(&self)
+        ensures view { self.now.view ≡ view_of self.now.program is_held (state_of self.now) }
+        ensures legal { IsLegal self.now.program self.now.cells self.now.limit self.now.history }
+        ensures named { IsStop self.now.program self.now.cells self.now.limit self.now.history self.now.stop }
+    {
+        self.image.is_runnable();
+        views_are_of_states();
+    }
+
+    /// The stop that the core is at.
+    pub fn stop(&self) -> Option<ChoiceStop>
+        ensures stop { result ≡ self.now.stop }
+        ensures none { IfNone result (HasNoStop self.now) }
+    {
+        self.stop
+    }
+
+    // Sets the stop `StepLimit`, and says so, where the history has as many entries as it may have.
+    fn stop_where_full(&mut self) -> bool
+        requires { self.old.stop ≡ None }
+        ensures { IsStoppedWhereFull self.old result self.new }
+    {
+        let full = self.limit <= self.history.len() as u64;
+        if full {
+            self.stop = Some(ChoiceStop::StepLimit);
+        }
+        full
+    }
+
+    /// Process p was made and hasn't ended.
+    pub fn lives(&self, p: u64) -> bool
+        ensures { result ≡ is_some (living (state_of self.now) p) }
+    {
+        self.machine.lives(p)
+    }
+
+    // Of the processes that live and don't wait the one with the least number above p.
+    fn ready_above(&self, p: u64) -> Option<u64>
+        ensures { result ≡ first_above p (ready_of self.now) None }
+    {
+        lists_are_those_of_definitions();
+        self.ready.first_above(p)
+    }
+
+    // Of those that aren't out the one with the least number above p.
+    fn free_above(&self, p: u64) -> Option<u64>
+        ensures { result ≡ first_above p (free_of self.now) None }
+    {
+        let mut next = self.ready_above(p)?;
+        while self.is_out(next) {
+            next = self.ready_above(next)?;
+        }
+        Some(next)
+    }
+
+    /// The process that comes next by itself: of those that live, don't wait and aren't out the least above that of the last entry, else
+    /// the least.
+    ///
+    /// This costs the logarithm of how many processes were made, for each process that is out and once more; a constant time for each where
+    /// at most 64 were made.
+    pub fn next_ready(&self) -> Option<u64>
+        ensures { result ≡ next_ready_of self.now }
+    {
+        match self.free_above(self.last_process()) {
+            Some(p) => Some(p),
+            None => self.free_above(0),
+        }
+    }
+
+    /// The process of the last entry of the history, 0 where there is none.
+    pub fn last_process(&self) -> u64
+        ensures { result ≡ last_process self.now.history }
+    {
+        self.history.last().map_or(0, |entry| entry.process)
+    }
+
+    /// Whether the run goes on.
+    pub fn verdict(&self) -> Verdict
+        ensures { result ≡ verdict_of self.now }
+    {
+        lists_are_those_of_definitions();
+        match self.stop {
+            Some(stop) => Verdict::Stopped(stop),
+            None if !self.ready.is_empty() => Verdict::Running,
+            None if self.waits.is_empty() => Verdict::Done,
+            None => Verdict::Waiting,
+        }
+    }
+
+    /// Of the processes that were found waiting and wait since the one with the least number above p: where it is, and for what it
+    /// waits.
+    ///
+    /// This costs the logarithm of how many processes were made, and a step for each activation from the process's top one up to the
+    /// one whose variable it waits for.
+    pub fn waiting_after(&self, p: u64) -> Option<Listed>
+        ensures { result ≡ next_listed_of self.now p }
+    {
+        let next = self.waits.next_after(p)?;
+        let want = self.waits.waiting(next)?;
+        Some(listed(&self.machine, &self.image, next, want))
+    }
+
+    /// How many cells of the arena are taken.
+    pub fn used(&self) -> u32
+        ensures { result ≡ used_cells self.now.program is_held (state_of self.now) }
+    {
+        layouts_have_what_is_held();
+        self.machine.frames.used()
+    }
+
+    /// The cell at a position of COMMON, counted from 0, where the common blocks stand one behind the other in the order in which they
+    /// appear first, each at its greatest length. None past the end of COMMON.
+    pub fn common(&self, at: u32) -> Option<Slot>
+        ensures inside { is_some result ≡ nat_lt at (common_cells self.now.program) }
+        ensures cell { IfSome result (IsAtPosition self.now at) }
+    {
+        if self.image.common() <= at {
+            return None;
+        }
+        Some(self.machine.frames.arena.get(at))
+    }
+
+    /// The records so far.
+    pub fn output(&self) -> &[Record]
+        ensures { result.now ≡ (state_of self.now).records }
+    {
+        &self.machine.records
+    }
+
+    /// The faults so far.
+    pub fn faults(&self) -> &[Fault]
+        ensures { result.now ≡ (state_of self.now).faults }
+    {
+        &self.machine.faults
+    }
+
+    /// The history.
+    pub fn history(&self) -> &[Entry]
+        ensures { result.now ≡ self.now.history }
+    {
+        &self.history
+    }
+
+    /// The history of a core that is no longer needed.
+    pub fn into_history(self) -> Vec<Entry>
+        ensures { result.items ≡ self.history }
+    {
+        let Core {
+            alloc,
+            image,
+            cells,
+            limit,
+            history,
+            stop,
+            machine,
+            waits,
+            ready,
+            out,
+            given,
+        } = self;
+        history
+    }
+
+    /// How many cells the arena has.
+    pub fn cells(&self) -> u32
+        ensures { result ≡ self.now.cells }
+    {
+        self.cells
+    }
+
+    /// How many entries the history may have.
+    pub fn limit(&self) -> u64
+        ensures { result ≡ self.now.limit }
+    {
+        self.limit
+    }
+
+    /// The image that runs.
+    pub fn image(&self) -> &Image
+        ensures { result.now ≡ self.now.program }
+    {
+        &self.image
+    }
+}
+
+// An entry of process p, which made so many steps, for which there is room.
+fn note(history: &mut Vec<Entry>, p: u64, steps: u32)
+    requires { vec_len history.old < vec_capacity history.old }
+    ensures { history.new.items ≡ history.old.items ++ record { process = p; steps = steps } ∷ [] }
+{
+    let _ = history.push(Entry { process: p, steps });
+}
+
+// So many entries of process p, each of one step, for which there is room.
+fn note_all(history: &mut Vec<Entry>, p: u64, count: u64)
+    requires { vec_len history.old + count ≤ vec_capacity history.old }
+    ensures { history.new.items ≡ entries_along history.old.items p count }
+{
+    for noted in 0..count {
+        let _ = history.push(Entry {
+            process: p,
+            steps: 1,
+        });
+    }
+}

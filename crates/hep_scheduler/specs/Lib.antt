@@ -1,4 +1,0 @@
-pub mod Value
-pub mod Going
-pub mod Waking
-pub mod Invariant

@@ -1,0 +1,69 @@
+-- One turn of a process, by the program, the history before it, and the machines: docs/MACHINE.md, "Steps" and "The opening and runs".
+use Rattle.std.specs.Prelude.{◌≡◌, ◌<◌, ◌≤◌, ◌+◌, ◌^◌, ℕ, false, List, length}
+use Rattle.hep_machine.specs.declared.event.Entry.{Entry}
+use Rattle.hep_machine.specs.Words.{Units, schedule_of}
+use Rattle.hep_blocked.specs.Numbers.{Numbers}
+use Rattle.hep_state.specs.declared.machine.Machine.{Machine}
+use Rattle.hep_state.specs.declared.turn.TurnFault.{TurnFault}
+use Rattle.hep_state.specs.declared.turn.Turned.{Turned}
+use Rattle.hep_state.specs.declared.upcoming.CallAhead.{CallAhead}
+use Rattle.hep_state.specs.CallsAhead.{HasCallAhead, HasResumeAhead, IsWithoutCall}
+use Rattle.hep_state.specs.Outcomes.{HasTurned}
+use Rattle.hep_state.specs.Rooms.{IsMachineAfter}
+use Rattle.hep_state.specs.Snapshots.{snapshot_of}
+use Rattle.hep_state.specs.Taking.{IsSeenSame}
+use Rattle.hep_state.specs.Tops.{HasLevels}
+use Rattle.hep_state.specs.Unturned.{IsUnturned}
+
+-- how many cells a machine's arena has
+abbrev pub cells_of : Machine → ℕ
+cells_of m = length m.frames.arena.contents
+
+-- a machine keeps the state after a history, with its room
+abbrev pub IsAfterHistory : Units → List Entry → Machine → Type 0
+IsAfterHistory program history m = IsMachineAfter program (cells_of m) (schedule_of history) m
+
+-- ---- what a turn asks for
+
+-- process p of it has a turn, and what a CREATE makes has a number
+pub record CanTurn (program : Units) (history : List Entry) (p : ℕ) (m : Machine) (ready : Numbers) : Type 0 where
+  pub after : IsAfterHistory program history m
+  pub running : m.halted ≡ false
+  pub living : HasLevels (snapshot_of m) p
+  pub countable : m.activations + 1 < 2 ^ 64
+  pub numbers : length m.processes.items ≤ ready.room
+
+-- it is at a CALL, CREATE or reference
+pub record CanTakeCall (program : Units) (history : List Entry) (p : ℕ) (m : Machine) (call : CallAhead) (ready : Numbers) : Type 0 where
+  pub after : IsAfterHistory program history m
+  pub at : HasCallAhead program (cells_of m) (schedule_of history) p (snapshot_of m) call
+  pub countable : m.activations + 1 < 2 ^ 64
+  pub numbers : length m.processes.items ≤ ready.room
+
+-- at RESUME, behind which it goes on at an index
+pub record CanTakeResume (program : Units) (history : List Entry) (p : ℕ) (m : Machine) (next : ℕ) (ready : Numbers) : Type 0 where
+  pub after : IsAfterHistory program history m
+  pub at : HasResumeAhead program (cells_of m) (schedule_of history) p (snapshot_of m) next
+  pub numbers : length m.processes.items ≤ ready.room
+
+-- or at none of them, nor at a PURGE
+pub record CanTakeOperation (program : Units) (history : List Entry) (p : ℕ) (m : Machine) : Type 0 where
+  pub after : IsAfterHistory program history m
+  pub running : m.halted ≡ false
+  pub plain : IsWithoutCall program p (snapshot_of m)
+
+-- ---- what comes of it
+
+-- a turn of process p led from a machine to another one, and came to this
+abbrev pub IsTurn : Units → List Entry → ℕ → Machine → Turned → Machine → Type 0
+IsTurn program history p old turned new = HasTurned program (cells_of old) (schedule_of history) p turned new
+
+-- it isn't taken, for this
+abbrev pub IsUntaken : Units → List Entry → ℕ → Machine → TurnFault → Type 0
+IsUntaken program history p m fault = IsUnturned fault program (cells_of m) (schedule_of history) p
+
+-- the state after the history is kept still, and seen as before
+pub record LeavesAlone (program : Units) (history : List Entry) (old new : Machine) : Type 0 where
+  pub after : IsMachineAfter program (cells_of old) (schedule_of history) new
+  pub same : IsSeenSame (snapshot_of old) (snapshot_of new)
+  pub processes : length new.processes.items ≡ length old.processes.items

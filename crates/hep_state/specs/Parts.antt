@@ -1,0 +1,282 @@
+-- What the parts of a turn do to a machine, whatever turns there were before: docs/MACHINE.md, "Steps".
+use Rattle.std.specs.Prelude.{◌≡◌, ◌∷◌, ◌<◌, ◌≤◌, ◌+◌, ◌-◌, ◌^◌, ℕ, Bool, false, List, [], length, slice_get, vec_capacity, vec_len}
+use Rattle.std.specs.Prelude.{Ok, Option, Some, IsSome}
+use Rattle.slab.specs.Slab.{HasRoomFor}
+use Rattle.hep_machine.specs.Words.{Layout, State, Units}
+use Rattle.hep_machine.specs.declared.event.Kind.{Kind}
+use Rattle.hep_arena.specs.Holes.{first_fit}
+use Rattle.hep_code.specs.Words.{deepest}
+use Rattle.hep_frames.specs.declared.frames.Frames.{Frames}
+use Rattle.hep_frames.specs.Keeping.{CanLeave, HasLeft, IsEnded, Keeps, LeadUpwards, all_but, frames_in}
+use Rattle.hep_frames.specs.Nodes.{nodes_of}
+use Rattle.hep_image.specs.Image.{most_cells}
+use Rattle.hep_layout.specs.Words.{is_stacked}
+use Rattle.hep_machine.specs.Words.{living, run}
+use Rattle.std.specs.Option.{is_some}
+use Rattle.hep_purging.specs.declared.range.ClosedRange.{ClosedRange}
+use Rattle.hep_purging.specs.Purged.{purged}
+use Rattle.hep_purging.specs.Ready.{AreReached}
+use Rattle.hep_cells.specs.declared.want.Want.{Want}
+use Rattle.hep_step.specs.declared.effect.Effect.{Effect as Performed}
+use Rattle.hep_step.specs.declared.way.Way.{Way}
+use Rattle.hep_step.specs.declared.way.Way.TheVariants.{Creates}
+use Rattle.hep_step.specs.Calls.{is_creation}
+use Rattle.hep_step.specs.Effects.{Effect, fails}
+use Rattle.hep_step.specs.Simulation.{unit_code}
+use Rattle.hep_state.specs.declared.calling.Called.{Called}
+use Rattle.hep_state.specs.declared.machine.Level.{Level}
+use Rattle.hep_state.specs.declared.machine.Machine.{Machine}
+use Rattle.hep_state.specs.declared.machine.Passing.{Passing}
+use Rattle.hep_state.specs.declared.machine.Process.{Process}
+use Rattle.hep_state.specs.declared.turn.Turned.TheVariants.{Purged}
+use Rattle.hep_state.specs.declared.upcoming.CallAhead.{CallAhead}
+use Rattle.hep_state.specs.declared.upcoming.PurgeAhead.{PurgeAhead}
+use Rattle.hep_state.specs.Calls.{HasEntered, IsMaking, Makes, state_made}
+use Rattle.hep_state.specs.CallsAhead.{HasCallAhead, HasPurgeAhead, IsWithoutCall, ranges_ahead}
+use Rattle.hep_state.specs.Outcomes.{Changes, HasTurned}
+use Rattle.hep_state.specs.Rooms.{HasRoomAt, HaveRoom, IsMachineAfter}
+use Rattle.hep_state.specs.Snapshots.{snapshot_of}
+use Rattle.hep_state.specs.Taking.{IsLeft, IsSeenSame, IsToEnd}
+use Rattle.hep_state.specs.Tops.{HasLevels, HoldsInTurn, keys_of, snapshot_parted, turn_of, with_contents, with_stack}
+use Rattle.hep_state.specs.Turns.{HasStepped, HasWaited, IsAfter}
+
+-- ---- states
+
+-- a machine keeps a state of the program, that after some turns
+abbrev pub IsReached : Units → Machine → Type 0
+IsReached program m = (cells : ℕ) × (choices : List ℕ) × IsMachineAfter program cells choices m
+
+-- and process p of it, which has activations, has its turn
+pub record IsItsTurn (program : Units) (p : ℕ) (m : Machine) : Type 0 where
+  pub after : IsReached program m
+  pub running : m.halted ≡ false
+  pub living : HasLevels (snapshot_of m) p
+
+-- a state that a machine keeps is kept still
+abbrev pub KeepsState : Units → Machine → Machine → Type 0
+KeepsState program old new =
+    (cells : ℕ) (choices : List ℕ) → IsMachineAfter program cells choices old → IsMachineAfter program cells choices new
+
+-- there is the room that there was for a program
+abbrev pub KeepsRoomOf : Units → Machine → Machine → Type 0
+KeepsRoomOf program old new = (cells : ℕ) → HaveRoom program cells old → HaveRoom program cells new
+
+-- this is whether process p lives in the state that a machine keeps
+abbrev pub IsWhetherLives : Bool → ℕ → Machine → Type 0
+IsWhetherLives lives p m =
+    (program : Units) (cells : ℕ) (choices : List ℕ) → IsAfter program cells choices (snapshot_of m)
+    → lives ≡ is_some (living (run program choices) p)
+
+-- ---- the end of activations
+
+-- the top activation of process p is to end with this effect
+abbrev pub IsEndingBy : Effect → ℕ → Machine → Type 0
+IsEndingBy effect p m = (program : Units) × (cells : ℕ) × (choices : List ℕ) × IsToEnd program cells choices p (snapshot_of m) effect
+
+-- and there is room for operands
+abbrev pub IsEndingWithRoom : Effect → ℕ → Machine → Type 0
+IsEndingWithRoom effect p m =
+    (program : Units) × (cells : ℕ) × (choices : List ℕ) × IsToEnd program cells choices p (snapshot_of m) effect
+    × HaveRoom program cells m
+
+-- where it was to end so, the step of process p was made
+abbrev pub EndsBy : Effect → ℕ → Machine → Machine → Type 0
+EndsBy effect p old new =
+    (program : Units) (cells : ℕ) (choices : List ℕ) → IsToEnd program cells choices p (snapshot_of old) effect
+    → HasStepped program cells choices p (snapshot_of new)
+
+-- an operation is ahead of process p that calls, creates, refers to, purges and resumes nothing
+pub record IsAtOperation (program : Units) (p : ℕ) (m : Machine) : Type 0 where
+  pub after : IsReached program m
+  pub running : m.halted ≡ false
+  pub plain : IsWithoutCall program p (snapshot_of m)
+
+-- it was performed, with this effect
+abbrev pub LeavesBy : Units → ℕ → Machine → Machine → Performed → Type 0
+LeavesBy program p old new effect =
+    (cells : ℕ) (choices : List ℕ) → IsMachineAfter program cells choices old
+    → IsLeft program cells choices p (snapshot_of new) effect
+
+-- and fills or empties this cell alone, if one is told
+abbrev pub ChangesNext : Units → ℕ → Machine → Option Want → Type 0
+ChangesNext program p old changed =
+    (cells : ℕ) (choices : List ℕ) → IsMachineAfter program cells choices old → Changes program cells choices p changed
+
+-- a state that a machine shows is shown still, and it is seen as before
+pub record IsSeenAlike (program : Units) (old new : Machine) : Type 0 where
+  pub shown : (cells : ℕ) (choices : List ℕ) → IsAfter program cells choices (snapshot_of old)
+      → IsAfter program cells choices (snapshot_of new)
+  pub same : IsSeenSame (snapshot_of old) (snapshot_of new)
+
+-- what was written, how many processes there are, and the room that there was
+pub record KeepsWritten (program : Units) (old new : Machine) : Type 0 where
+  pub rooms : KeepsRoomOf program old new
+  pub records : new.records ≡ old.records
+  pub faults : new.faults ≡ old.faults
+  pub processes : length new.processes.items ≡ length old.processes.items
+
+-- the operation ahead of process p was performed, with an effect, and there is room for operands
+abbrev pub IsLeftWithRoom : Performed → ℕ → Machine → Type 0
+IsLeftWithRoom effect p m =
+    (program : Units) × (cells : ℕ) × (choices : List ℕ) × IsLeft program cells choices p (snapshot_of m) effect × HaveRoom program cells m
+
+-- where that was its effect, the step was made
+abbrev pub StepsAfter : Performed → ℕ → Machine → Machine → Type 0
+StepsAfter effect p old new =
+    (program : Units) (cells : ℕ) (choices : List ℕ) → IsLeft program cells choices p (snapshot_of old) effect
+    → HasStepped program cells choices p (snapshot_of new)
+
+-- or the process waits
+abbrev pub WaitsAfter : Performed → ℕ → Machine → Machine → Want → Type 0
+WaitsAfter effect p old new want =
+    (program : Units) (cells : ℕ) (choices : List ℕ) → IsLeft program cells choices p (snapshot_of old) effect
+    → HasWaited program cells choices p want.cell want.full (snapshot_of new)
+
+-- the frames of levels, the last one first, have left, whichever activations end with them
+abbrev pub HaveFramesLeft : List Level → Frames → Frames → Type 0
+HaveFramesLeft leaving old new =
+    (program : Units) (s t : State) (out : ℕ → Bool) (layout : Layout) (ends : List ℕ)
+    → Keeps (frames_in program s out layout) old.arena (nodes_of old.nodes)
+    → CanLeave (nodes_of old.nodes) (is_stacked s) (keys_of leaving) ends
+    → IsEnded program layout (all_but ends (is_stacked s)) s t → LeadUpwards t
+    → HasLeft (frames_in program t out layout) old.arena new.arena (nodes_of old.nodes) (nodes_of new.nodes)
+
+-- ---- CALL, CREATE and references
+
+-- process p is at one of them
+abbrev pub IsAtCallAhead : Units → ℕ → Machine → CallAhead → Type 0
+IsAtCallAhead program p m call =
+    (cells : ℕ) × (choices : List ℕ) × IsMachineAfter program cells choices m × HasCallAhead program cells choices p (snapshot_of m) call
+
+-- this is given to the dummy arguments, and so many operands are kept
+abbrev pub IsGivenBy : Units → ℕ → Machine → CallAhead → ℕ → Passing → Type 0
+IsGivenBy program p m call kept passing =
+    (cells : ℕ) (choices : List ℕ) → IsMachineAfter program cells choices m → HasCallAhead program cells choices p (snapshot_of m) call
+    → HoldsInTurn program cells choices p (snapshot_of m)
+    (λ t. IsMaking call.way t call.unit kept call.next passing.given.items passing.shapes.items)
+
+-- it is a fault
+abbrev pub FailsAtCall : Units → ℕ → Machine → CallAhead → Kind → Type 0
+FailsAtCall program p m call kind =
+    (cells : ℕ) (choices : List ℕ) → IsMachineAfter program cells choices m → HasCallAhead program cells choices p (snapshot_of m) call
+    → IsToEnd program cells choices p (snapshot_of m) (fails call.line kind)
+
+-- the activation of a unit can begin: its frame has a gap and its node room
+pub record CanBegin (p : ℕ) (m : Machine) (called : Called) : Type 0 where
+  pub making : (way : Way) × (program : Units) × (cells : ℕ) × (choices : List ℕ) × (kept : ℕ) × (index : ℕ)
+      × Makes way program cells choices p m called kept index
+  pub few : length m.frames.arena.contents ≤ most_cells
+  pub countable : m.activations + 1 < 2 ^ 64
+  pub gap : IsSome (first_fit called.cells m.frames.arena.holes)
+  pub node : HasRoomFor m.frames.nodes 1
+
+-- its frame has entered, with its node under a key
+abbrev pub Begins : ℕ → Called → Machine → ℕ → Machine → Type 0
+Begins p called old key new =
+    (way : Way) (program : Units) (cells : ℕ) (choices : List ℕ) (kept index : ℕ)
+    → (e : Makes way program cells choices p old called kept index)
+    → HasEntered (turn_of e.making) e.making.holds.turning called.unit key (state_made e.making.holds)
+    new.frames.arena (nodes_of new.frames.nodes)
+
+-- it can begin above the top activation of process p, by CALL or reference
+pub record CanCall (p : ℕ) (m : Machine) (called : Called) (kept index : ℕ) : Type 0 where
+  pub calling : (way : Way) × (program : Units) × (cells : ℕ) × (choices : List ℕ) × (is_creation way ≡ false)
+      × Makes way program cells choices p m called kept index
+  pub few : length m.frames.arena.contents ≤ most_cells
+  pub countable : m.activations + 1 < 2 ^ 64
+  pub gap : IsSome (first_fit called.cells m.frames.arena.holes)
+  pub node : HasRoomFor m.frames.nodes 1
+  pub level : (q : Process) → slice_get m.processes.items (p - 1) ≡ Some q → vec_len q.levels < vec_capacity q.levels
+  pub pending : (q : Process) → slice_get m.processes.items (p - 1) ≡ Some q → vec_len q.pending + kept ≤ vec_capacity q.pending
+
+-- where it is called or referred to, the step was made
+abbrev pub StepsByCall : ℕ → Called → ℕ → ℕ → Machine → Machine → Type 0
+StepsByCall p called kept index old new =
+    (way : Way) (program : Units) (cells : ℕ) (choices : List ℕ) → is_creation way ≡ false
+    → Makes way program cells choices p old called kept index → HasStepped program cells choices p (snapshot_of new)
+
+-- where the operands of process p have room for those of the unit, there is the room that there was
+abbrev pub KeepsRoomAt : ℕ → ℕ → Machine → Machine → Type 0
+KeepsRoomAt p unit old new =
+    (program : Units) (cells : ℕ) → HaveRoom program cells old → HasRoomAt program p unit old → HaveRoom program cells new
+
+-- it can begin as the one activation of a process, which is empty so far
+pub record CanCreate (p : ℕ) (m : Machine) (called : Called) (index : ℕ) (made : Process) : Type 0 where
+  pub creating : (program : Units) × (cells : ℕ) × (choices : List ℕ) × (kept : ℕ)
+      × Makes Creates program cells choices p m called kept index
+  pub few : length m.frames.arena.contents ≤ most_cells
+  pub countable : m.activations + 1 < 2 ^ 64
+  pub gap : IsSome (first_fit called.cells m.frames.arena.holes)
+  pub node : HasRoomFor m.frames.nodes 1
+  pub empty : (made.levels.items ≡ []) × (made.operands.items ≡ []) × (made.pending.items ≡ [])
+  pub level : vec_len made.levels < vec_capacity made.levels
+  pub process : vec_len m.processes < vec_capacity m.processes
+
+-- where it is created, the step was made
+abbrev pub StepsByCreation : ℕ → Called → ℕ → Machine → Machine → Type 0
+StepsByCreation p called index old new =
+    (program : Units) (cells : ℕ) (choices : List ℕ) (kept : ℕ) → Makes Creates program cells choices p old called kept index
+    → HasStepped program cells choices p (snapshot_of new)
+
+-- where the operands of the process that is made have room for those of the unit, there is the room that there was
+abbrev pub KeepsRoomWith : Process → ℕ → Machine → Machine → Type 0
+KeepsRoomWith made unit old new =
+    (program : Units) (cells : ℕ) → HaveRoom program cells old → deepest (unit_code program unit) ≤ vec_capacity made.operands
+    → HaveRoom program cells new
+
+-- ---- RESUME
+
+-- the top activation of process p can become a process of its own, which is empty so far
+pub record CanPart (p : ℕ) (m : Machine) (made : Process) : Type 0 where
+  pub levels : HasLevels (snapshot_of m) p
+  pub empty : (made.levels.items ≡ []) × (made.operands.items ≡ []) × (made.pending.items ≡ [])
+  pub level : vec_len made.levels < vec_capacity made.levels
+  pub process : vec_len m.processes < vec_capacity m.processes
+
+-- it is one, at an index
+abbrev pub PartsAt : ℕ → ℕ → Machine → Machine → Type 0
+PartsAt p index old new = (levels : HasLevels (snapshot_of old) p) → snapshot_of new ≡ snapshot_parted levels index
+
+-- where its operands have room for those of its unit, there is the room that there was
+abbrev pub KeepsRoomParting : ℕ → Process → Machine → Machine → Type 0
+KeepsRoomParting p made old new =
+    (program : Units) (cells : ℕ) → HaveRoom program cells old → (levels : HasLevels (snapshot_of old) p)
+    → deepest (unit_code program levels.level.unit) ≤ vec_capacity made.operands → HaveRoom program cells new
+
+-- ---- PURGE
+
+-- process p is at one
+abbrev pub IsAtPurgeAhead : Units → ℕ → Machine → PurgeAhead → Type 0
+IsAtPurgeAhead program p m purge =
+    (cells : ℕ) × (choices : List ℕ) × IsMachineAfter program cells choices m × HasPurgeAhead program cells choices p (snapshot_of m) purge
+
+-- its targets name these cells
+abbrev pub NamesRanges : Units → ℕ → Machine → PurgeAhead → List ClosedRange → Type 0
+NamesRanges program p m purge ranges =
+    (cells : ℕ) (choices : List ℕ) → (at : HasPurgeAhead program cells choices p (snapshot_of m) purge)
+    → ranges_ahead purge at.holds ≡ Ok ranges
+
+-- it is a fault
+abbrev pub FailsAtPurge : Units → ℕ → Machine → PurgeAhead → Kind → Type 0
+FailsAtPurge program p m purge kind =
+    (cells : ℕ) (choices : List ℕ) → HasPurgeAhead program cells choices p (snapshot_of m) purge
+    → IsToEnd program cells choices p (snapshot_of m) (fails purge.line kind)
+
+-- process p lives, and the cells that were found are in the arena
+pub record CanEmpty (p : ℕ) (m : Machine) : Type 0 where
+  pub living : HasLevels (snapshot_of m) p
+  pub reached : AreReached m.frames.arena m.passing.ranges.items
+  pub few : length m.frames.arena.contents ≤ most_cells
+
+-- they are empty, and it is to go on at an index
+abbrev pub EmptiesTargets : ℕ → ℕ → Machine → Machine → Type 0
+EmptiesTargets p index old new =
+    (levels : HasLevels (snapshot_of old) p)
+    → snapshot_of new ≡ with_stack (with_contents (snapshot_of old) (purged old.passing.ranges.items old.frames.arena.contents)) p
+    (record levels.level { index = index } ∷ levels.below) [] levels.pending
+
+-- its turn was made
+abbrev pub TurnsByPurge : Units → ℕ → PurgeAhead → Machine → Machine → Type 0
+TurnsByPurge program p purge old new =
+    (cells : ℕ) (choices : List ℕ) → IsMachineAfter program cells choices old
+    → HasPurgeAhead program cells choices p (snapshot_of old) purge → HasTurned program cells choices p Purged new

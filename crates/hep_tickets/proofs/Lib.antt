@@ -1,3 +1,0 @@
-mod Free
-mod Outs
-mod Staying

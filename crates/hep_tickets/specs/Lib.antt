@@ -1,4 +1,0 @@
-pub mod Tickets
-pub mod Segments
-pub mod Shared
-pub mod Invariant

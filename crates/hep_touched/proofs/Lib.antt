@@ -1,4 +1,0 @@
-pub mod Kept
-pub mod LeftOut
-pub mod Next
-mod Worked
