@@ -8,8 +8,10 @@ for command in hepf hepf-unproved
     complete -c $command -n __fish_use_subcommand -a list -d 'show the units and common blocks of a source'
     complete -c $command -n __fish_use_subcommand -a explain -d 'say what a line or a status means'
     complete -c $command -n __fish_use_subcommand -a help -d 'show help'
+    complete -c $command -n __fish_use_subcommand -l long -d 'say more of what went wrong'
     complete -c $command -n __fish_use_subcommand -l help -d 'show help'
     complete -c $command -n __fish_use_subcommand -l version -d 'show the version'
+    complete -c $command -n '__fish_seen_subcommand_from check run replay list explain' -l long -d 'say more of what went wrong'
     complete -c $command -n '__fish_seen_subcommand_from check run replay list explain' -l help -d 'show help'
     complete -c $command -n '__fish_seen_subcommand_from check run replay list' -F
     complete -c $command -n '__fish_seen_subcommand_from run replay' -l arena -x -d 'cells of storage'

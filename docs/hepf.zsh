@@ -12,7 +12,7 @@ _hepf() {
         'explain:say what a line or a status means'
         'help:show help'
     )
-    _arguments -C '--help[show help]' '--version[show the version]' '1: :->command' '*:: :->words'
+    _arguments -C '--long[say more of what went wrong]' '--help[show help]' '--version[show the version]' '1: :->command' '*:: :->words'
     if [[ $state == command ]]; then
         _describe command commands
     elif [[ $state == words ]]; then
@@ -24,18 +24,20 @@ _hepf() {
 _hepf_words() {
     case $words[1] in
         check | list)
-            _arguments '--help[show help]' '1:source:_files'
+            _arguments '--long[say more of what went wrong]' '--help[show help]' '1:source:_files'
             ;;
         run)
             _arguments '--arena=[cells of storage]:cells:' '--steps=[entries of the history]:entries:' \
                 '--workers=[threads, 1 to 16]:threads:' '--choices=[processes that are chosen first]:choices:_files' \
-                '--history=[file that gets the history]:history:_files' '--help[show help]' '1:source:_files'
+                '--history=[file that gets the history]:history:_files' '--long[say more of what went wrong]' '--help[show help]' \
+                '1:source:_files'
             ;;
         replay)
-            _arguments '--arena=[cells of storage]:cells:' '--help[show help]' '1:source:_files' '2:history:_files'
+            _arguments '--arena=[cells of storage]:cells:' '--long[say more of what went wrong]' '--help[show help]' '1:source:_files' \
+                '2:history:_files'
             ;;
         explain)
-            _arguments '--help[show help]' '1:number or name:(101 102 103 104 105 106 107 201 202 203 204 205 301 302 303 304 305 306 307 308 309 310 311 312 401 402 501 506 601 602 603 701 702 703 704 705 OVERFLOW DIVIDE RANGE UNDEFINED SHAPE STEP FAULT WAITING STOPPED ARENA NO WORKERS READ WRITE REFUSED STILL STATUS)' \
+            _arguments '--long[say more of what went wrong]' '--help[show help]' '1:number or name:(101 102 103 104 105 106 107 201 202 203 204 205 301 302 303 304 305 306 307 308 309 310 311 312 401 402 501 506 601 602 603 701 702 703 704 705 OVERFLOW DIVIDE RANGE UNDEFINED SHAPE STEP FAULT WAITING STOPPED ARENA NO WORKERS READ WRITE REFUSED STILL STATUS)' \
                 '*:its next word:(ARENA STEP FULL LIMIT MEMORY REFUSED FAULT RUNNING 0 1 2 3 4 5 6 7 8 70)'
             ;;
         help)

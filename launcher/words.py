@@ -4,6 +4,7 @@ Nothing of it stands here: commands, options and their numbers are read from the
 docs/REFUSALS.md and docs/FAULTS.md, and the version and some mistakes from the crate hep_command. A word that may have a
 meaning is left to the program.
 """
+import itertools
 import re
 import shlex
 import textwrap
@@ -17,6 +18,9 @@ COLUMNS = 80
 FILES = ("FILE", "HISTORY")
 # What stands there for one word or more.
 WORDS = "WORD.."
+# What every command takes, before it or behind it, and what asks for help.
+FLAGS = ("--long",)
+HELPS = ("-h", "--help")
 
 
 class Mistake(Exception):
@@ -93,7 +97,7 @@ def help_of(manual, names):
     of_all = len(names) > 1
     lines = ["hepf < FILE"] * of_all + [found[name].line for name in names]
     options = dict.fromkeys(it for name in names for it in found[name].options)
-    tags = [*options, "--help", "--version"] if of_all else [*options, "--help"]
+    tags = [*options, *FLAGS, "--help"] + ["--version"] * of_all
     text = "".join(textwrap.fill(it, COLUMNS, subsequent_indent="    ") + "\n" for it in lines) + "\n"
     text += "".join(shown(*of_tag(manual["COMMANDS"], name)) for name in names)
     return text + "\n" + "".join(shown(*of_tag(manual["OPTIONS"], it)) for it in tags)
@@ -162,13 +166,14 @@ class Job:
     operands: list = field(default_factory=list)
     # With what each is given.
     options: list = field(default_factory=list)
+    flags: list = field(default_factory=list)
 
     def words_from(self, folder, form):
         """The words with each path as it is from the root."""
         words = [str(folder / it) if kind in FILES else it for it, kind in zip(self.operands, form.operands)]
         for name, value in self.options:
             words.append(f"{name}={folder / value if form.options[name] in FILES else value}")
-        return [self.command, *words]
+        return [self.command, *self.flags, *words]
 
 
 def checked_number(name, text, least, most):
@@ -182,8 +187,11 @@ def taken(command, form, words):
     while left:
         word = left.pop(0)
         name, has_value, value = word.partition("=")
-        if word in ("-h", "--help"):
+        if word in HELPS:
             return None
+        if word in FLAGS:
+            job.flags.append(word)
+            continue
         if word == "--":
             job.operands += left
             break
@@ -220,20 +228,23 @@ def judge(manual, job, form):
 def read(manual, words, of):
     """The text that words ask for, or the job that they are."""
     found = forms(manual)
-    if not words:
-        return Job()
-    first, *rest = words
-    if first == "help" and not rest or first in ("-h", "--help"):
+    before = [*itertools.takewhile(lambda word: word in FLAGS, words)]
+    if before == words:
+        return Job(flags=before)
+    first, *rest = words[len(before) :]
+    if first == "help" and (not rest or rest[0] in HELPS) or first in HELPS:
         return help_of(manual, [*found])
     if first in ("-V", "--version"):
         return version(of)
     if first == "help" and rest[0] in found:
         return help_of(manual, rest[:1])
     if first not in found:
-        raise Mistake(f"error: {first} is no command: they are {', '.join(found)}\n")
+        meant = f"Did you mean: hepf run {first}\n" if "." in first or "/" in first else ""
+        raise Mistake(f"error: {first} is no command: they are {', '.join(found)}\n{meant}")
     job = taken(first, found[first], rest)
     if job is None:
         return help_of(manual, [first])
+    job.flags = [*dict.fromkeys(before + job.flags)]
     judge(manual, job, found[first])
     if first == "explain":
         return explanation(" ".join(job.operands))

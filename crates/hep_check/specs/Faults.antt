@@ -5,6 +5,8 @@ use Rattle.hep_base.specs.declared.refusal.Refusal.{Refusal}
 use Rattle.hep_base.specs.declared.refusal.Refusal.TheVariants.{NoMemory, Refused}
 use Rattle.hep_conditions.specs.Words.{first_violation}
 use Rattle.hep_conditions.specs.declared.violation.Violation.{Violation}
+use Rattle.hep_check.specs.declared.checked.Unaccepted.{Unaccepted}
+use Rattle.hep_check.specs.declared.checked.Unaccepted.TheVariants as unaccepted
 use Rattle.hep_machine.specs.Words.{spelling, Units}
 
 -- a refusal says what a violation is; want of memory says nothing of it
@@ -16,3 +18,8 @@ Reports v (Refused number line name) = (number ≡ v.number) × (line ≡ v.line
 abbrev pub Refuses : Units → Refusal → Type 0
 Refuses program NoMemory = Unit {0}
 Refuses program (Refused number line name) = (v : Violation) × (first_violation program ≡ Some v) × Reports v (Refused number line name)
+
+-- the first violation of a program is this one, unless memory was refused
+abbrev pub IsViolatedBy : Units → Unaccepted → Type 0
+IsViolatedBy program unaccepted.NoMemory = Unit {0}
+IsViolatedBy program (unaccepted.Violated v) = first_violation program ≡ Some v

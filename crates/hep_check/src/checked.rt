@@ -2,7 +2,7 @@
 ghost use Rattle.std.specs.Prelude.{◌≡◌, Some, None, map, IfOk, IfErr, OnOk};
 ghost use Rattle.hep_machine.specs.Words.{frame_cells};
 ghost use Rattle.hep_conditions.specs.Words.{IsAccepted, first_violation};
-ghost use Rattle.hep_check.specs.Faults.{Refuses, Reports};
+ghost use Rattle.hep_check.specs.Faults.{IsViolatedBy, Refuses, Reports};
 
 use crate::frames::frames;
 use crate::program::first_violation;
@@ -12,8 +12,8 @@ use hep_names::ProgramSymbols;
 use hep_source::Program;
 use std::alloc::{AllocError, Global};
 
-// A violation as it is reported.
-fn fault_of(alloc: Global, violation: Violation) -> CheckFault
+/// A violation as it is reported: its number, its line, and for 301 and 310 the name.
+pub fn fault_of(alloc: Global, violation: Violation) -> CheckFault
     ensures { Reports violation result }
 {
     let Violation { number, line, .. } = violation;
@@ -39,6 +39,46 @@ fn judged(alloc: Global, program: &Program) -> Result<Result<Vec<u128>, Violatio
     }
 }
 
+/// Why a program isn't accepted, with all that is known of its first violation.
+#[derive(Clone, Copy, Debug, PartialEq, Eq)]
+pub enum Unaccepted {
+    /// Memory was refused, which says nothing of the program.
+    NoMemory,
+    /// The first violation.
+    Violated(Violation),
+}
+
+impl From<AllocError> for Unaccepted {
+    ghost use Rattle.std.specs.Prelude.{◌≡◌};
+    ghost use Rattle.hep_check.specs.declared.checked.Unaccepted.TheVariants.{NoMemory};
+
+    ghost from_gives = { λ _ fault. fault ≡ NoMemory };
+
+    fn from(_refused: AllocError) -> Unaccepted {
+        Unaccepted::NoMemory
+    }
+}
+
+/// Accepts a program that violates no condition.
+///
+/// # Errors
+///
+/// The first violation by line, then by number, then by the position of the name (docs/LANGUAGE.md, 10); or that memory
+/// was refused.
+pub fn judge(alloc: Global, program: Program) -> Result<Checked, Unaccepted>
+    // What is checked is the program.
+    ensures same { IfOk result (λ checked. checked ≡ program) }
+    // No condition is violated where it is accepted.
+    ensures accepted { OnOk result (IsAccepted program) }
+    // What is reported is the first violation.
+    ensures violated { IfErr result (IsViolatedBy program) }
+{
+    match judged(alloc, &program)? {
+        Ok(frames) => Ok(Checked::new(program, frames)),
+        Err(violation) => Err(Unaccepted::Violated(violation)),
+    }
+}
+
 /// Accepts a program that violates no condition.
 ///
 /// # Errors
@@ -53,8 +93,9 @@ pub fn check(alloc: Global, program: Program) -> Result<Checked, CheckFault>
     // What is reported is the first violation.
     ensures refused { IfErr result (Refuses program) }
 {
-    match judged(alloc, &program)? {
-        Ok(frames) => Ok(Checked::new(program, frames)),
-        Err(violation) => Err(fault_of(alloc, violation)),
+    match judge(alloc, program) {
+        Ok(checked) => Ok(checked),
+        Err(Unaccepted::NoMemory) => Err(CheckFault::NoMemory),
+        Err(Unaccepted::Violated(violation)) => Err(fault_of(alloc, violation)),
     }
 }

@@ -4,14 +4,14 @@
 //! program knows how many cells its frames have, and [`list_text`] shows them with those of its common blocks.
 #![tactic(auto)]
 
-mod checked;
+pub mod checked;
 mod frames;
 mod listing;
 mod program;
 mod resuming;
 mod unit;
 
-pub use checked::check;
+pub use checked::{Unaccepted, check, fault_of, judge};
 /// Why a program isn't accepted: refusals 301 to 312, of which 301 and 310 are about a name.
 pub use hep_base::Refusal as CheckFault;
 pub use hep_conditions::Checked;

@@ -1,10 +1,10 @@
 -- What the words for numbers, jobs and names say, row by row.
 use Rattle.std.proofs.Common.{◌≡◌, ◌∷◌, [], Some, None, false, refl, true, codes}
 use Rattle.clap.proofs.OnLiterals.{clap_on_literals}
-use Rattle.hep_command.specs.Asked.{explain, replay, run, standard}
+use Rattle.hep_command.specs.Asked.{check, explain, heard, replay, run, standard}
 use Rattle.hep_command.specs.Explanations.{is_explained, name_of}
 use Rattle.hep_command.specs.Numbers.{number_within}
-use Rattle.hep_command.specs.Program.{asked}
+use Rattle.hep_command.specs.Program.{asked, is_long}
 
 least : number_within 1 16777216 (codes "1") ≡ Some 1
 least = refl
@@ -63,6 +63,26 @@ explain_by_words : asked (codes "hepf" ∷ codes "explain" ∷ codes "arena" ∷
     ≡ Some (explain (codes "arena") (Some (codes "Full")) None)
 unfolding asked clap_on_literals
 explain_by_words = refl
+
+long_before : is_long (codes "hepf" ∷ codes "--long" ∷ codes "check" ∷ codes "a.f" ∷ []) ≡ true
+unfolding is_long clap_on_literals
+long_before = refl
+
+long_behind : is_long (codes "hepf" ∷ codes "check" ∷ codes "a.f" ∷ codes "--long" ∷ []) ≡ true
+unfolding is_long clap_on_literals
+long_behind = refl
+
+-- a word behind `--` is no option
+no_long : is_long (codes "hepf" ∷ codes "check" ∷ codes "--" ∷ codes "--long" ∷ []) ≡ false
+unfolding is_long clap_on_literals
+no_long = refl
+
+check_long : asked (codes "hepf" ∷ codes "--long" ∷ codes "check" ∷ codes "a.f" ∷ []) ≡ Some (check (codes "a.f"))
+unfolding asked clap_on_literals
+check_long = refl
+
+help_of_help : heard (codes "hepf" ∷ codes "help" ∷ codes "--help" ∷ []) ≡ codes "hepf" ∷ codes "help" ∷ []
+help_of_help = refl
 
 joined : name_of (codes "arena") (Some (codes "Full")) None ≡ codes "ARENA FULL"
 joined = refl

@@ -1,5 +1,7 @@
 -- Which job a command and its words ask for: docs/MACHINE.md, "The program".
-use Rattle.std.specs.Prelude.{ℕ, List as ListOf, Option, Some, None, codes, if◌then◌else◌, option_and_then, option_map}
+use Rattle.std.specs.Prelude.{◌&&◌, ◌||◌, ℕ, Bool, false, List as ListOf, Option, Some, None, codes, if◌then◌else◌, length}
+use Rattle.std.specs.Prelude.{nat_eq, option_and_then, option_map, slice_get, take}
+use Rattle.std.specs.Option.{option_map_or}
 use Rattle.std.specs.Str.{bytes_eq}
 use Rattle.std.specs.Borrow.{Bor}
 use Rattle.clap.specs.Words.{Row, Text, first_of, found_of, rows_of}
@@ -28,12 +30,33 @@ asked_by (Replay file history arena) = replay file.now history.now arena
 asked_by (List file) = list file.now
 asked_by (Explain first second third) = explain first.now (texts second) (texts third)
 
+-- ---- the words that are heard
+
+abbrev pub is_word : ListOf Text → ℕ → Text → Bool
+is_word words k word = option_map_or (bytes_eq word) (slice_get words k) false
+
+-- help is asked for of `help`
+abbrev pub is_help_of_help : ListOf Text → Bool
+is_help_of_help words =
+    nat_eq (length words) 3 && (is_word words 1 (codes "help")
+    && (is_word words 2 (codes "--help") || is_word words 2 (codes "-h")))
+
+-- all words; of `help --help` the last one is left out
+abbrev pub heard : ListOf Text → ListOf Text
+heard words = if is_help_of_help words then take 2 words else words
+
+-- ---- what is found
+
 -- what was found for a command, each word under the id of its argument
 abbrev pub words_found : ArgMatches → ListOf Row
 words_found matches = rows_of (found_of matches)
 
 abbrev pub word_of : ArgMatches → Text → Option Text
 word_of matches id = first_of id (words_found matches)
+
+-- a flag is given
+abbrev pub is_given : Text → ListOf Row → Bool
+is_given id rows = option_map_or (bytes_eq (codes "true")) (first_of id rows) false
 
 abbrev pub arena_in : ListOf Row → Option ℕ
 arena_in rows = option_number 16777216 65536 (first_of (codes "arena") rows)
@@ -84,3 +107,8 @@ command_in command rows =
 abbrev pub job_in : Option (Text × ListOf Row) → Option Asked
 job_in None = Some standard
 job_in (Some found) = command_in found.0 found.1
+
+-- `--long` stands before the command or behind it
+abbrev pub is_long_in : ListOf Row → Option (Text × ListOf Row) → Bool
+is_long_in rows None = is_given (codes "long") rows
+is_long_in rows (Some found) = is_given (codes "long") rows || is_given (codes "long") found.1

@@ -1,13 +1,15 @@
 -- The commands and options of the program, as a parse sees them: docs/MACHINE.md, "The program".
-use Rattle.std.specs.Prelude.{◌≡◌, ◌⊎◌, [], false, ℕ, List, Option, Some, true, codes}
-use Rattle.clap.specs.Words.{App, Rule, Text, app_of, new_app, new_rule, rule_of, subcommand_of}
+use Rattle.std.specs.Prelude.{◌≡◌, ◌⊎◌, [], Bool, false, ℕ, List, Option, Some, true, codes}
+use Rattle.clap.specs.Words.{App, Rule, Text, app_of, matches_of, new_app, new_rule, rule_of, subcommand_of}
 use Rattle.clap.specs.Words.{IsAmong, fault_of, with_rule, with_subcommand}
+use Rattle.clap.specs.declared.builder.action.ArgAction.TheVariants.{SetTrue}
 use Rattle.clap.specs.declared.builder.arg.Arg.{Arg}
 use Rattle.clap.specs.declared.builder.command.Command.{Command}
 use Rattle.clap.specs.declared.error.kind.ErrorKind.{ErrorKind}
 use Rattle.clap.specs.declared.builder.value_parser.ValueParser.TheVariants.{Unsigned}
-use Rattle.hep_command.specs.Asked.{Asked, job_in}
+use Rattle.hep_command.specs.Asked.{Asked, asked_by, heard, is_long_in, job_in}
 use Rattle.hep_command.specs.Jobs.{usage_status}
+use Rattle.hep_command.specs.declared.job.Request.{Request}
 
 -- a word that has to be there
 abbrev pub required_word : Text → Rule
@@ -47,29 +49,37 @@ choices_option = file_option (codes "choices")
 abbrev pub history_option : Rule
 history_option = file_option (codes "history")
 
+-- a word that stands alone, before the command or behind it
+abbrev pub long_flag : Rule
+long_flag = record (new_rule (codes "long")) { long = Some (codes "long"); action = Some SetTrue }
+
 abbrev pub check_command : App
-check_command = with_rule (new_app (codes "check")) source_word
+check_command = with_rule (with_rule (new_app (codes "check")) source_word) long_flag
 
 abbrev pub run_command : App
 run_command =
-    with_rule (with_rule (with_rule (with_rule (with_rule (with_rule (new_app (codes "run")) source_word)
-    arena_option) steps_option) workers_option) choices_option) history_option
+    with_rule (with_rule (with_rule (with_rule (with_rule (with_rule (with_rule (new_app (codes "run")) source_word)
+    arena_option) steps_option) workers_option) choices_option) history_option) long_flag
 
 abbrev pub replay_command : App
 replay_command =
-    with_rule (with_rule (with_rule (new_app (codes "replay")) source_word) history_word) arena_option
+    with_rule (with_rule (with_rule (with_rule (new_app (codes "replay")) source_word) history_word) arena_option)
+    long_flag
 
 abbrev pub list_command : App
-list_command = with_rule (new_app (codes "list")) source_word
+list_command = with_rule (with_rule (new_app (codes "list")) source_word) long_flag
 
 abbrev pub explain_command : App
 explain_command =
-    with_rule (with_rule (with_rule (new_app (codes "explain")) name_word)
-    (optional_word (codes "second"))) (optional_word (codes "third"))
+    with_rule (with_rule (with_rule (with_rule (new_app (codes "explain")) name_word)
+    (optional_word (codes "second"))) (optional_word (codes "third"))) long_flag
+
+abbrev pub named_program : App
+named_program = record (new_app (codes "hepf")) { top = record (new_app (codes "hepf")).top { has_version = true } }
 
 -- the command line before its commands
 abbrev pub bare_program : App
-bare_program = record (new_app (codes "hepf")) { top = record (new_app (codes "hepf")).top { has_version = true } }
+bare_program = with_rule named_program long_flag
 
 abbrev pub hepf : App
 hepf =
@@ -85,10 +95,18 @@ IsCommand app command = app_of command ≡ app
 
 -- the job that the words ask for
 unfoldable pub asked : List Text → Option Asked
-asked words = job_in (subcommand_of hepf words)
+asked words = job_in (subcommand_of hepf (heard words))
+
+-- the words ask for more than the lines that are fixed
+unfoldable pub is_long : List Text → Bool
+is_long words = is_long_in (matches_of hepf (heard words)) (subcommand_of hepf (heard words))
+
+-- what the words ask for
+abbrev pub IsAskedBy : List Text → Request → Type 0
+IsAskedBy words request = (asked words ≡ Some (asked_by request.job)) × (request.long ≡ is_long words)
 
 -- the status where the words get no job: that of a fault which they have, and 2 where they have none, as where the
 -- history would be written to a file that is read, or both choices and workers are given
 unfoldable pub IsStatusFor : List Text → ℕ → Type 0
-IsStatusFor words status = ((fault_of hepf words ≡ []) × (status ≡ 2))
-    ⊎ ((kind : ErrorKind) × IsAmong kind (fault_of hepf words) × (status ≡ usage_status kind))
+IsStatusFor words status = ((fault_of hepf (heard words) ≡ []) × (status ≡ 2))
+    ⊎ ((kind : ErrorKind) × IsAmong kind (fault_of hepf (heard words)) × (status ≡ usage_status kind))

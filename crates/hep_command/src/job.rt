@@ -60,6 +60,14 @@ pub enum Job<'a> {
     },
 }
 
+/// A job, and how much is to be said of it.
+#[derive(Clone, Copy, Debug, PartialEq, Eq)]
+pub struct Request<'a> {
+    pub job: Job<'a>,
+    /// Whether more is to be said of what went wrong than the lines that are fixed.
+    pub long: bool,
+}
+
 /// A text for the one who gave the words, and an exit status.
 #[derive(Drop)]
 pub struct Usage {

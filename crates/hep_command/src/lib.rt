@@ -5,12 +5,13 @@
 pub mod explaining;
 pub mod job;
 pub mod meanings;
+mod mistakes;
 mod program;
 pub mod refusals;
 pub mod words;
 
 pub use explaining::explain;
-pub use job::{Job, Usage};
+pub use job::{Job, Request, Usage};
 pub use meanings::meaning;
 pub use refusals::explanation;
-pub use words::{SAME_FILE, TWO_ORDERS, read_words};
+pub use words::{SAME_FILE, TWO_ORDERS, read_request, read_words};

@@ -7,7 +7,7 @@ ghost use Rattle.hep_command.specs.Program as spec;
 
 use crate::job::{MOST_ARENA, MOST_STEPS, MOST_WORKERS};
 use clap::builder::ValueParser;
-use clap::{Arg, Command};
+use clap::{Arg, ArgAction, Command};
 use std::alloc::{AllocError, Global};
 
 /// What `hepf --version` says after the program's name.
@@ -72,6 +72,16 @@ fn source_argument<'a>(alloc: Global) -> Arg<'a>
     argument(alloc, "file", "FILE").help("The source")
 }
 
+// The word for more than the lines that are fixed.
+fn long_flag<'a>(alloc: Global) -> Arg<'a>
+    ensures { IsArgument spec.long_flag result }
+{
+    Arg::new(alloc, "long")
+        .long("long")
+        .action(ArgAction::SetTrue)
+        .help("Say more of what went wrong: which file, line and name")
+}
+
 // A command with one argument more, unless memory was refused for it.
 fn with_arg<'a>(
     whole: Result<Command<'a>, AllocError>,
@@ -98,10 +108,11 @@ fn with_command<'a>(
 fn check_command<'a>(alloc: Global) -> Result<Command<'a>, AllocError>
     ensures { IfOk result (IsCommand spec.check_command) }
 {
-    Command::new(alloc, "check")
+    let check = Command::new(alloc, "check")
         .about("Say why a source can't run, and nothing if it can")
         .after_help(CHECK_EXAMPLE)
-        .arg(source_argument(alloc))
+        .arg(source_argument(alloc));
+    with_arg(check, long_flag(alloc))
 }
 
 fn steps_option<'a>(alloc: Global) -> Arg<'a>
@@ -141,7 +152,8 @@ fn run_command<'a>(alloc: Global) -> Result<Command<'a>, AllocError>
     let run = with_arg(run, steps_option(alloc));
     let run = with_arg(run, workers_option(alloc));
     let run = with_arg(run, choices_option(alloc));
-    with_arg(run, history_option(alloc))
+    let run = with_arg(run, history_option(alloc));
+    with_arg(run, long_flag(alloc))
 }
 
 // A first part of a history that is there.
@@ -161,16 +173,18 @@ fn replay_command<'a>(alloc: Global) -> Result<Command<'a>, AllocError>
         .after_help(REPLAY_EXAMPLE)
         .arg(source_argument(alloc));
     let replay = with_arg(replay, history_argument(alloc));
-    with_arg(replay, arena_option(alloc))
+    let replay = with_arg(replay, arena_option(alloc));
+    with_arg(replay, long_flag(alloc))
 }
 
 fn list_command<'a>(alloc: Global) -> Result<Command<'a>, AllocError>
     ensures { IfOk result (IsCommand spec.list_command) }
 {
-    Command::new(alloc, "list")
+    let list = Command::new(alloc, "list")
         .about("List the units and common blocks of a source with their cells")
         .after_help(LIST_EXAMPLE)
-        .arg(source_argument(alloc))
+        .arg(source_argument(alloc));
+    with_arg(list, long_flag(alloc))
 }
 
 // What is explained, by its first word.
@@ -195,7 +209,8 @@ fn explain_command<'a>(alloc: Global) -> Result<Command<'a>, AllocError>
         .after_help(EXPLAIN_EXAMPLES)
         .arg(name_argument(alloc));
     let explain = with_arg(explain, next_word(alloc, "second"));
-    with_arg(explain, next_word(alloc, "third"))
+    let explain = with_arg(explain, next_word(alloc, "third"));
+    with_arg(explain, long_flag(alloc))
 }
 
 // The command line of the program.
@@ -205,8 +220,9 @@ pub(crate) fn program<'a>(alloc: Global) -> Result<Command<'a>, AllocError>
     let whole = Command::new(alloc, "hepf")
         .version(VERSION)
         .about(ABOUT)
-        .after_help(EXAMPLES);
-    let whole = with_command(Ok(whole), check_command(alloc));
+        .after_help(EXAMPLES)
+        .arg(long_flag(alloc));
+    let whole = with_command(whole, check_command(alloc));
     let whole = with_command(whole, run_command(alloc));
     let whole = with_command(whole, replay_command(alloc));
     let whole = with_command(whole, list_command(alloc));

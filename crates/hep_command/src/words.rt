@@ -1,13 +1,15 @@
 //! The words of a command line.
 ghost use Rattle.std.specs.Prelude.{◌≡◌, ◌⊎◌, ◌≤◌, false, true, IfOk, IfErr, IfSome, Some, map, option_map};
 ghost use Rattle.clap.specs.Words.{kind_of, subcommand_rows_of};
-ghost use Rattle.hep_command.specs.Program.{IsStatusFor, asked};
+ghost use Rattle.hep_command.specs.Program.{IsAskedBy, IsStatusFor, asked};
 ghost use Rattle.hep_command.specs.Numbers.{number_within, option_number};
-ghost use Rattle.hep_command.specs.Asked.{asked_by, arena_in, check_in, command_in, explain_in, job_in, list_in};
-ghost use Rattle.hep_command.specs.Asked.{replay_in, run_in, steps_in, word_of, words_found, workers_in};
+ghost use Rattle.hep_command.specs.Asked.{asked_by, arena_in, check_in, command_in, explain_in, heard, is_given, is_help_of_help};
+ghost use Rattle.hep_command.specs.Asked.{is_long_in, is_word, job_in, list_in, replay_in, run_in, steps_in, word_of, words_found};
+ghost use Rattle.hep_command.specs.Asked.{workers_in};
 ghost use Rattle.hep_command.specs.Jobs.{IsInRange, IsNoPath, IsOneOrder, IsUsageStatus, IsWrittenApart, usage_status};
 
-use crate::job::{ARENA, Job, MOST_ARENA, MOST_STEPS, MOST_WORKERS, STEPS, Usage};
+use crate::job::{ARENA, Job, MOST_ARENA, MOST_STEPS, MOST_WORKERS, Request, STEPS, Usage};
+use crate::mistakes::said;
 use crate::program::program;
 use clap::error::ErrorKind;
 use clap::{ArgMatches, Error};
@@ -169,6 +171,29 @@ fn job_of<'a>(matches: &ArgMatches<'a>) -> Option<Job<'a>>
     command_job(command, found)
 }
 
+// Whether a flag is given.
+fn is_given(found: &ArgMatches<'_>, id: &str) -> bool
+    ensures { result ≡ is_given id.now (words_found found.now) }
+{
+    match word_of(found, id) {
+        Some(word) => word == "true",
+        None => false,
+    }
+}
+
+// Whether `--long` stands before the command or behind it.
+fn is_long(matches: &ArgMatches<'_>) -> bool
+    ensures { result ≡ is_long_in (words_found matches.now) (subcommand_rows_of matches.now) }
+{
+    if is_given(matches, "long") {
+        return true;
+    }
+    match matches.subcommand() {
+        Some((_, found)) => is_given(found, "long"),
+        None => false,
+    }
+}
+
 fn is_path(path: Option<&str>, other: &str) -> bool
     ensures other { result ≡ false → IsNoPath path.entry other.entry }
     ensures same { result ≡ true → ¬ (IsNoPath path.entry other.entry) }
@@ -210,8 +235,8 @@ fn has_two_orders(job: &Job<'_>) -> bool
     }
 }
 
-// What is said where `clap` gave no matches: its own text.
-fn usage_of(alloc: Global, error: &Error) -> Usage
+// What is said where `clap` gave no matches: its own text, and more where that says too little.
+fn usage_of<S: AsStr>(alloc: Global, error: &Error, words: &[S]) -> Usage
     ensures range { IsUsageStatus result.status }
     ensures status { (result.status ≡ 7) ⊎ (result.status ≡ usage_status (kind_of error.now)) }
 {
@@ -220,20 +245,94 @@ fn usage_of(alloc: Global, error: &Error) -> Usage
         ErrorKind::DisplayHelp | ErrorKind::DisplayVersion => 0,
         _ => 2,
     };
-    match format!(in alloc; "{error}") {
+    match said(alloc, error, words) {
         Ok(text) => Usage::of_text(alloc, status, text.as_str()),
         Err(_) => Usage::no_memory(alloc),
     }
 }
 
-/// What these words ask for; the first one is the program's name.
+fn is_word<S: AsStr>(words: &[S], index: usize, word: &str) -> bool
+    ensures { result ≡ is_word (map S.text words.now) index word.now }
+{
+    match words.get(index) {
+        Some(found) => word == found.as_str(),
+        None => false,
+    }
+}
+
+// Whether help is asked for of `help`.
+fn is_help_of_help<S: AsStr>(words: &[S]) -> bool
+    ensures { result ≡ is_help_of_help (map S.text words.now) }
+{
+    words.len() == 3
+        && is_word(words, 1, "help")
+        && (is_word(words, 2, "--help") || is_word(words, 2, "-h"))
+}
+
+// The words that `clap` gets: `help --help` is `help`, since `clap` has no help of it.
+fn heard<'a, S: AsStr>(words: &'a [S]) -> &'a [S]
+    ensures { map S.text result.now ≡ heard (map S.text words.entry.now) }
+{
+    if is_help_of_help(words) {
+        &words[..2]
+    } else {
+        words
+    }
+}
+
+// The request of words that `clap` took, or what is wrong with them.
+fn request_of<'a>(alloc: Global, matches: &ArgMatches<'a>) -> Result<Request<'a>, Usage>
+    ensures job { IfOk result (λ request. IsInRange request.job) }
+    ensures asked { IfOk result (λ request. job_in (subcommand_rows_of matches.now) ≡ Some (asked_by request.job)) }
+    ensures long { IfOk result (λ request. request.long ≡ is_long_in (words_found matches.now) (subcommand_rows_of matches.now)) }
+    ensures sound { IfOk result (λ request. IsWrittenApart request.job × IsOneOrder request.job) }
+    ensures mistake { IfErr result (λ usage. (usage.status ≡ 2) ⊎ (usage.status ≡ 7)) }
+{
+    let Some(job) = job_of(matches) else {
+        return Err(Usage::of_text(alloc, 2, MISTAKE));
+    };
+    if is_overwriting(&job) {
+        return Err(Usage::of_text(alloc, 2, SAME_FILE));
+    }
+    if has_two_orders(&job) {
+        return Err(Usage::of_text(alloc, 2, TWO_ORDERS));
+    }
+    let long = is_long(matches);
+    Ok(Request { job, long })
+}
+
+/// What these words ask for, and how much is to be said of it; the first one is the program's name.
+///
+/// # Errors
+///
+/// As `read_words` has them.
+pub fn read_request<'a, S: AsStr>(alloc: Global, words: &'a [S]) -> Result<Request<'a>, Usage>
+    ensures asked { IfOk result (IsAskedBy (map S.text words.entry.now)) }
+    ensures job { IfOk result (λ request. IsInRange request.job) }
+    ensures sound { IfOk result (λ request. IsWrittenApart request.job × IsOneOrder request.job) }
+    ensures usage { IfErr result (λ usage. IsUsageStatus usage.status) }
+    ensures status { IfErr result (λ usage.
+        (usage.status ≡ 7) ⊎ IsStatusFor (map S.text words.entry.now) usage.status) }
+{
+    let program = match program(alloc) {
+        Ok(program) => program,
+        Err(_) => return Err(Usage::no_memory(alloc)),
+    };
+    let words = heard(words);
+    match program.try_get_matches_from(words) {
+        Ok(matches) => request_of(alloc, &matches),
+        Err(error) => Err(usage_of(alloc, &error, words)),
+    }
+}
+
+/// The job that these words ask for; the first one is the program's name.
 ///
 /// # Errors
 ///
 /// What is to be written in the place of a job: help, the version, or what is wrong with the words,
-/// in the words of `clap`, or that the history would be written to a file that is read, or that both
-/// the choices and the workers are given. The status is 0 for help and the version, 2 for words that
-/// are wrong, and 7 where memory was refused.
+/// in the words of `clap` and a few of its own, or that the history would be written to a file that is
+/// read, or that both the choices and the workers are given. The status is 0 for help and the version,
+/// 2 for words that are wrong, and 7 where memory was refused.
 pub fn read_words<'a, S: AsStr>(alloc: Global, words: &'a [S]) -> Result<Job<'a>, Usage>
     ensures job { IfOk result IsInRange }
     ensures asked { IfOk result (λ job. asked (map S.text words.entry.now) ≡ Some (asked_by job)) }
@@ -243,17 +342,8 @@ pub fn read_words<'a, S: AsStr>(alloc: Global, words: &'a [S]) -> Result<Job<'a>
     ensures status { IfErr result (λ usage.
         (usage.status ≡ 7) ⊎ IsStatusFor (map S.text words.entry.now) usage.status) }
 {
-    let program = match program(alloc) {
-        Ok(program) => program,
-        Err(_) => return Err(Usage::no_memory(alloc)),
-    };
-    match program.try_get_matches_from(words) {
-        Ok(matches) => match job_of(&matches) {
-            Some(job) if is_overwriting(&job) => Err(Usage::of_text(alloc, 2, SAME_FILE)),
-            Some(job) if has_two_orders(&job) => Err(Usage::of_text(alloc, 2, TWO_ORDERS)),
-            Some(job) => Ok(job),
-            None => Err(Usage::of_text(alloc, 2, MISTAKE)),
-        },
-        Err(error) => Err(usage_of(alloc, &error)),
+    match read_request(alloc, words) {
+        Ok(request) => Ok(request.job),
+        Err(usage) => Err(usage),
     }
 }

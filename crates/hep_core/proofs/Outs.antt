@@ -1,5 +1,6 @@
 -- Which processes are out, after a ticket more and after a process that came back; and which of them still live.
-use Rattle.std.proofs.Common.{◌≡◌, ◌≢◌, ◌⊎◌, ℕ, ◌&&◌, ◌||◌, Bool, true, false, List, [], ◌∷◌, ◌++◌, inl, inr, refl, sym, ◌∙◌, nat_eq}
+use Rattle.std.proofs.Common.{◌≡◌, ◌≢◌, ◌⊎◌, ℕ, ◌&&◌, ◌||◌, Bool, true, false, List, [], ◌∷◌, ◌++◌, inl, inr, refl, sym, ap, ◌∙◌, nat_eq, not}
+use Rattle.std.specs.List.{filter}
 use Rattle.std.proofs.lemmas.Bool.{cases_Bool, cases_eq, ne_eqb, eq-eqb}
 use Rattle.hep_core.specs.declared.ticket.TicketId.{TicketId}
 use Rattle.hep_core.specs.Tickets.{has_ticket, is_out, without_process}
@@ -54,3 +55,10 @@ home-again p (t ∷ ts) = elim (cases_eq t.process p) [
   | inl same ↦ rw (eq-eqb t.process p same) (home-again p ts)
   | inr other ↦ rw (ne_eqb t.process p other, ne_eqb t.process p other) (home-again p ts)
 ]
+
+-- where nobody is out, all that are ready are free
+pub all_free : (ps : List ℕ) (out : List TicketId) → out ≡ [] → filter (λ p. not (is_out p out)) ps ≡ ps
+all_free ps out none = ap (λ ts. filter (λ p. not (is_out p ts)) ps) none ∙ whole ps where
+  whole : (qs : List ℕ) → filter (λ p. not (is_out p [])) qs ≡ qs
+  whole [] = refl
+  whole (q ∷ qs) = ap (λ rest. q ∷ rest) (whole qs)

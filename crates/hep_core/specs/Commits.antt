@@ -47,8 +47,8 @@ IsCheckedOut old p (Err choosing.NoMemory) new =
 abbrev pub IsGood : CoreValue → TicketId → Type 0
 IsGood core id = HasNoStop core × (living (state_of core) id.process ≢ None) × (has_ticket id core.out ≡ true)
 
--- what came of a commit of a segment of this ticket: a choice of its process, which comes back by it; where it isn't made the ticket is out as
--- before
+-- what came of a commit of a segment of this ticket: a choice of its process, in the core to which that came back; where none is made the
+-- ticket is out as before
 abbrev pub IsCommitted : CoreValue → TicketId → Result Turn CommitFault → CoreValue → Type 0
 IsCommitted old id (Ok turn) new = (has_ticket id old.out ≡ true) × IsChoice (core_after_return old id.process) id.process (Ok turn) new
 IsCommitted old id (Err (committing.Stopped stop)) new =

@@ -1,5 +1,6 @@
-//! The core: the run of an image by single steps, choice by choice, with its history. Several workers may share it: a worker checks a process
-//! out, makes its segment without the core, and commits it. Meanwhile others check out, commit and choose other processes.
+//! The core: the run of an image by single steps, choice by choice, with its history. Several workers may share it: a worker
+//! checks a process out, makes its segment without the core, and commits it. Meanwhile others check out, commit and choose
+//! other processes.
 #![tactic(auto)]
 
 pub mod fault;

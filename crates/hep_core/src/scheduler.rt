@@ -2,7 +2,7 @@
 ghost use Rattle.std.specs.Prelude.{◌≡◌, ◌≢◌, ◌≤◌, ◌<◌, ◌++◌, ◌∷◌, [], None, Some, IsSome, IfNone, IfSome, IfOk, OnErr, OnOk, IfErr, Err, false, true};
 ghost use Rattle.std.specs.Prelude.{◌+◌, is_some, nat_lt, vec_len, vec_capacity};
 ghost use Rattle.hep_machine.specs.Words.{IsLegal, common_cells, is_held, opening_layout, used_cells, living, first_above, last_process};
-ghost use Rattle.hep_machine.specs.Words.{view_of};
+ghost use Rattle.hep_machine.specs.Words.{next_of_ready, view_of};
 ghost use Rattle.hep_core.specs.Value.{state_of, opening_of, IsNewFault, IsChoice, HasNoStop, IsStop, IsStoppedWhereFull};
 ghost use Rattle.hep_core.specs.Commits.{IsCancelled, IsCheckedOut, IsCommitted, IsGivenTo, core_after_return, most_tickets};
 ghost use Rattle.hep_core.specs.Invariant.{AreLiving};
@@ -491,6 +491,14 @@ impl Core {
         self.ready.first_above(p)
     }
 
+    // The process that comes next by itself, whoever is out.
+    fn next_of_all(&self) -> Option<u64>
+        ensures { result ≡ next_of_ready (last_process self.now.history) (ready_of self.now) }
+    {
+        lists_are_those_of_definitions();
+        self.ready.next(self.last_process())
+    }
+
     // Of those that aren't out the one with the least number above p.
     fn free_above(&self, p: u64) -> Option<u64>
         ensures { result ≡ first_above p (free_of self.now) None }
@@ -510,6 +518,9 @@ impl Core {
     pub fn next_ready(&self) -> Option<u64>
         ensures { result ≡ next_ready_of self.now }
     {
+        if self.out.is_empty() {
+            return self.next_of_all();
+        }
         match self.free_above(self.last_process()) {
             Some(p) => Some(p),
             None => self.free_above(0),

@@ -12,7 +12,7 @@ use Rattle.hep_step.specs.Simulation.{unit_arrays, unit_code}
 use Rattle.hep_state.specs.declared.machine.Level.{Level}
 use Rattle.hep_state.specs.declared.machine.Machine.{Machine}
 use Rattle.hep_state.specs.declared.machine.Process.{Process}
-use Rattle.hep_state.specs.Words.{Changes, HasLevels, IsMachineAfter, Snapshot, Stack, frame_under, node_under, stack_of, stack_with}
+use Rattle.hep_state.specs.Words.{AfterTurns, Changes, HasLevels, HoldsOfTop, IsMachineAfter, Snapshot, Stack, frame_under, node_under, stack_of, stack_with}
 use Rattle.hep_moves.specs.Moves.{CanGoOn, Goes, HasNoMove}
 
 -- ---- the top activation
@@ -51,8 +51,8 @@ CanGoTop program q frames = CanGo program (stack_of q) (vec_capacity q.operands)
 
 abbrev pub GoesTop : Units → Process → Frames → ℕ → ℕ → Process → Frames → Type 0
 GoesTop program old frames most made new after =
-    (l : Level) (ls : List Level) (operands pending : List Value) → stack_of old ≡ stack_with l ls operands pending
-    → HasGoneOn program (nodes_of frames.nodes) l ls operands pending frames.arena after.arena most made (stack_of new)
+    HoldsOfTop old (λ l ls operands pending.
+    HasGoneOn program (nodes_of frames.nodes) l ls operands pending frames.arena after.arena most made (stack_of new))
 
 -- a process lives, and no plain operation stands ahead of it that moves it
 pub record HasNoMoveAhead (program : Units) (p : ℕ) (m : Snapshot) : Type 0 where
@@ -80,5 +80,5 @@ pub data HasGone (program : Units) (cells p : ℕ) : List ℕ → ℕ → List �
 -- after whatever turns a machine keeps the state, p made so many more of them, and it keeps the state after those
 abbrev pub MakesMoves : Units → ℕ → Machine → ℕ → Machine → Type 0
 MakesMoves program p old made new =
-    (cells : ℕ) (choices : List ℕ) → IsMachineAfter program cells choices old
-    → (after : List ℕ) × HasGone program cells p choices made after × IsMachineAfter program cells after new
+    AfterTurns program old (λ cells choices.
+    (after : List ℕ) × HasGone program cells p choices made after × IsMachineAfter program cells after new)

@@ -12,7 +12,6 @@ use Rattle.hep_core.specs.declared.fault.ChooseFault.TheVariants as refused
 use Rattle.hep_core.specs.declared.stop.ChoiceStop.{ChoiceStop}
 use Rattle.hep_core.specs.declared.stop.ChoiceStop.TheVariants.{Halted}
 use Rattle.hep_core.specs.declared.stop.Turn.{Turn as CoreTurn}
-use Rattle.hep_core.specs.Tickets.{is_out}
 use Rattle.hep_core.specs.Value.{CoreValue, state_of, core_after_choice, stop_after, HasNoStop, IsTurn, IsChoice}
 use Rattle.hep_core.specs.Going.{AreChoices}
 use Rattle.hep_core.specs.Going as going
@@ -140,10 +139,6 @@ stopped_turns old new p waits stop h (inl c) = λ room has gaps.
     halted_turn old.program (state_of old) p waits (is_halted (state_of old) stop (sym (ap (λ k. k.stop) h) ∙ c.0)) has
 stopped_turns old new p waits stop h (inr (inl c)) = λ room has gaps. omega (arith, limit_is old h, c.1)
 stopped_turns old new p waits stop h (inr (inr c)) = λ room has gaps. no_gap_turns old.program old.cells old.history p waits c.2 has gaps
-
--- nobody is out
-pub nobody_out : (old new : CoreValue) (p : ℕ) → IsStanding old → IsChoice old p (Err refused.IsOut) new → ⊥
-nobody_out old new p h c = true≢false (sym c.1 ∙ ap (λ (k : CoreValue). is_out p k.out) h)
 
 -- ---- many turns
 

@@ -3,5 +3,5 @@ mod Messages
 mod Fronts
 mod Accepted
 mod Outcomes
-mod Lowered
+mod Noted
 mod Worked

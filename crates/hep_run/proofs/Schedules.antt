@@ -16,8 +16,7 @@ use Rattle.hep_core.specs.declared.stop.Turn.{Turn}
 use Rattle.hep_core.specs.declared.stop.Turns.{Turns}
 use Rattle.hep_core.specs.Going.{AreChoices, AreTurns, again, begun}
 use Rattle.hep_core.proofs.Going.{choices-began, unmoved}
-use Rattle.hep_core.specs.declared.ticket.TicketId.{TicketId}
-use Rattle.hep_core.specs.Tickets.{is_out}
+use Rattle.hep_core.proofs.Outs.{all_free}
 use Rattle.hep_core.specs.Value.{CoreValue, state_of, core_after_choice, free_of, next_ready_of, ready_of, stop_after, HasNoStop, IsFree, IsTurn, IsChoice}
 use Rattle.hep_run.specs.declared.options.Options.{Options}
 use Rattle.hep_run.specs.declared.run.Halt.TheVariants as halts
@@ -294,17 +293,7 @@ nobody_chosen options old new p i c running count here =
     (running, omega (arith, count), (c.0.1, p, subst (λ (k : ℕ). slice_get options.choices k ≡ Some p) (sym count) here, c.1)) in
     subst (λ (v : CoreValue). IsHaltedBy options v (halts.NoSuchProcess (i + 1))) (sym c.2) refused
 
--- nobody is out
-pub nobody_out : (options : Options) (old new : CoreValue) (p : ℕ) → IsRunning options old → IsChoice old p (Err IsOut) new → ⊥
-nobody_out options old new p running c = true≢false (sym c.1 ∙ ap (is_out p) running.out)
-
--- so what comes next by itself is what is ready
-all_free : (ps : List ℕ) (out : List TicketId) → out ≡ [] → filter (λ p. not (is_out p out)) ps ≡ ps
-all_free ps out none = ap (λ ts. filter (λ p. not (is_out p ts)) ps) none ∙ whole ps where
-  whole : (qs : List ℕ) → filter (λ p. not (is_out p [])) qs ≡ qs
-  whole [] = refl
-  whole (q ∷ qs) = ap (λ rest. q ∷ rest) (whole qs)
-
+-- where nobody is out, what comes next by itself is what is ready
 pub comes_next : (options : Options) (core : CoreValue) → IsRunning options core → next_ready_of core ≡ next_ready core.program core.history
 comes_next options core running = ap (next_of_ready (last_process core.history)) (all_free (ready_of core) core.out running.out)
 

@@ -1,5 +1,5 @@
 -- What `check` and `list` of a source come to, from its bytes to the bytes that they write: docs/MACHINE.md, "The program".
-use Rattle.std.specs.Prelude.{◌≡◌, ℕ, List, []}
+use Rattle.std.specs.Prelude.{◌≡◌, ℕ, Bool, List, []}
 use Rattle.hep_conditions.specs.Words.{IsAccepted}
 use Rattle.hep_check.specs.Listing.{listing}
 use Rattle.hep_run.specs.declared.status.Status.TheVariants as statuses
@@ -11,9 +11,9 @@ abbrev pub outcome_of_text : List ℕ → Outcome
 outcome_of_text text = record { output = text; messages = []; status = statuses.Done; history = [] }
 
 -- what `check` comes to: why the source isn't run, or nothing
-abbrev pub IsCheckOutcome : List ℕ → Outcome → Type 0
-IsCheckOutcome source o = RunsTo (λ program end. end ≡ outcome_of_text []) source o
+abbrev pub IsCheckOutcome : Bool → List ℕ → Outcome → Type 0
+IsCheckOutcome long source o = RunsTo long (λ program end. end ≡ outcome_of_text []) source o
 
 -- what `list` comes to: why the source isn't accepted, or the lines of its units and common blocks; it may pass a limit
-abbrev pub IsListOutcome : List ℕ → Outcome → Type 0
-IsListOutcome source o = ComesTo IsViolatingProgram IsAccepted (λ program end. end ≡ outcome_of_text (listing program)) source o
+abbrev pub IsListOutcome : Bool → List ℕ → Outcome → Type 0
+IsListOutcome long source o = ComesTo long IsViolatingProgram IsAccepted (λ program end. end ≡ outcome_of_text (listing program)) source o

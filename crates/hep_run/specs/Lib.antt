@@ -1,6 +1,7 @@
 pub mod Texts
 pub mod Statuses
 pub mod Sources
+pub mod Notes
 pub mod Outcome
 pub mod Replay
 pub mod Workers

@@ -1,5 +1,5 @@
 -- What a run of a source comes to, from its bytes to the bytes that it writes: docs/MACHINE.md, "The program".
-use Rattle.std.specs.Prelude.{◌≡◌, ◌≢◌, ◌⊎◌, ℕ, ◌+◌, ◌<◌, ◌≤◌, true, false, if◌then◌else◌, List, [], ◌∷◌, ◌++◌, length, take, slice_get, Option, Some, None}
+use Rattle.std.specs.Prelude.{◌≡◌, ◌≢◌, ◌⊎◌, ℕ, ◌+◌, ◌<◌, ◌≤◌, Bool, true, false, if◌then◌else◌, List, [], ◌∷◌, ◌++◌, length, take, slice_get, Option, Some, None}
 use Rattle.hep_machine.specs.declared.event.Entry.{Entry}
 use Rattle.hep_machine.specs.declared.event.Fault.{Fault}
 use Rattle.hep_machine.specs.Words.{Units, opening_layout, living_from, next_ready, progress_after, ready_in, schedule_of, state_after, IsLegal, living}
@@ -16,6 +16,7 @@ use Rattle.hep_run.specs.declared.status.Status.TheVariants as statuses
 use Rattle.hep_output.specs.Records.{records_text}
 use Rattle.hep_dump.specs.Faults.{faults_text}
 use Rattle.hep_dump.specs.Waiting.{waiting_text}
+use Rattle.hep_run.specs.Notes.{AreNotes}
 use Rattle.hep_run.specs.Sources.{IsRefusedFor, IsRefusedProgram, IsRunnable, IsSourceOf}
 use Rattle.hep_run.specs.Texts.{refusal_text, stop_text, choice_text}
 
@@ -78,8 +79,10 @@ IsChoiceRefused program options history =
 
 -- ---- outcomes
 
-abbrev pub refused : ℕ → ℕ → List ℕ → Outcome
-refused number line name = record { output = []; messages = refusal_text number line name; status = statuses.Refused; history = [] }
+-- the line of a refusal, and the notes behind it
+abbrev pub refused : ℕ → ℕ → List ℕ → List ℕ → Outcome
+refused number line name notes =
+    record { output = []; messages = refusal_text number line name ++ notes; status = statuses.Refused; history = [] }
 
 abbrev pub outcome_of_full_arena : Outcome
 outcome_of_full_arena = record { output = []; messages = stop_text (Some ArenaFull); status = statuses.ArenaFull; history = [] }
@@ -134,16 +137,18 @@ IsRunOutcome program options o =
 abbrev pub IsProgramOutcome : Units → Options → Outcome → Type 0
 IsProgramOutcome program options o = ((opening_layout program options.arena ≡ None) × (o ≡ outcome_of_full_arena)) ⊎ IsRunOutcome program options o
 
--- what a source comes to: a refusal of it, whose program may be refused so; or what comes of its program, of which this holds
-abbrev pub ComesTo : (Units → ℕ → ℕ → List ℕ → Type 0) → (Units → Type 0) → (Units → Outcome → Type 0) → List ℕ → Outcome → Type 0
-ComesTo IsRefused Holds Comes source o =
-    ((number : ℕ) × (line : ℕ) × (name : List ℕ) × IsRefusedFor IsRefused source number line name × (o ≡ refused number line name))
+-- what a source comes to: a refusal of it, whose program may be refused so, with notes where they are asked for; or what comes of its
+-- program, of which this holds
+abbrev pub ComesTo : Bool → (Units → ℕ → ℕ → List ℕ → Type 0) → (Units → Type 0) → (Units → Outcome → Type 0) → List ℕ → Outcome → Type 0
+ComesTo long IsRefused Holds Comes source o =
+    ((number : ℕ) × (line : ℕ) × (name : List ℕ) × (notes : List ℕ) × IsRefusedFor IsRefused source number line name
+    × AreNotes long source number line name notes × (o ≡ refused number line name notes))
     ⊎ ((program : Units) × IsSourceOf Holds source program × Comes program o)
 
 -- what it comes to where a core is to run its program
-abbrev pub RunsTo : (Units → Outcome → Type 0) → List ℕ → Outcome → Type 0
-RunsTo Comes source o = ComesTo IsRefusedProgram IsRunnable Comes source o
+abbrev pub RunsTo : Bool → (Units → Outcome → Type 0) → List ℕ → Outcome → Type 0
+RunsTo long Comes source o = ComesTo long IsRefusedProgram IsRunnable Comes source o
 
--- what a run of a source comes to by these options
-abbrev pub IsOutcome : Options → List ℕ → Outcome → Type 0
-IsOutcome options source o = RunsTo (λ program. IsProgramOutcome program options) source o
+-- what a run of a source comes to by these options, with notes where they are asked for
+abbrev pub IsOutcome : Bool → Options → List ℕ → Outcome → Type 0
+IsOutcome long options source o = RunsTo long (λ program. IsProgramOutcome program options) source o

@@ -1,5 +1,5 @@
 -- What a replay comes to, from the bytes of a source and of a history to the bytes that it writes: docs/MACHINE.md, "The program".
-use Rattle.std.specs.Prelude.{◌≡◌, ◌⊎◌, ℕ, List, [], ◌++◌, codes, length, None, IsSome}
+use Rattle.std.specs.Prelude.{◌≡◌, ◌⊎◌, ℕ, Bool, List, [], ◌++◌, codes, length, None, IsSome}
 use Rattle.hep_machine.specs.declared.event.Entry.{Entry}
 use Rattle.hep_machine.specs.Words.{Units, opening_layout}
 use Rattle.hep_core.specs.declared.stop.Verdict.{Verdict}
@@ -53,5 +53,5 @@ IsTextOutcome text cells program o =
     ⊎ ((entries : List Entry) × AreLines entry_text IsAllowed text entries × IsEntriesOutcome program cells entries o)
 
 -- what a replay of a source by this text comes to, in an arena of so many cells
-abbrev pub IsReplayOutcome : List ℕ → ℕ → List ℕ → Outcome → Type 0
-IsReplayOutcome text cells source o = RunsTo (IsTextOutcome text cells) source o
+abbrev pub IsReplayOutcome : Bool → List ℕ → ℕ → List ℕ → Outcome → Type 0
+IsReplayOutcome long text cells source o = RunsTo long (IsTextOutcome text cells) source o

@@ -1,12 +1,19 @@
 -- What a transcript says, as an outcome, and what is left where one was to be made: docs/ARCHITECTURE.md, "Forms".
-use Rattle.std.specs.Prelude.{ℕ, List, Option, Result, Ok, Err}
+use Rattle.std.specs.Prelude.{◌≡◌, ℕ, List, Option, Result, Ok, Err}
 use Rattle.hep_run.specs.declared.options.Run.{Run}
 use Rattle.hep_run.specs.declared.transcript.Transcript.{Transcript}
 use Rattle.hep_run.specs.Delivery.{Leaves, WantsMemory}
-use Rattle.hep_run.specs.Outcome.{Outcome}
+use Rattle.hep_run.specs.Outcome.{Outcome, refused}
+use Rattle.hep_run.specs.declared.refusal.SourceFault.{SourceFault}
+use Rattle.hep_run.specs.declared.refusal.SourceFault.TheVariants as source
 
 abbrev pub outcome_of : Transcript → Outcome
 outcome_of r = record { output = r.output.items; messages = r.messages.items; status = r.status; history = r.history }
+
+-- the outcome of a source that isn't run for this reason; want of memory has none
+abbrev pub IsOutcomeOfFault : SourceFault → Outcome → Type 0
+IsOutcomeOfFault source.NoMemory o = ⊥
+IsOutcomeOfFault (source.Refused number line name notes) o = o ≡ refused number line name notes
 
 -- the transcript was delivered, or memory was refused for it
 abbrev pub LeavesMade : {E : Type 0} → Result Transcript E → Run → Option (List ℕ) → Option (List ℕ) → Option (List ℕ) → Option (List ℕ) → Type 0

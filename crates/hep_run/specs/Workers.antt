@@ -32,5 +32,5 @@ IsImageWorked program options o =
     ⊎ ((history : List Entry) × (stop : Option ChoiceStop) × IsWorked program options history stop × (o ≡ outcome_of_end program history stop))
 
 -- what a run of a source by workers comes to by these options
-abbrev pub IsWorkOutcome : WorkOptions → List ℕ → Outcome → Type 0
-IsWorkOutcome options source o = RunsTo (λ program. IsImageWorked program options) source o
+abbrev pub IsWorkOutcome : Bool → WorkOptions → List ℕ → Outcome → Type 0
+IsWorkOutcome long options source o = RunsTo long (λ program. IsImageWorked program options) source o

@@ -4,8 +4,7 @@ ghost use Rattle.hep_run.specs.Checks.{IsCheckOutcome, IsListOutcome};
 ghost use Rattle.hep_run.specs.Transcripts.{outcome_of};
 
 use crate::front::{checked_source, image_of_source};
-use crate::transcript::{Transcript, refused_transcript, text_transcript};
-use hep_base::Refusal;
+use crate::transcript::{Transcript, fault_transcript, text_transcript};
 use hep_check::list_text;
 use std::alloc::{AllocError, Global};
 
@@ -14,15 +13,12 @@ use std::alloc::{AllocError, Global};
 /// # Errors
 ///
 /// Only where memory was refused.
-pub fn check_transcript(alloc: Global, source: &[u8]) -> Result<Transcript, AllocError>
-    ensures { IfOk result (λ r. IsCheckOutcome source.now (outcome_of r)) }
+pub fn check_transcript(alloc: Global, source: &[u8], long: bool) -> Result<Transcript, AllocError>
+    ensures { IfOk result (λ r. IsCheckOutcome long source.now (outcome_of r)) }
 {
-    match image_of_source(alloc, source) {
+    match image_of_source(alloc, source, long) {
         Ok(_) => Ok(text_transcript(alloc, Vec::new(alloc))),
-        Err(Refusal::NoMemory) => Err(AllocError),
-        Err(Refusal::Refused { number, line, name }) => {
-            refused_transcript(alloc, number, line, &name)
-        }
+        Err(fault) => fault_transcript(alloc, fault),
     }
 }
 
@@ -31,17 +27,14 @@ pub fn check_transcript(alloc: Global, source: &[u8]) -> Result<Transcript, Allo
 /// # Errors
 ///
 /// Only where memory was refused.
-pub fn list_transcript(alloc: Global, source: &[u8]) -> Result<Transcript, AllocError>
-    ensures { IfOk result (λ r. IsListOutcome source.now (outcome_of r)) }
+pub fn list_transcript(alloc: Global, source: &[u8], long: bool) -> Result<Transcript, AllocError>
+    ensures { IfOk result (λ r. IsListOutcome long source.now (outcome_of r)) }
 {
-    match checked_source(alloc, source) {
+    match checked_source(alloc, source, long) {
         Ok(checked) => {
             let text = list_text(alloc, &checked)?;
             Ok(text_transcript(alloc, text.into_vec()))
         }
-        Err(Refusal::NoMemory) => Err(AllocError),
-        Err(Refusal::Refused { number, line, name }) => {
-            refused_transcript(alloc, number, line, &name)
-        }
+        Err(fault) => fault_transcript(alloc, fault),
     }
 }

@@ -7,7 +7,7 @@ ghost use Rattle.std.specs.Io.KnownBytes.{Keeps};
 ghost use Rattle.hep_run.specs.Delivery.{CannotRead, SaysLines, SaysUnread, SomeOf};
 ghost use Rattle.hep_run.specs.Files.{HasReadText, KeepsHistory, PutsText, ReadsChoices, SaysRefusal};
 ghost use Rattle.hep_run.specs.Texts.{write_fault_text};
-ghost use Rattle.hep_run.specs.declared.status.Status.TheVariants.{NoMemory, Usage};
+ghost use Rattle.hep_run.specs.declared.status.Status.TheVariants.{DeviceFailed, NoMemory, Usage};
 
 use crate::deliver::{put_text, put_write_fault, say};
 use crate::input::{ReadFault, read_input};
@@ -115,13 +115,15 @@ pub fn say_unwritten<E: Write>(messages: &mut E) -> u8
 }
 
 /// Writes a text for the one who gave the words: to `output` where it was asked for, which is status
-/// 0, and to `messages` where the words are wrong, 2. At 7 memory was refused for it. It gives the
-/// exit status.
+/// 0, and to `messages` where the words are wrong, 2, or a file can't be opened, 8. At 7 memory was refused for it. It
+/// gives the exit status.
 pub fn answer<W: Write, E: Write>(status: u8, text: &[u8], output: &mut W, messages: &mut E) -> u8
     ensures asked { status ≡ 0 → PutsText text.now 0 result (W.contents output.old)
         (W.contents output.new) (E.contents messages.old) (E.contents messages.new) }
     ensures mistaken { status ≡ 2 → Keeps (W.contents output.old) (W.contents output.new)
         × SaysLines text.now Usage result (E.contents messages.old) (E.contents messages.new) }
+    ensures unopened { status ≡ 8 → Keeps (W.contents output.old) (W.contents output.new)
+        × SaysLines text.now DeviceFailed result (E.contents messages.old) (E.contents messages.new) }
     ensures unmade { status ≡ 7 → Keeps (W.contents output.old) (W.contents output.new)
         × SaysLines (codes "NO MEMORY\n") NoMemory result
         (E.contents messages.old) (E.contents messages.new) }
@@ -129,6 +131,7 @@ pub fn answer<W: Write, E: Write>(status: u8, text: &[u8], output: &mut W, messa
     match status {
         0 => put_text(text, 0, output, messages),
         2 => say(messages, text, Status::Usage),
+        8 => say(messages, text, Status::DeviceFailed),
         _ => say(messages, NO_MEMORY, Status::NoMemory),
     }
 }

@@ -21,5 +21,8 @@ pub use files::{answer, choices_of, history_text, read_text_file, say_unread, sa
 pub use hep_workers::{Gate, NoGate, WorkOptions};
 pub use input::ReadFault;
 pub use options::{Options, Run};
-pub use source::{check_source, list_source, replay_bytes, replay_source, run_bytes, run_source};
-pub use workers::work_source;
+pub use source::{
+    check_noted, check_source, list_noted, list_source, replay_bytes, replay_noted, replay_source,
+    run_bytes, run_noted, run_source,
+};
+pub use workers::{work_noted, work_source};

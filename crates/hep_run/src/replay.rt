@@ -5,7 +5,7 @@ ghost use Rattle.hep_run.specs.Transcripts.{outcome_of};
 
 use crate::front::image_of_source;
 use crate::transcript::{
-    Transcript, core_transcript, full_transcript, history_transcript, refused_transcript,
+    Transcript, core_transcript, fault_transcript, full_transcript, history_transcript,
 };
 use hep_base::Refusal;
 use hep_history::{ReplayFault, read_text, replay};
@@ -48,16 +48,14 @@ pub fn replay_transcript(
     source: &[u8],
     history: &[u8],
     cells: u32,
+    long: bool,
 ) -> Result<Transcript, AllocError>
     requires some { 1 ≤ cells }
     requires few { cells ≤ 16777216 }
-    ensures { IfOk result (λ r. IsReplayOutcome history.now cells source.now (outcome_of r)) }
+    ensures { IfOk result (λ r. IsReplayOutcome long history.now cells source.now (outcome_of r)) }
 {
-    match image_of_source(alloc, source) {
+    match image_of_source(alloc, source, long) {
         Ok(image) => image_transcript(alloc, image, history, cells),
-        Err(Refusal::NoMemory) => Err(AllocError),
-        Err(Refusal::Refused { number, line, name }) => {
-            refused_transcript(alloc, number, line, &name)
-        }
+        Err(fault) => fault_transcript(alloc, fault),
     }
 }

@@ -11,9 +11,8 @@ use crate::front::image_of_source;
 use crate::options::Options;
 use crate::refusal::OpeningFault;
 use crate::transcript::{
-    Transcript, choice_transcript, ended_transcript, full_transcript, refused_transcript,
+    Transcript, choice_transcript, ended_transcript, fault_transcript, full_transcript,
 };
-use hep_base::Refusal;
 use hep_core::{ChooseFault, Core};
 use std::alloc::{AllocError, Global};
 
@@ -30,11 +29,16 @@ pub enum Halt {
 }
 
 // The core at the opening of a source.
-fn core_of(alloc: Global, source: &[u8], options: &Options) -> Result<Core, OpeningFault>
+fn core_of(
+    alloc: Global,
+    source: &[u8],
+    options: &Options,
+    long: bool,
+) -> Result<Core, OpeningFault>
     ensures made { IfOk result (IsOpening source.now options.now) }
-    ensures refused { IfErr result (IsOpeningFault source.now options.now) }
+    ensures refused { IfErr result (IsOpeningFault long source.now options.now) }
 {
-    let image = image_of_source(alloc, source)?;
+    let image = image_of_source(alloc, source, long)?;
     let core = Core::new(alloc, image, options.arena, options.steps)?;
     Ok(core)
 }
@@ -157,7 +161,7 @@ fn run_transcript(alloc: Global, core: Core, options: &Options) -> Result<Transc
     ended_transcript(alloc, core)
 }
 
-/// All that a run of a source comes to, before a byte of it is written.
+/// All that a run of a source comes to, before a byte of it is written, with notes where `long` is true.
 ///
 /// # Errors
 ///
@@ -166,15 +170,13 @@ pub fn transcript_of(
     alloc: Global,
     source: &[u8],
     options: &Options,
+    long: bool,
 ) -> Result<Transcript, AllocError>
-    ensures { IfOk result (λ r. IsOutcome options.now source.now (outcome_of r)) }
+    ensures { IfOk result (λ r. IsOutcome long options.now source.now (outcome_of r)) }
 {
-    match core_of(alloc, source, options) {
+    match core_of(alloc, source, options, long) {
         Ok(core) => run_transcript(alloc, core, options),
-        Err(OpeningFault::Source(Refusal::NoMemory)) => Err(AllocError),
-        Err(OpeningFault::Source(Refusal::Refused { number, line, name })) => {
-            refused_transcript(alloc, number, line, &name)
-        }
+        Err(OpeningFault::Source(fault)) => fault_transcript(alloc, fault),
         Err(OpeningFault::ArenaFull) => full_transcript(alloc),
     }
 }

@@ -1,5 +1,5 @@
 //! The program's work on one source, from its reader to its two writers: a check, its lines, a run, or a replay.
-ghost use Rattle.std.specs.Prelude.{◌≤◌};
+ghost use Rattle.std.specs.Prelude.{◌≤◌, false};
 ghost use Rattle.hep_run.specs.Delivery.{LeavesOneOf, LeavesOfSource, status_alone};
 ghost use Rattle.hep_run.specs.Checks.{IsCheckOutcome, IsListOutcome};
 ghost use Rattle.hep_run.specs.Outcome.{IsOutcome};
@@ -26,69 +26,128 @@ pub const MOST_BYTES: usize = 4_194_304;
 /// The line where memory was refused.
 pub const NO_MEMORY: &[u8] = b"NO MEMORY\n";
 
-/// Checks a source: reads it, and writes to `messages` why it is refused, if it is. Where it
-/// isn't, nothing is written, and `run_source` would run it.
+/// Checks a source: reads it, and writes to `messages` why it is refused, if it is, with notes where `long` is true. Where it
+/// isn't, nothing is written, and `run_noted` would run it.
 ///
 /// The answer is the code of a `Status`.
+pub fn check_noted<R: Read, W: Write, E: Write>(
+    alloc: Global,
+    source: &mut R,
+    long: bool,
+    output: &mut W,
+    messages: &mut E,
+) -> u8
+    ensures { LeavesOfSource (IsCheckOutcome long) (R.remaining source.old) (R.remaining source.new)
+        (status_alone result) (W.contents output.old) (W.contents output.new)
+        (E.contents messages.old) (E.contents messages.new) }
+{
+    match read_input(alloc, source, MOST_BYTES) {
+        Ok(bytes) => {
+            let made = check_transcript(alloc, &bytes, long);
+            deliver_made(alloc, made, output, messages).status
+        }
+        Err(fault) => say_unread(messages, fault),
+    }
+}
+
+/// Checks a source, as `check_noted` does without notes.
 pub fn check_source<R: Read, W: Write, E: Write>(
     alloc: Global,
     source: &mut R,
     output: &mut W,
     messages: &mut E,
 ) -> u8
-    ensures { LeavesOfSource IsCheckOutcome (R.remaining source.old) (R.remaining source.new)
+    ensures { LeavesOfSource (IsCheckOutcome false) (R.remaining source.old) (R.remaining source.new)
+        (status_alone result) (W.contents output.old) (W.contents output.new)
+        (E.contents messages.old) (E.contents messages.new) }
+{
+    check_noted(alloc, source, false, output, messages)
+}
+
+/// Lists a source: reads it, and writes to `output` the lines of its units and common blocks, also where it
+/// passes a limit; or to `messages` why it is refused, with notes where `long` is true.
+///
+/// The answer is the code of a `Status`.
+pub fn list_noted<R: Read, W: Write, E: Write>(
+    alloc: Global,
+    source: &mut R,
+    long: bool,
+    output: &mut W,
+    messages: &mut E,
+) -> u8
+    ensures { LeavesOfSource (IsListOutcome long) (R.remaining source.old) (R.remaining source.new)
         (status_alone result) (W.contents output.old) (W.contents output.new)
         (E.contents messages.old) (E.contents messages.new) }
 {
     match read_input(alloc, source, MOST_BYTES) {
-        Ok(bytes) => deliver_made(alloc, check_transcript(alloc, &bytes), output, messages).status,
+        Ok(bytes) => {
+            let made = list_transcript(alloc, &bytes, long);
+            deliver_made(alloc, made, output, messages).status
+        }
         Err(fault) => say_unread(messages, fault),
     }
 }
 
-/// Lists a source: reads it, and writes to `output` the lines of its units and common blocks, also where it
-/// passes a limit; or to `messages` why it is refused.
-///
-/// The answer is the code of a `Status`.
+/// Lists a source, as `list_noted` does without notes.
 pub fn list_source<R: Read, W: Write, E: Write>(
     alloc: Global,
     source: &mut R,
     output: &mut W,
     messages: &mut E,
 ) -> u8
-    ensures { LeavesOfSource IsListOutcome (R.remaining source.old) (R.remaining source.new)
+    ensures { LeavesOfSource (IsListOutcome false) (R.remaining source.old) (R.remaining source.new)
         (status_alone result) (W.contents output.old) (W.contents output.new)
         (E.contents messages.old) (E.contents messages.new) }
 {
-    match read_input(alloc, source, MOST_BYTES) {
-        Ok(bytes) => deliver_made(alloc, list_transcript(alloc, &bytes), output, messages).status,
-        Err(fault) => say_unread(messages, fault),
-    }
+    list_noted(alloc, source, false, output, messages)
 }
 
 /// Runs a source that was read: checks it, runs it by the options, and then writes the records to
-/// `output` and the faults, the stop or the refusal to `messages`.
+/// `output` and the faults, the stop or the refusal to `messages`, with notes where `long` is true.
 ///
 /// The run's status is the code of a `Status`.
 pub fn run_bytes<W: Write, E: Write>(
     alloc: Global,
     source: &[u8],
     options: &Options,
+    long: bool,
     output: &mut W,
     messages: &mut E,
 ) -> Run
-    ensures { LeavesOneOf (IsOutcome options.now source.now) result
+    ensures { LeavesOneOf (IsOutcome long options.now source.now) result
         (W.contents output.old) (W.contents output.new)
         (E.contents messages.old) (E.contents messages.new) }
 {
-    let made = transcript_of(alloc, source, options);
+    let made = transcript_of(alloc, source, options, long);
     deliver_made(alloc, made, output, messages)
 }
 
 /// Runs a source: reads it, checks it, runs it by the options, and then writes the records to
-/// `output` and the faults, the stop or the refusal to `messages`.
+/// `output` and the faults, the stop or the refusal to `messages`, with notes where `long` is true.
 ///
 /// The run's status is the code of a `Status`.
+pub fn run_noted<R: Read, W: Write, E: Write>(
+    alloc: Global,
+    source: &mut R,
+    options: &Options,
+    long: bool,
+    output: &mut W,
+    messages: &mut E,
+) -> Run
+    ensures { LeavesOfSource (IsOutcome long options.now) (R.remaining source.old) (R.remaining source.new)
+        result (W.contents output.old) (W.contents output.new)
+        (E.contents messages.old) (E.contents messages.new) }
+{
+    match read_input(alloc, source, MOST_BYTES) {
+        Ok(bytes) => run_bytes(alloc, &bytes, options, long, output, messages),
+        Err(fault) => Run {
+            status: say_unread(messages, fault),
+            history: History::from(Vec::new(alloc)),
+        },
+    }
+}
+
+/// Runs a source, as `run_noted` does without notes.
 pub fn run_source<R: Read, W: Write, E: Write>(
     alloc: Global,
     source: &mut R,
@@ -96,17 +155,11 @@ pub fn run_source<R: Read, W: Write, E: Write>(
     output: &mut W,
     messages: &mut E,
 ) -> Run
-    ensures { LeavesOfSource (IsOutcome options.now) (R.remaining source.old) (R.remaining source.new)
+    ensures { LeavesOfSource (IsOutcome false options.now) (R.remaining source.old) (R.remaining source.new)
         result (W.contents output.old) (W.contents output.new)
         (E.contents messages.old) (E.contents messages.new) }
 {
-    match read_input(alloc, source, MOST_BYTES) {
-        Ok(bytes) => run_bytes(alloc, &bytes, options, output, messages),
-        Err(fault) => Run {
-            status: say_unread(messages, fault),
-            history: History::from(Vec::new(alloc)),
-        },
-    }
+    run_noted(alloc, source, options, false, output, messages)
 }
 
 /// Makes the steps of a history of a source again, both as bytes, in an arena of so many cells, 1 to
@@ -118,16 +171,17 @@ pub fn replay_bytes<W: Write, E: Write>(
     source: &[u8],
     history: &[u8],
     cells: u32,
+    long: bool,
     output: &mut W,
     messages: &mut E,
 ) -> Run
     requires some { 1 ≤ cells }
     requires few { cells ≤ 16777216 }
-    ensures { LeavesOneOf (IsReplayOutcome history.now cells source.now) result
+    ensures { LeavesOneOf (IsReplayOutcome long history.now cells source.now) result
         (W.contents output.old) (W.contents output.new)
         (E.contents messages.old) (E.contents messages.new) }
 {
-    let made = replay_transcript(alloc, source, history, cells);
+    let made = replay_transcript(alloc, source, history, cells, long);
     deliver_made(alloc, made, output, messages)
 }
 
@@ -135,6 +189,32 @@ pub fn replay_bytes<W: Write, E: Write>(
 ///
 /// The history's bytes were read before, so that faults come in the order of the words: one of
 /// reading the history first, then those of the source, then those of the history's text.
+pub fn replay_noted<R: Read, W: Write, E: Write>(
+    alloc: Global,
+    source: &mut R,
+    history: &[u8],
+    cells: u32,
+    long: bool,
+    output: &mut W,
+    messages: &mut E,
+) -> Run
+    requires some { 1 ≤ cells }
+    requires few { cells ≤ 16777216 }
+    ensures { LeavesOfSource (IsReplayOutcome long history.now cells)
+        (R.remaining source.old) (R.remaining source.new)
+        result (W.contents output.old) (W.contents output.new)
+        (E.contents messages.old) (E.contents messages.new) }
+{
+    match read_input(alloc, source, MOST_BYTES) {
+        Ok(bytes) => replay_bytes(alloc, &bytes, history, cells, long, output, messages),
+        Err(fault) => Run {
+            status: say_unread(messages, fault),
+            history: History::from(Vec::new(alloc)),
+        },
+    }
+}
+
+/// Reads a source and makes the steps of a history of it again, as `replay_noted` does without notes.
 pub fn replay_source<R: Read, W: Write, E: Write>(
     alloc: Global,
     source: &mut R,
@@ -145,16 +225,10 @@ pub fn replay_source<R: Read, W: Write, E: Write>(
 ) -> Run
     requires some { 1 ≤ cells }
     requires few { cells ≤ 16777216 }
-    ensures { LeavesOfSource (IsReplayOutcome history.now cells)
+    ensures { LeavesOfSource (IsReplayOutcome false history.now cells)
         (R.remaining source.old) (R.remaining source.new)
         result (W.contents output.old) (W.contents output.new)
         (E.contents messages.old) (E.contents messages.new) }
 {
-    match read_input(alloc, source, MOST_BYTES) {
-        Ok(bytes) => replay_bytes(alloc, &bytes, history, cells, output, messages),
-        Err(fault) => Run {
-            status: say_unread(messages, fault),
-            history: History::from(Vec::new(alloc)),
-        },
-    }
+    replay_noted(alloc, source, history, cells, false, output, messages)
 }

@@ -6,9 +6,10 @@ ghost use Rattle.hep_run.specs.Outcome.{outcome_of_end, outcome_of_refused_choic
 ghost use Rattle.hep_run.specs.Checks.{outcome_of_text};
 ghost use Rattle.hep_run.specs.Replay as replay;
 ghost use Rattle.hep_run.specs.Replay.{outcome_of_core, outcome_of_refused_history};
-ghost use Rattle.hep_run.specs.Transcripts.{outcome_of};
+ghost use Rattle.hep_run.specs.Transcripts.{IsOutcomeOfFault, outcome_of};
 ghost use Rattle.hep_run.specs.Workers.{outcome_of_refused_workers};
 
+use crate::refusal::SourceFault;
 use crate::status::Status;
 use crate::texts::put_refusal;
 use hep_core::{ChoiceStop, Core, Fault, Verdict};
@@ -193,23 +194,40 @@ pub fn history_transcript(alloc: Global, number: u16, place: u64) -> Result<Tran
     Ok(Transcript::silent(alloc, messages, Status::Usage, history))
 }
 
-/// What a refused source leaves.
-///
-/// # Errors
-///
-/// Only where memory was refused.
-pub fn refused_transcript(
+// What a refused source leaves.
+fn refused_transcript(
     alloc: Global,
     number: u16,
     line: u32,
     name: &Text,
+    notes: &Text,
 ) -> Result<Transcript, AllocError>
-    ensures { IfOk result (λ r. outcome_of r ≡ outcome.refused number line name.now) }
+    ensures { IfOk result (λ r. outcome_of r ≡ outcome.refused number line name.now notes.now) }
 {
     let mut messages = Vec::new(alloc);
     put_refusal(&mut messages, number, u64::from(line), name.as_slice())?;
+    messages.extend_from_slice(notes.as_slice())?;
     let history = History::from(Vec::new(alloc));
     Ok(Transcript::silent(alloc, messages, Status::Refused, history))
+}
+
+/// What a source leaves that isn't run for this reason.
+///
+/// # Errors
+///
+/// Only where memory was refused.
+pub fn fault_transcript(alloc: Global, fault: SourceFault) -> Result<Transcript, AllocError>
+    ensures { IfOk result (λ r. IsOutcomeOfFault fault (outcome_of r)) }
+{
+    match fault {
+        SourceFault::NoMemory => Err(AllocError),
+        SourceFault::Refused {
+            number,
+            line,
+            name,
+            notes,
+        } => refused_transcript(alloc, number, line, &name, &notes),
+    }
 }
 
 /// What is left where this text is the answer.

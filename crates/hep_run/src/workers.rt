@@ -1,5 +1,5 @@
 //! A source's run by workers.
-ghost use Rattle.std.specs.Prelude.{IfOk};
+ghost use Rattle.std.specs.Prelude.{IfOk, false};
 ghost use Rattle.hep_run.specs.Delivery.{LeavesOfSource};
 ghost use Rattle.hep_run.specs.Transcripts.{outcome_of};
 ghost use Rattle.hep_run.specs.Workers.{IsImageWorked, IsWorkOutcome};
@@ -11,9 +11,8 @@ use crate::input::read_input;
 use crate::options::Run;
 use crate::source::MOST_BYTES;
 use crate::transcript::{
-    Transcript, ended_transcript, full_transcript, refused_transcript, workers_transcript,
+    Transcript, ended_transcript, fault_transcript, full_transcript, workers_transcript,
 };
-use hep_base::Refusal;
 use hep_history::History;
 use hep_image::Image;
 use hep_workers::{Gate, WorkFault, WorkOptions, run_workers};
@@ -26,11 +25,11 @@ use std::thread::Threads;
 fn image_transcript<H: Threads + Wait + Sync, G: Gate + Sync>(
     rt: &H,
     alloc: Global,
-    image: &Image,
-    options: WorkOptions,
+    image: Image,
+    options: &WorkOptions,
     gate: &G,
 ) -> Result<Transcript, AllocError>
-    ensures { IfOk result (λ r. IsImageWorked image.now options (outcome_of r)) }
+    ensures { IfOk result (λ r. IsImageWorked image options.now (outcome_of r)) }
 {
     match run_workers(rt, alloc, image, options, gate) {
         Ok(report) => {
@@ -50,40 +49,39 @@ fn work_transcript<H: Threads + Wait + Sync, G: Gate + Sync>(
     rt: &H,
     alloc: Global,
     source: &[u8],
-    options: WorkOptions,
+    options: &WorkOptions,
     gate: &G,
+    long: bool,
 ) -> Result<Transcript, AllocError>
-    ensures { IfOk result (λ r. IsWorkOutcome options source.now (outcome_of r)) }
+    ensures { IfOk result (λ r. IsWorkOutcome long options.now source.now (outcome_of r)) }
 {
-    match image_of_source(alloc, source) {
-        Ok(image) => image_transcript(rt, alloc, &image, options, gate),
-        Err(Refusal::NoMemory) => Err(AllocError),
-        Err(Refusal::Refused { number, line, name }) => {
-            refused_transcript(alloc, number, line, &name)
-        }
+    match image_of_source(alloc, source, long) {
+        Ok(image) => image_transcript(rt, alloc, image, options, gate),
+        Err(fault) => fault_transcript(alloc, fault),
     }
 }
 
-/// Runs a source by workers: reads it, checks it, has threads take its steps, and then writes as `run_source` does, or `WORKERS REFUSED`
+/// Runs a source by workers: reads it, checks it, has threads take its steps, and then writes as `run_noted` does, or `WORKERS REFUSED`
 /// with a number to `messages` where the workers gave up.
 ///
 /// The run's status is the code of a `Status`. It may wait, and what it promises holds if it returns.
-pub fn work_source<H: Threads + Wait + Sync, G: Gate + Sync, R: Read, W: Write, E: Write>(
+pub fn work_noted<H: Threads + Wait + Sync, G: Gate + Sync, R: Read, W: Write, E: Write>(
     rt: &H,
     alloc: Global,
     source: &mut R,
-    options: WorkOptions,
+    options: &WorkOptions,
     gate: &G,
+    long: bool,
     output: &mut W,
     messages: &mut E,
 ) -> Run
-    ensures { LeavesOfSource (IsWorkOutcome options) (R.remaining source.old) (R.remaining source.new)
+    ensures { LeavesOfSource (IsWorkOutcome long options.now) (R.remaining source.old) (R.remaining source.new)
         result (W.contents output.old) (W.contents output.new)
         (E.contents messages.old) (E.contents messages.new) }
 {
     match read_input(alloc, source, MOST_BYTES) {
         Ok(bytes) => {
-            let made = work_transcript(rt, alloc, &bytes, options, gate);
+            let made = work_transcript(rt, alloc, &bytes, options, gate, long);
             deliver_made(alloc, made, output, messages)
         }
         Err(fault) => Run {
@@ -91,4 +89,21 @@ pub fn work_source<H: Threads + Wait + Sync, G: Gate + Sync, R: Read, W: Write, 
             history: History::from(Vec::new(alloc)),
         },
     }
+}
+
+/// Runs a source by workers, as `work_noted` does without notes.
+pub fn work_source<H: Threads + Wait + Sync, G: Gate + Sync, R: Read, W: Write, E: Write>(
+    rt: &H,
+    alloc: Global,
+    source: &mut R,
+    options: &WorkOptions,
+    gate: &G,
+    output: &mut W,
+    messages: &mut E,
+) -> Run
+    ensures { LeavesOfSource (IsWorkOutcome false options.now) (R.remaining source.old) (R.remaining source.new)
+        result (W.contents output.old) (W.contents output.new)
+        (E.contents messages.old) (E.contents messages.new) }
+{
+    work_noted(rt, alloc, source, options, gate, false, output, messages)
 }

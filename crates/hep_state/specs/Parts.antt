@@ -46,7 +46,11 @@ use Rattle.hep_state.specs.Turns.{HasStepped, HasWaited, IsAfter}
 abbrev pub IsReached : Units → Machine → Type 0
 IsReached program m = (cells : ℕ) × (choices : List ℕ) × IsMachineAfter program cells choices m
 
--- and process p of it, which has activations, has its turn
+-- this is so of an arena's size and turns after which a machine keeps the state, whichever these are
+abbrev pub AfterTurns : Units → Machine → (ℕ → List ℕ → Type 0) → Type 0
+AfterTurns program m IsSo = (cells : ℕ) (choices : List ℕ) → IsMachineAfter program cells choices m → IsSo cells choices
+
+-- a machine keeps a state of the program, and process p of it, which has activations, has its turn
 pub record IsItsTurn (program : Units) (p : ℕ) (m : Machine) : Type 0 where
   pub after : IsReached program m
   pub running : m.halted ≡ false
@@ -54,8 +58,7 @@ pub record IsItsTurn (program : Units) (p : ℕ) (m : Machine) : Type 0 where
 
 -- a state that a machine keeps is kept still
 abbrev pub KeepsState : Units → Machine → Machine → Type 0
-KeepsState program old new =
-    (cells : ℕ) (choices : List ℕ) → IsMachineAfter program cells choices old → IsMachineAfter program cells choices new
+KeepsState program old new = AfterTurns program old (λ cells choices. IsMachineAfter program cells choices new)
 
 -- there is the room that there was for a program
 abbrev pub KeepsRoomOf : Units → Machine → Machine → Type 0
@@ -94,13 +97,12 @@ pub record IsAtOperation (program : Units) (p : ℕ) (m : Machine) : Type 0 wher
 -- it was performed, with this effect
 abbrev pub LeavesBy : Units → ℕ → Machine → Machine → Performed → Type 0
 LeavesBy program p old new effect =
-    (cells : ℕ) (choices : List ℕ) → IsMachineAfter program cells choices old
-    → IsLeft program cells choices p (snapshot_of new) effect
+    AfterTurns program old (λ cells choices. IsLeft program cells choices p (snapshot_of new) effect)
 
 -- and fills or empties this cell alone, if one is told
 abbrev pub ChangesNext : Units → ℕ → Machine → Option Want → Type 0
 ChangesNext program p old changed =
-    (cells : ℕ) (choices : List ℕ) → IsMachineAfter program cells choices old → Changes program cells choices p changed
+    AfterTurns program old (λ cells choices. Changes program cells choices p changed)
 
 -- a state that a machine shows is shown still, and it is seen as before
 pub record IsSeenAlike (program : Units) (old new : Machine) : Type 0 where
@@ -151,15 +153,15 @@ IsAtCallAhead program p m call =
 -- this is given to the dummy arguments, and so many operands are kept
 abbrev pub IsGivenBy : Units → ℕ → Machine → CallAhead → ℕ → Passing → Type 0
 IsGivenBy program p m call kept passing =
-    (cells : ℕ) (choices : List ℕ) → IsMachineAfter program cells choices m → HasCallAhead program cells choices p (snapshot_of m) call
+    AfterTurns program m (λ cells choices. HasCallAhead program cells choices p (snapshot_of m) call
     → HoldsInTurn program cells choices p (snapshot_of m)
-    (λ t. IsMaking call.way t call.unit kept call.next passing.given.items passing.shapes.items)
+    (λ t. IsMaking call.way t call.unit kept call.next passing.given.items passing.shapes.items))
 
 -- it is a fault
 abbrev pub FailsAtCall : Units → ℕ → Machine → CallAhead → Kind → Type 0
 FailsAtCall program p m call kind =
-    (cells : ℕ) (choices : List ℕ) → IsMachineAfter program cells choices m → HasCallAhead program cells choices p (snapshot_of m) call
-    → IsToEnd program cells choices p (snapshot_of m) (fails call.line kind)
+    AfterTurns program m (λ cells choices. HasCallAhead program cells choices p (snapshot_of m) call
+    → IsToEnd program cells choices p (snapshot_of m) (fails call.line kind))
 
 -- the activation of a unit can begin: its frame has a gap and its node room
 pub record CanBegin (p : ℕ) (m : Machine) (called : Called) : Type 0 where
@@ -278,5 +280,5 @@ EmptiesTargets p index old new =
 -- its turn was made
 abbrev pub TurnsByPurge : Units → ℕ → PurgeAhead → Machine → Machine → Type 0
 TurnsByPurge program p purge old new =
-    (cells : ℕ) (choices : List ℕ) → IsMachineAfter program cells choices old
-    → HasPurgeAhead program cells choices p (snapshot_of old) purge → HasTurned program cells choices p Purged new
+    AfterTurns program old (λ cells choices. HasPurgeAhead program cells choices p (snapshot_of old) purge
+    → HasTurned program cells choices p Purged new)

@@ -19,9 +19,15 @@ use Rattle.hep_state.specs.Tops.{operands_answered, pending_answered, stack_with
 
 -- ---- the top level
 
+-- this is so of its top level, those below it, the operands of the top one and those of all others, if it has a top level
+abbrev pub HoldsOfTop : Process → (Level → List Level → List Value → List Value → Type 0) → Type 0
+HoldsOfTop q IsSo =
+    (l : Level) (ls : List Level) (operands pending : List Value) → stack_of q ≡ stack_with l ls operands pending
+    → IsSo l ls operands pending
+
 -- this is its top level
 abbrev pub HasTop : Process → Level → Type 0
-HasTop q top = (l : Level) (ls : List Level) (operands pending : List Value) → stack_of q ≡ stack_with l ls operands pending → top ≡ l
+HasTop q top = HoldsOfTop q (λ l _ _ _. top ≡ l)
 
 -- it has one, whose unit and node are there
 abbrev pub IsPlaced : Units → Frames → Process → Type 0
@@ -39,14 +45,12 @@ IsInCode program frames q =
 -- its unit, its frame and its index are these
 abbrev pub HasPlace : Units → Frames → Process → UnitCode → CellFrame → ℕ → Type 0
 HasPlace program frames q unit frame index =
-    (l : Level) (ls : List Level) (operands pending : List Value) → stack_of q ≡ stack_with l ls operands pending
-    → IsPlace program (nodes_of frames.nodes) l unit frame index
+    HoldsOfTop q (λ l _ _ _. IsPlace program (nodes_of frames.nodes) l unit frame index)
 
 -- what is behind its operation in the code, its unit's arrays, and its frame are these
 abbrev pub HasBehind : Units → Frames → Process → List Instruction → List Array → CellFrame → Type 0
 HasBehind program frames q entries arrays frame =
-    (l : Level) (ls : List Level) (operands pending : List Value) → stack_of q ≡ stack_with l ls operands pending
-    → IsBehind program (nodes_of frames.nodes) l entries arrays frame
+    HoldsOfTop q (λ l _ _ _. IsBehind program (nodes_of frames.nodes) l entries arrays frame)
 
 -- ---- what changes it
 
@@ -71,44 +75,37 @@ CanAdvanceTop program q frames = CanAdvance program (stack_of q) (vec_capacity q
 -- and it was
 abbrev pub AdvancesTop : {E : Type 0} → Units → Process → Frames → Result Effect E → Process → Frames → Type 0
 AdvancesTop program old frames result new after =
-    (l : Level) (ls : List Level) (operands pending : List Value) → stack_of old ≡ stack_with l ls operands pending
-    → IsAdvanced program (nodes_of frames.nodes) l ls operands pending frames.arena after.arena result (stack_of new)
+    HoldsOfTop old (λ l ls operands pending.
+    IsAdvanced program (nodes_of frames.nodes) l ls operands pending frames.arena after.arena result (stack_of new))
 
 -- it is at another index
 abbrev pub StandsAt : Process → ℕ → Process → Type 0
 StandsAt old index new =
-    (l : Level) (ls : List Level) (operands pending : List Value) → stack_of old ≡ stack_with l ls operands pending
-    → stack_of new ≡ stack_with (record l { index = index }) ls operands pending
+    HoldsOfTop old (λ l ls operands pending. stack_of new ≡ stack_with (record l { index = index }) ls operands pending)
 
 -- it is at another index, without operands
 abbrev pub GoesOnAt : Process → ℕ → Process → Type 0
 GoesOnAt old index new =
-    (l : Level) (ls : List Level) (operands pending : List Value) → stack_of old ≡ stack_with l ls operands pending
-    → stack_of new ≡ stack_with (record l { index = index }) ls [] pending
+    HoldsOfTop old (λ l ls _ pending. stack_of new ≡ stack_with (record l { index = index }) ls [] pending)
 
 -- another level is in its place
 abbrev pub PutsTop : Process → Level → Process → Type 0
-PutsTop old level new =
-    (l : Level) (ls : List Level) (operands pending : List Value) → stack_of old ≡ stack_with l ls operands pending
-    → stack_of new ≡ stack_with level ls operands pending
+PutsTop old level new = HoldsOfTop old (λ _ ls operands pending. stack_of new ≡ stack_with level ls operands pending)
 
 -- a level is above it; it keeps its first operands, so many, and is to go on at an index
 abbrev pub PutsAbove : Process → ℕ → ℕ → Level → Process → Type 0
 PutsAbove old kept index level new =
-    (l : Level) (ls : List Level) (operands pending : List Value) → stack_of old ≡ stack_with l ls operands pending
-    → stack_of new ≡ stack_with level (record l { kept = kept; index = index } ∷ ls) [] (pending ++ take kept operands)
+    HoldsOfTop old (λ l ls operands pending.
+    stack_of new ≡ stack_with level (record l { kept = kept; index = index } ∷ ls) [] (pending ++ take kept operands))
 
 -- it is taken off
 abbrev pub EndsTop : Process → Process → Type 0
 EndsTop old new =
-    (l : Level) (ls : List Level) (operands pending : List Value) → stack_of old ≡ stack_with l ls operands pending
-    → stack_of new ≡ record { levels = ls; operands = []; pending = pending }
+    HoldsOfTop old (λ _ ls _ pending. stack_of new ≡ record { levels = ls; operands = []; pending = pending })
 
 -- there is room for the operands that it keeps and a value more
 abbrev pub HasRoomForValue : Process → Type 0
-HasRoomForValue q =
-    (l : Level) (ls : List Level) (operands pending : List Value) → stack_of q ≡ stack_with l ls operands pending
-    → l.kept + 1 ≤ vec_capacity q.operands
+HasRoomForValue q = HoldsOfTop q (λ l _ _ _. l.kept + 1 ≤ vec_capacity q.operands)
 
 -- it has the operands back that it keeps, and a value behind them
 abbrev pub TakesValue : Process → Value → Process → Type 0

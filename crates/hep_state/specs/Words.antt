@@ -26,17 +26,16 @@ unfoldable pub use Rattle.hep_state.specs.Outcomes.{HasTurned}
 pub use Rattle.hep_state.specs.Outcomes.{Changes, HasPurged}
 pub use Rattle.hep_state.specs.Known.{AreRunning, IsKnown, IsMadeOf}
 unfoldable pub use Rattle.hep_state.specs.Stacks.{AdvancesTop, CanAdvanceTop, CanSettle, EndsTop, GoesOnAt, HasBehind, HasPlace}
-unfoldable pub use Rattle.hep_state.specs.Stacks.{HasRoomForValue, HasTop, IsInCode, IsPlaced}
-unfoldable pub use Rattle.hep_state.specs.Stacks.{PutsAbove, PutsTop, Settles, StandsAt, TakesValue}
-unfoldable pub use Rattle.hep_state.specs.Parts.{Begins, ChangesNext, EmptiesTargets, EndsBy, FailsAtCall, FailsAtPurge, HaveFramesLeft}
-unfoldable pub use Rattle.hep_state.specs.Parts.{IsAtCallAhead, IsAtPurgeAhead}
-unfoldable pub use Rattle.hep_state.specs.Parts.{IsEndingBy, IsEndingWithRoom, IsGivenBy, IsLeftWithRoom, IsReached, IsWhetherLives}
-unfoldable pub use Rattle.hep_state.specs.Parts.{KeepsRoomAt, KeepsRoomOf, KeepsRoomParting}
-unfoldable pub use Rattle.hep_state.specs.Parts.{KeepsRoomWith, KeepsState, LeavesBy, NamesRanges, PartsAt, StepsByCall, StepsAfter}
+unfoldable pub use Rattle.hep_state.specs.Stacks.{HasRoomForValue, HasTop, HoldsOfTop, IsInCode, IsPlaced, PutsAbove, PutsTop, Settles}
+unfoldable pub use Rattle.hep_state.specs.Stacks.{StandsAt, TakesValue}
+unfoldable pub use Rattle.hep_state.specs.Parts.{AfterTurns, Begins, ChangesNext, EmptiesTargets, EndsBy, FailsAtCall, FailsAtPurge}
+unfoldable pub use Rattle.hep_state.specs.Parts.{HaveFramesLeft, IsAtCallAhead, IsAtPurgeAhead, IsEndingBy, IsEndingWithRoom, IsGivenBy}
+unfoldable pub use Rattle.hep_state.specs.Parts.{IsLeftWithRoom, IsReached, IsWhetherLives, KeepsRoomAt, KeepsRoomOf, KeepsRoomParting}
+unfoldable pub use Rattle.hep_state.specs.Parts.{KeepsRoomWith, KeepsState, LeavesBy, NamesRanges, PartsAt, StepsAfter, StepsByCall}
 unfoldable pub use Rattle.hep_state.specs.Parts.{StepsByCreation, TurnsByPurge, WaitsAfter}
 pub use Rattle.hep_state.specs.Parts.{CanBegin, CanCall, CanCreate, CanEmpty, CanPart, IsAtOperation, IsItsTurn, IsSeenAlike, KeepsWritten}
 unfoldable pub use Rattle.hep_state.specs.Reserving.{KeepsRoom}
 pub use Rattle.hep_state.specs.Reserving.{HasRoomForEntry, HasRoomForLevel, HasRoomForProcess, IsEmptyProcess, KeepsReady, KeepsReadyFor}
 pub use Rattle.hep_state.specs.Reserving.{ShowsSame}
-unfoldable pub use Rattle.hep_state.specs.Histories.{cells_of, IsAfterHistory, IsTurn, IsUntaken}
+unfoldable pub use Rattle.hep_state.specs.Histories.{IsAfterHistory, IsTurn, IsUntaken, cells_of}
 pub use Rattle.hep_state.specs.Histories.{CanTakeCall, CanTakeOperation, CanTakeResume, CanTurn, LeavesAlone}

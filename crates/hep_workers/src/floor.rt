@@ -46,18 +46,18 @@ struct Work {
 pub fn run_workers<R: Threads + Wait + Sync, G: Gate + Sync>(
     rt: &R,
     alloc: Global,
-    image: &Image,
-    options: WorkOptions,
+    image: Image,
+    options: &WorkOptions,
     gate: &G,
 ) -> Result<Report, WorkFault>
-    ensures report { IfOk result (λ report. IsReport report.core image.now options report.logs.items) }
-    ensures fault { IfErr result (λ fault. IsWorkFault fault image.now options) }
+    ensures report { IfOk result (λ report. IsReport report.core image options.now report.logs.items) }
+    ensures fault { IfErr result (λ fault. IsWorkFault fault image options.now) }
 {
     let core = Core::new(alloc, image.copy(alloc)?, options.arena, options.steps)?;
     let floor = Floor::new(core);
-    let logs = work_all(rt, alloc, &floor, image, options.workers, gate)?;
+    let logs = work_all(rt, alloc, &floor, &image, options.workers, gate)?;
     let Floor { core, .. } = floor;
-    Ok(close(alloc, core.into_inner(), image, options, logs)?)
+    Ok(close(alloc, core.into_inner(), &image, options, logs)?)
 }
 
 // Starts the workers, waits for their ends, and gives their logs, or the first fault of one.

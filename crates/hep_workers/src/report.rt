@@ -33,12 +33,12 @@ pub fn close(
     alloc: Global,
     core: Core,
     image: &Image,
-    options: WorkOptions,
+    options: &WorkOptions,
     logs: Vec<Log>,
 ) -> Result<Report, CloseFault>
     ensures kept { IfOk result (λ report. (report.core ≡ core) × (report.logs ≡ logs)) }
-    ensures closed { IfOk result (λ report. IsReport core image.now options logs.items) }
-    ensures unclosed { IfErr result (λ fault. IsUnclosed fault core image.now options logs.items) }
+    ensures closed { IfOk result (λ report. IsReport core image.now options.now logs.items) }
+    ensures unclosed { IfErr result (λ fault. IsUnclosed fault core image.now options.now logs.items) }
 {
     let Ok(named) = are_entries(alloc, core.history(), &logs) else {
         return Err(CloseFault::NoMemory);
@@ -59,8 +59,8 @@ pub fn close(
 }
 
 // The core is of this image and these options.
-fn is_of_run(core: &Core, image: &Image, options: WorkOptions) -> bool
-    ensures { MatchBool result (IsOfRun core.now image.now options) (IsOfRun core.now image.now options → ⊥) }
+fn is_of_run(core: &Core, image: &Image, options: &WorkOptions) -> bool
+    ensures { MatchBool result (IsOfRun core.now image.now options.now) (IsOfRun core.now image.now options.now → ⊥) }
 {
     core.cells() == options.arena && core.limit() == options.steps && core.image().same(image)
 }

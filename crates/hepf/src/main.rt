@@ -1,18 +1,18 @@
 //! `hepf`: checks, lists, runs, replays and explains HEP FORTRAN.
 //!
-//! What stands here opens files, and joins calls that do the rest: `hep_command` reads the words, and
-//! `hep_run` does the work and says what went wrong.
+//! What stands here opens files, says which one can't be opened, and joins calls that do the rest: `hep_command` reads the words, and
+//! `hep_run` does the work and says what else went wrong.
 #![tactic(auto)]
 
 ghost use Rattle.std.specs.Prelude.{◌≤◌};
 ghost use Rattle.hep_command.specs.Jobs.{IsInRange};
 
-use hep_command::{Job, SAME_FILE, explain, read_words};
+use hep_command::{Job, Request, SAME_FILE, explain, read_request};
 use hep_history::Choices;
 use hep_run::{
-    NoGate, Options, ReadFault, Run, WorkOptions, answer, check_source, choices_of, history_text,
-    list_source, put_text, read_text_file, replay_source, run_source, say_unread, say_unwritten,
-    work_source,
+    NoGate, Options, ReadFault, Run, WorkOptions, answer, check_noted, choices_of, history_text,
+    list_noted, put_text, read_text_file, replay_noted, run_noted, say_unread, say_unwritten,
+    work_noted,
 };
 use std::fs::File;
 use std::io::ErrorKind;
@@ -22,21 +22,71 @@ use std::sync::Wait;
 use std::thread::Threads;
 use std::{env, fs, io};
 
-// Each function here gives the exit status, or what it is named after or else the exit status.
+// Each function here gives the exit status, or what it is named after or else the exit status. Where `long` is true, more is said
+// than the lines that are fixed.
 
-// The bytes of a file of choices or of a history.
-fn file_bytes(rt: &HostRuntime, path: &str) -> Result<Vec<u8>, u8> {
-    let mut messages = rt.stderr();
-    match File::open(rt, path) {
-        Ok(mut file) => read_text_file(rt.alloc(), &mut file, &mut messages),
-        Err(_) => Err(say_unread(&mut messages, ReadFault::Failed)),
+// Why a file can't be opened, in words.
+fn reason_of(fault: &io::Error) -> &'static str {
+    match fault.kind() {
+        ErrorKind::NotFound => "no such file",
+        ErrorKind::PermissionDenied => "permission denied",
+        ErrorKind::IsADirectory => "is a folder",
+        ErrorKind::NotADirectory => "a part of the path is no folder",
+        _ => "can't be opened",
     }
 }
 
-fn file_choices(rt: &HostRuntime, path: Option<&str>) -> Result<Choices, u8> {
+// Says that a file can't be read, and where more is to be said, which file and why.
+fn say_unopened(rt: &HostRuntime, path: &str, reason: &str, long: bool) -> u8 {
+    let mut messages = rt.stderr();
+    if long {
+        if let Ok(text) = format!(in rt.alloc(); "READ FAULT\n{path}: {reason}\n") {
+            return answer(8, text.as_bytes(), &mut rt.stdout(), &mut messages);
+        }
+    }
+    say_unread(&mut messages, ReadFault::Failed)
+}
+
+// Says that a file can't be written, and where more is to be said, which file and why.
+fn say_uncreated(rt: &HostRuntime, path: &str, fault: &io::Error, long: bool) -> u8 {
+    let mut messages = rt.stderr();
+    let reason = match fault.kind() {
+        ErrorKind::NotFound => "no such folder",
+        _ => reason_of(fault),
+    };
+    if long {
+        if let Ok(text) = format!(in rt.alloc(); "WRITE FAULT AFTER 0\n{path}: {reason}\n") {
+            return answer(8, text.as_bytes(), &mut rt.stdout(), &mut messages);
+        }
+    }
+    say_unwritten(&mut messages)
+}
+
+// A file to be read. A folder can be opened and not read, so where more is to be said it is looked at before.
+fn opened(rt: &HostRuntime, path: &str, long: bool) -> Result<File, u8> {
+    if long {
+        if let Ok(found) = fs::metadata(rt, path) {
+            if found.is_dir() {
+                return Err(say_unopened(rt, path, "is a folder", long));
+            }
+        }
+    }
+    match File::open(rt, path) {
+        Ok(file) => Ok(file),
+        Err(fault) => Err(say_unopened(rt, path, reason_of(&fault), long)),
+    }
+}
+
+// The bytes of a file of choices or of a history.
+fn file_bytes(rt: &HostRuntime, path: &str, long: bool) -> Result<Vec<u8>, u8> {
+    let mut file = opened(rt, path, long)?;
+    read_text_file(rt.alloc(), &mut file, &mut rt.stderr())
+}
+
+fn file_choices(rt: &HostRuntime, path: Option<&str>, long: bool) -> Result<Choices, u8> {
     match path {
         Some(path) => {
-            let text = file_bytes(rt, path)?;
+            let text = file_bytes(rt, path, long)?;
             choices_of(rt.alloc(), &text, &mut rt.stderr())
         }
         None => Ok(Choices::from(Vec::new(rt.alloc()))),
@@ -66,7 +116,7 @@ fn is_over_read(
     is_one_file(rt, history, file) || choices.is_some_and(|path| is_one_file(rt, history, path))
 }
 
-fn write_history(rt: &HostRuntime, run: &Run, path: &str) -> u8 {
+fn write_history(rt: &HostRuntime, run: &Run, path: &str, long: bool) -> u8 {
     let mut messages = rt.stderr();
     let text = match history_text(rt.alloc(), run, &mut messages) {
         Ok(text) => text,
@@ -74,55 +124,57 @@ fn write_history(rt: &HostRuntime, run: &Run, path: &str) -> u8 {
     };
     match File::create(rt, path) {
         Ok(mut file) => put_text(&text, run.status, &mut file, &mut messages),
-        Err(_) => say_unwritten(&mut messages),
+        Err(fault) => say_uncreated(rt, path, &fault, long),
     }
 }
 
-fn run_standard(rt: &HostRuntime) -> u8 {
+fn run_standard(rt: &HostRuntime, long: bool) -> u8 {
     let alloc = rt.alloc();
     let options = Options::defaults(alloc);
     let mut source = rt.stdin();
-    run_source(
+    run_noted(
         alloc,
         &mut source,
         &options,
+        long,
         &mut rt.stdout(),
         &mut rt.stderr(),
     )
     .status
 }
 
-fn check_file(rt: &HostRuntime, file: &str) -> u8 {
-    let mut messages = rt.stderr();
-    match File::open(rt, file) {
-        Ok(mut source) => check_source(rt.alloc(), &mut source, &mut rt.stdout(), &mut messages),
-        Err(_) => say_unread(&mut messages, ReadFault::Failed),
-    }
+fn check_file(rt: &HostRuntime, file: &str, long: bool) -> Result<u8, u8> {
+    let mut source = opened(rt, file, long)?;
+    Ok(check_noted(
+        rt.alloc(),
+        &mut source,
+        long,
+        &mut rt.stdout(),
+        &mut rt.stderr(),
+    ))
 }
 
-fn list_file(rt: &HostRuntime, file: &str) -> u8 {
-    let mut messages = rt.stderr();
-    match File::open(rt, file) {
-        Ok(mut source) => list_source(rt.alloc(), &mut source, &mut rt.stdout(), &mut messages),
-        Err(_) => say_unread(&mut messages, ReadFault::Failed),
-    }
+fn list_file(rt: &HostRuntime, file: &str, long: bool) -> Result<u8, u8> {
+    let mut source = opened(rt, file, long)?;
+    Ok(list_noted(
+        rt.alloc(),
+        &mut source,
+        long,
+        &mut rt.stdout(),
+        &mut rt.stderr(),
+    ))
 }
 
-fn run_file(rt: &HostRuntime, file: &str, options: &Options, history: Option<&str>) -> u8 {
-    let mut messages = rt.stderr();
-    let run = match File::open(rt, file) {
-        Ok(mut source) => {
-            run_source(
-                rt.alloc(),
-                &mut source,
-                options,
-                &mut rt.stdout(),
-                &mut messages,
-            )
-        }
-        Err(_) => return say_unread(&mut messages, ReadFault::Failed),
-    };
-    end_run(rt, &run, history)
+fn run_file(rt: &HostRuntime, file: &str, options: &Options, long: bool) -> Result<Run, u8> {
+    let mut source = opened(rt, file, long)?;
+    Ok(run_noted(
+        rt.alloc(),
+        &mut source,
+        options,
+        long,
+        &mut rt.stdout(),
+        &mut rt.stderr(),
+    ))
 }
 
 // `threads` is the runtime itself, which may start threads where it is handed on as such.
@@ -130,63 +182,64 @@ fn work_file<H: Threads + Wait + Sync>(
     rt: &HostRuntime,
     threads: &H,
     file: &str,
-    options: WorkOptions,
-    history: Option<&str>,
-) -> u8 {
-    let mut messages = rt.stderr();
-    let run = match File::open(rt, file) {
-        Ok(mut source) => {
-            work_source(
-                threads,
-                rt.alloc(),
-                &mut source,
-                options,
-                &NoGate,
-                &mut rt.stdout(),
-                &mut messages,
-            )
-        }
-        Err(_) => return say_unread(&mut messages, ReadFault::Failed),
-    };
-    end_run(rt, &run, history)
+    options: &WorkOptions,
+    long: bool,
+) -> Result<Run, u8> {
+    let mut source = opened(rt, file, long)?;
+    Ok(work_noted(
+        threads,
+        rt.alloc(),
+        &mut source,
+        options,
+        &NoGate,
+        long,
+        &mut rt.stdout(),
+        &mut rt.stderr(),
+    ))
 }
 
 // Writes the history of a run that is over, where its file is named.
-fn end_run(rt: &HostRuntime, run: &Run, history: Option<&str>) -> u8 {
+fn end_run(rt: &HostRuntime, run: &Run, history: Option<&str>, long: bool) -> u8 {
     match history {
-        Some(path) => write_history(rt, run, path),
+        Some(path) => write_history(rt, run, path, long),
         None => run.status,
     }
 }
 
-fn replay_file(rt: &HostRuntime, file: &str, history: &[u8], arena: u32) -> u8
+fn replay_file(
+    rt: &HostRuntime,
+    file: &str,
+    history: &[u8],
+    arena: u32,
+    long: bool,
+) -> Result<u8, u8>
     requires some { 1 ≤ arena }
     requires few { arena ≤ 16777216 }
 {
-    let mut messages = rt.stderr();
-    match File::open(rt, file) {
-        Ok(mut source) => {
-            let mut records = rt.stdout();
-            replay_source(
-                rt.alloc(),
-                &mut source,
-                history,
-                arena,
-                &mut records,
-                &mut messages,
-            )
-            .status
-        }
-        Err(_) => say_unread(&mut messages, ReadFault::Failed),
-    }
+    let mut source = opened(rt, file, long)?;
+    let run = replay_noted(
+        rt.alloc(),
+        &mut source,
+        history,
+        arena,
+        long,
+        &mut rt.stdout(),
+        &mut rt.stderr(),
+    );
+    Ok(run.status)
 }
 
-fn done<H: Threads + Wait + Sync>(rt: &HostRuntime, threads: &H, job: Job<'_>) -> Result<u8, u8>
-    requires { IsInRange job }
+fn done<H: Threads + Wait + Sync>(
+    rt: &HostRuntime,
+    threads: &H,
+    request: Request<'_>,
+) -> Result<u8, u8>
+    requires { IsInRange request.job }
 {
-    let status = match job {
-        Job::Standard => run_standard(rt),
-        Job::Check { file } => check_file(rt, file),
+    let Request { job, long } = request;
+    match job {
+        Job::Standard => Ok(run_standard(rt, long)),
+        Job::Check { file } => check_file(rt, file, long),
         Job::Run {
             file,
             arena,
@@ -205,37 +258,38 @@ fn done<H: Threads + Wait + Sync>(rt: &HostRuntime, threads: &H, job: Job<'_>) -
                     steps,
                     workers,
                 };
-                return Ok(work_file(rt, threads, file, options, history));
+                let run = work_file(rt, threads, file, &options, long)?;
+                return Ok(end_run(rt, &run, history, long));
             }
-            let choices = file_choices(rt, choices)?;
+            let choices = file_choices(rt, choices, long)?;
             let options = Options {
                 arena,
                 steps,
                 choices,
             };
-            run_file(rt, file, &options, history)
+            let run = run_file(rt, file, &options, long)?;
+            Ok(end_run(rt, &run, history, long))
         }
         Job::Replay {
             file,
             history,
             arena,
-        } => replay_file(rt, file, &file_bytes(rt, history)?, arena),
-        Job::List { file } => list_file(rt, file),
+        } => replay_file(rt, file, &file_bytes(rt, history, long)?, arena, long),
+        Job::List { file } => list_file(rt, file, long),
         Job::Explain {
             first,
             second,
             third,
         } => {
             let usage = explain(rt.alloc(), first, second, third);
-            answer(
+            Ok(answer(
                 usage.status,
                 &usage.text,
                 &mut rt.stdout(),
                 &mut rt.stderr(),
-            )
+            ))
         }
-    };
-    Ok(status)
+    }
 }
 
 // The words of the command line, the program's name first.
@@ -253,8 +307,8 @@ fn status_of<H: Threads + Wait + Sync>(rt: &HostRuntime, threads: &H) -> Result<
         }
         Err(_) => return Err(answer(2, b"error: a word isn't UTF-8\n", output, messages)),
     };
-    match read_words(rt.alloc(), &words) {
-        Ok(job) => done(rt, threads, job),
+    match read_request(rt.alloc(), &words) {
+        Ok(request) => done(rt, threads, request),
         Err(usage) => Err(answer(usage.status, &usage.text, output, messages)),
     }
 }

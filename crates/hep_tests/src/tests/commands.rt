@@ -26,7 +26,15 @@ impl Drop for Written {
 // In an arena of ten cells.
 fn replayed(alloc: Global, source: &[u8], history: &[u8]) -> Written {
     let (mut output, mut messages) = (Vec::new(alloc), Vec::new(alloc));
-    let run = replay_bytes(alloc, source, history, 10, &mut output, &mut messages);
+    let run = replay_bytes(
+        alloc,
+        source,
+        history,
+        10,
+        false,
+        &mut output,
+        &mut messages,
+    );
     Written {
         output,
         messages,
@@ -40,7 +48,7 @@ fn histories(rt: HostRuntime) -> Result<(), Fail> {
     let alloc = rt.alloc();
     let (mut output, mut messages) = (Vec::new(alloc), Vec::new(alloc));
     let options = Options::defaults(alloc);
-    let run = run_bytes(alloc, ONE, &options, &mut output, &mut messages);
+    let run = run_bytes(alloc, ONE, &options, false, &mut output, &mut messages);
     let Ok(text) = history_text(alloc, &run, &mut messages) else {
         return Err(Fail::from("the history wasn't written"));
     };

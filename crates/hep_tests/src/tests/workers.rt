@@ -98,7 +98,7 @@ fn at_the_opening(rt: HostRuntime) -> Result<(), Fail> {
     };
     let opening = core_of(alloc, &source, 7)?;
     assert_eq!(rt;
-        close(alloc, opening, &image, options, Vec::new(alloc)).err(),
+        close(alloc, opening, &image, &options, Vec::new(alloc)).err(),
         Some(CloseFault::StillRunning)
     );
     Ok(())
@@ -141,7 +141,7 @@ fn closing(rt: HostRuntime) -> Result<(), Fail> {
         alloc,
         core_of(alloc, source, 7)?,
         &image,
-        options,
+        &options,
         Vec::new(alloc),
     );
     assert_eq!(rt; opening.err(), Some(CloseFault::StillRunning));
@@ -150,7 +150,7 @@ fn closing(rt: HostRuntime) -> Result<(), Fail> {
         alloc,
         core_of(alloc, source, 7)?,
         &other,
-        options,
+        &options,
         Vec::new(alloc),
     );
     assert_eq!(rt; other.err(), Some(CloseFault::NotTheRun));
@@ -158,7 +158,7 @@ fn closing(rt: HostRuntime) -> Result<(), Fail> {
         alloc,
         core_of(alloc, source, 6)?,
         &image,
-        options,
+        &options,
         Vec::new(alloc),
     );
     assert_eq!(rt; shorter.err(), Some(CloseFault::NotTheRun));
@@ -176,7 +176,7 @@ fn closing(rt: HostRuntime) -> Result<(), Fail> {
         }
     );
     assert_eq!(rt;
-        close(alloc, core, &image, options, Vec::new(alloc)).err(),
+        close(alloc, core, &image, &options, Vec::new(alloc)).err(),
         Some(CloseFault::NotTheEntries)
     );
     Ok(())
@@ -268,7 +268,7 @@ fn two_workers_take_turns(rt: HostRuntime) -> Result<(), Fail> {
     let alloc = rt.alloc();
     let image = image_from(alloc, &storing(alloc)?)?;
     let gate = Holding::new(&rt);
-    let Report { core, logs } = run_workers(&rt, alloc, &image, options_of(10_000, 2), &gate)?;
+    let Report { core, logs } = run_workers(&rt, alloc, image, &options_of(10_000, 2), &gate)?;
     assert!(rt; gate.polls.load(Ordering::SeqCst) < MOST_POLLS);
     assert!(rt; 2 <= gate.calls_of_other.load(Ordering::SeqCst));
     assert_eq!(rt; core.verdict(), Verdict::Done);

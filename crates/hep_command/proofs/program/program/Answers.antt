@@ -1,5 +1,7 @@
-use Rattle.std.proofs.Common.{◌≡◌, refl, rules}
-use Rattle.clap.specs.Words.{App, app_of, with_subcommand}
+use Rattle.std.proofs.Common.{◌≡◌, ◌∙◌, IfOk, ap₂, refl, rules}
+use Rattle.std.proofs.lemmas.Result.{IfOk-weaker}
+use Rattle.clap.specs.Words.{App, app_of, with_rule, with_subcommand}
+use Rattle.hep_command.specs.Program.{IsCommand}
 use Rattle.hep_command.specs.Program as spec
 use Rattle.hep_command.proofs.program.program.Goals as goal
 
@@ -17,7 +19,10 @@ to_list = with_subcommand to_replay spec.list_command.top
 
 pub returns : goal.returns
 returns c =
-    let bare : app_of c.after_help-whole.result ≡ spec.bare_program = search rules in
+    let named : app_of c.after_help.result ≡ spec.named_program = search rules in
+    let long = c.long_flag.ensures in
+    let bare : IfOk c.arg-whole.result (IsCommand spec.bare_program) =
+    IfOk-weaker c.arg-whole.result _ _ (λ r h. h.shape long.1 ∙ ap₂ with_rule named long.0) c.arg-whole.ensures in
     let with_check = c.with_command-whole.ensures spec.bare_program spec.check_command refl bare c.check_command.ensures in
     let with_run = c.with_command-whole-2.ensures to_check spec.run_command refl with_check c.run_command.ensures in
     let with_replay = c.with_command-whole-3.ensures to_run spec.replay_command refl with_run c.replay_command.ensures in

@@ -11,6 +11,9 @@ to_source = with_rule (new_app (codes "replay")) spec.source_word
 abbrev to_history : App
 to_history = with_rule to_source spec.history_word
 
+abbrev to_arena : App
+to_arena = with_rule to_history spec.arena_option
+
 pub returns : goal.returns
 returns c =
     let bare : app_of c.after_help.result ≡ new_app (codes "replay") = search rules in
@@ -18,4 +21,5 @@ returns c =
     let with_source : IfOk c.arg-replay.result (IsCommand to_source) =
     IfOk-weaker c.arg-replay.result _ _ (λ r h. h.shape source.1 ∙ ap₂ with_rule bare source.0) c.arg-replay.ensures in
     let with_history = c.with_arg-replay.ensures to_source spec.history_word with_source c.history_argument.ensures in
-    c.with_arg.ensures to_history spec.arena_option with_history c.arena_option.ensures
+    let with_arena = c.with_arg-replay-2.ensures to_history spec.arena_option with_history c.arena_option.ensures in
+    c.with_arg.ensures to_arena spec.long_flag with_arena c.long_flag.ensures

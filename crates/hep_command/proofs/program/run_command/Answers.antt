@@ -20,6 +20,9 @@ to_workers = with_rule to_steps spec.workers_option
 abbrev to_choices : App
 to_choices = with_rule to_workers spec.choices_option
 
+abbrev to_history : App
+to_history = with_rule to_choices spec.history_option
+
 pub returns : goal.returns
 returns c =
     let bare : app_of c.after_help.result ≡ new_app (codes "run") = search rules in
@@ -30,4 +33,5 @@ returns c =
     let with_steps = c.with_arg-run-2.ensures to_arena spec.steps_option with_arena c.steps_option.ensures in
     let with_workers = c.with_arg-run-3.ensures to_steps spec.workers_option with_steps c.workers_option.ensures in
     let with_choices = c.with_arg-run-4.ensures to_workers spec.choices_option with_workers c.choices_option.ensures in
-    c.with_arg.ensures to_choices spec.history_option with_choices c.history_option.ensures
+    let with_history = c.with_arg-run-5.ensures to_choices spec.history_option with_choices c.history_option.ensures in
+    c.with_arg.ensures to_history spec.long_flag with_history c.long_flag.ensures

@@ -1,5 +1,7 @@
-use Rattle.hep_run.proofs.Lowered.{unlowered}
+use Rattle.hep_run.proofs.Noted.{noted_limit}
 use Rattle.hep_run.proofs.front.image_of_source.Goals as goal
 
-pub returns-clause-refused : goal.returns-clause-refused
-returns-clause-refused c = unlowered c.args.source.now c.in_ok-checked.checked c.lower.result c.in_ok-checked.ensures.made c.lower.ensures.refused
+pub returns-in-Err-clause-refused : goal.returns-in-Err-clause-refused
+returns-in-Err-clause-refused c =
+    noted_limit c.args.long c.args.source.now c.in_ok-checked.checked c.in-Err.refusal c.refused_at_line.result
+    c.in_ok-checked.ensures.made c.in-Err.ensures.refused c.refused_at_line.ensures

@@ -15,5 +15,5 @@ returns-in-Ok c =
 
 pub returns-in-Err-ArenaFull : goal.returns-in-Err-ArenaFull
 returns-in-Err-ArenaFull c =
-    let (program, source, none) = subst (IsOpeningFault c.args.source.now c.args.options.now) c.in-Err-ArenaFull.field-0-is c.in-Err-ArenaFull.ensures.refused in
+    let (program, source, none) = subst (IsOpeningFault c.args.long c.args.source.now c.args.options.now) c.in-Err-ArenaFull.field-0-is c.in-Err-ArenaFull.ensures.refused in
     IfOk-weaker c.full_transcript.result _ _ (λ r is. inr (program, source, inl (none, is))) c.full_transcript.ensures

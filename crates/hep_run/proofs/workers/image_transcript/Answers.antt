@@ -8,11 +8,11 @@ use Rattle.std.proofs.lemmas.Result.{IfOk-weaker}
 pub returns-in-Ok : goal.returns-in-Ok
 returns-in-Ok g c =
     let report = c.in-Ok.report in
-    IfOk-weaker c.ended_transcript.result _ _ (λ r is. outcome-worked c.args.image.now c.args.options report.core report.logs.items (outcome_of r) c.in-Ok.ensures.report c.headline.ensures.legal c.headline.ensures.named is) c.ended_transcript.ensures
+    IfOk-weaker c.ended_transcript.result _ _ (λ r is. outcome-worked c.args.image c.args.options.now report.core report.logs.items (outcome_of r) c.in-Ok.ensures.report c.headline.ensures.legal c.headline.ensures.named is) c.ended_transcript.ensures
 
 pub returns-in-Err-ArenaFull : goal.returns-in-Err-ArenaFull
 returns-in-Err-ArenaFull g c =
-    let none = subst (λ fault. IsWorkFault fault c.args.image.now c.args.options) c.in-Err-ArenaFull.field-0-is c.in-Err-ArenaFull.ensures.fault in
+    let none = subst (λ fault. IsWorkFault fault c.args.image c.args.options.now) c.in-Err-ArenaFull.field-0-is c.in-Err-ArenaFull.ensures.fault in
     IfOk-weaker c.full_transcript.result _ _ (λ r is. inl (none, is)) c.full_transcript.ensures
 
 pub returns-in-Some : goal.returns-in-Some

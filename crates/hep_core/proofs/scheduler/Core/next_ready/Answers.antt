@@ -1,9 +1,12 @@
-use Rattle.std.proofs.Common.{◌≡◌, ◌∙◌, None, ap, length, sym, not, slice_get}
+use Rattle.std.proofs.Common.{◌≡◌, ◌∙◌, [], None, ap, arith, length, sym, not, slice_get}
+use Rattle.std.proofs.lemmas.Bool.Decides.{nat_tests}
+use Rattle.std.proofs.lemmas.List.{nil_from_length}
 use Rattle.hep_blocked.proofs.Listed.{first-least, first-other, first-some}
 use Rattle.hep_blocked.proofs.Members.{ready-rise, rising-filter}
-use Rattle.hep_machine.specs.Words.{first_above, last_process, progress_after}
+use Rattle.hep_machine.specs.Words.{first_above, last_process, next_of_ready, progress_after}
 use Rattle.hep_core.specs.Tickets.{is_out}
 use Rattle.hep_core.specs.Value.{CoreValue, free_of, ready_of}
+use Rattle.hep_core.proofs.Outs.{all_free}
 use Rattle.hep_core.proofs.scheduler.Core.next_ready.Goals as goal
 
 -- of those that aren't out the least of all is the first one above 0
@@ -27,3 +30,10 @@ returns-in-None c =
     let last : c.last_process.result ≡ last_process core.history = c.last_process.ensures in
     c.free_above-in-None.ensures ∙ least core
     ∙ sym (ap (λ n. first_above n free (slice_get free 0)) (sym last) ∙ first-other c.last_process.result free (slice_get free 0) (sym c.in-None.ensures))
+
+pub returns-then-is_empty : goal.returns-then-is_empty
+returns-then-is_empty c =
+    let core = c.args.self.now in
+    let nobody : c.self.inside.out.items ≡ [] = nil_from_length c.self.inside.out.items (grind (arith, nat_tests, sym c.is_empty.ensures ∙ c.if-is_empty.true)) in
+    let out : core.out ≡ [] = ap (λ (v : CoreValue). v.out) (sym c.self.view_is) ∙ nobody in
+    c.next_of_all.ensures ∙ sym (ap (next_of_ready (last_process core.history)) (all_free (ready_of core) core.out out))

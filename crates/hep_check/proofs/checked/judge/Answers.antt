@@ -1,7 +1,7 @@
 use Rattle.std.proofs.Common.{◌≡◌, None, OnOk, subst}
 use Rattle.hep_conditions.proofs.First.{none_reported}
 use Rattle.hep_conditions.specs.Words.{first_violation, violations}
-use Rattle.hep_check.proofs.checked.check.Goals as goal
+use Rattle.hep_check.proofs.checked.judge.Goals as goal
 
 pub new-requires-clause-accepted : goal.new-requires-clause-accepted
 new-requires-clause-accepted c =

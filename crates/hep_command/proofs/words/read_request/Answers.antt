@@ -1,0 +1,48 @@
+use Rattle.std.proofs.Common.{◌≡◌, ◌⊎◌, ◌∙◌, ℕ, Bool, List, [], Option, Some, Result, Ok, Err, IfOk, IfErr, map, subst, sym, true}
+use Rattle.clap.specs.Words.{HasKind, HasMatchesOf, Text, app_of, fault_of, is_simple_and_free, subcommand_rows_of}
+use Rattle.hep_command.specs.Asked.{Asked, asked_by, is_long_in, job_in, words_found}
+use Rattle.hep_command.specs.Program.{IsAskedBy, IsStatusFor, asked, is_long}
+use Rattle.hep_command.specs.declared.job.Request.{Request}
+use Rattle.hep_command.specs.declared.job.Usage.{Usage}
+use Rattle.hep_command.proofs.ProgramLemmas.{is_long_in-is_long, job_in-asked, refused_status, taken_status}
+use Rattle.hep_command.proofs.words.read_request.Goals as goal
+
+-- a request has the job and the length that the words ask for
+asked_by_words : (r : Result Request Usage) (words : List Text) (job : Option Asked) (long : Bool) → job ≡ asked words → long ≡ is_long words
+    → IfOk r (λ q. job ≡ Some (asked_by q.job)) → IfOk r (λ q. q.long ≡ long) → IfOk r (IsAskedBy words)
+asked_by_words (Ok q) words job long job_is long_is by_job by_long = (sym job_is ∙ by_job, by_long ∙ long_is)
+asked_by_words (Err e) words job long job_is long_is by_job by_long = tt
+
+status_of_mistake : (r : Result Request Usage) (P : ℕ → Type 0) → ((n : ℕ) → (n ≡ 2) ⊎ (n ≡ 7) → P n)
+    → IfErr r (λ usage. (usage.status ≡ 2) ⊎ (usage.status ≡ 7)) → IfErr r (λ usage. P usage.status)
+status_of_mistake (Ok q) P by h = tt
+status_of_mistake (Err usage) P by h = by usage.status h
+
+pub returns-in-Ok-try_get_matches_from-clause-asked : goal.returns-in-Ok-try_get_matches_from-clause-asked
+returns-in-Ok-try_get_matches_from-clause-asked g c =
+    let words = map g.S.AsStr.text c.args.words.now in
+    let program = c.in-Ok.program in
+    let matches = c.in-Ok-try_get_matches_from.matches in
+    let found = subst (λ (ws : List Text). HasMatchesOf (app_of program) ws matches) c.heard-words.ensures
+    c.in-Ok-try_get_matches_from.ensures.matches in
+    asked_by_words c.request_of.result words (job_in (subcommand_rows_of matches)) (is_long_in (words_found matches) (subcommand_rows_of matches))
+    (job_in-asked program matches words c.in-Ok.ensures found) (is_long_in-is_long program matches words c.in-Ok.ensures found)
+    c.request_of.ensures.asked c.request_of.ensures.long
+
+pub returns-in-Ok-try_get_matches_from-clause-status : goal.returns-in-Ok-try_get_matches_from-clause-status
+returns-in-Ok-try_get_matches_from-clause-status g c =
+    let words = map g.S.AsStr.text c.args.words.now in
+    let program = c.in-Ok.program in
+    let none = subst (λ (ws : List Text). is_simple_and_free (app_of program) ≡ true → fault_of (app_of program) ws ≡ []) c.heard-words.ensures
+    c.in-Ok-try_get_matches_from.ensures.kinds in
+    status_of_mistake c.request_of.result (λ n. (n ≡ 7) ⊎ IsStatusFor words n)
+    (λ n. taken_status program words n c.in-Ok.ensures none) c.request_of.ensures.mistake
+
+pub returns-in-Err-try_get_matches_from-clause-status : goal.returns-in-Err-try_get_matches_from-clause-status
+returns-in-Err-try_get_matches_from-clause-status g c =
+    let words = map g.S.AsStr.text c.args.words.now in
+    let program = c.in-Ok.program in
+    let refused = c.in-Err-try_get_matches_from in
+    let kinds = subst (λ (ws : List Text). is_simple_and_free (app_of program) ≡ true → HasKind (fault_of (app_of program) ws) refused.error)
+    c.heard-words.ensures refused.ensures.kinds in
+    refused_status program words refused.error c.usage_of.result.status c.in-Ok.ensures kinds c.usage_of.ensures.status

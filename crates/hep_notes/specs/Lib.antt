@@ -1,0 +1,4 @@
+pub mod Shown
+pub mod Places
+pub mod Reasons
+pub mod Refusals

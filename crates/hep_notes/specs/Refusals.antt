@@ -1,0 +1,30 @@
+-- What is said behind the line of a refusal of a source: docs/MACHINE.md, "Notes".
+use Rattle.std.specs.Prelude.{ℕ, List, [], ◌∷◌, ◌++◌, codes, Option, Some, None}
+use Rattle.hep_text.specs.declared.statement.Span.{Span}
+use Rattle.hep_text.specs.declared.statement.Stmt.{Stmt}
+use Rattle.hep_notes.specs.Places.{line_at, place_in, place_of_line}
+use Rattle.hep_notes.specs.Reasons.{reason}
+use Rattle.hep_notes.specs.Shown.{caret_text, line_text_of, words_text}
+
+-- the name that the rule is about, if it is about one
+abbrev pub name_text : List ℕ → List ℕ
+name_text [] = []
+name_text (c ∷ cs) = (c ∷ cs) ++ codes ": "
+
+-- the rule in a few words
+abbrev pub words_of : ℕ → List ℕ → List ℕ
+words_of number name = name_text name ++ reason number
+
+-- these words, under the place in the source that they are about, if there is one
+abbrev pub notes_at : List ℕ → List ℕ → Option Span → List ℕ
+notes_at source words None = words_text words
+notes_at source words (Some span) = line_text_of span.line (line_at source span.line) ++ caret_text span.column words
+
+-- by the number and the line alone
+abbrev pub line_notes : List ℕ → ℕ → ℕ → List ℕ → List ℕ
+line_notes source number line name = notes_at source (words_of number name) (place_of_line source number line)
+
+-- by what begins with this character of the statement that begins on the line
+abbrev pub statement_notes : List ℕ → List Stmt → ℕ → ℕ → List ℕ → ℕ → List ℕ
+statement_notes source statements number line name index =
+    notes_at source (words_of number name) (place_in statements line index)

@@ -1,0 +1,111 @@
+//! What is said behind the line of a refusal of a source.
+ghost use Rattle.std.specs.Prelude.{◌≡◌, ◌++◌, IfOk, OnOk};
+ghost use Rattle.hep_notes.specs.Refusals as refusals;
+
+use crate::place::{line_at, place_in, place_of_line};
+use crate::reason::reason;
+use crate::shown::{append_caret, append_line, append_words};
+use hep_base::Text;
+use hep_text::{Span, Stmt};
+use std::alloc::{AllocError, Global};
+
+/// What a refusal is about: the rule, the initial line of the statement, and what in it, if it is known.
+#[derive(Clone, Copy)]
+pub struct Subject<'a> {
+    /// The number of the rule.
+    pub number: u16,
+    /// The line, counted from 1; 0 where the whole source is refused.
+    pub line: u32,
+    /// The name that the rule is about, empty where it is about none.
+    pub name: &'a [u8],
+    /// How many characters of the statement stand before what the rule is about.
+    pub position: usize,
+}
+
+// Appends a name, if there is one.
+fn append_name(text: &mut Vec<u8>, name: &[u8]) -> Result<(), AllocError>
+    ensures { OnOk result (text.new.items ≡ text.old.items ++ refusals.name_text name.now) }
+{
+    if name.is_empty() {
+        return Ok(());
+    }
+    text.extend_from_slice(name)?;
+    text.extend_from_slice(b": ")?;
+    Ok(())
+}
+
+// The rule in a few words.
+fn words_of(alloc: Global, number: u16, name: &[u8]) -> Result<Vec<u8>, AllocError>
+    ensures { IfOk result (λ words. words.items ≡ refusals.words_of number name.now) }
+{
+    let mut words = Vec::new(alloc);
+    append_name(&mut words, name)?;
+    words.extend_from_slice(reason(number))?;
+    Ok(words)
+}
+
+// Appends the line of the source at a place, and words under it.
+fn append_at(text: &mut Vec<u8>, source: &[u8], words: &[u8], place: Span) -> Result<(), AllocError>
+    ensures { OnOk result (text.new.items ≡ text.old.items ++ refusals.notes_at source.now words.now (Some place)) }
+{
+    if let Some(line) = line_at(source, place.line) {
+        append_line(text, place.line, line)?;
+    }
+    append_caret(text, place.column, words)?;
+    Ok(())
+}
+
+// These words, under the place in the source that they are about, if there is one.
+fn notes_at(
+    alloc: Global,
+    source: &[u8],
+    words: &[u8],
+    place: Option<Span>,
+) -> Result<Text, AllocError>
+    ensures { IfOk result (λ notes. notes ≡ refusals.notes_at source.now words.now place) }
+{
+    let mut text = Vec::new(alloc);
+    match place {
+        Some(place) => append_at(&mut text, source, words, place)?,
+        None => append_words(&mut text, words)?,
+    }
+    Ok(Text::from(text))
+}
+
+/// What is said behind the line of a refusal, by its number, its line and its name alone.
+///
+/// # Errors
+///
+/// Only where memory was refused.
+pub fn line_notes(
+    alloc: Global,
+    source: &[u8],
+    number: u16,
+    line: u32,
+    name: &[u8],
+) -> Result<Text, AllocError>
+    ensures { IfOk result (λ notes. notes ≡ refusals.line_notes source.now number line name.now) }
+{
+    let words = words_of(alloc, number, name)?;
+    notes_at(alloc, source, &words, place_of_line(source, number, line))
+}
+
+/// What is said behind the line of a refusal that is about a character of a statement.
+///
+/// # Errors
+///
+/// Only where memory was refused.
+pub fn statement_notes(
+    alloc: Global,
+    source: &[u8],
+    statements: &[Stmt],
+    subject: &Subject<'_>,
+) -> Result<Text, AllocError>
+    ensures { IfOk result (λ notes. notes
+        ≡ refusals.statement_notes source.now statements.now subject.now.number subject.now.line subject.now.name.now
+        subject.now.position) }
+{
+    let words = words_of(alloc, subject.number, subject.name)?;
+    let place = place_in(statements, subject.line, subject.position);
+    notes_at(alloc, source, &words, place)
+}
