@@ -1,0 +1,2 @@
+pub mod InRuns
+mod Worked

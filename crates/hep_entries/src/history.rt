@@ -1,0 +1,244 @@
+//! The history of a run.
+ghost use Rattle.std.specs.Prelude.{◌≡◌, ◌+◌, ◌-◌, ◌≤◌, ◌<◌, ◌^◌, ◌↔◌, ◌++◌, [], ◌∷◌, IfOk, IsOk, IsTrue, OnOk, OnErr, length, replicate, slice_get, vec_len, vec_capacity};
+ghost use Rattle.hep_entries.specs.Runs.{AreFilled, AreRising, entries_of, runs_in};
+
+use crate::entries::Entries;
+use crate::finding::{end_of, long_at, short_at};
+use crate::run::{Run, Short, shortened};
+use crate::runs::Runs;
+use hep_machine::Entry;
+use std::alloc::{AllocError, Global};
+use std::marker::Model;
+
+/// The entries of a run in order. Contracts see the list of them, and for how many there is room.
+///
+/// They are kept in runs of equal ones. A run takes eight bytes, and sixteen from the first one on
+/// that is of a process above 2,097,151, or of more than 2,047 steps, or ends behind the entry
+/// 4,294,967,295; the last takes none.
+#[derive(Debug, Drop)]
+pub struct History {
+    shorts: Vec<Short>,
+    longs: Vec<Run>,
+    // How many entries these runs have.
+    closed: u64,
+    // The last run, which gets more entries.
+    last: Run,
+}
+
+impl Model for History {
+    ghost use Rattle.hep_entries.specs.Entries.{Kept};
+
+    ghost Value = { Kept };
+
+    ghost use Rattle.hep_entries.specs.Kept.{IsCounted, kept_of};
+
+    ghost view = { kept_of };
+
+    ghost invariant = { IsCounted };
+}
+
+// Adds an item, for which there is room.
+fn put<T: Copy>(items: &mut Vec<T>, item: T)
+    requires { vec_len items.old < vec_capacity items.old }
+    ensures items { items.new.items ≡ items.old.items ++ item ∷ [] }
+    ensures len { vec_len items.new ≡ vec_len items.old + 1 }
+    ensures capacity { vec_capacity items.old ≤ vec_capacity items.new }
+{
+    let _ = items.push(item);
+}
+
+// Adds a run behind the others, of so many entries. It takes no memory.
+fn close(shorts: &mut Vec<Short>, longs: &mut Vec<Run>, closed: u64, run: Run)
+    requires rising { AreRising 0 shorts.old.items }
+    requires closed { closed ≡ length (entries_of (runs_in shorts.old.items longs.old.items)) }
+    requires few { closed + run.count < 2 ^ 64 }
+    requires some { 0 < run.count }
+    requires filled { AreFilled longs.old.items }
+    requires room { (vec_len shorts.old < vec_capacity shorts.old) × (vec_len longs.old < vec_capacity longs.old) }
+    ensures runs { runs_in shorts.new.items longs.new.items ≡ runs_in shorts.old.items longs.old.items ++ run ∷ [] }
+    ensures rising { AreRising 0 shorts.new.items }
+    ensures filled { AreFilled longs.new.items }
+    ensures shorts_room { (vec_capacity shorts.old ≤ vec_capacity shorts.new) × (vec_len shorts.new ≤ vec_len shorts.old + 1) }
+    ensures longs_room { (vec_capacity longs.old ≤ vec_capacity longs.new) × (vec_len longs.new ≤ vec_len longs.old + 1) }
+{
+    if longs.as_slice().is_empty() {
+        if let Some(short) = shortened(closed, run) {
+            put(shorts, short);
+            return;
+        }
+    }
+    put(longs, run);
+}
+
+impl History {
+    /// No entries. This takes no memory.
+    pub fn new(alloc: Global) -> History
+        ensures items { result.items ≡ [] }
+    {
+        History {
+            shorts: Vec::new(alloc),
+            longs: Vec::new(alloc),
+            closed: 0,
+            last: Run {
+                process: 0,
+                steps: 0,
+                count: 0,
+            },
+        }
+    }
+
+    /// Makes room for an entry, if there is none.
+    ///
+    /// # Errors
+    ///
+    /// Only where memory was refused.
+    pub fn reserve(&mut self) -> Result<(), AllocError>
+        ensures room { OnOk result (0 < self.new.room) }
+        ensures items { self.new.items ≡ self.old.items }
+        ensures grows { self.old.room ≤ self.new.room }
+        ensures made { 0 < self.old.room → IsOk result }
+    {
+        self.longs.reserve(1)?;
+        self.shorts.reserve(1)
+    }
+
+    /// Adds an entry so many times. It takes a constant time, and no memory.
+    pub fn push_many(&mut self, entry: Entry, count: u32)
+        requires room { 0 < self.old.room }
+        requires few { length self.old.items + count < 2 ^ 64 }
+        ensures items { self.new.items ≡ self.old.items ++ replicate count entry }
+        ensures room { self.old.room ≤ self.new.room + 1 }
+    {
+        if self.last.has(entry) && count <= u32::MAX - self.last.count {
+            self.last.count += count;
+        } else if count > 0 {
+            if self.last.count > 0 {
+                close(&mut self.shorts, &mut self.longs, self.closed, self.last);
+                self.closed += self.last.count as u64;
+            }
+            self.last = Run {
+                process: entry.process,
+                steps: entry.steps,
+                count,
+            };
+        }
+    }
+
+    /// Adds an entry. It takes a constant time, and no memory.
+    pub fn push(&mut self, entry: Entry)
+        requires room { 0 < self.old.room }
+        requires few { length self.old.items + 1 < 2 ^ 64 }
+        ensures items { self.new.items ≡ self.old.items ++ entry ∷ [] }
+        ensures room { self.old.room ≤ self.new.room + 1 }
+    {
+        self.push_many(entry, 1);
+    }
+
+    /// Adds an entry so many times, and makes room for them.
+    ///
+    /// # Errors
+    ///
+    /// Only where memory was refused, or where there would be 18,446,744,073,709,551,616 entries.
+    pub fn append(&mut self, entry: Entry, count: u32) -> Result<(), AllocError>
+        ensures items { OnOk result (self.new.items ≡ self.old.items ++ replicate count entry) }
+        ensures refused { OnErr result (self.new.items ≡ self.old.items) }
+    {
+        if self.len() > u64::MAX - count as u64 {
+            return Err(AllocError);
+        }
+        self.reserve()?;
+        self.push_many(entry, count);
+        Ok(())
+    }
+
+    /// How many entries there are.
+    pub fn len(&self) -> u64
+        ensures { result ≡ length self.now.items }
+    {
+        self.closed + self.last.count as u64
+    }
+
+    /// The entry at an index. It takes the logarithm of the number of runs in eight bytes, and a step for each of the others.
+    pub fn get(&self, index: u64) -> Option<Entry>
+        ensures { result ≡ slice_get self.now.items index }
+    {
+        let end = end_of(&self.shorts) as u64;
+        if index < end {
+            return short_at(&self.shorts, index);
+        }
+        if index < self.closed {
+            return long_at(&self.longs, index - end);
+        }
+        if index - self.closed < self.last.count as u64 {
+            return Some(self.last.entry());
+        }
+        None
+    }
+
+    /// The last entry. It takes a constant time.
+    pub fn last(&self) -> Option<Entry>
+        ensures { result ≡ slice_get self.now.items (length self.now.items - 1) }
+    {
+        if self.last.count == 0 {
+            return None;
+        }
+        Some(self.last.entry())
+    }
+
+    /// The runs, in order, of which none is empty. Runs that stand in a row have the same entry only where they
+    /// have more than 4,294,967,295 together.
+    pub fn runs(&self) -> Runs<'_>
+        ensures filled { AreFilled result }
+        ensures entries { entries_of result ≡ self.now.items }
+    {
+        let last = if self.last.count > 0 {
+            Some(self.last)
+        } else {
+            None
+        };
+        Runs::new(&self.shorts, &self.longs, last)
+    }
+
+    /// The entries, in order.
+    pub fn iter(&self) -> Entries<'_>
+        ensures { result ≡ self.now.items }
+    {
+        Entries::new(self.runs())
+    }
+
+    /// Whether another history has the same entries. It takes a step for each of them.
+    pub fn same(&self, other: &History) -> bool
+        ensures { IsTrue result ↔ (self.now.items ≡ other.now.items) }
+    {
+        let len = self.len();
+        if other.len() != len {
+            return false;
+        }
+        let mut entries = self.iter();
+        let mut others = other.iter();
+        for _index in 0..len {
+            if entries.next() != others.next() {
+                return false;
+            }
+        }
+        true
+    }
+
+    /// A copy.
+    ///
+    /// # Errors
+    ///
+    /// Only where memory was refused.
+    pub fn copy(&self, alloc: Global) -> Result<History, AllocError>
+        ensures { IfOk result (λ copy. copy.items ≡ self.now.items) }
+    {
+        let shorts = self.shorts.as_slice().to_vec(alloc)?;
+        let longs = self.longs.as_slice().to_vec(alloc)?;
+        Ok(History {
+            shorts,
+            longs,
+            closed: self.closed,
+            last: self.last,
+        })
+    }
+}

@@ -1,0 +1,4 @@
+pub mod Taken
+pub mod Sets
+pub mod Merging
+pub mod Appending

@@ -1,0 +1,28 @@
+-- The lines of warnings: docs/MACHINE.md, "Warnings".
+use Rattle.std.specs.Prelude.{ℕ, Bool, if◌then◌else◌, List, [], ◌∷◌, ◌++◌, codes}
+use Rattle.std.specs.Fmt.{decimal}
+use Rattle.std.specs.List.{flat_map}
+use Rattle.hep_machine.specs.Words.{spelling}
+use Rattle.hep_warnings.specs.declared.warning.Kind.{Kind}
+use Rattle.hep_warnings.specs.declared.warning.Kind.TheVariants as kind
+use Rattle.hep_warnings.specs.declared.warning.Warning.{Warning}
+
+abbrev pub Warnings : Type 0
+Warnings = List Warning
+
+-- a warning of this line, where the test is true
+abbrev pub when : Bool → ℕ → Kind → Warnings
+when b line k = if b then record { line = line; kind = k } ∷ [] else []
+
+-- what is said of a line
+abbrev pub kind_text : Kind → List ℕ
+kind_text kind.Behind = codes "BEHIND COLUMN 72"
+kind_text (kind.Label l) = codes "LABEL " ++ decimal l ++ codes " UNUSED"
+kind_text (kind.Unit x) = codes "UNIT " ++ spelling x ++ codes " UNUSED"
+kind_text (kind.Create s x) = codes "CREATE " ++ spelling s ++ codes " PASSES " ++ spelling x ++ codes " OF A DO"
+
+abbrev pub warning_line : Warning → List ℕ
+warning_line w = codes "WARNING LINE " ++ decimal w.line ++ codes " " ++ kind_text w.kind ++ codes "\n"
+
+abbrev pub warning_text : Warnings → List ℕ
+warning_text ws = flat_map warning_line ws

@@ -1,0 +1,191 @@
+//! Subroutines and functions that nothing calls, creates or refers to.
+ghost use Rattle.std.specs.Prelude.{◌≡◌, ◌++◌, ◌||◌, map, IfOk, OnOk};
+ghost use Rattle.std.specs.List.{filter, flat_map, list_any};
+ghost use Rattle.indexmap.specs.IndexSet.{contains};
+ghost use Rattle.hep_machine.specs.Words.{is_referenced, name_eq};
+ghost use Rattle.hep_source.specs.declared.name.Name.{Name as PureName};
+ghost use Rattle.hep_names.specs.Lists.{listed};
+ghost use Rattle.hep_warnings.specs.Units as units;
+
+use crate::warning::{Kind, Warning};
+use hep_names::lists::{NameWithList, names_with_lists};
+use hep_names::program::ProgramSymbols;
+use hep_names::symbols::Symbols;
+use hep_source::{Form, Name, Statement, Unit};
+use indexmap::IndexSet;
+use std::alloc::{AllocError, Global};
+use std::marker::Model;
+
+/// Names with their set. Contracts see the names.
+struct UsedNames {
+    names: Vec<Name>,
+    set: IndexSet<Name>,
+}
+
+impl Drop for UsedNames {
+    fn drop(self) {
+        let UsedNames { names, set } = self;
+    }
+}
+
+impl Model for UsedNames {
+    ghost use Rattle.std.specs.Prelude.{◌≡◌, List};
+    ghost use Rattle.std.specs.Coded.{codes};
+    ghost use Rattle.std.specs.List.{list_any};
+    ghost use Rattle.indexmap.specs.IndexSet.{contains};
+    ghost use Rattle.hep_source.specs.declared.name.Name.{Name as PureName};
+    ghost use Rattle.hep_source.specs.Names.{name_eq};
+
+    ghost Value = { List PureName };
+
+    ghost coded = { Prim.hlevel (codes) };
+
+    ghost view = { λ s. s.names.items };
+
+    ghost invariant = { λ s. (x : PureName) → contains name_eq s.set x ≡ list_any (name_eq x) s.names.items };
+}
+
+// Adds a name to a set.
+fn add(set: &mut IndexSet<Name>, name: Name) -> Result<(), AllocError>
+    ensures { OnOk result ((x : PureName) → contains name_eq set.new x ≡ (name_eq x name || contains name_eq set.old x)) }
+{
+    set.insert(name)?;
+    Ok(())
+}
+
+// The set of these names.
+fn set_of(alloc: Global, names: &[Name]) -> Result<IndexSet<Name>, AllocError>
+    ensures { IfOk result (λ set. (x : PureName) → contains name_eq set x ≡ list_any (name_eq x) names.now) }
+{
+    let mut set = IndexSet::with_capacity(alloc, names.len())?;
+    for name in names {
+        add(&mut set, *name)?;
+    }
+    Ok(set)
+}
+
+impl UsedNames {
+    fn new(alloc: Global, names: Vec<Name>) -> Result<UsedNames, AllocError>
+        ensures { IfOk result (λ used. used ≡ names.items) }
+    {
+        let set = set_of(alloc, &names)?;
+        Ok(UsedNames { names, set })
+    }
+
+    // The name is one of them.
+    fn has(&self, name: &Name) -> bool
+        ensures { result ≡ list_any (name_eq name.now) self.now }
+    {
+        self.set.contains(name)
+    }
+}
+
+// Adds the subroutine that a statement calls or creates.
+fn add_called(used: &mut Vec<Name>, form: &Form) -> Result<(), AllocError>
+    ensures { OnOk result (used.new.items ≡ used.old.items ++ units.names_called form.now) }
+{
+    if let Form::Call(subroutine, _) | Form::Create(subroutine, _) = form {
+        used.push(subroutine.name)?;
+    }
+    Ok(())
+}
+
+// Adds those of these names by which a unit refers to functions.
+fn add_referenced(
+    symbols: &Symbols,
+    used: &mut Vec<Name>,
+    names: &[NameWithList],
+) -> Result<(), AllocError>
+    ensures { OnOk result (used.new.items
+        ≡ used.old.items ++ filter (is_referenced symbols.now) (units.names_of_lists (map listed names.now))) }
+{
+    for name in names {
+        if symbols.is_referenced(&name.occurrence.name) {
+            used.push(name.occurrence.name)?;
+        }
+    }
+    Ok(())
+}
+
+// Adds what a statement of a unit calls, creates or refers to.
+fn add_statement(
+    alloc: Global,
+    symbols: &Symbols,
+    used: &mut Vec<Name>,
+    statement: &Statement,
+) -> Result<(), AllocError>
+    ensures { OnOk result (used.new.items ≡ used.old.items ++ units.names_used_by symbols.now statement.now) }
+{
+    add_called(used, &statement.form)?;
+    let names = names_with_lists(alloc, statement)?;
+    add_referenced(symbols, used, &names)
+}
+
+// Adds what the statements of a unit call, create or refer to.
+fn add_statements(alloc: Global, symbols: &Symbols, used: &mut Vec<Name>) -> Result<(), AllocError>
+    ensures { OnOk result (used.new.items ≡ used.old.items ++ units.names_used_in symbols.now) }
+{
+    for statement in symbols.statements() {
+        add_statement(alloc, symbols, used, statement)?;
+    }
+    Ok(())
+}
+
+// The names of all units that a statement of the program uses.
+fn names_used(alloc: Global, program: &ProgramSymbols) -> Result<Vec<Name>, AllocError>
+    ensures { IfOk result (λ used. used.items ≡ units.names_used program.now) }
+{
+    let mut used = Vec::new(alloc);
+    for symbols in program.units() {
+        add_statements(alloc, symbols, &mut used)?;
+    }
+    Ok(used)
+}
+
+// Adds a warning of a unit, unless its name is used.
+fn add_unit(
+    used: &UsedNames,
+    found: &mut Vec<Warning>,
+    unit: &[Statement],
+) -> Result<(), AllocError>
+    ensures { OnOk result (found.new.items ≡ found.old.items ++ units.unit_warning used.now unit.now) }
+{
+    if let [first, ..] = unit {
+        if let Form::Subroutine(unit_name, _) | Form::Function(_, unit_name, _) = &first.form {
+            if !used.has(&unit_name.name) {
+                found.push(Warning {
+                    line: first.line,
+                    kind: Kind::Unit(unit_name.name),
+                })?;
+            }
+        }
+    }
+    Ok(())
+}
+
+// Adds the warnings of units.
+fn add_units(used: &UsedNames, found: &mut Vec<Warning>, program: &[Unit]) -> Result<(), AllocError>
+    ensures { OnOk result (found.new.items ≡ found.old.items ++ flat_map (units.unit_warning used.now) program.now) }
+{
+    for unit in program {
+        add_unit(used, found, unit.as_slice())?;
+    }
+    Ok(())
+}
+
+/// The subroutines and functions that no statement of the program calls, creates or refers to, each at the line of
+/// its header, in order.
+///
+/// # Errors
+///
+/// Only where memory was refused.
+pub fn unit_warnings(alloc: Global, program: &[Unit]) -> Result<Vec<Warning>, AllocError>
+    ensures { IfOk result (λ found. found.items ≡ units.unit_warnings program.now) }
+{
+    let symbols = ProgramSymbols::new(alloc, program)?;
+    let names = names_used(alloc, &symbols)?;
+    let used = UsedNames::new(alloc, names)?;
+    let mut found = Vec::new(alloc);
+    add_units(&used, &mut found, program)?;
+    Ok(found)
+}

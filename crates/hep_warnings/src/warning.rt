@@ -1,0 +1,124 @@
+//! A warning and its line of text.
+ghost use Rattle.std.specs.Prelude.{◌≡◌, ◌++◌, IfOk, OnOk};
+ghost use Rattle.std.specs.Fmt.{decimal};
+ghost use Rattle.std.specs.List.{flat_map};
+ghost use Rattle.hep_machine.specs.Words.{letters_of, spelling};
+ghost use Rattle.hep_warnings.specs.Lines as lines;
+
+use hep_base::Text;
+use hep_source::Name;
+use itoa::Buffer;
+use std::alloc::{AllocError, Global};
+
+/// What a warning says of its line.
+#[derive(Clone, Copy, Debug, PartialEq, Eq)]
+pub enum Kind {
+    /// Something stands behind column 72, which doesn't count.
+    Behind,
+    /// No statement of the unit uses this label.
+    Label(u32),
+    /// No statement of the program calls, creates or refers to this subroutine or function.
+    Unit(Name),
+    /// This subroutine is created, and gets the variable of a DO that the statement is in.
+    Create(Name, Name),
+}
+
+/// A warning: a line of the source, counted from 1, and what is said of it.
+#[derive(Clone, Copy, Debug, PartialEq, Eq)]
+pub struct Warning {
+    pub line: u32,
+    pub kind: Kind,
+}
+
+// Appends a number.
+fn append_number(text: &mut Vec<u8>, number: u32) -> Result<(), AllocError>
+    ensures { OnOk result (text.new.items ≡ text.old.items ++ decimal number) }
+{
+    let mut buffer = Buffer::new();
+    text.extend_from_slice(buffer.format(number).as_bytes())?;
+    Ok(())
+}
+
+// Appends letters without the blanks among them.
+fn append_letters(text: &mut Vec<u8>, letters: &[u8]) -> Result<(), AllocError>
+    ensures { OnOk result (text.new.items ≡ text.old.items ++ letters_of letters.now) }
+{
+    for letter in letters {
+        if *letter != b' ' {
+            text.push(*letter)?;
+        }
+    }
+    Ok(())
+}
+
+// Appends a name as it is written.
+fn append_name(text: &mut Vec<u8>, name: &Name) -> Result<(), AllocError>
+    ensures { OnOk result (text.new.items ≡ text.old.items ++ spelling name.now) }
+{
+    if name.asynchronous {
+        text.push(b'$')?;
+    }
+    append_letters(text, &name.letters)
+}
+
+// Appends what is said.
+fn append_kind(text: &mut Vec<u8>, kind: &Kind) -> Result<(), AllocError>
+    ensures { OnOk result (text.new.items ≡ text.old.items ++ lines.kind_text kind.now) }
+{
+    match kind {
+        Kind::Behind => text.extend_from_slice(b"BEHIND COLUMN 72")?,
+        Kind::Label(label) => {
+            text.extend_from_slice(b"LABEL ")?;
+            append_number(text, *label)?;
+            text.extend_from_slice(b" UNUSED")?;
+        }
+        Kind::Unit(name) => {
+            text.extend_from_slice(b"UNIT ")?;
+            append_name(text, name)?;
+            text.extend_from_slice(b" UNUSED")?;
+        }
+        Kind::Create(subroutine, variable) => {
+            text.extend_from_slice(b"CREATE ")?;
+            append_name(text, subroutine)?;
+            text.extend_from_slice(b" PASSES ")?;
+            append_name(text, variable)?;
+            text.extend_from_slice(b" OF A DO")?;
+        }
+    }
+    Ok(())
+}
+
+// Appends the line of a warning.
+fn append_warning(text: &mut Vec<u8>, warning: &Warning) -> Result<(), AllocError>
+    ensures { OnOk result (text.new.items ≡ text.old.items ++ lines.warning_line warning.now) }
+{
+    text.extend_from_slice(b"WARNING LINE ")?;
+    append_number(text, warning.line)?;
+    text.extend_from_slice(b" ")?;
+    append_kind(text, &warning.kind)?;
+    text.extend_from_slice(b"\n")?;
+    Ok(())
+}
+
+// Appends the lines of warnings.
+fn append_warnings(text: &mut Vec<u8>, warnings: &[Warning]) -> Result<(), AllocError>
+    ensures { OnOk result (text.new.items ≡ text.old.items ++ lines.warning_text warnings.now) }
+{
+    for warning in warnings {
+        append_warning(text, warning)?;
+    }
+    Ok(())
+}
+
+/// The lines of warnings, in order.
+///
+/// # Errors
+///
+/// Only where memory was refused.
+pub fn warning_text(alloc: Global, warnings: &[Warning]) -> Result<Text, AllocError>
+    ensures { IfOk result (λ text. text ≡ lines.warning_text warnings.now) }
+{
+    let mut text = Vec::new(alloc);
+    append_warnings(&mut text, warnings)?;
+    Ok(Text::from(text))
+}
