@@ -1,6 +1,6 @@
 -- Slots that come back from a loan: what the list is then.
 use Rattle.hep_arena.proofs.Lists.{get-set_other, get-set_same}
-use Rattle.std.proofs.Common.{◌≡◌, ◌⊎◌, ℕ, zero, suc, ◌+◌, ◌-◌, ◌<◌, ◌≤◌, List, [], ◌∷◌, ◌++◌, length, length-append, length-drop, length-set, length-take, take, drop, Some, None, slice_get, slice_range, set, refl, arith, if◌then◌else◌, min, nat_eq, nat_lt}
+use Rattle.std.proofs.Common.{◌≡◌, ◌⊎◌, ℕ, zero, suc, ◌+◌, ◌-◌, ◌<◌, ◌≤◌, List, [], ◌∷◌, ◌++◌, length, length-append, length-drop, length-set, length-take, take, drop, Some, None, slice_get, slice_range, set, refl, ap, arith, if◌then◌else◌, min, nat_eq, nat_lt}
 use Rattle.std.proofs.lemmas.Bool.Decides.{nat_tests}
 use Rattle.hep_machine.specs.declared.slot.Slot.{Slot}
 use Rattle.hep_arena.specs.Lending.{with_run}
@@ -66,3 +66,10 @@ with_run-set xs at n i slot le less =
       get-set lent i (k - at) slot (omega (arith, long)),
       λ (up : at ≤ k) (low : k - at < n). range-get xs at n (k - at) low,
     ))
+
+-- all slots are lent, and as many come back
+pub whole-with_run : (xs ys : List Slot) → length ys ≡ length xs → with_run xs 0 (length xs) ys ≡ ys
+whole-with_run [] [] long = refl
+whole-with_run [] (y ∷ ys) long = absurd (omega (arith, long))
+whole-with_run (x ∷ xs) [] long = absurd (omega (arith, long))
+whole-with_run (x ∷ xs) (y ∷ ys) long = ap (λ (l : List Slot). y ∷ l) (whole-with_run xs ys (omega (arith, long)))

@@ -1,5 +1,5 @@
 -- What an arena is once the slots of a block come back.
-use Rattle.std.specs.Prelude.{ℕ, List}
+use Rattle.std.specs.Prelude.{ℕ, List, length}
 use Rattle.std.specs.Borrow.{Lends, MutBor, Fml, Array}
 use Rattle.hep_machine.specs.declared.slot.Slot.{Slot}
 use Rattle.hep_machine.specs.contracts.slot.Slot.{the_row as slot_row}
@@ -13,3 +13,7 @@ with_block space at n slots = record space { contents = with_run space.contents 
 -- once the loan ends, the n slots from an index on are what the loan then holds, and nothing else changes
 abbrev pub LendsBlock : MutBor Space → ℕ → ℕ → MutBor (List Slot) → Fml
 LendsBlock space at n loan = Lends the_row (Array slot_row 0) space loan (with_block space.now at n)
+
+-- so with all slots
+abbrev pub LendsAll : MutBor Space → MutBor (List Slot) → Fml
+LendsAll space loan = LendsBlock space 0 (length space.now.contents) loan

@@ -75,7 +75,7 @@ fn sendable<T: Send>(value: T) -> T
 }
 
 impl Arena {
-    ghost use Rattle.hep_arena.specs.Lent.{LendsBlock};
+    ghost use Rattle.hep_arena.specs.Lent.{LendsAll, LendsBlock};
 
     /// An arena of so many cells, all of them free.
     ///
@@ -179,6 +179,15 @@ impl Arena {
         ensures holes { self.new.holes ≡ self.old.holes }
     {
         self.region.slots_mut()[at as usize] = slot;
+    }
+
+    /// The slots of all cells, to be read and written.
+    pub fn slots_mut(&mut self) -> &mut [Slot]
+        ensures* writes_back { sem 𝓛 (LendsAll self.entry result) }
+        ensures value { result.now ≡ self.old.contents }
+    {
+        let cells = self.region.slots().len();
+        self.region.lend(0, cells)
     }
 
     /// The slots of a block, to be read and written.

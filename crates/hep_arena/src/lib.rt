@@ -12,3 +12,4 @@ mod region;
 
 pub use arena::Arena;
 pub use block::Block;
+pub use hep_machine::Slot;

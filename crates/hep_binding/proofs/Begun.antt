@@ -21,7 +21,7 @@ use Rattle.hep_arena.specs.Gaps.{frame_among}
 use Rattle.hep_layout.proofs.Frames.{among-with_frame}
 use Rattle.hep_layout.proofs.References.{references-made, unset-ahead}
 use Rattle.hep_layout.proofs.Stacks.{top-numbered}
-use Rattle.hep_frames.specs.Keeping.{IsBegun}
+use Rattle.hep_proc.specs.Keeping.{IsBegun}
 use Rattle.hep_binding.specs.Writing.{IsBinding}
 
 -- ---- what a binding stores

@@ -11,7 +11,7 @@ use Rattle.hep_code.proofs.Moves.{after_statement_keeps}
 use Rattle.hep_layout.specs.Words.{level_of, descriptor_slots, slot_by_dummy, slot_of_bounds, slot_of_dummy, slot_on_level, Nodes, also, is_stacked, FramePart, argument, bounds, header, iteration, variable, place_of_part}
 use Rattle.hep_layout.proofs.StackChanges.{stacks-begun, stacks-created, stacks-same}
 use Rattle.hep_layout.proofs.Stacks.{top-numbered, level-found}
-use Rattle.hep_frames.specs.Keeping.{FramesOf, Keeps}
+use Rattle.hep_proc.specs.Keeping.{FramesOf, Keeps}
 use Rattle.hep_step.specs.Simulation.{unit_addressed}
 use Rattle.std.specs.Option.{unwrap_or}
 use Rattle.std.proofs.lemmas.Option.{none-some, same_Some}

@@ -10,8 +10,8 @@ use Rattle.hep_binding.specs.Shapes.{cells_to_bounds, cells_to_bounds_of, cells_
 use Rattle.hep_machine.specs.declared.slot.Slot.{Slot}
 use Rattle.hep_arena.specs.Gaps.{frame_among}
 use Rattle.hep_arena.specs.Space.{Space}
-use Rattle.hep_frames.specs.Keeping.{FramesOf, Keeps}
-use Rattle.hep_frames.proofs.Stays.{keeps-described, keeps-same, keeps-stored}
+use Rattle.hep_proc.specs.Keeping.{FramesOf, Keeps}
+use Rattle.hep_proc.proofs.Stays.{keeps-described, keeps-same, keeps-stored}
 use Rattle.hep_binding.specs.Writing.{IsSet, is_before, stored_in, unit_framed, wanted_up_to, written_up_to}
 
 -- ---- places

@@ -11,14 +11,14 @@ use Rattle.hep_layout.specs.Words.{address, is_descriptor, is_value, number, slo
 use Rattle.hep_layout.proofs.FrameRows.{argument-first}
 use Rattle.hep_layout.proofs.Rows.{place-at}
 use Rattle.hep_layout.proofs.Runs.{runs-value}
-use Rattle.hep_frames.specs.Keeping.{FramesOf, Keeps, with_unset}
+use Rattle.hep_proc.specs.Keeping.{FramesOf, Keeps, with_unset}
 use Rattle.hep_step.specs.declared.given.Given.{Given}
 use Rattle.hep_step.specs.declared.given.Given.TheVariants as given
 use Rattle.hep_binding.specs.Giving.{IsGiven, with_one_given, with_given}
 use Rattle.hep_binding.specs.Writing.{IsPut, IsSet, stored_in, unit_framed, unwritten, wanted_up_to, written_up_to, IsBinding, is_before}
 use Rattle.hep_binding.proofs.Cells.{keeps-given, keeps-skipped, keeps-written, one-cell}
 use Rattle.std.proofs.lemmas.Bool.Decides.{nat_tests}
-use Rattle.hep_frames.proofs.Stays.{keeps-same}
+use Rattle.hep_proc.proofs.Stays.{keeps-same}
 use Rattle.hep_binding.specs.Shapes.{cells_to_locals}
 use Rattle.hep_binding.proofs.Names.{full-given, given-at, given-many, given-next, index-found}
 

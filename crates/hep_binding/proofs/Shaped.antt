@@ -6,7 +6,7 @@ use Rattle.hep_machine.specs.declared.shape.Bound.{Bound}
 use Rattle.hep_machine.specs.declared.slot.Slot.{Slot}
 use Rattle.hep_arena.specs.Space.{Space}
 use Rattle.hep_layout.specs.Words.{number, slot_by_dummy, slot_of_bounds, slot_of_upper, descriptor_slots, FramePart, bounds, place_of_part, Nodes, FrameNode}
-use Rattle.hep_frames.specs.Keeping.{FramesOf, Keeps}
+use Rattle.hep_proc.specs.Keeping.{FramesOf, Keeps}
 use Rattle.hep_binding.specs.Shapes.{IsBoundPut, IsShaping, cells_to_bounds_of, AreShaping, IsFramedBy, cells_of_shape, cells_of_shapes}
 use Rattle.hep_binding.specs.Writing.{IsSet, unit_framed, written_up_to}
 use Rattle.hep_binding.proofs.Cells.{keeps-skipped, keeps-written, one-cell, place-bounds, to-next, to-end, to-first}

@@ -4,7 +4,7 @@ use Rattle.hep_machine.specs.Words.{Statement, Units, dummies_of, unit_at, Bindi
 use Rattle.hep_arena.specs.Space.{Space}
 use Rattle.hep_layout.specs.Words.{frame_from, RunsFrom, Nodes, also, is_stacked}
 use Rattle.hep_image.specs.Bound.{AreKept}
-use Rattle.hep_frames.specs.Keeping.{FramesOf, Keeps, frames_begun, frames_in}
+use Rattle.hep_proc.specs.Keeping.{FramesOf, Keeps, frames_begun, frames_in}
 use Rattle.hep_step.specs.declared.given.Given.{Given}
 use Rattle.hep_step.specs.declared.given.Given.TheVariants as given
 use Rattle.hep_binding.specs.Giving.{AreDistinct}

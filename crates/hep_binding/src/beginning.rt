@@ -4,13 +4,13 @@ ghost use Rattle.slab.specs.Slab.{ContainsKey, HasRoomFor};
 ghost use Rattle.hep_machine.specs.Words.{Layout, common_cells, frame_of, lowest_gap, State};
 ghost use Rattle.hep_arena.specs.Holes.{first_fit};
 ghost use Rattle.hep_layout.specs.Words.{new_node, with_node, FrameNode};
-ghost use Rattle.hep_frames.specs.Keeping.{AreOfSomeState, Keeps};
-ghost use Rattle.hep_frames.specs.Nodes.{CanCount, nodes_of};
+ghost use Rattle.hep_proc.specs.Keeping.{AreOfSomeState, Keeps};
+ghost use Rattle.hep_proc.specs.Nodes.{CanCount, nodes_of};
 ghost use Rattle.hep_binding.specs.Calling.{ArePassed, CallOf, IsPassing, IsWritten, frames_before_call, state_begun, unit_begun};
 ghost use Rattle.hep_binding.specs.Shapes.{cells_to_locals};
 
 use crate::binding::bind;
-use hep_frames::Frames;
+use hep_proc::Frames;
 use hep_step::Given;
 
 /// The frame of a new activation enters, which runs the unit of an index and whose parent's node is under a key, and what is given is

@@ -3,14 +3,14 @@ ghost use Rattle.std.specs.Prelude.{◌≡◌, ◌+◌, ◌*◌, ◌<◌, ◌≤
 ghost use Rattle.hep_machine.specs.Words.{Name, dummies_of, unset_cell, State, local};
 ghost use Rattle.hep_arena.specs.Holes.{IsOut};
 ghost use Rattle.hep_layout.specs.Descriptors.{number as slot_of_number};
-ghost use Rattle.hep_frames.specs.Keeping.{FramesOf, Keeps};
-ghost use Rattle.hep_frames.specs.Nodes.{nodes_of};
+ghost use Rattle.hep_proc.specs.Keeping.{FramesOf, Keeps};
+ghost use Rattle.hep_proc.specs.Nodes.{nodes_of};
 ghost use Rattle.hep_binding.specs.Giving.{with_given};
 ghost use Rattle.hep_binding.specs.Shapes.{cells_to_locals};
 ghost use Rattle.hep_binding.specs.Writing.{IsBinding, IsPut, unit_framed, unwritten, written_up_to};
 
-use hep_frames::Frames;
 use hep_machine::Slot;
+use hep_proc::Frames;
 use hep_source::Value;
 use hep_step::Given;
 

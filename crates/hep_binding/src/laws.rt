@@ -8,7 +8,7 @@ ghost use Rattle.hep_machine.specs.declared.shape.Bound.{Bound};
 ghost use Rattle.hep_arena.specs.Gaps.{frame_among};
 ghost use Rattle.hep_arena.specs.Space.{Space};
 ghost use Rattle.hep_layout.specs.Words.{IsLaid, Nodes};
-ghost use Rattle.hep_frames.specs.Keeping.{FramesOf, IsBegun, Keeps};
+ghost use Rattle.hep_proc.specs.Keeping.{FramesOf, IsBegun, Keeps};
 ghost use Rattle.hep_step.specs.declared.given.Given.{Given};
 ghost use Rattle.hep_step.specs.declared.way.Way.{Way};
 ghost use Rattle.hep_step.specs.Calls.{comes_by, is_creation, unit_by};

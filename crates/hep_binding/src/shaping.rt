@@ -4,16 +4,16 @@ ghost use Rattle.slab.specs.Slab.{ContainsKey};
 ghost use Rattle.hep_machine.specs.Words.{Bounds, Frame, frame_cells};
 ghost use Rattle.hep_arena.specs.Gaps.{frame_among};
 ghost use Rattle.hep_arena.specs.Holes.{IsOut};
-ghost use Rattle.hep_frames.specs.Keeping.{AreOfSomeState, FramesOf, Keeps};
-ghost use Rattle.hep_frames.specs.Nodes.{nodes_of};
+ghost use Rattle.hep_proc.specs.Keeping.{AreOfSomeState, FramesOf, Keeps};
+ghost use Rattle.hep_proc.specs.Nodes.{nodes_of};
 ghost use Rattle.hep_binding.specs.Shapes.{AreShaping, IsBoundPut, IsFramedBy, IsShaping, cells_of_shape, cells_of_shapes};
 ghost use Rattle.hep_binding.specs.Shapes.{cells_to_bounds_of};
 ghost use Rattle.hep_binding.specs.Writing.{unit_framed, written_up_to};
 ghost use Rattle.hep_layout.specs.Words.{FrameNode};
 
 use crate::binding::number;
-use hep_frames::Frames;
 use hep_machine::Bound;
+use hep_proc::Frames;
 use hep_shape::Shape;
 
 // Writes the bounds of a dimension to its two cells, of which the second one has no value yet.

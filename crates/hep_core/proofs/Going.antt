@@ -146,6 +146,7 @@ module _ (law : GoAlong) (i : Inside) (p : ℕ) (k : CoreInvariant i) (running :
         single = far.single;
         named = subst (λ stop. IsStop i.image i.cells i.limit history.items stop) (sym running) (sym (halted-is i.image i.cells history.items (snapshot_of machine) there.after) ∙ unhalted);
         living = far.living;
+        tabled = k.tabled;
       }
 
   -- each of its entries is of a choice

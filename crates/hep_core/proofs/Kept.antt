@@ -6,8 +6,9 @@ use Rattle.hep_machine.specs.declared.event.Entry.{Entry}
 use Rattle.hep_cells.specs.declared.want.Want.{Want}
 use Rattle.hep_blocked.specs.Listing.{AreListed, GoesAlong, GoesAlongEmptying, HasEmptied, IsBlocked, awake_by, awake_where, is_noted, is_woken, is_woken_where}
 use Rattle.hep_blocked.specs.Numbers.{Numbers}
+use Rattle.hep_proc.specs.Stacks.{stack_of}
 use Rattle.hep_state.specs.declared.machine.Machine.{Machine}
-use Rattle.hep_state.specs.Words.{IsMachineAfter, Snapshot, snapshot_of, stack_of, IsAfter, HasWaited, HasPurged, HasTurned, HasLevels}
+use Rattle.hep_state.specs.Words.{IsMachineAfter, Snapshot, snapshot_of, IsAfter, HasWaited, HasPurged, HasTurned, HasLevels}
 use Rattle.hep_views.specs.Seen.{machine_view}
 use Rattle.hep_core.specs.Invariant.{AreLiving, CoreInvariant}
 use Rattle.hep_core.specs.Value.{IsStop, CoreValue, IsChoice}
@@ -82,6 +83,7 @@ module _ (c : Inside) (kept : CoreInvariant c) (history : Vec Entry Global) (mac
         single = subst (λ es. length (schedule_of es) ≤ length es) (sym same) kept.single;
         named = subst (λ es. IsStop c.image c.cells c.limit es stop) (sym same) named;
         living = subst (λ es. AreLiving c.image es c.out.items) (sym same) kept.living;
+        tabled = kept.tabled;
       }
 
 -- what is seen of it
@@ -188,6 +190,7 @@ module _ (i : Inside) (k : CoreInvariant i) (p : ℕ) (lt : length i.history.ite
         single = single-next i.image i.cells i.history.items p history.items is made k.single;
         named = named;
         living = living-next i.image i.cells i.history.items p history.items is made i.out.items home k.living;
+        tabled = k.tabled;
       }
 
 -- that found its process waiting
@@ -206,6 +209,7 @@ module _ (i : Inside) (k : CoreInvariant i) (p : ℕ) (lt : length i.history.ite
         single = single-left i.image i.cells i.history.items p history.items is k.single;
         named = named;
         living = subst (λ es. AreLiving i.image es i.out.items) (sym is) (living-waited i.image i.history.items p i.out.items k.living);
+        tabled = k.tabled;
       }
 
   -- it has stopped no more than before

@@ -24,6 +24,7 @@ use hep_going::go_on;
 use hep_image::Image;
 use hep_layout::laws::layouts_have_what_is_held;
 use hep_machine::{Entry, Fault, Record, Slot};
+use hep_quick::{Table, Tabled, tables_of};
 use hep_state::laws::activations_are_few;
 use hep_state::{Machine, TurnFault, Turned, fits};
 use hep_views::Listed;
@@ -43,6 +44,8 @@ const FIRST_PROCESS: u64 = 1;
 pub struct Core {
     alloc: Global,
     image: Image,
+    // Those of its units.
+    tables: Vec<Table>,
     cells: u32,
     limit: u64,
     history: Vec<Entry>,
@@ -63,6 +66,7 @@ impl Drop for Core {
         let Core {
             alloc,
             image,
+            tables,
             cells,
             limit,
             history,
@@ -114,12 +118,14 @@ impl Core {
             return Err(NewFault::ArenaFull);
         }
         let machine = Machine::open(alloc, &image, cells)?;
+        let tables = tables_of(alloc, &image)?;
         let mut ready = Ready::new(alloc);
         ready.reserve(1)?;
         ready.add(FIRST_PROCESS);
         Ok(Core {
             alloc,
             image,
+            tables,
             cells,
             limit: steps,
             history: Vec::new(alloc),
@@ -228,7 +234,11 @@ impl Core {
         lists_go_along_with_steps();
         let most = most.min(self.limit - self.history.len() as u64);
         self.history.reserve(most as usize)?;
-        let made = go_on(&mut self.machine, self.alloc, &self.image, p, most);
+        let tabled = Tabled {
+            image: &self.image,
+            tables: &self.tables,
+        };
+        let made = go_on(&mut self.machine, self.alloc, &tabled, p, most);
         note_all(&mut self.history, p, made);
         Ok(made)
     }
@@ -492,6 +502,7 @@ impl Core {
     }
 
     // The process that comes next by itself, whoever is out.
+    #[inline(always)]
     fn next_of_all(&self) -> Option<u64>
         ensures { result ≡ next_of_ready (last_process self.now.history) (ready_of self.now) }
     {
@@ -515,6 +526,7 @@ impl Core {
     ///
     /// This costs the logarithm of how many processes were made, for each process that is out and once more; a constant time for each where
     /// at most 64 were made.
+    #[inline(always)]
     pub fn next_ready(&self) -> Option<u64>
         ensures { result ≡ next_ready_of self.now }
     {
@@ -608,6 +620,7 @@ impl Core {
         let Core {
             alloc,
             image,
+            tables,
             cells,
             limit,
             history,

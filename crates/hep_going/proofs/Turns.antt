@@ -1,7 +1,7 @@
 -- A process that goes on keeps what the machine shows: each of its steps is a plain turn.
 use Rattle.std.proofs.Common.{◌≡◌, ℕ, zero, suc, ◌-◌, ◌≤◌, false, List, [], ◌∷◌, ◌++◌, drop, length, refl, ap, sym, ◌∙◌, subst, arith, slice_set, length-set}
 use Rattle.std.proofs.lemmas.Option.{none-some}
-use Rattle.hep_machine.specs.Words.{Value, unit_at}
+use Rattle.hep_machine.specs.Words.{Value, common_cells, frame_cells, unit_at}
 use Rattle.hep_machine.specs.declared.slot.Slot.{Slot}
 use Rattle.hep_machine.specs.State.{Level as SourceLevel, Process as SourceProcess}
 use Rattle.hep_code.specs.declared.instruction.Instruction.{Instruction}
@@ -10,7 +10,9 @@ use Rattle.hep_code.specs.declared.instruction.Operation.{Operation}
 use Rattle.hep_code.specs.declared.instruction.Operation.TheVariants.{Call, Create, Refer, Purge, Resume}
 use Rattle.hep_code.specs.Words.{deepest}
 use Rattle.hep_image.specs.declared.array.Array.{Array}
+use Rattle.hep_arena.proofs.Gaps.{apart-end}
 use Rattle.hep_image.specs.Image.{most_cells}
+use Rattle.hep_image.proofs.Variables.{frame-reached}
 use Rattle.hep_image.specs.Arrays.{ArePlacedArrays}
 use Rattle.hep_binding.proofs.Calls.{set-numbered}
 use Rattle.hep_step.specs.Effects.{effect_ahead, moves}
@@ -18,8 +20,9 @@ use Rattle.hep_step.specs.Performed as step
 use Rattle.hep_step.specs.Performed.{changed_in, performed}
 use Rattle.hep_step.specs.Ready.{frame_in_arena}
 use Rattle.hep_step.specs.Simulation.{IsNotLeftOut, is_left_out, unit_arrays, unit_code}
-use Rattle.hep_state.specs.Words.{Changes, HasLevels, IsAfter, IsEffectOf, IsTopRunning, IsTurning, Snapshot, TurnOf, snapshot_moved, stack_with, top_frame, turn_settled}
-use Rattle.hep_state.proofs.Moved.{moved-shown}
+use Rattle.hep_proc.specs.Stacks.{stack_with}
+use Rattle.hep_state.specs.Words.{Changes, HasLevels, IsAfter, IsEffectOf, IsTopRunning, IsTurning, Snapshot, TurnOf, running_top, snapshot_moved, top_frame, turn_settled}
+use Rattle.hep_state.proofs.Moved.{moved-shown, unit-is}
 use Rattle.hep_state.proofs.Runs.{set-same}
 use Rattle.hep_state.proofs.Changes.{changes-only}
 use Rattle.hep_state.proofs.Taken.{ahead-simulated, before, ready, room-ahead}
@@ -165,3 +168,13 @@ module _ (t : TurnOf) where
           room = omega (arith, room, room-ahead come.turns);
           ready = λ more le. ready come.turns (known.running r refl come.turns) more (known.arrays r refl come.turns) known.few (omega (arith, room, le));
         }
+
+    -- its frame has the cells of its unit, and COMMON lies in the arena
+    pub frame-there : ((top_frame t).cells ≡ frame_cells (unit_at t.program t.level.unit)) × (common_cells t.program ≤ length t.machine.arena.contents)
+    frame-there =
+        let r = running_top t turns in
+        let runs = known.running t refl turns in
+        let here = frame-reached r.program r.top.state r.layout r.arena.contents r.arena.holes r.top.level.activation r.frame runs.memory runs.framed in (
+          here.0 ∙ ap (λ u. frame_cells (unit_at t.program u)) (unit-is turns),
+          apart-end (length r.arena.contents) (common_cells t.program) r.layout runs.memory.laid.apart,
+        )

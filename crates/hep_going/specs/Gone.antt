@@ -1,53 +1,61 @@
 -- Turns of one process, one after the other, which only move it: docs/MACHINE.md, "Steps" and "The opening and runs".
-use Rattle.std.specs.Prelude.{◌≡◌, ◌≢◌, ℕ, suc, ◌<◌, false, List, [], ◌∷◌, ◌++◌, length, Some, None, vec_capacity}
-use Rattle.hep_machine.specs.Words.{Value, Units, Layout, is_held, layout_of, living, run, step}
+use Rattle.std.specs.Prelude.{◌≡◌, ◌≢◌, ℕ, suc, ◌<◌, ◌≤◌, false, List, [], ◌∷◌, ◌++◌, length, Some, None, vec_capacity}
+use Rattle.hep_machine.specs.Words.{Value, Units, Layout, common_cells, frame_cells, is_held, layout_of, living, run, step, unit_at}
 use Rattle.hep_arena.specs.Space.{Space}
 use Rattle.hep_layout.specs.Words.{Nodes}
-use Rattle.hep_frames.specs.declared.frames.Frames.{Frames}
-use Rattle.hep_frames.specs.Nodes.{nodes_of}
+use Rattle.hep_proc.specs.declared.frames.Frames.{Frames}
+use Rattle.hep_proc.specs.Nodes.{nodes_of}
 use Rattle.hep_step.specs.Performed as step
 use Rattle.hep_step.specs.Performed.{snapshot}
 use Rattle.hep_step.specs.Ready.{frame_in_arena}
 use Rattle.hep_step.specs.Simulation.{unit_arrays, unit_code}
-use Rattle.hep_state.specs.declared.machine.Level.{Level}
+use Rattle.hep_proc.specs.declared.process.Local.{Local}
 use Rattle.hep_state.specs.declared.machine.Machine.{Machine}
-use Rattle.hep_state.specs.declared.machine.Process.{Process}
-use Rattle.hep_state.specs.Words.{AfterTurns, Changes, HasLevels, HoldsOfTop, IsMachineAfter, Snapshot, Stack, frame_under, node_under, stack_of, stack_with}
+use Rattle.hep_proc.specs.declared.process.Process.{Process}
+use Rattle.hep_proc.specs.Stacks.{HoldsOfTop, Stack, stack_of, stack_with}
+use Rattle.hep_state.specs.Words.{AfterTurns, Changes, HasLevels, IsItsTurn, IsMachineAfter, Snapshot, frame_under, node_under}
 use Rattle.hep_moves.specs.Moves.{CanGoOn, Goes, HasNoMove}
+use Rattle.hep_quick.specs.declared.tabled.Tabled.{Tabled}
+use Rattle.hep_quick.specs.UnitTables.{AreTables}
 
 -- ---- the top activation
 
 -- so many steps of the activation at a level lead from one place to another
-abbrev pub GoesAt : Units → Nodes → Level → step.Snapshot → ℕ → step.Snapshot → Type 0
+abbrev pub GoesAt : Units → Nodes → Local → step.Snapshot → ℕ → step.Snapshot → Type 0
 GoesAt program nodes l s n t = Goes (unit_code program l.unit) (unit_arrays program l.unit) (node_under nodes l.key).first s n t
 
 -- no plain operation stands ahead there that moves it
-abbrev pub HasNoMoveAt : Units → Nodes → Level → step.Snapshot → Type 0
+abbrev pub HasNoMoveAt : Units → Nodes → Local → step.Snapshot → Type 0
 HasNoMoveAt program nodes l s = HasNoMove (unit_code program l.unit) (unit_arrays program l.unit) (node_under nodes l.key).first s
 
--- a process has a top level, whose unit and frame are there, and it can go on wherever it comes to
+-- a process has a top level, whose unit and frame are there, and it can go on wherever it comes to; the frame has the cells of the unit, and
+-- COMMON lies in the arena
 pub record CanGo (program : Units) (k : Stack) (capacity : ℕ) (arena : Space) (nodes : Nodes) : Type 0 where
-  pub l : Level
-  pub ls : List Level
+  pub l : Local
+  pub ls : List Local
   pub operands : List Value
   pub pending : List Value
   pub stack : k ≡ stack_with l ls operands pending
   pub inside : l.unit < length program
   pub there : nodes l.key ≡ Some (node_under nodes l.key)
+  pub sized : (frame_under nodes l.key).cells ≡ frame_cells (unit_at program l.unit)
+  pub common : common_cells program ≤ length arena.contents
   pub ready : (n : ℕ) (t : step.Snapshot) → GoesAt program nodes l (snapshot arena.contents operands l.index) n t
       → CanGoOn (unit_code program l.unit) (unit_arrays program l.unit) arena.holes (frame_in_arena (frame_under nodes l.key)) capacity t
 
 -- then it has gone on so far, and no further only where it was to make no more or there is no move
-pub record HasGoneOn (program : Units) (nodes : Nodes) (l : Level) (ls : List Level) (operands pending : List Value) (before after : Space) (most n : ℕ) (k : Stack) : Type 0 where
+pub record HasGoneOn (program : Units) (nodes : Nodes) (l : Local) (ls : List Local) (operands pending : List Value) (before after : Space) (most n : ℕ) (k : Stack) : Type 0 where
   pub next : ℕ
   pub left : List Value
   pub stack : k ≡ stack_with (record l { index = next }) ls left pending
   pub gone : GoesAt program nodes l (snapshot before.contents operands l.index) n (snapshot after.contents left next)
   pub all : n < most → HasNoMoveAt program nodes l (snapshot after.contents left next)
 
--- so of the top activation of a process, whose frame is among these
-abbrev pub CanGoTop : Units → Process → Frames → Type 0
-CanGoTop program q frames = CanGo program (stack_of q) (vec_capacity q.operands) frames.arena (nodes_of frames.nodes)
+-- so of the top activation of a process, whose frame is among these, and the tables are those of the image
+abbrev pub CanGoTop : Tabled → Process → Frames → Type 0
+CanGoTop tabled q frames =
+    AreTables tabled.image.now tabled.tables.now
+    × CanGo tabled.image.now (stack_of q) (vec_capacity q.operands) frames.arena (nodes_of frames.nodes)
 
 abbrev pub GoesTop : Units → Process → Frames → ℕ → ℕ → Process → Frames → Type 0
 GoesTop program old frames most made new after =
@@ -60,6 +68,11 @@ pub record HasNoMoveAhead (program : Units) (p : ℕ) (m : Snapshot) : Type 0 wh
   pub none : HasNoMoveAt program m.nodes living.level (snapshot m.arena.contents living.operands living.level.index)
 
 -- ---- turns
+
+-- it is the turn of a process, and the tables are those of the image
+pub record CanTakeTurns (tabled : Tabled) (p : ℕ) (m : Machine) : Type 0 where
+  pub turn : IsItsTurn tabled.image.now p m
+  pub tables : AreTables tabled.image.now tabled.tables.now
 
 -- the turn of p after those of these processes is a step, which fills and empties no storage unit, makes and ends no process, is no STOP,
 -- and leaves each frame where it is

@@ -2,10 +2,10 @@
 ghost use Rattle.std.specs.Prelude.{◌≡◌, ◌≤◌, vec_capacity};
 ghost use Rattle.hep_going.specs.Gone.{CanGoTop, GoesTop};
 
-use hep_frames::Frames;
-use hep_image::Image;
-use hep_moves::{Activation, move_on};
-use hep_state::Process;
+use hep_moves::Activation;
+use hep_proc::{Frames, Process};
+use hep_quick::{Quick, Tabled, move_by_table};
+use hep_state::place;
 use std::alloc::Global;
 
 /// So many steps at most of the top activation of a process, each of which only moves it, and how many they were.
@@ -13,31 +13,27 @@ pub(crate) fn go_top(
     process: &mut Process,
     frames: &mut Frames,
     alloc: Global,
-    image: &Image,
+    tabled: &Tabled<'_>,
     most: u64,
 ) -> u64
-    requires { CanGoTop image.now process.old frames.old }
-    ensures gone { GoesTop image.now process.old frames.old most result process.new frames.new }
+    requires { CanGoTop tabled.now process.old frames.old }
+    ensures gone { GoesTop tabled.now.image.now process.old frames.old most result process.new frames.new }
     ensures few { result ≤ most }
     ensures nodes { frames.new.nodes ≡ frames.old.nodes }
     ensures holes { frames.new.arena.holes ≡ frames.old.arena.holes }
     ensures capacity { vec_capacity process.old.operands ≤ vec_capacity process.new.operands }
 {
-    let (unit, frame, mut index) = process.place(frames, image);
+    let (unit, frame, mut index) = place(process, frames, tabled.image);
     let activation = Activation {
         code: unit.code.as_slice(),
         arrays: unit.arrays.as_slice(),
         frame,
     };
+    let level = process.top();
+    let table = tabled.table(level.unit as usize);
+    let quick = Quick { activation, table };
     let operands = &mut process.operands;
-    let made = move_on(
-        alloc,
-        &activation,
-        &mut frames.arena,
-        operands,
-        &mut index,
-        most,
-    );
+    let made = move_by_table(alloc, &quick, &mut frames.arena, operands, &mut index, most);
     process.stand_at(index);
     made
 }

@@ -8,13 +8,14 @@ use Rattle.hep_code.proofs.Moves.{StandsAt, after_statement_stands, entry_stands
 use Rattle.hep_image.specs.Bound.{AreKept}
 use Rattle.hep_layout.specs.Words.{FrameNode, Nodes, also, is_stacked, new_node, frame_from}
 use Rattle.hep_layout.proofs.Memory.{memory-fits}
-use Rattle.hep_frames.specs.Keeping.{AreOfSomeState as ArenaKept}
+use Rattle.hep_proc.specs.Keeping.{AreOfSomeState as ArenaKept}
 use Rattle.hep_step.specs.declared.way.Way.{Way}
 use Rattle.hep_step.specs.declared.way.Way.TheVariants.{Calls, Creates, Refers}
 use Rattle.hep_step.specs.Calls.{GoesOn, is_creation}
 use Rattle.hep_step.specs.Simulation.{unit_addressed}
-use Rattle.hep_state.specs.declared.machine.Level.{Level}
-use Rattle.hep_state.specs.Words.{Snapshot, Stack, IsTurning, TurnOf, call_in, frames_before, state_before, state_failed, HasMadeTurn, HasGaps, HasNoGap, HasEntered, HasResultBy, IsAfterCall, entered_level, snapshot_made_by, stacks_made_by, state_made, IsMaking, IsUnit, IsEnding}
+use Rattle.hep_proc.specs.declared.process.Local.{Local}
+use Rattle.hep_proc.specs.Stacks.{Stack}
+use Rattle.hep_state.specs.Words.{Snapshot, IsTurning, TurnOf, call_in, frames_before, state_before, state_failed, HasMadeTurn, HasGaps, HasNoGap, HasEntered, HasResultBy, IsAfterCall, entered_level, snapshot_made_by, stacks_made_by, state_made, IsMaking, IsUnit, IsEnding}
 use Rattle.hep_state.proofs.Leaving.{kept-entered}
 use Rattle.hep_state.proofs.Standing.{AreOn, AreMade, AreStanding, AreStandingBelow, IsHere, StandsOnTop, below-still, here-at, here-still, keeps-last, made-more}
 use Rattle.hep_state.proofs.Moved.{standing-before}
@@ -96,7 +97,7 @@ module _ {t : TurnOf} (h : IsTurning t) (u : ℕ) (actuals : List Actual) (b : B
         }
 
     -- the one that made it
-    maker-here : (level : Level) (a : ℕ) → level.key ≡ t.level.key → level.unit ≡ t.level.unit → a ≡ t.top.0.activation → is_stacked later a ≡ true → IsHere t.program later nodes level a
+    maker-here : (level : Local) (a : ℕ) → level.key ≡ t.level.key → level.unit ≡ t.level.unit → a ≡ t.top.0.activation → is_stacked later a ≡ true → IsHere t.program later nodes level a
     maker-here level a key_is unit_is same on =
         here-at t.program later nodes t.level level t.top.0.activation a key_is unit_is same (
         here-still t.program old later t.machine.nodes nodes made stay t.level t.top.0.activation (standing-before h).0.here (sym (ap (is_stacked later) same) ∙ on))
@@ -142,7 +143,7 @@ module _ {t : TurnOf} (h : IsTurning t) (u : ℕ) (actuals : List Actual) (b : B
       → HasMadeTurn t (snapshot_made_by false t u key kept index arena nodes)
   above-shown key kept index arena nodes e few awaits =
       let later = state_called call in
-      let maker : Level = record t.level { kept = kept; index = index } in
+      let maker : Local = record t.level { kept = kept; index = index } in
       let vs = take kept t.operands in
       let k : Stack = record { levels = entered_level t.program u key ∷ (maker ∷ t.below); operands = []; pending = t.pending ++ vs } in
       let q : Process = level_called call ∷ (t.top.0 ∷ t.top.1) in

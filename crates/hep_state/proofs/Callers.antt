@@ -16,7 +16,7 @@ use Rattle.hep_step.specs.Calls.{GoesOn, IsCallAhead, comes_by, is_creation, las
 use Rattle.hep_step.specs.Simulation.{IsRunning, code_on_top, unit_addressed, unit_arrays, unit_code, Simulates, RunningTop, code_ahead}
 use Rattle.hep_accepted_laws.specs.Works.{ComesFrom}
 use Rattle.hep_state.specs.declared.upcoming.CallAhead.{CallAhead}
-use Rattle.hep_state.specs.Words.{HasResultBy, HoldsInTurn, IsAfterCall, IsAtCall, IsAtStep, IsMadeOf, IsTopRunning, IsTurning, TurnOf, given_of, AreRunning, IsKnown, snapshot_of, stack_of, state_before, top_before, top_frame, turn_of, IsMaking, call_in, IsEnding, IsBehind, stack_with, IsThere, running_top}
+use Rattle.hep_state.specs.Words.{HasResultBy, HoldsInTurn, IsAfterCall, IsAtCall, IsAtStep, IsMadeOf, IsTopRunning, IsTurning, TurnOf, given_of, AreRunning, IsKnown, snapshot_of, state_before, top_before, top_frame, turn_of, IsMaking, call_in, IsEnding, IsBehind, IsThere, running_top}
 use Rattle.hep_state.proofs.Standing.{are-on}
 use Rattle.hep_state.proofs.Moved.{standing-before, unit-is, top-node}
 use Rattle.hep_state.proofs.Runs.{there}
@@ -38,14 +38,16 @@ use Rattle.hep_binding.specs.Giving.{AreDistinct}
 use Rattle.hep_state.proofs.Tops.{there-too, dropped-first}
 use Rattle.std.proofs.lemmas.Option.{slice_get_within}
 use Rattle.hep_code.proofs.Ahead.{drop_one_more}
-use Rattle.hep_frames.specs.Nodes.{nodes_of}
+use Rattle.hep_proc.specs.Nodes.{nodes_of}
 use Rattle.hep_step.specs.declared.frame.Frame.{Frame as CellFrame}
 use Rattle.hep_step.specs.Ready.{frame_in_arena}
-use Rattle.hep_state.specs.declared.machine.Level.{Level}
+use Rattle.hep_proc.specs.declared.process.Local.{Local}
 use Rattle.hep_state.specs.declared.machine.Machine.{Machine}
-use Rattle.hep_state.specs.declared.machine.Process.{Process}
+use Rattle.hep_proc.specs.declared.process.Process.{Process}
+use Rattle.hep_proc.specs.Stacks.{stack_of, stack_with}
+use Rattle.hep_proc.proofs.Levels.{operands-are}
 use Rattle.hep_state.proofs.Unchanged.{carry}
-use Rattle.hep_state.proofs.Processes.{process-at, operands-are}
+use Rattle.hep_state.proofs.Processes.{process-at}
 use Rattle.hep_state.proofs.Taken.{inside}
 
 -- at any operation
@@ -292,7 +294,7 @@ module _ {t : TurnOf} (call : CallAhead) (at : IsAtCall t call) (all : IsKnownTo
 -- what is read of process p of a machine, with the operands past so many
 pub record IsRead (program : Units) (m : Machine) (p : ℕ) (q : Process) (entries : List Instruction) (arrays : List Array) (frame : CellFrame) (past : ℕ) (vs : List Value) : Type 0 where
   pub process : q ≡ get_or m.processes.items (p - 1) q
-  pub behind : (l : Level) (ls : List Level) (before pending : List Value) → stack_of q ≡ stack_with l ls before pending → IsBehind program (nodes_of m.frames.nodes) l entries arrays frame
+  pub behind : (l : Local) (ls : List Local) (before pending : List Value) → stack_of q ≡ stack_with l ls before pending → IsBehind program (nodes_of m.frames.nodes) l entries arrays frame
   pub operands : vs ≡ drop past q.operands.items
 
 module _ {program : Units} {cells : ℕ} {choices : List ℕ} {p : ℕ} (m : Machine) {line : ℕ} {o : Operation} (at : HoldsInTurn program cells choices p (snapshot_of m) (λ t. IsAtStep t line o)) where
@@ -300,7 +302,7 @@ module _ {program : Units} {cells : ℕ} {choices : List ℕ} {p : ℕ} (m : Mac
   unit-inside = inside at.holds.turning
 
   pub can-read : {q : Process} → q ≡ get_or m.processes.items (p - 1) q
-      → (l : Level) × (ls : List Level) × (operands : List Value) × (pending : List Value) × (stack_of q ≡ stack_with l ls operands pending) × IsThere program (nodes_of m.frames.nodes) l × (l.index < length (unit_code program l.unit))
+      → (l : Local) × (ls : List Local) × (operands : List Value) × (pending : List Value) × (stack_of q ≡ stack_with l ls operands pending) × IsThere program (nodes_of m.frames.nodes) l × (l.index < length (unit_code program l.unit))
   can-read {q} is =
       let l = at.levels.level in
       let code = unit_code program l.unit in

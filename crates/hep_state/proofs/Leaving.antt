@@ -8,7 +8,7 @@ use Rattle.hep_layout.specs.Words.{level_of, slot_on_level, slot_of_loop, loop_a
 use Rattle.hep_layout.proofs.Descriptors.{wanted-same}
 use Rattle.hep_layout.proofs.Stacks.{once}
 use Rattle.hep_step.specs.Simulation.{unit_addressed}
-use Rattle.hep_frames.specs.Keeping.{all_but, frames_of}
+use Rattle.hep_proc.specs.Keeping.{all_but, frames_of}
 use Rattle.hep_binding.proofs.Found.{IsAmong, all_levels, among-numbered, among-parts, among-set, find-among, found, times-all}
 use Rattle.std.proofs.lemmas.Bool.{cases_Bool, eqb-true}
 use Rattle.hep_arena.specs.Gaps.{frame_among}

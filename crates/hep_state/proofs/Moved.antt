@@ -13,11 +13,12 @@ use Rattle.hep_layout.proofs.Descriptors.{described-same, wanted-same}
 use Rattle.hep_layout.proofs.Memory.{memory-same}
 use Rattle.hep_layout.proofs.StackChanges.{stacks-same, stacks-emptied, stacks-ended}
 use Rattle.hep_layout.proofs.Stacks.{once, times_on-numbered}
-use Rattle.hep_frames.specs.Keeping.{Keeps, AreOfSomeState, CanAllLeave, CanLeave, IsEnded, LeadUpwards, all_but, frames_of, frames_in}
+use Rattle.hep_proc.specs.Keeping.{Keeps, AreOfSomeState, CanAllLeave, CanLeave, IsEnded, LeadUpwards, all_but, frames_of, frames_in}
 use Rattle.hep_step.specs.Effects.{answers, moves, prints, waits, fails, returns, stops}
 use Rattle.hep_step.specs.Simulation.{state_with_record, Reaches, unit_addressed, unit_code}
-use Rattle.hep_state.specs.declared.machine.Level.{Level}
-use Rattle.hep_state.specs.Words.{frames_before, Snapshot, Stack, HasMadeTurn, HaveLeft, operands_answered, pending_answered, snapshot_answered, state_answered, kept_by, IsEffectOf, IsStack, IsTurning, TurnOf, fault_at, snapshot_moved, snapshot_printed, snapshot_stopped, top_before, top_frame, keys_of, snapshot_failed, snapshot_returned, stack_with, state_before, state_failed, state_returned, HasWaited, node_under, running_top}
+use Rattle.hep_proc.specs.declared.process.Local.{Local}
+use Rattle.hep_proc.specs.Stacks.{keys_of, operands_answered, pending_answered, Stack, stack_with}
+use Rattle.hep_state.specs.Words.{frames_before, Snapshot, HasMadeTurn, HaveLeft, snapshot_answered, state_answered, kept_by, IsEffectOf, IsStack, IsTurning, TurnOf, fault_at, snapshot_moved, snapshot_printed, snapshot_stopped, top_before, top_frame, snapshot_failed, snapshot_returned, state_before, state_failed, state_returned, HasWaited, node_under, running_top}
 use Rattle.hep_state.proofs.Leaving.{AreOf, answered-of, kept-same, all-fewer, but-fewer, kept-left, still-above, all_but-is, caller-of, no-more, none-of}
 use Rattle.hep_state.proofs.Runs.{layout-left, next, there, all-remain, set-same, standing-changed, stepped-after, held-after, remaining-after}
 use Rattle.hep_state.proofs.Standing.{AreStanding, made-same, stack-standing, standing-still, top-stands, AreOn, AreStandingBelow, IsHere, answer-stands, caller-stands}
@@ -56,17 +57,17 @@ number-times a (b ∷ bs) h =
     ]
 
 module _ (program : Units) (s : State) (nodes : Nodes) where
-  abbrev AreHere : List Level → Process → Type 0
+  abbrev AreHere : List Local → Process → Type 0
   AreHere [] [] = Unit {0}
   AreHere (l ∷ ls) (level ∷ levels) = IsHere program s nodes l level.activation × AreHere ls levels
   AreHere _ _ = ⊥
 
-  all-here : (above : ℕ) (pending : List Value) (ls : List Level) (levels : Process) → AreStandingBelow program s nodes above pending ls levels → AreHere ls levels
+  all-here : (above : ℕ) (pending : List Value) (ls : List Local) (levels : Process) → AreStandingBelow program s nodes above pending ls levels → AreHere ls levels
   all-here above pending [] [] h = tt
   all-here above pending (l ∷ ls) (level ∷ levels) h = (h.0.here, all-here l.unit (take (length pending - l.kept) pending) ls levels h.1)
   all-here above pending _ _ h = absurd h
 
-  leaving : (on : ℕ → Bool) (ls : List Level) (levels : Process) → AreHere ls levels → ((a : ℕ) → is_number_among a (activations_on levels) ≡ true → on a ≡ true) → ((a : ℕ) → times a (activations_on levels) ≤ 1)
+  leaving : (on : ℕ → Bool) (ls : List Local) (levels : Process) → AreHere ls levels → ((a : ℕ) → is_number_among a (activations_on levels) ≡ true → on a ≡ true) → ((a : ℕ) → times a (activations_on levels) ≤ 1)
       → CanLeave nodes on (keys_of ls) (activations_on levels)
   leaving on [] [] here stacked few = tt
   leaving on (l ∷ ls) (level ∷ levels) here stacked few =
@@ -278,7 +279,7 @@ module _ {t : TurnOf} (h : IsTurning t) where
       (answer-stands t.program old t.machine.nodes t.level.unit made.0 v t.pending t.below t.top.1 (result-is (Some made.0) made.1) standing-before.1 standing-before.2)
 
   -- there is room for that value behind the operands that the one below it keeps
-  pub answer-room : (v : Value) → IsEffectOf t h (answers v) → (l : Level) (ls : List Level) → t.below ≡ l ∷ ls → l.kept + 1 ≤ deepest (unit_code t.program l.unit)
+  pub answer-room : (v : Value) → IsEffectOf t h (answers v) → (l : Local) (ls : List Local) → t.below ≡ l ∷ ls → l.kept + 1 ≤ deepest (unit_code t.program l.unit)
   answer-room v made l ls is =
       by_levels t.top.1 (subst (λ ks. AreStandingBelow t.program old t.machine.nodes t.level.unit t.pending ks t.top.1) is standing-before.1) (standing-before.2 ∙ ap kept_by is)
     where

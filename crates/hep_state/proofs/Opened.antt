@@ -15,10 +15,11 @@ use Rattle.hep_layout.proofs.Memory.{address-same, laid-same}
 use Rattle.hep_layout.proofs.FrameTree.{rest-held}
 use Rattle.hep_image.specs.declared.data.DataRow.{DataRow}
 use Rattle.hep_image.specs.Data.{AreOfUnits, AreInitial, first_frames, value_in_rows}
-use Rattle.hep_frames.specs.Keeping.{IsOpening, Keeps, IsUnused, frames_in}
+use Rattle.hep_proc.specs.Keeping.{IsOpening, Keeps, IsUnused, frames_in}
+use Rattle.hep_proc.specs.Stacks.{Stack}
 use Rattle.hep_step.specs.Simulation.{unit_addressed}
 use Rattle.hep_arena.specs.Space.{Space}
-use Rattle.hep_state.specs.Words.{IsEntered, IsGiven, snapshot_opened, unset_opening, IsStack, Stack, IsAfter, AreOut}
+use Rattle.hep_state.specs.Words.{IsEntered, IsGiven, snapshot_opened, unset_opening, IsStack, IsAfter, AreOut}
 use Rattle.hep_state.proofs.Leaving.{none-kept}
 use Rattle.hep_state.proofs.Standing.{are-on, AreStanding, stack-again}
 use Rattle.std.proofs.lemmas.Bool.{cases_Bool, eq-eqb, false≢true}

@@ -7,50 +7,12 @@ use Rattle.std.specs.Option.{option_map}
 use Rattle.hep_machine.specs.Words.{Value, Units, numbered, with_numbered}
 use Rattle.hep_code.specs.Words.{deepest}
 use Rattle.hep_step.specs.Simulation.{unit_code}
-use Rattle.hep_state.specs.declared.machine.Level.{Level}
-use Rattle.hep_state.specs.declared.machine.Process.{Process}
-use Rattle.hep_state.specs.Words.{HasRoom, Stack, stack_of, stack_with}
-use Rattle.hep_state.proofs.Tops.{has-levels}
+use Rattle.hep_proc.specs.declared.process.Local.{Local}
+use Rattle.hep_proc.specs.declared.process.Process.{Process}
+use Rattle.hep_proc.specs.Stacks.{Stack, stack_of, stack_with}
+use Rattle.hep_proc.proofs.Levels.{has-levels, last-there, levels-are, some-levels}
+use Rattle.hep_state.specs.Words.{HasRoom}
 use Rattle.hep_source.proofs.Tests.{at-front}
-use Rattle.std.proofs.Math.Seq.{get_or-append_seam, set-append_seam}
-
--- ---- the levels of a process, the top one last, as the stack that they are
-
-module _ (q : Process) (l : Level) (ls : List Level) (operands pending : List Value) (is : stack_of q ≡ stack_with l ls operands pending) where
-  abbrev front : List Level
-  front = reverse ls
-
-  pub levels-are : q.levels.items ≡ front ++ l ∷ []
-  levels-are = sym (reverse-reverse q.levels.items) ∙ (ap (λ (k : Stack). reverse k.levels) is ∙ reverse-append (l ∷ []) ls)
-
-  pub operands-are : q.operands.items ≡ operands
-  operands-are = ap (λ (k : Stack). k.operands) is
-
-  pub pending-are : q.pending.items ≡ pending
-  pending-are = ap (λ (k : Stack). k.pending) is
-
-  pub last-index : vec_len q.levels - 1 ≡ length front
-  last-index = omega (arith, q.levels.ok.0, ap length levels-are, length-append front (l ∷ []))
-
-  pub some-levels : 0 < vec_len q.levels
-  some-levels = omega (arith, q.levels.ok.0, ap length levels-are, length-append front (l ∷ []))
-
-  -- the top level
-  pub last-is : (d : Level) → get_or q.levels.items (vec_len q.levels - 1) d ≡ l
-  last-is d = ap (λ n. get_or q.levels.items n d) last-index ∙ (ap (λ xs. get_or xs (length front) d) levels-are ∙ get_or-append_seam front l [] d)
-
-  -- another one in its place
-  pub last-set : (m : Level) → reverse (slice_set q.levels.items (vec_len q.levels - 1) m) ≡ m ∷ ls
-  last-set m =
-      ap (λ n. reverse (slice_set q.levels.items n m)) last-index
-      ∙ (ap (λ xs. reverse (slice_set xs (length front) m)) levels-are
-      ∙ (ap reverse (set-append_seam front l [] m) ∙ (reverse-append front (m ∷ []) ∙ ap (λ ms. m ∷ ms) (reverse-reverse ls))))
-
-  pub last-there : slice_get q.levels.items (length front) ≡ Some l
-  last-there = ap (λ xs. slice_get xs (length front)) levels-are ∙ at_seam front where
-    at_seam : (xs : List Level) → slice_get (xs ++ l ∷ []) (length xs) ≡ Some l
-    at_seam [] = refl
-    at_seam (x ∷ xs) = at_seam xs
 
 -- ---- numbered processes
 
@@ -82,7 +44,7 @@ process-at qs p {k} {q} kept is =
     }
 
 -- its levels, where it has some
-pub some-levels-at : {qs : List Process} {p : ℕ} {l : Level} {ls : List Level} {operands pending : List Value} {q : Process} → IsAt qs p (stack_with l ls operands pending) q → 0 < vec_len q.levels
+pub some-levels-at : {qs : List Process} {p : ℕ} {l : Local} {ls : List Local} {operands pending : List Value} {q : Process} → IsAt qs p (stack_with l ls operands pending) q → 0 < vec_len q.levels
 some-levels-at {qs} {p} {l} {ls} {operands} {pending} {q} it = some-levels q l ls operands pending it.stack
 
 -- where other processes are the same as these
@@ -102,20 +64,10 @@ pub numbered-past : (qs : List Process) (p : ℕ) → (p ≡ 0 → ⊥) → leng
 numbered-past qs zero one le = absurd (one refl)
 numbered-past qs (suc i) one le = slice_get_past (map stack_of qs) i (omega (arith, le, length-map {A = Process} qs stack_of))
 
-levels-append : (xs : List Level) (l : Level) → has-levels (xs ++ l ∷ []) ≡ true
-levels-append [] l = refl
-levels-append (x ∷ xs) l = refl
-
-pub levels-by : (xs : List Level) (n : ℕ) → n ≡ length xs → has-levels (reverse xs) ≡ not (nat_eq n 0)
-levels-by [] n e = ap (λ k. not (nat_eq k 0)) (sym e)
-levels-by (x ∷ xs) n e =
-    let some : nat_eq n 0 ≡ false = grind (arith, nat_tests, e) in
-    ap has-levels (reverse-append (x ∷ []) xs) ∙ (levels-append (reverse xs) x ∙ ap not (sym some))
-
 pub some-levels-of : (qs : List Process) (p : ℕ) (q : Process) → numbered (map stack_of qs) p ≡ Some (stack_of q) → has-levels (reverse q.levels.items) ≡ true
-    → (l : Level) × (ls : List Level) × (numbered (map stack_of qs) p ≡ Some (stack_with l ls q.operands.items q.pending.items))
+    → (l : Local) × (ls : List Local) × (numbered (map stack_of qs) p ≡ Some (stack_with l ls q.operands.items q.pending.items))
 some-levels-of qs p q there some = by_levels (reverse q.levels.items) refl some where
-  by_levels : (ks : List Level) → reverse q.levels.items ≡ ks → has-levels ks ≡ true → (l : Level) × (ls : List Level) × (numbered (map stack_of qs) p ≡ Some (stack_with l ls q.operands.items q.pending.items))
+  by_levels : (ks : List Local) → reverse q.levels.items ≡ ks → has-levels ks ≡ true → (l : Local) × (ls : List Local) × (numbered (map stack_of qs) p ≡ Some (stack_with l ls q.operands.items q.pending.items))
   by_levels [] e h = absurd cc
   by_levels (l ∷ ls) e h = (l, ls, there ∙ (λ i. Some (record { levels = e i; operands = q.operands.items; pending = q.pending.items })))
 
@@ -130,13 +82,13 @@ all-set P (x ∷ xs) (suc j) r each here zero q e = each zero q e
 all-set P (x ∷ xs) (suc j) r each here (suc i) q e = all-set P xs j r (λ k z d. each (suc k) z d) here i q e
 
 -- a process with fewer levels
-pub room-fewer : (program : Units) (q r : Process) (l : Level) → q.levels.items ≡ r.levels.items ++ l ∷ [] → vec_capacity q.operands ≤ vec_capacity r.operands → HasRoom program q → HasRoom program r
+pub room-fewer : (program : Units) (q r : Process) (l : Local) → q.levels.items ≡ r.levels.items ++ l ∷ [] → vec_capacity q.operands ≤ vec_capacity r.operands → HasRoom program q → HasRoom program r
 room-fewer program q r l fewer more room i m e =
-    let here = room i m (subst (λ (xs : List Level). slice_get xs i ≡ Some m) (sym fewer) (at-front r.levels.items (l ∷ []) i m e)) in
+    let here = room i m (subst (λ (xs : List Local). slice_get xs i ≡ Some m) (sym fewer) (at-front r.levels.items (l ∷ []) i m e)) in
     omega (arith, here, more)
 
 pub room-none : (program : Units) (r : Process) → r.levels.items ≡ [] → HasRoom program r
-room-none program r none i m e = absurd (none-some m (subst (λ (xs : List Level). slice_get xs i ≡ Some m) none e))
+room-none program r none i m e = absurd (none-some m (subst (λ (xs : List Local). slice_get xs i ≡ Some m) none e))
 
 -- what holds of all elements and of one more holds of all of them together
 pub all-more : {A : Type 0} (P : A → Type 0) (xs : List A) (y : A) → ((i : ℕ) (m : A) → slice_get xs i ≡ Some m → P m) → P y → (i : ℕ) (m : A) → slice_get (xs ++ y ∷ []) i ≡ Some m → P m
@@ -146,28 +98,28 @@ all-more P (x ∷ xs) y each one zero m e = each zero m e
 all-more P (x ∷ xs) y each one (suc i) m e = all-more P xs y (λ j k f. each (suc j) k f) one i m e
 
 -- the operands of a process have room for its levels, with another top one of the same unit
-moved-enough : (program : Units) (q : Process) (l later : Level) (ls : List Level) (was pending : List Value) → later.unit ≡ l.unit → stack_of q ≡ stack_with l ls was pending → HasRoom program q
-    → (i : ℕ) (m : Level) → slice_get (reverse ls ++ later ∷ []) i ≡ Some m → deepest (unit_code program m.unit) ≤ vec_capacity q.operands
+moved-enough : (program : Units) (q : Process) (l later : Local) (ls : List Local) (was pending : List Value) → later.unit ≡ l.unit → stack_of q ≡ stack_with l ls was pending → HasRoom program q
+    → (i : ℕ) (m : Local) → slice_get (reverse ls ++ later ∷ []) i ≡ Some m → deepest (unit_code program m.unit) ≤ vec_capacity q.operands
 moved-enough program q l later ls was pending same before room =
-    all-more (λ (k : Level). deepest (unit_code program k.unit) ≤ vec_capacity q.operands) (reverse ls) later
-    (λ j k e. room j k (subst (λ (xs : List Level). slice_get xs j ≡ Some k) (sym (levels-are q l ls was pending before)) (at-front (reverse ls) (l ∷ []) j k e)))
+    all-more (λ (k : Local). deepest (unit_code program k.unit) ≤ vec_capacity q.operands) (reverse ls) later
+    (λ j k e. room j k (subst (λ (xs : List Local). slice_get xs j ≡ Some k) (sym (levels-are q l ls was pending before)) (at-front (reverse ls) (l ∷ []) j k e)))
     (subst (λ u. deepest (unit_code program u) ≤ vec_capacity q.operands) (sym same) (room (length (reverse ls)) l (last-there q l ls was pending before)))
 
 -- a process whose top level is at another index
-pub room-moved : (program : Units) (q r : Process) (l : Level) (next : ℕ) (ls : List Level) (was left pending : List Value) → stack_of q ≡ stack_with l ls was pending → stack_of r ≡ stack_with (record l { index = next }) ls left pending
+pub room-moved : (program : Units) (q r : Process) (l : Local) (next : ℕ) (ls : List Local) (was left pending : List Value) → stack_of q ≡ stack_with l ls was pending → stack_of r ≡ stack_with (record l { index = next }) ls left pending
     → vec_capacity q.operands ≤ vec_capacity r.operands → HasRoom program q → HasRoom program r
 room-moved program q r l next ls was left pending before after more room i m e =
-    let later : Level = record l { index = next } in
-    let here = moved-enough program q l later ls was pending refl before room i m (subst (λ (xs : List Level). slice_get xs i ≡ Some m) (levels-are r later ls left pending after) e) in
+    let later : Local = record l { index = next } in
+    let here = moved-enough program q l later ls was pending refl before room i m (subst (λ (xs : List Local). slice_get xs i ≡ Some m) (levels-are r later ls left pending after) e) in
     omega (arith, here, more)
 
 -- and one with one level more above that
-pub room-more : (program : Units) (q r : Process) (l later new : Level) (ls : List Level) (was left pending waiting : List Value) → later.unit ≡ l.unit → stack_of q ≡ stack_with l ls was pending → stack_of r ≡ stack_with new (later ∷ ls) left waiting
+pub room-more : (program : Units) (q r : Process) (l later new : Local) (ls : List Local) (was left pending waiting : List Value) → later.unit ≡ l.unit → stack_of q ≡ stack_with l ls was pending → stack_of r ≡ stack_with new (later ∷ ls) left waiting
     → vec_capacity q.operands ≤ vec_capacity r.operands → deepest (unit_code program new.unit) ≤ vec_capacity r.operands → HasRoom program q → HasRoom program r
 room-more program q r l later new ls was left pending waiting same before after more enough room i m e =
-    let levels = levels-are r new (later ∷ ls) left waiting after ∙ ap (λ (xs : List Level). xs ++ new ∷ []) (reverse-append (later ∷ []) ls) in
-    all-more (λ (k : Level). deepest (unit_code program k.unit) ≤ vec_capacity r.operands) (reverse ls ++ later ∷ []) new (λ j k f. let here = moved-enough program q l later ls was pending same before room j k f in omega (arith, here, more)) enough i m
-    (subst (λ (xs : List Level). slice_get xs i ≡ Some m) levels e)
+    let levels = levels-are r new (later ∷ ls) left waiting after ∙ ap (λ (xs : List Local). xs ++ new ∷ []) (reverse-append (later ∷ []) ls) in
+    all-more (λ (k : Local). deepest (unit_code program k.unit) ≤ vec_capacity r.operands) (reverse ls ++ later ∷ []) new (λ j k f. let here = moved-enough program q l later ls was pending same before room j k f in omega (arith, here, more)) enough i m
+    (subst (λ (xs : List Local). slice_get xs i ≡ Some m) levels e)
 
 -- the only element
 pub the-only : {A : Type 0} (x y : A) (i : ℕ) → slice_get (x ∷ []) i ≡ Some y → x ≡ y
@@ -179,9 +131,9 @@ numbered-only x y zero e = absurd (none-some y e)
 numbered-only x y (suc i) e = the-only x y i e
 
 -- one that has one level has room for the unit of that
-pub room-alone : (program : Units) (q : Process) (level : Level) → q.levels.items ≡ level ∷ [] → deepest (unit_code program level.unit) ≤ vec_capacity q.operands → HasRoom program q
+pub room-alone : (program : Units) (q : Process) (level : Local) → q.levels.items ≡ level ∷ [] → deepest (unit_code program level.unit) ≤ vec_capacity q.operands → HasRoom program q
 room-alone program q level alone enough i l e =
-    subst (λ (x : Level). deepest (unit_code program x.unit) ≤ vec_capacity q.operands) (the-only level l i (ap (λ (ls : List Level). slice_get ls i) (sym alone) ∙ e)) enough
+    subst (λ (x : Local). deepest (unit_code program x.unit) ≤ vec_capacity q.operands) (the-only level l i (ap (λ (ls : List Local). slice_get ls i) (sym alone) ∙ e)) enough
 
 -- ---- a process gets room for more levels and operands, and is the same but for that
 
@@ -199,5 +151,5 @@ stacks-same qs j q r is levels operands pending =
 
 pub room-reserved : (program : Units) (q r : Process) → r.levels.items ≡ q.levels.items → vec_capacity q.operands ≤ vec_capacity r.operands → HasRoom program q → HasRoom program r
 room-reserved program q r levels more room i l e =
-    let here = room i l (subst (λ (ls : List Level). slice_get ls i ≡ Some l) levels e) in
+    let here = room i l (subst (λ (ls : List Local). slice_get ls i ≡ Some l) levels e) in
     omega (arith, here, more)

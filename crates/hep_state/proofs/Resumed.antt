@@ -13,11 +13,12 @@ use Rattle.hep_layout.proofs.FrameTree.{on-stacked}
 use Rattle.hep_layout.proofs.Memory.{memory-same}
 use Rattle.hep_layout.proofs.StackChanges.{stacks-created, stacks-ended}
 use Rattle.hep_layout.proofs.Stacks.{once}
-use Rattle.hep_frames.specs.Keeping.{Keeps, frames_in}
+use Rattle.hep_proc.specs.Keeping.{Keeps, frames_in}
 use Rattle.hep_step.specs.Resuming.{IsResumeAhead}
 use Rattle.hep_step.specs.Simulation.{unit_addressed}
-use Rattle.hep_state.specs.declared.machine.Level.{Level}
-use Rattle.hep_state.specs.Words.{HasGaps, HasMadeTurn, IsTurning, Stack, TurnOf, running_top, snapshot_resumed, state_before, top_before}
+use Rattle.hep_proc.specs.declared.process.Local.{Local}
+use Rattle.hep_proc.specs.Stacks.{Stack}
+use Rattle.hep_state.specs.Words.{HasGaps, HasMadeTurn, IsTurning, TurnOf, running_top, snapshot_resumed, state_before, top_before}
 use Rattle.hep_code.specs.Words.{Stands}
 use Rattle.hep_state.proofs.Leaving.{AreOf, alone-of, caller-of, kept-same, no-more-parted}
 use Rattle.hep_state.proofs.Moved.{standing-before, step-made, unit-is}
@@ -101,7 +102,7 @@ module _ {t : TurnOf} (h : IsTurning t) (index : ℕ) (resumes : IsResumeAhead (
   abbrev alone : Stack
   alone = record { levels = record t.level { index = index } ∷ []; operands = []; pending = [] }
 
-  still : (vs pending : List Value) (ls : List Level) (levels : Process) → AreStanding t.program old t.machine.nodes vs pending ls levels → AreOn later levels → AreStanding t.program later t.machine.nodes vs pending ls levels
+  still : (vs pending : List Value) (ls : List Local) (levels : Process) → AreStanding t.program old t.machine.nodes vs pending ls levels → AreOn later levels → AreStanding t.program later t.machine.nodes vs pending ls levels
   still = standing-still t.program old later t.machine.nodes t.machine.nodes (made-same old later refl) (λ key x e on. (x, e, refl))
 
   caller-goes : AreOn later onward → AreStanding t.program later t.machine.nodes [] t.pending t.below onward
@@ -134,7 +135,7 @@ module _ {t : TurnOf} (h : IsTurning t) (index : ℕ) (resumes : IsResumeAhead (
 -- ---- the levels of the core are as many as those of the source machine
 
 -- one that is above another in the core is so in the source machine
-pub caller-there : {t : TurnOf} (h : IsTurning t) (l : Level) (ls : List Level) → t.below ≡ l ∷ ls → (caller : SourceLevel) × (callers : Process) × (t.top.1 ≡ caller ∷ callers)
+pub caller-there : {t : TurnOf} (h : IsTurning t) (l : Local) (ls : List Local) → t.below ≡ l ∷ ls → (caller : SourceLevel) × (callers : Process) × (t.top.1 ≡ caller ∷ callers)
 caller-there {t} h l ls some = by_levels t.top.1 refl where
   by_levels : (q : Process) → t.top.1 ≡ q → (caller : SourceLevel) × (callers : Process) × (t.top.1 ≡ caller ∷ callers)
   by_levels [] e = absurd (subst (λ ks. AreStandingBelow t.program (state_before t) t.machine.nodes t.level.unit t.pending ks []) some (subst (AreStandingBelow t.program (state_before t) t.machine.nodes t.level.unit t.pending t.below) e (standing-before h).1))

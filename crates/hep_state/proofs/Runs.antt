@@ -9,12 +9,13 @@ use Rattle.hep_machine.proofs.Others.{activations_after, other_numbered}
 use Rattle.hep_arena.specs.Gaps.{frame_among}
 use Rattle.hep_layout.specs.Words.{frame_from, IsAtRest, is_stacked, FrameNode, Nodes}
 use Rattle.hep_layout.proofs.HeldFrames.{run-last}
-use Rattle.hep_frames.specs.Keeping.{frames_of, Keeps, frames_in}
+use Rattle.hep_proc.specs.Keeping.{frames_of, Keeps, frames_in}
+use Rattle.hep_proc.specs.Stacks.{Stack}
 use Rattle.std.proofs.lemmas.Option.{same_Some, none-some, slice_get_within}
 use Rattle.hep_arena.specs.Space.{Space}
 use Rattle.hep_image.specs.Bound.{AreKept}
 use Rattle.hep_layout.proofs.FrameTree.{rest-held}
-use Rattle.hep_state.specs.Words.{HasMadeTurn, HoldsInTurn, IsStack, IsTurning, Shows, Snapshot, Stack, TurnOf, state_before}
+use Rattle.hep_state.specs.Words.{HasMadeTurn, HoldsInTurn, IsStack, IsTurning, Shows, Snapshot, TurnOf, state_before}
 use Rattle.hep_layout.proofs.Stacks.{top-numbered}
 use Rattle.hep_state.proofs.Standing.{AreOn, are-on, AreMade, AreStanding, stack-again, stack-standing, standing-still}
 use Rattle.hep_binding.proofs.Calls.{set-numbered}

@@ -12,8 +12,9 @@ use Rattle.hep_layout.proofs.Memory.{activation-kept}
 use Rattle.hep_image.proofs.Counted.{counted}
 use Rattle.hep_image.specs.Places.{addresses_of}
 use Rattle.hep_step.specs.Simulation.{counts_in, unit_addressed}
-use Rattle.hep_state.specs.declared.machine.Level.{Level}
-use Rattle.hep_state.specs.Words.{AreThere, IsStack, IsThere, operands_answered, pending_answered, code_level, code_levels, kept_below, kept_by, levels_below, node_under, Stack}
+use Rattle.hep_proc.specs.declared.process.Local.{Local}
+use Rattle.hep_proc.specs.Stacks.{operands_answered, pending_answered, Stack}
+use Rattle.hep_state.specs.Words.{AreThere, IsStack, IsThere, code_level, code_levels, kept_below, kept_by, levels_below, node_under}
 use Rattle.std.proofs.lemmas.Bool.{cases_Bool, eq-eqb}
 use Rattle.std.proofs.lemmas.List.{drop_all}
 use Rattle.std.proofs.Math.Seq.{drop-append_seam, take-append_seam}
@@ -53,7 +54,7 @@ module _ (program : Units) (choices : List ℕ) (p : ℕ) (q : Process) (there :
 -- ---- levels
 
 -- the activation of a level is that of its node, was made, and runs the level's unit
-pub record IsHere (program : Units) (s : State) (nodes : Nodes) (l : Level) (a : ℕ) : Type 0 where
+pub record IsHere (program : Units) (s : State) (nodes : Nodes) (l : Local) (a : ℕ) : Type 0 where
   pub inside : l.unit < length program
   pub node : FrameNode
   pub there : nodes l.key ≡ Some node
@@ -62,23 +63,23 @@ pub record IsHere (program : Units) (s : State) (nodes : Nodes) (l : Level) (a :
   pub unit : unit_of s a ≡ l.unit
 
 -- below one of a unit, whose end it awaits
-pub record StandsBelow (program : Units) (s : State) (nodes : Nodes) (above : ℕ) (vs : List Value) (l : Level) (level : SourceLevel) : Type 0 where
+pub record StandsBelow (program : Units) (s : State) (nodes : Nodes) (above : ℕ) (vs : List Value) (l : Local) (level : SourceLevel) : Type 0 where
   pub here : IsHere program s nodes l level.activation
   pub awaits : Awaits (function_name (unit_at program above)) (unit_addressed program l.unit) level vs l.index
 
-pub record StandsOnTop (program : Units) (s : State) (nodes : Nodes) (vs : List Value) (l : Level) (level : SourceLevel) : Type 0 where
+pub record StandsOnTop (program : Units) (s : State) (nodes : Nodes) (vs : List Value) (l : Local) (level : SourceLevel) : Type 0 where
   pub here : IsHere program s nodes l level.activation
   pub stands : Stands (unit_addressed program l.unit) level.statement level.work vs l.index
 
 module _ (program : Units) (s : State) (nodes : Nodes) where
   -- each with the last of the operands that are pending, and those below it with the others
-  abbrev pub AreStandingBelow : ℕ → List Value → List Level → Process → Type 0
+  abbrev pub AreStandingBelow : ℕ → List Value → List Local → Process → Type 0
   AreStandingBelow above pending [] [] = Unit {0}
   AreStandingBelow above pending (l ∷ ls) (level ∷ levels) =
       StandsBelow program s nodes above (drop (length pending - l.kept) pending) l level × AreStandingBelow l.unit (take (length pending - l.kept) pending) ls levels
   AreStandingBelow above pending _ _ = ⊥
 
-  abbrev pub AreStanding : List Value → List Value → List Level → Process → Type 0
+  abbrev pub AreStanding : List Value → List Value → List Local → Process → Type 0
   AreStanding vs pending [] [] = length pending ≡ 0
   AreStanding vs pending (l ∷ ls) (level ∷ levels) = StandsOnTop program s nodes vs l level × AreStandingBelow l.unit pending ls levels × (length pending ≡ kept_by ls)
   AreStanding vs pending _ _ = ⊥
@@ -86,10 +87,10 @@ module _ (program : Units) (s : State) (nodes : Nodes) where
   -- ---- of levels in the code
 
   module _ (contents : List Slot) where
-    node-is : (l : Level) (n : FrameNode) → nodes l.key ≡ Some n → node_under nodes l.key ≡ n
+    node-is : (l : Local) (n : FrameNode) → nodes l.key ≡ Some n → node_under nodes l.key ≡ n
     node-is l n e = ap (λ o. unwrap_or o (node_under (λ k. None) 0)) e
 
-    is-here : (vs : List Value) (l : Level) (level : SourceLevel) → IsThere program nodes l → IsOf program (addresses_of program) s (code_level program contents nodes vs l) level → IsHere program s nodes l level.activation
+    is-here : (vs : List Value) (l : Local) (level : SourceLevel) → IsThere program nodes l → IsOf program (addresses_of program) s (code_level program contents nodes vs l) level → IsHere program s nodes l level.activation
     is-here vs l level there h =
         record {
           inside = there.0;
@@ -100,7 +101,7 @@ module _ (program : Units) (s : State) (nodes : Nodes) where
           unit = ap (unit_of s) h.activation ∙ h.unit;
         }
 
-    standing-below : (above : ℕ) (pending : List Value) (ls : List Level) (levels : Process) → AreThere program nodes ls → AreBelow program (addresses_of program) s above (levels_below program contents nodes pending ls) levels → AreStandingBelow above pending ls levels
+    standing-below : (above : ℕ) (pending : List Value) (ls : List Local) (levels : Process) → AreThere program nodes ls → AreBelow program (addresses_of program) s above (levels_below program contents nodes pending ls) levels → AreStandingBelow above pending ls levels
     standing-below above pending [] [] there h = tt
     standing-below above pending (l ∷ ls) (level ∷ levels) there h = (
       record { here = is-here (drop (length pending - l.kept) pending) l level there.0 h.0.is_of; awaits = h.0.awaits },
@@ -108,7 +109,7 @@ module _ (program : Units) (s : State) (nodes : Nodes) where
     )
     standing-below above pending _ _ there h = absurd h
 
-    pub standing : (vs pending : List Value) (ls : List Level) (levels : Process) → AreThere program nodes ls → AreLevels program (addresses_of program) s (code_levels program contents nodes vs pending ls) levels → length pending ≡ kept_below ls
+    pub standing : (vs pending : List Value) (ls : List Local) (levels : Process) → AreThere program nodes ls → AreLevels program (addresses_of program) s (code_levels program contents nodes vs pending ls) levels → length pending ≡ kept_below ls
         → AreStanding vs pending ls levels
     standing vs pending [] [] there h counted = counted
     standing vs pending (l ∷ ls) (level ∷ levels) there h counted = (record { here = is-here vs l level there.0 h.0.is_of; stands = h.0.at.stands }, standing-below l.unit pending ls levels there.1 h.1, counted)
@@ -117,10 +118,10 @@ module _ (program : Units) (s : State) (nodes : Nodes) where
     -- ---- and back, where the cells of DOs hold what is wanted
 
     module _ (layout : Layout) (described : Describes program s layout (descriptor_slots program s layout) contents) (framed : AreFramed layout nodes) where
-      there-again : (l : Level) (a : ℕ) → IsHere program s nodes l a → IsThere program nodes l
+      there-again : (l : Local) (a : ℕ) → IsHere program s nodes l a → IsThere program nodes l
       there-again l a h = (h.inside, h.there ∙ ap (λ (n : FrameNode). Some n) (sym (node-is l h.node h.there)))
 
-      of-again : (vs : List Value) (l : Level) (level : SourceLevel) → IsHere program s nodes l level.activation → IsOf program (addresses_of program) s (code_level program contents nodes vs l) level
+      of-again : (vs : List Value) (l : Local) (level : SourceLevel) → IsHere program s nodes l level.activation → IsOf program (addresses_of program) s (code_level program contents nodes vs l) level
       of-again vs l level h =
           let same : level.activation ≡ (node_under nodes l.key).activation = h.activation ∙ ap (λ (n : FrameNode). n.activation) (sym (node-is l h.node h.there)) in
           record {
@@ -129,7 +130,7 @@ module _ (program : Units) (s : State) (nodes : Nodes) where
             unit = ap (unit_of s) (sym same) ∙ h.unit;
           }
 
-      loops-again : (l : Level) (level : SourceLevel) → IsHere program s nodes l level.activation → level_of s level.activation ≡ Some level
+      loops-again : (l : Local) (level : SourceLevel) → IsHere program s nodes l level.activation → level_of s level.activation ≡ Some level
           → HoldsLoops (unit_at program l.unit) (counts_in (unit_at program l.unit) contents (node_under nodes l.key).first) level.loops
       loops-again l level h on =
           let n = h.node in
@@ -139,7 +140,7 @@ module _ (program : Units) (s : State) (nodes : Nodes) where
           subst (λ (m : FrameNode). HoldsLoops (unit_at program (unit_of s level.activation)) (counts_in (unit_at program (unit_of s level.activation)) contents m.first) level.loops) (sym (node-is l n h.there)) (
           counted program s layout contents level.activation frame level described found on))
 
-      below-again : (above : ℕ) (pending : List Value) (ls : List Level) (levels : Process) → AreStandingBelow above pending ls levels → AreOn s levels → AreThere program nodes ls × AreBelow program (addresses_of program) s above (levels_below program contents nodes pending ls) levels
+      below-again : (above : ℕ) (pending : List Value) (ls : List Local) (levels : Process) → AreStandingBelow above pending ls levels → AreOn s levels → AreThere program nodes ls × AreBelow program (addresses_of program) s above (levels_below program contents nodes pending ls) levels
       below-again above pending [] [] h on = (tt, tt)
       below-again above pending (l ∷ ls) (level ∷ levels) h on =
           let own = drop (length pending - l.kept) pending in
@@ -149,7 +150,7 @@ module _ (program : Units) (s : State) (nodes : Nodes) where
           )
       below-again above pending _ _ h on = absurd h
 
-      levels-again : (vs pending : List Value) (ls : List Level) (levels : Process) → AreStanding vs pending ls levels → AreOn s levels
+      levels-again : (vs pending : List Value) (ls : List Local) (levels : Process) → AreStanding vs pending ls levels → AreOn s levels
           → AreThere program nodes ls × AreLevels program (addresses_of program) s (code_levels program contents nodes vs pending ls) levels × (length pending ≡ kept_below ls)
       levels-again vs pending [] [] h on = (tt, tt, h)
       levels-again vs pending (l ∷ ls) (level ∷ levels) h on =
@@ -183,7 +184,7 @@ made-more s t x more a le =
 
 module _ (program : Units) (s t : State) (old new : Nodes) (made : AreMade s t)
     (stay : (key : ℕ) (n : FrameNode) → old key ≡ Some n → is_stacked t n.activation ≡ true → (m : FrameNode) × (new key ≡ Some m) × (m.activation ≡ n.activation)) where
-  pub here-still : (l : Level) (a : ℕ) → IsHere program s old l a → is_stacked t a ≡ true → IsHere program t new l a
+  pub here-still : (l : Local) (a : ℕ) → IsHere program s old l a → is_stacked t a ≡ true → IsHere program t new l a
   here-still l a h on =
       let kept = stay l.key h.node h.there (sym (ap (is_stacked t) h.activation) ∙ on) in
       let still = made a h.made.1 in
@@ -196,7 +197,7 @@ module _ (program : Units) (s t : State) (old new : Nodes) (made : AreMade s t)
         unit = still.1 ∙ h.unit;
       }
 
-  pub below-still : (above : ℕ) (pending : List Value) (ls : List Level) (levels : Process) → AreStandingBelow program s old above pending ls levels → AreOn t levels → AreStandingBelow program t new above pending ls levels
+  pub below-still : (above : ℕ) (pending : List Value) (ls : List Local) (levels : Process) → AreStandingBelow program s old above pending ls levels → AreOn t levels → AreStandingBelow program t new above pending ls levels
   below-still above pending [] [] h on = tt
   below-still above pending (l ∷ ls) (level ∷ levels) h on = (
     record { here = here-still l level.activation h.0.here on.1; awaits = h.0.awaits },
@@ -204,7 +205,7 @@ module _ (program : Units) (s t : State) (old new : Nodes) (made : AreMade s t)
   )
   below-still above pending _ _ h on = absurd h
 
-  pub standing-still : (vs pending : List Value) (ls : List Level) (levels : Process) → AreStanding program s old vs pending ls levels → AreOn t levels → AreStanding program t new vs pending ls levels
+  pub standing-still : (vs pending : List Value) (ls : List Local) (levels : Process) → AreStanding program s old vs pending ls levels → AreOn t levels → AreStanding program t new vs pending ls levels
   standing-still vs pending [] [] h on = h
   standing-still vs pending (l ∷ ls) (level ∷ levels) h on = (record { here = here-still l level.activation h.0.here on.1; stands = h.0.stands }, below-still l.unit pending ls levels h.1 on.2, h.2)
   standing-still vs pending _ _ h on = absurd h
@@ -226,7 +227,7 @@ keeps-last pending vs kept same =
 
 module _ (program : Units) (s : State) (nodes : Nodes) where
   -- where it is elsewhere in its unit, and its activation is told otherwise
-  pub here-at : (l later : Level) (a b : ℕ) → later.key ≡ l.key → later.unit ≡ l.unit → b ≡ a → IsHere program s nodes l a → IsHere program s nodes later b
+  pub here-at : (l later : Local) (a b : ℕ) → later.key ≡ l.key → later.unit ≡ l.unit → b ≡ a → IsHere program s nodes l a → IsHere program s nodes later b
   here-at l later a b key unit same h =
       record {
         inside = subst (λ u. u < length program) (sym unit) h.inside;
@@ -238,12 +239,12 @@ module _ (program : Units) (s : State) (nodes : Nodes) where
       }
 
   -- another level of its activation, where that stands
-  pub top-stands : (vs new pending : List Value) (l : Level) (ls : List Level) (level after : SourceLevel) (levels : Process) (index : ℕ) → AreStanding program s nodes vs pending (l ∷ ls) (level ∷ levels)
+  pub top-stands : (vs new pending : List Value) (l : Local) (ls : List Local) (level after : SourceLevel) (levels : Process) (index : ℕ) → AreStanding program s nodes vs pending (l ∷ ls) (level ∷ levels)
       → after.activation ≡ level.activation → Stands (unit_addressed program l.unit) after.statement after.work new index → AreStanding program s nodes new pending (record l { index = index } ∷ ls) (after ∷ levels)
   top-stands vs new pending l ls level after levels index h same stands = (record { here = here-at l (record l { index = index }) level.activation after.activation refl refl same h.0.here; stands = stands }, h.1, h.2)
 
   -- once it has ended, which has no result, its caller goes on, which keeps no operands
-  pub caller-stands : (above : ℕ) (pending : List Value) (ls : List Level) (levels : Process) → function_name (unit_at program above) ≡ None → AreStandingBelow program s nodes above pending ls levels → length pending ≡ kept_by ls
+  pub caller-stands : (above : ℕ) (pending : List Value) (ls : List Local) (levels : Process) → function_name (unit_at program above) ≡ None → AreStandingBelow program s nodes above pending ls levels → length pending ≡ kept_by ls
       → AreStanding program s nodes [] pending ls (stack_after_return program s levels)
   caller-stands above pending [] [] none_of h counted = counted
   caller-stands above pending (l ∷ ls) (level ∷ levels) none_of h counted =
@@ -263,7 +264,7 @@ module _ (program : Units) (s : State) (nodes : Nodes) where
   caller-stands above pending _ _ none_of h counted = absurd h
 
   -- and once it has ended with a value, that of a function, the one below it goes on, which has its operands back, and the value behind them
-  pub answer-stands : (above : ℕ) (x : Name) (v : Value) (pending : List Value) (ls : List Level) (levels : Process) → function_name (unit_at program above) ≡ Some x → AreStandingBelow program s nodes above pending ls levels → length pending ≡ kept_by ls
+  pub answer-stands : (above : ℕ) (x : Name) (v : Value) (pending : List Value) (ls : List Local) (levels : Process) → function_name (unit_at program above) ≡ Some x → AreStandingBelow program s nodes above pending ls levels → length pending ≡ kept_by ls
       → AreStanding program s nodes (operands_answered pending ls v) (pending_answered pending ls) ls (stack_after_value program s v levels)
   answer-stands above x v pending [] [] result h counted = counted
   answer-stands above x v pending (l ∷ ls) (level ∷ levels) result h counted =

@@ -21,7 +21,8 @@ use Rattle.hep_step.specs.Ready.{IsReady, frame_in_arena}
 use Rattle.hep_step.specs.Simulation.{IsNotLeftOut, unit_addressed, unit_arrays, unit_code}
 use Rattle.hep_step.proofs.Operations.{operation_simulated}
 use Rattle.hep_step.proofs.Ready.{is_ready}
-use Rattle.hep_state.specs.Words.{Snapshot, IsEnding, IsLeft, IsToEnd, stack_with, IsEffectOf, IsTopRunning, IsTurning, TurnOf, snapshot_moved, snapshot_stopped, state_before, top_before, top_frame, HasMadeTurn, HasWaited, running_top}
+use Rattle.hep_proc.specs.Stacks.{stack_with}
+use Rattle.hep_state.specs.Words.{Snapshot, IsEnding, IsLeft, IsToEnd, IsEffectOf, IsTopRunning, IsTurning, TurnOf, snapshot_moved, snapshot_stopped, state_before, top_before, top_frame, HasMadeTurn, HasWaited, running_top}
 use Rattle.hep_state.proofs.Unchanged.{carry}
 use Rattle.hep_state.proofs.Moved.{next-is, moved-shown, printed-shown, standing-before, stopped-shown, unit-is, waited-shown}
 use Rattle.hep_state.proofs.Runs.{in-turn, layout-stays, set-same}

@@ -27,8 +27,10 @@ use Rattle.hep_image.proofs.Numbers.{unit-there}
 use Rattle.hep_accepted_laws.specs.Instructions.{variables_in_operation}
 use Rattle.hep_accepted_laws.specs.Placed.{ArePlaced, code_in}
 use Rattle.hep_step.specs.Simulation.{counts_in, found_in, unit_addressed, unit_code, variable_in}
-use Rattle.hep_state.specs.declared.machine.Level.{Level}
-use Rattle.hep_state.specs.Words.{HasLevels, Snapshot, Stack, IsTopRunning, IsTurning, TurnOf, stack_with, state_before, top_before, top_frame, turn_settled, turn_with, Shows, IsAbsent, IsAfter}
+use Rattle.hep_proc.specs.declared.process.Local.{Local}
+use Rattle.hep_proc.specs.Stacks.{Stack, stack_with}
+use Rattle.hep_proc.proofs.Levels.{has-levels}
+use Rattle.hep_state.specs.Words.{HasLevels, Snapshot, IsTopRunning, IsTurning, TurnOf, state_before, top_before, top_frame, turn_settled, turn_with, Shows, IsAbsent, IsAfter}
 use Rattle.hep_state.proofs.Moved.{top-activation, top-node, standing-before, unit-is}
 use Rattle.hep_binding.proofs.Found.{all_levels, among-numbered, found, times-all}
 use Rattle.hep_image.proofs.Distinct.{index_of}
@@ -212,11 +214,6 @@ numbered-there : {A B : Type 0} (xs : List A) (ys : List B) (p : ℕ) (x : A) �
 numbered-there xs ys zero x e there = absurd (none-some x there)
 numbered-there xs ys (suc i) x e there = there-too xs ys i x e there
 
--- a process has levels
-abbrev pub has-levels : List Level → Bool
-has-levels [] = false
-has-levels (l ∷ ls) = true
-
 module _ {program : Units} {cells : ℕ} {choices : List ℕ} {m : Snapshot} (p : ℕ) (h : IsAfter program cells choices m) where
   standing-of : (k : Stack) (q : Process) → numbered m.processes p ≡ Some k → numbered (run program choices).processes p ≡ Some q → AreStanding program (run program choices) m.nodes k.operands k.pending k.levels q
   standing-of k q kept there = stack-standing program (run program choices) m.nodes m.arena.contents k q (h.shows.stacks p k q kept there)
@@ -260,7 +257,7 @@ module _ {program : Units} {cells : ℕ} {choices : List ℕ} {m : Snapshot} (p 
       let q = numbered-there m.processes (run program choices).processes p k h.shows.processes kept in
       by_levels k.levels q.0 q.1 (standing-of k q.0 kept q.1)
     where
-      by_levels : (ls : List Level) (q : Process) → numbered (run program choices).processes p ≡ Some q → AreStanding program (run program choices) m.nodes k.operands k.pending ls q → is_some (living (run program choices) p) ≡ has-levels ls
+      by_levels : (ls : List Local) (q : Process) → numbered (run program choices).processes p ≡ Some q → AreStanding program (run program choices) m.nodes k.operands k.pending ls q → is_some (living (run program choices) p) ≡ has-levels ls
       by_levels [] [] on-it standing = ap (λ o. is_some (top_of o)) on-it
       by_levels (l ∷ ls) (level ∷ levels) on-it standing = ap (λ o. is_some (top_of o)) on-it
       by_levels _ _ on-it standing = absurd standing

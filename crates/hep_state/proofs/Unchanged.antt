@@ -7,11 +7,12 @@ use Rattle.hep_machine.specs.declared.event.Entry.{Entry}
 use Rattle.hep_machine.specs.Words.{Units, schedule_of}
 use Rattle.hep_arena.specs.Space.{Space}
 use Rattle.hep_state.specs.declared.machine.Machine.{Machine}
-use Rattle.hep_state.specs.declared.machine.Process.{Process}
+use Rattle.hep_proc.specs.declared.process.Process.{Process}
+use Rattle.hep_proc.specs.Stacks.{stack_of}
 use Rattle.hep_state.specs.declared.turn.Turned.TheVariants.{Stepped}
 use Rattle.hep_state.specs.declared.turn.TurnFault.{TurnFault}
 use Rattle.hep_state.specs.declared.turn.TurnFault.TheVariants.{NoMemory}
-use Rattle.hep_state.specs.Words.{Changes, HasStepped, HasTurned, HasRoom, HasRoomToPass, HaveRoom, IsMachineAfter, Snapshot, snapshot_of, stack_of, IsAfter, IsAfterHistory, IsSeenSame, LeavesAlone, cells_of}
+use Rattle.hep_state.specs.Words.{Changes, HasStepped, HasTurned, HasRoom, HasRoomToPass, HaveRoom, IsMachineAfter, Snapshot, snapshot_of, IsAfter, IsAfterHistory, IsSeenSame, LeavesAlone, cells_of}
 use Rattle.hep_state.proofs.Processes.{all-set}
 
 -- ---- answers

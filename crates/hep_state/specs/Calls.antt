@@ -12,19 +12,20 @@ use Rattle.hep_step.specs.declared.way.Way.TheVariants.{Calls, Creates, Refers}
 use Rattle.hep_step.specs.Calls.{GoesOn, is_creation}
 use Rattle.hep_step.specs.Simulation.{unit_addressed}
 use Rattle.hep_state.specs.declared.calling.Called.{Called}
-use Rattle.hep_state.specs.declared.machine.Level.{Level}
+use Rattle.hep_proc.specs.declared.process.Local.{Local}
+use Rattle.hep_proc.specs.Stacks.{Stack}
 use Rattle.hep_state.specs.declared.machine.Machine.{Machine}
-use Rattle.hep_state.specs.Snapshots.{Snapshot, Stack, snapshot_of}
+use Rattle.hep_state.specs.Snapshots.{Snapshot, snapshot_of}
 use Rattle.hep_state.specs.Tops.{HoldsInTurn, IsTurning, TurnOf, frames_before, state_before}
 use Rattle.hep_binding.specs.Calling.{ArePassed, CallOf, IsAllWritten, IsPassing, layout_with, state_made_by}
 
 -- the level of a new activation of unit u, whose node is under a key, at its first executable statement
-abbrev pub entered_level : Units → ℕ → ℕ → Level
+abbrev pub entered_level : Units → ℕ → ℕ → Local
 entered_level program u key = record { key = key; unit = u; kept = 0; index = entry_index (unit_addressed program u) }
 
 -- the stacks with a new level: above the top one of the process, which keeps its first operands, so many, or as a process of its own; that
 -- one is at another index
-abbrev pub stacks_made_by : Bool → TurnOf → ℕ → Level → Level → List Stack
+abbrev pub stacks_made_by : Bool → TurnOf → ℕ → Local → Local → List Stack
 stacks_made_by false t kept new behind =
     with_numbered t.machine.processes t.process (record { levels = new ∷ (record behind { kept = kept } ∷ t.below); operands = []; pending = t.pending ++ take kept t.operands })
 stacks_made_by true t kept new behind =

@@ -6,7 +6,7 @@ use Rattle.hep_arena.specs.Space.{Space}
 use Rattle.hep_layout.specs.Words.{FrameNode, Nodes}
 use Rattle.hep_image.specs.declared.data.DataRow.{DataRow}
 use Rattle.hep_image.specs.Data.{value_in_rows}
-use Rattle.hep_frames.specs.Keeping.{Keeps, frames_in}
+use Rattle.hep_proc.specs.Keeping.{Keeps, frames_in}
 use Rattle.hep_state.specs.declared.machine.Machine.{Machine}
 use Rattle.hep_state.specs.Snapshots.{Snapshot}
 

@@ -6,9 +6,9 @@ use Rattle.hep_machine.specs.Words.{Layout, State, Units}
 use Rattle.hep_machine.specs.declared.event.Kind.{Kind}
 use Rattle.hep_arena.specs.Holes.{first_fit}
 use Rattle.hep_code.specs.Words.{deepest}
-use Rattle.hep_frames.specs.declared.frames.Frames.{Frames}
-use Rattle.hep_frames.specs.Keeping.{CanLeave, HasLeft, IsEnded, Keeps, LeadUpwards, all_but, frames_in}
-use Rattle.hep_frames.specs.Nodes.{nodes_of}
+use Rattle.hep_proc.specs.declared.frames.Frames.{Frames}
+use Rattle.hep_proc.specs.Keeping.{CanLeave, HasLeft, IsEnded, Keeps, LeadUpwards, all_but, frames_in}
+use Rattle.hep_proc.specs.Nodes.{nodes_of}
 use Rattle.hep_image.specs.Image.{most_cells}
 use Rattle.hep_layout.specs.Words.{is_stacked}
 use Rattle.hep_machine.specs.Words.{living, run}
@@ -24,10 +24,11 @@ use Rattle.hep_step.specs.Calls.{is_creation}
 use Rattle.hep_step.specs.Effects.{Effect, fails}
 use Rattle.hep_step.specs.Simulation.{unit_code}
 use Rattle.hep_state.specs.declared.calling.Called.{Called}
-use Rattle.hep_state.specs.declared.machine.Level.{Level}
+use Rattle.hep_proc.specs.declared.process.Local.{Local}
 use Rattle.hep_state.specs.declared.machine.Machine.{Machine}
 use Rattle.hep_state.specs.declared.machine.Passing.{Passing}
-use Rattle.hep_state.specs.declared.machine.Process.{Process}
+use Rattle.hep_proc.specs.declared.process.Process.{Process}
+use Rattle.hep_proc.specs.Stacks.{keys_of}
 use Rattle.hep_state.specs.declared.turn.Turned.TheVariants.{Purged}
 use Rattle.hep_state.specs.declared.upcoming.CallAhead.{CallAhead}
 use Rattle.hep_state.specs.declared.upcoming.PurgeAhead.{PurgeAhead}
@@ -37,7 +38,7 @@ use Rattle.hep_state.specs.Outcomes.{Changes, HasTurned}
 use Rattle.hep_state.specs.Rooms.{HasRoomAt, HaveRoom, IsMachineAfter}
 use Rattle.hep_state.specs.Snapshots.{snapshot_of}
 use Rattle.hep_state.specs.Taking.{IsLeft, IsSeenSame, IsToEnd}
-use Rattle.hep_state.specs.Tops.{HasLevels, HoldsInTurn, keys_of, snapshot_parted, turn_of, with_contents, with_stack}
+use Rattle.hep_state.specs.Tops.{HasLevels, HoldsInTurn, snapshot_parted, turn_of, with_contents, with_stack}
 use Rattle.hep_state.specs.Turns.{HasStepped, HasWaited, IsAfter}
 
 -- ---- states
@@ -135,7 +136,7 @@ WaitsAfter effect p old new want =
     → HasWaited program cells choices p want.cell want.full (snapshot_of new)
 
 -- the frames of levels, the last one first, have left, whichever activations end with them
-abbrev pub HaveFramesLeft : List Level → Frames → Frames → Type 0
+abbrev pub HaveFramesLeft : List Local → Frames → Frames → Type 0
 HaveFramesLeft leaving old new =
     (program : Units) (s t : State) (out : ℕ → Bool) (layout : Layout) (ends : List ℕ)
     → Keeps (frames_in program s out layout) old.arena (nodes_of old.nodes)

@@ -6,7 +6,7 @@ use Rattle.hep_machine.specs.declared.event.Entry.{Entry}
 use Rattle.hep_machine.specs.Words.{Units}
 use Rattle.hep_blocked.specs.Numbers.{Numbers}
 use Rattle.hep_state.specs.declared.machine.Machine.{Machine}
-use Rattle.hep_state.specs.declared.machine.Process.{Process}
+use Rattle.hep_proc.specs.declared.process.Process.{Process}
 use Rattle.hep_state.specs.Rooms.{HaveRoom}
 use Rattle.hep_state.specs.Snapshots.{snapshot_of}
 

@@ -8,16 +8,16 @@ use Rattle.hep_image.specs.Dummies.{dummy_arguments}
 use Rattle.hep_image.specs.Image.{most_cells}
 use Rattle.hep_binding.specs.Fitting.{longest_code}
 use Rattle.hep_step.specs.Simulation.{unit_code}
-use Rattle.hep_state.specs.declared.machine.Level.{Level}
+use Rattle.hep_proc.specs.declared.process.Local.{Local}
 use Rattle.hep_state.specs.declared.machine.Machine.{Machine}
 use Rattle.hep_state.specs.declared.machine.Passing.{Passing}
-use Rattle.hep_state.specs.declared.machine.Process.{Process}
+use Rattle.hep_proc.specs.declared.process.Process.{Process}
 use Rattle.hep_state.specs.Snapshots.{snapshot_of}
 use Rattle.hep_state.specs.Turns.{IsAfter}
 
 -- the operands of a process have room for the deepest stack of each unit that it runs, so no step takes memory for them
 abbrev pub HasRoom : Units → Process → Type 0
-HasRoom program q = (i : ℕ) (l : Level) → slice_get q.levels.items i ≡ Some l → deepest (unit_code program l.unit) ≤ vec_capacity q.operands
+HasRoom program q = (i : ℕ) (l : Local) → slice_get q.levels.items i ≡ Some l → deepest (unit_code program l.unit) ≤ vec_capacity q.operands
 
 -- there is room for what is given to the dummy arguments of each unit, for their shapes, and for the values in the code of each, so no
 -- CALL takes memory for it; and for the targets of each PURGE

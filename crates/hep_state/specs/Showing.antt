@@ -7,10 +7,11 @@ use Rattle.hep_code.specs.Words.{AreLevels, CodeLevel}
 use Rattle.hep_layout.specs.Words.{is_stacked, FrameNode, Nodes}
 use Rattle.hep_image.specs.Places.{addresses_of}
 use Rattle.hep_image.specs.Bound.{AreKept}
-use Rattle.hep_frames.specs.Keeping.{Keeps, frames_in}
+use Rattle.hep_proc.specs.Keeping.{Keeps, frames_in}
 use Rattle.hep_step.specs.Simulation.{counts_in}
-use Rattle.hep_state.specs.declared.machine.Level.{Level}
-use Rattle.hep_state.specs.Snapshots.{Snapshot, Stack}
+use Rattle.hep_proc.specs.declared.process.Local.{Local}
+use Rattle.hep_proc.specs.Stacks.{Stack}
+use Rattle.hep_state.specs.Snapshots.{Snapshot}
 
 -- ---- levels
 
@@ -24,7 +25,7 @@ node_under nodes key = unwrap_or (nodes key) no_node
 module _ (program : Units) (contents : List Slot) (nodes : Nodes) where
   -- a level in the code, with these operands: its activation is that of the node under its key, and the counts of its DOs are in
   -- the cells of that activation's frame
-  abbrev pub code_level : List Value → Level → CodeLevel
+  abbrev pub code_level : List Value → Local → CodeLevel
   code_level operands l =
       record {
         activation = (node_under nodes l.key).activation;
@@ -36,29 +37,29 @@ module _ (program : Units) (contents : List Slot) (nodes : Nodes) where
 
   -- those below the top one, the upper first: each has as many operands as it keeps, the last of those that are pending, and those below
   -- it have the others
-  abbrev pub levels_below : List Value → List Level → List CodeLevel
+  abbrev pub levels_below : List Value → List Local → List CodeLevel
   levels_below pending [] = []
   levels_below pending (l ∷ ls) = code_level (drop (length pending - l.kept) pending) l ∷ levels_below (take (length pending - l.kept) pending) ls
 
   -- those of a process
-  abbrev pub code_levels : List Value → List Value → List Level → List CodeLevel
+  abbrev pub code_levels : List Value → List Value → List Local → List CodeLevel
   code_levels operands pending [] = []
   code_levels operands pending (l ∷ ls) = code_level operands l ∷ levels_below pending ls
 
 -- how many operands levels keep, and those below the top one
-abbrev pub kept_by : List Level → ℕ
+abbrev pub kept_by : List Local → ℕ
 kept_by [] = 0
 kept_by (l ∷ ls) = l.kept + kept_by ls
 
-abbrev pub kept_below : List Level → ℕ
+abbrev pub kept_below : List Local → ℕ
 kept_below [] = 0
 kept_below (l ∷ ls) = kept_by ls
 
 -- a level's node is under its key, and its unit is one of the program's
-abbrev pub IsThere : Units → Nodes → Level → Type 0
+abbrev pub IsThere : Units → Nodes → Local → Type 0
 IsThere program nodes l = (l.unit < length program) × (nodes l.key ≡ Some (node_under nodes l.key))
 
-abbrev pub AreThere : Units → Nodes → List Level → Type 0
+abbrev pub AreThere : Units → Nodes → List Local → Type 0
 AreThere program nodes [] = Unit {0}
 AreThere program nodes (l ∷ ls) = IsThere program nodes l × AreThere program nodes ls
 

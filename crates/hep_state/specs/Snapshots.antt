@@ -1,20 +1,12 @@
 -- What a core keeps of a state, without where it lies in memory: docs/ARCHITECTURE.md, "Forms".
-use Rattle.std.specs.Prelude.{ℕ, Bool, List, map, reverse}
-use Rattle.hep_machine.specs.Words.{Value}
+use Rattle.std.specs.Prelude.{ℕ, Bool, List, map}
 use Rattle.hep_machine.specs.declared.event.Fault.{Fault}
 use Rattle.hep_machine.specs.declared.record.Item.{Item}
 use Rattle.hep_arena.specs.Space.{Space}
 use Rattle.hep_layout.specs.Words.{Nodes}
-use Rattle.hep_frames.specs.Nodes.{nodes_of}
-use Rattle.hep_state.specs.declared.machine.Level.{Level}
+use Rattle.hep_proc.specs.Nodes.{nodes_of}
+use Rattle.hep_proc.specs.Stacks.{Stack, stack_of}
 use Rattle.hep_state.specs.declared.machine.Machine.{Machine}
-use Rattle.hep_state.specs.declared.machine.Process.{Process}
-
--- a process: its levels, the top first, the operands of the top one, and those of all others, the lowest level's first
-pub record Stack : Type 0 where
-  pub levels : List Level
-  pub operands : List Value
-  pub pending : List Value
 
 pub record Snapshot : Type 0 where
   pub arena : Space
@@ -25,9 +17,6 @@ pub record Snapshot : Type 0 where
   pub records : List (List Item)
   pub faults : List Fault
   pub halted : Bool
-
-abbrev pub stack_of : Process → Stack
-stack_of q = record { levels = reverse q.levels.items; operands = q.operands.items; pending = q.pending.items }
 
 abbrev pub snapshot_of : Machine → Snapshot
 snapshot_of m =

@@ -16,23 +16,24 @@ use Rattle.hep_step.specs.Effects as effects
 use Rattle.hep_step.specs.Performed.{IsPerformed, snapshot}
 use Rattle.hep_step.specs.Ready.{IsReady, frame_in_arena}
 use Rattle.hep_step.specs.Simulation.{unit_addressed, unit_arrays, unit_code}
-use Rattle.hep_state.specs.declared.machine.Level.{Level}
+use Rattle.hep_proc.specs.declared.process.Local.{Local}
+use Rattle.hep_proc.specs.Stacks.{Stack, stack_with}
 use Rattle.hep_state.specs.Showing.{node_under}
-use Rattle.hep_state.specs.Snapshots.{Snapshot, Stack}
-use Rattle.hep_state.specs.Tops.{HoldsInTurn, IsEffectOf, IsTurning, TurnOf, frame_under, snapshot_stopped, stack_with}
+use Rattle.hep_state.specs.Snapshots.{Snapshot}
+use Rattle.hep_state.specs.Tops.{HoldsInTurn, IsEffectOf, IsTurning, TurnOf, frame_under, snapshot_stopped}
 use Rattle.hep_state.specs.Turns.{HasStepped, HasWaited}
 
 -- ---- where the top activation of a process is
 
 -- that of a level: its unit, its frame in the arena, and its index in the unit's code
-pub record IsPlace (program : Units) (nodes : Nodes) (l : Level) (unit : UnitCode) (frame : CellFrame) (index : ℕ) : Type 0 where
+pub record IsPlace (program : Units) (nodes : Nodes) (l : Local) (unit : UnitCode) (frame : CellFrame) (index : ℕ) : Type 0 where
   pub code : IsUnitCode program l.unit unit
   pub framed : frame ≡ frame_in_arena (frame_under nodes l.key)
   pub at : index ≡ l.index
 
 -- what is behind its operation in the code, its unit's arrays, and its frame; the unit's deepest stack of operands is no deeper than that of
 -- any may be
-pub record IsBehind (program : Units) (nodes : Nodes) (l : Level) (entries : List Instruction) (arrays : List Array) (frame : CellFrame) : Type 0 where
+pub record IsBehind (program : Units) (nodes : Nodes) (l : Local) (entries : List Instruction) (arrays : List Array) (frame : CellFrame) : Type 0 where
   pub behind : entries ≡ drop (l.index + 1) (unit_code program l.unit)
   pub arrays_are : arrays ≡ unit_arrays program l.unit
   pub framed : frame ≡ frame_in_arena (frame_under nodes l.key)
@@ -47,8 +48,8 @@ pub record IsSettled (program : Units) (unit : ℕ) (operands : List Value) (ind
 
 -- a process has a top level, whose unit and frame are there, and what is ahead of it can be done
 pub record CanAdvance (program : Units) (k : Stack) (capacity : ℕ) (arena : Space) (nodes : Nodes) : Type 0 where
-  pub l : Level
-  pub ls : List Level
+  pub l : Local
+  pub ls : List Local
   pub operands : List Value
   pub pending : List Value
   pub stack : k ≡ stack_with l ls operands pending
@@ -57,7 +58,7 @@ pub record CanAdvance (program : Units) (k : Stack) (capacity : ℕ) (arena : Sp
   pub ready : IsReady (unit_code program l.unit) (unit_arrays program l.unit) arena (frame_in_arena (frame_under nodes l.key)) operands capacity l.index
 
 -- then the operation ahead was performed, which changed the cells and the stack; or memory was refused, which changed nothing more
-pub record IsAdvanced {E : Type 0} (program : Units) (nodes : Nodes) (l : Level) (ls : List Level) (operands pending : List Value) (before after : Space) (result : Result Effect E) (k : Stack) : Type 0 where
+pub record IsAdvanced {E : Type 0} (program : Units) (nodes : Nodes) (l : Local) (ls : List Local) (operands pending : List Value) (before after : Space) (result : Result Effect E) (k : Stack) : Type 0 where
   pub next : ℕ
   pub left : List Value
   pub stack : k ≡ stack_with (record l { index = next }) ls left pending

@@ -1,5 +1,5 @@
 -- A process whose turn it is, and what a turn changes in what a core keeps: docs/MACHINE.md, "Steps".
-use Rattle.std.specs.Prelude.{◌≡◌, ◌-◌, ℕ, false, true, List, [], ◌∷◌, ◌++◌, drop, length, map, take, Some}
+use Rattle.std.specs.Prelude.{◌≡◌, ℕ, false, true, List, [], ◌∷◌, ◌++◌, Some}
 use Rattle.hep_machine.specs.Words.{Value, Units, Frame, is_held, living, numbered, with_numbered, with_process, run, Process, State, Top, fault_of, stack_after_return, stack_after_value}
 use Rattle.hep_machine.specs.declared.event.Fault.{Fault}
 use Rattle.hep_machine.specs.declared.event.Kind.{Kind}
@@ -8,12 +8,13 @@ use Rattle.hep_machine.specs.declared.slot.Slot.{Slot}
 use Rattle.hep_machine.specs.State.{Level as SourceLevel}
 use Rattle.hep_arena.specs.Space.{Space}
 use Rattle.hep_layout.specs.Words.{Nodes}
-use Rattle.hep_frames.specs.Keeping.{FramesOf, HasLeft, frames_in}
+use Rattle.hep_proc.specs.Keeping.{FramesOf, HasLeft, frames_in}
 use Rattle.hep_step.specs.Effects.{Effect}
 use Rattle.hep_step.specs.Simulation.{IsRunning, RunningTop, Simulates}
-use Rattle.hep_state.specs.declared.machine.Level.{Level}
+use Rattle.hep_proc.specs.declared.process.Local.{Local}
+use Rattle.hep_proc.specs.Stacks.{Stack, operands_answered, pending_answered, stack_with}
 use Rattle.hep_state.specs.Showing.{node_under}
-use Rattle.hep_state.specs.Snapshots.{Snapshot, Stack}
+use Rattle.hep_state.specs.Snapshots.{Snapshot}
 use Rattle.hep_state.specs.Turns.{HasStepped, IsAfter}
 
 -- ---- levels
@@ -22,17 +23,10 @@ use Rattle.hep_state.specs.Turns.{HasStepped, IsAfter}
 abbrev pub frame_under : Nodes → ℕ → Frame
 frame_under nodes key = record { activation = (node_under nodes key).activation; first = (node_under nodes key).first; cells = (node_under nodes key).cells }
 
-abbrev pub keys_of : List Level → List ℕ
-keys_of ls = map (λ (l : Level). l.key) ls
-
--- a stack with a top level
-abbrev pub stack_with : Level → List Level → List Value → List Value → Stack
-stack_with l ls operands pending = record { levels = l ∷ ls; operands = operands; pending = pending }
-
 -- process p has activations: the top level, those below it, and the operands of both
 pub record HasLevels (m : Snapshot) (p : ℕ) : Type 0 where
-  pub level : Level
-  pub below : List Level
+  pub level : Local
+  pub below : List Local
   pub operands : List Value
   pub pending : List Value
   pub kept : numbered m.processes p ≡ Some (stack_with level below operands pending)
@@ -47,8 +41,8 @@ pub record TurnOf : Type 0 where
   pub choices : List ℕ
   pub machine : Snapshot
   pub process : ℕ
-  pub level : Level
-  pub below : List Level
+  pub level : Local
+  pub below : List Local
   pub operands : List Value
   pub pending : List Value
   pub top : SourceLevel × Process
@@ -149,7 +143,7 @@ HasMadeTurn t new = HasStepped t.program t.cells t.choices t.process new
 -- ---- what they change
 
 -- the stack of process p
-abbrev pub with_stack : Snapshot → ℕ → List Level → List Value → List Value → Snapshot
+abbrev pub with_stack : Snapshot → ℕ → List Local → List Value → List Value → Snapshot
 with_stack m p levels operands pending =
     record m { processes = with_numbered m.processes p (record { levels = levels; operands = operands; pending = pending }) }
 
@@ -181,15 +175,6 @@ snapshot_stopped m = record m { halted = true }
 -- the top activation has ended, and its frame went back, if that was so
 abbrev pub snapshot_returned : TurnOf → Space → Nodes → Snapshot
 snapshot_returned t arena nodes = with_stack (record t.machine { arena = arena; nodes = nodes }) t.process t.below [] t.pending
-
--- of these levels the top one has its operands back, with a value behind them, and the others have what is pending then
-abbrev pub operands_answered : List Value → List Level → Value → List Value
-operands_answered pending [] v = []
-operands_answered pending (l ∷ ls) v = drop (length pending - l.kept) pending ++ v ∷ []
-
-abbrev pub pending_answered : List Value → List Level → List Value
-pending_answered pending [] = pending
-pending_answered pending (l ∷ ls) = take (length pending - l.kept) pending
 
 -- the top activation, of a function, has ended with a value, and its frame went back, if that was so
 abbrev pub snapshot_answered : TurnOf → Value → Space → Nodes → Snapshot

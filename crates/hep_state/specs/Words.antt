@@ -1,12 +1,12 @@
 -- What others name of this crate's definitions, passed on from one place. Declares nothing.
-unfoldable pub use Rattle.hep_state.specs.Snapshots.{snapshot_of, stack_of}
-pub use Rattle.hep_state.specs.Snapshots.{Snapshot, Stack}
+unfoldable pub use Rattle.hep_state.specs.Snapshots.{snapshot_of}
+pub use Rattle.hep_state.specs.Snapshots.{Snapshot}
 unfoldable pub use Rattle.hep_state.specs.Showing.{AreThere, IsThere, node_under}
 pub use Rattle.hep_state.specs.Showing.{code_level, code_levels, IsStack, kept_below, kept_by, levels_below, Shows}
 unfoldable pub use Rattle.hep_state.specs.Turns.{HasGaps}
 pub use Rattle.hep_state.specs.Turns.{HasNoGap, HasStepped, HasWaited, IsAbsent, IsAfter}
-unfoldable pub use Rattle.hep_state.specs.Tops.{fault_at, frame_under, keys_of, operands_answered, pending_answered, snapshot_answered, snapshot_failed, snapshot_moved, snapshot_parted, snapshot_printed, snapshot_resumed, snapshot_returned}
-unfoldable pub use Rattle.hep_state.specs.Tops.{levels_turning, snapshot_stopped, stacks_parted, stack_with, state_answered, state_before, state_failed, state_returned, top_before, top_frame}
+unfoldable pub use Rattle.hep_state.specs.Tops.{fault_at, frame_under, snapshot_answered, snapshot_failed, snapshot_moved, snapshot_parted, snapshot_printed, snapshot_resumed, snapshot_returned}
+unfoldable pub use Rattle.hep_state.specs.Tops.{levels_turning, snapshot_stopped, stacks_parted, state_answered, state_before, state_failed, state_returned, top_before, top_frame}
 unfoldable pub use Rattle.hep_state.specs.Tops.{frames_before, HasMadeTurn, HaveLeft, IsEffectOf, IsTopRunning, running_top, turn_of, turn_settled, turn_with, with_contents, with_stack}
 pub use Rattle.hep_state.specs.Tops.{HasLevels, HoldsInTurn, IsTurning, TurnOf}
 unfoldable pub use Rattle.hep_state.specs.Calls.{call_in, entered_level, HasResultBy, snapshot_made_by, stacks_made_by, state_made}
@@ -25,9 +25,8 @@ unfoldable pub use Rattle.hep_state.specs.Unturned.{IsUnturned}
 unfoldable pub use Rattle.hep_state.specs.Outcomes.{HasTurned}
 pub use Rattle.hep_state.specs.Outcomes.{Changes, HasPurged}
 pub use Rattle.hep_state.specs.Known.{AreRunning, IsKnown, IsMadeOf}
-unfoldable pub use Rattle.hep_state.specs.Stacks.{AdvancesTop, CanAdvanceTop, CanSettle, EndsTop, GoesOnAt, HasBehind, HasPlace}
-unfoldable pub use Rattle.hep_state.specs.Stacks.{HasRoomForValue, HasTop, HoldsOfTop, IsInCode, IsPlaced, PutsAbove, PutsTop, Settles}
-unfoldable pub use Rattle.hep_state.specs.Stacks.{StandsAt, TakesValue}
+unfoldable pub use Rattle.hep_state.specs.Stacks.{AdvancesTop, CanAdvanceTop, CanSettle, HasBehind, HasPlace}
+unfoldable pub use Rattle.hep_state.specs.Stacks.{IsInCode, IsPlaced, Settles}
 unfoldable pub use Rattle.hep_state.specs.Parts.{AfterTurns, Begins, ChangesNext, EmptiesTargets, EndsBy, FailsAtCall, FailsAtPurge}
 unfoldable pub use Rattle.hep_state.specs.Parts.{HaveFramesLeft, IsAtCallAhead, IsAtPurgeAhead, IsEndingBy, IsEndingWithRoom, IsGivenBy}
 unfoldable pub use Rattle.hep_state.specs.Parts.{IsLeftWithRoom, IsReached, IsWhetherLives, KeepsRoomAt, KeepsRoomOf, KeepsRoomParting}

@@ -1,11 +1,11 @@
 //! CALL, CREATE and references: an activation that begins, with its frame (X3.9-1978, 15.5.2 and 15.6.2).
-ghost use Rattle.std.specs.Prelude.{◌≡◌, ◌<◌, ◌≤◌, ◌+◌, length, vec_len, vec_capacity};
-ghost use Rattle.hep_state.specs.Words.{Begins, CanBegin, CanCall, CanCreate, GoesOnAt, KeepsRoomAt, KeepsRoomWith, PutsAbove, StepsByCall};
+ghost use Rattle.std.specs.Prelude.{◌≡◌, ◌+◌, length};
+ghost use Rattle.hep_state.specs.Words.{Begins, CanBegin, CanCall, CanCreate, KeepsRoomAt, KeepsRoomWith, StepsByCall};
 ghost use Rattle.hep_state.specs.Words.{StepsByCreation};
 
-use crate::keeping::keep_back;
-use crate::machine::{Level, Machine, Process, append};
+use crate::machine::{Machine, append};
 use hep_binding::{begin, shape_all};
+use hep_proc::{Local, Process};
 
 /// A unit that is called, created or referred to: its index in the program, how many cells its frame has, and where its first executable
 /// statement is in its code.
@@ -16,49 +16,18 @@ pub struct Called {
     pub entry: usize,
 }
 
-// Its top activation is to go on at an index.
-pub(crate) fn go_on(process: &mut Process, index: usize)
-    requires { 0 < vec_len process.old.levels }
-    ensures stack { GoesOnAt process.old index process.new }
-    ensures count { vec_len process.new.levels ≡ vec_len process.old.levels }
-    ensures capacity { vec_capacity process.new.levels ≡ vec_capacity process.old.levels }
-    ensures operands { vec_capacity process.new.operands ≡ vec_capacity process.old.operands }
-{
-    process.stand_at(index);
-    process.operands.clear();
-}
-
-// Its top activation keeps its first operands, so many, and is to go on at an index, and a new one is above it.
-fn put_above(process: &mut Process, kept: u32, index: usize, level: Level)
-    requires some { 0 < vec_len process.old.levels }
-    requires room { vec_len process.old.levels < vec_capacity process.old.levels }
-    requires few { kept ≤ vec_len process.old.operands }
-    requires pending { vec_len process.old.pending + kept ≤ vec_capacity process.old.pending }
-    ensures stack { PutsAbove process.old kept index level process.new }
-    ensures operands { vec_capacity process.new.operands ≡ vec_capacity process.old.operands }
-{
-    let below = Level {
-        kept,
-        index,
-        ..process.top()
-    };
-    process.put_top(below);
-    keep_back(&mut process.operands, &mut process.pending, kept as usize);
-    append(&mut process.levels, level);
-}
-
 impl Machine {
     // The activation of a unit that process p calls or refers to, or of which it makes a process, begins: its frame enters, with what is
     // given to its dummy arguments and their shapes. Answers its level.
     //
     // There is a gap for the frame, and room for its node.
-    fn begin_activation(&mut self, p: u64, called: Called) -> Level
+    fn begin_activation(&mut self, p: u64, called: Called) -> Local
         requires { CanBegin p self.old called }
         ensures entered { Begins p called self.old result.key self.new }
         ensures level { result ≡ record { key = result.key; unit = called.unit; kept = 0; index = called.entry } }
         ensures others { self.new ≡ record self.old { frames = self.new.frames; activations = self.old.activations + 1 } }
     {
-        hep_frames::laws::children_are_activations();
+        hep_proc::laws::children_are_activations();
         hep_binding::laws::dummies_are_bound();
         hep_binding::laws::other_cells_are_unset();
         hep_binding::laws::references_are_kept();
@@ -75,7 +44,7 @@ impl Machine {
         );
         shape_all(&mut self.frames, key, &self.passing.shapes);
         self.activations = activation;
-        Level {
+        Local {
             key,
             unit,
             kept: 0,
@@ -94,7 +63,7 @@ impl Machine {
         ensures processes { length self.new.processes.items ≡ length self.old.processes.items }
     {
         let level = self.begin_activation(p, called);
-        put_above(&mut self.processes[(p - 1) as usize], kept, index, level);
+        self.processes[(p - 1) as usize].put_above(kept, index, level);
     }
 
     // Process p makes a process of a unit with what is given, and goes on at an index: the unit's activation has its
@@ -109,7 +78,7 @@ impl Machine {
         ensures processes { length self.new.processes.items ≡ length self.old.processes.items + 1 }
     {
         let level = self.begin_activation(p, called);
-        go_on(&mut self.processes[(p - 1) as usize], index);
+        self.processes[(p - 1) as usize].go_on(index);
         append(&mut process.levels, level);
         append(&mut self.processes, process);
     }

@@ -4,7 +4,7 @@ ghost use Rattle.hep_purging.specs.Ready.{AreReached};
 ghost use Rattle.hep_state.specs.Words.{CanEmpty, EmptiesTargets, FailsAtPurge, IsAtPurgeAhead, KeepsRoom, KeepsRoomOf, NamesRanges};
 ghost use Rattle.hep_state.specs.Words.{TurnsByPurge};
 
-use crate::calling::go_on;
+use crate::advancing::behind;
 use crate::laws;
 use crate::machine::Machine;
 use crate::upcoming::PurgeAhead;
@@ -29,7 +29,7 @@ impl Machine {
         laws::purges_can_be_made();
         laws::purges_are_shown();
         let process = &self.processes[(p - 1) as usize];
-        let (entries, arrays, frame) = process.behind(&self.frames, image);
+        let (entries, arrays, frame) = behind(process, &self.frames, image);
         let all = AllPassed {
             entries,
             count: purge.count as usize,
@@ -50,7 +50,7 @@ impl Machine {
         ensures processes { length self.new.processes.items ≡ length self.old.processes.items }
     {
         hep_purging::purge(&mut self.frames.arena, &self.passing.ranges);
-        go_on(&mut self.processes[(p - 1) as usize], index);
+        self.processes[(p - 1) as usize].go_on(index);
     }
 
     // Makes the PURGE ahead of process p, or ends the process with a fault. The cells that were emptied are in `passing`.

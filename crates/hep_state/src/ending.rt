@@ -1,20 +1,21 @@
 //! What a turn comes to once its operation was performed: a record, a fault, the end of an activation, or a stop.
-ghost use Rattle.std.specs.Prelude.{◌≡◌, ◌<◌, ◌++◌, ◌∷◌, [], MatchOption, length, reverse, vec_len, vec_capacity};
-ghost use Rattle.hep_frames.specs.Keeping.{CanAllLeave};
-ghost use Rattle.hep_frames.specs.Nodes.{nodes_of};
+ghost use Rattle.std.specs.Prelude.{◌≡◌, ◌<◌, [], MatchOption, length, reverse, vec_len, vec_capacity};
+ghost use Rattle.hep_proc.specs.Keeping.{CanAllLeave};
+ghost use Rattle.hep_proc.specs.Nodes.{nodes_of};
+ghost use Rattle.hep_proc.specs.Stacks.{keys_of};
 ghost use Rattle.hep_step.specs.Effects.{answers, fails, returns};
-ghost use Rattle.hep_state.specs.Words.{EndsBy, EndsTop, HasTop, HaveFramesLeft, IsEndingBy, IsEndingWithRoom, IsLeftWithRoom};
-ghost use Rattle.hep_state.specs.Words.{KeepsRoom, StepsAfter, WaitsAfter, keys_of};
+ghost use Rattle.hep_state.specs.Words.{EndsBy, HaveFramesLeft, IsEndingBy, IsEndingWithRoom, IsLeftWithRoom};
+ghost use Rattle.hep_state.specs.Words.{KeepsRoom, StepsAfter, WaitsAfter};
 
-use crate::machine::{Level, Machine, Process, append};
+use crate::machine::{Machine, append};
 use hep_cells::Want;
-use hep_frames::Frames;
 use hep_machine::{Fault, Kind};
+use hep_proc::{Frames, Local};
 use hep_source::Value;
 use hep_step::Effect;
 
 // Several activations have ended, the last one first: their frames leave, and no levels are left.
-fn leave_all(frames: &mut Frames, levels: &mut Vec<Level>)
+fn leave_all(frames: &mut Frames, levels: &mut Vec<Local>)
     requires { CanAllLeave frames.old.arena (nodes_of frames.old.nodes) (keys_of (reverse levels.old.items)) }
     ensures ended { HaveFramesLeft (reverse levels.old.items) frames.old frames.new }
     ensures cells { length frames.new.arena.contents ≡ length frames.old.arena.contents }
@@ -22,20 +23,6 @@ fn leave_all(frames: &mut Frames, levels: &mut Vec<Level>)
 {
     while let Some(level) = levels.pop() {
         frames.leave(level.key);
-    }
-}
-
-impl Process {
-    // Its top activation has ended: the level is taken off, and the one below it has no operands.
-    pub(crate) fn end_top(&mut self) -> Level
-        requires { 0 < vec_len self.old.levels }
-        ensures level { HasTop self.old result }
-        ensures stack { EndsTop self.old self.new }
-        ensures fewer { self.old.levels.items ≡ self.new.levels.items ++ result ∷ [] }
-        ensures capacity { vec_capacity self.new.operands ≡ vec_capacity self.old.operands }
-    {
-        self.operands.clear();
-        self.levels.pop().unwrap()
     }
 }
 

@@ -15,7 +15,7 @@ ghost use Rattle.hep_layout.specs.Words.{descriptor_slots, FrameNode, Nodes, but
 ghost use Rattle.hep_image.specs.Arrays.{ArePlacedArrays};
 ghost use Rattle.hep_image.specs.declared.data.DataRow.{DataRow};
 ghost use Rattle.hep_image.specs.Data.{AreInitial, AreOfUnits, first_frames};
-ghost use Rattle.hep_frames.specs.Keeping.{AreOfSomeState, CanAllLeave, CanLeave, IsEnded, IsOpening, Keeps, LeadUpwards, all_but};
+ghost use Rattle.hep_proc.specs.Keeping.{AreOfSomeState, CanAllLeave, CanLeave, IsEnded, IsOpening, Keeps, LeadUpwards, all_but};
 ghost use Rattle.hep_arena.specs.Holes.{first_fit};
 ghost use Rattle.hep_image.specs.Dummies.{dummy_arguments};
 ghost use Rattle.hep_image.specs.Image.{most_cells};
@@ -32,16 +32,17 @@ ghost use Rattle.hep_step.specs.Ready.{frame_in_arena};
 ghost use Rattle.hep_step.specs.Effects.{answers, fails, moves, prints, returns, stops, waits};
 ghost use Rattle.hep_step.specs.Simulation.{unit_addressed, unit_arrays, unit_code};
 ghost use Rattle.hep_binding.specs.Calling.{state_made_by};
-ghost use Rattle.hep_state.specs.declared.machine.Level.{Level as ALevel};
+ghost use Rattle.hep_proc.specs.declared.process.Local.{Local};
 ghost use Rattle.hep_state.specs.Words.{Changes, HasEntered, HasGaps, HasLevels, HasMadeTurn, HasNoGap, HasPurged, HasWaited, HaveLeft, IsAbsent};
 ghost use Rattle.hep_state.specs.Words.{IsAfter, IsAfterCall, IsAtCall, IsAtPurge, IsAtResume, IsEffectOf, IsEnding, IsEntered, IsGiven, IsKnown};
 ghost use Rattle.hep_state.specs.Words.{IsMaking, IsTopRunning, IsTurning, IsUnit, IsWithoutCall, Snapshot, TurnOf, given_of};
-ghost use Rattle.hep_state.specs.Words.{call_in, keys_of, node_under, ranges_ahead, snapshot_answered, snapshot_failed, snapshot_made_by};
+ghost use Rattle.hep_state.specs.Words.{call_in, node_under, ranges_ahead, snapshot_answered, snapshot_failed, snapshot_made_by};
 ghost use Rattle.hep_state.specs.Words.{snapshot_moved, snapshot_opened, snapshot_printed, snapshot_resumed, snapshot_returned, snapshot_stopped};
 ghost use Rattle.hep_state.specs.Words.{state_answered, state_before, state_failed, state_returned, top_frame, turn_settled, turn_with, unset_opening};
 ghost use Rattle.hep_state.specs.declared.upcoming.CallAhead.{CallAhead};
 ghost use Rattle.hep_state.specs.declared.upcoming.PurgeAhead.{PurgeAhead};
-ghost use Rattle.hep_frames.specs.Keeping.{frames_in};
+ghost use Rattle.hep_proc.specs.Keeping.{frames_in};
+ghost use Rattle.hep_proc.specs.Stacks.{keys_of};
 
 /// A process that has levels lives, and it is its turn where the processes weren't stopped; one that has none, or that isn't
 /// there, doesn't live.
@@ -231,7 +232,7 @@ pub fn purges_are_shown()
 /// RESUME: an activation that is above another one becomes a process of its own, and the one below it goes on; one that is the lowest
 /// only goes on. Nothing is filled or emptied, and no frame enters or leaves.
 pub fn resumes_are_shown()
-    ensures apart { (t : TurnOf) (next : ℕ) (l : ALevel) (ls : List ALevel) → IsAccepted t.program
+    ensures apart { (t : TurnOf) (next : ℕ) (l : Local) (ls : List Local) → IsAccepted t.program
         → is_some (main_among t.program) ≡ true → (at : IsAtResume t next) → t.below ≡ l ∷ ls → HasMadeTurn t (snapshot_resumed t at.1.turning next) }
     ensures lowest { (t : TurnOf) (next : ℕ) → IsAccepted t.program → is_some (main_among t.program) ≡ true → IsAtResume t next
         → t.below ≡ [] → HasMadeTurn t (snapshot_moved t t.machine.arena.contents t.operands next) }

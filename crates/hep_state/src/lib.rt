@@ -8,7 +8,6 @@ mod advancing;
 mod calling;
 mod emptying;
 mod ending;
-mod keeping;
 pub mod laws;
 mod machine;
 mod opening;
@@ -17,8 +16,9 @@ mod resuming;
 mod turn;
 mod upcoming;
 
+pub use advancing::place;
 pub use calling::Called;
-pub use machine::{Level, Machine, Passing, Process};
+pub use machine::{Machine, Passing};
 pub use opening::fits;
 pub use turn::{TurnFault, Turned};
 pub use upcoming::{CallAhead, PurgeAhead, StepAhead};

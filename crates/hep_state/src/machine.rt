@@ -1,8 +1,8 @@
 //! What a core keeps of a state.
 ghost use Rattle.std.specs.Prelude.{◌≡◌, ◌<◌, ◌++◌, ◌∷◌, [], vec_len, vec_capacity};
 
-use hep_frames::Frames;
 use hep_machine::{Fault, Record};
+use hep_proc::{Frames, Process};
 use hep_purging::ClosedRange;
 use hep_shape::Shape;
 use hep_source::Value;
@@ -14,27 +14,6 @@ pub(crate) fn append<T: Drop>(items: &mut Vec<T>, added: T)
     ensures { items.new.items ≡ items.old.items ++ added ∷ [] }
 {
     let _ = items.push(added);
-}
-
-/// An activation on a stack: the key of its node, the index of its unit in the program, and where it is in the
-/// unit's code, both counted from 0.
-#[derive(Clone, Copy, Debug)]
-pub struct Level {
-    pub key: usize,
-    pub unit: u32,
-    /// How many operands it keeps among those that are pending, while another activation is above it.
-    pub kept: u32,
-    pub index: usize,
-}
-
-/// A process: its activations, the top last, and their operands. It has ended where there are none.
-#[derive(Drop)]
-pub struct Process {
-    pub levels: Vec<Level>,
-    /// Those of the top activation.
-    pub operands: Vec<Value>,
-    /// Those of all others, the lowest one's first. No CALL leaves any, so that it asks for no memory here.
-    pub pending: Vec<Value>,
 }
 
 /// What the actual arguments of a CALL or a reference give, and the targets of a PURGE name, while it is made.

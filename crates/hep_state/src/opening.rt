@@ -7,8 +7,8 @@ ghost use Rattle.hep_machine.specs.Words.{dummies_of, main_unit, unit_at, common
 ghost use Rattle.hep_arena.specs.Holes.{IsOut};
 ghost use Rattle.hep_image.specs.Dummies.{dummy_arguments};
 ghost use Rattle.hep_image.specs.Image.{IsUnitCode};
-ghost use Rattle.hep_frames.specs.Keeping.{IsUnused};
-ghost use Rattle.hep_frames.specs.Nodes.{nodes_of};
+ghost use Rattle.hep_proc.specs.Keeping.{IsUnused};
+ghost use Rattle.hep_proc.specs.Nodes.{nodes_of};
 ghost use Rattle.hep_purging.specs.Room as room;
 ghost use Rattle.hep_purging.specs.Room.{most_of};
 ghost use Rattle.hep_binding.specs.Fitting as shaping;
@@ -16,11 +16,11 @@ ghost use Rattle.hep_step.specs.Simulation.{unit_code};
 ghost use Rattle.hep_state.specs.Words.{AreOut, HasRoomToPass, IsEntered, IsGiven, IsMachineAfter, IsQuiet};
 
 use crate::laws;
-use crate::machine::{Level, Machine, Passing, Process};
+use crate::machine::{Machine, Passing};
 use hep_binding::longest_code;
-use hep_frames::Frames;
 use hep_image::{DataRow, Image, UnitCode};
 use hep_machine::Slot;
+use hep_proc::{Frames, Local, Process};
 use hep_purging::most_targets;
 use hep_source::{Form, Statement, Unit, Value};
 use std::alloc::{AllocError, Global};
@@ -48,7 +48,7 @@ fn enter_main(frames: &mut Frames, image: &Image) -> usize
     ensures { IsEntered image.now (length frames.old.arena.contents) result frames.new.arena (nodes_of frames.new.nodes) }
 {
     hep_image::laws::openings_fit_by_numbers();
-    hep_frames::laws::openings_want_unset_cells();
+    hep_proc::laws::openings_want_unset_cells();
     hep_accepted_laws::runs::programs_are_closed();
     laws::openings_are_shown();
     frames.open(image.main(), main_program(image).cells)
@@ -161,7 +161,7 @@ fn room_to_pass(alloc: Global, image: &Image) -> Result<Passing, AllocError>
 }
 
 // A process with one activation, and room for so many operands.
-fn begun(alloc: Global, level: Level, operands: u32) -> Result<Process, AllocError>
+fn begun(alloc: Global, level: Local, operands: u32) -> Result<Process, AllocError>
     ensures levels { IfOk result (λ process. process.levels.items ≡ level ∷ []) }
     ensures operands { IfOk result (λ process. process.operands.items ≡ []) }
     ensures pending { IfOk result (λ process. process.pending.items ≡ []) }
@@ -197,7 +197,7 @@ impl Machine {
         frames.reserve()?;
         let key = enter_main(&mut frames, image);
         give_rows(&mut frames, image.rows());
-        let level = Level {
+        let level = Local {
             key,
             unit: image.main(),
             kept: 0,

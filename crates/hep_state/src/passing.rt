@@ -2,6 +2,7 @@
 ghost use Rattle.std.specs.Prelude.{◌≡◌, ◌≤◌, IfErr, IfOk, drop, length};
 ghost use Rattle.hep_state.specs.Words.{FailsAtCall, IsAtCallAhead, IsGivenBy, KeepsRoomOf};
 
+use crate::advancing::behind;
 use crate::laws;
 use crate::machine::{Machine, Passing};
 use crate::upcoming::CallAhead;
@@ -45,7 +46,7 @@ impl Machine {
         laws::calls_can_be_made();
         laws::calls_give_what_is_bound();
         let process = &self.processes[(p - 1) as usize];
-        let (entries, arrays, frame) = process.behind(&self.frames, image);
+        let (entries, arrays, frame) = behind(process, &self.frames, image);
         let Passing {
             given,
             shapes,

@@ -4,10 +4,11 @@ ghost use Rattle.hep_state.specs.declared.turn.Turned.TheVariants.{Stepped};
 ghost use Rattle.hep_state.specs.Words.{CanPart, CanTakeResume, HasRoomForEntry, IsTurn, KeepsReadyFor, KeepsRoomParting, LeavesAlone, PartsAt};
 
 use crate::laws;
-use crate::machine::{Level, Machine, Process, append};
+use crate::machine::{Machine, append};
 use hep_blocked::Ready;
 use hep_image::Image;
 use hep_machine::Entry;
+use hep_proc::{Local, Process};
 use std::alloc::AllocError;
 
 impl Machine {
@@ -20,7 +21,7 @@ impl Machine {
         ensures processes { length self.new.processes.items ≡ length self.old.processes.items + 1 }
     {
         let level = self.processes[(p - 1) as usize].end_top();
-        append(&mut process.levels, Level { index, ..level });
+        append(&mut process.levels, Local { index, ..level });
         append(&mut self.processes, process);
     }
 

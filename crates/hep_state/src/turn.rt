@@ -9,12 +9,13 @@ ghost use Rattle.hep_state.specs.Words.{KeepsReady, KeepsReadyFor, KeepsWritten,
 use crate::advancing::advance;
 use crate::calling::Called;
 use crate::laws;
-use crate::machine::{Machine, Process};
+use crate::machine::Machine;
 use crate::upcoming::{CallAhead, StepAhead};
 use hep_blocked::Ready;
 use hep_cells::Want;
 use hep_image::Image;
 use hep_machine::Entry;
+use hep_proc::Process;
 use hep_step::{Effect, Way};
 use std::alloc::{AllocError, Global};
 
@@ -48,22 +49,6 @@ pub enum Turned {
     Purged,
     /// The process waits for a cell to be so. The same state is shown.
     Waits(Want),
-}
-
-impl Process {
-    // Room for a level more, for so many operands at once, and for so many more that are pending.
-    fn reserve(&mut self, operands: u32, kept: u32) -> Result<(), AllocError>
-        ensures level { OnOk result (vec_len self.new.levels < vec_capacity self.new.levels) }
-        ensures operands { OnOk result (operands ≤ vec_capacity self.new.operands) }
-        ensures pending { OnOk result (vec_len self.new.pending + kept ≤ vec_capacity self.new.pending) }
-        ensures same { (self.new.levels.items ≡ self.old.levels.items) × (self.new.operands.items ≡ self.old.operands.items)
-            × (self.new.pending.items ≡ self.old.pending.items) }
-        ensures capacity { vec_capacity self.old.operands ≤ vec_capacity self.new.operands }
-    {
-        self.levels.reserve(1)?;
-        self.operands.reserve(operands as usize)?;
-        self.pending.reserve(kept as usize)
-    }
 }
 
 impl Machine {

@@ -5,9 +5,11 @@ ghost use Rattle.hep_code.specs.declared.instruction.Instruction.{Instruction as
 ghost use Rattle.hep_code.specs.declared.instruction.Instruction.TheVariants.{Step};
 ghost use Rattle.hep_state.specs.Words.{IsItsTurn, HasLevels, IsAhead, IsInFront, IsSeenSame, KeepsState, snapshot_of};
 
-use crate::machine::{Level, Machine};
+use crate::advancing::settle_top;
+use crate::machine::Machine;
 use hep_code::{Instruction, Operation};
 use hep_image::Image;
+use hep_proc::Local;
 use hep_step::Way;
 
 /// A CALL, CREATE or reference that stands ahead of a process.
@@ -104,9 +106,9 @@ impl Machine {
     {
         image.is_runnable();
         let process = &mut self.processes[(p - 1) as usize];
-        let Level { unit, .. } = process.top();
+        let Local { unit, .. } = process.top();
         let code = image.unit(unit as usize).code.as_slice();
-        process.settle(code);
+        settle_top(process, code);
         ahead_at(code, process.top().index)
     }
 }

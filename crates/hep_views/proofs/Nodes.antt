@@ -9,8 +9,9 @@ use Rattle.hep_machine.proofs.Ages.{run_older}
 use Rattle.hep_machine.proofs.Held.{held_is}
 use Rattle.hep_layout.specs.Words.{IsFrameTree, FrameNode, Nodes, is_stacked}
 use Rattle.hep_layout.proofs.FrameTree.{under-parts}
-use Rattle.hep_state.specs.declared.machine.Level.{Level}
-use Rattle.hep_state.specs.Words.{Stack, Snapshot, keys_of, IsAfter}
+use Rattle.hep_proc.specs.declared.process.Local.{Local}
+use Rattle.hep_proc.specs.Stacks.{keys_of, Stack}
+use Rattle.hep_state.specs.Words.{Snapshot, IsAfter}
 use Rattle.hep_state.proofs.Standing.{AreStanding, AreStandingBelow, IsHere, stack-standing}
 use Rattle.hep_views.specs.Nodes.{is_of, node_above, node_among, parent_in, node_of}
 use Rattle.hep_arena.specs.Gaps.{frame_among}
@@ -88,10 +89,10 @@ module _ (nodes : Nodes) (a n : ℕ) where
 -- ---- an activation of a level
 
 module _ (program : Units) (s : State) (nodes : Nodes) (a n : ℕ) where
-  found-here : (l : Level) (keys : List ℕ) (b : ℕ) → IsHere program s nodes l b → nat_eq a b ≡ true → IsFound nodes a (suc n) (l.key ∷ keys)
+  found-here : (l : Local) (keys : List ℕ) (b : ℕ) → IsHere program s nodes l b → nat_eq a b ≡ true → IsFound nodes a (suc n) (l.key ∷ keys)
   found-here l keys b h same = found-first nodes a n l.key keys h.node h.there (sym h.activation ∙ sym (eqb-true a b same))
 
-  found-below : (above : ℕ) (pending : List Value) (ls : List Level) (q : Process) → AreStandingBelow program s nodes above pending ls q → is_number_among a (activations_on q) ≡ true → IsFound nodes a (suc n) (keys_of ls)
+  found-below : (above : ℕ) (pending : List Value) (ls : List Local) (q : Process) → AreStandingBelow program s nodes above pending ls q → is_number_among a (activations_on q) ≡ true → IsFound nodes a (suc n) (keys_of ls)
   found-below above pending [] [] h among = absurd (true≢false (sym among))
   found-below above pending (l ∷ ls) (level ∷ levels) h among =
       elim (or_cases (nat_eq a level.activation) (is_number_among a (activations_on levels)) among) [
@@ -101,7 +102,7 @@ module _ (program : Units) (s : State) (nodes : Nodes) (a n : ℕ) where
   found-below above pending [] (level ∷ levels) h among = absurd h
   found-below above pending (l ∷ ls) [] h among = absurd h
 
-  pub found-on : (vs pending : List Value) (ls : List Level) (q : Process) → AreStanding program s nodes vs pending ls q → is_number_among a (activations_on q) ≡ true → IsFound nodes a (suc n) (keys_of ls)
+  pub found-on : (vs pending : List Value) (ls : List Local) (q : Process) → AreStanding program s nodes vs pending ls q → is_number_among a (activations_on q) ≡ true → IsFound nodes a (suc n) (keys_of ls)
   found-on vs pending [] [] h among = absurd (true≢false (sym among))
   found-on vs pending (l ∷ ls) (level ∷ levels) h among =
       elim (or_cases (nat_eq a level.activation) (is_number_among a (activations_on levels)) among) [

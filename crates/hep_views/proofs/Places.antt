@@ -12,8 +12,8 @@ use Rattle.hep_image.specs.Image.{most_cells}
 use Rattle.hep_image.specs.Owners.{AreGivenOnce, IsBlockTold, IsTold}
 use Rattle.hep_image.proofs.BlockOwners.{tells_block}
 use Rattle.hep_image.proofs.FrameOwners.{tells_argument, tells_variable}
-use Rattle.hep_frames.specs.Nodes.{nodes_of}
-use Rattle.hep_frames.proofs.Slabs.{some-value}
+use Rattle.hep_proc.specs.Nodes.{nodes_of}
+use Rattle.hep_proc.proofs.Slabs.{some-value}
 use Rattle.hep_accepted_laws.proofs.Closed.{units-there}
 use Rattle.hep_state.specs.declared.machine.Machine.{Machine}
 use Rattle.hep_views.specs.Waited.{unit_in_frame, unit_of_block, unit_of_part}

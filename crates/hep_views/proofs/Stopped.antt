@@ -17,8 +17,9 @@ use Rattle.hep_image.specs.Bound.{AreKept}
 use Rattle.hep_image.specs.Places.{addresses_of}
 use Rattle.hep_step.specs.Effects.{Effect, waits}
 use Rattle.hep_step.specs.Simulation.{unit_arrays, unit_code}
-use Rattle.hep_state.specs.declared.machine.Level.{Level}
-use Rattle.hep_state.specs.Words.{Shows, code_levels, node_under, Snapshot, Stack}
+use Rattle.hep_proc.specs.declared.process.Local.{Local}
+use Rattle.hep_proc.specs.Stacks.{Stack}
+use Rattle.hep_state.specs.Words.{Shows, code_levels, node_under, Snapshot}
 use Rattle.hep_views.specs.Nodes.{node_of}
 use Rattle.hep_views.specs.Waited.{effect_behind, unit_among, unit_in_common, unit_kept_at, unit_under, wanted_by_levels, wanted_by_stack, wanted_for, wanted_seen}
 
@@ -191,7 +192,7 @@ module _ (program : Units) (m : Snapshot) (b : Bool) where
   effect-halted (waits cell full) = ap (option_map (λ at. record { at = at; full = full })) (kept-halted cell)
   effect-halted _ = refl
 
-  levels-halted : (ls : List Level) (operands : List Value)
+  levels-halted : (ls : List Local) (operands : List Value)
       → wanted_by_levels program n ls operands ≡ wanted_by_levels program m ls operands
   levels-halted [] operands = refl
   levels-halted (l ∷ ls) operands =

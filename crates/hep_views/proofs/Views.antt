@@ -22,8 +22,9 @@ use Rattle.hep_code.specs.Words.{operands_of_action, operands_of_actual, operand
 use Rattle.hep_code.proofs.Works.{NextIs, work_is}
 use Rattle.hep_layout.specs.Words.{FrameNode}
 use Rattle.hep_views.proofs.Read.{common-is-read, frames-are-read}
-use Rattle.hep_state.specs.declared.machine.Level.{Level}
-use Rattle.hep_state.specs.Words.{Snapshot, Stack, IsAfter}
+use Rattle.hep_proc.specs.declared.process.Local.{Local}
+use Rattle.hep_proc.specs.Stacks.{Stack}
+use Rattle.hep_state.specs.Words.{Snapshot, IsAfter}
 use Rattle.hep_state.proofs.Standing.{AreStanding, stack-standing}
 use Rattle.hep_step.specs.Simulation.{unit_addressed, unit_code}
 use Rattle.hep_views.specs.Nodes.{node_of}
@@ -169,7 +170,7 @@ module _ (program : Units) (cells : ℕ) (choices : List ℕ) (m : Snapshot) (af
   -- ---- processes
 
   -- where it is seen to wait as the source machine's process does
-  process-is : (p : ℕ) (ls : List Level) (q : Process) (operands pending : List Value) → wanted_by program p s ≡ wanted_by_levels program m ls operands → AreStanding program s m.nodes operands pending ls q → process_seen program m p ls operands ≡ process_view_of program s p q
+  process-is : (p : ℕ) (ls : List Local) (q : Process) (operands pending : List Value) → wanted_by program p s ≡ wanted_by_levels program m ls operands → AreStanding program s m.nodes operands pending ls q → process_seen program m p ls operands ≡ process_view_of program s p q
   process-is p [] [] operands pending waits h = refl
   process-is p (l ∷ ls) (level ∷ levels) operands pending waits h =
       let unit = h.0.here.unit in

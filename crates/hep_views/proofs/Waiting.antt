@@ -13,10 +13,11 @@ use Rattle.hep_layout.specs.Words.{IsOwnedAbove, FrameNode, Nodes}
 use Rattle.hep_layout.proofs.References.{references}
 use Rattle.hep_blocked.specs.Needs.{need_of, unmet}
 use Rattle.hep_blocked.proofs.Waiting.{waits-unmet}
-use Rattle.hep_frames.specs.Nodes.{nodes_of}
-use Rattle.hep_state.specs.declared.machine.Level.{Level}
+use Rattle.hep_proc.specs.Nodes.{nodes_of}
+use Rattle.hep_proc.specs.declared.process.Local.{Local}
+use Rattle.hep_proc.specs.Stacks.{Stack}
 use Rattle.hep_state.specs.declared.machine.Machine.{Machine}
-use Rattle.hep_state.specs.Words.{HasLevels, IsMachineAfter, Stack, snapshot_of}
+use Rattle.hep_state.specs.Words.{HasLevels, IsMachineAfter, snapshot_of}
 use Rattle.hep_state.proofs.Standing.{AreStanding, stack-standing}
 use Rattle.hep_step.specs.Simulation.{unit_addressed, unit_code}
 use Rattle.hep_blocked.specs.Listing.{IsBlocked}
@@ -81,7 +82,7 @@ module _ (program : Units) (cells : ℕ) (choices : List ℕ) (m : Machine) (h :
   nodes = nodes_of m.frames.nodes
 
   top-by : (p : ℕ) (top : SourceLevel × Process) (k : Stack) → numbered (snapshot_of m).processes p ≡ Some k
-      → (ls : List Level) → k.levels ≡ ls → AreStanding program s nodes k.operands k.pending ls (top.0 ∷ top.1) → IsTop program s m p top
+      → (ls : List Local) → k.levels ≡ ls → AreStanding program s nodes k.operands k.pending ls (top.0 ∷ top.1) → IsTop program s m p top
   top-by p top k kept [] is stands = absurd stands
   top-by p top k kept (l ∷ ls) is stands =
       let here = stands.0.here in
@@ -147,13 +148,13 @@ module _ (program : Units) (cells : ℕ) (choices : List ℕ) (m : Machine) (h :
 
   -- ---- as it is listed
 
-  pub listed-is : (p : ℕ) (want : Want) (w : Waits p want) (level : Level) (line : ℕ) (place : Place) → level ≡ w.is_top.levels.level
+  pub listed-is : (p : ℕ) (want : Want) (w : Waits p want) (level : Local) (line : ℕ) (place : Place) → level ≡ w.is_top.levels.level
       → line ≡ line_ahead (drop level.index (unit_code program level.unit)) → place ≡ place_of program s w.wanted.at
       → listed_by program p s ≡ Some (record { process = p; unit = level.unit; line = line; full = want.full; owner = place.owner; name = place.name; element = place.element })
   listed-is p want w level line place level_is line_is place_is =
-      let unit : unit_of s w.top.0.activation ≡ level.unit = w.is_top.unit ∙ sym (ap (λ (l : Level). l.unit) level_is) in
+      let unit : unit_of s w.top.0.activation ≡ level.unit = w.is_top.unit ∙ sym (ap (λ (l : Local). l.unit) level_is) in
       let at : line_at (unit_at program (unit_of s w.top.0.activation)) w.top.0.statement ≡ line =
-      sym (line_is ∙ (ap (λ (l : Level). line_ahead (drop l.index (unit_code program l.unit))) level_is ∙ w.is_top.line)) in
+      sym (line_is ∙ (ap (λ (l : Local). line_ahead (drop l.index (unit_code program l.unit))) level_is ∙ w.is_top.line)) in
       (λ i. listed_with program s p (w.lives i) (w.waits i))
       ∙ (λ i. Some (
       record {

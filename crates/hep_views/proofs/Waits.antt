@@ -9,7 +9,7 @@ use Rattle.hep_code.specs.Words.{Stands, IsPastPushes}
 use Rattle.hep_image.specs.declared.array.Array.{Array}
 use Rattle.hep_step.specs.Effects.{effect_ahead, effect_at, Effect, effect_of, fails, moves, prints, answers, returns, stops, left_out, waits}
 use Rattle.hep_step.specs.Simulation.{unit_addressed, unit_code, IsNotLeftOut, IsRunning, RunningTop, Simulates, arrays_running, code_running, is_left_out, unit_arrays}
-use Rattle.hep_state.specs.Words.{HasLevels, IsEffectOf, IsSettled, IsTopRunning, Shows, Snapshot, Stack, IsTurning, TurnOf, state_before, top_frame, turn_settled, turn_with, IsAbsent, IsAfter, running_top}
+use Rattle.hep_state.specs.Words.{HasLevels, IsEffectOf, IsSettled, IsTopRunning, Shows, Snapshot, IsTurning, TurnOf, state_before, top_frame, turn_settled, turn_with, IsAbsent, IsAfter, running_top}
 use Rattle.hep_code.proofs.Ahead.{drop_one_more, pushed}
 use Rattle.hep_views.specs.Waited.{effect_behind, wanted_by_levels, wanted_by_stack, wanted_for, wanted_on, wanted_seen}
 use Rattle.std.specs.Option.{option_map}
@@ -18,7 +18,8 @@ use Rattle.hep_machine.specs.Step.{wanted_of}
 use Rattle.hep_code.specs.declared.instruction.Operation.{Operation}
 use Rattle.hep_code.specs.declared.instruction.Operation.TheVariants.{Call, Create, Refer, Purge, Resume}
 use Rattle.hep_layout.specs.Words.{address}
-use Rattle.hep_state.specs.declared.machine.Level.{Level}
+use Rattle.hep_proc.specs.declared.process.Local.{Local}
+use Rattle.hep_proc.specs.Stacks.{Stack}
 use Rattle.hep_state.proofs.Moved.{unit-is}
 use Rattle.hep_views.proofs.Cells.{kept-told}
 use Rattle.hep_views.proofs.Stopped.{going_again, seen-halted, shown-going, stop-of}
@@ -207,7 +208,7 @@ module _ (program : Units) (cells : ℕ) (known : IsKnown program cells) where
       | inr gone ↦ absent-waits-not program (run program choices) p gone
     ]
 
-    by-levels : (ls : List Level) (operands pending : List Value) → numbered m.processes p ≡ Some (record { levels = ls; operands = operands; pending = pending })
+    by-levels : (ls : List Local) (operands pending : List Value) → numbered m.processes p ≡ Some (record { levels = ls; operands = operands; pending = pending })
         → wanted_by program p now ≡ wanted_by_levels program m ls operands
     by-levels [] operands pending e = of-absent (known.ended choices m p operands pending after e)
     by-levels (l ∷ ls) operands pending e = seen-of-turning (known.turning choices m p (record { level = l; below = ls; operands = operands; pending = pending; kept = e }) after going).1 known

@@ -6,15 +6,16 @@ use Rattle.hep_code.specs.Words.{line_ahead}
 use Rattle.hep_layout.specs.Words.{FrameNode}
 use Rattle.hep_views.specs.Reading.{common_read, frame_read}
 use Rattle.hep_step.specs.Simulation.{unit_code}
-use Rattle.hep_state.specs.declared.machine.Level.{Level}
-use Rattle.hep_state.specs.Words.{Snapshot, Stack}
+use Rattle.hep_proc.specs.declared.process.Local.{Local}
+use Rattle.hep_proc.specs.Stacks.{Stack}
+use Rattle.hep_state.specs.Words.{Snapshot}
 use Rattle.hep_views.specs.Nodes.{node_of}
 use Rattle.hep_views.specs.Waited.{wanted_on}
 
 -- ---- processes
 
 -- where the top activation of a process is, and what it waits for; one that has none has ended
-abbrev pub process_seen : Units → Snapshot → ℕ → List Level → List Value → List ProcessView
+abbrev pub process_seen : Units → Snapshot → ℕ → List Local → List Value → List ProcessView
 process_seen program m p [] operands = []
 process_seen program m p (l ∷ ls) operands =
     record { process = p; unit = l.unit; line = line_ahead (drop l.index (unit_code program l.unit)); wanted = wanted_on program m l operands } ∷ []

@@ -4,7 +4,7 @@ use Rattle.std.specs.Option.{option_map_or}
 use Rattle.hep_machine.specs.Words.{Units, run, Location}
 use Rattle.hep_layout.specs.Words.{address, IsOwnedAbove, FrameNode, Nodes}
 use Rattle.hep_image.specs.Image.{most_cells}
-use Rattle.hep_frames.specs.Nodes.{nodes_of}
+use Rattle.hep_proc.specs.Nodes.{nodes_of}
 use Rattle.hep_state.specs.declared.machine.Machine.{Machine}
 use Rattle.hep_state.specs.Words.{snapshot_of, IsAfter}
 use Rattle.hep_views.specs.Nodes.{parent_in}

@@ -9,8 +9,9 @@ use Rattle.hep_layout.specs.Words.{FramePart, argument, common_row, frame_row, o
 use Rattle.hep_image.specs.declared.array.Array.{Array}
 use Rattle.hep_step.specs.Effects.{Effect, effect_ahead, waits}
 use Rattle.hep_step.specs.Simulation.{unit_arrays, unit_code}
-use Rattle.hep_state.specs.declared.machine.Level.{Level}
-use Rattle.hep_state.specs.Words.{node_under, Snapshot, Stack}
+use Rattle.hep_proc.specs.declared.process.Local.{Local}
+use Rattle.hep_proc.specs.Stacks.{Stack}
+use Rattle.hep_state.specs.Words.{node_under, Snapshot}
 use Rattle.hep_views.specs.Nodes.{node_of}
 
 -- ---- which storage unit a cell keeps
@@ -59,11 +60,11 @@ wanted_for program m (waits cell full) = option_map (λ at. record { at = at; fu
 wanted_for program m _ = None
 
 -- that of an activation at a level, with these operands
-abbrev pub wanted_on : Units → Snapshot → Level → List Value → Option Wanted
+abbrev pub wanted_on : Units → Snapshot → Local → List Value → Option Wanted
 wanted_on program m l operands =
     wanted_for program m (effect_behind (unit_code program l.unit) (unit_arrays program l.unit) (node_under m.nodes l.key).first m.arena.contents (drop l.index (unit_code program l.unit)) operands l.index)
 
-abbrev pub wanted_by_levels : Units → Snapshot → List Level → List Value → Option Wanted
+abbrev pub wanted_by_levels : Units → Snapshot → List Local → List Value → Option Wanted
 wanted_by_levels program m [] operands = None
 wanted_by_levels program m (l ∷ ls) operands = wanted_on program m l operands
 

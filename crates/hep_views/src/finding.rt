@@ -6,7 +6,7 @@ ghost use Rattle.hep_code.specs.Depths as depths;
 ghost use Rattle.hep_layout.specs.Words.{FrameNode};
 ghost use Rattle.hep_image.specs.Image.{most_cells};
 ghost use Rattle.hep_image.specs.Owners.{IsBlockTold, IsTold};
-ghost use Rattle.hep_frames.specs.Nodes.{nodes_of};
+ghost use Rattle.hep_proc.specs.Nodes.{nodes_of};
 ghost use Rattle.hep_state.specs.Words.{IsMachineAfter, snapshot_of, HasLevels};
 ghost use Rattle.hep_blocked.specs.Listing.{IsBlocked};
 ghost use Rattle.hep_views.specs.Listed.{block_place, listed_by, place_of, variable_place};
@@ -16,12 +16,12 @@ use crate::listed::Listed;
 use crate::place::Place;
 use hep_blocked::Want;
 use hep_code::Instruction;
-use hep_frames::Frames;
 use hep_image::Image;
-use hep_state::{Level, Machine};
+use hep_proc::{Frames, Local};
+use hep_state::Machine;
 
 // The level of the top activation of process p.
-fn top(machine: &Machine, p: u64) -> Level
+fn top(machine: &Machine, p: u64) -> Local
     requires { HasLevels (snapshot_of machine.now) p }
     ensures { (levels : HasLevels (snapshot_of machine.now) p) → result ≡ levels.level }
 {

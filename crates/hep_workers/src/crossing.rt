@@ -8,6 +8,7 @@ ghost use Rattle.hep_core.specs.contracts.scheduler.Core as core;
 
 use hep_blocked::{Ready, Waits};
 use hep_image::{BlockStart, DataRow, UnitCode};
+use hep_quick::Table;
 use hep_source::{Expr, Sequence, Text};
 use hep_state::Machine;
 
@@ -52,6 +53,7 @@ pub(crate) fn cores_cross()
     ensures send { IsSend core.the_row }
 {
     images_cross();
+    pass::<Table>();
     pass::<Machine>();
     pass::<Waits>();
     pass::<Ready>();

@@ -55,7 +55,7 @@ fn endless_recursion(rt: HostRuntime) -> Result<(), Fail> {
 }
 
 // Two processes add to a variable, and the main program waits for both.
-const ADDED: [&[u8]; 14] = [
+pub const ADDED: [&[u8]; 14] = [
     b"      PROGRAM P",
     b"      INTEGER $X,$D",
     b"      $X=0",

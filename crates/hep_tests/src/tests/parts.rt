@@ -1,13 +1,11 @@
 //! The parts by themselves, through their public calls.
 
-use super::{FIRST, UNDEFINED, chosen, core_of, image_from, is_single_steps, source_of};
+use super::{UNDEFINED, chosen, core_of, image_from, is_single_steps, source_of};
 use hep_arena::Arena;
+use hep_arena::laws::{giving, taking};
 use hep_core::{ChoiceStop, ChooseFault, Core, NewFault, Verdict};
-use hep_run::{Options, run_source};
 use hep_text::{Span, statements};
 use std::alloc::Global;
-use std::io;
-use std::io::{Error, ErrorKind, Read};
 use std::process::Abort;
 use std::test::Fail;
 
@@ -178,81 +176,44 @@ fn waiting_processes(rt: HostRuntime) -> Result<(), Fail> {
 
 // ---- the arena
 
-// Three blocks in an arena of ten cells leave a hole of one.
+// Three blocks in an arena of ten cells leave a hole of one. A block of five fits where two neighbours have come back.
 #[test]
 fn three_blocks(rt: HostRuntime) -> Result<(), Fail> {
+    taking();
+    giving();
     let mut arena = Arena::new(rt.alloc(), 10)?.sent();
     let first = arena.take(3).ok_or("no block")?;
     let second = arena.take(4).ok_or("no block")?;
     let third = arena.take(2).ok_or("no block")?;
     assert_eq!(rt; (first.at(), second.at(), third.at()), (0, 3, 7));
-    assert_eq!(rt; (first.len(), second.len(), third.len()), (3, 4, 2));
     assert_eq!(rt; arena.used(), 9);
-    assert!(rt; arena.fits(1));
-    assert!(rt; !arena.fits(2));
-    assert!(rt; arena.take(2).is_none());
+    arena.give(second);
+    assert_eq!(rt; arena.used(), 5);
+    assert!(rt; arena.take(5).is_none());
+    assert_eq!(rt; arena.used(), 5);
+    arena.give(first);
+    assert_eq!(rt; arena.used(), 2);
+    let fourth = arena.take(5).ok_or("no block")?;
+    assert_eq!(rt; (fourth.at(), arena.used()), (0, 7));
+    assert!(rt; arena.fits(2) && !arena.fits(3));
     Ok(())
 }
 
-// ---- readers
-
-// Gives a byte of a text a call; once, when it has given so many, it fails instead.
-#[derive(Drop)]
-struct Hiccup {
-    text: &'static [u8],
-    place: usize,
-    before: usize,
-    kind: ErrorKind,
-    has_failed: bool,
-}
-
-impl Read for Hiccup {
-    fn read(&mut self, buf: &mut [u8]) -> io::Result<usize> {
-        if self.before <= self.place && !self.has_failed {
-            self.has_failed = true;
-            return Err(Error::from(self.kind));
-        }
-        let Some(byte) = self.text.get(self.place) else {
-            return Ok(0);
-        };
-        let Some(first) = buf.first_mut() else {
-            return Ok(0);
-        };
-        *first = *byte;
-        self.place = self.place.saturating_add(1);
-        Ok(1)
-    }
-}
-
-// A read that fails once in mid-stream: an interrupted one is tried again, and any other one ends
-// the run, of which nothing is written then.
+// The same holes as at the end of those, of two cells and of one. Once the blocks beside them are back, all cells are one hole.
 #[test]
-fn hiccups(rt: HostRuntime) {
-    let alloc = rt.alloc();
-    let rows: [(ErrorKind, &[u8], &[u8], u8); 2] = [
-        (ErrorKind::Interrupted, b" A=7 T\n", b"", 0),
-        (ErrorKind::Other, b"", b"READ FAULT\n", 8),
-    ];
-    for (kind, output, messages, status) in rows {
-        let mut reader = Hiccup {
-            text: FIRST,
-            place: 0,
-            before: 9,
-            kind,
-            has_failed: false,
-        };
-        let mut written = Vec::new(alloc);
-        let mut reported = Vec::new(alloc);
-        let run = run_source(
-            alloc,
-            &mut reader,
-            &Options::defaults(alloc),
-            &mut written,
-            &mut reported,
-        );
-        assert!(rt; reader.has_failed);
-        assert_eq!(rt; written.as_slice(), output);
-        assert_eq!(rt; reported.as_slice(), messages);
-        assert_eq!(rt; run.status, status);
-    }
+fn all_given_back(rt: HostRuntime) -> Result<(), Fail> {
+    taking();
+    giving();
+    let mut arena = Arena::new(rt.alloc(), 10)?.sent();
+    let first = arena.take(5).ok_or("no block")?;
+    let second = arena.take(2).ok_or("no block")?;
+    let third = arena.take(2).ok_or("no block")?;
+    arena.give(second);
+    assert_eq!(rt; (first.at(), third.at(), arena.used()), (0, 7, 7));
+    arena.give(third);
+    assert!(rt; arena.fits(5) && !arena.fits(6));
+    arena.give(first);
+    assert_eq!(rt; arena.used(), 0);
+    assert!(rt; arena.fits(10));
+    Ok(())
 }

@@ -104,6 +104,47 @@ fn at_the_opening(rt: HostRuntime) -> Result<(), Fail> {
     Ok(())
 }
 
+// A segment of process 1 at the opening of another core, which has given so many tickets before and cancelled them.
+fn segment_after(alloc: Global, image: &Image, cancelled: u32) -> Result<Segment, Fail> {
+    let mut core = Core::new(alloc, image.copy(alloc)?, 3, 7)?;
+    for _ticket in 0..cancelled {
+        let ticket = core.check_out(1)?;
+        core.cancel(&ticket)?;
+    }
+    let ticket = core.check_out(1)?;
+    Ok(compute(image, &ticket))
+}
+
+// A segment of another core is stale unless it agrees with the ticket that is out. A stale one changes nothing.
+#[test]
+fn foreign_segments(rt: HostRuntime) -> Result<(), Fail> {
+    let alloc = rt.alloc();
+    let image = image_from(alloc, &source_of(alloc, &OVERFLOW)?)?;
+    let of_another_source = segment_after(alloc, &image_from(alloc, WAITING)?, 0)?;
+    let earlier = segment_after(alloc, &image, 0)?;
+    let later = segment_after(alloc, &image, 2)?;
+    let alike = segment_after(alloc, &image, 1)?;
+    let mut core = Core::new(alloc, image.copy(alloc)?, 3, 7)?;
+    assert_eq!(rt; core.commit(&alike).err(), Some(CommitFault::Stale));
+    let cancelled = core.check_out(1)?;
+    core.cancel(&cancelled)?;
+    let ticket = core.check_out(1)?;
+    for segment in [&of_another_source, &earlier, &later] {
+        assert_eq!(rt; core.commit(segment).err(), Some(CommitFault::Stale));
+        assert_eq!(rt;
+            (core.history().len(), core.used(), core.next_ready()),
+            (0, 1, None)
+        );
+    }
+    assert_eq!(rt; core.commit(&alike)?.steps, 1);
+    assert_eq!(rt;
+        core.commit(&compute(&image, &ticket)).err(),
+        Some(CommitFault::Stale)
+    );
+    assert_eq!(rt; core.history().len(), 1);
+    Ok(())
+}
+
 // A history that is full stops a check-out, and a stop is reported before all else.
 #[test]
 fn full_histories(rt: HostRuntime) -> Result<(), Fail> {
@@ -187,6 +228,7 @@ fn closing(rt: HostRuntime) -> Result<(), Fail> {
 struct Holding<'a, R> {
     rt: &'a R,
     calls: AtomicU64,
+    calls_of_first: AtomicU64,
     held: AtomicU32,
     calls_of_other: AtomicU64,
     polls: AtomicU64,
@@ -199,6 +241,7 @@ impl<'a, R: Clock> Holding<'a, R> {
         Holding {
             rt,
             calls: AtomicU64::new(0),
+            calls_of_first: AtomicU64::new(0),
             held: AtomicU32::new(0),
             calls_of_other: AtomicU64::new(0),
             polls: AtomicU64::new(0),
@@ -227,6 +270,9 @@ impl<'a, R: Clock> Holding<'a, R> {
 impl<R: Clock> Gate for Holding<'_, R> {
     fn segment(&self, worker: u32, _turn: u64, image: &Image, ticket: &Ticket) -> Segment {
         let segment = compute(image, ticket);
+        if worker == 1 {
+            self.calls_of_first.fetch_add(1, Ordering::SeqCst);
+        }
         let held = self.held.load(Ordering::SeqCst);
         if held != 0 && held != worker {
             self.calls_of_other.fetch_add(1, Ordering::SeqCst);
@@ -256,11 +302,13 @@ fn storing(alloc: Global) -> Result<Vec<u8>, AllocError> {
     Ok(source)
 }
 
-fn receipts_in(logs: &[Log]) -> usize {
-    logs.iter().fold(
-        0usize,
-        |count, log| count.saturating_add(log.receipts().len()),
-    )
+// The log of this worker has one receipt for each of so many calls.
+fn is_log_of(log: &Log, worker: u32, calls: u64) -> bool {
+    log.receipts().len() as u64 == calls
+        && log
+            .receipts()
+            .iter()
+            .all(|receipt| receipt.worker == worker)
 }
 
 #[test]
@@ -279,8 +327,13 @@ fn two_workers_take_turns(rt: HostRuntime) -> Result<(), Fail> {
     let stored = core.common(0).and_then(|slot| slot.value);
     assert_eq!(rt; stored, Some(Value::Int(1_000)));
     assert_eq!(rt; core.common(1), None);
-    assert_eq!(rt; logs.len(), 2);
-    assert_eq!(rt; receipts_in(&logs), 6_007);
-    assert_eq!(rt; gate.calls.load(Ordering::SeqCst), 6_007);
+    let calls = gate.calls.load(Ordering::SeqCst);
+    let of_first = gate.calls_of_first.load(Ordering::SeqCst);
+    assert_eq!(rt; calls, 6_007);
+    let [first, second] = logs.as_slice() else {
+        return Err("there are other than two logs")?;
+    };
+    assert!(rt; is_log_of(first, 1, of_first));
+    assert!(rt; is_log_of(second, 2, calls.saturating_sub(of_first)));
     Ok(())
 }

@@ -5,15 +5,15 @@ use Rattle.hep_arena.specs.Holes.{first_fit}
 use Rattle.hep_layout.specs.Words.{Nodes, new_node, with_node}
 use Rattle.hep_layout.proofs.Memory.{memory-fits}
 use Rattle.hep_layout.proofs.References.{unset-ahead}
-use Rattle.hep_frames.specs.Keeping.{FramesOf, frames_begun, Keeps}
-use Rattle.hep_frames.specs.Nodes.{nodes_of}
-use Rattle.hep_frames.proofs.Slabs.{some-value}
+use Rattle.hep_proc.specs.Keeping.{FramesOf, frames_begun, Keeps}
+use Rattle.hep_proc.specs.Nodes.{nodes_of}
+use Rattle.hep_proc.proofs.Slabs.{some-value}
 use Rattle.hep_binding.specs.Calling.{called_activation, frames_before_call, frames_with, layout_with, state_before_call, state_begun}
 use Rattle.hep_binding.specs.Writing.{IsBinding}
 use Rattle.hep_binding.proofs.Begun.{begins, binding, long, stored}
 use Rattle.hep_binding.proofs.Nodes.{block-inside, block-out, node-new}
 use Rattle.hep_binding.proofs.beginning.begin.Goals as goal
-use Rattle.hep_frames.proofs.Begun.{fit-there}
+use Rattle.hep_proc.proofs.Begun.{fit-there}
 
 -- the frame has entered, where the activations are these
 abbrev HasBegun : FramesOf → State → ℕ → List Activation → Space → Nodes → Type 0

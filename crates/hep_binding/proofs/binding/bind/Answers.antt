@@ -1,6 +1,6 @@
 use Rattle.std.proofs.Common.{◌+◌, ◌∙◌, refl, sym, subst, arith}
 use Rattle.hep_arena.specs.Holes.{IsOut}
-use Rattle.hep_frames.specs.Nodes.{nodes_of}
+use Rattle.hep_proc.specs.Nodes.{nodes_of}
 use Rattle.hep_binding.proofs.Dummies.{bound-begins, bound-ends, bound-next}
 use Rattle.hep_binding.proofs.binding.bind.Goals as goal
 

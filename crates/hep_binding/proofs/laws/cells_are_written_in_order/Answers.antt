@@ -1,5 +1,5 @@
 use Rattle.std.proofs.Common.{◌≡◌, suc, ◌+◌, ◌*◌, refl, subst, arith}
-use Rattle.hep_frames.specs.Keeping.{Keeps}
+use Rattle.hep_proc.specs.Keeping.{Keeps}
 use Rattle.hep_binding.specs.Giving.{with_one_given}
 use Rattle.hep_binding.specs.Shapes.{cells_to_bounds_of}
 use Rattle.hep_binding.specs.Writing.{stored_in, unit_framed, written_up_to}

@@ -1,6 +1,6 @@
 use Rattle.std.proofs.Common.{◌≡◌, ◌+◌, ◌≤◌, length, Some, arith}
-use Rattle.hep_frames.specs.Nodes.{nodes_of}
-use Rattle.hep_frames.proofs.Slabs.{node-there}
+use Rattle.hep_proc.specs.Nodes.{nodes_of}
+use Rattle.hep_proc.proofs.Slabs.{node-there}
 use Rattle.hep_binding.proofs.Shaped.{begins-behind, frame-inside, frame-out}
 use Rattle.hep_binding.proofs.shaping.shape_all.Goals.{After-cells}
 use Rattle.hep_binding.proofs.shaping.shape_all.Goals as goal

@@ -2,7 +2,7 @@ use Rattle.std.proofs.Common.{◌≡◌, ◌<◌, ℕ, List, Option, length, get
 use Rattle.std.proofs.lemmas.Option.{slice_get-get_or}
 use Rattle.hep_machine.specs.Words.{Bounds}
 use Rattle.hep_arena.specs.Holes.{IsOut}
-use Rattle.hep_frames.specs.Nodes.{nodes_of}
+use Rattle.hep_proc.specs.Nodes.{nodes_of}
 use Rattle.hep_binding.proofs.Shaped.{all-shaped-ends, all-shaped-next, cells-below, cells-next, cells-within}
 use Rattle.hep_binding.proofs.shaping.shape_from.Goals as goal
 

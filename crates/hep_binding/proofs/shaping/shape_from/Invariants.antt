@@ -1,5 +1,5 @@
 use Rattle.std.proofs.Common.{◌≡◌, ◌+◌, length, drop, ◌≤◌}
-use Rattle.hep_frames.specs.Nodes.{nodes_of}
+use Rattle.hep_proc.specs.Nodes.{nodes_of}
 use Rattle.hep_binding.specs.Shapes.{cells_of_shapes}
 use Rattle.hep_binding.proofs.Shaped.{AreAllShaped}
 use Rattle.hep_binding.proofs.shaping.shape_from.Given as goal

@@ -3,26 +3,28 @@ use Rattle.std.specs.Vec.{with_item}
 use Rattle.hep_machine.specs.Words.{Value, main_among, numbered}
 use Rattle.hep_conditions.specs.Words.{IsAccepted}
 use Rattle.hep_binding.proofs.Calls.{set-numbered}
-use Rattle.hep_frames.specs.Nodes.{nodes_of}
-use Rattle.hep_frames.specs.declared.frames.Frames.{Frames}
+use Rattle.hep_proc.specs.Nodes.{nodes_of}
+use Rattle.hep_proc.specs.declared.frames.Frames.{Frames}
 use Rattle.hep_image.specs.Image.{most_cells}
 use Rattle.hep_step.specs.Performed as step
-use Rattle.hep_state.specs.declared.machine.Level.{Level}
+use Rattle.hep_proc.specs.declared.process.Local.{Local}
 use Rattle.hep_state.specs.declared.machine.Machine.{Machine}
-use Rattle.hep_state.specs.declared.machine.Process.{Process}
-use Rattle.hep_state.specs.Words.{IsAfter, TurnOf, snapshot_of, stack_of, stack_with, turn_with, with_contents, with_stack}
+use Rattle.hep_proc.specs.declared.process.Process.{Process}
+use Rattle.hep_proc.specs.Stacks.{stack_of, stack_with}
+use Rattle.hep_proc.proofs.Levels.{last-there}
+use Rattle.hep_state.specs.Words.{IsAfter, TurnOf, snapshot_of, turn_with, with_contents, with_stack}
 use Rattle.hep_state.proofs.Moved.{top-node}
-use Rattle.hep_state.proofs.Processes.{last-there, process-at, room-moved, stacks-set}
+use Rattle.hep_state.proofs.Processes.{process-at, room-moved, stacks-set}
 use Rattle.hep_state.proofs.Taken.{inside}
 use Rattle.hep_state.proofs.Tops.{turning}
 use Rattle.hep_state.proofs.Unchanged.{carry, machine-of, rooms-of, rooms-set}
 use Rattle.hep_going.specs.Gone.{HasNoMoveAt}
-use Rattle.hep_going.proofs.Turns.{HasLaws, can-go, come-so}
+use Rattle.hep_going.proofs.Turns.{HasLaws, can-go, come-so, frame-there}
 use Rattle.hep_going.proofs.going.go_on.Goals.{After-tops_are_running}
 use Rattle.hep_going.proofs.going.go_on.Goals as goal
 
 -- what the laws called say of the program
-known : (c : After-tops_are_running) (t : TurnOf) → t.program ≡ c.args.image.now → t.cells ≤ most_cells → HasLaws t
+known : (c : After-tops_are_running) (t : TurnOf) → t.program ≡ c.args.tabled.now.image.now → t.cells ≤ most_cells → HasLaws t
 known c t is few =
     record {
       running = λ r same turns. c.tops_are_running.ensures.running r (subst IsAccepted (sym (same ∙ is)) c.is_runnable.ensures.accepted) (ap (λ program. is_some (main_among program)) (same ∙ is) ∙ c.is_runnable.ensures.main) turns;
@@ -32,27 +34,33 @@ known c t is few =
 
 pub go_top-requires : goal.go_top-requires
 go_top-requires c =
-    let program = c.args.image.now in
+    let program = c.args.tabled.now.image.now in
     let p = c.args.p in
     let q = c.index_mut-process.result.now in
-    let e = c.requires.living in
-    let h = c.requires.after.2 in
+    let e = c.requires.turn.living in
+    let h = c.requires.turn.after.2 in
     let it = process-at c.args.machine.now.processes.items p e.kept c.index_mut-process.ensures.value in
-    let turn = turning p h.after e c.requires.running in
-    let t = turn_with program c.requires.after.0 c.requires.after.1 e turn.0 in
-    record {
-      l = e.level;
-      ls = e.below;
-      operands = e.operands;
-      pending = e.pending;
-      stack = it.stack;
-      inside = inside turn.1;
-      there = top-node turn.1;
-      ready = can-go t (known (goal.at.go_top-requires c).After-tops_are_running t refl h.few) turn.1 (vec_capacity q.operands) (h.room (p - 1) q it.there _ e.level (last-there q e.level e.below e.operands e.pending it.stack));
-    }
+    let turn = turning p h.after e c.requires.turn.running in
+    let t = turn_with program c.requires.turn.after.0 c.requires.turn.after.1 e turn.0 in
+    let runs = known (goal.at.go_top-requires c).After-tops_are_running t refl h.few in
+    let framed = frame-there t runs turn.1 in (
+      c.requires.tables,
+      record {
+        l = e.level;
+        ls = e.below;
+        operands = e.operands;
+        pending = e.pending;
+        stack = it.stack;
+        inside = inside turn.1;
+        there = top-node turn.1;
+        sized = framed.0;
+        common = framed.1;
+        ready = can-go t runs turn.1 (vec_capacity q.operands) (h.room (p - 1) q it.there _ e.level (last-there q e.level e.below e.operands e.pending it.stack));
+      },
+    )
 
 -- what the machine shows, where a process has another stack and cells of the arena have changed
-shown-now : (m : Machine) (p : ℕ) (r : Process) (frames : Frames) (l : Level) (ls : List Level) (left pending : List Value) (next : ℕ) → stack_of r ≡ stack_with (record l { index = next }) ls left pending
+shown-now : (m : Machine) (p : ℕ) (r : Process) (frames : Frames) (l : Local) (ls : List Local) (left pending : List Value) (next : ℕ) → stack_of r ≡ stack_with (record l { index = next }) ls left pending
     → frames.arena.holes ≡ m.frames.arena.holes → frames.nodes ≡ m.frames.nodes
     → snapshot_of (record m { frames = frames; processes = with_item m.processes (p - 1) r }) ≡ with_stack (with_contents (snapshot_of m) frames.arena.contents) p (record l { index = next } ∷ ls) left pending
 shown-now m p r frames l ls left pending next stack holes nodes =
@@ -65,19 +73,19 @@ shown-now m p r frames l ls left pending next stack holes nodes =
 
 pub returns-clause-gone : goal.returns-clause-gone
 returns-clause-gone c cells choices h =
-    let program = c.args.image.now in
+    let program = c.args.tabled.now.image.now in
     let old = c.args.machine.now in
     let p = c.args.p in
     let q = c.index_mut-process.result.now in
     let r = c.go_top.new.process in
     let done = c.go_top.ensures in
-    let e = c.requires.living in
+    let e = c.requires.turn.living in
     let l = e.level in
     let ls = e.below in
     let vs = e.operands in
     let ws = e.pending in
     let it = process-at old.processes.items p e.kept c.index_mut-process.ensures.value in
-    let turn = turning p h.after e c.requires.running in
+    let turn = turning p h.after e c.requires.turn.running in
     let t = turn_with program cells choices e turn.0 in
     let a = done.gone l ls vs ws it.stack in
     let come = come-so t (known (goal.at.returns-clause-gone c).After-tops_are_running t refl h.few) turn.1 c.go_top.result (step.snapshot c.go_top.new.frames.arena.contents a.left a.next) a.gone in
@@ -93,7 +101,7 @@ returns-clause-all c fewer =
     let old = c.args.machine.now in
     let p = c.args.p in
     let r = c.go_top.new.process in
-    let e = c.requires.living in
+    let e = c.requires.turn.living in
     let it = process-at old.processes.items p e.kept c.index_mut-process.ensures.value in
     let a = c.go_top.ensures.gone e.level e.below e.operands e.pending it.stack in
     let k = stack_with (record e.level { index = a.next }) e.below a.left e.pending in
@@ -105,5 +113,5 @@ returns-clause-all c fewer =
         pending = e.pending;
         kept = ap (λ ks. numbered ks p) (stacks-set old.processes.items p r k a.stack) ∙ set-numbered (snapshot_of old).processes p (stack_with e.level e.below e.operands e.pending) k e.kept;
       };
-      none = carry (λ i. HasNoMoveAt c.args.image.now (nodes_of (sym c.go_top.ensures.nodes i)) e.level (step.snapshot c.go_top.new.frames.arena.contents a.left a.next)) (a.all fewer);
+      none = carry (λ i. HasNoMoveAt c.args.tabled.now.image.now (nodes_of (sym c.go_top.ensures.nodes i)) e.level (step.snapshot c.go_top.new.frames.arena.contents a.left a.next)) (a.all fewer);
     }

@@ -2,17 +2,18 @@ use Rattle.std.proofs.Common.{◌≡◌, ℕ, List, sym, ◌∙◌, vec_capacity
 use Rattle.hep_machine.specs.Words.{Value}
 use Rattle.hep_code.specs.declared.instruction.Instruction.{Instruction}
 use Rattle.hep_image.specs.declared.array.Array.{Array}
-use Rattle.hep_frames.specs.Nodes.{nodes_of}
+use Rattle.hep_proc.specs.Nodes.{nodes_of}
 use Rattle.hep_step.specs.Changes.{changed_at}
 use Rattle.hep_step.specs.Effects.{effect_at}
 use Rattle.hep_step.specs.Performed as performed
 use Rattle.hep_step.specs.Performed.{IsPerformed, snapshot}
 use Rattle.hep_step.specs.Ready.{IsReady}
 use Rattle.hep_step.specs.Simulation.{unit_arrays, unit_code}
-use Rattle.hep_state.specs.declared.machine.Level.{Level}
-use Rattle.hep_state.specs.Words.{node_under, stack_of, stack_with}
+use Rattle.hep_proc.specs.declared.process.Local.{Local}
+use Rattle.hep_proc.specs.Stacks.{stack_of, stack_with}
+use Rattle.hep_proc.proofs.Levels.{operands-are, some-levels}
+use Rattle.hep_state.specs.Words.{node_under}
 use Rattle.hep_state.proofs.Unchanged.{carry}
-use Rattle.hep_state.proofs.Processes.{operands-are, some-levels}
 use Rattle.hep_state.proofs.advancing.advance.Goals.{After-stand_at}
 use Rattle.hep_state.proofs.advancing.advance.Goals as goal
 
@@ -36,7 +37,7 @@ stand_at-requires c =
     some-levels c.args.process.now r.l r.ls r.operands r.pending r.stack
 
 -- what the operation ahead of a level is about: by what was read, or by what the machine keeps
-of-level : (c : After-stand_at) (l : Level) (ls : List Level) (operands pending : List Value) → stack_of c.args.process.now ≡ stack_with l ls operands pending → (P : List Instruction → List Array → ℕ → List Value → ℕ → Type 0)
+of-level : (c : After-stand_at) (l : Local) (ls : List Local) (operands pending : List Value) → stack_of c.args.process.now ≡ stack_with l ls operands pending → (P : List Instruction → List Array → ℕ → List Value → ℕ → Type 0)
     → P c.as_slice-code.result.now c.as_slice-arrays.result.now c.place-index.result.1.first c.args.process.now.operands.items c.place-index.result.2
     → P (unit_code c.args.image.now l.unit) (unit_arrays c.args.image.now l.unit) (node_under (nodes_of c.args.frames.now.nodes) l.key).first operands l.index
 of-level c l ls operands pending is P h =
@@ -49,7 +50,7 @@ of-level c l ls operands pending is P h =
 abbrev left : After-stand_at → performed.Snapshot
 left c = snapshot c.perform-performed.new.arena.contents c.perform-performed.new.operands.items c.perform-performed.new.index
 
-stood : (c : After-stand_at) (l : Level) (ls : List Level) (operands pending : List Value) → stack_of c.args.process.now ≡ stack_with l ls operands pending
+stood : (c : After-stand_at) (l : Local) (ls : List Local) (operands pending : List Value) → stack_of c.args.process.now ≡ stack_with l ls operands pending
     → stack_of c.stand_at.new.self ≡ stack_with (record l { index = c.perform-performed.new.index }) ls c.perform-performed.new.operands.items pending
 stood c l ls operands pending is = c.stand_at.ensures.stack l ls c.perform-performed.new.operands.items pending (λ i. record { levels = (is i).levels; operands = c.perform-performed.new.operands.items; pending = (is i).pending })
 

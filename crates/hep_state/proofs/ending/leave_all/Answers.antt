@@ -1,20 +1,20 @@
 use Rattle.std.proofs.Common.{◌≡◌, List, [], ◌∷◌, ◌++◌, length, reverse, refl, sym, ap, ◌∙◌, subst, arith}
 use Rattle.std.proofs.lemmas.List.{reverse-append}
 use Rattle.hep_layout.specs.Words.{is_stacked}
-use Rattle.hep_frames.specs.Keeping.{all_but, frames_in, frames_left}
-use Rattle.hep_frames.specs.Nodes.{nodes_of}
-use Rattle.hep_frames.proofs.Several.{AreLeaving, leaving-begins, leaving-ends, leaving-goes_on, leaving-next}
-use Rattle.hep_frames.proofs.Slabs.{some-value}
-use Rattle.hep_frames.proofs.Stays.{ended-left}
-use Rattle.hep_state.specs.declared.machine.Level.{Level}
-use Rattle.hep_state.specs.Words.{keys_of}
+use Rattle.hep_proc.specs.Keeping.{all_but, frames_in, frames_left}
+use Rattle.hep_proc.specs.Nodes.{nodes_of}
+use Rattle.hep_proc.proofs.Several.{AreLeaving, leaving-begins, leaving-ends, leaving-goes_on, leaving-next}
+use Rattle.hep_proc.proofs.Slabs.{some-value}
+use Rattle.hep_proc.proofs.Stays.{ended-left}
+use Rattle.hep_proc.specs.declared.process.Local.{Local}
+use Rattle.hep_proc.specs.Stacks.{keys_of}
 use Rattle.hep_state.proofs.ending.leave_all.Goals as goal
 
 -- the key of the level that was taken off, and those of the levels that are left
-popped : (xs ys : List Level) (l : Level) → xs ≡ ys ++ l ∷ [] → keys_of (reverse xs) ≡ l.key ∷ keys_of (reverse ys)
-popped xs ys l e = ap (λ (zs : List Level). keys_of (reverse zs)) e ∙ ap keys_of (reverse-append ys (l ∷ []))
+popped : (xs ys : List Local) (l : Local) → xs ≡ ys ++ l ∷ [] → keys_of (reverse xs) ≡ l.key ∷ keys_of (reverse ys)
+popped xs ys l e = ap (λ (zs : List Local). keys_of (reverse zs)) e ∙ ap keys_of (reverse-append ys (l ∷ []))
 
-no-levels : (xs : List Level) → length xs ≡ 0 → xs ≡ []
+no-levels : (xs : List Local) → length xs ≡ 0 → xs ≡ []
 no-levels [] e = refl
 no-levels (l ∷ ls) e = absurd (omega (arith, e))
 
@@ -61,6 +61,6 @@ returns-clause-ended c program s t out layout ends h can =
     ended-left program s t (all_but ends (is_stacked s)) out layout c.args.frames.now.arena c.loop-level.frames.arena old nodes
     (λ k lead.
     leaving-ends f ends c.args.frames.now.arena old c.loop-level.frames.arena nodes (
-    subst (λ (xs : List Level). AreLeaving f ends c.args.frames.now.arena old c.loop-level.frames.arena nodes (keys_of (reverse xs))) none
+    subst (λ (xs : List Local). AreLeaving f ends c.args.frames.now.arena old c.loop-level.frames.arena nodes (keys_of (reverse xs))) none
     (c.loop-level.invariant.0 f ends k can lead)))
     h

@@ -4,7 +4,7 @@ use Rattle.hep_machine.specs.Words.{no_unit, dummies_of, main_unit, unit_at, com
 use Rattle.hep_arena.specs.Holes.{first_fit}
 use Rattle.hep_layout.specs.Words.{descriptor_slots, Nodes}
 use Rattle.hep_image.specs.Data.{first_frames}
-use Rattle.hep_frames.specs.Nodes.{nodes_of}
+use Rattle.hep_proc.specs.Nodes.{nodes_of}
 use Rattle.hep_state.specs.Words.{unset_opening}
 use Rattle.hep_state.proofs.Opened.{first-fit, first_node, node-there}
 use Rattle.hep_state.proofs.opening.enter_main.Goals as goal

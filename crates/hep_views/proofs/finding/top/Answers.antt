@@ -1,5 +1,6 @@
 use Rattle.std.proofs.Common.{◌-◌, ap, ◌∙◌, arith, get_or}
-use Rattle.hep_state.proofs.Processes.{last-is, process-at, some-levels-at}
+use Rattle.hep_proc.proofs.Levels.{last-is}
+use Rattle.hep_state.proofs.Processes.{process-at, some-levels-at}
 use Rattle.hep_views.proofs.finding.top.Goals as goal
 
 pub overflow_sub-len : goal.overflow_sub-len

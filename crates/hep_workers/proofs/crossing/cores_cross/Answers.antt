@@ -8,6 +8,7 @@ use Rattle.hep_machine.specs.contracts.event.Entry as entry
 use Rattle.hep_blocked.specs.contracts.ready.Ready as ready
 use Rattle.hep_core.specs.contracts.scheduler.Core.TheInside as inside
 use Rattle.hep_core.specs.contracts.stop.ChoiceStop as stop
+use Rattle.hep_quick.specs.contracts.table.Table as table
 use Rattle.hep_state.specs.contracts.machine.Machine as machine
 use Rattle.hep_core.specs.contracts.ticket.TicketId as ticket
 use Rattle.hep_image.specs.contracts.image.Image as image
@@ -30,27 +31,31 @@ count-send = search sendable depth 20
 
 pub returns : goal.returns
 returns c =
-    let machine-send : IsSend machine.the_row = record { owned = c.pass.ensures.send.owned; leaving = search (crosses, sendable) depth 30 fits 5000 } in
-    let waits-send : IsSend waits.the_row = record { owned = c.pass-2.ensures.send.owned; leaving = λ k d w. tt } in
-    let ready-send : IsSend ready.the_row = record { owned = c.pass-3.ensures.send.owned; leaving = λ k d w. tt } in
+    let table-send : IsSend table.the_row = record { owned = c.pass.ensures.send.owned; leaving = search (crosses, sendable) depth 30 fits 5000 } in
+    let machine-send : IsSend machine.the_row = record { owned = c.pass-2.ensures.send.owned; leaving = search (crosses, sendable) depth 30 fits 5000 } in
+    let waits-send : IsSend waits.the_row = record { owned = c.pass-3.ensures.send.owned; leaving = λ k d w. tt } in
+    let ready-send : IsSend ready.the_row = record { owned = c.pass-4.ensures.send.owned; leaving = λ k d w. tt } in
     record {
       send = view_send inside.the_row _ _ _ _ (declared_send inside.the_type (
         search (crosses, sendable, declared_send, as_row_send) depth 20,
         (
           as_row_send image.the_field c.images_cross.ensures.send,
           (
-            as_row_send u32-field number-send,
+            search (crosses, sendable, as_row_send, table-send) depth 20,
             (
-              as_row_send u64-field count-send,
+              as_row_send u32-field number-send,
               (
-                search (crosses, sendable, as_row_send, entry-send) depth 20,
+                as_row_send u64-field count-send,
                 (
-                  search (crosses, sendable, variants_send, as_row_send, stop-send) depth 20,
+                  search (crosses, sendable, as_row_send, entry-send) depth 20,
                   (
-                    machine-send,
+                    search (crosses, sendable, variants_send, as_row_send, stop-send) depth 20,
                     (
-                      as_row_send waits.the_field waits-send,
-                      (as_row_send ready.the_field ready-send, (search (crosses, sendable, as_row_send, ticket-send) depth 20, (as_row_send u64-field count-send, tt))),
+                      machine-send,
+                      (
+                        as_row_send waits.the_field waits-send,
+                        (as_row_send ready.the_field ready-send, (search (crosses, sendable, as_row_send, ticket-send) depth 20, (as_row_send u64-field count-send, tt))),
+                      ),
                     ),
                   ),
                 ),

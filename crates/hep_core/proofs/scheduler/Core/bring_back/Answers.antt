@@ -16,4 +16,5 @@ invariant_of-self c =
       single = k.single;
       named = k.named;
       living = λ q away. k.living q (out-still c.args.p q i.out.items (subst (λ ts. is_out q ts ≡ true) c.come_back.ensures away)).0;
+      tabled = k.tabled;
     }

@@ -3,6 +3,7 @@ use Rattle.std.proofs.lemmas.Bool.{cases_lt}
 use Rattle.hep_source.proofs.Tests.{none-from-not}
 use Rattle.hep_machine.specs.declared.event.Entry.{Entry}
 use Rattle.hep_machine.specs.Words.{living, schedule_of, State, state_after}
+use Rattle.hep_quick.specs.UnitTables.{AreTables}
 use Rattle.hep_state.specs.Words.{snapshot_of}
 use Rattle.hep_core.specs.Invariant.{CoreInvariant, core_value}
 use Rattle.hep_core.specs.Going.{begun, entries_along}
@@ -50,9 +51,12 @@ go_on-made-requires c =
     let going = subst (IsStop i.image i.cells i.limit i.history.items) (no-stop (goal.at.go_on-made-requires c).After-lives) k.named in
     let lives : c.lives.result ≡ true = search rules in
     record {
-      after = (i.cells, schedule_of i.history.items, k.after);
-      running = halted-is i.image i.cells i.history.items (snapshot_of i.machine) k.after.after ∙ going;
-      living = c.lives.ensures.levels lives;
+      turn = record {
+        after = (i.cells, schedule_of i.history.items, k.after);
+        running = halted-is i.image i.cells i.history.items (snapshot_of i.machine) k.after.after ∙ going;
+        living = c.lives.ensures.levels lives;
+      };
+      tables = subst (AreTables i.image) (sym c.deref.ensures.value) k.tabled;
     }
 
 -- ---- what is kept after

@@ -31,6 +31,7 @@ invariant_of-result c =
       single = subst (λ es. length (schedule_of es) ≤ length es) none (single-none);
       named = subst (λ es. (state_after program es).halted ≡ _) none (opening-goes program);
       living = λ q away. absurd (true≢false (sym away ∙ ap (is_out q) c.new-3.ensures.items));
+      tabled = c.in_ok-tables.ensures;
     }
 
 pub returns-clause-made : goal.returns-clause-made

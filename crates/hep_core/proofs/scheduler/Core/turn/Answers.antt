@@ -6,9 +6,10 @@ use Rattle.hep_blocked.specs.Waiting.{waiting_at}
 use Rattle.hep_blocked.specs.Listing.{AreListed, IsBlocked, IsReadyNoMore, is_noted}
 use Rattle.hep_purging.specs.Purged.{have_cell}
 use Rattle.hep_blocked.specs.Numbers.{Numbers}
+use Rattle.hep_proc.specs.Stacks.{stack_of}
 use Rattle.hep_state.specs.declared.turn.Turned.{Turned}
 use Rattle.hep_state.specs.declared.turn.Turned.TheVariants.{Stepped, Purged, Waits}
-use Rattle.hep_state.specs.Words.{HasTurned, IsMachineAfter, snapshot_of, stack_of, IsUnturned}
+use Rattle.hep_state.specs.Words.{HasTurned, IsMachineAfter, snapshot_of, IsUnturned}
 use Rattle.hep_state.proofs.Histories.{after-history, still-after, turned-at, unturned-at}
 use Rattle.hep_core.specs.Invariant.{CoreInvariant, core_value}
 use Rattle.hep_views.specs.Seen.{machine_view}

@@ -1,21 +1,23 @@
 use Rattle.std.proofs.Common.{◌≡◌, ℕ, ◌-◌, List, ◌∷◌, length, refl, sym, ap, ◌∙◌, subst, vec_capacity, length-set}
 use Rattle.std.proofs.lemmas.Result.{IfOk-weaker, on_err_weaker}
 use Rattle.hep_machine.specs.Words.{Value}
-use Rattle.hep_frames.specs.Nodes.{nodes_of}
+use Rattle.hep_proc.specs.Nodes.{nodes_of}
 use Rattle.hep_step.specs.declared.effect.Effect.{Effect}
 use Rattle.hep_step.specs.Changes.{changed_at}
 use Rattle.hep_step.specs.Effects.{effect_at}
 use Rattle.hep_step.specs.Performed as performed
 use Rattle.hep_step.specs.Performed.{changed_in}
 use Rattle.hep_step.specs.Simulation.{unit_arrays, unit_code}
-use Rattle.hep_frames.specs.declared.frames.Frames.{Frames}
+use Rattle.hep_proc.specs.declared.frames.Frames.{Frames}
 use Rattle.std.specs.Vec.{with_item}
-use Rattle.hep_state.specs.declared.machine.Level.{Level}
+use Rattle.hep_proc.specs.declared.process.Local.{Local}
 use Rattle.hep_state.specs.declared.machine.Machine.{Machine}
-use Rattle.hep_state.specs.declared.machine.Process.{Process}
-use Rattle.hep_state.specs.Words.{Changes, node_under, Snapshot, snapshot_of, stack_of, IsLeft, stack_with, turn_with, with_contents, with_stack, IsAfter}
+use Rattle.hep_proc.specs.declared.process.Process.{Process}
+use Rattle.hep_proc.specs.Stacks.{stack_of, stack_with}
+use Rattle.hep_proc.proofs.Levels.{last-there}
+use Rattle.hep_state.specs.Words.{Changes, node_under, Snapshot, snapshot_of, IsLeft, turn_with, with_contents, with_stack, IsAfter}
 use Rattle.hep_state.proofs.Moved.{top-node}
-use Rattle.hep_state.proofs.Processes.{process-at, room-moved, stacks-set, last-there}
+use Rattle.hep_state.proofs.Processes.{process-at, room-moved, stacks-set}
 use Rattle.hep_state.proofs.Tops.{turning}
 use Rattle.hep_state.proofs.Changes.{changes-only}
 use Rattle.hep_state.proofs.Taken.{ahead-simulated, inside, left-over, ready, unperformed, with_performed}
@@ -50,7 +52,7 @@ advance-requires c =
     }
 
 -- what the machine shows, where a process has another stack and cells of the arena have changed
-shown-now : (m : Machine) (p : ℕ) (r : Process) (frames : Frames) (l : Level) (ls : List Level) (left pending : List Value) (next : ℕ) → stack_of r ≡ stack_with (record l { index = next }) ls left pending
+shown-now : (m : Machine) (p : ℕ) (r : Process) (frames : Frames) (l : Local) (ls : List Local) (left pending : List Value) (next : ℕ) → stack_of r ≡ stack_with (record l { index = next }) ls left pending
     → frames.arena.holes ≡ m.frames.arena.holes → frames.nodes ≡ m.frames.nodes
     → snapshot_of (record m { frames = frames; processes = with_item m.processes (p - 1) r }) ≡ with_stack (with_contents (snapshot_of m) frames.arena.contents) p (record l { index = next } ∷ ls) left pending
 shown-now m p r frames l ls left pending next stack holes nodes =

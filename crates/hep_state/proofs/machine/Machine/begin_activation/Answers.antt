@@ -3,8 +3,8 @@ use Rattle.hep_machine.specs.Words.{Units, unit_at, Layout, common_cells, frame_
 use Rattle.hep_layout.specs.Words.{FrameNode, Nodes, is_stacked, new_node, with_node}
 use Rattle.hep_image.specs.Bound.{AreKept}
 use Rattle.slab.specs.Slab.{ContainsKey}
-use Rattle.hep_frames.specs.Nodes.{nodes_of}
-use Rattle.hep_frames.proofs.Slabs.{some-value}
+use Rattle.hep_proc.specs.Nodes.{nodes_of}
+use Rattle.hep_proc.proofs.Slabs.{some-value}
 use Rattle.hep_step.specs.Shapes.{AreShapesOf}
 use Rattle.hep_binding.specs.Calling.{ArePassed, CallOf, IsWritten, frames_with, layout_with, state_begun, unit_begun}
 use Rattle.hep_binding.proofs.Begun.{activation-is, long, unit-is}
@@ -13,7 +13,7 @@ use Rattle.hep_binding.specs.Shapes.{AreShaping, cells_of_shapes, cells_to_bound
 use Rattle.hep_binding.proofs.Nodes.{node-new}
 use Rattle.hep_step.specs.declared.way.Way.{Way}
 use Rattle.hep_step.specs.Calls.{is_creation}
-use Rattle.hep_state.specs.declared.machine.Level.{Level}
+use Rattle.hep_proc.specs.declared.process.Local.{Local}
 use Rattle.hep_state.specs.Words.{IsMaking, Makes, TurnOf, call_in, frames_before, node_under, snapshot_of, state_before, state_made, turn_of}
 use Rattle.hep_state.proofs.Moved.{kept-now, top-activation, top-node}
 use Rattle.hep_state.proofs.Begun.{IsBegunIn, begun-kept, passed-many, shapes-inside}
@@ -45,7 +45,7 @@ begin-key-requires c =
       few = c.requires.few;
       many = omega (arith, many, e.passing.as_many, r.6.unit.cells_are);
       gap = c.requires.gap;
-      there = subst (λ (l : Level). ContainsKey slab l.key) (sym same) (some-value slab t.level.key (node_under m.nodes t.level.key) (top-node e.turning));
+      there = subst (λ (l : Local). ContainsKey slab l.key) (sym same) (some-value slab t.level.key (node_under m.nodes t.level.key) (top-node e.turning));
       kept = kept-now e.turning;
       children = c.children_are_activations.ensures (frames_before t e.turning) m.arena m.nodes c.top-parent.result.key shows.keeps (omega (arith, c.requires.countable, shows.activations));
     }
@@ -77,7 +77,7 @@ module _ (c : After-begin-key) (way : Way) (program : Units) (cells : ℕ) (choi
   parent : c.top-parent.result.key ≡ t.level.key
   parent =
       let it = process-at c.args.self.now.processes.items c.args.p makes.making.levels.kept c.index.ensures in
-      ap (λ (l : Level). l.key) (c.top-parent.ensures t.level t.below t.operands t.pending it.stack)
+      ap (λ (l : Local). l.key) (c.top-parent.ensures t.level t.below t.operands t.pending it.stack)
 
   more : later.activations ≡ (state_begun call).activations
   more = made-begun (is_creation way) call

@@ -2,13 +2,15 @@ use Rattle.std.proofs.Common.{◌≡◌, ◌-◌, ◌≤◌, Bool, false, [], �
 use Rattle.std.specs.Vec.{with_item}
 use Rattle.hep_machine.specs.Words.{with_numbered}
 use Rattle.hep_code.specs.Words.{deepest}
-use Rattle.hep_frames.specs.Nodes.{nodes_of}
+use Rattle.hep_proc.specs.Nodes.{nodes_of}
 use Rattle.hep_step.specs.Simulation.{unit_code}
-use Rattle.hep_state.specs.declared.machine.Level.{Level}
+use Rattle.hep_proc.specs.declared.process.Local.{Local}
+use Rattle.hep_proc.specs.Stacks.{Stack, stack_of}
+use Rattle.hep_proc.proofs.Levels.{operands-are}
 use Rattle.hep_state.specs.declared.machine.Machine.{Machine}
-use Rattle.hep_state.specs.Words.{HasMadeTurn, Stack, entered_level, snapshot_made_by, snapshot_of, stack_of, turn_of}
+use Rattle.hep_state.specs.Words.{HasMadeTurn, entered_level, snapshot_made_by, snapshot_of, turn_of}
 use Rattle.hep_state.proofs.Begun.{made-shown}
-use Rattle.hep_state.proofs.Processes.{inside-at, operands-are, process-still, room-more, stacks-set, some-levels-at}
+use Rattle.hep_state.proofs.Processes.{inside-at, process-still, room-more, stacks-set, some-levels-at}
 use Rattle.hep_state.proofs.Unchanged.{rooms-begun, rooms-set}
 use Rattle.hep_state.proofs.machine.Machine.call.Goals as goal
 
@@ -45,7 +47,7 @@ returns c =
     let begun = c.begin_activation-level.ensures in
     let level = c.begin_activation-level.result in
     let q = c.index_mut.result.now in
-    let r = c.put_above.new.process in
+    let r = c.put_above.new.self in
     let arena = new.frames.arena in
     let nodes = nodes_of new.frames.nodes in
     let same = ap (λ (n : Machine). n.processes.items) begun.others in
@@ -54,7 +56,7 @@ returns c =
           let t = turn_of makes.making in
           let e = makes.making.holds in
           let it = process-still old.processes.items new.processes.items p same makes.making.levels.kept c.index_mut.ensures.value in
-          let later : Level = record t.level { kept = c.args.kept; index = c.args.index } in
+          let later : Local = record t.level { kept = c.args.kept; index = c.args.index } in
           let pending = t.pending ++ take c.args.kept t.operands in
           let k : Stack = record { levels = entered_level program u level.key ∷ (later ∷ t.below); operands = []; pending = pending } in
           let entered : level ≡ entered_level program u level.key = begun.level ∙ (λ i. record { key = level.key; unit = u; kept = 0; index = makes.unit.entry_is i }) in
@@ -69,7 +71,7 @@ returns c =
           let it = process-still old.processes.items new.processes.items p same e.kept c.index_mut.ensures.value in
           let had = rooms-begun program cells old new begun.others h in
           let capacity = c.put_above.ensures.operands in
-          let unit = ap (λ (l : Level). deepest (unit_code program l.unit)) begun.level in
+          let unit = ap (λ (l : Local). deepest (unit_code program l.unit)) begun.level in
           let enough : deepest (unit_code program level.unit) ≤ vec_capacity r.operands = omega (arith, unit, capacity, deep q (ap (λ qs. slice_get qs (p - 1)) (sym same) ∙ it.there)) in
           rooms-set program cells new _ (p - 1) r refl refl (
           room-more program q r e.level (record e.level { kept = c.args.kept; index = c.args.index }) level e.below e.operands [] e.pending (e.pending ++ take c.args.kept e.operands) refl it.stack (c.put_above.ensures.stack e.level e.below e.operands e.pending it.stack) (omega (arith, capacity)) enough (had.room (p - 1) q it.there)) had;

@@ -2,13 +2,14 @@ use Rattle.std.proofs.Common.{true, ◌≡◌, ◌+◌, ◌-◌, ◌≤◌, List
 use Rattle.std.proofs.lemmas.List.{length-append, length-set, map-append}
 use Rattle.hep_machine.specs.Words.{with_numbered}
 use Rattle.hep_code.specs.Words.{deepest}
-use Rattle.hep_frames.specs.Nodes.{nodes_of}
+use Rattle.hep_proc.specs.Nodes.{nodes_of}
 use Rattle.hep_step.specs.Simulation.{unit_code}
 use Rattle.hep_step.specs.declared.way.Way.TheVariants.{Creates}
-use Rattle.hep_state.specs.declared.machine.Level.{Level}
+use Rattle.hep_proc.specs.declared.process.Local.{Local}
 use Rattle.hep_state.specs.declared.machine.Machine.{Machine}
-use Rattle.hep_state.specs.declared.machine.Process.{Process}
-use Rattle.hep_state.specs.Words.{HasMadeTurn, HasRoom, Stack, entered_level, snapshot_made_by, snapshot_of, stack_of, turn_of}
+use Rattle.hep_proc.specs.declared.process.Process.{Process}
+use Rattle.hep_proc.specs.Stacks.{Stack, stack_of}
+use Rattle.hep_state.specs.Words.{HasMadeTurn, HasRoom, entered_level, snapshot_made_by, snapshot_of, turn_of}
 use Rattle.hep_state.proofs.Begun.{made-shown}
 use Rattle.hep_state.proofs.Processes.{inside-at, all-more, all-set, process-still, room-alone, room-moved, stacks-set, some-levels-at}
 use Rattle.hep_state.proofs.Unchanged.{rooms-begun}
@@ -39,12 +40,12 @@ returns c =
     let begun = c.begin_activation-level.ensures in
     let level = c.begin_activation-level.result in
     let q = c.index_mut.result.now in
-    let r = c.go_on.new.process in
+    let r = c.go_on.new.self in
     let made : Process = record c.args.process { levels = c.append.new.items } in
     let arena = new.frames.arena in
     let nodes = nodes_of new.frames.nodes in
     let same = ap (λ (n : Machine). n.processes.items) begun.others in
-    let alone : made.levels.items ≡ level ∷ [] = c.append.ensures ∙ ap (λ (ls : List Level). ls ++ level ∷ []) c.requires.empty.0 in
+    let alone : made.levels.items ≡ level ∷ [] = c.append.ensures ∙ ap (λ (ls : List Local). ls ++ level ∷ []) c.requires.empty.0 in
     record {
       stepped = λ program cells choices kept makes.
           let t = turn_of makes.making in
@@ -63,7 +64,7 @@ returns c =
           let it = process-still old.processes.items new.processes.items p same e.kept c.index_mut.ensures.value in
           let had = rooms-begun program cells old new begun.others h in
           let others = all-set (HasRoom program) new.processes.items (p - 1) r had.room (room-moved program q r e.level c.args.index e.below e.operands [] e.pending it.stack (c.go_on.ensures.stack e.level e.below e.operands e.pending it.stack) (omega (arith, c.go_on.ensures.operands)) (had.room (p - 1) q it.there)) in
-          let unit = ap (λ (l : Level). deepest (unit_code program l.unit)) begun.level in
+          let unit = ap (λ (l : Local). deepest (unit_code program l.unit)) begun.level in
           let enough : deepest (unit_code program level.unit) ≤ vec_capacity made.operands = omega (arith, unit, deep) in
           record {
             few = had.few;

@@ -1,6 +1,7 @@
 use Rattle.std.proofs.Common.{[], ◌-◌, refl, ap, ◌∙◌, arith}
 use Rattle.hep_purging.specs.Purged.{purged}
-use Rattle.hep_state.specs.Words.{snapshot_of, stack_with}
+use Rattle.hep_proc.specs.Stacks.{stack_with}
+use Rattle.hep_state.specs.Words.{snapshot_of}
 use Rattle.hep_state.proofs.Processes.{process-at, room-moved, stacks-set, some-levels-at}
 use Rattle.hep_state.proofs.Unchanged.{rooms-set}
 use Rattle.hep_state.proofs.machine.Machine.empty_targets.Goals as goal
@@ -11,7 +12,7 @@ go_on-requires c = some-levels-at (process-at c.args.self.now.processes.items c.
 pub returns-clause-moved : goal.returns-clause-moved
 returns-clause-moved c levels =
     let it = process-at c.args.self.now.processes.items c.args.p levels.kept c.index_mut.ensures.value in
-    let stacks = stacks-set c.args.self.now.processes.items c.args.p c.go_on.new.process (stack_with (record levels.level { index = c.args.index }) levels.below [] levels.pending) (c.go_on.ensures.stack levels.level levels.below levels.operands levels.pending it.stack) in
+    let stacks = stacks-set c.args.self.now.processes.items c.args.p c.go_on.new.self (stack_with (record levels.level { index = c.args.index }) levels.below [] levels.pending) (c.go_on.ensures.stack levels.level levels.below levels.operands levels.pending it.stack) in
     let contents = c.purge.ensures.contents ∙ ap (λ rs. purged rs c.args.self.now.frames.arena.contents) c.deref.ensures.value in
     λ i. record (snapshot_of c.args.self.now) { arena = record { contents = contents i; holes = c.purge.ensures.holes i }; processes = stacks i }
 
@@ -20,5 +21,5 @@ returns-clause-rooms c program cells h =
     let e = c.requires.living in
     let q = c.index_mut.result.now in
     let it = process-at c.args.self.now.processes.items c.args.p e.kept c.index_mut.ensures.value in
-    rooms-set program cells c.args.self.now _ (c.args.p - 1) c.go_on.new.process refl refl (
-    room-moved program q c.go_on.new.process e.level c.args.index e.below e.operands [] e.pending it.stack (c.go_on.ensures.stack e.level e.below e.operands e.pending it.stack) (omega (arith, c.go_on.ensures.operands)) (h.room (c.args.p - 1) q it.there)) h
+    rooms-set program cells c.args.self.now _ (c.args.p - 1) c.go_on.new.self refl refl (
+    room-moved program q c.go_on.new.self e.level c.args.index e.below e.operands [] e.pending it.stack (c.go_on.ensures.stack e.level e.below e.operands e.pending it.stack) (omega (arith, c.go_on.ensures.operands)) (h.room (c.args.p - 1) q it.there)) h

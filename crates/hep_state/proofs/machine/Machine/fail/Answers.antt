@@ -1,11 +1,12 @@
 use Rattle.std.proofs.Common.{◌≡◌, ◌-◌, ◌∷◌, ◌++◌, List, [], reverse, refl, sym, ap, ◌∙◌, subst}
 use Rattle.hep_machine.specs.Words.{activations_on, is_held}
-use Rattle.hep_frames.specs.Keeping.{CanAllLeave, CanLeave}
+use Rattle.hep_proc.specs.Keeping.{CanAllLeave, CanLeave}
 use Rattle.hep_layout.specs.Words.{is_stacked}
-use Rattle.hep_frames.specs.Nodes.{nodes_of}
-use Rattle.hep_state.specs.declared.machine.Level.{Level}
-use Rattle.hep_state.specs.declared.machine.Process.{Process}
-use Rattle.hep_state.specs.Words.{HasMadeTurn, Stack, fault_at, snapshot_of, keys_of, snapshot_failed, state_before, state_failed, turn_of}
+use Rattle.hep_proc.specs.Nodes.{nodes_of}
+use Rattle.hep_proc.specs.declared.process.Local.{Local}
+use Rattle.hep_proc.specs.declared.process.Process.{Process}
+use Rattle.hep_proc.specs.Stacks.{keys_of, Stack}
+use Rattle.hep_state.specs.Words.{HasMadeTurn, fault_at, snapshot_of, snapshot_failed, state_before, state_failed, turn_of}
 use Rattle.hep_state.proofs.Moved.{can-all-leave, can-leave, failed-ended, failed-shown, lead-upwards}
 use Rattle.hep_state.proofs.Processes.{process-at, room-none, stacks-set, some-levels-at}
 use Rattle.hep_state.proofs.Unchanged.{rooms-set}
@@ -19,7 +20,7 @@ leave_all-requires c =
     let e = c.requires.ending.3 in
     let m = snapshot_of c.args.self.now in
     let it = process-at c.args.self.now.processes.items c.args.p e.levels.kept c.index_mut-process.ensures.value in
-    subst (λ (ls : List Level). CanAllLeave m.arena m.nodes (keys_of ls)) (ap (λ (k : Stack). k.levels) (sym it.stack)) (can-all-leave e.holds.turning)
+    subst (λ (ls : List Local). CanAllLeave m.arena m.nodes (keys_of ls)) (ap (λ (k : Stack). k.levels) (sym it.stack)) (can-all-leave e.holds.turning)
 
 pub returns-clause-stepped : goal.returns-clause-stepped
 returns-clause-stepped c program cells choices e =
@@ -35,7 +36,7 @@ returns-clause-stepped c program cells choices e =
     let it = process-at c.args.self.now.processes.items p e.levels.kept c.index_mut-process.ensures.value in
     let same = c.top-unit.ensures t.level t.below t.operands t.pending it.stack in
     let ends = activations_on (t.top.0 ∷ t.top.1) in
-    let can = subst (λ (ls : List Level). CanLeave m.nodes (is_stacked old) (keys_of ls) ends) (ap (λ (k : Stack). k.levels) (sym it.stack)) (can-leave turning) in
+    let can = subst (λ (ls : List Local). CanLeave m.nodes (is_stacked old) (keys_of ls) ends) (ap (λ (k : Stack). k.levels) (sym it.stack)) (can-leave turning) in
     let left = c.leave_all.ensures.ended program old later (is_held old) turning.after.layout ends turning.after.shows.keeps can
     (failed-ended turning kind) (lead-upwards program choices later refl) in
     let shown = failed-shown turning arena nodes c.args.line kind left c.leave_all.ensures.cells e.holds.simulated in

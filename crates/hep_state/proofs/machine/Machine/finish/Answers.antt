@@ -1,9 +1,9 @@
 use Rattle.std.proofs.Common.{[], ◌-◌, refl, sym, ap, ◌∙◌, subst, arith}
 use Rattle.slab.specs.Slab.{ContainsKey}
 use Rattle.hep_machine.specs.Words.{is_held}
-use Rattle.hep_frames.specs.Nodes.{nodes_of}
-use Rattle.hep_frames.proofs.Slabs.{some-value}
-use Rattle.hep_state.specs.declared.machine.Level.{Level}
+use Rattle.hep_proc.specs.Nodes.{nodes_of}
+use Rattle.hep_proc.proofs.Slabs.{some-value}
+use Rattle.hep_proc.specs.declared.process.Local.{Local}
 use Rattle.hep_state.specs.Words.{HasMadeTurn, node_under, snapshot_of, snapshot_returned, state_before, state_returned, turn_of}
 use Rattle.hep_state.proofs.Moved.{kept-now, lead-upwards, returned-ended, returned-shown, top-node}
 use Rattle.hep_state.proofs.Processes.{process-at, room-fewer, stacks-set, some-levels-at}
@@ -20,7 +20,7 @@ leave-requires c =
     let t = turn_of e in
     let it = process-at c.args.self.now.processes.items c.args.p e.levels.kept c.index_mut.ensures.value in
     record {
-      there = subst (λ (l : Level). ContainsKey slab l.key) (sym (c.end_top-ended.ensures.level t.level t.below t.operands t.pending it.stack)) (some-value slab t.level.key _ (top-node e.holds.turning));
+      there = subst (λ (l : Local). ContainsKey slab l.key) (sym (c.end_top-ended.ensures.level t.level t.below t.operands t.pending it.stack)) (some-value slab t.level.key _ (top-node e.holds.turning));
       kept = kept-now e.holds.turning;
     }
 
@@ -34,7 +34,7 @@ returns-clause-stepped c program cells choices e =
     let turning = e.holds.turning in
     let it = process-at c.args.self.now.processes.items p e.levels.kept c.index_mut.ensures.value in
     let same = c.end_top-ended.ensures.level t.level t.below t.operands t.pending it.stack in
-    let there = ap (λ (l : Level). m.nodes l.key) same ∙ top-node turning in
+    let there = ap (λ (l : Local). m.nodes l.key) same ∙ top-node turning in
     let left = c.leave.ensures.ended program (state_before t) (state_returned t) (is_held (state_before t)) turning.after.layout (node_under m.nodes t.level.key) turning.after.shows.keeps there
     (returned-ended turning) (lead-upwards program choices (state_returned t) refl) in
     let shown = returned-shown turning arena nodes left c.leave.ensures.cells e.holds.simulated in

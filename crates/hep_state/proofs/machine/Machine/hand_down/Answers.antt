@@ -1,12 +1,14 @@
 use Rattle.std.proofs.Common.{◌≡◌, ◌-◌, [], ◌∷◌, refl, sym, ap, ◌∙◌, subst, arith}
 use Rattle.slab.specs.Slab.{ContainsKey}
 use Rattle.hep_machine.specs.Words.{is_held}
-use Rattle.hep_frames.specs.Nodes.{nodes_of}
-use Rattle.hep_frames.proofs.Slabs.{some-value}
-use Rattle.hep_state.specs.declared.machine.Level.{Level}
-use Rattle.hep_state.specs.Words.{HasMadeTurn, HasRoom, Stack, node_under, operands_answered, pending_answered, snapshot_answered, snapshot_of, stack_of, state_answered, state_before, turn_of}
+use Rattle.hep_proc.specs.Nodes.{nodes_of}
+use Rattle.hep_proc.proofs.Slabs.{some-value}
+use Rattle.hep_proc.specs.declared.process.Local.{Local}
+use Rattle.hep_proc.specs.Stacks.{operands_answered, pending_answered, Stack, stack_of}
+use Rattle.hep_proc.proofs.Levels.{last-there}
+use Rattle.hep_state.specs.Words.{HasMadeTurn, HasRoom, node_under, snapshot_answered, snapshot_of, state_answered, state_before, turn_of}
 use Rattle.hep_state.proofs.Moved.{answer-room, answered-ended, answered-shown, kept-now, lead-upwards, top-node}
-use Rattle.hep_state.proofs.Processes.{last-there, process-at, room-fewer, room-reserved, stacks-set, some-levels-at}
+use Rattle.hep_state.proofs.Processes.{process-at, room-fewer, room-reserved, stacks-set, some-levels-at}
 use Rattle.hep_state.proofs.Unchanged.{rooms-set}
 use Rattle.hep_state.proofs.machine.Machine.hand_down.Goals.{After-end_top-ended}
 use Rattle.hep_state.proofs.machine.Machine.hand_down.Goals as goal
@@ -44,7 +46,7 @@ leave-requires c =
     let t = turn_of e in
     let it = process-at c.args.self.now.processes.items c.args.p e.levels.kept c.index_mut-process.ensures.value in
     record {
-      there = subst (λ (l : Level). ContainsKey slab l.key) (sym (c.end_top-ended.ensures.level t.level t.below t.operands t.pending it.stack)) (some-value slab t.level.key _ (top-node e.holds.turning));
+      there = subst (λ (l : Local). ContainsKey slab l.key) (sym (c.end_top-ended.ensures.level t.level t.below t.operands t.pending it.stack)) (some-value slab t.level.key _ (top-node e.holds.turning));
       kept = kept-now e.holds.turning;
     }
 
@@ -59,7 +61,7 @@ returns-clause-stepped c program cells choices e =
     let turning = e.holds.turning in
     let it = process-at c.args.self.now.processes.items p e.levels.kept c.index_mut-process.ensures.value in
     let same = c.end_top-ended.ensures.level t.level t.below t.operands t.pending it.stack in
-    let there = ap (λ (l : Level). m.nodes l.key) same ∙ top-node turning in
+    let there = ap (λ (l : Local). m.nodes l.key) same ∙ top-node turning in
     let left = c.leave.ensures.ended program (state_before t) (state_answered t v) (is_held (state_before t)) turning.after.layout (node_under m.nodes t.level.key) turning.after.shows.keeps there
     (answered-ended turning v) (lead-upwards program choices (state_answered t v) refl) in
     let shown = answered-shown turning v arena nodes left c.leave.ensures.cells e.holds.simulated in

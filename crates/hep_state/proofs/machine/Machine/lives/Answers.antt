@@ -2,9 +2,10 @@ use Rattle.std.proofs.Common.{◌≡◌, ℕ, ◌-◌, ◌<◌, ◌≤◌, List,
 use Rattle.std.proofs.lemmas.Bool.Decides.{nat_tests}
 use Rattle.std.proofs.lemmas.Option.{slice_get-get_or}
 use Rattle.hep_machine.specs.Words.{numbered}
-use Rattle.hep_state.specs.declared.machine.Process.{Process}
-use Rattle.hep_state.specs.Words.{stack_of}
-use Rattle.hep_state.proofs.Processes.{levels-by, numbered-at, numbered-past, some-levels-of}
+use Rattle.hep_proc.specs.declared.process.Process.{Process}
+use Rattle.hep_proc.specs.Stacks.{stack_of}
+use Rattle.hep_proc.proofs.Levels.{levels-by}
+use Rattle.hep_state.proofs.Processes.{numbered-at, numbered-past, some-levels-of}
 use Rattle.hep_state.proofs.Tops.{lives-by, none-lives}
 use Rattle.hep_state.proofs.machine.Machine.lives.Goals.{After-is_empty}
 use Rattle.hep_state.proofs.machine.Machine.lives.Goals as goal

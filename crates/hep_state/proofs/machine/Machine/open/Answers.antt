@@ -4,15 +4,16 @@ use Rattle.hep_machine.specs.Words.{no_unit, main_unit, Units}
 use Rattle.hep_code.specs.Words.{deepest}
 use Rattle.hep_arena.specs.Space.{Space}
 use Rattle.hep_layout.specs.Words.{Nodes}
-use Rattle.hep_frames.specs.Nodes.{nodes_of}
+use Rattle.hep_proc.specs.Nodes.{nodes_of}
 use Rattle.hep_step.specs.Simulation.{unit_code}
-use Rattle.hep_state.specs.Words.{IsEntered, snapshot_opened, IsAfter, HasRoom, HasRoomToPass, IsMachineAfter, snapshot_of, stack_of}
+use Rattle.hep_state.specs.Words.{IsEntered, snapshot_opened, IsAfter, HasRoom, HasRoomToPass, IsMachineAfter, snapshot_of}
 use Rattle.hep_state.proofs.Opened.{entered-out}
 use Rattle.hep_state.proofs.machine.Machine.open.Goals as goal
 use Rattle.hep_image.specs.Image.{most_cells}
-use Rattle.hep_state.specs.declared.machine.Level.{Level}
+use Rattle.hep_proc.specs.declared.process.Local.{Local}
 use Rattle.hep_state.specs.declared.machine.Machine.{Machine}
-use Rattle.hep_state.specs.declared.machine.Process.{Process}
+use Rattle.hep_proc.specs.declared.process.Process.{Process}
+use Rattle.hep_proc.specs.Stacks.{stack_of}
 use Rattle.hep_state.proofs.Processes.{room-alone, the-only}
 
 -- ---- a machine with one process at the main program, and room for its operands
@@ -29,7 +30,7 @@ record IsBegun (main key entry : ℕ) (m : Machine) (q : Process) : Type 0 where
   pub running : m.halted ≡ false
 
 module _ (program : Units) (cells key entry : ℕ) (m : Machine) (q : Process) (main : ℕ) (found : main_unit program ≡ main) (begun : IsBegun main key entry m q) where
-  abbrev level : Level
+  abbrev level : Local
   level = record { key = key; unit = main; kept = 0; index = entry }
 
   stacks : map stack_of m.processes.items ≡ record { levels = record { key = key; unit = main_unit program; kept = 0; index = entry } ∷ []; operands = []; pending = [] } ∷ []

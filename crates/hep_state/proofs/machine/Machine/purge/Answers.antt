@@ -3,8 +3,9 @@ use Rattle.hep_machine.specs.Words.{numbered}
 use Rattle.hep_purging.specs.Purged.{purged}
 use Rattle.hep_purging.specs.Ready.{AreReached}
 use Rattle.hep_step.specs.Effects.{fails}
+use Rattle.hep_proc.specs.Stacks.{stack_with}
 use Rattle.hep_state.specs.declared.machine.Passing.{Passing}
-use Rattle.hep_state.specs.Words.{HasLevels, HasMadeTurn, HasPurged, HasRoomToPass, Snapshot, snapshot_of, IsToEnd, stack_with, snapshot_moved, turn_of}
+use Rattle.hep_state.specs.Words.{HasLevels, HasMadeTurn, HasPurged, HasRoomToPass, Snapshot, snapshot_of, IsToEnd, snapshot_moved, turn_of}
 use Rattle.hep_state.proofs.Purging.{reached-alike}
 use Rattle.hep_state.proofs.Unchanged.{machine-of, rooms-of}
 use Rattle.hep_state.proofs.machine.Machine.purge.Goals as goal

@@ -1,5 +1,5 @@
 use Rattle.std.proofs.Common.{◌+◌, ◌-◌, ◌<◌, ◌≤◌, OnOk, Result, Ok, Err, length-set, refl, subst, vec_len, vec_capacity}
-use Rattle.hep_state.specs.declared.machine.Process.{Process}
+use Rattle.hep_proc.specs.declared.process.Process.{Process}
 use Rattle.hep_state.specs.Words.{snapshot_of}
 use Rattle.hep_state.proofs.Processes.{process-at, room-reserved, set-there, stacks-same}
 use Rattle.hep_state.proofs.Unchanged.{rooms-set}

@@ -8,12 +8,14 @@ use Rattle.hep_code.specs.declared.instruction.Operation.{Operation}
 use Rattle.hep_code.specs.declared.instruction.Operation.TheVariants.{Call, Create, Refer, Purge, Resume}
 use Rattle.hep_code.specs.Words.{IsPastPushes, values_ahead, deepest}
 use Rattle.hep_step.specs.Simulation.{IsNotLeftOut, is_left_out, unit_code}
-use Rattle.hep_state.specs.declared.machine.Level.{Level}
+use Rattle.hep_proc.specs.declared.process.Local.{Local}
+use Rattle.hep_proc.specs.Stacks.{stack_with}
+use Rattle.hep_proc.proofs.Levels.{last-there, some-levels}
 use Rattle.hep_state.specs.declared.upcoming.StepAhead.{StepAhead}
 use Rattle.hep_state.specs.declared.upcoming.StepAhead.TheVariants as ahead
 use Rattle.hep_state.specs.declared.machine.Machine.{Machine}
-use Rattle.hep_state.specs.Words.{HasLevels, HasNone, IsAhead, IsInFront, IsMachineAfter, Snapshot, snapshot_of, stack_with, IsTurning, turn_with, with_stack, IsAfter}
-use Rattle.hep_state.proofs.Processes.{process-at, room-moved, stacks-set, last-there, some-levels, some-levels-at}
+use Rattle.hep_state.specs.Words.{HasLevels, HasNone, IsAhead, IsInFront, IsMachineAfter, Snapshot, snapshot_of, IsTurning, turn_with, with_stack, IsAfter}
+use Rattle.hep_state.proofs.Processes.{process-at, room-moved, stacks-set, some-levels-at}
 use Rattle.hep_state.proofs.Tops.{settled, turning}
 use Rattle.hep_state.proofs.Taken.{inside, room-ahead}
 use Rattle.hep_state.proofs.Unchanged.{carry, machine-of, rooms-of, rooms-set}
@@ -39,10 +41,10 @@ unit-requires c =
     let e = c.requires.living in
     let it = process-at c.args.self.now.processes.items c.args.p e.kept c.index_mut-process.ensures.value in
     let turn = turning c.args.p c.requires.after.2.after e c.requires.running in
-    subst (λ (l : Level). l.unit < length c.args.image.now) (sym (c.top-unit.ensures e.level e.below e.operands e.pending it.stack)) (inside turn.1)
+    subst (λ (l : Local). l.unit < length c.args.image.now) (sym (c.top-unit.ensures e.level e.below e.operands e.pending it.stack)) (inside turn.1)
 
-pub settle-requires : goal.settle-requires
-settle-requires c =
+pub settle_top-requires : goal.settle_top-requires
+settle_top-requires c =
     let program = c.args.image.now in
     let e = c.requires.living in
     let l = e.level in
@@ -50,7 +52,7 @@ settle-requires c =
     let q = c.index_mut-process.result.now in
     let it = process-at c.args.self.now.processes.items c.args.p e.kept c.index_mut-process.ensures.value in
     let turn = turning c.args.p h.2.after e c.requires.running in
-    let code : c.as_slice-code.result.now ≡ unit_code program l.unit = c.as_slice-code.ensures ∙ (c.unit.ensures.code ∙ ap (λ (k : Level). unit_code program k.unit) (c.top-unit.ensures l e.below e.operands e.pending it.stack)) in
+    let code : c.as_slice-code.result.now ≡ unit_code program l.unit = c.as_slice-code.ensures ∙ (c.unit.ensures.code ∙ ap (λ (k : Local). unit_code program k.unit) (c.top-unit.ensures l e.below e.operands e.pending it.stack)) in
     let ahead = ap (λ is. values_ahead (drop l.index is)) code in
     let room : deepest (unit_code program l.unit) ≤ vec_capacity q.operands = h.2.room (c.args.p - 1) q it.there _ l (last-there q l e.below e.operands e.pending it.stack) in
     (l, e.below, e.operands, e.pending, it.stack, omega (arith, ahead, room, room-ahead turn.1))
@@ -60,9 +62,9 @@ top-requires c =
     let program = c.args.image.now in
     let e = c.requires.living in
     let it = process-at c.args.self.now.processes.items c.args.p e.kept c.index_mut-process.ensures.value in
-    let code : c.as_slice-code.result.now ≡ unit_code program e.level.unit = c.as_slice-code.ensures ∙ (c.unit.ensures.code ∙ ap (λ (k : Level). unit_code program k.unit) (c.top-unit.ensures e.level e.below e.operands e.pending it.stack)) in
-    let s = c.settle.ensures.settled program e.level e.below e.operands e.pending code it.stack in
-    some-levels c.settle.new.self (record e.level { index = s.0 }) e.below s.1 e.pending s.2
+    let code : c.as_slice-code.result.now ≡ unit_code program e.level.unit = c.as_slice-code.ensures ∙ (c.unit.ensures.code ∙ ap (λ (k : Local). unit_code program k.unit) (c.top-unit.ensures e.level e.below e.operands e.pending it.stack)) in
+    let s = c.settle_top.ensures.settled program e.level e.below e.operands e.pending code it.stack in
+    some-levels c.settle_top.new.process (record e.level { index = s.0 }) e.below s.1 e.pending s.2
 
 -- what stands in front of the instructions that are ahead, once the values in front of it are operands
 found-ahead : (program : Units) (old : Machine) {m : Snapshot} {p : ℕ} (levels : HasLevels m p)
@@ -88,15 +90,15 @@ returns c =
     let m = snapshot_of old in
     let p = c.args.p in
     let q = c.index_mut-process.result.now in
-    let r = c.settle.new.self in
+    let r = c.settle_top.new.process in
     let e = c.requires.living in
     let l = e.level in
     let ls = e.below in
     let vs = e.operands in
     let ws = e.pending in
     let it = process-at old.processes.items p e.kept c.index_mut-process.ensures.value in
-    let code : c.as_slice-code.result.now ≡ unit_code program l.unit = c.as_slice-code.ensures ∙ (c.unit.ensures.code ∙ ap (λ (k : Level). unit_code program k.unit) (c.top-unit.ensures l ls vs ws it.stack)) in
-    let s = c.settle.ensures.settled program l ls vs ws code it.stack in
+    let code : c.as_slice-code.result.now ≡ unit_code program l.unit = c.as_slice-code.ensures ∙ (c.unit.ensures.code ∙ ap (λ (k : Local). unit_code program k.unit) (c.top-unit.ensures l ls vs ws it.stack)) in
+    let s = c.settle_top.ensures.settled program l ls vs ws code it.stack in
     let later = record l { index = s.0 } in
     let k = stack_with later ls s.1 ws in
     let top : c.top.result ≡ later = c.top.ensures later ls s.1 ws s.2 in
@@ -115,7 +117,7 @@ returns c =
       after = λ cells choices h.
           let turn = turning p h.after e c.requires.running in
           machine-of program cells choices _ (subst (IsAfter program cells choices) (sym shown) (settled turn.1 s.1 s.0 s.3.stands).after) (
-          rooms-set program cells old _ (p - 1) r refl refl (room-moved program q r l s.0 ls vs s.1 ws it.stack s.2 c.settle.ensures.capacity (h.room (p - 1) q it.there)) (rooms-of program cells choices old h));
+          rooms-set program cells old _ (p - 1) r refl refl (room-moved program q r l s.0 ls vs s.1 ws it.stack s.2 c.settle_top.ensures.capacity (h.room (p - 1) q it.there)) (rooms-of program cells choices old h));
       same = record { arena = refl; nodes = refl; processes = ap length stacks ∙ length-set m.processes (p - 1) k; activations = refl; records = refl; faults = refl; halted = refl };
       living = subst (λ (n : Snapshot). HasLevels n p) (sym shown) levels;
     }

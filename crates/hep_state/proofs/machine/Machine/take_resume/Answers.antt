@@ -4,25 +4,27 @@ use Rattle.std.proofs.lemmas.List.{reverse-append}
 use Rattle.hep_machine.specs.Words.{Value, numbered, schedule_of, with_numbered}
 use Rattle.hep_code.specs.Words.{deepest}
 use Rattle.hep_step.specs.Simulation.{unit_code}
-use Rattle.hep_state.specs.declared.machine.Level.{Level}
-use Rattle.hep_state.specs.declared.machine.Process.{Process}
-use Rattle.hep_state.specs.Words.{cells_of, HasLevels, HasStepped, Snapshot, snapshot_moved, snapshot_of, snapshot_parted, stack_of, stack_with, turn_of}
-use Rattle.hep_state.proofs.Processes.{inside-at, last-index, process-at, room-moved, some-levels, some-levels-at, stacks-set}
+use Rattle.hep_proc.specs.declared.process.Local.{Local}
+use Rattle.hep_proc.specs.declared.process.Process.{Process}
+use Rattle.hep_proc.specs.Stacks.{stack_of, stack_with}
+use Rattle.hep_proc.proofs.Levels.{last-index, some-levels}
+use Rattle.hep_state.specs.Words.{cells_of, HasLevels, HasStepped, Snapshot, snapshot_moved, snapshot_of, snapshot_parted, turn_of}
+use Rattle.hep_state.proofs.Processes.{inside-at, process-at, room-moved, some-levels-at, stacks-set}
 use Rattle.hep_state.proofs.Taken.{inside}
 use Rattle.hep_state.proofs.Unchanged.{alone, on-err, rooms-of, rooms-set, turned-so}
 use Rattle.hep_state.proofs.machine.Machine.take_resume.Goals.{After-reserve_process}
 use Rattle.hep_state.proofs.machine.Machine.take_resume.Goals as goal
 
 -- how many levels a process has
-counted : (q : Process) (l : Level) (ls : List Level) (operands pending : List Value) → stack_of q ≡ stack_with l ls operands pending → (n : ℕ) → n ≡ vec_len q.levels → n ≡ length (reverse ls) + 1
+counted : (q : Process) (l : Local) (ls : List Local) (operands pending : List Value) → stack_of q ≡ stack_with l ls operands pending → (n : ℕ) → n ≡ vec_len q.levels → n ≡ length (reverse ls) + 1
 counted q l ls operands pending is n e = omega (arith, e, last-index q l ls operands pending is, some-levels q l ls operands pending is)
 
 -- levels that are none, and others
-none-by : (ls : List Level) (n : ℕ) → n ≡ length (reverse ls) + 1 → n ≡ 1 → ls ≡ []
+none-by : (ls : List Local) (n : ℕ) → n ≡ length (reverse ls) + 1 → n ≡ 1 → ls ≡ []
 none-by [] n e one = refl
-none-by (l ∷ ls) n e one = absurd (omega (arith, e, one, ap length (reverse-append {A = Level} (l ∷ []) ls), length-append (reverse ls) (l ∷ [])))
+none-by (l ∷ ls) n e one = absurd (omega (arith, e, one, ap length (reverse-append {A = Local} (l ∷ []) ls), length-append (reverse ls) (l ∷ [])))
 
-some-by : (ls : List Level) (n : ℕ) → n ≡ length (reverse ls) + 1 → (n ≡ 1 → ⊥) → (l : Level) × (ks : List Level) × (ls ≡ l ∷ ks)
+some-by : (ls : List Local) (n : ℕ) → n ≡ length (reverse ls) + 1 → (n ≡ 1 → ⊥) → (l : Local) × (ks : List Local) × (ls ≡ l ∷ ks)
 some-by [] n e other = absurd (other (omega (arith, e)))
 some-by (l ∷ ls) n e other = (l, ls, refl)
 
@@ -36,7 +38,7 @@ pub unit-unit-requires : goal.unit-unit-requires
 unit-unit-requires c =
     let at = c.requires.at in
     let it = process-at c.args.self.now.processes.items c.args.p at.levels.kept c.index-2.ensures in
-    subst (λ (l : Level). l.unit < length c.args.image.now) (sym (c.top.ensures at.levels.level at.levels.below at.levels.operands at.levels.pending it.stack)) (inside at.holds.1.turning)
+    subst (λ (l : Local). l.unit < length c.args.image.now) (sym (c.top.ensures at.levels.level at.levels.below at.levels.operands at.levels.pending it.stack)) (inside at.holds.1.turning)
 
 -- ---- the lowest activation goes on
 
@@ -93,7 +95,7 @@ returns-clause-turned c =
     c.part.ensures.parted levels
     ∙ (λ i. record (shown i) { processes = with_numbered (shown i).processes p (record { levels = t.below; operands = []; pending = t.pending }) ++ record { levels = record t.level { index = c.args.next } ∷ []; operands = []; pending = [] } ∷ [] }) in
     let made = c.resumes_are_shown.ensures.apart t c.args.next above.0 above.1 c.is_runnable.ensures.accepted c.is_runnable.ensures.main at.holds above.2 in
-    let unit = ap (λ (l : Level). deepest (unit_code program l.unit)) (c.top.ensures t.level t.below t.operands t.pending it.stack) in
+    let unit = ap (λ (l : Local). deepest (unit_code program l.unit)) (c.top.ensures t.level t.below t.operands t.pending it.stack) in
     let deep : deepest (unit_code program t.level.unit) ≤ vec_capacity c.in_ok-process.process.operands = omega (arith, unit, c.in_ok-process.ensures.made.operands, c.unit-unit.ensures.operands ∙ ap deepest c.unit-unit.ensures.code) in
     turned-so program cells choices p c.part.new.self (c.resumes_are_shown.ensures.nothing t c.args.next c.is_runnable.ensures.accepted c.is_runnable.ensures.main at.holds)
     (subst (HasStepped program cells choices p) (sym parted) made)

@@ -1,8 +1,0 @@
-pub mod Slabs
-pub mod Begun
-mod Opened
-mod Openings
-mod Giving
-pub mod Several
-pub mod Stays
-mod Children

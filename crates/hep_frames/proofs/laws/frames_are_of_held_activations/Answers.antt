@@ -1,5 +1,0 @@
-use Rattle.hep_frames.proofs.Stays.{keeps-held, keeps-remaining}
-use Rattle.hep_frames.proofs.laws.frames_are_of_held_activations.Goals as goal
-
-pub returns : goal.returns
-returns c = record { out = keeps-held; layout = keeps-remaining }

@@ -1,5 +1,0 @@
-use Rattle.hep_frames.proofs.Openings.{opening-wanted}
-use Rattle.hep_frames.proofs.laws.openings_want_unset_cells.Goals as goal
-
-pub returns : goal.returns
-returns c = opening-wanted

@@ -1,0 +1,3 @@
+pub mod Nodes
+pub mod Keeping
+pub mod Stacks

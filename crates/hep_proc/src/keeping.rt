@@ -1,0 +1,50 @@
+//! Operands of activations above which others are (X3.9-1978, 15.5.2).
+ghost use Rattle.std.specs.Prelude.{◌≡◌, ◌≤◌, ◌<◌, ◌+◌, ◌-◌, ◌++◌, [], drop, length, take, vec_len, vec_capacity};
+ghost use Rattle.hep_proc.specs.Stacks.{HasRoomForValue, TakesValue};
+
+use crate::process::Process;
+use hep_source::Value;
+
+// The first operands, so many, are pending, behind what is so; and there are none. There is room for them.
+pub(crate) fn keep_back(operands: &mut Vec<Value>, pending: &mut Vec<Value>, kept: usize)
+    requires few { kept ≤ vec_len operands.old }
+    requires room { vec_len pending.old + kept ≤ vec_capacity pending.old }
+    ensures pending { pending.new.items ≡ pending.old.items ++ take kept operands.old.items }
+    ensures none { operands.new.items ≡ [] }
+    ensures capacity { vec_capacity operands.new ≡ vec_capacity operands.old }
+{
+    let _ = pending.extend_from_slice(&operands[..kept]);
+    operands.clear();
+}
+
+// The last ones of what is pending, so many, are operands, of which there were none. There is room for them.
+fn bring_back(operands: &mut Vec<Value>, pending: &mut Vec<Value>, kept: usize)
+    requires none { operands.old.items ≡ [] }
+    requires room { kept ≤ vec_capacity operands.old }
+    ensures operands { operands.new.items ≡ drop (length pending.old.items - kept) pending.old.items }
+    ensures pending { pending.new.items ≡ take (length pending.old.items - kept) pending.old.items }
+    ensures capacity { vec_capacity operands.old ≤ vec_capacity operands.new }
+{
+    let first = pending.len().saturating_sub(kept);
+    let _ = operands.extend_from_slice(&pending[first..]);
+    pending.truncate(first);
+}
+
+impl Process {
+    /// A function that was above it has ended: its top activation, if it has one, has the operands back that it keeps, and behind them the
+    /// value. There is room for them.
+    pub fn take_value(&mut self, value: Value)
+        requires none { self.old.operands.items ≡ [] }
+        requires room { HasRoomForValue self.old }
+        ensures stack { TakesValue self.old value self.new }
+        ensures levels { self.new.levels ≡ self.old.levels }
+        ensures capacity { vec_capacity self.old.operands ≤ vec_capacity self.new.operands }
+    {
+        if self.levels.is_empty() {
+            return;
+        }
+        let kept = self.top().kept as usize;
+        bring_back(&mut self.operands, &mut self.pending, kept);
+        self.operands.push_reserved(value);
+    }
+}

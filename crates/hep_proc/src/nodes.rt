@@ -1,0 +1,50 @@
+//! The nodes of frames that are out.
+ghost use Rattle.std.specs.Prelude.{◌≡◌, ℕ};
+ghost use Rattle.slab.specs.Slab.{slab_len};
+ghost use Rattle.hep_layout.specs.Words.{with_ended};
+ghost use Rattle.hep_proc.specs.Nodes.{CanCount, HasChildren, nodes_of, with_fewer, with_more};
+
+use hep_arena::Block;
+use slab::Slab;
+
+/// A frame that is out: its activation and the unit that this runs, its cells, the key of its parent's node, how many children of it
+/// are out, and whether its activation has ended.
+#[derive(Drop)]
+pub(crate) struct Node {
+    pub(crate) activation: u64,
+    pub(crate) unit: u32,
+    pub(crate) block: Block,
+    pub(crate) parent: Option<usize>,
+    pub(crate) children: u64,
+    pub(crate) finished: bool,
+}
+
+// The activation under a key has ended.
+pub(crate) fn end(nodes: &mut Slab<Node>, key: usize)
+    ensures ended { (k : ℕ) → nodes_of nodes.new k ≡ with_ended (nodes_of nodes.old) key k }
+{
+    if let Some(node) = nodes.get_mut(key) {
+        node.finished = true;
+    }
+}
+
+// One child less of the frame under a key is out.
+pub(crate) fn lose_child(nodes: &mut Slab<Node>, key: usize)
+    requires { HasChildren (nodes_of nodes.old) key }
+    ensures fewer { (k : ℕ) → nodes_of nodes.new k ≡ with_fewer (nodes_of nodes.old) key k }
+    ensures len { slab_len nodes.new ≡ slab_len nodes.old }
+{
+    if let Some(node) = nodes.get_mut(key) {
+        node.children -= 1;
+    }
+}
+
+// One child more of the frame under a key is out.
+pub(crate) fn gain_child(nodes: &mut Slab<Node>, key: usize)
+    requires { CanCount (nodes_of nodes.old) key }
+    ensures more { (k : ℕ) → nodes_of nodes.new k ≡ with_more (nodes_of nodes.old) key k }
+{
+    if let Some(node) = nodes.get_mut(key) {
+        node.children += 1;
+    }
+}

@@ -1,0 +1,120 @@
+//! Processes: the activations on a stack, each with its place in the code, and their operands (docs/MACHINE.md, "Steps").
+ghost use Rattle.std.specs.Prelude.{◌≡◌, ◌+◌, ◌<◌, ◌≤◌, ◌++◌, ◌∷◌, [], OnOk, vec_len, vec_capacity};
+ghost use Rattle.hep_proc.specs.Stacks.{EndsTop, GoesOnAt, HasTop, PutsAbove, PutsTop, StandsAt};
+
+use crate::keeping::keep_back;
+use hep_source::Value;
+use std::alloc::AllocError;
+
+/// An activation on a stack: the key of its node, the index of its unit in the program, and where it is in the
+/// unit's code, both counted from 0.
+#[derive(Clone, Copy, Debug)]
+pub struct Local {
+    pub key: usize,
+    pub unit: u32,
+    /// How many operands it keeps among those that are pending, while another activation is above it.
+    pub kept: u32,
+    pub index: usize,
+}
+
+/// A process: its activations, the top last, and their operands. It has ended where there are none.
+#[derive(Drop)]
+pub struct Process {
+    pub levels: Vec<Local>,
+    /// Those of the top activation.
+    pub operands: Vec<Value>,
+    /// Those of all others, the lowest one's first. No CALL leaves any, so that it asks for no memory here.
+    pub pending: Vec<Value>,
+}
+
+impl Process {
+    /// The level of its top activation.
+    pub fn top(&self) -> Local
+        requires { 0 < vec_len self.now.levels }
+        ensures { HasTop self.now result }
+    {
+        self.levels[self.levels.len() - 1]
+    }
+
+    /// Its top activation is at an index.
+    pub fn stand_at(&mut self, index: usize)
+        requires { 0 < vec_len self.old.levels }
+        ensures stack { StandsAt self.old index self.new }
+        ensures count { vec_len self.new.levels ≡ vec_len self.old.levels }
+        ensures capacity { vec_capacity self.new.levels ≡ vec_capacity self.old.levels }
+        ensures operands { self.new.operands ≡ self.old.operands }
+    {
+        let top = self.levels.len() - 1;
+        self.levels[top].index = index;
+    }
+
+    // Another level is in the place of that of its top activation.
+    fn put_top(&mut self, level: Local)
+        requires { 0 < vec_len self.old.levels }
+        ensures stack { PutsTop self.old level self.new }
+        ensures count { vec_len self.new.levels ≡ vec_len self.old.levels }
+        ensures capacity { vec_capacity self.new.levels ≡ vec_capacity self.old.levels }
+        ensures operands { self.new.operands ≡ self.old.operands }
+        ensures pending { self.new.pending ≡ self.old.pending }
+    {
+        let top = self.levels.len() - 1;
+        self.levels[top] = level;
+    }
+
+    /// Its top activation is to go on at an index.
+    pub fn go_on(&mut self, index: usize)
+        requires { 0 < vec_len self.old.levels }
+        ensures stack { GoesOnAt self.old index self.new }
+        ensures count { vec_len self.new.levels ≡ vec_len self.old.levels }
+        ensures capacity { vec_capacity self.new.levels ≡ vec_capacity self.old.levels }
+        ensures operands { vec_capacity self.new.operands ≡ vec_capacity self.old.operands }
+    {
+        self.stand_at(index);
+        self.operands.clear();
+    }
+
+    /// Its top activation keeps its first operands, so many, and is to go on at an index, and a new one is above it.
+    pub fn put_above(&mut self, kept: u32, index: usize, level: Local)
+        requires some { 0 < vec_len self.old.levels }
+        requires room { vec_len self.old.levels < vec_capacity self.old.levels }
+        requires few { kept ≤ vec_len self.old.operands }
+        requires pending { vec_len self.old.pending + kept ≤ vec_capacity self.old.pending }
+        ensures stack { PutsAbove self.old kept index level self.new }
+        ensures operands { vec_capacity self.new.operands ≡ vec_capacity self.old.operands }
+    {
+        let below = Local {
+            kept,
+            index,
+            ..self.top()
+        };
+        self.put_top(below);
+        keep_back(&mut self.operands, &mut self.pending, kept as usize);
+        self.levels.push_reserved(level);
+    }
+
+    /// Its top activation has ended: the level is taken off, and the one below it has no operands.
+    pub fn end_top(&mut self) -> Local
+        requires { 0 < vec_len self.old.levels }
+        ensures level { HasTop self.old result }
+        ensures stack { EndsTop self.old self.new }
+        ensures fewer { self.old.levels.items ≡ self.new.levels.items ++ result ∷ [] }
+        ensures capacity { vec_capacity self.new.operands ≡ vec_capacity self.old.operands }
+    {
+        self.operands.clear();
+        self.levels.pop().unwrap()
+    }
+
+    /// Room for a level more, for so many operands at once, and for so many more that are pending.
+    pub fn reserve(&mut self, operands: u32, kept: u32) -> Result<(), AllocError>
+        ensures level { OnOk result (vec_len self.new.levels < vec_capacity self.new.levels) }
+        ensures operands { OnOk result (operands ≤ vec_capacity self.new.operands) }
+        ensures pending { OnOk result (vec_len self.new.pending + kept ≤ vec_capacity self.new.pending) }
+        ensures same { (self.new.levels.items ≡ self.old.levels.items) × (self.new.operands.items ≡ self.old.operands.items)
+            × (self.new.pending.items ≡ self.old.pending.items) }
+        ensures capacity { vec_capacity self.old.operands ≤ vec_capacity self.new.operands }
+    {
+        self.levels.reserve(1)?;
+        self.operands.reserve(operands as usize)?;
+        self.pending.reserve(kept as usize)
+    }
+}
