@@ -26,12 +26,13 @@ _hepf() {
         return
     fi
     case ${COMP_WORDS[at]} in
-        check | list) options="--long --help" ;;
+        check) options="--warn --long --help" ;;
+        list) options="--long --help" ;;
         run) options="--arena --steps --workers --choices --history --long --help" ;;
         replay) options="--arena --long --help" ;;
         explain)
             if ((COMP_CWORD == at + 1)); then
-                _hepf_offer -W "--long --help 101 102 103 104 105 106 107 201 202 203 204 205 301 302 303 304 305 306 307 308 309 310 311 312 401 402 501 506 601 602 603 701 702 703 704 705 OVERFLOW DIVIDE RANGE UNDEFINED SHAPE STEP FAULT WAITING STOPPED ARENA NO WORKERS READ WRITE REFUSED STILL STATUS"
+                _hepf_offer -W "--long --help 101 102 103 104 105 106 107 201 202 203 204 205 301 302 303 304 305 306 307 308 309 310 311 312 401 402 501 506 601 602 603 701 702 703 704 705 OVERFLOW DIVIDE RANGE UNDEFINED SHAPE STEP FAULT WAITING STOPPED ARENA NO WORKERS READ WRITE REFUSED STILL WARNING STATUS"
             else
                 _hepf_offer -W "ARENA STEP FULL LIMIT MEMORY REFUSED FAULT RUNNING 0 1 2 3 4 5 6 7 8 70"
             fi

@@ -14,11 +14,12 @@ for command in hepf hepf-unproved
     complete -c $command -n '__fish_seen_subcommand_from check run replay list explain' -l long -d 'say more of what went wrong'
     complete -c $command -n '__fish_seen_subcommand_from check run replay list explain' -l help -d 'show help'
     complete -c $command -n '__fish_seen_subcommand_from check run replay list' -F
+    complete -c $command -n '__fish_seen_subcommand_from check' -l warn -d 'say what may well be a mistake'
     complete -c $command -n '__fish_seen_subcommand_from run replay' -l arena -x -d 'cells of storage'
     complete -c $command -n '__fish_seen_subcommand_from run' -l steps -x -d 'entries of the history'
     complete -c $command -n '__fish_seen_subcommand_from run' -l workers -x -d 'threads, 1 to 16'
     complete -c $command -n '__fish_seen_subcommand_from run' -l choices -r -F -d 'processes that are chosen first'
     complete -c $command -n '__fish_seen_subcommand_from run' -l history -r -F -d 'file that gets the history'
     complete -c $command -n '__fish_seen_subcommand_from help' -a 'check run replay list explain'
-    complete -c $command -n '__fish_seen_subcommand_from explain' -a '101 102 103 104 105 106 107 201 202 203 204 205 301 302 303 304 305 306 307 308 309 310 311 312 401 402 501 506 601 602 603 701 702 703 704 705 OVERFLOW DIVIDE RANGE UNDEFINED SHAPE STEP FAULT WAITING STOPPED ARENA NO WORKERS READ WRITE REFUSED STILL STATUS FULL LIMIT MEMORY RUNNING 0 1 2 3 4 5 6 7 8 70'
+    complete -c $command -n '__fish_seen_subcommand_from explain' -a '101 102 103 104 105 106 107 201 202 203 204 205 301 302 303 304 305 306 307 308 309 310 311 312 401 402 501 506 601 602 603 701 702 703 704 705 OVERFLOW DIVIDE RANGE UNDEFINED SHAPE STEP FAULT WAITING STOPPED ARENA NO WORKERS READ WRITE REFUSED STILL WARNING STATUS FULL LIMIT MEMORY RUNNING 0 1 2 3 4 5 6 7 8 70'
 end

@@ -23,7 +23,11 @@ _hepf() {
 # The words behind the command.
 _hepf_words() {
     case $words[1] in
-        check | list)
+        check)
+            _arguments '--warn[say what may well be a mistake]' '--long[say more of what went wrong]' '--help[show help]' \
+                '1:source:_files'
+            ;;
+        list)
             _arguments '--long[say more of what went wrong]' '--help[show help]' '1:source:_files'
             ;;
         run)
@@ -37,7 +41,7 @@ _hepf_words() {
                 '2:history:_files'
             ;;
         explain)
-            _arguments '--long[say more of what went wrong]' '--help[show help]' '1:number or name:(101 102 103 104 105 106 107 201 202 203 204 205 301 302 303 304 305 306 307 308 309 310 311 312 401 402 501 506 601 602 603 701 702 703 704 705 OVERFLOW DIVIDE RANGE UNDEFINED SHAPE STEP FAULT WAITING STOPPED ARENA NO WORKERS READ WRITE REFUSED STILL STATUS)' \
+            _arguments '--long[say more of what went wrong]' '--help[show help]' '1:number or name:(101 102 103 104 105 106 107 201 202 203 204 205 301 302 303 304 305 306 307 308 309 310 311 312 401 402 501 506 601 602 603 701 702 703 704 705 OVERFLOW DIVIDE RANGE UNDEFINED SHAPE STEP FAULT WAITING STOPPED ARENA NO WORKERS READ WRITE REFUSED STILL WARNING STATUS)' \
                 '*:its next word:(ARENA STEP FULL LIMIT MEMORY REFUSED FAULT RUNNING 0 1 2 3 4 5 6 7 8 70)'
             ;;
         help)

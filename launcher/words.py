@@ -66,11 +66,12 @@ def of_tag(section, name):
 
 @dataclass
 class Form:
-    """A command as the synopsis has it: its line, what it has to be given, and by option what that is given."""
+    """A command as the synopsis has it: its line, what it has to be given, by option what that is given, and options that stand alone."""
 
     line: str
     operands: list
     options: dict
+    flags: list
 
 
 def forms(manual):
@@ -80,7 +81,8 @@ def forms(manual):
         line = " ".join(rows)
         name, *operands = re.sub(r"\[.*", "", line).split()[1:]
         if name != "<":
-            found[name] = Form(line, operands, dict(re.findall(r"\[(--\w+) (\w+)\]", line)))
+            options, alone = re.findall(r"\[(--\w+) (\w+)\]", line), re.findall(r"\[(--\w+)\]", line)
+            found[name] = Form(line, operands, dict(options), alone)
     return found
 
 
@@ -96,7 +98,7 @@ def help_of(manual, names):
     found = forms(manual)
     of_all = len(names) > 1
     lines = ["hepf < FILE"] * of_all + [found[name].line for name in names]
-    options = dict.fromkeys(it for name in names for it in found[name].options)
+    options = dict.fromkeys(it for name in names for it in [*found[name].options, *found[name].flags])
     tags = [*options, *FLAGS, "--help"] + ["--version"] * of_all
     text = "".join(textwrap.fill(it, COLUMNS, subsequent_indent="    ") + "\n" for it in lines) + "\n"
     text += "".join(shown(*of_tag(manual["COMMANDS"], name)) for name in names)
@@ -189,7 +191,7 @@ def taken(command, form, words):
         name, has_value, value = word.partition("=")
         if word in HELPS:
             return None
-        if word in FLAGS:
+        if word in FLAGS or word in form.flags:
             job.flags.append(word)
             continue
         if word == "--":

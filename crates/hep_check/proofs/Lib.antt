@@ -1,3 +1,4 @@
 pub mod Gathering
+mod Placing
 pub mod Sums
 mod Worked

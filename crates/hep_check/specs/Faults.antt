@@ -7,6 +7,9 @@ use Rattle.hep_conditions.specs.Words.{first_violation}
 use Rattle.hep_conditions.specs.declared.violation.Violation.{Violation}
 use Rattle.hep_check.specs.declared.checked.Unaccepted.{Unaccepted}
 use Rattle.hep_check.specs.declared.checked.Unaccepted.TheVariants as unaccepted
+use Rattle.hep_check.specs.declared.checked.Rejected.{Rejected}
+use Rattle.hep_check.specs.declared.checked.Rejected.TheVariants as rejected
+use Rattle.hep_check.specs.Further.{further}
 use Rattle.hep_machine.specs.Words.{spelling, Units}
 
 -- a refusal says what a violation is; want of memory says nothing of it
@@ -23,3 +26,8 @@ Refuses program (Refused number line name) = (v : Violation) × (first_violation
 abbrev pub IsViolatedBy : Units → Unaccepted → Type 0
 IsViolatedBy program unaccepted.NoMemory = Unit {0}
 IsViolatedBy program (unaccepted.Violated v) = first_violation program ≡ Some v
+
+-- the same, with the violations behind it
+abbrev pub IsRejectedBy : Units → Rejected → Type 0
+IsRejectedBy program rejected.NoMemory = Unit {0}
+IsRejectedBy program (rejected.Violated first others) = (first_violation program ≡ Some first) × (others.items ≡ further program first)

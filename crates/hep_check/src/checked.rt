@@ -2,9 +2,10 @@
 ghost use Rattle.std.specs.Prelude.{◌≡◌, Some, None, map, IfOk, IfErr, OnOk};
 ghost use Rattle.hep_machine.specs.Words.{frame_cells};
 ghost use Rattle.hep_conditions.specs.Words.{IsAccepted, first_violation};
-ghost use Rattle.hep_check.specs.Faults.{IsViolatedBy, Refuses, Reports};
+ghost use Rattle.hep_check.specs.Faults.{IsRejectedBy, IsViolatedBy, Refuses, Reports};
 
 use crate::frames::frames;
+use crate::further::further_violations;
 use crate::program::first_violation;
 use hep_base::Refusal as CheckFault;
 use hep_conditions::{Checked, Violation};
@@ -76,6 +77,53 @@ pub fn judge(alloc: Global, program: Program) -> Result<Checked, Unaccepted>
     match judged(alloc, &program)? {
         Ok(frames) => Ok(Checked::new(program, frames)),
         Err(violation) => Err(Unaccepted::Violated(violation)),
+    }
+}
+
+/// Why a program isn't accepted, with the violations that are told behind its first one.
+#[derive(Drop)]
+pub enum Rejected {
+    /// Memory was refused, which says nothing of the program.
+    NoMemory,
+    /// It violates conditions.
+    Violated {
+        /// The first violation.
+        first: Violation,
+        /// Those behind it, in order: of each unit the first one of each condition.
+        further: Vec<Violation>,
+    },
+}
+
+impl From<AllocError> for Rejected {
+    ghost use Rattle.std.specs.Prelude.{◌≡◌};
+    ghost use Rattle.hep_check.specs.declared.checked.Rejected.TheVariants.{NoMemory};
+
+    ghost from_gives = { λ _ fault. fault ≡ NoMemory };
+
+    fn from(_refused: AllocError) -> Rejected {
+        Rejected::NoMemory
+    }
+}
+
+/// Accepts a program that violates no condition.
+///
+/// # Errors
+///
+/// The first violation and those behind it, as [`further_violations`] has them; or that memory was refused.
+pub fn judge_further(alloc: Global, program: Program) -> Result<Checked, Rejected>
+    // What is checked is the program.
+    ensures same { IfOk result (λ checked. checked ≡ program) }
+    // No condition is violated where it is accepted.
+    ensures accepted { OnOk result (IsAccepted program) }
+    // What is reported is the first violation, and those behind it.
+    ensures violated { IfErr result (IsRejectedBy program) }
+{
+    match judged(alloc, &program)? {
+        Ok(cells) => Ok(Checked::new(program, cells)),
+        Err(first) => {
+            let further = further_violations(alloc, &program, &first)?;
+            Err(Rejected::Violated { first, further })
+        }
     }
 }
 

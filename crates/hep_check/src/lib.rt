@@ -6,13 +6,15 @@
 
 pub mod checked;
 mod frames;
+pub mod further;
 mod listing;
 mod program;
 mod resuming;
 mod unit;
 
-pub use checked::{Unaccepted, check, fault_of, judge};
+pub use checked::{Rejected, Unaccepted, check, fault_of, judge, judge_further};
 /// Why a program isn't accepted: refusals 301 to 312, of which 301 and 310 are about a name.
+pub use further::further_violations;
 pub use hep_base::Refusal as CheckFault;
 pub use hep_conditions::Checked;
 pub use listing::list_text;

@@ -1,7 +1,8 @@
 //! The first violation in a unit.
-ghost use Rattle.std.specs.Prelude.{◌≡◌, IfOk};
+ghost use Rattle.std.specs.Prelude.{◌≡◌, map, IfOk};
 ghost use Rattle.hep_conditions.specs.Words.{violations_in, first_of};
 ghost use Rattle.hep_check.specs.Found.{first_found};
+ghost use Rattle.hep_check.specs.Further.{conditions_on};
 
 use crate::resuming::resume_violation;
 use hep_calls::argument_violation;
@@ -26,6 +27,34 @@ pub(crate) fn first_found(found: &[Option<Violation>]) -> Option<Violation>
     first
 }
 
+/// The first violation of each condition on a unit of a program by itself.
+///
+/// # Errors
+///
+/// Only where memory was refused.
+pub(crate) fn violations_found(
+    alloc: Global,
+    program: &ProgramSymbols,
+    symbols: &Symbols,
+) -> Result<[Option<Violation>; 10], AllocError>
+    ensures { IfOk result (λ found. found ≡ map first_of (conditions_on program.now symbols.now)) }
+{
+    let labels = Labels::new(alloc, symbols.statements())?;
+    let loop_variables = loop_variables(alloc, program, symbols)?;
+    Ok([
+        type_missing_violation(alloc, program, symbols)?,
+        type_violation(alloc, program, symbols)?,
+        count_violation(alloc, program, symbols)?,
+        argument_violation(alloc, program, symbols)?,
+        label_violation(alloc, &labels)?,
+        structure_violation(alloc, &labels, &loop_variables)?,
+        jump_violation(alloc, &labels)?,
+        unknown_name_violation(alloc, program, symbols)?,
+        data_violation(alloc, symbols)?,
+        resume_violation(symbols.statements()),
+    ])
+}
+
 /// The first violation of the conditions on a unit of a program.
 ///
 /// # Errors
@@ -38,19 +67,6 @@ pub(crate) fn unit_violation(
 ) -> Result<Option<Violation>, AllocError>
     ensures { IfOk result (λ violation. violation ≡ first_of (violations_in program.now symbols.now)) }
 {
-    let labels = Labels::new(alloc, symbols.statements())?;
-    let loop_variables = loop_variables(alloc, program, symbols)?;
-    let found = [
-        type_missing_violation(alloc, program, symbols)?,
-        type_violation(alloc, program, symbols)?,
-        count_violation(alloc, program, symbols)?,
-        argument_violation(alloc, program, symbols)?,
-        label_violation(alloc, &labels)?,
-        structure_violation(alloc, &labels, &loop_variables)?,
-        jump_violation(alloc, &labels)?,
-        unknown_name_violation(alloc, program, symbols)?,
-        data_violation(alloc, symbols)?,
-        resume_violation(symbols.statements()),
-    ];
+    let found = violations_found(alloc, program, symbols)?;
     Ok(first_found(&found))
 }

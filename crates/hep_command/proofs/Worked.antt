@@ -77,9 +77,21 @@ no_long : is_long (codes "hepf" ∷ codes "check" ∷ codes "--" ∷ codes "--lo
 unfolding is_long clap_on_literals
 no_long = refl
 
-check_long : asked (codes "hepf" ∷ codes "--long" ∷ codes "check" ∷ codes "a.f" ∷ []) ≡ Some (check (codes "a.f"))
+check_long : asked (codes "hepf" ∷ codes "--long" ∷ codes "check" ∷ codes "a.f" ∷ []) ≡ Some (check (codes "a.f") false)
 unfolding asked clap_on_literals
 check_long = refl
+
+check_warn : asked (codes "hepf" ∷ codes "check" ∷ codes "--warn" ∷ codes "a.f" ∷ []) ≡ Some (check (codes "a.f") true)
+unfolding asked clap_on_literals
+check_warn = refl
+
+check_warn_long : asked (codes "hepf" ∷ codes "--long" ∷ codes "check" ∷ codes "a.f" ∷ codes "--warn" ∷ []) ≡ Some (check (codes "a.f") true)
+unfolding asked clap_on_literals
+check_warn_long = refl
+
+long_behind_warn : is_long (codes "hepf" ∷ codes "check" ∷ codes "--warn" ∷ codes "--long" ∷ codes "a.f" ∷ []) ≡ true
+unfolding is_long clap_on_literals
+long_behind_warn = refl
 
 help_of_help : heard (codes "hepf" ∷ codes "help" ∷ codes "--help" ∷ []) ≡ codes "hepf" ∷ codes "help" ∷ []
 help_of_help = refl

@@ -13,7 +13,7 @@ use Rattle.hep_command.specs.declared.job.Job.TheVariants.{Standard, Check, Run,
 -- a job with the texts of its paths
 pub data Asked : Type 0 where
   standard : Asked
-  check : Text → Asked
+  check : Text → Bool → Asked
   run : Text → ℕ → ℕ → Option ℕ → Option Text → Option Text → Asked
   replay : Text → Text → ℕ → Asked
   list : Text → Asked
@@ -24,7 +24,7 @@ texts = option_map (λ path. path.now)
 
 abbrev pub asked_by : Job → Asked
 asked_by Standard = standard
-asked_by (Check file) = check file.now
+asked_by (Check file warn) = check file.now warn
 asked_by (Run file arena steps workers choices history) = run file.now arena steps workers (texts choices) (texts history)
 asked_by (Replay file history arena) = replay file.now history.now arena
 asked_by (List file) = list file.now
@@ -73,7 +73,7 @@ abbrev pub workers_in : ListOf Row → Option (Option ℕ)
 workers_in rows = workers_by (first_of (codes "workers") rows)
 
 abbrev pub check_in : ListOf Row → Option Asked
-check_in rows = option_map check (first_of (codes "file") rows)
+check_in rows = option_map (λ file. check file (is_given (codes "warn") rows)) (first_of (codes "file") rows)
 
 abbrev pub run_in : ListOf Row → Option Asked
 run_in rows =

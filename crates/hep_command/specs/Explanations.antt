@@ -26,7 +26,7 @@ abbrev pub ends : List Text
 ends =
     codes "FAULT" ∷ codes "WAITING" ∷ codes "STOPPED ARENA FULL" ∷ codes "ARENA FULL"
     ∷ codes "STOPPED STEP LIMIT" ∷ codes "STEP LIMIT" ∷ codes "NO MEMORY" ∷ codes "WORKERS REFUSED"
-    ∷ codes "READ FAULT" ∷ codes "WRITE FAULT" ∷ codes "REFUSED" ∷ codes "STILL RUNNING" ∷ []
+    ∷ codes "READ FAULT" ∷ codes "WRITE FAULT" ∷ codes "REFUSED" ∷ codes "STILL RUNNING" ∷ codes "WARNING" ∷ []
 
 abbrev pub statuses : List Text
 statuses =

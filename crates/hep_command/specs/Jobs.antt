@@ -19,7 +19,7 @@ AreWorkers (Some workers) = (1 ≤ workers) × (workers ≤ 16)
 -- the numbers of the job are those that its options allow
 abbrev pub IsInRange : Job → Type 0
 IsInRange Standard = Unit {0}
-IsInRange (Check file) = Unit {0}
+IsInRange (Check file warn) = Unit {0}
 IsInRange (Run file arena steps workers choices history) = IsArena arena × IsSteps steps × AreWorkers workers
 IsInRange (Replay file history arena) = IsArena arena
 IsInRange (List file) = Unit {0}

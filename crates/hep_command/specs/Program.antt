@@ -53,8 +53,12 @@ history_option = file_option (codes "history")
 abbrev pub long_flag : Rule
 long_flag = record (new_rule (codes "long")) { long = Some (codes "long"); action = Some SetTrue }
 
+-- a word that stands alone, behind `check`
+abbrev pub warn_flag : Rule
+warn_flag = record (new_rule (codes "warn")) { long = Some (codes "warn"); action = Some SetTrue }
+
 abbrev pub check_command : App
-check_command = with_rule (with_rule (new_app (codes "check")) source_word) long_flag
+check_command = with_rule (with_rule (with_rule (new_app (codes "check")) source_word) warn_flag) long_flag
 
 abbrev pub run_command : App
 run_command =

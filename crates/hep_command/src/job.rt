@@ -26,6 +26,8 @@ pub enum Job<'a> {
     /// To say why a source is refused, if it is.
     Check {
         file: &'a str,
+        /// Whether what it may well have by mistake is said too.
+        warn: bool,
     },
     /// To run a source.
     Run {

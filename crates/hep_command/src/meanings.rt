@@ -306,6 +306,29 @@ Right:
       END
 ";
 
+const WARNING: &str =
+    "WARNING LINE n what: check --warn found what may well be a mistake, though the
+program runs. Behind column 72 nothing has an effect. Nothing goes to a label
+UNUSED, and nothing calls such a unit. CREATE s PASSES x OF A DO: the DO may
+change x before the process reads it; (x) passes its value. A name USED ONCE may
+be misspelled. A read of a name with $ NEVER FILLED waits for ever, and what is
+stored in one NEVER READ is lost. Status 0, as without warnings.
+
+Wrong, by check --warn a.f: WARNING LINE 2 NAME NUMBRE USED ONCE
+
+      NUMBER = 1
+      NUMBRE = NUMBER+1
+      PRINT *, NUMBER
+      END
+
+Right, by check --warn a.f:
+
+      NUMBER = 1
+      NUMBER = NUMBER+1
+      PRINT *, NUMBER
+      END
+";
+
 const DONE: &str = "The run or replay is done and nothing went wrong, or check or list finds nothing
 to refuse, or a text was asked for. STILL RUNNING ends a replay of a history
 whose run could go on.
@@ -378,6 +401,7 @@ fn of_end(name: &str) -> Option<&'static str>
         "WRITE FAULT" => WRITE_FAULT,
         "REFUSED" => REFUSED,
         "STILL RUNNING" => DONE,
+        "WARNING" => WARNING,
         _ => return None,
     };
     Some(text)

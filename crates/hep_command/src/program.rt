@@ -19,7 +19,8 @@ With no command it runs the source on standard input.";
 const EXAMPLES: &str = "Example: hepf run examples/powers.f
 `hepf COMMAND --help` has more; `man hepf`, or `man -l docs/hepf.1`, has all.";
 
-const CHECK_EXAMPLE: &str = "Example: hepf check examples/powers.f";
+const CHECK_EXAMPLE: &str = "Example: hepf check examples/powers.f
+         hepf check --warn examples/quotients.f";
 
 const RUN_EXAMPLE: &str = "Example: hepf run examples/powers.f --history powers.history";
 
@@ -31,7 +32,7 @@ const EXPLAIN_EXAMPLES: &str =
     "Of refusals the number: hepf explain 304. Of the rest, in small letters too:
 OVERFLOW, DIVIDE, RANGE, UNDEFINED, SHAPE, STEP, FAULT, WAITING, ARENA FULL,
 STEP LIMIT, NO MEMORY, WORKERS REFUSED, READ FAULT, WRITE FAULT, REFUSED,
-STILL RUNNING, and STATUS 0 to STATUS 8 and STATUS 70.
+STILL RUNNING, WARNING, and STATUS 0 to STATUS 8 and STATUS 70.
 
 Example: hepf explain arena full";
 
@@ -82,6 +83,16 @@ fn long_flag<'a>(alloc: Global) -> Arg<'a>
         .help("Say more of what went wrong: which file, line and name")
 }
 
+// The word for the warnings of a source that isn't refused.
+fn warn_flag<'a>(alloc: Global) -> Arg<'a>
+    ensures { IsArgument spec.warn_flag result }
+{
+    Arg::new(alloc, "warn")
+        .long("warn")
+        .action(ArgAction::SetTrue)
+        .help("Say too what may well be a mistake, a line for each")
+}
+
 // A command with one argument more, unless memory was refused for it.
 fn with_arg<'a>(
     whole: Result<Command<'a>, AllocError>,
@@ -112,6 +123,7 @@ fn check_command<'a>(alloc: Global) -> Result<Command<'a>, AllocError>
         .about("Say why a source can't run, and nothing if it can")
         .after_help(CHECK_EXAMPLE)
         .arg(source_argument(alloc));
+    let check = with_arg(check, warn_flag(alloc));
     with_arg(check, long_flag(alloc))
 }
 

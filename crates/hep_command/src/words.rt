@@ -89,6 +89,7 @@ fn check_job<'a>(found: &ArgMatches<'a>) -> Option<Job<'a>>
 {
     Some(Job::Check {
         file: word_of(found, "file")?,
+        warn: is_given(found, "warn"),
     })
 }
 

@@ -11,7 +11,7 @@ pub mod ticket;
 
 pub use fault::{ChooseFault, CommitFault, NewFault};
 pub use hep_machine::{Entry, Fault, Kind};
-pub use hep_views::Listed;
+pub use hep_views::{Listed, Whereabouts};
 pub use scheduler::Core;
 pub use stop::{ChoiceStop, Turn, Turns, Verdict};
 pub use ticket::{Segment, Ticket, TicketId, compute};

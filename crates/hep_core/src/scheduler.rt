@@ -1,8 +1,9 @@
 //! The core: a run of an image, one choice at a time, with its history.
 ghost use Rattle.std.specs.Prelude.{◌≡◌, ◌≢◌, ◌≤◌, ◌<◌, ◌++◌, ◌∷◌, [], None, Some, IsSome, IfNone, IfSome, IfOk, OnErr, OnOk, IfErr, Err, false, true};
-ghost use Rattle.std.specs.Prelude.{◌+◌, is_some, nat_lt, vec_len, vec_capacity};
+ghost use Rattle.std.specs.Prelude.{◌+◌, is_some, length, nat_lt, vec_len, vec_capacity};
 ghost use Rattle.hep_machine.specs.Words.{IsLegal, common_cells, is_held, opening_layout, used_cells, living, first_above, last_process};
 ghost use Rattle.hep_machine.specs.Words.{next_of_ready, view_of};
+ghost use Rattle.hep_views.specs.Standing.{whereabouts_by};
 ghost use Rattle.hep_core.specs.Value.{state_of, opening_of, IsNewFault, IsChoice, HasNoStop, IsStop, IsStoppedWhereFull};
 ghost use Rattle.hep_core.specs.Commits.{IsCancelled, IsCheckedOut, IsCommitted, IsGivenTo, core_after_return, most_tickets};
 ghost use Rattle.hep_core.specs.Invariant.{AreLiving};
@@ -27,9 +28,9 @@ use hep_machine::{Entry, Fault, Record, Slot};
 use hep_quick::{Table, Tabled, tables_of};
 use hep_state::laws::activations_are_few;
 use hep_state::{Machine, TurnFault, Turned, fits};
-use hep_views::Listed;
-use hep_views::finding::listed;
+use hep_views::finding::{listed, whereabouts};
 use hep_views::laws::views_are_of_states;
+use hep_views::{Listed, Whereabouts};
 use std::alloc::{AllocError, Global};
 use std::marker::Model;
 use std::mem::replace;
@@ -570,6 +571,23 @@ impl Core {
         let next = self.waits.next_after(p)?;
         let want = self.waits.waiting(next)?;
         Some(listed(&self.machine, &self.image, next, want))
+    }
+
+    /// How many processes were made.
+    pub fn made(&self) -> u64
+        ensures { result ≡ length (state_of self.now).processes }
+    {
+        self.machine.processes.len() as u64
+    }
+
+    /// Where process p is; none where it was never made or has ended.
+    pub fn whereabouts(&self, p: u64) -> Option<Whereabouts>
+        ensures { result ≡ whereabouts_by self.now.program p (state_of self.now) }
+    {
+        if !self.machine.lives(p) {
+            return None;
+        }
+        Some(whereabouts(&self.machine, &self.image, p))
     }
 
     /// How many cells of the arena are taken.

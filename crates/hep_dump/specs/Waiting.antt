@@ -1,11 +1,13 @@
 -- The lines of processes that wait: docs/MACHINE.md, "Lines of processes that wait".
-use Rattle.std.specs.Prelude.{ℕ, zero, suc, Bool, true, false, List, [], ◌++◌, codes, Option, Some, None, slice_get}
+use Rattle.std.specs.Prelude.{ℕ, zero, suc, Bool, true, false, List, [], ◌++◌, codes, length, Option, Some, None, slice_get}
 use Rattle.std.specs.Fmt.{decimal}
 use Rattle.hep_machine.specs.declared.event.Entry.{Entry}
-use Rattle.hep_machine.specs.Words.{Units}
+use Rattle.hep_machine.specs.Words.{Units, state_after, unit_at}
 use Rattle.hep_image.specs.Names.{names_in_order}
 use Rattle.hep_views.specs.declared.listed.Listed.{Listed}
 use Rattle.hep_core.specs.Value.{listed_after}
+use Rattle.hep_notes.specs.Shown.{words_text}
+use Rattle.hep_naming.specs.Naming.{own_name}
 use Rattle.hep_dump.specs.Names.{name_found}
 
 -- ---- places
@@ -47,12 +49,38 @@ listed_text names l =
     codes "WAITING " ++ decimal l.process ++ codes " " ++ name_found (slice_get names l.unit) ++ codes " LINE " ++ decimal l.line
     ++ wish_text names l
 
+-- ---- what a unit calls a position of COMMON
+
+-- a position is this in a unit of this name
+abbrev pub own_words : List ℕ → List ℕ → List ℕ → List ℕ
+own_words place name unit = place ++ codes " is " ++ name ++ codes " in " ++ unit
+
+abbrev pub own_text : List (List ℕ) → Listed → Option (List ℕ) → List ℕ
+own_text names l None = []
+own_text names l (Some name) = words_text (own_words (place_text names l) name (name_found (slice_get names l.unit)))
+
+-- no name is told for a variable of an activation, which has one
+abbrev pub own_notes : Units → Listed → ℕ → List ℕ
+own_notes program l zero = own_text (names_in_order program) l (own_name (unit_at program l.unit) (name_found (slice_get (names_in_order program) l.name)) l.element)
+own_notes program l (suc a) = []
+
+-- the line of a process, and what its unit calls the position for which it waits, where that is asked for
+abbrev pub told_text : Bool → Units → Listed → List ℕ
+told_text false program l = listed_text (names_in_order program) l
+told_text true program l = listed_text (names_in_order program) l ++ own_notes program l l.owner
+
+-- ---- all of them
+
 -- of one that may wait
-abbrev pub process_text : List (List ℕ) → Option Listed → List ℕ
-process_text names None = []
-process_text names (Some l) = listed_text names l
+abbrev pub process_text : (Listed → List ℕ) → Option Listed → List ℕ
+process_text text None = []
+process_text text (Some l) = text l
 
 -- of so many processes after a history, of which the first one has this number, as far as they are listed
-abbrev pub waiting_text : Units → List Entry → ℕ → ℕ → List ℕ
-waiting_text program history p zero = []
-waiting_text program history p (suc n) = process_text (names_in_order program) (listed_after program history p) ++ waiting_text program history (suc p) n
+abbrev pub waiting_text : (Listed → List ℕ) → Units → List Entry → ℕ → ℕ → List ℕ
+waiting_text text program history p zero = []
+waiting_text text program history p (suc n) = process_text text (listed_after program history p) ++ waiting_text text program history (suc p) n
+
+-- of all processes that were made, with notes where they are asked for
+abbrev pub all_waiting_text : Bool → Units → List Entry → List ℕ
+all_waiting_text long program history = waiting_text (told_text long program) program history 1 (length (state_after program history).processes)

@@ -1,13 +1,19 @@
 //! The lines of processes that wait.
-ghost use Rattle.std.specs.Prelude.{◌≡◌, ◌++◌, IfOk, OnOk, length};
+ghost use Rattle.std.specs.Prelude.{◌≡◌, ◌++◌, IfOk, OnOk, false, slice_get};
 ghost use Rattle.hep_image.specs.Names.{names_in_order};
-ghost use Rattle.hep_core.specs.Value.{state_of};
+ghost use Rattle.hep_machine.specs.Words as machine;
+ghost use Rattle.hep_naming.specs.Naming as naming;
+ghost use Rattle.hep_dump.specs.Names.{name_found};
 ghost use Rattle.hep_dump.specs.Waiting as words;
 
 use crate::faults::name_of;
+use hep_base::Text;
 use hep_core::{Core, Listed};
 use hep_image::Image;
+use hep_naming::own_name;
+use hep_notes::append_words;
 use hep_output::append_number;
+use hep_source::Statement;
 use std::alloc::{AllocError, Global};
 
 // A position of a common block of this name: `/block/#k`.
@@ -90,18 +96,100 @@ pub fn append_waiting(text: &mut Vec<u8>, image: &Image, listed: &Listed) -> Res
     Ok(())
 }
 
-/// Appends the lines of all processes that were found waiting and wait since, by their numbers.
+// Appends what the unit of a process calls the position of COMMON for which it waits.
+fn append_own_words(
+    line: &mut Vec<u8>,
+    image: &Image,
+    listed: &Listed,
+    name: &[u8],
+) -> Result<(), AllocError>
+    ensures { OnOk result (line.new.items
+        ≡ line.old.items ++ words.own_words (words.place_text (names_in_order image.now) listed.now) name.now
+        (name_found (slice_get (names_in_order image.now) listed.now.unit))) }
+{
+    append_place(line, image, listed)?;
+    line.extend_from_slice(b" is ")?;
+    line.extend_from_slice(name)?;
+    line.extend_from_slice(b" in ")?;
+    line.extend_from_slice(name_of(image, listed.unit))?;
+    Ok(())
+}
+
+// The statements of a unit by its number.
+fn unit_at(image: &Image, unit: u32) -> &[Statement]
+    ensures { result.now ≡ machine.unit_at image.now unit }
+{
+    match image.program().as_slice().get(unit as usize) {
+        Some(unit) => unit.as_slice(),
+        None => &[],
+    }
+}
+
+// What the unit of a process calls the position of COMMON for which it waits.
+fn own_name_of(alloc: Global, image: &Image, listed: &Listed) -> Result<Option<Text>, AllocError>
+    ensures { IfOk result (λ name. name
+        ≡ naming.own_name (machine.unit_at image.now listed.now.unit) (name_found (slice_get (names_in_order image.now) listed.now.name))
+        listed.now.element) }
+{
+    let unit = unit_at(image, listed.unit);
+    own_name(alloc, unit, name_of(image, listed.name), listed.element)
+}
+
+// Appends a line with what the unit of a process calls the position of COMMON for which it waits, if it has a name for it.
+fn append_own_name(
+    alloc: Global,
+    text: &mut Vec<u8>,
+    image: &Image,
+    listed: &Listed,
+) -> Result<(), AllocError>
+    ensures { OnOk result (text.new.items ≡ text.old.items ++ words.own_notes image.now listed.now listed.now.owner) }
+{
+    if listed.owner != 0 {
+        return Ok(());
+    }
+    let Some(name) = own_name_of(alloc, image, listed)? else {
+        return Ok(());
+    };
+    let mut line = Vec::new(alloc);
+    append_own_words(&mut line, image, listed, name.as_slice())?;
+    append_words(text, &line)?;
+    Ok(())
+}
+
+// Appends the line of a process that waits, with notes where `long` is true.
+fn append_told(
+    alloc: Global,
+    text: &mut Vec<u8>,
+    image: &Image,
+    listed: &Listed,
+    long: bool,
+) -> Result<(), AllocError>
+    ensures { OnOk result (text.new.items ≡ text.old.items ++ words.told_text long image.now listed.now) }
+{
+    append_waiting(text, image, listed)?;
+    if long {
+        append_own_name(alloc, text, image, listed)?;
+    }
+    Ok(())
+}
+
+/// Appends the lines of all processes that were found waiting and wait since, by their numbers; where `long` is true, with what its
+/// unit calls a position of COMMON behind the line of each process that waits for one.
 ///
 /// # Errors
 ///
 /// Only where memory was refused.
-pub fn append_all_waiting(text: &mut Vec<u8>, core: &Core) -> Result<(), AllocError>
-    ensures { OnOk result (text.new.items
-        ≡ text.old.items ++ words.waiting_text core.now.program core.now.history 1 (length (state_of core.now).processes)) }
+pub fn append_all_waiting(
+    alloc: Global,
+    text: &mut Vec<u8>,
+    core: &Core,
+    long: bool,
+) -> Result<(), AllocError>
+    ensures { OnOk result (text.new.items ≡ text.old.items ++ words.all_waiting_text long core.now.program core.now.history) }
 {
     let mut last = 0;
     while let Some(listed) = core.waiting_after(last) {
-        append_waiting(text, core.image(), &listed)?;
+        append_told(alloc, text, core.image(), &listed, long)?;
         last = listed.process;
     }
     Ok(())
@@ -113,10 +201,9 @@ pub fn append_all_waiting(text: &mut Vec<u8>, core: &Core) -> Result<(), AllocEr
 ///
 /// Only where memory was refused.
 pub fn dump_text(alloc: Global, core: &Core) -> Result<Vec<u8>, AllocError>
-    ensures { IfOk result (λ text. text.items
-        ≡ words.waiting_text core.now.program core.now.history 1 (length (state_of core.now).processes)) }
+    ensures { IfOk result (λ text. text.items ≡ words.all_waiting_text false core.now.program core.now.history) }
 {
     let mut text = Vec::new(alloc);
-    append_all_waiting(&mut text, core)?;
+    append_all_waiting(alloc, &mut text, core, false)?;
     Ok(text)
 }

@@ -1,5 +1,6 @@
 -- What is said behind the line of a refusal of a source: docs/MACHINE.md, "Notes".
 use Rattle.std.specs.Prelude.{ℕ, List, [], ◌∷◌, ◌++◌, codes, Option, Some, None}
+use Rattle.std.specs.Fmt.{decimal}
 use Rattle.hep_text.specs.declared.statement.Span.{Span}
 use Rattle.hep_text.specs.declared.statement.Stmt.{Stmt}
 use Rattle.hep_notes.specs.Places.{line_at, place_in, place_of_line}
@@ -28,3 +29,18 @@ line_notes source number line name = notes_at source (words_of number name) (pla
 abbrev pub statement_notes : List ℕ → List Stmt → ℕ → ℕ → List ℕ → ℕ → List ℕ
 statement_notes source statements number line name index =
     notes_at source (words_of number name) (place_in statements line index)
+
+-- ---- of a violation behind the first one
+
+-- the name behind its line, if there is one
+abbrev pub name_behind : List ℕ → List ℕ
+name_behind [] = []
+name_behind (c ∷ cs) = codes " NAME " ++ (c ∷ cs)
+
+-- its line begins with a word that no fixed line begins with
+abbrev pub also_line : ℕ → ℕ → List ℕ → List ℕ
+also_line number line name = codes "ALSO " ++ decimal number ++ codes " LINE " ++ decimal line ++ name_behind name ++ codes "\n"
+
+-- this line, and then what is said of any violation
+abbrev pub also_notes : List ℕ → List Stmt → ℕ → ℕ → List ℕ → ℕ → List ℕ
+also_notes source statements number line name index = also_line number line name ++ statement_notes source statements number line name index

@@ -7,4 +7,5 @@ pub mod reason;
 pub mod refusal;
 pub mod shown;
 
-pub use refusal::{Subject, line_notes, statement_notes};
+pub use refusal::{Subject, append_also, line_notes, statement_notes};
+pub use shown::append_words;

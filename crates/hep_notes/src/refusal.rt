@@ -4,7 +4,7 @@ ghost use Rattle.hep_notes.specs.Refusals as refusals;
 
 use crate::place::{line_at, place_in, place_of_line};
 use crate::reason::reason;
-use crate::shown::{append_caret, append_line, append_words};
+use crate::shown::{append_caret, append_line, append_number, append_words};
 use hep_base::Text;
 use hep_text::{Span, Stmt};
 use std::alloc::{AllocError, Global};
@@ -108,4 +108,52 @@ pub fn statement_notes(
     let words = words_of(alloc, subject.number, subject.name)?;
     let place = place_in(statements, subject.line, subject.position);
     notes_at(alloc, source, &words, place)
+}
+
+// Appends a name behind a line, if there is one.
+fn append_name_behind(text: &mut Vec<u8>, name: &[u8]) -> Result<(), AllocError>
+    ensures { OnOk result (text.new.items ≡ text.old.items ++ refusals.name_behind name.now) }
+{
+    if name.is_empty() {
+        return Ok(());
+    }
+    text.extend_from_slice(b" NAME ")?;
+    text.extend_from_slice(name)?;
+    Ok(())
+}
+
+// Appends the line of a violation behind the first one.
+fn append_also_line(text: &mut Vec<u8>, subject: &Subject<'_>) -> Result<(), AllocError>
+    ensures { OnOk result (text.new.items
+        ≡ text.old.items ++ refusals.also_line subject.now.number subject.now.line subject.now.name.now) }
+{
+    text.extend_from_slice(b"ALSO ")?;
+    append_number(text, u32::from(subject.number))?;
+    text.extend_from_slice(b" LINE ")?;
+    append_number(text, subject.line)?;
+    append_name_behind(text, subject.name)?;
+    text.extend_from_slice(b"\n")?;
+    Ok(())
+}
+
+/// Appends the line of a violation behind the first one, and what is said of any violation.
+///
+/// # Errors
+///
+/// Only where memory was refused.
+pub fn append_also(
+    alloc: Global,
+    text: &mut Vec<u8>,
+    source: &[u8],
+    statements: &[Stmt],
+    subject: &Subject<'_>,
+) -> Result<(), AllocError>
+    ensures { OnOk result (text.new.items
+        ≡ text.old.items ++ refusals.also_notes source.now statements.now subject.now.number subject.now.line subject.now.name.now
+        subject.now.position) }
+{
+    append_also_line(text, subject)?;
+    let notes = statement_notes(alloc, source, statements, subject)?;
+    text.extend_from_slice(notes.as_slice())?;
+    Ok(())
 }

@@ -61,11 +61,23 @@ fn append_shown(text: &mut Vec<u8>, bytes: &[u8]) -> Result<(), AllocError>
 }
 
 // Appends what stands before the line with this number.
-fn append_number(text: &mut Vec<u8>, number: u32) -> Result<(), AllocError>
+fn append_numbered_margin(text: &mut Vec<u8>, number: u32) -> Result<(), AllocError>
     ensures { OnOk result (text.new.items ≡ text.old.items ++ shown.margin (decimal number)) }
 {
     let mut buffer = Buffer::new();
     append_margin(text, buffer.format(number).as_bytes())
+}
+
+/// Appends a number in decimal.
+///
+/// # Errors
+///
+/// Only where memory was refused.
+pub fn append_number(text: &mut Vec<u8>, number: u32) -> Result<(), AllocError>
+    ensures { OnOk result (text.new.items ≡ text.old.items ++ decimal number) }
+{
+    let mut buffer = Buffer::new();
+    text.extend_from_slice(buffer.format(number).as_bytes())
 }
 
 /// Appends the line with this number, to column 80.
@@ -76,7 +88,7 @@ fn append_number(text: &mut Vec<u8>, number: u32) -> Result<(), AllocError>
 pub fn append_line(text: &mut Vec<u8>, number: u32, line: &[u8]) -> Result<(), AllocError>
     ensures { OnOk result (text.new.items ≡ text.old.items ++ shown.line_text number line.now) }
 {
-    append_number(text, number)?;
+    append_numbered_margin(text, number)?;
     append_shown(text, first_columns(line, COLUMNS))?;
     text.extend_from_slice(b"\n")?;
     Ok(())

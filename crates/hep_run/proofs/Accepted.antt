@@ -17,7 +17,7 @@ alone o run output output' messages messages' none (inl all) =
     inl (record { status = all.status; history = sym none; output_taken = all.output_taken; messages_taken = all.messages_taken })
 alone o run output output' messages messages' none (inr broken) = inr (record { status = broken.status; history = sym none; taken = broken.taken })
 
-left_alone : (Is : Outcome → Type 0) → ((o : Outcome) → Is o → o.history ≡ []) → (run : Run) (output output' messages messages' : Option (List ℕ)) → LeavesOneOf Is run output output' messages messages' → LeavesOneOf Is (status_alone run.status) output output' messages messages'
+pub left_alone : (Is : Outcome → Type 0) → ((o : Outcome) → Is o → o.history ≡ []) → (run : Run) (output output' messages messages' : Option (List ℕ)) → LeavesOneOf Is run output output' messages messages' → LeavesOneOf Is (status_alone run.status) output output' messages messages'
 left_alone Is none run output output' messages messages' (inl wants) = inl (wants.0, (refl, wants.1.1))
 left_alone Is none run output output' messages messages' (inr (o, is, leaves)) = inr (o, is, alone o run output output' messages messages' (none o is) leaves)
 

@@ -60,25 +60,33 @@ notes_too true s t number line name notes short refused (inl (r, e)) =
     )
 notes_too true s t number line name notes short refused (inr (statements, program, v, read, is, first, same)) = unread t statements refused read
 
-module _ (long : Bool) (IsRefused : Units → ℕ → ℕ → List ℕ → Type 0) (Holds : Units → Type 0) (Comes : Units → Outcome → Type 0) where
+module _ (long : Bool) (IsRefused : Units → ℕ → ℕ → List ℕ → Type 0) (Holds : Units → Type 0) (Comes : List ℕ → Units → Outcome → Type 0) where
   -- what a source that is too long comes to is what each such source does
-  same_outcome : (s t : List ℕ) (o : Outcome) → statements_of s ≡ refusal 107 0 → statements_of t ≡ refusal 107 0 → ComesTo long IsRefused Holds Comes t o → ComesTo long IsRefused Holds Comes s o
+  pub same_outcome : (s t : List ℕ) (o : Outcome) → statements_of s ≡ refusal 107 0 → statements_of t ≡ refusal 107 0
+      → ComesTo long IsRefused Holds (Comes t) t o → ComesTo long IsRefused Holds (Comes s) s o
   same_outcome s t o short refused (inl (number, line, name, notes, r, are, is)) =
       inl (number, line, name, notes, refused_too IsRefused s t number line name (short ∙ sym refused) r, notes_too long s t number line name notes short refused are, is)
   same_outcome s t o short refused (inr (p, (ss, e, program, holds), is)) = unread t ss refused e
 
-  outcome_of_whole : (bytes rest : List ℕ) (o : Outcome) → (bytes ++ rest ≡ bytes) ⊎ ((statements_of (bytes ++ rest) ≡ refusal 107 0) × (statements_of bytes ≡ refusal 107 0)) → ComesTo long IsRefused Holds Comes bytes o → ComesTo long IsRefused Holds Comes (bytes ++ rest) o
-  outcome_of_whole bytes rest o (inl same) is = subst (λ (l : List ℕ). ComesTo long IsRefused Holds Comes l o) (sym same) is
-  outcome_of_whole bytes rest o (inr (short, refused)) is = same_outcome (bytes ++ rest) bytes o short refused is
+-- outcomes that each source that is too long has, if one of them has it
+module _ (Is : List ℕ → Outcome → Type 0) (same_for_long : (s t : List ℕ) (o : Outcome) → statements_of s ≡ refusal 107 0 → statements_of t ≡ refusal 107 0 → Is t o → Is s o) where
+  outcome_of_whole : (bytes rest : List ℕ) (o : Outcome) → (bytes ++ rest ≡ bytes) ⊎ ((statements_of (bytes ++ rest) ≡ refusal 107 0) × (statements_of bytes ≡ refusal 107 0)) → Is bytes o → Is (bytes ++ rest) o
+  outcome_of_whole bytes rest o (inl same) is = subst (λ (l : List ℕ). Is l o) (sym same) is
+  outcome_of_whole bytes rest o (inr (short, refused)) is = same_for_long (bytes ++ rest) bytes o short refused is
 
-  outcome_of_front : (known left : Option (List ℕ)) (bytes : List ℕ) (o : Outcome) → Consumes known left bytes → (length bytes ≤ 4194304 → IsAtEnd left) → ComesTo long IsRefused Holds Comes bytes o → IsOutcomeOf (ComesTo long IsRefused Holds Comes) known o
+  outcome_of_front : (known left : Option (List ℕ)) (bytes : List ℕ) (o : Outcome) → Consumes known left bytes → (length bytes ≤ 4194304 → IsAtEnd left) → Is bytes o → IsOutcomeOf Is known o
   outcome_of_front None left bytes o taken end is = (bytes, is)
   outcome_of_front (Some source) None bytes o taken end is = absurd taken
   outcome_of_front (Some source) (Some rest) bytes o taken end is =
-      subst (λ (l : List ℕ). ComesTo long IsRefused Holds Comes l o) (sym taken) (outcome_of_whole bytes rest o (front bytes rest end) is)
+      subst (λ (l : List ℕ). Is l o) (sym taken) (outcome_of_whole bytes rest o (front bytes rest end) is)
 
   -- what is left of the bytes that were read is left of the reader's bytes
+  pub read_left : (known left : Option (List ℕ)) (bytes source : List ℕ) (run : Run) (output output' messages messages' : Option (List ℕ)) → source ≡ bytes → Consumes known left bytes → (length bytes ≤ 4194304 → IsAtEnd left) → LeavesOneOf (Is source) run output output' messages messages' → LeavesOfSource Is known left run output output' messages messages'
+  read_left known left bytes source run output output' messages messages' same taken end (inl wants) = inr ((bytes, taken, end), inl wants)
+  read_left known left bytes source run output output' messages messages' same taken end (inr (o, is, leaves)) =
+      inr ((bytes, taken, end), inr (o, outcome_of_front known left bytes o taken end (subst (λ (l : List ℕ). Is l o) same is), leaves))
+
+module _ (long : Bool) (IsRefused : Units → ℕ → ℕ → List ℕ → Type 0) (Holds : Units → Type 0) (Comes : Units → Outcome → Type 0) where
+  -- the same of what comes of a program, whatever its source is
   pub source_left : (known left : Option (List ℕ)) (bytes source : List ℕ) (run : Run) (output output' messages messages' : Option (List ℕ)) → source ≡ bytes → Consumes known left bytes → (length bytes ≤ 4194304 → IsAtEnd left) → LeavesOneOf (ComesTo long IsRefused Holds Comes source) run output output' messages messages' → LeavesOfSource (ComesTo long IsRefused Holds Comes) known left run output output' messages messages'
-  source_left known left bytes source run output output' messages messages' same taken end (inl wants) = inr ((bytes, taken, end), inl wants)
-  source_left known left bytes source run output output' messages messages' same taken end (inr (o, is, leaves)) =
-      inr ((bytes, taken, end), inr (o, outcome_of_front known left bytes o taken end (subst (λ (l : List ℕ). ComesTo long IsRefused Holds Comes l o) same is), leaves))
+  source_left = read_left (ComesTo long IsRefused Holds Comes) (same_outcome long IsRefused Holds (λ source. Comes))

@@ -1,5 +1,5 @@
 -- The outcome of a run, from the core that it left.
-use Rattle.std.proofs.Common.{◌≡◌, ℕ, List, Option, Some, None, Result, Ok, Err, refl, subst, inl, inr, IfOk}
+use Rattle.std.proofs.Common.{◌≡◌, ℕ, Bool, List, Option, Some, None, Result, Ok, Err, refl, ap, ◌∙◌, subst, inl, inr, IfOk}
 use Rattle.hep_machine.specs.Words.{IsLegal, Units}
 use Rattle.hep_core.specs.declared.stop.ChoiceStop.{ChoiceStop}
 use Rattle.hep_core.specs.declared.stop.ChoiceStop.TheVariants.{Halted, ArenaFull, StepLimit}
@@ -32,10 +32,18 @@ over options value (Some Halted) here none named = named
 over options value (Some ArenaFull) here none named = (named.0, here)
 over options value (Some StepLimit) here none named = here
 
-pub outcome_refused : (options : Options) (program : Units) (value : CoreValue) (choice : ℕ) (o : Outcome) → value.program ≡ program → IsHaltedBy options value (NoSuchProcess choice) → IsLegal value.program value.cells value.limit value.history → o ≡ outcome_of_refused_choice value.history → IsRunOutcome program options o
-outcome_refused options program value choice o same halted legal is =
-    subst (λ (p : Units). IsRunOutcome p options o) same (value.history, made options value halted.0 legal, inl (halted.2, is))
+pub outcome_refused : (long : Bool) (options : Options) (program : Units) (value : CoreValue) (choice : ℕ) (o : Outcome) → value.program ≡ program → IsHaltedBy options value (NoSuchProcess choice) → IsLegal value.program value.cells value.limit value.history → o ≡ outcome_of_refused_choice value.history → IsRunOutcome long program options o
+outcome_refused long options program value choice o same halted legal is =
+    subst (λ (p : Units). IsRunOutcome long p options o) same (value.history, made options value halted.0 legal, inl (halted.2, is))
 
-pub outcome_over : (options : Options) (program : Units) (value : CoreValue) (o : Outcome) → value.program ≡ program → IsRunning options value → (value.stop ≡ None → next_process value.program options.choices value.history ≡ None) → IsLegal value.program value.cells value.limit value.history → core.IsStop value.program value.cells value.limit value.history value.stop → o ≡ outcome_of_end value.program value.history value.stop → IsRunOutcome program options o
-outcome_over options program value o same running none legal named is =
-    subst (λ (p : Units). IsRunOutcome p options o) same (value.history, made options value running legal, inr (value.stop, over options value value.stop running.stop none named, is))
+pub outcome_over : (long : Bool) (options : Options) (program : Units) (value : CoreValue) (o : Outcome) → value.program ≡ program → IsRunning options value → (value.stop ≡ None → next_process value.program options.choices value.history ≡ None) → IsLegal value.program value.cells value.limit value.history → core.IsStop value.program value.cells value.limit value.history value.stop → o ≡ outcome_of_end long value.program value.cells value.history value.stop → IsRunOutcome long program options o
+outcome_over long options program value o same running none legal named is =
+    subst (λ (p : Units). IsRunOutcome long p options o) same (
+      value.history,
+      made options value running legal,
+      inr (
+        value.stop,
+        over options value value.stop running.stop none named,
+        is ∙ ap (λ (n : ℕ). outcome_of_end long value.program n value.history value.stop) running.cells,
+      ),
+    )

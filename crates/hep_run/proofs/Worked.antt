@@ -13,10 +13,10 @@ use Rattle.hep_workers.specs.Reports.{IsReport}
 use Rattle.hep_run.specs.Outcome.{Outcome, outcome_of_end, verdict_after}
 use Rattle.hep_run.specs.Workers.{IsImageWorked, is_refusal_of_workers}
 
-pub outcome-worked : (program : Units) (options : WorkOptions) (core : CoreValue) (logs : List (List Receipt)) (o : Outcome)
+pub outcome-worked : (long : Bool) (program : Units) (options : WorkOptions) (core : CoreValue) (logs : List (List Receipt)) (o : Outcome)
     → IsReport core program options logs → IsLegal core.program core.cells core.limit core.history → IsStop core.program core.cells core.limit core.history core.stop
-    → o ≡ outcome_of_end core.program core.history core.stop → IsImageWorked program options o
-outcome-worked program options core logs o report legal named is =
+    → o ≡ outcome_of_end long core.program core.cells core.history core.stop → IsImageWorked long program options o
+outcome-worked long program options core logs o report legal named is =
     let h = core.history in
     let (same, cells, limit) = report.run in
     inr (inr (
@@ -27,7 +27,7 @@ outcome-worked program options core logs o report legal named is =
         stopped = subst (λ (p : Units). IsStop p options.arena options.steps h core.stop) same (subst (λ n. IsStop core.program options.arena n h core.stop) limit (subst (λ n. IsStop core.program n core.limit h core.stop) cells named));
         over = λ running. report.over (ap (λ (p : Units). verdict_after p h core.stop) same ∙ running);
       },
-      is ∙ ap (λ (p : Units). outcome_of_end p h core.stop) same,
+      is ∙ (ap (λ (p : Units). outcome_of_end long p core.cells h core.stop) same ∙ ap (λ n. outcome_of_end long program n h core.stop) cells),
     ))
 
 abbrev is_some_refusal : Option ℕ → Bool

@@ -6,6 +6,7 @@ pub mod Outcome
 pub mod Replay
 pub mod Workers
 pub mod Checks
+pub mod Warned
 pub mod Refusals
 pub mod Transcripts
 pub mod Delivery

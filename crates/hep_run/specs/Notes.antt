@@ -1,33 +1,67 @@
 -- What stands behind the line of a refusal where more is asked for: docs/MACHINE.md, "Notes".
-use Rattle.std.specs.Prelude.{◌≡◌, ◌⊎◌, ℕ, Bool, true, false, List, [], Ok, Some}
+use Rattle.std.specs.Prelude.{◌≡◌, ◌⊎◌, ℕ, Bool, true, false, List, [], ◌++◌, Ok, Option, Some, None}
+use Rattle.std.specs.List.{flat_map}
+use Rattle.std.specs.Option.{option_map_or}
 use Rattle.hep_text.specs.declared.statement.Stmt.{Stmt}
 use Rattle.hep_text.specs.Reading.{statements_of}
 use Rattle.hep_parse.specs.Program.{IsProgram}
-use Rattle.hep_machine.specs.Words.{Units}
+use Rattle.hep_machine.specs.declared.event.Entry.{Entry}
+use Rattle.hep_machine.specs.Words.{is_held, spelling, state_after, Units, used_cells}
 use Rattle.hep_conditions.specs.declared.violation.Violation.{Violation}
 use Rattle.hep_conditions.specs.Words.{first_violation}
-use Rattle.hep_notes.specs.Refusals.{line_notes, statement_notes}
+use Rattle.hep_check.specs.Further.{further}
+use Rattle.hep_core.specs.declared.stop.ChoiceStop.{ChoiceStop}
+use Rattle.hep_core.specs.declared.stop.ChoiceStop.TheVariants.{ArenaFull, Halted, StepLimit}
+use Rattle.hep_dump.specs.Stops.{all_places_notes, opening_notes, used_notes}
+use Rattle.hep_notes.specs.Refusals.{also_notes, line_notes, statement_notes}
 use Rattle.hep_run.specs.Sources.{IsRefusedFor, IsUnrunnableProgram}
 
--- notes by the line alone, and by a character of a statement; none where they aren't asked for
+-- notes by the line alone, and none, which is where they aren't asked for
+abbrev pub no_notes : ℕ → ℕ → List ℕ → List ℕ
+no_notes number line name = []
+
 abbrev pub line_notes_when : Bool → List ℕ → ℕ → ℕ → List ℕ → List ℕ
 line_notes_when false source number line name = []
 line_notes_when true source number line name = line_notes source number line name
 
-abbrev pub statement_notes_when : Bool → List ℕ → List Stmt → ℕ → ℕ → ℕ → List ℕ → List ℕ
-statement_notes_when false source statements position number line name = []
-statement_notes_when true source statements position number line name = statement_notes source statements number line name position
+-- what is said of a violation behind the first one
+abbrev pub also_of : List ℕ → List Stmt → Violation → List ℕ
+also_of source statements v = also_notes source statements v.number v.line (option_map_or spelling v.name []) v.position
 
--- notes at the place of the first violation of the program
+-- notes at a character of a statement, and then what is said of further violations
+abbrev pub violation_notes : List ℕ → List Stmt → ℕ → List Violation → ℕ → ℕ → List ℕ → List ℕ
+violation_notes source statements position others number line name =
+    statement_notes source statements number line name position ++ flat_map (also_of source statements) others
+
+-- notes at the place of the first violation of the program, and of those behind it
 abbrev pub AreViolationNotes : List ℕ → ℕ → ℕ → List ℕ → List ℕ → Type 0
 AreViolationNotes source number line name notes =
     (statements : List Stmt) × (program : Units) × (v : Violation)
     × (statements_of source ≡ Ok statements) × IsProgram statements program × (first_violation program ≡ Some v)
-    × (notes ≡ statement_notes source statements number line name v.position)
+    × (notes ≡ violation_notes source statements v.position (further program v) number line name)
 
--- the notes of a refusal of a source: of its text, its statements or a limit, or of its first violation
+-- the notes of a refusal of a source: of its text, its statements or a limit, or of its violations
 abbrev pub AreNotes : Bool → List ℕ → ℕ → ℕ → List ℕ → List ℕ → Type 0
 AreNotes false source number line name notes = notes ≡ []
 AreNotes true source number line name notes =
     (IsRefusedFor IsUnrunnableProgram source number line name × (notes ≡ line_notes source number line name))
     ⊎ AreViolationNotes source number line name notes
+
+-- ---- of stops
+
+-- where COMMON and the frame of the main program don't fit an arena of so many cells
+abbrev pub opening_notes_when : Bool → Units → ℕ → List ℕ
+opening_notes_when false program cells = []
+opening_notes_when true program cells = opening_notes program cells
+
+-- after a history in an arena of so many cells: how many are taken, where a frame has no gap; where each process is, where the history
+-- is full
+abbrev pub notes_of_stop : Units → ℕ → List Entry → Option ChoiceStop → List ℕ
+notes_of_stop program cells history (Some ArenaFull) = used_notes (used_cells program is_held (state_after program history)) cells
+notes_of_stop program cells history (Some StepLimit) = all_places_notes program history
+notes_of_stop program cells history (Some Halted) = []
+notes_of_stop program cells history None = []
+
+abbrev pub stop_notes : Bool → Units → ℕ → List Entry → Option ChoiceStop → List ℕ
+stop_notes false program cells history stop = []
+stop_notes true program cells history stop = notes_of_stop program cells history stop

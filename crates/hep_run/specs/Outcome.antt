@@ -15,8 +15,8 @@ use Rattle.hep_run.specs.declared.status.Status.{Status}
 use Rattle.hep_run.specs.declared.status.Status.TheVariants as statuses
 use Rattle.hep_output.specs.Records.{records_text}
 use Rattle.hep_dump.specs.Faults.{faults_text}
-use Rattle.hep_dump.specs.Waiting.{waiting_text}
-use Rattle.hep_run.specs.Notes.{AreNotes}
+use Rattle.hep_dump.specs.Waiting.{all_waiting_text}
+use Rattle.hep_run.specs.Notes.{AreNotes, opening_notes_when, stop_notes}
 use Rattle.hep_run.specs.Sources.{IsRefusedFor, IsRefusedProgram, IsRunnable, IsSourceOf}
 use Rattle.hep_run.specs.Texts.{refusal_text, stop_text, choice_text}
 
@@ -84,8 +84,13 @@ abbrev pub refused : ℕ → ℕ → List ℕ → List ℕ → Outcome
 refused number line name notes =
     record { output = []; messages = refusal_text number line name ++ notes; status = statuses.Refused; history = [] }
 
-abbrev pub outcome_of_full_arena : Outcome
-outcome_of_full_arena = record { output = []; messages = stop_text (Some ArenaFull); status = statuses.ArenaFull; history = [] }
+-- the arena is full at the opening, with these notes
+abbrev pub full_with : List ℕ → Outcome
+full_with notes = record { output = []; messages = stop_text (Some ArenaFull) ++ notes; status = statuses.ArenaFull; history = [] }
+
+-- COMMON and the frame of the main program don't fit an arena of so many cells
+abbrev pub outcome_of_full_arena : Bool → Units → ℕ → Outcome
+outcome_of_full_arena long program cells = full_with (opening_notes_when long program cells)
 
 -- choices are counted from 1
 abbrev pub outcome_of_refused_choice : List Entry → Outcome
@@ -113,29 +118,32 @@ verdict_after program history stop =
     verdict_by stop (living_from 1 (state_after program history).processes) (ready_in (progress_after program history))
 
 -- the lines of the processes that wait, where all do that live
-abbrev pub dump_text : Units → List Entry → Verdict → List ℕ
-dump_text program history verdicts.Waiting = waiting_text program history 1 (length (state_after program history).processes)
-dump_text program history _ = []
+abbrev pub dump_text : Bool → Units → List Entry → Verdict → List ℕ
+dump_text long program history verdicts.Waiting = all_waiting_text long program history
+dump_text long program history _ = []
 
-abbrev pub outcome_of_end : Units → List Entry → Option ChoiceStop → Outcome
-outcome_of_end program history stop =
+-- a run in an arena of so many cells, after a history and with a stop
+abbrev pub outcome_of_end : Bool → Units → ℕ → List Entry → Option ChoiceStop → Outcome
+outcome_of_end long program cells history stop =
     record {
       output = records_text (state_after program history).records;
-      messages = faults_text (names_in_order program) (state_after program history).faults ++ dump_text program history (verdict_after program history stop) ++ stop_text stop;
+      messages = faults_text (names_in_order program) (state_after program history).faults ++ dump_text long program history (verdict_after program history stop)
+          ++ stop_text stop ++ stop_notes long program cells history stop;
       status = status_of (verdict_after program history stop) (state_after program history).faults;
       history = history;
     }
 
 -- a program whose main program's frame has a gap in the arena, by its history
-abbrev pub IsRunOutcome : Units → Options → Outcome → Type 0
-IsRunOutcome program options o =
+abbrev pub IsRunOutcome : Bool → Units → Options → Outcome → Type 0
+IsRunOutcome long program options o =
     (history : List Entry) × IsHistory program options history × (
     (IsChoiceRefused program options history × (o ≡ outcome_of_refused_choice history))
-    ⊎ ((stop : Option ChoiceStop) × IsOver program options history stop × (o ≡ outcome_of_end program history stop)))
+    ⊎ ((stop : Option ChoiceStop) × IsOver program options history stop × (o ≡ outcome_of_end long program options.arena history stop)))
 
 -- an accepted program
-abbrev pub IsProgramOutcome : Units → Options → Outcome → Type 0
-IsProgramOutcome program options o = ((opening_layout program options.arena ≡ None) × (o ≡ outcome_of_full_arena)) ⊎ IsRunOutcome program options o
+abbrev pub IsProgramOutcome : Bool → Units → Options → Outcome → Type 0
+IsProgramOutcome long program options o =
+    ((opening_layout program options.arena ≡ None) × (o ≡ outcome_of_full_arena long program options.arena)) ⊎ IsRunOutcome long program options o
 
 -- what a source comes to: a refusal of it, whose program may be refused so, with notes where they are asked for; or what comes of its
 -- program, of which this holds
@@ -151,4 +159,4 @@ RunsTo long Comes source o = ComesTo long IsRefusedProgram IsRunnable Comes sour
 
 -- what a run of a source comes to by these options, with notes where they are asked for
 abbrev pub IsOutcome : Bool → Options → List ℕ → Outcome → Type 0
-IsOutcome long options source o = RunsTo long (λ program. IsProgramOutcome program options) source o
+IsOutcome long options source o = RunsTo long (λ program. IsProgramOutcome long program options) source o

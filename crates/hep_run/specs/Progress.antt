@@ -1,20 +1,12 @@
 -- How far a run has come: docs/ARCHITECTURE.md, "Forms".
-use Rattle.std.specs.Prelude.{◌≡◌, ℕ, ◌+◌, List, [], length, Option, Some, None, IsSome}
-use Rattle.hep_machine.specs.Words.{Units, opening_layout}
+use Rattle.std.specs.Prelude.{◌≡◌, ℕ, ◌+◌, List, [], length, Option, Some, None}
 use Rattle.hep_core.specs.declared.stop.ChoiceStop.{ChoiceStop}
 use Rattle.hep_core.specs.declared.stop.ChoiceStop.TheVariants.{Halted, ArenaFull, StepLimit}
-use Rattle.hep_core.specs.Value.{CoreValue, opening_of}
+use Rattle.hep_core.specs.Value.{CoreValue}
 use Rattle.hep_run.specs.declared.options.Options.{Options}
 use Rattle.hep_run.specs.declared.run.Halt.{Halt}
 use Rattle.hep_run.specs.declared.run.Halt.TheVariants.{NoMemory, NoSuchProcess}
-use Rattle.hep_run.specs.Sources.{IsRunnableSource}
 use Rattle.hep_run.specs.Outcome.{IsScheduled, IsCutShort, IsFull, IsChoiceRefused}
-
--- the core is at the opening of the accepted program that the source is, whose main program's frame has a gap in the arena
-abbrev pub IsOpening : List ℕ → Options → CoreValue → Type 0
-IsOpening source options core =
-    (program : Units) × IsRunnableSource source program
-    × IsSome (opening_layout program options.arena) × (core ≡ opening_of program options.arena options.steps)
 
 abbrev pub IsStopOfRun : Options → CoreValue → Option ChoiceStop → Type 0
 IsStopOfRun options core None = Unit {0}

@@ -13,6 +13,7 @@ use Rattle.hep_history.specs.Histories.{entry_text, IsAllowed}
 use Rattle.hep_history.specs.Replays.{replayed, ArePossible, IsFirstImpossible}
 use Rattle.hep_run.specs.declared.status.Status.TheVariants as statuses
 use Rattle.hep_run.specs.Outcome.{Outcome, RunsTo, dump_text, outcome_of_full_arena, status_of}
+use Rattle.hep_run.specs.Notes.{stop_notes}
 use Rattle.hep_run.specs.Texts.{refusal_text, stop_text}
 
 -- ---- outcomes
@@ -27,11 +28,12 @@ running_text Running = codes "STILL RUNNING\n"
 running_text _ = []
 
 -- what a core shows that has made all entries
-abbrev pub outcome_of_core : CoreValue → Outcome
-outcome_of_core core =
+abbrev pub outcome_of_core : Bool → CoreValue → Outcome
+outcome_of_core long core =
     record {
       output = records_text (state_of core).records;
-      messages = faults_text (names_in_order core.program) (state_of core).faults ++ dump_text core.program core.history (verdict_of core) ++ stop_text core.stop ++ running_text (verdict_of core);
+      messages = faults_text (names_in_order core.program) (state_of core).faults ++ dump_text long core.program core.history (verdict_of core)
+          ++ stop_text core.stop ++ stop_notes long core.program core.cells core.history core.stop ++ running_text (verdict_of core);
       status = status_of (verdict_of core) (state_of core).faults;
       history = core.history;
     }
@@ -39,19 +41,19 @@ outcome_of_core core =
 -- ---- sources and histories
 
 -- what comes of these entries
-abbrev pub IsEntriesOutcome : Units → ℕ → List Entry → Outcome → Type 0
-IsEntriesOutcome program cells entries o =
-    ((opening_layout program cells ≡ None) × (o ≡ outcome_of_full_arena))
+abbrev pub IsEntriesOutcome : Bool → Units → ℕ → List Entry → Outcome → Type 0
+IsEntriesOutcome long program cells entries o =
+    ((opening_layout program cells ≡ None) × (o ≡ outcome_of_full_arena long program cells))
     ⊎ (IsSome (opening_layout program cells) × (
     ((k : ℕ) × IsFirstImpossible program cells entries k × (o ≡ outcome_of_refused_history 603 k))
-    ⊎ (ArePossible program cells entries (length entries) × (o ≡ outcome_of_core (replayed program cells entries)))))
+    ⊎ (ArePossible program cells entries (length entries) × (o ≡ outcome_of_core long (replayed program cells entries)))))
 
 -- what comes of a text of a history
-abbrev pub IsTextOutcome : List ℕ → ℕ → Units → Outcome → Type 0
-IsTextOutcome text cells program o =
+abbrev pub IsTextOutcome : Bool → List ℕ → ℕ → Units → Outcome → Type 0
+IsTextOutcome long text cells program o =
     ((k : ℕ) × IsRefusedText entry_text IsAllowed text k × (o ≡ outcome_of_refused_history 601 k))
-    ⊎ ((entries : List Entry) × AreLines entry_text IsAllowed text entries × IsEntriesOutcome program cells entries o)
+    ⊎ ((entries : List Entry) × AreLines entry_text IsAllowed text entries × IsEntriesOutcome long program cells entries o)
 
 -- what a replay of a source by this text comes to, in an arena of so many cells
 abbrev pub IsReplayOutcome : Bool → List ℕ → ℕ → List ℕ → Outcome → Type 0
-IsReplayOutcome long text cells source o = RunsTo long (IsTextOutcome text cells) source o
+IsReplayOutcome long text cells source o = RunsTo long (IsTextOutcome long text cells) source o

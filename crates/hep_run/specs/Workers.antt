@@ -25,12 +25,13 @@ abbrev pub outcome_of_refused_workers : ℕ → Outcome
 outcome_of_refused_workers number = record { output = []; messages = workers_text number; status = statuses.NoMemory; history = [] }
 
 -- an accepted program
-abbrev pub IsImageWorked : Units → WorkOptions → Outcome → Type 0
-IsImageWorked program options o =
-    ((opening_layout program options.arena ≡ None) × (o ≡ outcome_of_full_arena))
+abbrev pub IsImageWorked : Bool → Units → WorkOptions → Outcome → Type 0
+IsImageWorked long program options o =
+    ((opening_layout program options.arena ≡ None) × (o ≡ outcome_of_full_arena long program options.arena))
     ⊎ ((number : ℕ) × (is_refusal_of_workers number ≡ true) × (o ≡ outcome_of_refused_workers number))
-    ⊎ ((history : List Entry) × (stop : Option ChoiceStop) × IsWorked program options history stop × (o ≡ outcome_of_end program history stop))
+    ⊎ ((history : List Entry) × (stop : Option ChoiceStop) × IsWorked program options history stop
+    × (o ≡ outcome_of_end long program options.arena history stop))
 
 -- what a run of a source by workers comes to by these options
 abbrev pub IsWorkOutcome : Bool → WorkOptions → List ℕ → Outcome → Type 0
-IsWorkOutcome long options source o = RunsTo long (λ program. IsImageWorked program options) source o
+IsWorkOutcome long options source o = RunsTo long (λ program. IsImageWorked long program options) source o

@@ -1,19 +1,21 @@
 //! From a source's bytes to its program, checked or as a core runs it.
-ghost use Rattle.std.specs.Prelude.{◌≡◌, ◌⊎◌, IfOk, IfErr};
-ghost use Rattle.hep_run.specs.Notes.{line_notes_when, statement_notes_when};
+ghost use Rattle.std.specs.Prelude.{◌≡◌, ◌⊎◌, ◌++◌, IfOk, IfErr, OnOk};
+ghost use Rattle.std.specs.List.{flat_map};
+ghost use Rattle.hep_run.specs.Notes as told;
+ghost use Rattle.hep_run.specs.Notes.{also_of, line_notes_when, no_notes};
 ghost use Rattle.hep_run.specs.Sources.{IsAcceptedSource, IsRunnableSource};
 ghost use Rattle.hep_run.specs.Refusals.{IsCheckRefusal, IsSourceRefusal, noted, refusal_of};
 
 use crate::refusal::SourceFault;
 use hep_base::{Refusal, Text};
-use hep_check::{Checked, Unaccepted, fault_of, judge};
+use hep_check::{Checked, Rejected, Unaccepted, fault_of, judge, judge_further};
 use hep_conditions::Violation;
 use hep_image::Image;
 use hep_lower::lower;
-use hep_notes::{Subject, line_notes, statement_notes};
+use hep_notes::{Subject, append_also, line_notes, statement_notes};
 use hep_parse::parse;
 use hep_text::{Stmt, statements};
-use std::alloc::Global;
+use std::alloc::{AllocError, Global};
 
 // A refusal with what is said behind it where more is asked for, by its number, its line and its name.
 fn refused_at_line(alloc: Global, source: &[u8], refusal: Refusal, long: bool) -> SourceFault
@@ -38,32 +40,97 @@ fn refused_at_line(alloc: Global, source: &[u8], refusal: Refusal, long: bool) -
     }
 }
 
-// The refusal of a program that violates a condition, with what is said behind it where more is asked for.
-fn refused_at(
+// The refusal of a program that violates a condition.
+fn refused_alone(alloc: Global, violation: Violation) -> SourceFault
+    ensures { (result ≡ SourceFault.NoMemory) ⊎ (result ≡ noted no_notes (refusal_of violation)) }
+{
+    match fault_of(alloc, violation) {
+        Refusal::Refused { number, line, name } => SourceFault::Refused {
+            number,
+            line,
+            name,
+            notes: Text::from(Vec::new(alloc)),
+        },
+        Refusal::NoMemory => SourceFault::NoMemory,
+    }
+}
+
+// Appends what is said of a violation behind the first one.
+fn append_violation(
+    alloc: Global,
+    text: &mut Vec<u8>,
+    source: &[u8],
+    statements: &[Stmt],
+    violation: &Violation,
+) -> Result<(), AllocError>
+    ensures { OnOk result (text.new.items ≡ text.old.items ++ also_of source.now statements.now violation.now) }
+{
+    let Refusal::Refused { number, line, name } = fault_of(alloc, *violation) else {
+        return Err(AllocError);
+    };
+    let subject = Subject {
+        number,
+        line,
+        name: name.as_slice(),
+        position: violation.position,
+    };
+    append_also(alloc, text, source, statements, &subject)
+}
+
+// Appends what is said of violations behind the first one.
+fn append_further(
+    alloc: Global,
+    text: &mut Vec<u8>,
+    source: &[u8],
+    statements: &[Stmt],
+    further: &[Violation],
+) -> Result<(), AllocError>
+    ensures { OnOk result (text.new.items ≡ text.old.items ++ flat_map (also_of source.now statements.now) further.now) }
+{
+    for violation in further {
+        append_violation(alloc, text, source, statements, violation)?;
+    }
+    Ok(())
+}
+
+// What is said of the first violation, which is about this, and of those behind it.
+fn violation_notes(
     alloc: Global,
     source: &[u8],
     statements: &[Stmt],
-    violation: Violation,
-    long: bool,
+    subject: &Subject<'_>,
+    further: &[Violation],
+) -> Result<Text, AllocError>
+    ensures { IfOk result (λ notes. notes
+        ≡ told.violation_notes source.now statements.now subject.now.position further.now subject.now.number subject.now.line
+        subject.now.name.now) }
+{
+    let mut text = statement_notes(alloc, source, statements, subject)?.into_vec();
+    append_further(alloc, &mut text, source, statements, further)?;
+    Ok(Text::from(text))
+}
+
+// The refusal of a program that violates conditions, with what is said of all that are told.
+fn refused_further(
+    alloc: Global,
+    source: &[u8],
+    statements: &[Stmt],
+    first: Violation,
+    further: &[Violation],
 ) -> SourceFault
     ensures { (result ≡ SourceFault.NoMemory)
-        ⊎ (result ≡ noted (statement_notes_when long source.now statements.now violation.position) (refusal_of violation)) }
+        ⊎ (result ≡ noted (told.violation_notes source.now statements.now first.position further.now) (refusal_of first)) }
 {
-    let Refusal::Refused { number, line, name } = fault_of(alloc, violation) else {
+    let Refusal::Refused { number, line, name } = fault_of(alloc, first) else {
         return SourceFault::NoMemory;
     };
-    let notes = if long {
-        let subject = Subject {
-            number,
-            line,
-            name: name.as_slice(),
-            position: violation.position,
-        };
-        statement_notes(alloc, source, statements, &subject)
-    } else {
-        Ok(Text::from(Vec::new(alloc)))
+    let subject = Subject {
+        number,
+        line,
+        name: name.as_slice(),
+        position: first.position,
     };
-    match notes {
+    match violation_notes(alloc, source, statements, &subject, further) {
         Ok(notes) => SourceFault::Refused {
             number,
             line,
@@ -79,7 +146,7 @@ fn refused_at(
 /// # Errors
 ///
 /// The first refusal of the source: of its text, of its statements, or of a condition that it violates; or
-/// `NoMemory`. Where `long` is true it has what is said behind its line.
+/// `NoMemory`. Where `long` is true it has what is said behind its line, of the violations behind the first one too.
 pub fn checked_source(alloc: Global, source: &[u8], long: bool) -> Result<Checked, SourceFault>
     ensures made { IfOk result (IsAcceptedSource source.now) }
     ensures refused { IfErr result (IsCheckRefusal long source.now) }
@@ -92,12 +159,23 @@ pub fn checked_source(alloc: Global, source: &[u8], long: bool) -> Result<Checke
         Ok(program) => program,
         Err(refusal) => return Err(refused_at_line(alloc, source, refusal, long)),
     };
+    if long {
+        return match judge_further(alloc, program) {
+            Ok(checked) => Ok(checked),
+            Err(Rejected::NoMemory) => Err(SourceFault::NoMemory),
+            Err(Rejected::Violated { first, further }) => Err(refused_further(
+                alloc,
+                source,
+                &statements,
+                first,
+                &further,
+            )),
+        };
+    }
     match judge(alloc, program) {
         Ok(checked) => Ok(checked),
         Err(Unaccepted::NoMemory) => Err(SourceFault::NoMemory),
-        Err(Unaccepted::Violated(violation)) => {
-            Err(refused_at(alloc, source, &statements, violation, long))
-        }
+        Err(Unaccepted::Violated(violation)) => Err(refused_alone(alloc, violation)),
     }
 }
 

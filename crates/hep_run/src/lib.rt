@@ -14,15 +14,17 @@ pub mod source;
 pub mod status;
 pub mod texts;
 pub mod transcript;
+pub mod warned;
 pub mod workers;
 
 pub use deliver::put_text;
 pub use files::{answer, choices_of, history_text, read_text_file, say_unread, say_unwritten};
 pub use hep_workers::{Gate, NoGate, WorkOptions};
 pub use input::ReadFault;
-pub use options::{Options, Run};
+pub use options::{AskedReplay, AskedRun, AskedWork, Options, Run};
 pub use source::{
     check_noted, check_source, list_noted, list_source, replay_bytes, replay_noted, replay_source,
     run_bytes, run_noted, run_source,
 };
+pub use warned::{warn_noted, warn_source};
 pub use workers::{work_noted, work_source};

@@ -4,6 +4,7 @@ ghost use Rattle.hep_run.specs.Statuses.{status_code};
 
 use crate::status::Status;
 use hep_history::{Choices, History};
+use hep_workers::WorkOptions;
 use std::alloc::Global;
 
 /// How a source is run.
@@ -33,6 +34,39 @@ impl Options {
             choices: Choices::from(Vec::new(alloc)),
         }
     }
+}
+
+/// What a run of a source is asked for.
+#[derive(Clone, Copy)]
+pub struct AskedRun<'a> {
+    pub options: &'a Options,
+    /// Whether more is said than the lines that are fixed.
+    pub long: bool,
+}
+
+/// What a replay of a history is asked for.
+#[derive(Clone, Copy)]
+pub struct AskedReplay<'a> {
+    /// The text of the history.
+    pub history: &'a [u8],
+    /// The arena's size in cells, 1 to 16,777,216.
+    pub arena: u32,
+    /// Whether more is said than the lines that are fixed.
+    pub long: bool,
+    ghost some: { 1 ≤ arena },
+    ghost few: { arena ≤ 16777216 },
+}
+
+/// What a run by workers is asked for.
+#[derive(Drop)]
+pub struct AskedWork<'a, H, G> {
+    /// What starts the threads.
+    pub threads: &'a H,
+    pub options: &'a WorkOptions,
+    /// What workers pass between two of their turns.
+    pub gate: &'a G,
+    /// Whether more is said than the lines that are fixed.
+    pub long: bool,
 }
 
 /// What a run came to.

@@ -4,8 +4,10 @@ ghost use Rattle.hep_run.specs.Replay.{IsReplayOutcome, IsTextOutcome};
 ghost use Rattle.hep_run.specs.Transcripts.{outcome_of};
 
 use crate::front::image_of_source;
+use crate::options::AskedReplay;
 use crate::transcript::{
     Transcript, core_transcript, fault_transcript, full_transcript, history_transcript,
+    opening_notes_when,
 };
 use hep_base::Refusal;
 use hep_history::{ReplayFault, read_text, replay};
@@ -16,24 +18,22 @@ use std::alloc::{AllocError, Global};
 fn image_transcript(
     alloc: Global,
     image: Image,
-    history: &[u8],
-    cells: u32,
+    asked: &AskedReplay<'_>,
 ) -> Result<Transcript, AllocError>
-    requires some { 1 ≤ cells }
-    requires few { cells ≤ 16777216 }
-    ensures { IfOk result (λ r. IsTextOutcome history.now cells image (outcome_of r)) }
+    ensures { IfOk result (λ r. IsTextOutcome asked.now.long asked.now.history.now asked.now.arena image (outcome_of r)) }
 {
-    let entries = match read_text(alloc, history) {
+    let entries = match read_text(alloc, asked.history) {
         Ok(entries) => entries,
         Err(Refusal::NoMemory) => return Err(AllocError),
         Err(Refusal::Refused { number, line, .. }) => {
             return history_transcript(alloc, number, u64::from(line));
         }
     };
-    match replay(alloc, image, cells, &entries) {
-        Ok(core) => core_transcript(alloc, core),
+    let notes = opening_notes_when(alloc, &image, asked.arena, asked.long)?;
+    match replay(alloc, image, asked.arena, &entries) {
+        Ok(core) => core_transcript(alloc, core, asked.long),
         Err(ReplayFault::NoMemory) => Err(AllocError),
-        Err(ReplayFault::ArenaFull) => full_transcript(alloc),
+        Err(ReplayFault::ArenaFull) => full_transcript(alloc, &notes),
         Err(ReplayFault::Refused { number, entry }) => history_transcript(alloc, number, entry),
     }
 }
@@ -46,16 +46,12 @@ fn image_transcript(
 pub fn replay_transcript(
     alloc: Global,
     source: &[u8],
-    history: &[u8],
-    cells: u32,
-    long: bool,
+    asked: &AskedReplay<'_>,
 ) -> Result<Transcript, AllocError>
-    requires some { 1 ≤ cells }
-    requires few { cells ≤ 16777216 }
-    ensures { IfOk result (λ r. IsReplayOutcome long history.now cells source.now (outcome_of r)) }
+    ensures { IfOk result (λ r. IsReplayOutcome asked.now.long asked.now.history.now asked.now.arena source.now (outcome_of r)) }
 {
-    match image_of_source(alloc, source, long) {
-        Ok(image) => image_transcript(alloc, image, history, cells),
+    match image_of_source(alloc, source, asked.long) {
+        Ok(image) => image_transcript(alloc, image, asked),
         Err(fault) => fault_transcript(alloc, fault),
     }
 }

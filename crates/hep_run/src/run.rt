@@ -2,18 +2,18 @@
 ghost use Rattle.std.specs.Prelude.{◌≡◌, ◌≤◌, ◌<◌, ℕ, [], None, Some, IfOk, IfErr, OnOk, length, slice_get};
 ghost use Rattle.hep_machine.specs.Words.{last_process};
 ghost use Rattle.hep_core.specs.Value.{opening_of};
-ghost use Rattle.hep_run.specs.Outcome.{IsOutcome, IsRunOutcome, next_process};
-ghost use Rattle.hep_run.specs.Refusals.{IsOpeningFault};
+ghost use Rattle.hep_run.specs.Outcome.{IsOutcome, IsProgramOutcome, IsRunOutcome, next_process};
 ghost use Rattle.hep_run.specs.Transcripts.{outcome_of};
-ghost use Rattle.hep_run.specs.Progress.{IsOpening, IsRunning, IsHaltedBy};
+ghost use Rattle.hep_run.specs.Progress.{IsRunning, IsHaltedBy};
 
 use crate::front::image_of_source;
 use crate::options::Options;
-use crate::refusal::OpeningFault;
 use crate::transcript::{
     Transcript, choice_transcript, ended_transcript, fault_transcript, full_transcript,
+    opening_notes_when,
 };
-use hep_core::{ChooseFault, Core};
+use hep_core::{ChooseFault, Core, NewFault};
+use hep_image::Image;
 use std::alloc::{AllocError, Global};
 
 // How many choices of one process are asked for at once, at most: their entries get room together.
@@ -26,21 +26,6 @@ pub enum Halt {
     NoMemory,
     /// This choice, counted from 1, names no living process.
     NoSuchProcess(usize),
-}
-
-// The core at the opening of a source.
-fn core_of(
-    alloc: Global,
-    source: &[u8],
-    options: &Options,
-    long: bool,
-) -> Result<Core, OpeningFault>
-    ensures made { IfOk result (IsOpening source.now options.now) }
-    ensures refused { IfErr result (IsOpeningFault long source.now options.now) }
-{
-    let image = image_of_source(alloc, source, long)?;
-    let core = Core::new(alloc, image, options.arena, options.steps)?;
-    Ok(core)
 }
 
 // The index behind the choices from this one on that name the same process.
@@ -142,10 +127,15 @@ fn run_on(core: &mut Core, options: &Options) -> Result<(), AllocError>
     Ok(())
 }
 
-// What a run writes from a program's opening on.
-fn run_transcript(alloc: Global, core: Core, options: &Options) -> Result<Transcript, AllocError>
+// What a run writes from a program's opening on, with notes where `long` is true.
+fn run_transcript(
+    alloc: Global,
+    core: Core,
+    options: &Options,
+    long: bool,
+) -> Result<Transcript, AllocError>
     requires { core ≡ opening_of core.program options.now.arena options.now.steps }
-    ensures { IfOk result (λ r. IsRunOutcome core.program options.now (outcome_of r)) }
+    ensures { IfOk result (λ r. IsRunOutcome long core.program options.now (outcome_of r)) }
 {
     let mut core = core;
     match make_choices(&mut core, options) {
@@ -158,7 +148,24 @@ fn run_transcript(alloc: Global, core: Core, options: &Options) -> Result<Transc
     }
     run_on(&mut core, options)?;
     core.headline();
-    ended_transcript(alloc, core)
+    ended_transcript(alloc, core, long)
+}
+
+// What a run of an accepted program writes, with notes where `long` is true.
+fn image_transcript(
+    alloc: Global,
+    image: Image,
+    options: &Options,
+    long: bool,
+) -> Result<Transcript, AllocError>
+    ensures { IfOk result (λ r. IsProgramOutcome long image options.now (outcome_of r)) }
+{
+    let notes = opening_notes_when(alloc, &image, options.arena, long)?;
+    match Core::new(alloc, image, options.arena, options.steps) {
+        Ok(core) => run_transcript(alloc, core, options, long),
+        Err(NewFault::ArenaFull) => full_transcript(alloc, &notes),
+        Err(NewFault::NoMemory) => Err(AllocError),
+    }
 }
 
 /// All that a run of a source comes to, before a byte of it is written, with notes where `long` is true.
@@ -174,9 +181,8 @@ pub fn transcript_of(
 ) -> Result<Transcript, AllocError>
     ensures { IfOk result (λ r. IsOutcome long options.now source.now (outcome_of r)) }
 {
-    match core_of(alloc, source, options, long) {
-        Ok(core) => run_transcript(alloc, core, options),
-        Err(OpeningFault::Source(fault)) => fault_transcript(alloc, fault),
-        Err(OpeningFault::ArenaFull) => full_transcript(alloc),
+    match image_of_source(alloc, source, long) {
+        Ok(image) => image_transcript(alloc, image, options, long),
+        Err(fault) => fault_transcript(alloc, fault),
     }
 }

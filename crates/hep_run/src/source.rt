@@ -9,7 +9,7 @@ use crate::checks::{check_transcript, list_transcript};
 use crate::deliver::deliver_made;
 use crate::files::say_unread;
 use crate::input::read_input;
-use crate::options::{Options, Run};
+use crate::options::{AskedReplay, AskedRun, Options, Run};
 use crate::replay::replay_transcript;
 use crate::run::transcript_of;
 use hep_history::History;
@@ -103,43 +103,41 @@ pub fn list_source<R: Read, W: Write, E: Write>(
 }
 
 /// Runs a source that was read: checks it, runs it by the options, and then writes the records to
-/// `output` and the faults, the stop or the refusal to `messages`, with notes where `long` is true.
+/// `output` and the faults, the stop or the refusal to `messages`, with notes where they are asked for.
 ///
 /// The run's status is the code of a `Status`.
 pub fn run_bytes<W: Write, E: Write>(
     alloc: Global,
     source: &[u8],
-    options: &Options,
-    long: bool,
+    asked: &AskedRun<'_>,
     output: &mut W,
     messages: &mut E,
 ) -> Run
-    ensures { LeavesOneOf (IsOutcome long options.now source.now) result
+    ensures { LeavesOneOf (IsOutcome asked.now.long asked.now.options.now source.now) result
         (W.contents output.old) (W.contents output.new)
         (E.contents messages.old) (E.contents messages.new) }
 {
-    let made = transcript_of(alloc, source, options, long);
+    let made = transcript_of(alloc, source, asked.options, asked.long);
     deliver_made(alloc, made, output, messages)
 }
 
 /// Runs a source: reads it, checks it, runs it by the options, and then writes the records to
-/// `output` and the faults, the stop or the refusal to `messages`, with notes where `long` is true.
+/// `output` and the faults, the stop or the refusal to `messages`, with notes where they are asked for.
 ///
 /// The run's status is the code of a `Status`.
 pub fn run_noted<R: Read, W: Write, E: Write>(
     alloc: Global,
     source: &mut R,
-    options: &Options,
-    long: bool,
+    asked: &AskedRun<'_>,
     output: &mut W,
     messages: &mut E,
 ) -> Run
-    ensures { LeavesOfSource (IsOutcome long options.now) (R.remaining source.old) (R.remaining source.new)
+    ensures { LeavesOfSource (IsOutcome asked.now.long asked.now.options.now) (R.remaining source.old) (R.remaining source.new)
         result (W.contents output.old) (W.contents output.new)
         (E.contents messages.old) (E.contents messages.new) }
 {
     match read_input(alloc, source, MOST_BYTES) {
-        Ok(bytes) => run_bytes(alloc, &bytes, options, long, output, messages),
+        Ok(bytes) => run_bytes(alloc, &bytes, asked, output, messages),
         Err(fault) => Run {
             status: say_unread(messages, fault),
             history: History::from(Vec::new(alloc)),
@@ -159,29 +157,29 @@ pub fn run_source<R: Read, W: Write, E: Write>(
         result (W.contents output.old) (W.contents output.new)
         (E.contents messages.old) (E.contents messages.new) }
 {
-    run_noted(alloc, source, options, false, output, messages)
+    let asked = AskedRun {
+        options,
+        long: false,
+    };
+    run_noted(alloc, source, &asked, output, messages)
 }
 
-/// Makes the steps of a history of a source again, both as bytes, in an arena of so many cells, 1 to
-/// 16,777,216, and then writes as `run_bytes` does, and `STILL RUNNING` to `messages` where the run could go on.
+/// Makes the steps of a history of a source again, both as bytes, and then writes as `run_bytes` does, and `STILL RUNNING` to
+/// `messages` where the run could go on.
 ///
 /// The run's status is the code of a `Status`, and its history has an entry for each step.
 pub fn replay_bytes<W: Write, E: Write>(
     alloc: Global,
     source: &[u8],
-    history: &[u8],
-    cells: u32,
-    long: bool,
+    asked: &AskedReplay<'_>,
     output: &mut W,
     messages: &mut E,
 ) -> Run
-    requires some { 1 ≤ cells }
-    requires few { cells ≤ 16777216 }
-    ensures { LeavesOneOf (IsReplayOutcome long history.now cells source.now) result
+    ensures { LeavesOneOf (IsReplayOutcome asked.now.long asked.now.history.now asked.now.arena source.now) result
         (W.contents output.old) (W.contents output.new)
         (E.contents messages.old) (E.contents messages.new) }
 {
-    let made = replay_transcript(alloc, source, history, cells, long);
+    let made = replay_transcript(alloc, source, asked);
     deliver_made(alloc, made, output, messages)
 }
 
@@ -192,21 +190,17 @@ pub fn replay_bytes<W: Write, E: Write>(
 pub fn replay_noted<R: Read, W: Write, E: Write>(
     alloc: Global,
     source: &mut R,
-    history: &[u8],
-    cells: u32,
-    long: bool,
+    asked: &AskedReplay<'_>,
     output: &mut W,
     messages: &mut E,
 ) -> Run
-    requires some { 1 ≤ cells }
-    requires few { cells ≤ 16777216 }
-    ensures { LeavesOfSource (IsReplayOutcome long history.now cells)
+    ensures { LeavesOfSource (IsReplayOutcome asked.now.long asked.now.history.now asked.now.arena)
         (R.remaining source.old) (R.remaining source.new)
         result (W.contents output.old) (W.contents output.new)
         (E.contents messages.old) (E.contents messages.new) }
 {
     match read_input(alloc, source, MOST_BYTES) {
-        Ok(bytes) => replay_bytes(alloc, &bytes, history, cells, long, output, messages),
+        Ok(bytes) => replay_bytes(alloc, &bytes, asked, output, messages),
         Err(fault) => Run {
             status: say_unread(messages, fault),
             history: History::from(Vec::new(alloc)),
@@ -230,5 +224,10 @@ pub fn replay_source<R: Read, W: Write, E: Write>(
         result (W.contents output.old) (W.contents output.new)
         (E.contents messages.old) (E.contents messages.new) }
 {
-    replay_noted(alloc, source, history, cells, false, output, messages)
+    let asked = AskedReplay {
+        history,
+        arena: cells,
+        long: false,
+    };
+    replay_noted(alloc, source, &asked, output, messages)
 }

@@ -4,6 +4,7 @@ ghost use Rattle.hep_run.specs.Texts as texts;
 ghost use Rattle.hep_run.specs.Outcome as outcome;
 ghost use Rattle.hep_run.specs.Outcome.{outcome_of_end, outcome_of_refused_choice};
 ghost use Rattle.hep_run.specs.Checks.{outcome_of_text};
+ghost use Rattle.hep_run.specs.Notes as told;
 ghost use Rattle.hep_run.specs.Replay as replay;
 ghost use Rattle.hep_run.specs.Replay.{outcome_of_core, outcome_of_refused_history};
 ghost use Rattle.hep_run.specs.Transcripts.{IsOutcomeOfFault, outcome_of};
@@ -13,8 +14,9 @@ use crate::refusal::SourceFault;
 use crate::status::Status;
 use crate::texts::put_refusal;
 use hep_core::{ChoiceStop, Core, Fault, Verdict};
-use hep_dump::{append_all_waiting, append_faults};
+use hep_dump::{append_all_waiting, append_faults, append_places, opening_notes, used_notes};
 use hep_history::History;
+use hep_image::Image;
 use hep_output::{append_number, append_records};
 use hep_source::Text;
 use std::alloc::{AllocError, Global};
@@ -72,14 +74,58 @@ fn status_of(verdict: Verdict, faults: &[Fault]) -> Status
     }
 }
 
-// The lines of the processes that wait, where all do that live.
-fn append_dump(text: &mut Vec<u8>, core: &Core, verdict: Verdict) -> Result<(), AllocError>
-    ensures { OnOk result (text.new.items ≡ text.old.items ++ outcome.dump_text core.now.program core.now.history verdict) }
+// The lines of the processes that wait, where all do that live, with notes where `long` is true.
+fn append_dump(
+    alloc: Global,
+    text: &mut Vec<u8>,
+    core: &Core,
+    verdict: Verdict,
+    long: bool,
+) -> Result<(), AllocError>
+    ensures { OnOk result (text.new.items ≡ text.old.items ++ outcome.dump_text long core.now.program core.now.history verdict) }
 {
     match verdict {
-        Verdict::Waiting => append_all_waiting(text, core),
+        Verdict::Waiting => append_all_waiting(alloc, text, core, long),
         Verdict::Stopped(_) | Verdict::Done | Verdict::Running => Ok(()),
     }
+}
+
+// What is said behind the stop of a core.
+fn append_notes_of_stop(
+    alloc: Global,
+    text: &mut Vec<u8>,
+    core: &Core,
+    stop: Option<ChoiceStop>,
+) -> Result<(), AllocError>
+    ensures { OnOk result (text.new.items
+        ≡ text.old.items ++ told.notes_of_stop core.now.program core.now.cells core.now.history stop) }
+{
+    match stop {
+        Some(ChoiceStop::ArenaFull) => {
+            let notes = used_notes(alloc, core.used(), core.cells())?;
+            text.extend_from_slice(notes.as_slice())?;
+            Ok(())
+        }
+        Some(ChoiceStop::StepLimit) => append_places(alloc, text, core),
+        None | Some(ChoiceStop::Halted) => Ok(()),
+    }
+}
+
+// The same where `long` is true, and nothing where it is false.
+fn append_stop_notes(
+    alloc: Global,
+    text: &mut Vec<u8>,
+    core: &Core,
+    stop: Option<ChoiceStop>,
+    long: bool,
+) -> Result<(), AllocError>
+    ensures { OnOk result (text.new.items
+        ≡ text.old.items ++ told.stop_notes long core.now.program core.now.cells core.now.history stop) }
+{
+    if long {
+        append_notes_of_stop(alloc, text, core, stop)?;
+    }
+    Ok(())
 }
 
 /// The stop that a core is at.
@@ -99,14 +145,14 @@ fn history_of(core: Core) -> History
     History::from(core.into_history())
 }
 
-/// What a run that is over writes.
+/// What a run that is over writes, with notes where `long` is true.
 ///
 /// # Errors
 ///
 /// Only where memory was refused.
-pub fn ended_transcript(alloc: Global, core: Core) -> Result<Transcript, AllocError>
+pub fn ended_transcript(alloc: Global, core: Core, long: bool) -> Result<Transcript, AllocError>
     ensures { IfOk result (λ r.
-        outcome_of r ≡ outcome_of_end core.program core.history core.stop) }
+        outcome_of r ≡ outcome_of_end long core.program core.cells core.history core.stop) }
 {
     let stop = stop_of(&core);
     let verdict = core.verdict();
@@ -114,8 +160,9 @@ pub fn ended_transcript(alloc: Global, core: Core) -> Result<Transcript, AllocEr
     append_records(&mut output, core.output())?;
     let mut messages = Vec::new(alloc);
     append_faults(&mut messages, core.image(), core.faults())?;
-    append_dump(&mut messages, &core, verdict)?;
+    append_dump(alloc, &mut messages, &core, verdict, long)?;
     messages.extend_from_slice(stop_text(stop))?;
+    append_stop_notes(alloc, &mut messages, &core, stop, long)?;
     Ok(Transcript {
         output,
         messages,
@@ -133,16 +180,16 @@ fn running_text(verdict: Verdict) -> &'static [u8]
     }
 }
 
-/// What a core writes that has made all entries of a history.
+/// What a core writes that has made all entries of a history, with notes where `long` is true.
 ///
 /// # Errors
 ///
 /// Only where memory was refused.
-pub fn core_transcript(alloc: Global, core: Core) -> Result<Transcript, AllocError>
-    ensures { IfOk result (λ r. outcome_of r ≡ outcome_of_core core) }
+pub fn core_transcript(alloc: Global, core: Core, long: bool) -> Result<Transcript, AllocError>
+    ensures { IfOk result (λ r. outcome_of r ≡ outcome_of_core long core) }
 {
     let verdict = core.verdict();
-    let mut transcript = ended_transcript(alloc, core)?;
+    let mut transcript = ended_transcript(alloc, core, long)?;
     transcript
         .messages
         .extend_from_slice(running_text(verdict))?;
@@ -242,15 +289,36 @@ pub fn text_transcript(alloc: Global, text: Vec<u8>) -> Transcript
     }
 }
 
-/// What a program leaves whose main program's frame doesn't fit the arena.
+/// What is said where COMMON and the main program's frame don't fit an arena of so many cells; nothing where `long` is false.
 ///
 /// # Errors
 ///
 /// Only where memory was refused.
-pub fn full_transcript(alloc: Global) -> Result<Transcript, AllocError>
-    ensures { IfOk result (λ r. outcome_of r ≡ outcome.outcome_of_full_arena) }
+pub fn opening_notes_when(
+    alloc: Global,
+    image: &Image,
+    cells: u32,
+    long: bool,
+) -> Result<Text, AllocError>
+    ensures { IfOk result (λ notes. notes ≡ told.opening_notes_when long image.now cells) }
 {
-    let messages = Vec::from_slice(alloc, stop_text(Some(ChoiceStop::ArenaFull)))?;
+    if long {
+        opening_notes(alloc, image, cells)
+    } else {
+        Ok(Text::from(Vec::new(alloc)))
+    }
+}
+
+/// What a program leaves whose main program's frame doesn't fit the arena, with these notes.
+///
+/// # Errors
+///
+/// Only where memory was refused.
+pub fn full_transcript(alloc: Global, notes: &Text) -> Result<Transcript, AllocError>
+    ensures { IfOk result (λ r. outcome_of r ≡ outcome.full_with notes.now) }
+{
+    let mut messages = Vec::from_slice(alloc, stop_text(Some(ChoiceStop::ArenaFull)))?;
+    messages.extend_from_slice(notes.as_slice())?;
     let history = History::from(Vec::new(alloc));
     Ok(Transcript::silent(alloc, messages, Status::ArenaFull, history))
 }

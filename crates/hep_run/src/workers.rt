@@ -8,10 +8,11 @@ use crate::deliver::deliver_made;
 use crate::files::say_unread;
 use crate::front::image_of_source;
 use crate::input::read_input;
-use crate::options::Run;
+use crate::options::{AskedWork, Run};
 use crate::source::MOST_BYTES;
 use crate::transcript::{
-    Transcript, ended_transcript, fault_transcript, full_transcript, workers_transcript,
+    Transcript, ended_transcript, fault_transcript, full_transcript, opening_notes_when,
+    workers_transcript,
 };
 use hep_history::History;
 use hep_image::Image;
@@ -23,20 +24,19 @@ use std::thread::Threads;
 
 // What the run of an accepted program by workers comes to.
 fn image_transcript<H: Threads + Wait + Sync, G: Gate + Sync>(
-    rt: &H,
     alloc: Global,
     image: Image,
-    options: &WorkOptions,
-    gate: &G,
+    asked: &AskedWork<'_, H, G>,
 ) -> Result<Transcript, AllocError>
-    ensures { IfOk result (λ r. IsImageWorked image options.now (outcome_of r)) }
+    ensures { IfOk result (λ r. IsImageWorked asked.now.long image asked.now.options.now (outcome_of r)) }
 {
-    match run_workers(rt, alloc, image, options, gate) {
+    let notes = opening_notes_when(alloc, &image, asked.options.arena, asked.long)?;
+    match run_workers(asked.threads, alloc, image, asked.options, asked.gate) {
         Ok(report) => {
             report.core.headline();
-            ended_transcript(alloc, report.core)
+            ended_transcript(alloc, report.core, asked.long)
         }
-        Err(WorkFault::ArenaFull) => full_transcript(alloc),
+        Err(WorkFault::ArenaFull) => full_transcript(alloc, &notes),
         Err(fault) => match fault.number() {
             Some(number) => workers_transcript(alloc, number),
             None => Err(AllocError),
@@ -46,17 +46,14 @@ fn image_transcript<H: Threads + Wait + Sync, G: Gate + Sync>(
 
 // All that a run of a source by workers comes to, before a byte of it is written.
 fn work_transcript<H: Threads + Wait + Sync, G: Gate + Sync>(
-    rt: &H,
     alloc: Global,
     source: &[u8],
-    options: &WorkOptions,
-    gate: &G,
-    long: bool,
+    asked: &AskedWork<'_, H, G>,
 ) -> Result<Transcript, AllocError>
-    ensures { IfOk result (λ r. IsWorkOutcome long options.now source.now (outcome_of r)) }
+    ensures { IfOk result (λ r. IsWorkOutcome asked.now.long asked.now.options.now source.now (outcome_of r)) }
 {
-    match image_of_source(alloc, source, long) {
-        Ok(image) => image_transcript(rt, alloc, image, options, gate),
+    match image_of_source(alloc, source, asked.long) {
+        Ok(image) => image_transcript(alloc, image, asked),
         Err(fault) => fault_transcript(alloc, fault),
     }
 }
@@ -66,22 +63,19 @@ fn work_transcript<H: Threads + Wait + Sync, G: Gate + Sync>(
 ///
 /// The run's status is the code of a `Status`. It may wait, and what it promises holds if it returns.
 pub fn work_noted<H: Threads + Wait + Sync, G: Gate + Sync, R: Read, W: Write, E: Write>(
-    rt: &H,
     alloc: Global,
     source: &mut R,
-    options: &WorkOptions,
-    gate: &G,
-    long: bool,
+    asked: &AskedWork<'_, H, G>,
     output: &mut W,
     messages: &mut E,
 ) -> Run
-    ensures { LeavesOfSource (IsWorkOutcome long options.now) (R.remaining source.old) (R.remaining source.new)
+    ensures { LeavesOfSource (IsWorkOutcome asked.now.long asked.now.options.now) (R.remaining source.old) (R.remaining source.new)
         result (W.contents output.old) (W.contents output.new)
         (E.contents messages.old) (E.contents messages.new) }
 {
     match read_input(alloc, source, MOST_BYTES) {
         Ok(bytes) => {
-            let made = work_transcript(rt, alloc, &bytes, options, gate, long);
+            let made = work_transcript(alloc, &bytes, asked);
             deliver_made(alloc, made, output, messages)
         }
         Err(fault) => Run {
@@ -105,5 +99,11 @@ pub fn work_source<H: Threads + Wait + Sync, G: Gate + Sync, R: Read, W: Write, 
         result (W.contents output.old) (W.contents output.new)
         (E.contents messages.old) (E.contents messages.new) }
 {
-    work_noted(rt, alloc, source, options, gate, false, output, messages)
+    let asked = AskedWork {
+        threads: rt,
+        options,
+        gate,
+        long: false,
+    };
+    work_noted(alloc, source, &asked, output, messages)
 }

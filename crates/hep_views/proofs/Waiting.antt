@@ -1,5 +1,5 @@
--- A process that waits: where its top activation is, in the machine and in the source, and what it waits for.
-use Rattle.std.proofs.Common.{◌≡◌, ℕ, zero, suc, ◌<◌, Bool, true, false, true≢false, List, [], ◌∷◌, ◌++◌, map, drop, length, Option, Some, None, refl, sym, ap, ◌∙◌, subst, arith, append_assoc, if◌then◌else◌, is_some, not}
+-- Where the top activation of a process is, in the machine and in the source, and what it waits for.
+use Rattle.std.proofs.Common.{◌≡◌, ℕ, zero, suc, ◌<◌, Bool, true, false, true≢false, List, [], ◌∷◌, ◌++◌, map, drop, length, Option, Some, None, refl, sym, ap, ◌∙◌, subst, arith, append_assoc, if◌then◌else◌, is_some, not, IsSome}
 use Rattle.std.proofs.lemmas.Option.{none-some, same_Some}
 use Rattle.std.specs.List.{flat_map}
 use Rattle.hep_machine.specs.Words.{Value, Units, line_at, unit_at, Next, wants, evaluating, referring, does, next_of, living, numbered, top_of, unit_of, run, Process, State, Store, Work, Wanted, wanted_by}
@@ -24,6 +24,7 @@ use Rattle.hep_blocked.specs.Listing.{IsBlocked}
 use Rattle.hep_views.specs.declared.place.Place.{Place}
 use Rattle.hep_views.specs.Listed.{listed_by, listed_with, place_of}
 use Rattle.hep_views.specs.Sought.{IsSought}
+use Rattle.hep_views.specs.Standing.{whereabouts_by, whereabouts_with}
 use Rattle.hep_views.proofs.Above.{need-above}
 use Rattle.hep_views.proofs.Views.{line-after}
 
@@ -166,3 +167,26 @@ module _ (program : Units) (cells : ℕ) (choices : List ℕ) (m : Machine) (h :
         name = (sym place_is i).name;
         element = (sym place_is i).element;
       }))
+
+  -- ---- where a process is
+
+  -- one that lives, with its top activation
+  pub record IsLiving (p : ℕ) : Type 0 where
+    pub top : SourceLevel × Process
+    pub lives : living s p ≡ Some top
+    pub is_top : IsTop program s m p top
+
+  pub living-top : (p : ℕ) → IsSome (living s p) → IsLiving p
+  living-top p some = by (living s p) refl some where
+    by : (o : Option (SourceLevel × Process)) → living s p ≡ o → IsSome o → IsLiving p
+    by None e h = absurd (true≢false (sym h))
+    by (Some top) e h = record { top = top; lives = e; is_top = top-is p top e }
+
+  pub whereabouts-is : (p : ℕ) (w : IsLiving p) (level : Local) (line : ℕ) → level ≡ w.is_top.levels.level
+      → line ≡ line_ahead (drop level.index (unit_code program level.unit))
+      → whereabouts_by program p s ≡ Some (record { process = p; unit = level.unit; line = line })
+  whereabouts-is p w level line level_is line_is =
+      let unit : unit_of s w.top.0.activation ≡ level.unit = w.is_top.unit ∙ sym (ap (λ (l : Local). l.unit) level_is) in
+      let at : line_at (unit_at program (unit_of s w.top.0.activation)) w.top.0.statement ≡ line =
+      sym (line_is ∙ (ap (λ (l : Local). line_ahead (drop l.index (unit_code program l.unit))) level_is ∙ w.is_top.line)) in
+      ap (whereabouts_with program s p) w.lives ∙ (λ i. Some (record { process = p; unit = unit i; line = at i }))

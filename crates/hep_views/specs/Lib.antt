@@ -4,3 +4,4 @@ pub mod Waited
 pub mod Seen
 pub mod Sought
 pub mod Listed
+pub mod Standing

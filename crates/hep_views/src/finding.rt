@@ -1,7 +1,7 @@
-//! From the cell for which a process waits to the storage unit that is kept there.
+//! Where a process is, and from the cell for which it waits to the storage unit that is kept there.
 ghost use Rattle.std.specs.Prelude.{◌≡◌, ◌+◌, ◌-◌, ◌<◌, ◌&&◌, ℕ, IsSome, List, Some, drop, length};
 ghost use Rattle.slab.specs.Slab.{ContainsKey};
-ghost use Rattle.hep_machine.specs.Words.{Name, unit_at, BlockName, run, Location};
+ghost use Rattle.hep_machine.specs.Words.{Name, unit_at, BlockName, living, run, Location};
 ghost use Rattle.hep_code.specs.Depths as depths;
 ghost use Rattle.hep_layout.specs.Words.{FrameNode};
 ghost use Rattle.hep_image.specs.Image.{most_cells};
@@ -10,10 +10,12 @@ ghost use Rattle.hep_proc.specs.Nodes.{nodes_of};
 ghost use Rattle.hep_state.specs.Words.{IsMachineAfter, snapshot_of, HasLevels};
 ghost use Rattle.hep_blocked.specs.Listing.{IsBlocked};
 ghost use Rattle.hep_views.specs.Listed.{block_place, listed_by, place_of, variable_place};
+ghost use Rattle.hep_views.specs.Standing.{whereabouts_by};
 ghost use Rattle.hep_views.specs.Sought.{IsSought, has_cell as frame_has_cell, holder_above};
 
 use crate::listed::Listed;
 use crate::place::Place;
+use crate::whereabouts::Whereabouts;
 use hep_blocked::Want;
 use hep_code::Instruction;
 use hep_image::Image;
@@ -146,5 +148,22 @@ pub fn listed(machine: &Machine, image: &Image, p: u64, want: Want) -> Listed
         owner: place.owner,
         name: place.name,
         element: place.element,
+    }
+}
+
+/// Where process p is, which lives.
+pub fn whereabouts(machine: &Machine, image: &Image, p: u64) -> Whereabouts
+    requires { (cells : ℕ) × (choices : List ℕ) × IsMachineAfter image.now cells choices machine.now
+        × IsSome (living (run image.now choices) p) }
+    ensures { (cells : ℕ) (choices : List ℕ) → IsMachineAfter image.now cells choices machine.now → IsSome (living (run image.now choices) p)
+        → whereabouts_by image.now p (run image.now choices) ≡ Some result }
+{
+    let level = top(machine, p);
+    let unit = image.unit(level.unit as usize);
+    let line = line_from(unit.code.as_slice(), level.index);
+    Whereabouts {
+        process: p,
+        unit: level.unit,
+        line,
     }
 }

@@ -1,7 +1,8 @@
 //! What is seen of a core: where each process is and what it waits for, COMMON, and the frames of what is held.
 //!
 //! The definitions stand in `specs/`. That this is what is seen of the source machine's state is said by the contracts of [`laws`] and
-//! [`frame_laws`]; [`finding`] tells of one process that waits what a person reads of it.
+//! [`frame_laws`]; [`finding`] tells of one process where it is, and of one that waits
+//! what a person reads of it.
 #![tactic(auto)]
 
 pub mod finding;
@@ -9,5 +10,7 @@ pub mod frame_laws;
 pub mod laws;
 mod listed;
 mod place;
+mod whereabouts;
 
 pub use listed::Listed;
+pub use whereabouts::Whereabouts;

@@ -2,3 +2,4 @@ pub mod Taken
 pub mod Sets
 pub mod Merging
 pub mod Appending
+pub mod Noted

@@ -4,4 +4,7 @@ pub mod Behind
 pub mod Labels
 pub mod Units
 pub mod Creates
+pub mod Once
+pub mod Asynchronous
+pub mod Names
 pub mod Warnings

@@ -20,6 +20,9 @@ kind_text kind.Behind = codes "BEHIND COLUMN 72"
 kind_text (kind.Label l) = codes "LABEL " ++ decimal l ++ codes " UNUSED"
 kind_text (kind.Unit x) = codes "UNIT " ++ spelling x ++ codes " UNUSED"
 kind_text (kind.Create s x) = codes "CREATE " ++ spelling s ++ codes " PASSES " ++ spelling x ++ codes " OF A DO"
+kind_text (kind.Once x) = codes "NAME " ++ spelling x ++ codes " USED ONCE"
+kind_text (kind.NeverFilled x) = codes "NAME " ++ spelling x ++ codes " NEVER FILLED"
+kind_text (kind.NeverRead x) = codes "NAME " ++ spelling x ++ codes " NEVER READ"
 
 abbrev pub warning_line : Warning → List ℕ
 warning_line w = codes "WARNING LINE " ++ decimal w.line ++ codes " " ++ kind_text w.kind ++ codes "\n"

@@ -6,10 +6,23 @@ use crate::behind::behind_warnings;
 use crate::creates::create_warnings;
 use crate::labels::label_warnings;
 use crate::merge::merged;
+use crate::names::name_warnings;
 use crate::units::unit_warnings;
 use crate::warning::Warning;
-use hep_source::Program;
+use hep_source::{Program, Unit};
 use std::alloc::{AllocError, Global};
+
+// The warnings of the units of a program, and of what they create and name.
+fn unit_and_name_warnings(alloc: Global, units: &[Unit]) -> Result<Vec<Warning>, AllocError>
+    ensures { IfOk result (λ found. found.items ≡ all.unit_and_name_warnings units.now) }
+{
+    let unused = unit_warnings(alloc, units)?;
+    let creates = create_warnings(alloc, units)?;
+    let names = name_warnings(alloc, units)?;
+    let behind = merged(alloc, &creates, &names)?;
+    let found = merged(alloc, &unused, &behind)?;
+    Ok(found)
+}
 
 /// The warnings of a source and of the program that it is, by their lines.
 ///
@@ -22,10 +35,8 @@ pub fn warnings(alloc: Global, source: &[u8], program: &Program) -> Result<Vec<W
     let units = program.as_slice();
     let behind = behind_warnings(alloc, source)?;
     let labels = label_warnings(alloc, units)?;
-    let unused = unit_warnings(alloc, units)?;
-    let creates = create_warnings(alloc, units)?;
-    let of_units = merged(alloc, &unused, &creates)?;
-    let of_program = merged(alloc, &labels, &of_units)?;
+    let others = unit_and_name_warnings(alloc, units)?;
+    let of_program = merged(alloc, &labels, &others)?;
     let found = merged(alloc, &behind, &of_program)?;
     Ok(found)
 }

@@ -1,5 +1,5 @@
 //! A warning and its line of text.
-ghost use Rattle.std.specs.Prelude.{◌≡◌, ◌++◌, IfOk, OnOk};
+ghost use Rattle.std.specs.Prelude.{◌≡◌, ◌++◌, codes, IfOk, OnOk};
 ghost use Rattle.std.specs.Fmt.{decimal};
 ghost use Rattle.std.specs.List.{flat_map};
 ghost use Rattle.hep_machine.specs.Words.{letters_of, spelling};
@@ -21,6 +21,12 @@ pub enum Kind {
     Unit(Name),
     /// This subroutine is created, and gets the variable of a DO that the statement is in.
     Create(Name, Name),
+    /// The unit has this name once: it may be misspelled.
+    Once(Name),
+    /// Nothing of the unit fills this variable, and it is passed to nothing that might.
+    NeverFilled(Name),
+    /// The unit fills this variable, and nothing reads it or looks at its state.
+    NeverRead(Name),
 }
 
 /// A warning: a line of the source, counted from 1, and what is said of it.
@@ -61,6 +67,16 @@ fn append_name(text: &mut Vec<u8>, name: &Name) -> Result<(), AllocError>
     append_letters(text, &name.letters)
 }
 
+// Appends a name and what is said of it.
+fn append_about(text: &mut Vec<u8>, name: &Name, said: &[u8]) -> Result<(), AllocError>
+    ensures { OnOk result (text.new.items ≡ text.old.items ++ (codes "NAME " ++ spelling name.now ++ said.now)) }
+{
+    text.extend_from_slice(b"NAME ")?;
+    append_name(text, name)?;
+    text.extend_from_slice(said)?;
+    Ok(())
+}
+
 // Appends what is said.
 fn append_kind(text: &mut Vec<u8>, kind: &Kind) -> Result<(), AllocError>
     ensures { OnOk result (text.new.items ≡ text.old.items ++ lines.kind_text kind.now) }
@@ -84,6 +100,9 @@ fn append_kind(text: &mut Vec<u8>, kind: &Kind) -> Result<(), AllocError>
             append_name(text, variable)?;
             text.extend_from_slice(b" OF A DO")?;
         }
+        Kind::Once(name) => append_about(text, name, b" USED ONCE")?,
+        Kind::NeverFilled(name) => append_about(text, name, b" NEVER FILLED")?,
+        Kind::NeverRead(name) => append_about(text, name, b" NEVER READ")?,
     }
     Ok(())
 }

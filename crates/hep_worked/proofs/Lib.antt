@@ -12,3 +12,4 @@ mod WorkedCalls
 mod WorkedProcesses
 mod WorkedResume
 mod WorkedFunctions
+mod WorkedWarnings

@@ -10,9 +10,9 @@ ghost use Rattle.hep_command.specs.Jobs.{IsInRange};
 use hep_command::{Job, Request, SAME_FILE, explain, read_request};
 use hep_history::Choices;
 use hep_run::{
-    NoGate, Options, ReadFault, Run, WorkOptions, answer, check_noted, choices_of, history_text,
-    list_noted, put_text, read_text_file, replay_noted, run_noted, say_unread, say_unwritten,
-    work_noted,
+    AskedReplay, AskedRun, AskedWork, NoGate, Options, ReadFault, Run, WorkOptions, answer,
+    check_noted, choices_of, history_text, list_noted, put_text, read_text_file, replay_noted,
+    run_noted, say_unread, say_unwritten, warn_noted, work_noted,
 };
 use std::fs::File;
 use std::io::ErrorKind;
@@ -131,12 +131,15 @@ fn write_history(rt: &HostRuntime, run: &Run, path: &str, long: bool) -> u8 {
 fn run_standard(rt: &HostRuntime, long: bool) -> u8 {
     let alloc = rt.alloc();
     let options = Options::defaults(alloc);
+    let asked = AskedRun {
+        options: &options,
+        long,
+    };
     let mut source = rt.stdin();
     run_noted(
         alloc,
         &mut source,
-        &options,
-        long,
+        &asked,
         &mut rt.stdout(),
         &mut rt.stderr(),
     )
@@ -146,6 +149,17 @@ fn run_standard(rt: &HostRuntime, long: bool) -> u8 {
 fn check_file(rt: &HostRuntime, file: &str, long: bool) -> Result<u8, u8> {
     let mut source = opened(rt, file, long)?;
     Ok(check_noted(
+        rt.alloc(),
+        &mut source,
+        long,
+        &mut rt.stdout(),
+        &mut rt.stderr(),
+    ))
+}
+
+fn warn_file(rt: &HostRuntime, file: &str, long: bool) -> Result<u8, u8> {
+    let mut source = opened(rt, file, long)?;
+    Ok(warn_noted(
         rt.alloc(),
         &mut source,
         long,
@@ -167,11 +181,11 @@ fn list_file(rt: &HostRuntime, file: &str, long: bool) -> Result<u8, u8> {
 
 fn run_file(rt: &HostRuntime, file: &str, options: &Options, long: bool) -> Result<Run, u8> {
     let mut source = opened(rt, file, long)?;
+    let asked = AskedRun { options, long };
     Ok(run_noted(
         rt.alloc(),
         &mut source,
-        options,
-        long,
+        &asked,
         &mut rt.stdout(),
         &mut rt.stderr(),
     ))
@@ -186,13 +200,16 @@ fn work_file<H: Threads + Wait + Sync>(
     long: bool,
 ) -> Result<Run, u8> {
     let mut source = opened(rt, file, long)?;
-    Ok(work_noted(
+    let asked = AskedWork {
         threads,
+        options,
+        gate: &NoGate,
+        long,
+    };
+    Ok(work_noted(
         rt.alloc(),
         &mut source,
-        options,
-        &NoGate,
-        long,
+        &asked,
         &mut rt.stdout(),
         &mut rt.stderr(),
     ))
@@ -217,12 +234,15 @@ fn replay_file(
     requires few { arena ≤ 16777216 }
 {
     let mut source = opened(rt, file, long)?;
-    let run = replay_noted(
-        rt.alloc(),
-        &mut source,
+    let asked = AskedReplay {
         history,
         arena,
         long,
+    };
+    let run = replay_noted(
+        rt.alloc(),
+        &mut source,
+        &asked,
         &mut rt.stdout(),
         &mut rt.stderr(),
     );
@@ -239,7 +259,8 @@ fn done<H: Threads + Wait + Sync>(
     let Request { job, long } = request;
     match job {
         Job::Standard => Ok(run_standard(rt, long)),
-        Job::Check { file } => check_file(rt, file, long),
+        Job::Check { file, warn: false } => check_file(rt, file, long),
+        Job::Check { file, warn: true } => warn_file(rt, file, long),
         Job::Run {
             file,
             arena,

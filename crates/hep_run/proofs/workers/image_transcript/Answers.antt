@@ -1,5 +1,6 @@
-use Rattle.std.proofs.Common.{inl, inr, subst, sym, ◌∙◌}
+use Rattle.std.proofs.Common.{ap, inl, inr, subst, sym, ◌∙◌}
 use Rattle.hep_workers.specs.Reports.{IsWorkFault}
+use Rattle.hep_run.specs.Outcome.{full_with}
 use Rattle.hep_run.specs.Transcripts.{outcome_of}
 use Rattle.hep_run.proofs.Worked.{is-refusal, outcome-worked}
 use Rattle.hep_run.proofs.workers.image_transcript.Goals as goal
@@ -8,12 +9,12 @@ use Rattle.std.proofs.lemmas.Result.{IfOk-weaker}
 pub returns-in-Ok : goal.returns-in-Ok
 returns-in-Ok g c =
     let report = c.in-Ok.report in
-    IfOk-weaker c.ended_transcript.result _ _ (λ r is. outcome-worked c.args.image c.args.options.now report.core report.logs.items (outcome_of r) c.in-Ok.ensures.report c.headline.ensures.legal c.headline.ensures.named is) c.ended_transcript.ensures
+    IfOk-weaker c.ended_transcript.result _ _ (λ r is. outcome-worked c.args.asked.now.long c.args.image c.args.asked.now.options.now report.core report.logs.items (outcome_of r) c.in-Ok.ensures.report c.headline.ensures.legal c.headline.ensures.named is) c.ended_transcript.ensures
 
 pub returns-in-Err-ArenaFull : goal.returns-in-Err-ArenaFull
 returns-in-Err-ArenaFull g c =
-    let none = subst (λ fault. IsWorkFault fault c.args.image c.args.options.now) c.in-Err-ArenaFull.field-0-is c.in-Err-ArenaFull.ensures.fault in
-    IfOk-weaker c.full_transcript.result _ _ (λ r is. inl (none, is)) c.full_transcript.ensures
+    let none = subst (λ fault. IsWorkFault fault c.args.image c.args.asked.now.options.now) c.in-Err-ArenaFull.field-0-is c.in-Err-ArenaFull.ensures.fault in
+    IfOk-weaker c.full_transcript.result _ _ (λ r is. inl (none, is ∙ ap full_with c.in_ok-notes.ensures)) c.full_transcript.ensures
 
 pub returns-in-Some : goal.returns-in-Some
 returns-in-Some g c =

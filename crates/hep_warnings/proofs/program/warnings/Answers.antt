@@ -1,10 +1,9 @@
 use Rattle.std.proofs.Common.{◌≡◌, ◌∙◌, ap}
 use Rattle.hep_warnings.specs.Behind.{behind_warnings}
-use Rattle.hep_warnings.specs.Creates.{create_warnings}
 use Rattle.hep_warnings.specs.Labels.{label_warnings}
 use Rattle.hep_warnings.specs.Lines.{Warnings}
 use Rattle.hep_warnings.specs.Merge.{merged}
-use Rattle.hep_warnings.specs.Units.{unit_warnings}
+use Rattle.hep_warnings.specs.Warnings.{unit_and_name_warnings}
 use Rattle.hep_warnings.proofs.program.warnings.Goals as goal
 
 pub returns : goal.returns
@@ -13,15 +12,11 @@ returns c =
     let source = c.args.source.now in
     let a : c.in_ok-behind.behind.items ≡ behind_warnings source = c.in_ok-behind.ensures in
     let b : c.in_ok-labels.labels.items ≡ label_warnings program = c.in_ok-labels.ensures ∙ ap label_warnings c.as_slice-units.ensures in
-    let u : c.in_ok-unused.unused.items ≡ unit_warnings program = c.in_ok-unused.ensures ∙ ap unit_warnings c.as_slice-units.ensures in
-    let d : c.in_ok-creates.creates.items ≡ create_warnings program = c.in_ok-creates.ensures ∙ ap create_warnings c.as_slice-units.ensures in
-    let m = c.in_ok-of_units.ensures ∙ (ap (λ (us : Warnings). merged us c.deref-2.result.now) c.deref.ensures.value
-    ∙ ap (λ (us : Warnings). merged c.in_ok-unused.unused.items us) c.deref-2.ensures.value) in
-    let n = c.in_ok-of_program.ensures ∙ (ap (λ (us : Warnings). merged us c.deref-4.result.now) c.deref-3.ensures.value
-    ∙ ap (λ (us : Warnings). merged c.in_ok-labels.labels.items us) c.deref-4.ensures.value) in
-    let o = c.in_ok-found.ensures ∙ (ap (λ (us : Warnings). merged us c.deref-6.result.now) c.deref-5.ensures.value
-    ∙ ap (λ (us : Warnings). merged c.in_ok-behind.behind.items us) c.deref-6.ensures.value) in
+    let d : c.in_ok-others.others.items ≡ unit_and_name_warnings program = c.in_ok-others.ensures ∙ ap unit_and_name_warnings c.as_slice-units.ensures in
+    let m = c.in_ok-of_program.ensures ∙ (ap (λ (us : Warnings). merged us c.deref-2.result.now) c.deref.ensures.value
+    ∙ ap (λ (us : Warnings). merged c.in_ok-labels.labels.items us) c.deref-2.ensures.value) in
+    let o = c.in_ok-found.ensures ∙ (ap (λ (us : Warnings). merged us c.deref-4.result.now) c.deref-3.ensures.value
+    ∙ ap (λ (us : Warnings). merged c.in_ok-behind.behind.items us) c.deref-4.ensures.value) in
     o ∙ (ap (λ (us : Warnings). merged us c.in_ok-of_program.of_program.items) a
-    ∙ ap (λ (us : Warnings). merged (behind_warnings source) us) (n ∙ (ap (λ (us : Warnings). merged us c.in_ok-of_units.of_units.items) b
-    ∙ ap (λ (us : Warnings). merged (label_warnings program) us) (m ∙ (ap (λ (us : Warnings). merged us c.in_ok-creates.creates.items) u
-    ∙ ap (λ (us : Warnings). merged (unit_warnings program) us) d)))))
+    ∙ ap (λ (us : Warnings). merged (behind_warnings source) us) (m ∙ (ap (λ (us : Warnings). merged us c.in_ok-others.others.items) b
+    ∙ ap (λ (us : Warnings). merged (label_warnings program) us) d)))

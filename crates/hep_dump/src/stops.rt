@@ -1,0 +1,138 @@
+//! What is said behind a stop, where more is asked for.
+ghost use Rattle.std.specs.Prelude.{◌≡◌, ◌+◌, ◌<◌, ◌^◌, ◌++◌, IfOk, OnOk};
+ghost use Rattle.hep_image.specs.Names.{names_in_order};
+ghost use Rattle.hep_notes.specs.Shown.{words_text};
+ghost use Rattle.hep_dump.specs.Stops as stops;
+
+use crate::faults::name_of;
+use hep_base::Text;
+use hep_core::{Core, Whereabouts};
+use hep_image::Image;
+use hep_notes::append_words;
+use hep_output::append_number;
+use std::alloc::{AllocError, Global};
+
+/// The most cells that an arena may have.
+const MOST_CELLS: u32 = 16_777_216;
+
+// Appends an arena of so many cells, if a run may have it.
+fn append_arena(words: &mut Vec<u8>, cells: u32) -> Result<(), AllocError>
+    ensures { OnOk result (words.new.items ≡ words.old.items ++ stops.arena_words cells) }
+{
+    if MOST_CELLS < cells {
+        words.extend_from_slice(b"no arena has as many")?;
+    } else {
+        words.extend_from_slice(b"--arena ")?;
+        append_number(words, cells)?;
+        words.extend_from_slice(b" is enough to begin")?;
+    }
+    Ok(())
+}
+
+// Appends what a main program of this name and COMMON take, and how many cells there are.
+fn append_opening(
+    words: &mut Vec<u8>,
+    name: &[u8],
+    frame: u32,
+    common: u32,
+    cells: u32,
+) -> Result<(), AllocError>
+    requires few { frame + common < 2 ^ 32 }
+    ensures { OnOk result (words.new.items ≡ words.old.items ++ stops.opening_words name.now frame common cells) }
+{
+    words.extend_from_slice(name)?;
+    words.extend_from_slice(b" takes ")?;
+    append_number(words, frame)?;
+    words.extend_from_slice(b" cells and COMMON ")?;
+    append_number(words, common)?;
+    words.extend_from_slice(b", but there are ")?;
+    append_number(words, cells)?;
+    words.extend_from_slice(b": ")?;
+    append_arena(words, frame + common)?;
+    Ok(())
+}
+
+// A line of these words.
+fn notes_of(alloc: Global, words: &[u8]) -> Result<Text, AllocError>
+    ensures { IfOk result (λ notes. notes ≡ words_text words.now) }
+{
+    let mut notes = Vec::new(alloc);
+    append_words(&mut notes, words)?;
+    Ok(Text::from(notes))
+}
+
+/// What is said where COMMON and the frame of the main program don't fit an arena of so many cells: what each takes, and the arena
+/// that is enough to begin.
+///
+/// # Errors
+///
+/// Only where memory was refused.
+pub fn opening_notes(alloc: Global, image: &Image, cells: u32) -> Result<Text, AllocError>
+    ensures { IfOk result (λ notes. notes ≡ stops.opening_notes image.now cells) }
+{
+    let main = image.main();
+    let frame = image.unit(main as usize).cells;
+    let mut words = Vec::new(alloc);
+    append_opening(
+        &mut words,
+        name_of(image, main),
+        frame,
+        image.common(),
+        cells,
+    )?;
+    notes_of(alloc, &words)
+}
+
+/// What is said where so many of so many cells are taken, and a frame has no gap.
+///
+/// # Errors
+///
+/// Only where memory was refused.
+pub fn used_notes(alloc: Global, used: u32, cells: u32) -> Result<Text, AllocError>
+    ensures { IfOk result (λ notes. notes ≡ stops.used_notes used cells) }
+{
+    let mut words = Vec::new(alloc);
+    append_number(&mut words, used)?;
+    words.extend_from_slice(b" of ")?;
+    append_number(&mut words, cells)?;
+    words.extend_from_slice(
+        b" cells are in use; hepf list tells what the frame of each unit takes",
+    )?;
+    notes_of(alloc, &words)
+}
+
+// Appends where a process is, if it lives.
+fn append_place(
+    alloc: Global,
+    text: &mut Vec<u8>,
+    image: &Image,
+    place: Option<Whereabouts>,
+) -> Result<(), AllocError>
+    ensures { OnOk result (text.new.items ≡ text.old.items ++ stops.place_notes (names_in_order image.now) place) }
+{
+    let Some(place) = place else {
+        return Ok(());
+    };
+    let mut words = Vec::new(alloc);
+    words.extend_from_slice(b"process ")?;
+    append_number(&mut words, place.process)?;
+    words.extend_from_slice(b" is at ")?;
+    words.extend_from_slice(name_of(image, place.unit))?;
+    words.extend_from_slice(b" LINE ")?;
+    append_number(&mut words, place.line)?;
+    append_words(text, &words)
+}
+
+/// Appends where each process is that lives.
+///
+/// # Errors
+///
+/// Only where memory was refused.
+pub fn append_places(alloc: Global, text: &mut Vec<u8>, core: &Core) -> Result<(), AllocError>
+    ensures { OnOk result (text.new.items ≡ text.old.items ++ stops.all_places_notes core.now.program core.now.history) }
+{
+    for before in 0..core.made() {
+        append_place(alloc, text, core.image(), core.whereabouts(before + 1))?;
+    }
+    Ok(())
+}

@@ -1,0 +1,89 @@
+//! What `check --warn` of a source writes.
+ghost use Rattle.std.specs.Prelude.{◌≡◌, false, IfOk};
+ghost use Rattle.hep_warnings.specs.Warnings as all;
+ghost use Rattle.hep_run.specs.Delivery.{LeavesOfSource, status_alone};
+ghost use Rattle.hep_run.specs.Transcripts.{outcome_of};
+ghost use Rattle.hep_run.specs.Warned.{IsWarnOutcome, outcome_of_warnings};
+
+use crate::deliver::deliver_made;
+use crate::files::say_unread;
+use crate::front::image_of_source;
+use crate::input::read_input;
+use crate::source::MOST_BYTES;
+use crate::status::Status;
+use crate::transcript::{Transcript, fault_transcript};
+use hep_history::History;
+use hep_source::Program;
+use hep_warnings::{warning_text, warnings};
+use std::alloc::{AllocError, Global};
+use std::io::{Read, Write};
+
+// What the warnings of a source and its program come to.
+fn warned_transcript(
+    alloc: Global,
+    source: &[u8],
+    program: &Program,
+) -> Result<Transcript, AllocError>
+    ensures { IfOk result (λ r. outcome_of r ≡ outcome_of_warnings (all.warnings source.now program.now)) }
+{
+    let found = warnings(alloc, source, program)?;
+    let text = warning_text(alloc, &found)?;
+    Ok(Transcript {
+        output: Vec::new(alloc),
+        messages: text.into_vec(),
+        status: Status::Done,
+        history: History::from(Vec::new(alloc)),
+    })
+}
+
+/// All that `check --warn` of a source comes to, before a byte of it is written.
+///
+/// # Errors
+///
+/// Only where memory was refused.
+pub fn warn_transcript(alloc: Global, source: &[u8], long: bool) -> Result<Transcript, AllocError>
+    ensures { IfOk result (λ r. IsWarnOutcome long source.now (outcome_of r)) }
+{
+    match image_of_source(alloc, source, long) {
+        Ok(image) => warned_transcript(alloc, source, image.program()),
+        Err(fault) => fault_transcript(alloc, fault),
+    }
+}
+
+/// Checks a source: reads it, and writes to `messages` why it is refused, if it is, as `check_noted` does; and where it isn't, a line
+/// for each of its warnings.
+///
+/// The answer is the code of a `Status`.
+pub fn warn_noted<R: Read, W: Write, E: Write>(
+    alloc: Global,
+    source: &mut R,
+    long: bool,
+    output: &mut W,
+    messages: &mut E,
+) -> u8
+    ensures { LeavesOfSource (IsWarnOutcome long) (R.remaining source.old) (R.remaining source.new)
+        (status_alone result) (W.contents output.old) (W.contents output.new)
+        (E.contents messages.old) (E.contents messages.new) }
+{
+    match read_input(alloc, source, MOST_BYTES) {
+        Ok(bytes) => {
+            let made = warn_transcript(alloc, &bytes, long);
+            deliver_made(alloc, made, output, messages).status
+        }
+        Err(fault) => say_unread(messages, fault),
+    }
+}
+
+/// Checks a source and says its warnings, as `warn_noted` does without notes.
+pub fn warn_source<R: Read, W: Write, E: Write>(
+    alloc: Global,
+    source: &mut R,
+    output: &mut W,
+    messages: &mut E,
+) -> u8
+    ensures { LeavesOfSource (IsWarnOutcome false) (R.remaining source.old) (R.remaining source.new)
+        (status_alone result) (W.contents output.old) (W.contents output.new)
+        (E.contents messages.old) (E.contents messages.new) }
+{
+    warn_noted(alloc, source, false, output, messages)
+}
