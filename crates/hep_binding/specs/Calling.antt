@@ -1,10 +1,16 @@
 -- A CALL or CREATE, and the activation that it makes: docs/MACHINE.md, "Steps" and "Binding".
-use Rattle.std.specs.Prelude.{◌≡◌, ℕ, ◌≤◌, Bool, true, false, List, [], ◌∷◌, ◌++◌, length, Some, Ok}
+use Rattle.std.specs.Prelude.{◌≡◌, ℕ, ◌+◌, ◌*◌, ◌≤◌, Bool, true, false, List, [], ◌∷◌, ◌++◌, length, Some, IsSome, Ok}
+use Rattle.slab.specs.Slab.{ContainsKey, HasRoomFor}
 use Rattle.hep_machine.specs.Words.{Statement, Units, dummies_of, unit_at, Binding, first_element, from_element, level_after_statement, Actual, evaluated, referred, Layout, with_frame, Scope, storage_of, living, unit_of, with_process, run, Activation, Dummy, Level, Process, State, Top, binding_of, entry_level, next_activation, scope_of, unit_on_top, with_activation, with_new_process, frame_cells}
+use Rattle.hep_arena.specs.Holes.{first_fit}
 use Rattle.hep_arena.specs.Space.{Space}
 use Rattle.hep_layout.specs.Words.{frame_from, RunsFrom, Nodes, also, is_stacked}
 use Rattle.hep_image.specs.Bound.{AreKept}
-use Rattle.hep_proc.specs.Keeping.{FramesOf, Keeps, frames_begun, frames_in}
+use Rattle.hep_image.specs.Image.{most_cells}
+use Rattle.hep_proc.specs.declared.frames.Entrant.{Entrant}
+use Rattle.hep_proc.specs.declared.frames.Frames.{Frames}
+use Rattle.hep_proc.specs.Keeping.{AreOfSomeState, FramesOf, Keeps, frames_begun, frames_in}
+use Rattle.hep_proc.specs.Nodes.{CanCount, nodes_of}
 use Rattle.hep_step.specs.declared.given.Given.{Given}
 use Rattle.hep_step.specs.declared.given.Given.TheVariants as given
 use Rattle.hep_binding.specs.Giving.{AreDistinct}
@@ -124,3 +130,16 @@ pub record IsPassing (call : CallOf) : Type 0 where
   pub bound : binding_of call.program (caller call) call.unit call.actuals ≡ Ok call.binding
   pub as_many : length call.actuals ≡ length (dummies_of (unit_at call.program call.unit))
   pub distinct : AreDistinct (dummies_of (unit_at call.program call.unit))
+
+-- ---- the frame of that activation
+
+-- it can enter: there is room for its node, and a gap for it, in which a header and what is given fit; the frames are those of some state, and its
+-- parent's node is there, which can count one child more
+pub record CanBeginWith (frames : Frames) (entrant : Entrant) (given : List Given) : Type 0 where
+  pub room : HasRoomFor frames.nodes 1
+  pub few : length frames.arena.contents ≤ most_cells
+  pub many : 1 + 2 * length given ≤ entrant.cells
+  pub gap : IsSome (first_fit entrant.cells frames.arena.holes)
+  pub there : ContainsKey frames.nodes entrant.parent
+  pub kept : AreOfSomeState frames.arena (nodes_of frames.nodes)
+  pub children : CanCount (nodes_of frames.nodes) entrant.parent

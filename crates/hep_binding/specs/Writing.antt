@@ -1,9 +1,11 @@
 -- The frame of a new activation while its cells are written: docs/MACHINE.md, "Variables and frames".
-use Rattle.std.specs.Prelude.{◌≡◌, ℕ, ◌+◌, Bool, false, nat_eq, nat_lt, pos, if◌then◌else◌, List, Option, Some, None, slice_set}
+use Rattle.std.specs.Prelude.{◌≡◌, ℕ, ◌+◌, ◌<◌, ◌≤◌, Bool, false, nat_eq, nat_lt, pos, if◌then◌else◌, List, Option, Some, None, length, slice_set}
 use Rattle.hep_machine.specs.Words.{Statement, Units, dummies_of, unit_at, unset_cell, Frame, Layout, activation_of, unit_of, State, Store}
 use Rattle.hep_machine.specs.declared.slot.Slot.{Slot}
 use Rattle.hep_arena.specs.Gaps.{frame_among}
+use Rattle.hep_arena.specs.Holes.{IsOut}
 use Rattle.hep_arena.specs.Space.{Space}
+use Rattle.hep_image.specs.Image.{most_cells}
 use Rattle.hep_layout.specs.Words.{DescriptorSlots, number, descriptor_slots, place_of_part}
 use Rattle.hep_proc.specs.Keeping.{FramesOf, with_unset}
 use Rattle.hep_step.specs.declared.given.Given.{Given}
@@ -36,6 +38,12 @@ stored_in f store = record f { state = record f.state { store = store } }
 -- the unit that activation a runs
 abbrev pub unit_framed : FramesOf → ℕ → List Statement
 unit_framed f a = unit_at f.program (unit_of f.state a)
+
+-- in an arena that isn't too large so many cells from one on are out
+pub record AreCellsOut (at count : ℕ) (arena : Space) : Type 0 where
+  pub few : length arena.contents ≤ most_cells
+  pub inside : at + count ≤ length arena.contents
+  pub out : (p : ℕ) → at ≤ p → p < at + count → IsOut p arena.holes
 
 -- one cell is written
 pub record IsSet (p : ℕ) (slot : Slot) (before after : Space) : Type 0 where

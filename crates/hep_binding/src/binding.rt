@@ -5,6 +5,7 @@ ghost use Rattle.hep_arena.specs.Holes.{IsOut};
 ghost use Rattle.hep_layout.specs.Descriptors.{number as slot_of_number};
 ghost use Rattle.hep_proc.specs.Keeping.{FramesOf, Keeps};
 ghost use Rattle.hep_proc.specs.Nodes.{nodes_of};
+ghost use Rattle.hep_proc.specs.Placing.{KeepsPlaces};
 ghost use Rattle.hep_binding.specs.Giving.{with_given};
 ghost use Rattle.hep_binding.specs.Shapes.{cells_to_locals};
 ghost use Rattle.hep_binding.specs.Writing.{IsBinding, IsPut, unit_framed, unwritten, written_up_to};
@@ -30,9 +31,7 @@ fn put(frames: &mut Frames, at: u32, given: Given)
     requires first { IsOut at frames.old.arena.holes }
     requires second { IsOut (at + 1) frames.old.arena.holes }
     ensures put { IsPut at given frames.old.arena frames.new.arena }
-    ensures nodes { nodes_of frames.new.nodes ≡ nodes_of frames.old.nodes }
-    ensures holes { frames.new.arena.holes ≡ frames.old.arena.holes }
-    ensures cells { length frames.new.arena.contents ≡ length frames.old.arena.contents }
+    ensures same { KeepsPlaces frames.old frames.new }
 {
     match given {
         Given::Value(value) => {
@@ -60,9 +59,7 @@ pub fn bind(frames: &mut Frames, first: u32, given: &[Given])
         → f.state.activations ≡ s.activations → f.state.store ≡ with_given s.store a (dummies_of (unit_framed f a)) given.now
         → ((y : Name) → s.store (local a y 1) ≡ unset_cell) → IsBinding f.program f.state f.layout a first given.now
         → Keeps (written_up_to f a (cells_to_locals (unit_framed f a))) frames.new.arena (nodes_of frames.new.nodes) }
-    ensures nodes { nodes_of frames.new.nodes ≡ nodes_of frames.old.nodes }
-    ensures holes { frames.new.arena.holes ≡ frames.old.arena.holes }
-    ensures cells { length frames.new.arena.contents ≡ length frames.old.arena.contents }
+    ensures same { KeepsPlaces frames.old frames.new }
 {
     let mut at = first + 1;
     for one in given {

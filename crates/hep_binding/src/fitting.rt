@@ -73,8 +73,7 @@ fn find_shape(
     ensures fits { result ≡ definitions.is_fitting_at arena.now.contents given.now (vec_len shapes.old) dummy.now }
     ensures items { shapes.new.items ≡ shapes.old.items ++ definitions.shape_of_dummy arena.now.contents given.now dummy.now ∷ [] }
     ensures length { vec_len shapes.new ≡ vec_len shapes.old + 1 }
-    ensures stack { vec_capacity stack.old ≤ vec_capacity stack.new }
-    ensures capacity { vec_capacity shapes.old ≤ vec_capacity shapes.new }
+    ensures rooms { (vec_capacity stack.old ≤ vec_capacity stack.new) × (vec_capacity shapes.old ≤ vec_capacity shapes.new) }
 {
     let count = count_given(given, shapes.len());
     let shape = shape_of(dummy, arena, given, stack);

@@ -6,9 +6,10 @@ ghost use Rattle.hep_arena.specs.Gaps.{frame_among};
 ghost use Rattle.hep_arena.specs.Holes.{IsOut};
 ghost use Rattle.hep_proc.specs.Keeping.{AreOfSomeState, FramesOf, Keeps};
 ghost use Rattle.hep_proc.specs.Nodes.{nodes_of};
+ghost use Rattle.hep_proc.specs.Placing.{KeepsPlaces};
 ghost use Rattle.hep_binding.specs.Shapes.{AreShaping, IsBoundPut, IsFramedBy, IsShaping, cells_of_shape, cells_of_shapes};
 ghost use Rattle.hep_binding.specs.Shapes.{cells_to_bounds_of};
-ghost use Rattle.hep_binding.specs.Writing.{unit_framed, written_up_to};
+ghost use Rattle.hep_binding.specs.Writing.{AreCellsOut, unit_framed, written_up_to};
 ghost use Rattle.hep_layout.specs.Words.{FrameNode};
 
 use crate::binding::number;
@@ -23,9 +24,7 @@ fn put_bound(frames: &mut Frames, at: u32, bound: Bound)
     requires first { IsOut at frames.old.arena.holes }
     requires second { IsOut (at + 1) frames.old.arena.holes }
     ensures put { IsBoundPut at bound.lower bound.upper frames.old.arena frames.new.arena }
-    ensures nodes { nodes_of frames.new.nodes ≡ nodes_of frames.old.nodes }
-    ensures holes { frames.new.arena.holes ≡ frames.old.arena.holes }
-    ensures cells { length frames.new.arena.contents ≡ length frames.old.arena.contents }
+    ensures same { KeepsPlaces frames.old frames.new }
 {
     let Bound { lower, upper } = bound;
     frames.set(at, number(lower));
@@ -45,9 +44,7 @@ fn shape(frames: &mut Frames, at: u32, bounds: &[Bound])
         → Keeps (written_up_to f a (cells_to_bounds_of (unit_framed f a) k)) frames.old.arena (nodes_of frames.old.nodes)
         → IsShaping f.program f.state f.layout a k at bounds.now
         → Keeps (written_up_to f a (cells_to_bounds_of (unit_framed f a) (k + 1))) frames.new.arena (nodes_of frames.new.nodes) }
-    ensures nodes { nodes_of frames.new.nodes ≡ nodes_of frames.old.nodes }
-    ensures holes { frames.new.arena.holes ≡ frames.old.arena.holes }
-    ensures cells { length frames.new.arena.contents ≡ length frames.old.arena.contents }
+    ensures same { KeepsPlaces frames.old frames.new }
 {
     let mut next = at;
     for bound in bounds {
@@ -81,18 +78,14 @@ fn cells_of_all(shapes: &[Option<Shape>]) -> u32
 // Writes the bounds of a dummy argument of a new activation to their cells, which begin at a cell, where its array is adjustable.
 // Answers the cell behind them.
 fn shape_one(frames: &mut Frames, at: u32, shape_of_one: &Option<Shape>) -> u32
-    requires few { length frames.old.arena.contents ≤ 16777216 }
-    requires inside { at + cells_of_shape shape_of_one.now ≤ length frames.old.arena.contents }
-    requires out { (p : ℕ) → at ≤ p → p < at + cells_of_shape shape_of_one.now → IsOut p frames.old.arena.holes }
+    requires { AreCellsOut at (cells_of_shape shape_of_one.now) frames.old.arena }
     ensures next { result ≡ at + cells_of_shape shape_of_one.now }
     ensures none { shape_of_one.now ≡ None → frames.new.arena ≡ frames.old.arena }
     ensures shaped { (bounds : Bounds) → shape_of_one.now ≡ Some bounds → (f : FramesOf) (a k : ℕ)
         → Keeps (written_up_to f a (cells_to_bounds_of (unit_framed f a) k)) frames.old.arena (nodes_of frames.old.nodes)
         → IsShaping f.program f.state f.layout a k at bounds
         → Keeps (written_up_to f a (cells_to_bounds_of (unit_framed f a) (k + 1))) frames.new.arena (nodes_of frames.new.nodes) }
-    ensures nodes { nodes_of frames.new.nodes ≡ nodes_of frames.old.nodes }
-    ensures holes { frames.new.arena.holes ≡ frames.old.arena.holes }
-    ensures cells { length frames.new.arena.contents ≡ length frames.old.arena.contents }
+    ensures same { KeepsPlaces frames.old frames.new }
 {
     let Some(known) = shape_of_one else {
         return at;
@@ -113,9 +106,7 @@ fn shape_from(frames: &mut Frames, at: u32, shapes: &[Option<Shape>])
         → frame_among a f.layout ≡ Some frame → at ≡ frame.first + cells_to_bounds_of (unit_framed f a) 0
         → AreShaping f.program f.state a shapes.now
         → Keeps (written_up_to f a (frame_cells (unit_framed f a))) frames.new.arena (nodes_of frames.new.nodes) }
-    ensures nodes { nodes_of frames.new.nodes ≡ nodes_of frames.old.nodes }
-    ensures holes { frames.new.arena.holes ≡ frames.old.arena.holes }
-    ensures cells { length frames.new.arena.contents ≡ length frames.old.arena.contents }
+    ensures same { KeepsPlaces frames.old frames.new }
 {
     let mut next = at;
     for one in shapes {
@@ -137,9 +128,7 @@ pub fn shape_all(frames: &mut Frames, key: usize, shapes: &[Option<Shape>])
         → nodes_of frames.old.nodes key ≡ Some n → IsFramedBy f.program f.state f.layout a n
         → AreShaping f.program f.state a shapes.now
         → Keeps (written_up_to f a (frame_cells (unit_framed f a))) frames.new.arena (nodes_of frames.new.nodes) }
-    ensures nodes { nodes_of frames.new.nodes ≡ nodes_of frames.old.nodes }
-    ensures holes { frames.new.arena.holes ≡ frames.old.arena.holes }
-    ensures cells { length frames.new.arena.contents ≡ length frames.old.arena.contents }
+    ensures same { KeepsPlaces frames.old frames.new }
 {
     let end = frames.first(key) + frames.cells(key);
     let at = end - cells_of_all(shapes);

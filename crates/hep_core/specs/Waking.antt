@@ -1,12 +1,23 @@
--- Who waits no more after a turn that made a step: docs/MACHINE.md, "Which process comes next".
-use Rattle.std.specs.Prelude.{◌≡◌, ℕ, ◌+◌, ◌≤◌, Bool, false, List, Option, Some, slice_get}
+-- Who is ready and who waits no more after a turn that made a step: docs/MACHINE.md, "Which process comes next".
+use Rattle.std.specs.Prelude.{◌≡◌, ℕ, ◌+◌, ◌≤◌, Bool, false, List, Option, Some, length, slice_get}
+use Rattle.std.specs.Option.{is_some}
+use Rattle.hep_machine.specs.Words.{Units, is_number_among, living, run}
 use Rattle.hep_cells.specs.declared.want.Want.{Want}
 use Rattle.hep_image.specs.Image.{most_cells}
-use Rattle.hep_blocked.specs.Listing.{awake_by, awake_where, is_woken, is_woken_where}
+use Rattle.hep_blocked.specs.Listing.{awake_by, awake_where, is_noted, is_woken, is_woken_where}
 use Rattle.hep_purging.specs.declared.range.ClosedRange.{ClosedRange}
 use Rattle.hep_purging.specs.Purged.{have_cell}
+use Rattle.hep_state.specs.declared.machine.Machine.{Machine}
 use Rattle.hep_state.specs.declared.turn.Turned.{Turned}
 use Rattle.hep_state.specs.declared.turn.Turned.TheVariants.{Stepped, Purged, Waits}
+use Rattle.hep_state.specs.Words.{snapshot_of, IsAfter}
+
+-- of those that were ready these are left, and one that was made is added, after a step of process p, before which so many processes were
+-- made, in the state that a machine keeps, whatever turns led to it
+abbrev pub NotesReady : ℕ → ℕ → Machine → List ℕ → List ℕ → Type 0
+NotesReady p made m old new =
+    (program : Units) (cells : ℕ) (choices : List ℕ) → IsAfter program cells choices (snapshot_of m) → (q : ℕ)
+    → is_number_among q new ≡ is_noted p (is_some (living (run program choices) p)) made (length m.processes.items) old q
 
 -- what a process still waits for, by what the turn changed, or by the cells that a PURGE emptied
 abbrev pub awake_after : Turned → List ClosedRange → Option Want → Option Want

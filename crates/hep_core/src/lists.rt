@@ -1,13 +1,12 @@
 //! Who is ready and who waits, around a turn.
-ghost use Rattle.std.specs.Prelude.{◌≡◌, ◌≤◌, ◌+◌, ◌||◌, ℕ, List, OnErr, OnOk, Some, is_some, length, max, slice_get};
-ghost use Rattle.hep_machine.specs.Words.{Units, is_number_among, living, run};
+ghost use Rattle.std.specs.Prelude.{◌≡◌, ◌≤◌, ◌+◌, ◌||◌, ℕ, OnErr, OnOk, Some, length, max, slice_get};
+ghost use Rattle.hep_machine.specs.Words.{is_number_among};
 ghost use Rattle.hep_blocked.specs.Waiting.{waiting_at};
 ghost use Rattle.hep_image.specs.Image.{most_cells};
-ghost use Rattle.hep_blocked.specs.Listing.{IsReadyNoMore, WaitsNow, awake_by, awake_where, is_noted, is_woken, is_woken_where};
+ghost use Rattle.hep_blocked.specs.Listing.{IsReadyNoMore, WaitsNow, awake_by, awake_where, is_woken, is_woken_where};
 ghost use Rattle.hep_purging.specs.declared.range.ClosedRange.{ClosedRange as PureRange};
 ghost use Rattle.hep_purging.specs.Purged.{has_cell, have_cell};
-ghost use Rattle.hep_core.specs.Waking.{AreInArena, awake_after, is_woken_after};
-ghost use Rattle.hep_state.specs.Words.{snapshot_of, IsAfter};
+ghost use Rattle.hep_core.specs.Waking.{AreInArena, NotesReady, awake_after, is_woken_after};
 
 use hep_blocked::{Ready, Waits, Want};
 use hep_purging::ClosedRange;
@@ -17,9 +16,7 @@ use std::alloc::AllocError;
 /// After a step of process p, before which so many processes were made: p isn't ready once it has ended, and a process that it made is.
 pub(crate) fn note_ready(ready: &mut Ready, machine: &Machine, p: u64, made: usize)
     requires { length machine.now.processes.items ≤ ready.old.room }
-    ensures ready { (program : Units) (cells : ℕ) (choices : List ℕ) → IsAfter program cells choices (snapshot_of machine.now) → (q : ℕ)
-        → is_number_among q ready.new.ready
-        ≡ is_noted p (is_some (living (run program choices) p)) made (length machine.now.processes.items) ready.old.ready q }
+    ensures ready { NotesReady p made machine.now ready.old.ready ready.new.ready }
     ensures room { ready.new.room ≡ ready.old.room }
 {
     if !machine.lives(p) {

@@ -2,13 +2,16 @@
 ghost use Rattle.std.specs.Prelude.{◌≡◌};
 
 use std::alloc::{AllocError, AllocFailed};
+use thiserror::Error;
 
 /// Why a text isn't read as an expression or a form of statement.
-#[derive(Clone, Copy, Debug, PartialEq, Eq)]
+#[derive(Clone, Copy, Debug, PartialEq, Eq, Error)]
 pub enum Unread {
     /// Memory was refused.
+    #[error("no memory")]
     NoMemory,
     /// The grammar has no reading of the text.
+    #[error("no reading")]
     NoReading,
 }
 

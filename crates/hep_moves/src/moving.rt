@@ -1,7 +1,7 @@
 //! Steps of an activation, one after the other, without a look at what others wait for.
 ghost use Rattle.std.specs.Prelude.{◌≡◌, ◌≤◌, ◌<◌, ◌+◌, ℕ, drop, length, vec_len, vec_capacity};
 ghost use Rattle.hep_code.specs.Words.{values_ahead};
-ghost use Rattle.hep_step.specs.Performed.{Snapshot, snapshot};
+ghost use Rattle.hep_step.specs.Performed.{KeepsHoles, Snapshot, seen};
 ghost use Rattle.hep_step.specs.Ready.{IsReady};
 ghost use Rattle.hep_moves.specs.Moves.{CanGoOn, Goes, HasGoneOnce, HasNoMove, IsSettledTo, is_moved};
 
@@ -10,8 +10,7 @@ use hep_arena::Arena;
 use hep_code::Instruction;
 use hep_code::operands::settle;
 use hep_image::Array;
-use hep_source::Value;
-use hep_step::{Effect, Frame, perform};
+use hep_step::{Effect, Frame, Standing, Storage, perform};
 use std::alloc::{AllocError, Global};
 
 /// What stays the same while an activation runs: its unit's code and arrays, and its frame in the arena.
@@ -38,30 +37,29 @@ fn step(
     alloc: Global,
     activation: &Activation<'_>,
     arena: &mut Arena,
-    operands: &mut Vec<Value>,
-    index: &mut usize,
+    standing: &mut Standing,
 ) -> bool
-    requires room { vec_len operands.old + values_ahead (drop index.old activation.now.code.now) ≤ vec_capacity operands.old }
+    requires room { vec_len standing.old.operands + values_ahead (drop standing.old.index activation.now.code.now) ≤ vec_capacity standing.old.operands }
     requires ready { (t : Snapshot) (room : ℕ)
-        → IsSettledTo activation.now.code.now (snapshot arena.old.contents operands.old.items index.old) t → vec_capacity operands.old ≤ room
+        → IsSettledTo activation.now.code.now (seen arena.old standing.old) t → vec_capacity standing.old.operands ≤ room
         → IsReady activation.now.code.now activation.now.arrays.now arena.old activation.now.frame t.operands room t.index }
     ensures stepped { HasGoneOnce activation.now.code.now activation.now.arrays.now activation.now.frame.first
-        (snapshot arena.old.contents operands.old.items index.old) result
-        (snapshot arena.new.contents operands.new.items index.new) }
-    ensures holes { arena.new.holes ≡ arena.old.holes }
-    ensures cells { length arena.new.contents ≡ length arena.old.contents }
-    ensures capacity { vec_capacity operands.old ≤ vec_capacity operands.new }
+        (seen arena.old standing.old) result
+        (seen arena.new standing.new) }
+    ensures arena { KeepsHoles arena.old arena.new }
+    ensures capacity { vec_capacity standing.old.operands ≤ vec_capacity standing.new.operands }
 {
     let Activation {
         code,
         arrays,
         frame,
     } = *activation;
-    settle(code, operands, index);
-    if !is_plain(code, *index) {
+    settle(code, &mut standing.operands, &mut standing.index);
+    if !is_plain(code, standing.index) {
         return false;
     }
-    let performed = perform(alloc, code, arrays, arena, frame, operands, index);
+    let storage = Storage { arrays, frame };
+    let performed = perform(alloc, code, &storage, arena, standing);
     moved(performed)
 }
 
@@ -73,26 +71,25 @@ pub fn move_on(
     alloc: Global,
     activation: &Activation<'_>,
     arena: &mut Arena,
-    operands: &mut Vec<Value>,
-    index: &mut usize,
+    standing: &mut Standing,
     most: u64,
 ) -> u64
     // Where an activation runs, it can go on wherever it comes to.
     requires ready { (n : ℕ) (t : Snapshot)
         → Goes activation.now.code.now activation.now.arrays.now activation.now.frame.first
-        (snapshot arena.old.contents operands.old.items index.old) n t
-        → CanGoOn activation.now.code.now activation.now.arrays.now arena.old.holes activation.now.frame (vec_capacity operands.old) t }
+        (seen arena.old standing.old) n t
+        → CanGoOn activation.now.code.now activation.now.arrays.now arena.old.holes activation.now.frame (vec_capacity standing.old.operands) t }
     ensures gone { Goes activation.now.code.now activation.now.arrays.now activation.now.frame.first
-        (snapshot arena.old.contents operands.old.items index.old) result
-        (snapshot arena.new.contents operands.new.items index.new) }
+        (seen arena.old standing.old) result
+        (seen arena.new standing.new) }
     ensures few { result ≤ most }
     ensures all { result < most → HasNoMove activation.now.code.now activation.now.arrays.now activation.now.frame.first
-        (snapshot arena.new.contents operands.new.items index.new) }
+        (seen arena.new standing.new) }
     ensures holes { arena.new.holes ≡ arena.old.holes }
-    ensures capacity { vec_capacity operands.old ≤ vec_capacity operands.new }
+    ensures capacity { vec_capacity standing.old.operands ≤ vec_capacity standing.new.operands }
 {
     for done in 0..most {
-        if !step(alloc, activation, arena, operands, index) {
+        if !step(alloc, activation, arena, standing) {
             return done;
         }
     }

@@ -1,3 +1,4 @@
 pub mod Nodes
 pub mod Keeping
+pub mod Placing
 pub mod Stacks

@@ -7,11 +7,12 @@ ghost use Rattle.hep_machine.specs.Words.{Units, main_unit, unset_cell, Layout, 
 ghost use Rattle.hep_machine.specs.Words.{run, Activation, Location, State, with_cell};
 ghost use Rattle.hep_machine.specs.declared.slot.Slot.{Slot};
 ghost use Rattle.hep_arena.specs.Gaps.{framed_cells};
-ghost use Rattle.hep_arena.specs.Holes.{IsOut, first_fit, free_cells, given};
+ghost use Rattle.hep_arena.specs.Holes.{IsOut, first_fit, free_cells};
 ghost use Rattle.hep_layout.specs.Words.{address, frame_address, DescriptorSlots, is_descriptor, FramePart, FrameNode};
 ghost use Rattle.hep_layout.specs.Words.{but, first_nodes, is_stacked, new_node, with_node, without_node};
-ghost use Rattle.hep_proc.specs.Nodes.{CanCount, IsCountedAbove, nodes_of};
+ghost use Rattle.hep_proc.specs.Nodes.{nodes_of};
 ghost use Rattle.hep_proc.specs.Keeping.{AreOfSomeState, CanAllLeave, CanLeave, HasLeft, IsBegun, IsEnded, IsOpening, IsTaken, IsUnused};
+ghost use Rattle.hep_proc.specs.Placing.{CanEnter, CanGoBack, HasPlaceFor, IsCellOut, IsGivenBack};
 ghost use Rattle.hep_proc.specs.Keeping.{FramesOf, Keeps, LeadUpwards, all_but, as_wanted, frames_begun, frames_in};
 
 use crate::nodes::{self, Node};
@@ -19,6 +20,16 @@ use hep_arena::Arena;
 use hep_machine::Slot;
 use slab::Slab;
 use std::alloc::{AllocError, Global};
+
+/// An activation whose frame enters: its number, the index of the unit that it runs, how many cells its frame has, and the key of its
+/// parent's node.
+#[derive(Clone, Copy, Debug)]
+pub struct Entrant {
+    pub activation: u64,
+    pub unit: u32,
+    pub cells: u32,
+    pub parent: usize,
+}
 
 /// The arena, and a node for each frame that is out, under a key of its own.
 #[derive(Drop)]
@@ -104,27 +115,30 @@ impl Frames {
         self.add(1, unit, cells, None)
     }
 
-    /// The frame of a new activation enters, which runs the unit of an index and whose parent's node is under a
-    /// key. Answers the key of its node.
+    /// The frame of a new activation enters. Answers the key of its node.
     ///
     /// There is room for a node, and a gap of so many cells, one at least.
-    pub fn enter(&mut self, activation: u64, unit: u32, cells: u32, parent: usize) -> usize
-        requires room { HasRoomFor self.old.nodes 1 }
-        requires some { 1 ≤ cells }
-        requires gap { IsSome (first_fit cells self.old.arena.holes) }
-        requires there { ContainsKey self.old.nodes parent }
-        requires few { CanCount (nodes_of self.old.nodes) parent }
+    pub fn enter(&mut self, entrant: Entrant) -> usize
+        requires { CanEnter entrant self.old }
         ensures vacant { nodes_of self.old.nodes result ≡ None }
-        ensures taken { (first : ℕ) → first_fit cells self.old.arena.holes ≡ Some first
-            → IsTaken cells first self.old.arena self.new.arena }
-        ensures nodes { (first : ℕ) → first_fit cells self.old.arena.holes ≡ Some first
-            → nodes_of self.new.nodes ≡ with_node (nodes_of self.old.nodes) result (new_node activation unit first cells parent) parent }
+        ensures taken { (first : ℕ) → first_fit entrant.cells self.old.arena.holes ≡ Some first
+            → IsTaken entrant.cells first self.old.arena self.new.arena }
+        ensures nodes { (first : ℕ) → first_fit entrant.cells self.old.arena.holes ≡ Some first
+            → nodes_of self.new.nodes ≡ with_node (nodes_of self.old.nodes) result
+            (new_node entrant.activation entrant.unit first entrant.cells entrant.parent) entrant.parent }
         ensures begun { (f : FramesOf) (t : State) (x : Activation) (n : FrameNode) → Keeps f self.old.arena (nodes_of self.old.nodes)
-            → nodes_of self.old.nodes parent ≡ Some n → IsBegun f.state t x → x.parent ≡ Some n.activation
-            → activation ≡ length t.activations → unit ≡ x.unit → cells ≡ frame_of f.program t (length t.activations) → (first : ℕ)
-            × (lowest_gap (length self.old.arena.contents) cells (common_cells f.program) f.layout ≡ Some first)
+            → nodes_of self.old.nodes entrant.parent ≡ Some n → IsBegun f.state t x → x.parent ≡ Some n.activation
+            → entrant.activation ≡ length t.activations → entrant.unit ≡ x.unit
+            → entrant.cells ≡ frame_of f.program t (length t.activations) → (first : ℕ)
+            × (lowest_gap (length self.old.arena.contents) entrant.cells (common_cells f.program) f.layout ≡ Some first)
             × Keeps (frames_begun f t first) self.new.arena (nodes_of self.new.nodes) }
     {
+        let Entrant {
+            activation,
+            unit,
+            cells,
+            parent,
+        } = entrant;
         let key = self.add(activation, unit, cells, Some(parent));
         nodes::gain_child(&mut self.nodes, parent);
         key
@@ -132,9 +146,7 @@ impl Frames {
 
     // A node that has no children, and its block.
     fn add(&mut self, activation: u64, unit: u32, cells: u32, parent: Option<usize>) -> usize
-        requires room { HasRoomFor self.old.nodes 1 }
-        requires some { 1 ≤ cells }
-        requires gap { IsSome (first_fit cells self.old.arena.holes) }
+        requires { HasPlaceFor cells self.old }
         ensures vacant { nodes_of self.old.nodes result ≡ None }
         ensures node { (first : ℕ) → first_fit cells self.old.arena.holes ≡ Some first
             → nodes_of self.new.nodes result ≡ Some (record {
@@ -209,18 +221,12 @@ impl Frames {
 
     // Gives the frame under a key back, and answers its parent's key.
     fn give(&mut self, key: usize) -> Option<usize>
-        requires there { ContainsKey self.old.nodes key }
-        requires inside { (n : FrameNode) → nodes_of self.old.nodes key ≡ Some n → n.first + n.cells ≤ length self.old.arena.contents }
-        requires out { (n : FrameNode) (p : ℕ) → nodes_of self.old.nodes key ≡ Some n → n.first ≤ p → p < n.first + n.cells
-            → IsOut p self.old.arena.holes }
-        requires counted { IsCountedAbove (nodes_of self.old.nodes) key }
+        requires { CanGoBack key self.old }
         ensures parent { (n : FrameNode) → nodes_of self.old.nodes key ≡ Some n → result ≡ n.parent }
         ensures nodes { (n : FrameNode) → nodes_of self.old.nodes key ≡ Some n → (k : ℕ)
             → nodes_of self.new.nodes k ≡ without_node (nodes_of self.old.nodes) key n k }
         ensures len { slab_len self.new.nodes + 1 ≡ slab_len self.old.nodes }
-        ensures holes { (n : FrameNode) → nodes_of self.old.nodes key ≡ Some n
-            → self.new.arena.holes ≡ given (n.first, n.cells) self.old.arena.holes }
-        ensures kept { (p : ℕ) → IsOut p self.new.arena.holes → slice_get self.new.arena.contents p ≡ slice_get self.old.arena.contents p }
+        ensures back { (n : FrameNode) → nodes_of self.old.nodes key ≡ Some n → IsGivenBack n self.old.arena self.new.arena }
         ensures cells { length self.new.arena.contents ≡ length self.old.arena.contents }
     {
         let node = self.nodes.remove(key);
@@ -285,8 +291,7 @@ impl Frames {
 
     /// Writes the slot of a cell that is out.
     pub fn set(&mut self, at: u32, slot: Slot)
-        requires inside { at < length self.old.arena.contents }
-        requires out { IsOut at self.old.arena.holes }
+        requires { IsCellOut at self.old.arena }
         ensures contents { self.new.arena.contents ≡ slice_set self.old.arena.contents at slot }
         ensures holes { self.new.arena.holes ≡ self.old.arena.holes }
         ensures nodes { nodes_of self.new.nodes ≡ nodes_of self.old.nodes }

@@ -11,5 +11,5 @@ pub mod laws;
 mod nodes;
 mod process;
 
-pub use frames::Frames;
+pub use frames::{Entrant, Frames};
 pub use process::{Local, Process};

@@ -3,9 +3,8 @@ use Rattle.std.proofs.Common.{◌≡◌, ℕ, Bool, true, List, Option, Some, No
 use Rattle.hep_machine.specs.Words.{IsLegal, Units}
 use Rattle.hep_core.specs.Value.{CoreValue, IsStop}
 use Rattle.hep_workers.specs.declared.fault.CloseFault.TheVariants as close
-use Rattle.hep_workers.specs.declared.fault.CrewFault.TheVariants as crew
 use Rattle.hep_workers.specs.declared.fault.WorkFault.{WorkFault}
-use Rattle.hep_workers.specs.declared.fault.WorkFault.TheVariants.{NoMemory, ArenaFull, Crew, Close}
+use Rattle.hep_workers.specs.declared.fault.WorkFault.TheVariants.{NoMemory, ArenaFull, NoTicket, NoThread, Close}
 use Rattle.hep_workers.specs.declared.options.WorkOptions.{WorkOptions}
 use Rattle.hep_workers.specs.declared.receipt.Receipt.{Receipt}
 use Rattle.hep_workers.specs.Faults.{number_of}
@@ -37,9 +36,8 @@ is_some_refusal (Some number) = is_refusal_of_workers number
 some-refusal : (fault : WorkFault) → is_some_refusal (number_of fault) ≡ true
 some-refusal NoMemory = refl
 some-refusal ArenaFull = refl
-some-refusal (Crew crew.NoMemory) = refl
-some-refusal (Crew crew.NoTicket) = refl
-some-refusal (Crew crew.NoThread) = refl
+some-refusal NoTicket = refl
+some-refusal NoThread = refl
 some-refusal (Close close.NoMemory) = refl
 some-refusal (Close close.NotTheEntries) = refl
 some-refusal (Close close.NotRising) = refl

@@ -2,13 +2,16 @@
 
 use hep_base::Text;
 use std::alloc::AllocError;
+use thiserror::Error;
 
 /// Why a source isn't run, with what is said of it.
-#[derive(Drop)]
+#[derive(Debug, Drop, Error)]
 pub enum SourceFault {
     /// Memory was refused, which says nothing of the source.
+    #[error("no memory")]
     NoMemory,
     /// The source is refused.
+    #[error("{number} at line {line}")]
     Refused {
         /// The number of the rule.
         number: u16,

@@ -6,8 +6,9 @@ use hep_code::Instruction;
 use hep_code::operands::settle;
 use hep_image::{Array, Image, UnitCode};
 use hep_proc::{Frames, Local, Process};
-use hep_step::{Effect, Frame, perform};
+use hep_step::{Effect, Frame, Standing, Storage, perform};
 use std::alloc::{AllocError, Global};
+use std::mem::replace;
 
 /// Where the top activation of a process is: its unit, its frame in the arena, and its index in the unit's code.
 pub fn place<'a>(
@@ -72,18 +73,15 @@ pub(crate) fn advance(
     ensures cells { length frames.new.arena.contents ≡ length frames.old.arena.contents }
     ensures capacity { vec_capacity process.old.operands ≤ vec_capacity process.new.operands }
 {
-    let (unit, frame, mut index) = place(process, frames, image);
+    let (unit, frame, index) = place(process, frames, image);
     let code = unit.code.as_slice();
     let arrays = unit.arrays.as_slice();
-    let performed = perform(
-        alloc,
-        code,
-        arrays,
-        &mut frames.arena,
-        frame,
-        &mut process.operands,
-        &mut index,
-    );
+    let storage = Storage { arrays, frame };
+    let operands = replace(&mut process.operands, Vec::new(alloc));
+    let mut standing = Standing { operands, index };
+    let performed = perform(alloc, code, &storage, &mut frames.arena, &mut standing);
+    let Standing { operands, index } = standing;
+    process.operands = operands;
     process.stand_at(index);
     performed
 }

@@ -5,7 +5,7 @@ ghost use Rattle.hep_state.specs.Words.{StepsByCreation};
 
 use crate::machine::{Machine, append};
 use hep_binding::{begin, shape_all};
-use hep_proc::{Local, Process};
+use hep_proc::{Entrant, Local, Process};
 
 /// A unit that is called, created or referred to: its index in the program, how many cells its frame has, and where its first executable
 /// statement is in its code.
@@ -34,14 +34,13 @@ impl Machine {
         let activation = self.activations + 1;
         let parent = self.processes[(p - 1) as usize].top().key;
         let Called { unit, cells, entry } = called;
-        let key = begin(
-            &mut self.frames,
+        let entrant = Entrant {
             activation,
             unit,
             cells,
             parent,
-            &self.passing.given,
-        );
+        };
+        let key = begin(&mut self.frames, entrant, &self.passing.given);
         shape_all(&mut self.frames, key, &self.passing.shapes);
         self.activations = activation;
         Local {

@@ -18,13 +18,16 @@ use hep_machine::Entry;
 use hep_proc::Process;
 use hep_step::{Effect, Way};
 use std::alloc::{AllocError, Global};
+use thiserror::Error;
 
 /// Why a turn was not taken. The same state is shown then.
-#[derive(Clone, Copy, Debug, PartialEq, Eq)]
+#[derive(Clone, Copy, Debug, PartialEq, Eq, Error)]
 pub enum TurnFault {
     /// No gap of the arena is as long as the frame of the unit that is called.
+    #[error("arena full")]
     ArenaFull,
     /// Memory was refused.
+    #[error("no memory")]
     NoMemory,
 }
 

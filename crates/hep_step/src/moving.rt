@@ -2,31 +2,26 @@
 ghost use Rattle.std.specs.Prelude.{◌≡◌, ◌+◌, ◌<◌, ◌≤◌, ◌^◌, [], vec_capacity};
 ghost use Rattle.hep_code.specs.Moves as moves;
 
+use crate::standing::Standing;
 use hep_code::{Instruction, Operation, leading};
-use hep_source::Value;
 
 /// The activation goes on at an index, with no operands.
-pub(crate) fn go_on(operands: &mut Vec<Value>, index: &mut usize, next: usize)
-    ensures operands { operands.new.items ≡ [] }
-    ensures index { index.new ≡ next }
-    ensures capacity { vec_capacity operands.old ≤ vec_capacity operands.new }
+pub(crate) fn go_on(standing: &mut Standing, next: usize)
+    ensures operands { standing.new.operands.items ≡ [] }
+    ensures index { standing.new.index ≡ next }
+    ensures capacity { vec_capacity standing.old.operands ≤ vec_capacity standing.new.operands }
 {
-    operands.clear();
-    *index = next;
+    standing.operands.clear();
+    standing.index = next;
 }
 
 /// The activation goes on where the operation leads.
-pub(crate) fn jump(
-    entries: &[Instruction],
-    operation: Operation,
-    operands: &mut Vec<Value>,
-    index: &mut usize,
-)
-    requires { index.old + 1 < 2 ^ 64 }
-    ensures operands { operands.new.items ≡ [] }
-    ensures index { index.new ≡ moves.led_to operation entries.now operands.old.items index.old }
-    ensures capacity { vec_capacity operands.old ≤ vec_capacity operands.new }
+pub(crate) fn jump(entries: &[Instruction], operation: Operation, standing: &mut Standing)
+    requires { standing.old.index + 1 < 2 ^ 64 }
+    ensures operands { standing.new.operands.items ≡ [] }
+    ensures index { standing.new.index ≡ moves.led_to operation entries.now standing.old.operands.items standing.old.index }
+    ensures capacity { vec_capacity standing.old.operands ≤ vec_capacity standing.new.operands }
 {
-    let next = leading::led_to(entries, *index, operation, operands);
-    go_on(operands, index, next);
+    let next = leading::led_to(entries, standing.index, operation, &standing.operands);
+    go_on(standing, next);
 }

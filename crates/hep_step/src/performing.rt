@@ -3,20 +3,18 @@ ghost use Rattle.std.specs.Prelude.{◌≡◌, ◌<◌, ◌≤◌, ◌∷◌, If
 ghost use Rattle.hep_code.specs.declared.instruction.Instruction.TheVariants.{Step};
 ghost use Rattle.hep_step.specs.Changes.{changed_at};
 ghost use Rattle.hep_step.specs.Effects.{effect_at};
-ghost use Rattle.hep_step.specs.Performed.{HasNoStep, HasPrint, IsPerformed, snapshot};
+ghost use Rattle.hep_step.specs.Performed.{HasNoStep, HasPrint, IsPerformed, KeepsHoles, seen};
 ghost use Rattle.hep_step.specs.Ready.{IsReady};
 
 use crate::effect::Effect;
-use crate::frame::Frame;
 use crate::iterating::{Loop, end_loop, enter_loop};
 use crate::moving::jump;
 use crate::printing::print;
+use crate::standing::Standing;
 use crate::storage::Storage;
-use crate::values::{evaluate, store, value_in};
+use crate::values::{Storing, evaluate, store, value_in};
 use hep_arena::Arena;
 use hep_code::{Instruction, Operation};
-use hep_image::Array;
-use hep_source::Value;
 use std::alloc::{AllocError, Global};
 
 // An operation, with the initial line of its statement and what stands behind it.
@@ -54,24 +52,21 @@ fn operation_at(code: &[Instruction], index: usize) -> Option<Ahead<'_>>
 pub fn perform(
     alloc: Global,
     code: &[Instruction],
-    arrays: &[Array],
+    storage: &Storage<'_>,
     arena: &mut Arena,
-    frame: Frame,
-    operands: &mut Vec<Value>,
-    index: &mut usize,
+    standing: &mut Standing,
 ) -> Result<Effect, AllocError>
     // Where an activation runs, the capacity can be its unit's deepest stack: `laws::activations_are_ready`.
-    requires ready { IsReady code.now arrays.now arena.old frame operands.old.items (vec_capacity operands.old) index.old }
+    requires ready { IsReady code.now storage.now.arrays.now arena.old storage.now.frame standing.old.operands.items
+        (vec_capacity standing.old.operands) standing.old.index }
     ensures performed { IfOk result (λ effect. IsPerformed
-        (effect_at code.now arrays.now frame.first arena.old.contents operands.old.items index.old)
-        (changed_at code.now arrays.now frame.first arena.old.contents operands.old.items index.old)
-        (snapshot arena.old.contents operands.old.items index.old) effect (snapshot arena.new.contents operands.new.items index.new)) }
-    ensures refused { OnErr result (snapshot arena.new.contents operands.new.items index.new
-        ≡ snapshot arena.old.contents operands.old.items index.old) }
-    ensures memory { OnErr result (HasPrint (drop index.old code.now)) }
-    ensures holes { arena.new.holes ≡ arena.old.holes }
-    ensures cells { length arena.new.contents ≡ length arena.old.contents }
-    ensures capacity { vec_capacity operands.old ≤ vec_capacity operands.new }
+        (effect_at code.now storage.now.arrays.now storage.now.frame.first arena.old.contents standing.old.operands.items standing.old.index)
+        (changed_at code.now storage.now.arrays.now storage.now.frame.first arena.old.contents standing.old.operands.items standing.old.index)
+        (seen arena.old standing.old) effect (seen arena.new standing.new)) }
+    ensures refused { OnErr result (seen arena.new standing.new ≡ seen arena.old standing.old) }
+    ensures memory { OnErr result (HasPrint (drop standing.old.index code.now)) }
+    ensures arena { KeepsHoles arena.old arena.new }
+    ensures capacity { vec_capacity standing.old.operands ≤ vec_capacity standing.new.operands }
 {
     let Some(
         Ahead {
@@ -79,17 +74,17 @@ pub fn perform(
             operation,
             entries,
         },
-    ) = operation_at(code, *index)
+    ) = operation_at(code, standing.index)
     else {
         return Ok(Effect::LeftOut);
     };
-    let storage = &Storage { arrays, frame };
     match operation {
         Operation::Evaluate(evaluation) => {
-            Ok(evaluate(storage, arena, line, evaluation, operands, index))
+            Ok(evaluate(storage, arena, line, evaluation, standing))
         }
         Operation::Store { variable, next, .. } => {
-            Ok(store(storage, arena, line, variable, next, operands, index))
+            let storing = Storing { variable, next };
+            Ok(store(storage, arena, line, storing, standing))
         }
         Operation::EnterLoop {
             variable,
@@ -101,7 +96,7 @@ pub fn perform(
                 cells,
                 operation,
             };
-            Ok(enter_loop(storage, arena, line, entered, operands, index))
+            Ok(enter_loop(storage, arena, line, entered, standing))
         }
         Operation::EndLoop {
             variable,
@@ -113,9 +108,9 @@ pub fn perform(
                 cells,
                 operation,
             };
-            Ok(end_loop(storage, arena, line, ended, operands, index))
+            Ok(end_loop(storage, arena, line, ended, standing))
         }
-        Operation::Print { count, next } => print(alloc, count, next, entries, operands, index),
+        Operation::Print { count, next } => print(alloc, count, next, entries, standing),
         Operation::Return => Ok(Effect::Returned),
         Operation::Answer { variable } => match value_in(storage, arena, variable) {
             Ok(value) => Ok(Effect::Answered(value)),
@@ -132,7 +127,7 @@ pub fn perform(
         | Operation::BySign { .. }
         | Operation::Condition { .. }
         | Operation::Branch { .. } => {
-            jump(entries, operation, operands, index);
+            jump(entries, operation, standing);
             Ok(Effect::Moved { changed: None })
         }
     }

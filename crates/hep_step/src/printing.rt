@@ -7,6 +7,7 @@ ghost use Rattle.hep_step.specs.Items.{item_ahead as item_read, items_in};
 
 use crate::effect::Effect;
 use crate::moving::go_on;
+use crate::standing::Standing;
 use hep_code::{Instruction, Printed};
 use hep_machine::{Item, Record};
 use hep_source::{Syntax, Value};
@@ -80,17 +81,16 @@ pub(crate) fn print(
     count: u32,
     next: u32,
     entries: &[Instruction],
-    operands: &mut Vec<Value>,
-    index: &mut usize,
+    standing: &mut Standing,
 ) -> Result<Effect, AllocError>
-    ensures record_is { IfOk result (λ effect. effect ≡ PrintedEffect (items_from count entries.now operands.old.items)) }
-    ensures operands { OnOk result (operands.new.items ≡ []) }
-    ensures index { OnOk result (index.new ≡ next) }
-    ensures operands_stay { OnErr result (operands.new.items ≡ operands.old.items) }
-    ensures index_stays { OnErr result (index.new ≡ index.old) }
-    ensures capacity { vec_capacity operands.old ≤ vec_capacity operands.new }
+    ensures record_is { IfOk result (λ effect. effect ≡ PrintedEffect (items_from count entries.now standing.old.operands.items)) }
+    ensures operands { OnOk result (standing.new.operands.items ≡ []) }
+    ensures index { OnOk result (standing.new.index ≡ next) }
+    ensures operands_stay { OnErr result (standing.new.operands.items ≡ standing.old.operands.items) }
+    ensures index_stays { OnErr result (standing.new.index ≡ standing.old.index) }
+    ensures capacity { vec_capacity standing.old.operands ≤ vec_capacity standing.new.operands }
 {
-    let items = items_of(alloc, first_of(entries, count), operands)?;
-    go_on(operands, index, next as usize);
+    let items = items_of(alloc, first_of(entries, count), &standing.operands)?;
+    go_on(standing, next as usize);
     Ok(Effect::Printed(items))
 }

@@ -5,7 +5,7 @@ use hep_image::Array;
 
 /// By what the code of an activation finds its variables, beside the cells themselves.
 #[derive(Clone, Copy)]
-pub(crate) struct Storage<'a> {
-    pub(crate) arrays: &'a [Array],
-    pub(crate) frame: Frame,
+pub struct Storage<'a> {
+    pub arrays: &'a [Array],
+    pub frame: Frame,
 }

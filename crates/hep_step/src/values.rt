@@ -6,13 +6,14 @@ ghost use Rattle.hep_step.specs.Cells.{HasFrame};
 ghost use Rattle.hep_step.specs.Changes.{changed_by, changed_by_evaluation};
 ghost use Rattle.hep_image.specs.Finding.{address_of, cells_in};
 ghost use Rattle.hep_step.specs.Effects.{effect_of, effect_of_evaluation, subscripts_in, value_found};
-ghost use Rattle.hep_step.specs.Performed.{IsPerformed, snapshot};
+ghost use Rattle.hep_step.specs.Performed.{IsPerformed, KeepsHoles, seen};
 ghost use Rattle.hep_step.specs.Ready.{IsEvaluationReady, IsVariableReady};
 
 use crate::effect::Effect;
 use crate::finding::address;
 use crate::granted::granted;
 use crate::reply::{reply_of, reply_to_store};
+use crate::standing::Standing;
 use crate::storage::Storage;
 use hep_arena::Arena;
 use hep_code::{Evaluation, Variable};
@@ -37,30 +38,30 @@ pub(crate) fn evaluate(
     arena: &mut Arena,
     line: u32,
     evaluation: Evaluation,
-    operands: &mut Vec<Value>,
-    index: &mut usize,
+    standing: &mut Standing,
 ) -> Effect
     requires frame { HasFrame arena.old storage.now.frame }
     requires ready { IsEvaluationReady arena.old storage.now.arrays.now storage.now.frame
-        (vec_capacity operands.old) operands.old.items evaluation }
-    requires index { index.old + 1 < 2 ^ 64 }
+        (vec_capacity standing.old.operands) standing.old.operands.items evaluation }
+    requires index { standing.old.index + 1 < 2 ^ 64 }
     // What stands elsewhere in the code doesn't count.
     ensures performed { IsPerformed (effect_of_evaluation [] storage.now.arrays.now storage.now.frame.first line evaluation
-        arena.old.contents operands.old.items index.old)
-        (changed_by_evaluation storage.now.arrays.now storage.now.frame.first evaluation arena.old.contents operands.old.items)
-        (snapshot arena.old.contents operands.old.items index.old) result
-        (snapshot arena.new.contents operands.new.items index.new) }
-    ensures holes { arena.new.holes ≡ arena.old.holes }
-    ensures cells { length arena.new.contents ≡ length arena.old.contents }
-    ensures capacity { vec_capacity operands.old ≤ vec_capacity operands.new }
+        arena.old.contents standing.old.operands.items standing.old.index)
+        (changed_by_evaluation storage.now.arrays.now storage.now.frame.first evaluation arena.old.contents standing.old.operands.items)
+        (seen arena.old standing.old) result (seen arena.new standing.new) }
+    ensures arena { KeepsHoles arena.old arena.new }
+    ensures capacity { vec_capacity standing.old.operands ≤ vec_capacity standing.new.operands }
 {
-    let kept = operands.len().saturating_sub(evaluation.arity() as usize);
+    let kept = standing
+        .operands
+        .len()
+        .saturating_sub(evaluation.arity() as usize);
     let Storage { arrays, frame } = *storage;
-    let reply = reply_of(arena, frame, arrays, evaluation, &operands[kept..]);
+    let reply = reply_of(arena, frame, arrays, evaluation, &standing.operands[kept..]);
     match granted(arena, line, reply) {
         Ok((value, changed)) => {
-            replace(operands, kept, value);
-            *index += 1;
+            replace(&mut standing.operands, kept, value);
+            standing.index += 1;
             Effect::Moved { changed }
         }
         Err(effect) => effect,
@@ -78,34 +79,39 @@ fn value_and_subscripts(operands: &[Value]) -> (Value, &[Value])
     }
 }
 
+/// Which variable an assignment stores in, and the index at which the activation goes on.
+#[derive(Clone, Copy)]
+pub(crate) struct Storing {
+    pub(crate) variable: Variable,
+    pub(crate) next: u32,
+}
+
 /// Does an assignment: its value is in the cell, and the activation goes on at this index (10.1 and 10.2).
 #[inline(always)]
 pub(crate) fn store(
     storage: &Storage<'_>,
     arena: &mut Arena,
     line: u32,
-    variable: Variable,
-    next: u32,
-    operands: &mut Vec<Value>,
-    index: &mut usize,
+    storing: Storing,
+    standing: &mut Standing,
 ) -> Effect
     requires frame { HasFrame arena.old storage.now.frame }
-    requires ready { IsVariableReady arena.old storage.now.arrays.now storage.now.frame (subscripts_in operands.old.items) variable }
+    requires ready { IsVariableReady arena.old storage.now.arrays.now storage.now.frame
+        (subscripts_in standing.old.operands.items) storing.variable }
     ensures performed { IsPerformed (effect_of [] storage.now.arrays.now storage.now.frame.first line
-        (Store variable 0 next) [] arena.old.contents operands.old.items index.old)
-        (changed_by storage.now.arrays.now storage.now.frame.first (Store variable 0 next) arena.old.contents operands.old.items)
-        (snapshot arena.old.contents operands.old.items index.old) result (snapshot arena.new.contents operands.new.items index.new) }
-    ensures holes { arena.new.holes ≡ arena.old.holes }
-    ensures cells { length arena.new.contents ≡ length arena.old.contents }
-    ensures capacity { vec_capacity operands.old ≤ vec_capacity operands.new }
+        (Store storing.variable 0 storing.next) [] arena.old.contents standing.old.operands.items standing.old.index)
+        (changed_by storage.now.arrays.now storage.now.frame.first (Store storing.variable 0 storing.next)
+        arena.old.contents standing.old.operands.items)
+        (seen arena.old standing.old) result (seen arena.new standing.new) }
+    ensures arena { KeepsHoles arena.old arena.new }
+    ensures capacity { vec_capacity standing.old.operands ≤ vec_capacity standing.new.operands }
 {
-    let Storage { arrays, frame } = *storage;
-    let (value, subscripts) = value_and_subscripts(operands);
-    let reply = reply_to_store(arena, frame, arrays, variable, value, subscripts);
+    let (value, subscripts) = value_and_subscripts(&standing.operands);
+    let reply = reply_to_store(arena, storage, storing.variable, value, subscripts);
     match granted(arena, line, reply) {
         Ok((_, changed)) => {
-            operands.clear();
-            *index = next as usize;
+            standing.operands.clear();
+            standing.index = storing.next as usize;
             Effect::Moved { changed }
         }
         Err(effect) => effect,

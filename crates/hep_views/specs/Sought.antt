@@ -6,7 +6,12 @@ use Rattle.hep_layout.specs.Words.{address, IsOwnedAbove, FrameNode, Nodes}
 use Rattle.hep_image.specs.Image.{most_cells}
 use Rattle.hep_proc.specs.Nodes.{nodes_of}
 use Rattle.hep_state.specs.declared.machine.Machine.{Machine}
-use Rattle.hep_state.specs.Words.{snapshot_of, IsAfter}
+use Rattle.hep_blocked.specs.Listing.{IsBlocked}
+use Rattle.hep_cells.specs.declared.want.Want.{Want}
+use Rattle.hep_state.specs.Words.{snapshot_of, IsAfter, IsMachineAfter}
+use Rattle.hep_views.specs.declared.listed.Listed.{Listed}
+use Rattle.hep_views.specs.declared.place.Place.{Place}
+use Rattle.hep_views.specs.Listed.{listed_by, place_of}
 use Rattle.hep_views.specs.Nodes.{parent_in}
 
 -- the frame of a node has a cell
@@ -31,3 +36,27 @@ pub record IsSought (program : Units) (cells : ℕ) (choices : List ℕ) (m : Ma
   pub node : FrameNode
   pub there : nodes_of m.frames.nodes key ≡ Some node
   pub owned : IsOwnedAbove (run program choices) node.activation at
+
+-- some turns were made, after which it is sought so
+abbrev pub CanBeSought : Units → Machine → ℕ → ℕ → Type 0
+CanBeSought program m key cell =
+    (cells : ℕ) × (choices : List ℕ) × (at : Location) × IsSought program cells choices m key cell at
+
+-- after whichever turns it is sought so, a person reads of it as this place
+abbrev pub IsPlaceSought : Units → Machine → ℕ → ℕ → Place → Type 0
+IsPlaceSought program m key cell place =
+    (cells : ℕ) (choices : List ℕ) (at : Location) → IsSought program cells choices m key cell at
+    → place ≡ place_of program (run program choices) at
+
+-- ---- the process that waits
+
+-- some turns were made, after which a machine keeps the state, and process p waits for a cell to be so
+abbrev pub CanBeListed : Units → Machine → ℕ → Want → Type 0
+CanBeListed program m p want =
+    (cells : ℕ) × (choices : List ℕ) × IsMachineAfter program cells choices m × IsBlocked program cells choices p want
+
+-- after whichever turns it waits so, a person reads this of it
+abbrev pub IsListedAs : Units → Machine → ℕ → Want → Listed → Type 0
+IsListedAs program m p want listed =
+    (cells : ℕ) (choices : List ℕ) → IsMachineAfter program cells choices m → IsBlocked program cells choices p want
+    → listed_by program p (run program choices) ≡ Some listed

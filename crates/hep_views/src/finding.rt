@@ -1,17 +1,16 @@
 //! Where a process is, and from the cell for which it waits to the storage unit that is kept there.
 ghost use Rattle.std.specs.Prelude.{◌≡◌, ◌+◌, ◌-◌, ◌<◌, ◌&&◌, ℕ, IsSome, List, Some, drop, length};
 ghost use Rattle.slab.specs.Slab.{ContainsKey};
-ghost use Rattle.hep_machine.specs.Words.{Name, unit_at, BlockName, living, run, Location};
+ghost use Rattle.hep_machine.specs.Words.{Name, unit_at, BlockName, living, run};
 ghost use Rattle.hep_code.specs.Depths as depths;
 ghost use Rattle.hep_layout.specs.Words.{FrameNode};
 ghost use Rattle.hep_image.specs.Image.{most_cells};
 ghost use Rattle.hep_image.specs.Owners.{IsBlockTold, IsTold};
 ghost use Rattle.hep_proc.specs.Nodes.{nodes_of};
 ghost use Rattle.hep_state.specs.Words.{IsMachineAfter, snapshot_of, HasLevels};
-ghost use Rattle.hep_blocked.specs.Listing.{IsBlocked};
-ghost use Rattle.hep_views.specs.Listed.{block_place, listed_by, place_of, variable_place};
+ghost use Rattle.hep_views.specs.Listed.{block_place, variable_place};
 ghost use Rattle.hep_views.specs.Standing.{whereabouts_by};
-ghost use Rattle.hep_views.specs.Sought.{IsSought, has_cell as frame_has_cell, holder_above};
+ghost use Rattle.hep_views.specs.Sought.{CanBeListed, CanBeSought, IsListedAs, IsPlaceSought, has_cell as frame_has_cell, holder_above};
 
 use crate::listed::Listed;
 use crate::place::Place;
@@ -108,9 +107,8 @@ fn in_frame(image: &Image, unit: usize, cell: u32, owner: u64) -> Place
 
 // The storage unit that is kept in a cell: of COMMON, or of the activation whose node is under a key or of one above it.
 fn place_at(machine: &Machine, image: &Image, key: usize, cell: u32) -> Place
-    requires { (cells : ℕ) × (choices : List ℕ) × (at : Location) × IsSought image.now cells choices machine.now key cell at }
-    ensures { (cells : ℕ) (choices : List ℕ) (at : Location) → IsSought image.now cells choices machine.now key cell at
-        → result ≡ place_of image.now (run image.now choices) at }
+    requires { CanBeSought image.now machine.now key cell }
+    ensures { IsPlaceSought image.now machine.now key cell result }
 {
     image.is_runnable();
     if cell < image.common() {
@@ -131,10 +129,8 @@ fn place_at(machine: &Machine, image: &Image, key: usize, cell: u32) -> Place
 /// This costs the logarithm of the variables of a unit, and a step for each activation from the process's top one up to the one whose
 /// variable it is.
 pub fn listed(machine: &Machine, image: &Image, p: u64, want: Want) -> Listed
-    requires { (cells : ℕ) × (choices : List ℕ) × IsMachineAfter image.now cells choices machine.now
-        × IsBlocked image.now cells choices p want }
-    ensures { (cells : ℕ) (choices : List ℕ) → IsMachineAfter image.now cells choices machine.now → IsBlocked image.now cells choices p want
-        → listed_by image.now p (run image.now choices) ≡ Some result }
+    requires { CanBeListed image.now machine.now p want }
+    ensures { IsListedAs image.now machine.now p want result }
 {
     let level = top(machine, p);
     let unit = image.unit(level.unit as usize);

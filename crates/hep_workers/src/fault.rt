@@ -26,17 +26,11 @@ pub enum CloseFault {
     StillRunning,
 }
 
-/// Why the workers gave up.
-#[derive(Clone, Copy, Debug, PartialEq, Eq, Error)]
+// Why the workers gave up.
+#[derive(Clone, Copy, Debug, PartialEq, Eq)]
 pub enum CrewFault {
-    /// Memory was refused.
-    #[error("no memory")]
     NoMemory,
-    /// All tickets were given.
-    #[error("506: no ticket is left")]
     NoTicket,
-    /// A thread couldn't be started, which may be for want of memory.
-    #[error("704: a thread could not be started")]
     NoThread,
 }
 
@@ -54,15 +48,18 @@ impl From<AllocError> for CrewFault {
 /// Why a run by workers leaves no report.
 #[derive(Clone, Copy, Debug, PartialEq, Eq, Error)]
 pub enum WorkFault {
-    /// Memory was refused before the workers began.
+    /// Memory was refused.
     #[error("no memory")]
     NoMemory,
     /// The main program's frame doesn't fit the arena.
     #[error("arena full")]
     ArenaFull,
-    /// The workers gave up.
-    #[error("the workers gave up")]
-    Crew(CrewFault),
+    /// All tickets were given.
+    #[error("506: no ticket is left")]
+    NoTicket,
+    /// A thread couldn't be started, which may be for want of memory.
+    #[error("704: a thread could not be started")]
+    NoThread,
     /// There is no report of what the workers left.
     #[error("there is no report")]
     Close(CloseFault),
@@ -74,12 +71,9 @@ impl WorkFault {
         ensures { result ≡ number_of self }
     {
         match self {
-            WorkFault::NoMemory
-            | WorkFault::ArenaFull
-            | WorkFault::Crew(CrewFault::NoMemory)
-            | WorkFault::Close(CloseFault::NoMemory) => None,
-            WorkFault::Crew(CrewFault::NoTicket) => Some(506),
-            WorkFault::Crew(CrewFault::NoThread) => Some(704),
+            WorkFault::NoMemory | WorkFault::ArenaFull | WorkFault::Close(CloseFault::NoMemory) => None,
+            WorkFault::NoTicket => Some(506),
+            WorkFault::NoThread => Some(704),
             WorkFault::Close(CloseFault::NotTheEntries) => Some(701),
             WorkFault::Close(CloseFault::NotRising) => Some(702),
             WorkFault::Close(CloseFault::NotTheRun) => Some(703),
@@ -115,12 +109,16 @@ impl From<NewFault> for WorkFault {
 
 impl From<CrewFault> for WorkFault {
     ghost use Rattle.std.specs.Prelude.{◌≡◌};
-    ghost use Rattle.hep_workers.specs.declared.fault.WorkFault.TheVariants.{Crew};
+    ghost use Rattle.hep_workers.specs.Faults.{of_crew};
 
-    ghost from_gives = { λ fault e. e ≡ Crew fault };
+    ghost from_gives = { λ fault e. e ≡ of_crew fault };
 
     fn from(fault: CrewFault) -> WorkFault {
-        WorkFault::Crew(fault)
+        match fault {
+            CrewFault::NoMemory => WorkFault::NoMemory,
+            CrewFault::NoTicket => WorkFault::NoTicket,
+            CrewFault::NoThread => WorkFault::NoThread,
+        }
     }
 }
 

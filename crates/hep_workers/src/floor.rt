@@ -41,8 +41,8 @@ struct Work {
 ///
 /// # Errors
 ///
-/// `NoMemory` and `ArenaFull` as `Core::new` has them; `Crew` where the workers gave up, and else `Close` where `close` refuses what they
-/// left.
+/// `ArenaFull` as `Core::new` has it; `NoTicket` or `NoThread` where the workers gave up for it, and `NoMemory` where memory was refused to
+/// any of them; else `Close` where `close` refuses what they left.
 pub fn run_workers<R: Threads + Wait + Sync, G: Gate + Sync>(
     rt: &R,
     alloc: Global,

@@ -10,7 +10,7 @@ mod receipt;
 mod report;
 mod turn;
 
-pub use fault::{CloseFault, CrewFault, WorkFault};
+pub use fault::{CloseFault, WorkFault};
 pub use floor::run_workers;
 pub use gate::{Gate, NoGate};
 pub use hep_core::{Segment, Ticket, compute};

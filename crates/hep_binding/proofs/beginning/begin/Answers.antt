@@ -25,33 +25,33 @@ node-there old new key a u first cells parent e = ap (λ (z : Nodes). z key) e �
 
 pub first-first-requires : goal.first-first-requires
 first-first-requires c =
-    let fit = fit-there (first_fit c.args.cells c.args.frames.now.arena.holes) c.requires.gap in
+    let fit = fit-there (first_fit c.args.entrant.cells c.args.frames.now.arena.holes) c.requires.gap in
     let old = nodes_of c.args.frames.now.nodes in
     let new = nodes_of c.enter-key.new.self.nodes in
-    some-value c.enter-key.new.self.nodes c.enter-key.result (new_node c.args.activation c.args.unit fit.0 c.args.cells c.args.parent) (
-    node-there old new c.enter-key.result c.args.activation c.args.unit fit.0 c.args.cells c.args.parent (c.enter-key.ensures.nodes fit.0 fit.1))
+    some-value c.enter-key.new.self.nodes c.enter-key.result (new_node c.args.entrant.activation c.args.entrant.unit fit.0 c.args.entrant.cells c.args.entrant.parent) (
+    node-there old new c.enter-key.result c.args.entrant.activation c.args.entrant.unit fit.0 c.args.entrant.cells c.args.entrant.parent (c.enter-key.ensures.nodes fit.0 fit.1))
 
 pub bind-requires-clause-inside : goal.bind-requires-clause-inside
 bind-requires-clause-inside c =
-    let fit = fit-there (first_fit c.args.cells c.args.frames.now.arena.holes) c.requires.gap in
+    let fit = fit-there (first_fit c.args.entrant.cells c.args.frames.now.arena.holes) c.requires.gap in
     let old = nodes_of c.args.frames.now.nodes in
     let new = nodes_of c.enter-key.new.self.nodes in
-    let first = c.first-first.ensures (new_node c.args.activation c.args.unit fit.0 c.args.cells c.args.parent) (node-there old new c.enter-key.result c.args.activation c.args.unit fit.0 c.args.cells c.args.parent (c.enter-key.ensures.nodes fit.0 fit.1)) in
+    let first = c.first-first.ensures (new_node c.args.entrant.activation c.args.entrant.unit fit.0 c.args.entrant.cells c.args.entrant.parent) (node-there old new c.enter-key.result c.args.entrant.activation c.args.entrant.unit fit.0 c.args.entrant.cells c.args.entrant.parent (c.enter-key.ensures.nodes fit.0 fit.1)) in
     let k = c.requires.kept in
-    let inside = block-inside k.0 c.args.frames.now.arena c.enter-key.new.self.arena c.args.cells fit.0 (omega (arith, c.requires.many)) k.1.memory fit.1 (c.enter-key.ensures.taken fit.0 fit.1) in
+    let inside = block-inside k.0 c.args.frames.now.arena c.enter-key.new.self.arena c.args.entrant.cells fit.0 (omega (arith, c.requires.many)) k.1.memory fit.1 (c.enter-key.ensures.taken fit.0 fit.1) in
     omega (arith, first, inside, c.requires.many)
 
 pub bind-requires-clause-out : goal.bind-requires-clause-out
 bind-requires-clause-out c p low high =
-    let fit = fit-there (first_fit c.args.cells c.args.frames.now.arena.holes) c.requires.gap in
+    let fit = fit-there (first_fit c.args.entrant.cells c.args.frames.now.arena.holes) c.requires.gap in
     let old = nodes_of c.args.frames.now.nodes in
     let new = nodes_of c.enter-key.new.self.nodes in
-    let first = c.first-first.ensures (new_node c.args.activation c.args.unit fit.0 c.args.cells c.args.parent) (node-there old new c.enter-key.result c.args.activation c.args.unit fit.0 c.args.cells c.args.parent (c.enter-key.ensures.nodes fit.0 fit.1)) in
+    let first = c.first-first.ensures (new_node c.args.entrant.activation c.args.entrant.unit fit.0 c.args.entrant.cells c.args.entrant.parent) (node-there old new c.enter-key.result c.args.entrant.activation c.args.entrant.unit fit.0 c.args.entrant.cells c.args.entrant.parent (c.enter-key.ensures.nodes fit.0 fit.1)) in
     let k = c.requires.kept in
-    block-out k.0 c.args.frames.now.arena c.enter-key.new.self.arena c.args.cells fit.0 (omega (arith, c.requires.many)) k.1.memory fit.1 (c.enter-key.ensures.taken fit.0 fit.1) p (omega (arith, first, low)) (omega (arith, first, high, c.requires.many))
+    block-out k.0 c.args.frames.now.arena c.enter-key.new.self.arena c.args.entrant.cells fit.0 (omega (arith, c.requires.many)) k.1.memory fit.1 (c.enter-key.ensures.taken fit.0 fit.1) p (omega (arith, first, low)) (omega (arith, first, high, c.requires.many))
 
 pub returns-clause-nodes : goal.returns-clause-nodes
-returns-clause-nodes c first fit = c.bind.ensures.nodes ∙ c.enter-key.ensures.nodes first fit
+returns-clause-nodes c first fit = c.bind.ensures.same.nodes ∙ c.enter-key.ensures.nodes first fit
 
 pub returns-clause-written : goal.returns-clause-written
 returns-clause-written c call t layout out n keeps at same pass passed more store act unit cells =
@@ -61,8 +61,8 @@ returns-clause-written c call t layout out n keeps at same pass passed more stor
     let new = nodes_of c.enter-key.new.self.nodes in
     let begun = c.enter-key.ensures.begun f (state_begun call) (called_activation call) n keeps at (begins call) (ap (λ z. Some z) (sym same)) (act ∙ ap (λ (xs : List Activation). length xs) more) unit (cells ∙ ap (λ (xs : List Activation). frame_of call.program (record s { activations = xs }) (length xs)) more) in
     let first = begun.0 in
-    let fit : first_fit c.args.cells c.args.frames.now.arena.holes ≡ Some first = memory-fits call.program s layout c.args.frames.now.arena.contents c.args.frames.now.arena.holes c.args.cells keeps.memory (omega (arith, c.requires.many)) ∙ begun.1 in
-    let result = c.first-first.ensures (new_node c.args.activation c.args.unit first c.args.cells c.args.parent) (node-there old new c.enter-key.result c.args.activation c.args.unit first c.args.cells c.args.parent (c.enter-key.ensures.nodes first fit)) in
+    let fit : first_fit c.args.entrant.cells c.args.frames.now.arena.holes ≡ Some first = memory-fits call.program s layout c.args.frames.now.arena.contents c.args.frames.now.arena.holes c.args.entrant.cells keeps.memory (omega (arith, c.requires.many)) ∙ begun.1 in
+    let result = c.first-first.ensures (new_node c.args.entrant.activation c.args.entrant.unit first c.args.entrant.cells c.args.entrant.parent) (node-there old new c.enter-key.result c.args.entrant.activation c.args.entrant.unit first c.args.entrant.cells c.args.entrant.parent (c.enter-key.ensures.nodes first fit)) in
     let entered : HasBegun f s first t.activations c.enter-key.new.self.arena new = subst (λ (xs : List Activation). HasBegun f s first xs c.enter-key.new.self.arena new) (sym more) begun.2 in
     let bound = subst (λ z. IsBinding call.program t (layout_with call.program t layout first) (length t.activations) z c.args.given.now) (sym result) (binding call t more pass layout c.args.given.now passed first (length c.args.frames.now.arena.contents) keeps.memory.laid) in (
       first,

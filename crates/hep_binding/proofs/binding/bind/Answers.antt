@@ -18,10 +18,10 @@ put-requires-clause-second c =
 pub loop-one-preserved : goal.loop-one-preserved
 loop-one-preserved c = record {
   at = omega (arith, c.loop-one.invariant.at);
-  cells = c.put.ensures.cells ∙ c.loop-one.invariant.cells;
-  holes = c.put.ensures.holes ∙ c.loop-one.invariant.holes;
-  nodes = c.put.ensures.nodes ∙ c.loop-one.invariant.nodes;
-  bound = bound-next c.args.first c.args.given.now c.args.frames.now.arena (nodes_of c.args.frames.now.nodes) c.loop-one.one-index c.loop-one.at _ c.loop-one.frames.arena c.put.new.frames.arena (nodes_of c.loop-one.frames.nodes) (nodes_of c.put.new.frames.nodes) c.loop-one-test.true c.loop-one.invariant.at c.put.ensures.put c.put.ensures.nodes c.loop-one.invariant.bound;
+  cells = c.put.ensures.same.cells ∙ c.loop-one.invariant.cells;
+  holes = c.put.ensures.same.holes ∙ c.loop-one.invariant.holes;
+  nodes = c.put.ensures.same.nodes ∙ c.loop-one.invariant.nodes;
+  bound = bound-next c.args.first c.args.given.now c.args.frames.now.arena (nodes_of c.args.frames.now.nodes) c.loop-one.one-index c.loop-one.at _ c.loop-one.frames.arena c.put.new.frames.arena (nodes_of c.loop-one.frames.nodes) (nodes_of c.put.new.frames.nodes) c.loop-one-test.true c.loop-one.invariant.at c.put.ensures.put c.put.ensures.same.nodes c.loop-one.invariant.bound;
 }
 
 pub returns-clause-bound : goal.returns-clause-bound

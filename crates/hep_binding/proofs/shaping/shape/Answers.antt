@@ -18,10 +18,10 @@ put_bound-requires-clause-second c =
 pub loop-bound-preserved : goal.loop-bound-preserved
 loop-bound-preserved c = record {
   at = omega (arith, c.loop-bound.invariant.at);
-  cells = c.put_bound.ensures.cells ∙ c.loop-bound.invariant.cells;
-  holes = c.put_bound.ensures.holes ∙ c.loop-bound.invariant.holes;
-  nodes = c.put_bound.ensures.nodes ∙ c.loop-bound.invariant.nodes;
-  shaped = shaped-next c.args.at c.args.bounds.now c.args.frames.now.arena (nodes_of c.args.frames.now.nodes) c.loop-bound.bound-index c.loop-bound.next _ c.loop-bound.frames.arena c.put_bound.new.frames.arena (nodes_of c.loop-bound.frames.nodes) (nodes_of c.put_bound.new.frames.nodes) c.loop-bound-test.true c.loop-bound.invariant.at c.put_bound.ensures.put c.put_bound.ensures.nodes c.loop-bound.invariant.shaped;
+  cells = c.put_bound.ensures.same.cells ∙ c.loop-bound.invariant.cells;
+  holes = c.put_bound.ensures.same.holes ∙ c.loop-bound.invariant.holes;
+  nodes = c.put_bound.ensures.same.nodes ∙ c.loop-bound.invariant.nodes;
+  shaped = shaped-next c.args.at c.args.bounds.now c.args.frames.now.arena (nodes_of c.args.frames.now.nodes) c.loop-bound.bound-index c.loop-bound.next _ c.loop-bound.frames.arena c.put_bound.new.frames.arena (nodes_of c.loop-bound.frames.nodes) (nodes_of c.put_bound.new.frames.nodes) c.loop-bound-test.true c.loop-bound.invariant.at c.put_bound.ensures.put c.put_bound.ensures.same.nodes c.loop-bound.invariant.shaped;
 }
 
 pub returns-clause-shaped : goal.returns-clause-shaped

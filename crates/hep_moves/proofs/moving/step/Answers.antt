@@ -14,7 +14,7 @@ perform-performed-requires c =
 
 pub returns-then-not-is_plain-clause-stepped : goal.returns-then-not-is_plain-clause-stepped
 returns-then-not-is_plain-clause-stepped c =
-    gone-no-further c.args.activation.now.code.now c.args.activation.now.arrays.now c.args.activation.now.frame.first (snapshot c.args.arena.now.contents c.args.operands.now.items c.args.index.now)
+    gone-no-further c.args.activation.now.code.now c.args.activation.now.arrays.now c.args.activation.now.frame.first (snapshot c.args.arena.now.contents c.args.standing.now.operands.items c.args.standing.now.index)
     (snapshot c.args.arena.now.contents c.settle.new.operands.items c.settle.new.index)
     (snapshot c.args.arena.now.contents c.settle.new.operands.items c.settle.new.index)
     (record { contents = refl; same = c.settle.ensures.same }) c.settle.ensures.settled
@@ -22,9 +22,9 @@ returns-then-not-is_plain-clause-stepped c =
 
 pub returns-clause-stepped : goal.returns-clause-stepped
 returns-clause-stepped c =
-    gone-so c.args.activation.now.code.now c.args.activation.now.arrays.now c.args.activation.now.frame.first (snapshot c.args.arena.now.contents c.args.operands.now.items c.args.index.now)
+    gone-so c.args.activation.now.code.now c.args.activation.now.arrays.now c.args.activation.now.frame.first (snapshot c.args.arena.now.contents c.args.standing.now.operands.items c.args.standing.now.index)
     (snapshot c.args.arena.now.contents c.settle.new.operands.items c.settle.new.index)
-    (snapshot c.perform-performed.new.arena.contents c.perform-performed.new.operands.items c.perform-performed.new.index)
+    (snapshot c.perform-performed.new.arena.contents c.perform-performed.new.standing.operands.items c.perform-performed.new.standing.index)
     (record { contents = refl; same = c.settle.ensures.same }) c.settle.ensures.settled
     (sym c.is_plain.ensures ∙ c.if-not-is_plain.false)
-    c.perform-performed.ensures.cells c.perform-performed.result c.perform-performed.ensures.performed c.perform-performed.ensures.memory c.moved.result c.moved.ensures
+    c.perform-performed.ensures.arena.cells c.perform-performed.result c.perform-performed.ensures.performed c.perform-performed.ensures.memory c.moved.result c.moved.ensures

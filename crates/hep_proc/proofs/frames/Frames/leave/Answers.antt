@@ -22,24 +22,24 @@ index-node-requires c =
     let n = node-there c.args.self.now.nodes c.args.key c.requires.there in
     value-there c.loop-next.self.nodes c.in-Some.at (giving-there (off_stack f.0 n.0.activation) c.args.self.now.arena (nodes_of c.args.self.now.nodes) c.loop-next.self.arena (nodes_of c.loop-next.self.nodes) c.loop-next.next c.in-Some.at c.in-Some.is (c.loop-next.invariant.0 f.0 n.0 f.1 n.1))
 
-pub give-next-requires-clause-inside : goal.give-next-requires-clause-inside
-give-next-requires-clause-inside c m =
+pub give-next-requires : goal.give-next-requires
+give-next-requires c =
     let f = c.requires.kept in
     let n = node-there c.args.self.now.nodes c.args.key c.requires.there in
-    giving-inside (off_stack f.0 n.0.activation) c.args.self.now.arena (nodes_of c.args.self.now.nodes) c.loop-next.self.arena (nodes_of c.loop-next.self.nodes) c.loop-next.next c.in-Some.at m c.in-Some.is (c.loop-next.invariant.0 f.0 n.0 f.1 n.1)
-
-pub give-next-requires-clause-out : goal.give-next-requires-clause-out
-give-next-requires-clause-out c m p at =
-    let f = c.requires.kept in
-    let n = node-there c.args.self.now.nodes c.args.key c.requires.there in
-    giving-block (off_stack f.0 n.0.activation) c.args.self.now.arena (nodes_of c.args.self.now.nodes) c.loop-next.self.arena (nodes_of c.loop-next.self.nodes) c.loop-next.next c.in-Some.at m c.in-Some.is (c.loop-next.invariant.0 f.0 n.0 f.1 n.1) at p
-
-pub give-next-requires-clause-counted : goal.give-next-requires-clause-counted
-give-next-requires-clause-counted c =
-    let f = c.requires.kept in
-    let n = node-there c.args.self.now.nodes c.args.key c.requires.there in
-    giving-counted (off_stack f.0 n.0.activation) c.args.self.now.arena (nodes_of c.args.self.now.nodes) c.loop-next.self.arena (nodes_of c.loop-next.self.nodes) c.loop-next.next c.in-Some.at (shown c.index-node.result.now) c.in-Some.is (c.loop-next.invariant.0 f.0 n.0 f.1 n.1)
-    (shown-at c.loop-next.self.nodes c.in-Some.at c.index-node.result.now c.index-node.ensures) (omega (arith, c.if-node-gt0.false))
+    let left = off_stack f.0 n.0.activation in
+    let before = c.args.self.now.arena in
+    let old = nodes_of c.args.self.now.nodes in
+    let arena = c.loop-next.self.arena in
+    let nodes = nodes_of c.loop-next.self.nodes in
+    let giving = c.loop-next.invariant.0 f.0 n.0 f.1 n.1 in
+    record {
+      there = value-there c.loop-next.self.nodes c.in-Some.at (giving-there left before old arena nodes c.loop-next.next c.in-Some.at c.in-Some.is giving);
+      inside = λ m. giving-inside left before old arena nodes c.loop-next.next c.in-Some.at m c.in-Some.is giving;
+      out = λ m p at. giving-block left before old arena nodes c.loop-next.next c.in-Some.at m c.in-Some.is giving at p;
+      counted =
+          giving-counted left before old arena nodes c.loop-next.next c.in-Some.at (shown c.index-node.result.now) c.in-Some.is giving
+          (shown-at c.loop-next.self.nodes c.in-Some.at c.index-node.result.now c.index-node.ensures) (omega (arith, c.if-node-gt0.false));
+    }
 
 pub loop-next-preserved : goal.loop-next-preserved
 loop-next-preserved c = (
@@ -50,7 +50,7 @@ loop-next-preserved c = (
       let here = shown-at c.loop-next.self.nodes c.in-Some.at c.index-node.result.now c.index-node.ensures in
       subst (IsGiving (off_stack f n.activation) c.args.self.now.arena old c.give-next.new.self.arena (nodes_of c.give-next.new.self.nodes)) (sym (c.give-next.ensures.parent m here)) (
       giving-goes_on (off_stack f n.activation) c.args.self.now.arena old c.loop-next.self.arena nodes c.loop-next.next c.in-Some.at m c.in-Some.is (c.loop-next.invariant.0 f n h at) here c.give-next.new.self.arena (nodes_of c.give-next.new.self.nodes)
-      h.memory.laid.single c.if-not-node.false (omega (arith, c.if-node-gt0.false)) (c.give-next.ensures.holes m here) c.give-next.ensures.kept c.give-next.ensures.cells
+      h.memory.laid.single c.if-not-node.false (omega (arith, c.if-node-gt0.false)) ((c.give-next.ensures.back m here).holes) (c.give-next.ensures.back m here).kept c.give-next.ensures.cells
       (one-tree _ _ (c.give-next.ensures.nodes m here)))),
   c.give-next.ensures.cells ∙ c.loop-next.invariant.1,
 )

@@ -168,7 +168,7 @@ returns-clause-entered c way program cells choices own index makes =
       written =
           c.shape_all.ensures.shaped (frames_with (frames_before t h) later b.first) n b.node (unset before way program cells choices own index makes) b.there b.framed shaping;
       kept = kept before way program cells choices own index makes;
-      size = c.shape_all.ensures.cells ∙ (c.begin-key.ensures.cells ∙ h.after.size);
+      size = c.shape_all.ensures.same.cells ∙ (c.begin-key.ensures.cells ∙ h.after.size);
       vacant = c.begin-key.ensures.vacant;
-      nodes_are = c.shape_all.ensures.nodes ∙ (c.begin-key.ensures.nodes b.first b.fit ∙ (λ i. with_node (snapshot_of c.args.self.now).nodes c.begin-key.result (new_node (act i) u b.first (big i) (above i)) (above i)));
+      nodes_are = c.shape_all.ensures.same.nodes ∙ (c.begin-key.ensures.nodes b.first b.fit ∙ (λ i. with_node (snapshot_of c.args.self.now).nodes c.begin-key.result (new_node (act i) u b.first (big i) (above i)) (above i)));
     }
