@@ -2,7 +2,7 @@
 use Rattle.std.specs.Prelude.{Bool, true, not, ◌&&◌, ◌||◌, List, Option, Some, None}
 use Rattle.std.specs.List.{list_all}
 use Rattle.hep_machine.specs.Words.{Tree, Target, Units, dummies_of, Statement, is_array, is_constant_name, is_nonempty}
-use Rattle.hep_conditions.specs.Words.{FunctionTypes, function_types, all_given, fit_dummies, fits_call, fits_reference, is_reference_given, names_with_lists, targets_purged, calls_in}
+use Rattle.hep_conditions.specs.Words.{FunctionTypes, NameWithList, function_types, all_given, fit_dummies, fits_call, fits_reference, is_reference_given, names_with_lists, targets_purged, calls_in}
 
 -- the dummy arguments of the unit that is called take these actual arguments
 abbrev pub fits_unit : FunctionTypes → List Statement → Option (List Statement) → List Tree → Bool
@@ -13,6 +13,10 @@ fits_unit functions unit (Some called) ts = fit_dummies called (dummies_of calle
 abbrev pub is_purgeable : List Statement → Target → Bool
 is_purgeable unit t =
     t.occurrence.name.asynchronous && (not (is_constant_name unit t.occurrence.name) && (not (is_nonempty t.subscripts) || is_array unit t.occurrence.name))
+
+-- the list of a name fits what it is given to
+abbrev pub is_given : Units → List Statement → NameWithList → Bool
+is_given program unit r = fits_reference (function_types program) program unit r && is_reference_given (function_types program) unit r
 
 abbrev pub is_mismatched : Units → List Statement → Statement → Bool
 is_mismatched program unit s =

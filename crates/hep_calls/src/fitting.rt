@@ -115,7 +115,11 @@ fn fits_function(program: &ProgramSymbols, symbols: &Symbols, name: &Name, actua
     }
 }
 
-fn fits_reference(program: &ProgramSymbols, symbols: &Symbols, reference: &NameWithList) -> bool
+pub(crate) fn fits_reference(
+    program: &ProgramSymbols,
+    symbols: &Symbols,
+    reference: &NameWithList,
+) -> bool
     ensures { result ≡ conditions.fits_reference (function_types program.now) program.now symbols.now (listed reference.now) }
 {
     let name = &reference.occurrence.name;
@@ -141,9 +145,9 @@ pub(crate) fn are_references_fitting(
     true
 }
 
-// What a statement calls or creates takes its actual arguments.
+/// What a statement calls or creates takes its actual arguments.
 #[tactic(auto, using(crate::proofs::Passes::fits_called))]
-pub(crate) fn are_calls_fitting(program: &ProgramSymbols, symbols: &Symbols, form: &Form) -> bool
+pub fn are_calls_fitting(program: &ProgramSymbols, symbols: &Symbols, form: &Form) -> bool
     ensures { result ≡ list_all (conditions.fits_call (function_types program.now) program.now symbols.now) (statements.calls_in form.now) }
 {
     match form {

@@ -8,4 +8,6 @@ mod state;
 pub mod violation;
 
 pub use actuals::{ActualClass, actual_class};
+pub use fitting::are_calls_fitting;
+pub use state::{is_given, is_purgeable};
 pub use violation::argument_violation;

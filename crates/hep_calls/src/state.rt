@@ -9,6 +9,7 @@ ghost use Rattle.hep_calls.specs.Passes as passes;
 ghost use Rattle.hep_names.specs.Meanings.{meaning};
 ghost use Rattle.hep_names.specs.Lists.{listed};
 
+use crate::fitting::fits_reference;
 use hep_names::{Meaning, NameWithList, ProgramSymbols, Symbols, is_function_in};
 use hep_source::{Expr, Form, Node, Target};
 
@@ -59,6 +60,13 @@ fn is_reference_given(program: &ProgramSymbols, symbols: &Symbols, reference: &N
     )
 }
 
+/// The list of a name fits what it is given to: the function of the program, or FULL, EMPTY, VALUE, SETE or WAITF.
+pub fn is_given(program: &ProgramSymbols, symbols: &Symbols, reference: &NameWithList) -> bool
+    ensures { result ≡ passes.is_given program.now symbols.now (listed reference.now) }
+{
+    fits_reference(program, symbols, reference) && is_reference_given(program, symbols, reference)
+}
+
 pub(crate) fn are_references_given(
     program: &ProgramSymbols,
     symbols: &Symbols,
@@ -69,8 +77,8 @@ pub(crate) fn are_references_given(
     references.iter().all(|reference| is_reference_given(program, symbols, reference))
 }
 
-// What is purged is an asynchronous variable, array or element, and no named constant.
-fn is_purgeable(symbols: &Symbols, target: &Target) -> bool
+/// What is purged is an asynchronous variable, array or element, and no named constant.
+pub fn is_purgeable(symbols: &Symbols, target: &Target) -> bool
     ensures { result ≡ passes.is_purgeable symbols.now target.now }
 {
     let name = &target.occurrence.name;

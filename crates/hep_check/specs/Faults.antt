@@ -1,5 +1,5 @@
 -- Why a program isn't accepted: docs/LANGUAGE.md, 10.
-use Rattle.std.specs.Prelude.{◌≡◌, [], Some}
+use Rattle.std.specs.Prelude.{◌≡◌, [], map, Some}
 use Rattle.std.specs.Option.{option_map_or}
 use Rattle.hep_base.specs.declared.refusal.Refusal.{Refusal}
 use Rattle.hep_base.specs.declared.refusal.Refusal.TheVariants.{NoMemory, Refused}
@@ -9,7 +9,8 @@ use Rattle.hep_check.specs.declared.checked.Unaccepted.{Unaccepted}
 use Rattle.hep_check.specs.declared.checked.Unaccepted.TheVariants as unaccepted
 use Rattle.hep_check.specs.declared.checked.Rejected.{Rejected}
 use Rattle.hep_check.specs.declared.checked.Rejected.TheVariants as rejected
-use Rattle.hep_check.specs.Further.{further}
+use Rattle.hep_culprits.specs.Culprits.{culprit_of}
+use Rattle.hep_check.specs.Further.{as_told, further}
 use Rattle.hep_machine.specs.Words.{spelling, Units}
 
 -- a refusal says what a violation is; want of memory says nothing of it
@@ -30,4 +31,6 @@ IsViolatedBy program (unaccepted.Violated v) = first_violation program ≡ Some 
 -- the same, with the violations behind it
 abbrev pub IsRejectedBy : Units → Rejected → Type 0
 IsRejectedBy program rejected.NoMemory = Unit {0}
-IsRejectedBy program (rejected.Violated first others) = (first_violation program ≡ Some first) × (others.items ≡ further program first)
+IsRejectedBy program (rejected.Violated first others) =
+    (first_violation program ≡ Some first.violation) × (first.culprit ≡ culprit_of program first.violation)
+    × (others.items ≡ map (as_told program) (further program first.violation))

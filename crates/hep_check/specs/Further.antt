@@ -1,9 +1,12 @@
 -- The violations of a program that are told behind its first one: docs/MACHINE.md, "Notes".
-use Rattle.std.specs.Prelude.{ℕ, suc, if◌then◌else◌, List, [], ◌∷◌, map, Option, Some, None}
-use Rattle.std.specs.List.{filter, flat_map, insert}
+use Rattle.std.specs.Prelude.{ℕ, suc, Bool, not, ◌&&◌, nat_eq, if◌then◌else◌, List, [], ◌∷◌, map, Option, Some, None}
+use Rattle.std.specs.List.{flat_map, insert}
 use Rattle.hep_machine.specs.Words.{Statement, Units}
 use Rattle.hep_conditions.specs.declared.violation.Violation.{Violation}
 use Rattle.hep_conditions.specs.Words.{Violations, ambiguous_in, ambiguous_units, argument_violations, common_violations, count_violations, data_violations, first_of, function_types, jump_violations, label_violations, precedes, resume_violations, structure_violations, type_missing_violations, type_violations, unknown_name_violations}
+use Rattle.hep_culprits.specs.Culprits.{culprit_of}
+use Rattle.hep_told.specs.Told.{violations_by_statement}
+use Rattle.hep_check.specs.declared.further.Told.{Told}
 
 -- the conditions on a unit by itself, each with its violations
 abbrev pub conditions_on : Units → List Statement → List Violations
@@ -20,6 +23,22 @@ conditions_on program unit =
     ∷ resume_violations unit
     ∷ []
 
+-- those that are about several statements of a unit
+abbrev pub conditions_beside : Units → List Statement → List Violations
+conditions_beside program unit =
+    label_violations unit
+    ∷ structure_violations (function_types program) unit
+    ∷ jump_violations unit
+    ∷ ambiguous_in (function_types program) unit
+    ∷ data_violations unit
+    ∷ []
+
+-- ---- violations in order
+
+-- of one line, number and position
+abbrev pub is_same : Violation → Violation → Bool
+is_same a b = nat_eq a.line b.line && (nat_eq a.number b.number && nat_eq a.position b.position)
+
 -- how many of these stand in front of the first that doesn't precede a violation
 abbrev pub place : Violation → List Violation → ℕ
 place v [] = 0
@@ -34,16 +53,25 @@ abbrev pub all_placed : List Violation → List (Option Violation) → List Viol
 all_placed ws [] = ws
 all_placed ws (v ∷ vs) = all_placed (placed ws v) vs
 
--- the first violation of each condition on a unit, 309 among them, in order
-abbrev pub firsts_in : Units → List Statement → List Violation
-firsts_in program unit =
-    placed (all_placed [] (map first_of (conditions_on program unit))) (first_of (ambiguous_in (function_types program) unit))
+-- ---- what is told
 
--- those of all units, and the first violations of 305 and of 309 that are about several units
-abbrev pub firsts_of : Units → List Violation
-firsts_of program =
-    placed (placed (flat_map (firsts_in program) program) (first_of (common_violations program))) (first_of (ambiguous_units program))
+-- of a unit: what statements violate by themselves, and the first violations of what is about several
+abbrev pub told_in : Units → List Statement → List Violation
+told_in program unit = all_placed (violations_by_statement program unit) (map first_of (conditions_beside program unit))
 
--- those behind this violation
+-- that of all units, and the first violations of 305 and of 309 that are about several units
+abbrev pub told_of : Units → List Violation
+told_of program =
+    placed (placed (flat_map (told_in program) program) (first_of (common_violations program))) (first_of (ambiguous_units program))
+
+-- those that the first violation precedes, each once, behind the one that was told last
+abbrev pub behind : Violation → Violation → List Violation → List Violation
+behind first last [] = []
+behind first last (w ∷ ws) = if precedes first w && not (is_same last w) then w ∷ behind first w ws else behind first last ws
+
 abbrev pub further : Units → Violation → List Violation
-further program v = filter (precedes v) (firsts_of program)
+further program v = behind v v (told_of program)
+
+-- a violation, and what it is about
+abbrev pub as_told : Units → Violation → Told
+as_told program v = record { violation = v; culprit = culprit_of program v }

@@ -5,7 +5,7 @@ ghost use Rattle.hep_conditions.specs.Words.{IsAccepted, first_violation};
 ghost use Rattle.hep_check.specs.Faults.{IsRejectedBy, IsViolatedBy, Refuses, Reports};
 
 use crate::frames::frames;
-use crate::further::further_violations;
+use crate::further::{Told, told_violations};
 use crate::program::first_violation;
 use hep_base::Refusal as CheckFault;
 use hep_conditions::{Checked, Violation};
@@ -88,9 +88,9 @@ pub enum Rejected {
     /// It violates conditions.
     Violated {
         /// The first violation.
-        first: Violation,
-        /// Those behind it, in order: of each unit the first one of each condition.
-        further: Vec<Violation>,
+        first: Told,
+        /// Those that are told behind it, in order.
+        further: Vec<Told>,
     },
 }
 
@@ -109,7 +109,7 @@ impl From<AllocError> for Rejected {
 ///
 /// # Errors
 ///
-/// The first violation and those behind it, as [`further_violations`] has them; or that memory was refused.
+/// The first violation and those behind it, as [`told_violations`] has them; or that memory was refused.
 pub fn judge_further(alloc: Global, program: Program) -> Result<Checked, Rejected>
     // What is checked is the program.
     ensures same { IfOk result (λ checked. checked ≡ program) }
@@ -121,7 +121,7 @@ pub fn judge_further(alloc: Global, program: Program) -> Result<Checked, Rejecte
     match judged(alloc, &program)? {
         Ok(cells) => Ok(Checked::new(program, cells)),
         Err(first) => {
-            let further = further_violations(alloc, &program, &first)?;
+            let (first, further) = told_violations(alloc, &program, &first)?;
             Err(Rejected::Violated { first, further })
         }
     }

@@ -14,7 +14,7 @@ mod unit;
 
 pub use checked::{Rejected, Unaccepted, check, fault_of, judge, judge_further};
 /// Why a program isn't accepted: refusals 301 to 312, of which 301 and 310 are about a name.
-pub use further::further_violations;
+pub use further::{Told, told_violations};
 pub use hep_base::Refusal as CheckFault;
 pub use hep_conditions::Checked;
 pub use listing::list_text;

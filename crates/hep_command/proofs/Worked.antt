@@ -96,6 +96,9 @@ long_behind_warn = refl
 help_of_help : heard (codes "hepf" ∷ codes "help" ∷ codes "--help" ∷ []) ≡ codes "hepf" ∷ codes "help" ∷ []
 help_of_help = refl
 
+long_help_of_help : heard (codes "hepf" ∷ codes "--long" ∷ codes "help" ∷ codes "-h" ∷ []) ≡ codes "hepf" ∷ codes "--long" ∷ codes "help" ∷ []
+long_help_of_help = refl
+
 joined : name_of (codes "arena") (Some (codes "Full")) None ≡ codes "ARENA FULL"
 joined = refl
 

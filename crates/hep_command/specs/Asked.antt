@@ -1,5 +1,5 @@
 -- Which job a command and its words ask for: docs/MACHINE.md, "The program".
-use Rattle.std.specs.Prelude.{◌&&◌, ◌||◌, ℕ, Bool, false, List as ListOf, Option, Some, None, codes, if◌then◌else◌, length}
+use Rattle.std.specs.Prelude.{◌&&◌, ◌||◌, ◌+◌, ◌-◌, ℕ, Bool, false, List as ListOf, Option, Some, None, codes, if◌then◌else◌, length}
 use Rattle.std.specs.Prelude.{nat_eq, option_and_then, option_map, slice_get, take}
 use Rattle.std.specs.Option.{option_map_or}
 use Rattle.std.specs.Str.{bytes_eq}
@@ -35,15 +35,19 @@ asked_by (Explain first second third) = explain first.now (texts second) (texts 
 abbrev pub is_word : ListOf Text → ℕ → Text → Bool
 is_word words k word = option_map_or (bytes_eq word) (slice_get words k) false
 
--- help is asked for of `help`
+-- from this word on help is asked for of `help`
+abbrev pub asks_from : ListOf Text → ℕ → Bool
+asks_from words k =
+    nat_eq (length words) (k + 2) && (is_word words k (codes "help")
+    && (is_word words (k + 1) (codes "--help") || is_word words (k + 1) (codes "-h")))
+
+-- help is asked for of `help`, with `--long` before it or without
 abbrev pub is_help_of_help : ListOf Text → Bool
-is_help_of_help words =
-    nat_eq (length words) 3 && (is_word words 1 (codes "help")
-    && (is_word words 2 (codes "--help") || is_word words 2 (codes "-h")))
+is_help_of_help words = asks_from words 1 || (is_word words 1 (codes "--long") && asks_from words 2)
 
 -- all words; of `help --help` the last one is left out
 abbrev pub heard : ListOf Text → ListOf Text
-heard words = if is_help_of_help words then take 2 words else words
+heard words = if is_help_of_help words then take (length words - 1) words else words
 
 -- ---- what is found
 

@@ -198,7 +198,7 @@ const STOPPED_STEP_LIMIT: &str =
     "STOPPED STEP LIMIT: the history has as many entries as it may have. Status 6.
 Look for a loop that doesn't end, as one that asks for FULL($X) again and again
 where a read would wait. A long run gets more by --steps N, 10000000 where it
-isn't given and 4294967296 at most; each entry takes memory.
+isn't given and 4294967296 at most; a long history takes memory.
 
 Wrong: STOPPED STEP LIMIT
 
@@ -219,20 +219,26 @@ const NO_MEMORY: &str =
     "NO MEMORY: memory was refused. Standard output gets nothing, unless it was the
 text of --history that had no room. Status 7, which WORKERS REFUSED has too.
 Give fewer --steps or a smaller --arena, or end other programs. A long history
-takes most: each entry is kept, so a loop that doesn't end comes to this.
+takes most: an entry that isn't that of the one before it takes memory, so
+processes that take turns in loops that don't end come to this.
 
 Wrong, after ulimit -v 20000: NO MEMORY
 
-      I = 0
-   10 I = I+2
-      IF (I .NE. 9) GO TO 10
+      CREATE S
+      CALL S
+      END
+      SUBROUTINE S
+   10 GO TO 10
       END
 
 Right, after ulimit -v 20000:
 
-      I = 0
-   10 I = I+2
-      IF (I .LT. 9) GO TO 10
+      CREATE S
+      CALL S
+      END
+      SUBROUTINE S
+      DO 10 I=1,9
+   10 CONTINUE
       END
 ";
 

@@ -3,7 +3,7 @@ ghost use Rattle.std.specs.Prelude.{◌≡◌, ◌⊎◌, ◌≤◌, false, true
 ghost use Rattle.clap.specs.Words.{kind_of, subcommand_rows_of};
 ghost use Rattle.hep_command.specs.Program.{IsAskedBy, IsStatusFor, asked};
 ghost use Rattle.hep_command.specs.Numbers.{number_within, option_number};
-ghost use Rattle.hep_command.specs.Asked.{asked_by, arena_in, check_in, command_in, explain_in, heard, is_given, is_help_of_help};
+ghost use Rattle.hep_command.specs.Asked.{asked_by, arena_in, asks_from, check_in, command_in, explain_in, heard, is_given, is_help_of_help};
 ghost use Rattle.hep_command.specs.Asked.{is_long_in, is_word, job_in, list_in, replay_in, run_in, steps_in, word_of, words_found};
 ghost use Rattle.hep_command.specs.Asked.{workers_in};
 ghost use Rattle.hep_command.specs.Jobs.{IsInRange, IsNoPath, IsOneOrder, IsUsageStatus, IsWrittenApart, usage_status};
@@ -262,12 +262,20 @@ fn is_word<S: AsStr>(words: &[S], index: usize, word: &str) -> bool
 }
 
 // Whether help is asked for of `help`.
+fn asks_from<S: AsStr>(words: &[S], index: usize) -> bool
+    requires { index ≤ 2 }
+    ensures { result ≡ asks_from (map S.text words.now) index }
+{
+    words.len() == index + 2
+        && is_word(words, index, "help")
+        && (is_word(words, index + 1, "--help") || is_word(words, index + 1, "-h"))
+}
+
+// The same with `--long` before it or without.
 fn is_help_of_help<S: AsStr>(words: &[S]) -> bool
     ensures { result ≡ is_help_of_help (map S.text words.now) }
 {
-    words.len() == 3
-        && is_word(words, 1, "help")
-        && (is_word(words, 2, "--help") || is_word(words, 2, "-h"))
+    asks_from(words, 1) || (is_word(words, 1, "--long") && asks_from(words, 2))
 }
 
 // The words that `clap` gets: `help --help` is `help`, since `clap` has no help of it.
@@ -275,7 +283,7 @@ fn heard<'a, S: AsStr>(words: &'a [S]) -> &'a [S]
     ensures { map S.text result.now ≡ heard (map S.text words.entry.now) }
 {
     if is_help_of_help(words) {
-        &words[..2]
+        &words[..words.len().saturating_sub(1)]
     } else {
         words
     }

@@ -1,8 +1,8 @@
 -- A core goes on: after each step that only moves a process its history is legal, and its lists are those of the definitions.
-use Rattle.std.proofs.Common.{◌≡◌, ◌≢◌, ℕ, zero, suc, ◌+◌, ◌<◌, ◌≤◌, Bool, true, false, ◌||◌, if◌then◌else◌, List, [], ◌∷◌, ◌++◌, length, length-append, Ok, inl, inr, Option, Some, None, is_some, refl, sym, ap, ◌∙◌, subst, arith, Global}
-use Rattle.std.specs.declared.vec.Vec.{Vec}
+use Rattle.std.proofs.Common.{◌≡◌, ◌≢◌, ℕ, zero, suc, ◌+◌, ◌<◌, ◌≤◌, Bool, true, false, ◌||◌, if◌then◌else◌, List, [], ◌∷◌, ◌++◌, length, length-append, Ok, inl, inr, Option, Some, None, is_some, refl, sym, ap, ◌∙◌, subst, arith, replicate, append_assoc}
 use Rattle.std.proofs.lemmas.Bool.{cases_lt}
 use Rattle.std.proofs.lemmas.Bool.Decides.{nat_tests}
+use Rattle.std.proofs.lemmas.List.{append-nil, replicate-append-replicate}
 use Rattle.std.proofs.lemmas.Option.{none-some}
 use Rattle.hep_source.proofs.Tests.{some-there}
 use Rattle.hep_machine.specs.declared.event.Entry.{Entry}
@@ -10,13 +10,14 @@ use Rattle.hep_machine.specs.Words.{Units, IsLegal, Layout, is_held, is_number_a
 use Rattle.hep_cells.specs.declared.want.Want.{Want}
 use Rattle.hep_blocked.specs.Listing.{AreListed, GoesAlong, HasChanged, is_noted}
 use Rattle.hep_blocked.proofs.Members.{ready-rise, rising-same}
+use Rattle.hep_entries.specs.Entries.{Kept}
 use Rattle.hep_state.specs.declared.machine.Machine.{Machine}
 use Rattle.hep_state.specs.Words.{IsMachineAfter, snapshot_of}
 use Rattle.hep_going.specs.Gone.{HasGone, IsPlainTurn, none, more}
 use Rattle.hep_core.specs.Going.{AreChoices, IsPlainChoice, again, begun, entries_along}
 use Rattle.hep_core.specs.Invariant.{AreLiving, CoreInvariant, core_value}
 use Rattle.hep_core.specs.Tickets.{is_out}
-use Rattle.hep_core.specs.Value.{CoreValue, HasNoStop, IsChoice, IsStop, stop_after}
+use Rattle.hep_core.specs.Value.{AreSingle, CoreValue, HasNoStop, IsChoice, IsStop, stop_after}
 use Rattle.hep_core.specs.declared.stop.ChoiceStop.TheVariants.{Halted}
 use Rattle.hep_core.specs.declared.scheduler.Core.TheInside.{Inside}
 use Rattle.hep_core.specs.declared.ticket.TicketId.{TicketId}
@@ -51,6 +52,16 @@ pub entries-more : (h : List Entry) (p n : ℕ) → length (entries_along h p n)
 entries-more h p zero = omega arith
 entries-more h p (suc n) = omega (arith, length-append (entries_along h p n) (let e : Entry = record { process = p; steps = 1 } in e ∷ []), entries-more h p n)
 
+pub entries-many : (h : List Entry) (p n : ℕ) → h ++ replicate n (record { process = p; steps = 1 }) ≡ entries_along h p n
+entries-many h p zero = append-nil h
+entries-many h p (suc n) =
+    let e : Entry = record { process = p; steps = 1 } in
+    let next : suc n ≡ n + 1 = omega arith in
+    ap (λ k. h ++ replicate k e) next
+    ∙ ap (λ es. h ++ es) (sym (replicate-append-replicate n 1 e))
+    ∙ sym (append_assoc h (replicate n e) (e ∷ []))
+    ∙ ap (λ es. es ++ e ∷ []) (entries-many h p n)
+
 module _ (law : GoAlong) (program : Units) (cells limit p : ℕ) (waiting : List (Option Want)) (ready : List ℕ) (out : List TicketId) (home : is_out p out ≡ false) where
   abbrev one : Entry
   one = record { process = p; steps = 1 }
@@ -60,7 +71,7 @@ module _ (law : GoAlong) (program : Units) (cells limit p : ℕ) (waiting : List
     pub layout : Layout
     pub laid : layout_of program cells is_held (schedule_of es) ≡ Some layout
     pub listed : AreListed program cells (schedule_of es) (progress_after program es) waiting ready
-    pub single : length (schedule_of es) ≤ length es
+    pub single : AreSingle es
     pub legal : length es ≤ limit → IsLegal program cells limit es
     pub living : AreLiving program es out
 
@@ -117,7 +128,7 @@ core_gone old p n =
     }
 
 -- its inside with these entries and this machine
-abbrev pub core_along : Inside → Vec Entry Global → Machine → Inside
+abbrev pub core_along : Inside → Kept → Machine → Inside
 core_along i history machine = record i { history = history; machine = machine }
 
 module _ (law : GoAlong) (i : Inside) (p : ℕ) (k : CoreInvariant i) (running : i.stop ≡ None) (home : is_out p i.out.items ≡ false) where
@@ -131,7 +142,7 @@ module _ (law : GoAlong) (i : Inside) (p : ℕ) (k : CoreInvariant i) (running :
   come n after gone = come-so law i.image i.cells i.limit p i.waits i.ready.ready i.out.items home h start n after gone
 
   -- it keeps what a core keeps
-  pub core-goes-on : (n : ℕ) (after : List ℕ) (machine : Machine) (history : Vec Entry Global) → HasGone i.image i.cells p (schedule_of h) n after → IsMachineAfter i.image i.cells after machine
+  pub core-goes-on : (n : ℕ) (after : List ℕ) (machine : Machine) (history : Kept) → HasGone i.image i.cells p (schedule_of h) n after → IsMachineAfter i.image i.cells after machine
       → machine.halted ≡ false → length machine.processes.items ≡ length i.machine.processes.items → length h + n ≤ i.limit → history.items ≡ entries_along h p n → CoreInvariant (core_along i history machine)
   core-goes-on n after machine history gone kept unhalted count room is =
       let c = come n after gone in
@@ -183,7 +194,7 @@ module _ (law : GoAlong) (i : Inside) (p : ℕ) (k : CoreInvariant i) (running :
       again (core_gone (core_value i) p 0) n (core_gone (core_value i) p n) (core_gone (core_value i) p (suc n)) (are-choices n after gone (omega (arith, room))) (plain n after gone is room)
 
   -- from the core that it was to the one with this inside
-  pub chosen-so : AreSeen i.image i.cells → (n : ℕ) (after : List ℕ) (machine : Machine) (history : Vec Entry Global) → HasGone i.image i.cells p (schedule_of h) n after → CoreInvariant (core_along i history machine)
+  pub chosen-so : AreSeen i.image i.cells → (n : ℕ) (after : List ℕ) (machine : Machine) (history : Kept) → HasGone i.image i.cells p (schedule_of h) n after → CoreInvariant (core_along i history machine)
       → length h + n ≤ i.limit → history.items ≡ entries_along h p n → AreChoices p (core_value i) n (core_value (core_along i history machine))
   chosen-so seen n after machine history gone kept room is =
       let first = view-is i.image i.cells h (snapshot_of i.machine) k.after.after seen in

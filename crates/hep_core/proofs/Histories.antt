@@ -1,5 +1,6 @@
 -- A history with one entry more, and the processes that are listed after it, by rising numbers.
 use Rattle.std.proofs.Common.{◌≡◌, ◌≢◌, inl, inr, ℕ, true, zero, suc, ◌-◌, ◌<◌, ◌≤◌, List, [], ◌∷◌, ◌++◌, length, length-append, refl, sym, ap, ◌∙◌, subst, append_assoc, append-nil, arith, Option, Some, None, replicate, ◌+◌, Bool, false, IsSome, slice_get, if◌then◌else◌}
+use Rattle.std.proofs.lemmas.List.{length-replicate}
 use Rattle.std.proofs.lemmas.Option.{none-some, same_Some}
 use Rattle.std.specs.Option.{unwrap_or, option_or}
 use Rattle.hep_machine.specs.declared.event.Entry.{Entry}
@@ -9,7 +10,7 @@ use Rattle.hep_machine.proofs.Replays.{run_after}
 use Rattle.std.proofs.lemmas.Bool.{cases_lt}
 use Rattle.hep_views.specs.declared.listed.Listed.{Listed}
 use Rattle.hep_views.specs.Listed.{listed_by, listed_with}
-use Rattle.hep_core.specs.Value.{first_listed, listed_after}
+use Rattle.hep_core.specs.Value.{AreSingle, first_listed, listed_after}
 
 -- ---- the state
 
@@ -17,10 +18,17 @@ pub schedule-none : schedule_of [] ≡ []
 unfolding schedule_of
 schedule-none = refl
 
--- each entry has one step at most
-pub single-none : length (schedule_of []) ≤ length {A = Entry} []
+-- each entry has one step or none
+pub single-last : (es : List Entry) (e : Entry) → e.steps ≤ 1 → AreSingle es → AreSingle (es ++ e ∷ [])
+single-last [] e one single = (one, tt)
+single-last (x ∷ es) e one single = (single.0, single-last es e one single.1)
+
+-- so there are no more steps than entries
+pub few-steps : (es : List Entry) → AreSingle es → length (schedule_of es) ≤ length es
 unfolding schedule_of
-single-none = omega arith
+few-steps [] single = omega arith
+few-steps (e ∷ es) single =
+    omega (arith, single.0, few-steps es single.1, length-append (replicate e.steps e.process) (schedule_of es), length-replicate e.steps e.process)
 
 schedule-last : (es : List Entry) (e : Entry) → schedule_of (es ++ e ∷ []) ≡ schedule_of es ++ (replicate e.steps e.process ++ [])
 unfolding schedule_of

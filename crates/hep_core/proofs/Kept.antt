@@ -1,23 +1,23 @@
 -- What follows from what a machine keeps of the state after a history, and what a turn tells of what it touched, as the laws of lists ask for it.
-use Rattle.std.proofs.Common.{◌≡◌, ◌≢◌, ℕ, true, false, true≢false, ◌<◌, ◌≤◌, List, [], ◌∷◌, ◌++◌, length, length-append, arith, refl, sym, ap, ◌∙◌, subst, Option, Some, None, ◌+◌, zero, suc, Bool, Result, Err, IsSome, is_some, ◌||◌, slice_get, Global}
-use Rattle.std.specs.declared.vec.Vec.{Vec}
+use Rattle.std.proofs.Common.{◌≡◌, ◌≢◌, ℕ, true, false, true≢false, ◌<◌, ◌≤◌, List, [], ◌∷◌, ◌++◌, length, length-append, arith, refl, sym, ap, ◌∙◌, subst, Option, Some, None, ◌+◌, zero, suc, Bool, Result, Err, IsSome, is_some, ◌||◌, slice_get}
 use Rattle.hep_machine.specs.Words.{Units, IsLegal, is_held, layout_of, Layout, opening, run, run_from, schedule_of, state_after, progress_after, progress_after_entry, progress_after_step, State, is_waiting, step, Wanted, wanted_by, view_of, is_number_among, living}
 use Rattle.hep_machine.specs.declared.event.Entry.{Entry}
 use Rattle.hep_cells.specs.declared.want.Want.{Want}
 use Rattle.hep_blocked.specs.Listing.{AreListed, GoesAlong, GoesAlongEmptying, HasEmptied, IsBlocked, awake_by, awake_where, is_noted, is_woken, is_woken_where}
 use Rattle.hep_blocked.specs.Numbers.{Numbers}
+use Rattle.hep_entries.specs.Entries.{Kept}
 use Rattle.hep_proc.specs.Stacks.{stack_of}
 use Rattle.hep_state.specs.declared.machine.Machine.{Machine}
 use Rattle.hep_state.specs.Words.{IsMachineAfter, Snapshot, snapshot_of, IsAfter, HasWaited, HasPurged, HasTurned, HasLevels}
 use Rattle.hep_views.specs.Seen.{machine_view}
 use Rattle.hep_core.specs.Invariant.{AreLiving, CoreInvariant}
-use Rattle.hep_core.specs.Value.{IsStop, CoreValue, IsChoice}
+use Rattle.hep_core.specs.Value.{AreSingle, IsStop, CoreValue, IsChoice}
 use Rattle.hep_core.specs.declared.scheduler.Core.TheInside.{Inside}
 use Rattle.hep_core.specs.declared.stop.ChoiceStop.{ChoiceStop}
 use Rattle.hep_core.specs.declared.ticket.TicketId.{TicketId}
 use Rattle.hep_core.specs.Tickets.{is_out}
 use Rattle.hep_core.proofs.Staying.{living-stepped, living-waited}
-use Rattle.hep_core.proofs.Histories.{legal-stepped, legal-waited, progress-last, progress-stepped, schedule-stepped, schedule-waited, state-is, state-stepped}
+use Rattle.hep_core.proofs.Histories.{legal-stepped, legal-waited, progress-last, progress-stepped, schedule-stepped, schedule-waited, single-last, state-is, state-stepped}
 use Rattle.hep_source.proofs.Tests.{some-there}
 use Rattle.std.proofs.lemmas.List.{length-map}
 use Rattle.std.specs.Result.{IsErrAnd}
@@ -68,7 +68,7 @@ module _ (program : Units) (cells : ℕ) (history : List Entry) (m : Snapshot) (
 -- ---- a turn that wasn't taken
 
 -- a core with the same entries, whose machine keeps the same state
-module _ (c : Inside) (kept : CoreInvariant c) (history : Vec Entry Global) (machine : Machine) (ready : Numbers) (same : history.items ≡ c.history.items) (after : IsMachineAfter c.image c.cells (schedule_of c.history.items) machine)
+module _ (c : Inside) (kept : CoreInvariant c) (history : Kept) (machine : Machine) (ready : Numbers) (same : history.items ≡ c.history.items) (after : IsMachineAfter c.image c.cells (schedule_of c.history.items) machine)
     (noted : ready.ready ≡ c.ready.ready) (numbers : length machine.processes.items ≤ ready.room) (room : length c.waits ≤ ready.room) where
   pub unturned-kept : (waits : List (Option Want)) → waits ≡ c.waits → (stop : Option ChoiceStop) → IsStop c.image c.cells c.limit c.history.items stop → CoreInvariant (record c { history = history; stop = stop; machine = machine; waits = waits; ready = ready })
   unturned-kept waits waiting stop named =
@@ -80,7 +80,7 @@ module _ (c : Inside) (kept : CoreInvariant c) (history : Vec Entry Global) (mac
         numbers = numbers;
         waiting = subst (λ ws. length ws ≤ ready.room) (sym waiting) room;
         legal = subst (IsLegal c.image c.cells c.limit) (sym same) kept.legal;
-        single = subst (λ es. length (schedule_of es) ≤ length es) (sym same) kept.single;
+        single = subst AreSingle (sym same) kept.single;
         named = subst (λ es. IsStop c.image c.cells c.limit es stop) (sym same) named;
         living = subst (λ es. AreLiving c.image es c.out.items) (sym same) kept.living;
         tabled = kept.tabled;
@@ -113,8 +113,8 @@ module _ (program : Units) (cells : ℕ) (h : List Entry) (p : ℕ) (h' : List E
   schedule-next = ap schedule_of is ∙ schedule-stepped h p
 
   -- each entry has one step at most
-  pub single-next : length (schedule_of h) ≤ length h → length (schedule_of h') ≤ length h'
-  single-next few = omega (arith, few, ap length is, ap length schedule-next, length-append h (record { process = p; steps = 1 } ∷ []), length-append (schedule_of h) (p ∷ []))
+  pub single-next : AreSingle h → AreSingle h'
+  single-next single = subst AreSingle (sym is) (single-last h (record { process = p; steps = 1 }) (omega arith) single)
 
   -- those that are out live on
   pub living-next : (out : List TicketId) → is_out p out ≡ false → AreLiving program h out → AreLiving program h' out
@@ -152,8 +152,8 @@ module _ (program : Units) (cells : ℕ) (h : List Entry) (p : ℕ) (h' : List E
   pub state-left : state_after program h' ≡ state_after program h
   state-left = state-is program h' ∙ ap (run program) schedule-left ∙ sym (state-is program h)
 
-  pub single-left : length (schedule_of h) ≤ length h → length (schedule_of h') ≤ length h'
-  single-left few = omega (arith, few, ap length is, ap length schedule-left, length-append h (record { process = p; steps = 0 } ∷ []))
+  pub single-left : AreSingle h → AreSingle h'
+  single-left single = subst AreSingle (sym is) (single-last h (record { process = p; steps = 0 }) (omega arith) single)
 
   pub listed-left : (waits : List (Option Want)) (ready : List ℕ) → AreListed program cells (schedule_of h) (progress_after_entry program (progress_after program h) (record { process = p; steps = 0 }) 0) waits ready
       → AreListed program cells (schedule_of h') (progress_after program h') waits ready
@@ -175,7 +175,7 @@ opening-goes program = refl
 -- ---- a core after a turn
 
 -- that made a step
-module _ (i : Inside) (k : CoreInvariant i) (p : ℕ) (lt : length i.history.items < i.limit) (home : is_out p i.out.items ≡ false) (history : Vec Entry Global) (is : history.items ≡ i.history.items ++ record { process = p; steps = 1 } ∷ []) (m : Machine)
+module _ (i : Inside) (k : CoreInvariant i) (p : ℕ) (lt : length i.history.items < i.limit) (home : is_out p i.out.items ≡ false) (history : Kept) (is : history.items ≡ i.history.items ++ record { process = p; steps = 1 } ∷ []) (m : Machine)
     (made : step i.image p (run i.image (schedule_of i.history.items)) ≢ None) (after : IsMachineAfter i.image i.cells (schedule_of i.history.items ++ p ∷ []) m) (waits : List (Option Want)) (ready : Numbers)
     (listed : AreListed i.image i.cells (schedule_of i.history.items ++ p ∷ []) (progress_after_step i.image (progress_after i.image i.history.items) p (run i.image (schedule_of i.history.items ++ p ∷ []))) waits ready.ready)
     (numbers : length m.processes.items ≤ ready.room) (room : length waits ≤ ready.room) where
@@ -194,7 +194,7 @@ module _ (i : Inside) (k : CoreInvariant i) (p : ℕ) (lt : length i.history.ite
       }
 
 -- that found its process waiting
-module _ (i : Inside) (k : CoreInvariant i) (p : ℕ) (lt : length i.history.items < i.limit) (history : Vec Entry Global) (is : history.items ≡ i.history.items ++ record { process = p; steps = 0 } ∷ []) (m : Machine)
+module _ (i : Inside) (k : CoreInvariant i) (p : ℕ) (lt : length i.history.items < i.limit) (history : Kept) (is : history.items ≡ i.history.items ++ record { process = p; steps = 0 } ∷ []) (m : Machine)
     (after : IsMachineAfter i.image i.cells (schedule_of i.history.items) m) (waiting : is_waiting i.image (run i.image (schedule_of i.history.items)) p ≡ true) (waits : List (Option Want)) (ready : Numbers)
     (listed : AreListed i.image i.cells (schedule_of i.history.items) (progress_after_entry i.image (progress_after i.image i.history.items) (record { process = p; steps = 0 }) 0) waits ready.ready)
     (numbers : length m.processes.items ≤ ready.room) (room : length waits ≤ ready.room) where

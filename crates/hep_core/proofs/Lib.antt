@@ -5,3 +5,4 @@ pub mod Staying
 pub mod Returning
 pub mod Kept
 pub mod Going
+pub mod Idle

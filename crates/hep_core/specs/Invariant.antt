@@ -7,7 +7,7 @@ use Rattle.hep_quick.specs.UnitTables.{AreTables}
 use Rattle.hep_state.specs.Words.{IsMachineAfter, snapshot_of}
 use Rattle.hep_views.specs.Seen.{machine_view}
 use Rattle.hep_core.specs.Tickets.{is_out}
-use Rattle.hep_core.specs.Value.{CoreValue, IsStop}
+use Rattle.hep_core.specs.Value.{AreSingle, CoreValue, IsStop}
 use Rattle.hep_core.specs.declared.scheduler.Core.TheInside.{Inside}
 use Rattle.hep_core.specs.declared.ticket.TicketId.{TicketId}
 
@@ -28,7 +28,7 @@ core_value c =
 abbrev pub AreLiving : Units → List Entry → List TicketId → Type 0
 AreLiving program history out = (p : ℕ) → is_out p out ≡ true → living (state_after program history) p ≢ None
 
--- the machine keeps the state after the history, which is legal, and each entry of which has one step at most; those that wait are the
+-- the machine keeps the state after the history, which is legal, and each entry of which has one step or none; those that wait are the
 -- listed ones and the others that live are ready, and each process that was made has room to be; those that are out live; the tables are those
 -- of the program
 pub record CoreInvariant (c : Inside) : Type 0 where
@@ -37,7 +37,7 @@ pub record CoreInvariant (c : Inside) : Type 0 where
   pub numbers : length c.machine.processes.items ≤ c.ready.room
   pub waiting : length c.waits ≤ c.ready.room
   pub legal : IsLegal c.image c.cells c.limit c.history.items
-  pub single : length (schedule_of c.history.items) ≤ length c.history.items
+  pub single : AreSingle c.history.items
   pub named : IsStop c.image c.cells c.limit c.history.items c.stop
   pub living : AreLiving c.image c.history.items c.out.items
   pub tabled : AreTables c.image c.tables.items

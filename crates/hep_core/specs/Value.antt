@@ -1,5 +1,5 @@
 -- What a core is to its callers, and what a choice makes of it: docs/MACHINE.md, "Histories" and "Which process comes next".
-use Rattle.std.specs.Prelude.{◌≡◌, ◌≢◌, ◌⊎◌, ℕ, zero, suc, ◌+◌, ◌-◌, ◌<◌, Bool, true, false, not, if◌then◌else◌, List, [], ◌∷◌, ◌++◌, Option, Some, None, IsSome, Result, Ok, Err, length}
+use Rattle.std.specs.Prelude.{◌≡◌, ◌≢◌, ◌⊎◌, ℕ, zero, suc, ◌+◌, ◌-◌, ◌<◌, ◌≤◌, Bool, true, false, not, if◌then◌else◌, List, [], ◌∷◌, ◌++◌, Option, Some, None, IsSome, Result, Ok, Err, length}
 use Rattle.std.specs.List.{filter}
 use Rattle.std.specs.Option.{option_or}
 use Rattle.hep_machine.specs.declared.event.Entry.{Entry}
@@ -123,6 +123,17 @@ verdict_by None (p ∷ ps) (q ∷ qs) = Running
 abbrev pub verdict_of : CoreValue → Verdict
 verdict_of core =
     verdict_by core.stop (living_from 1 (state_of core).processes) (ready_in (progress_after core.program core.history))
+
+-- ---- what every core is
+
+-- each entry has one step, or none
+abbrev pub AreSingle : List Entry → Type 0
+AreSingle [] = Unit {0}
+AreSingle (e ∷ es) = (e.steps ≤ 1) × AreSingle es
+
+-- no process has a step
+abbrev pub IsIdle : Units → State → Type 0
+IsIdle program s = (p : ℕ) → step program p s ≡ None
 
 -- ---- the process that comes next by itself
 

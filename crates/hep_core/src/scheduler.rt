@@ -1,15 +1,16 @@
 //! The core: a run of an image, one choice at a time, with its history.
 ghost use Rattle.std.specs.Prelude.{◌≡◌, ◌≢◌, ◌≤◌, ◌<◌, ◌++◌, ◌∷◌, [], None, Some, IsSome, IfNone, IfSome, IfOk, OnErr, OnOk, IfErr, Err, false, true};
-ghost use Rattle.std.specs.Prelude.{◌+◌, is_some, length, nat_lt, vec_len, vec_capacity};
+ghost use Rattle.std.specs.Prelude.{◌+◌, ◌^◌, is_some, length, nat_lt};
 ghost use Rattle.hep_machine.specs.Words.{IsLegal, common_cells, is_held, opening_layout, used_cells, living, first_above, last_process};
 ghost use Rattle.hep_machine.specs.Words.{next_of_ready, view_of};
 ghost use Rattle.hep_views.specs.Standing.{whereabouts_by};
 ghost use Rattle.hep_core.specs.Value.{state_of, opening_of, IsNewFault, IsChoice, HasNoStop, IsStop, IsStoppedWhereFull};
 ghost use Rattle.hep_core.specs.Commits.{IsCancelled, IsCheckedOut, IsCommitted, IsGivenTo, core_after_return, most_tickets};
 ghost use Rattle.hep_core.specs.Invariant.{AreLiving};
+ghost use Rattle.hep_core.specs.declared.stop.Verdict.TheVariants.{Waiting};
 ghost use Rattle.hep_core.specs.Tickets.{has_ticket, is_out};
 ghost use Rattle.hep_core.specs.Going.{AreChoices, AreTurns, IsAtRest, IsTurnOnce, entries_along};
-ghost use Rattle.hep_core.specs.Value.{IsAtPosition, free_of, next_listed_of, verdict_of, next_ready_of, ready_of};
+ghost use Rattle.hep_core.specs.Value.{AreSingle, IsAtPosition, IsIdle, free_of, next_listed_of, verdict_of, next_ready_of, ready_of};
 
 use crate::fault::{ChooseFault, CommitFault, NewFault};
 use crate::lists::{note_ready, wait, wake_after};
@@ -21,6 +22,7 @@ use hep_blocked::laws::{
 };
 use hep_blocked::need_laws::waiting_processes_need_it;
 use hep_blocked::{Ready, Waits};
+use hep_entries::History;
 use hep_going::go_on;
 use hep_image::Image;
 use hep_layout::laws::layouts_have_what_is_held;
@@ -38,6 +40,9 @@ use std::mem::replace;
 // The main program's process.
 const FIRST_PROCESS: u64 = 1;
 
+// The most choices that are made at once.
+const MOST_AT_ONCE: u64 = 0xFFFF_FFFF;
+
 /// A run of an image. Contracts see the program, the cells of the arena, the longest history, the
 /// history, the stop, what is seen of the state, the tickets that are out, and how many were given.
 ///
@@ -49,7 +54,7 @@ pub struct Core {
     tables: Vec<Table>,
     cells: u32,
     limit: u64,
-    history: Vec<Entry>,
+    history: History,
     stop: Option<ChoiceStop>,
     machine: Machine,
     // The processes that were found waiting and wait since, and what they wait for.
@@ -129,7 +134,7 @@ impl Core {
             tables,
             cells,
             limit: steps,
-            history: Vec::new(alloc),
+            history: History::new(alloc),
             stop: None,
             machine,
             waits: Waits::new(alloc),
@@ -187,7 +192,8 @@ impl Core {
         if self.is_out(p) {
             return Err(ChooseFault::IsOut);
         }
-        match self.move_on(p, most) {
+        // So many entries are one run.
+        match self.move_on(p, most.min(MOST_AT_ONCE)) {
             Ok(0) => self.turn_once(p),
             Ok(made) => Ok(Turns {
                 made,
@@ -212,13 +218,14 @@ impl Core {
         }
     }
 
-    // Chooses process p up to so many times, as long as each choice makes a step that only moves the process, and says how often. Who waits
-    // and who is ready stays.
+    // Chooses process p up to so many times, 4,294,967,295 at most, as long as each choice makes a step that only moves the process, and
+    // says how often. Who waits and who is ready stays.
     //
     // It ends early only where the core is at a stop, p doesn't live, the history is full, or no plain operation stands ahead of p that
-    // moves it. It sets no stop. It fails only where memory was refused for so many entries; nothing has changed then.
+    // moves it. It sets no stop. It fails only where the history has no room for so many entries; nothing has changed then.
     fn move_on(&mut self, p: u64, most: u64) -> Result<u64, AllocError>
-        requires { is_out p self.old.out ≡ false }
+        requires home { is_out p self.old.out ≡ false }
+        requires once { most < 2 ^ 32 }
         ensures chosen { IfOk result (λ n. AreChoices p self.old n self.new) }
         ensures few { IfOk result (λ n. n ≤ most) }
         ensures all { IfOk result (λ n. n < most → IsAtRest self.new p) }
@@ -233,14 +240,14 @@ impl Core {
         self.image.is_runnable();
         views_are_of_states();
         lists_go_along_with_steps();
-        let most = most.min(self.limit - self.history.len() as u64);
-        self.history.reserve(most as usize)?;
+        let most = most.min(self.limit - self.history.len());
+        self.history.reserve(most as u32)?;
         let tabled = Tabled {
             image: &self.image,
             tables: &self.tables,
         };
-        let made = go_on(&mut self.machine, self.alloc, &tabled, p, most);
-        note_all(&mut self.history, p, made);
+        let made = go_on(&mut self.machine, &tabled, p, most);
+        note_all(&mut self.history, p, made as u32);
         Ok(made)
     }
 
@@ -255,7 +262,7 @@ impl Core {
         if !self.machine.lives(p) {
             return Err(ChooseFault::NoSuchProcess);
         }
-        if self.limit <= self.history.len() as u64 {
+        if self.limit <= self.history.len() {
             self.stop = Some(ChoiceStop::StepLimit);
             return Err(ChooseFault::Stopped(ChoiceStop::StepLimit));
         }
@@ -455,13 +462,15 @@ impl Core {
     }
 
     /// Does nothing: its clauses say what every core is. What is seen of a core is what is seen of
-    /// the source machine after the core's own history, the history is one that a core may have,
-    /// and a stop is what its name says: a STOP ran, the history is full, or some process can't make its step, for whose new
-    /// activation's frame there is no gap.
+    /// the source machine after the core's own history; the history is one that a core may have, each entry of which has one
+    /// step or none; a stop is what its name says: a STOP ran, the history is full, or some process can't make its step, for whose new
+    /// activation's frame there is no gap; and where all that live wait no process has a step.
     pub fn headline(&self)
         ensures view { self.now.view ≡ view_of self.now.program is_held (state_of self.now) }
         ensures legal { IsLegal self.now.program self.now.cells self.now.limit self.now.history }
+        ensures single { AreSingle self.now.history }
         ensures named { IsStop self.now.program self.now.cells self.now.limit self.now.history self.now.stop }
+        ensures waiting { verdict_of self.now ≡ Waiting → IsIdle self.now.program (state_of self.now) }
     {
         self.image.is_runnable();
         views_are_of_states();
@@ -480,7 +489,7 @@ impl Core {
         requires { self.old.stop ≡ None }
         ensures { IsStoppedWhereFull self.old result self.new }
     {
-        let full = self.limit <= self.history.len() as u64;
+        let full = self.limit <= self.history.len();
         if full {
             self.stop = Some(ChoiceStop::StepLimit);
         }
@@ -502,13 +511,13 @@ impl Core {
         self.ready.first_above(p)
     }
 
-    // The process that comes next by itself, whoever is out.
+    // The process that comes next after p, whoever is out.
     #[inline(always)]
-    fn next_of_all(&self) -> Option<u64>
-        ensures { result ≡ next_of_ready (last_process self.now.history) (ready_of self.now) }
+    fn next_of_all(&self, p: u64) -> Option<u64>
+        ensures { result ≡ next_of_ready p (ready_of self.now) }
     {
         lists_are_those_of_definitions();
-        self.ready.next(self.last_process())
+        self.ready.next(p)
     }
 
     // Of those that aren't out the one with the least number above p.
@@ -522,22 +531,31 @@ impl Core {
         Some(next)
     }
 
-    /// The process that comes next by itself: of those that live, don't wait and aren't out the least above that of the last entry, else
-    /// the least.
+    /// The process that comes next after p: of those that live, don't wait and aren't out the least above p, else the least.
     ///
     /// This costs the logarithm of how many processes were made, for each process that is out and once more; a constant time for each where
     /// at most 64 were made.
     #[inline(always)]
+    pub fn ready_after(&self, p: u64) -> Option<u64>
+        ensures { result ≡ next_of_ready p (free_of self.now) }
+    {
+        if self.out.is_empty() {
+            return self.next_of_all(p);
+        }
+        match self.free_above(p) {
+            Some(q) => Some(q),
+            None => self.free_above(0),
+        }
+    }
+
+    /// The process that comes next by itself: the one that comes next after that of the last entry.
+    ///
+    /// This costs what `ready_after` does.
+    #[inline(always)]
     pub fn next_ready(&self) -> Option<u64>
         ensures { result ≡ next_ready_of self.now }
     {
-        if self.out.is_empty() {
-            return self.next_of_all();
-        }
-        match self.free_above(self.last_process()) {
-            Some(p) => Some(p),
-            None => self.free_above(0),
-        }
+        self.ready_after(self.last_process())
     }
 
     /// The process of the last entry of the history, 0 where there is none.
@@ -625,14 +643,14 @@ impl Core {
     }
 
     /// The history.
-    pub fn history(&self) -> &[Entry]
-        ensures { result.now ≡ self.now.history }
+    pub fn history(&self) -> &History
+        ensures { result.now.items ≡ self.now.history }
     {
         &self.history
     }
 
     /// The history of a core that is no longer needed.
-    pub fn into_history(self) -> Vec<Entry>
+    pub fn into_history(self) -> History
         ensures { result.items ≡ self.history }
     {
         let Core {
@@ -675,22 +693,27 @@ impl Core {
 }
 
 // An entry of process p, which made so many steps, for which there is room.
-fn note(history: &mut Vec<Entry>, p: u64, steps: u32)
-    requires { vec_len history.old < vec_capacity history.old }
+#[inline(always)]
+fn note(history: &mut History, p: u64, steps: u32)
+    requires room { 0 < history.old.room }
+    requires few { length history.old.items < 2 ^ 63 }
     ensures { history.new.items ≡ history.old.items ++ record { process = p; steps = steps } ∷ [] }
 {
-    let _ = history.push(Entry { process: p, steps });
+    history.push(Entry { process: p, steps });
 }
 
 // So many entries of process p, each of one step, for which there is room.
-fn note_all(history: &mut Vec<Entry>, p: u64, count: u64)
-    requires { vec_len history.old + count ≤ vec_capacity history.old }
+#[inline(always)]
+fn note_all(history: &mut History, p: u64, count: u32)
+    requires room { 0 < history.old.room }
+    requires few { length history.old.items + count ≤ 2 ^ 63 }
     ensures { history.new.items ≡ entries_along history.old.items p count }
 {
-    for noted in 0..count {
-        let _ = history.push(Entry {
+    history.push_many(
+        Entry {
             process: p,
             steps: 1,
-        });
-    }
+        },
+        count,
+    );
 }

@@ -101,6 +101,23 @@ pub fn used_notes(alloc: Global, used: u32, cells: u32) -> Result<Text, AllocErr
     notes_of(alloc, &words)
 }
 
+// Appends where a process is, in words.
+pub(crate) fn append_place_words(
+    words: &mut Vec<u8>,
+    image: &Image,
+    place: &Whereabouts,
+) -> Result<(), AllocError>
+    ensures { OnOk result (words.new.items ≡ words.old.items ++ stops.place_words (names_in_order image.now) place.now) }
+{
+    words.extend_from_slice(b"process ")?;
+    append_number(words, place.process)?;
+    words.extend_from_slice(b" is at ")?;
+    words.extend_from_slice(name_of(image, place.unit))?;
+    words.extend_from_slice(b" LINE ")?;
+    append_number(words, place.line)?;
+    Ok(())
+}
+
 // Appends where a process is, if it lives.
 fn append_place(
     alloc: Global,
@@ -114,12 +131,7 @@ fn append_place(
         return Ok(());
     };
     let mut words = Vec::new(alloc);
-    words.extend_from_slice(b"process ")?;
-    append_number(&mut words, place.process)?;
-    words.extend_from_slice(b" is at ")?;
-    words.extend_from_slice(name_of(image, place.unit))?;
-    words.extend_from_slice(b" LINE ")?;
-    append_number(&mut words, place.line)?;
+    append_place_words(&mut words, image, &place)?;
     append_words(text, &words)
 }
 

@@ -85,6 +85,14 @@ slice_get-append_right [] ys k n is = let same : k ≡ n = omega arith in ap (λ
 slice_get-append_right (x ∷ xs) ys zero n is = absurd (omega arith)
 slice_get-append_right (x ∷ xs) ys (suc k) n is = slice_get-append_right xs ys k n (omega (arith, is))
 
+-- what stands behind some first ones
+pub slice_get-behind : {X : Type 0} (n k : ℕ) (xs : List X) → slice_get xs (n + k) ≡ slice_get (drop n xs) k
+slice_get-behind zero k xs = let same : 0 + k ≡ k = omega arith in ap (λ i. slice_get xs i) same
+slice_get-behind (suc n) k [] = slice_get_past [] (suc n + k) (omega arith) ∙ sym (slice_get_past [] k (omega arith))
+slice_get-behind (suc n) k (x ∷ xs) =
+    let next : suc n + k ≡ suc (n + k) = omega arith in
+    ap (λ i. slice_get (x ∷ xs) i) next ∙ slice_get-behind n k xs
+
 -- in a run, and behind it
 pub run_has : (n k : ℕ) (e : Entry) (es : List Entry) → k < n → slice_get (replicate n e ++ es) k ≡ Some e
 run_has n k e es lt =
@@ -94,6 +102,21 @@ run_has n k e es lt =
 
 pub run_past : (n k j : ℕ) (e : Entry) (es : List Entry) → k ≡ n + j → slice_get (replicate n e ++ es) k ≡ slice_get es j
 run_past n k j e es is = slice_get-append_right (replicate n e) es k j (omega (arith, length-replicate n e, is))
+
+-- where some first entries of a run are left out, or all of it and some behind it
+pub drop_within : (n k : ℕ) (e : Entry) (es : List Entry) → k ≤ n → drop k (replicate n e ++ es) ≡ replicate (n - k) e ++ es
+drop_within n zero e es le = let same : n ≡ n - 0 = omega arith in ap (λ i. replicate i e ++ es) same
+drop_within zero (suc k) e es le = absurd (omega (arith, le))
+drop_within (suc n) (suc k) e es le =
+    let same : n - k ≡ suc n - suc k = omega arith in
+    drop_within n k e es (omega (arith, le)) ∙ ap (λ i. replicate i e ++ es) same
+
+pub drop_past : (n k : ℕ) (e : Entry) (es : List Entry) → n ≤ k → drop k (replicate n e ++ es) ≡ drop (k - n) es
+drop_past zero k e es le = let same : k ≡ k - 0 = omega arith in ap (λ i. drop i es) same
+drop_past (suc n) zero e es le = absurd (omega (arith, le))
+drop_past (suc n) (suc k) e es le =
+    let same : k - n ≡ suc k - suc n = omega arith in
+    drop_past n k e es (omega (arith, le)) ∙ ap (λ i. drop i es) same
 
 pub end_of_shorts-push : (from : ℕ) (shorts : List Short) (s : Short) → end_of_shorts from (shorts ++ s ∷ []) ≡ s.end
 end_of_shorts-push from [] s = refl

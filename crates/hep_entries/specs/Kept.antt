@@ -1,5 +1,5 @@
 -- The parts of a history.
-use Rattle.std.specs.Prelude.{◌≡◌, ◌+◌, ◌-◌, ◌^◌, ◌<◌, ◌++◌, [], ◌∷◌, List, length, min, vec_len, vec_capacity}
+use Rattle.std.specs.Prelude.{◌≡◌, ◌+◌, ◌-◌, ◌^◌, ◌<◌, ◌≤◌, ◌++◌, [], ◌∷◌, List, length, min, vec_len, vec_capacity}
 use Rattle.hep_entries.specs.Entries.{Kept}
 use Rattle.hep_entries.specs.Runs.{AreFilled, AreRising, entries_of, runs_in}
 use Rattle.hep_entries.specs.declared.run.Run.{Run}
@@ -20,5 +20,5 @@ pub record IsCounted (h : Inside) : Type 0 where
   pub rising : AreRising 0 h.shorts.items
   pub filled : AreFilled h.longs.items
   pub closed : h.closed ≡ length (entries_of (runs_in h.shorts.items h.longs.items))
-  pub few : h.closed + h.last.count < 2 ^ 64
+  pub few : h.closed + h.last.count ≤ 2 ^ 63
   pub opened : h.last.count ≡ 0 → h.closed ≡ 0

@@ -1,5 +1,5 @@
 //! The entries of a history, one after the other.
-ghost use Rattle.std.specs.Prelude.{◌≡◌};
+ghost use Rattle.std.specs.Prelude.{◌≡◌, drop};
 ghost use Rattle.std.specs.Iterator.{YieldsFirst, item_count};
 ghost use Rattle.hep_entries.specs.Runs.{entries_of};
 
@@ -38,6 +38,28 @@ impl<'a> Entries<'a> {
             },
             runs,
         }
+    }
+
+    /// Leaves out so many entries, or all where there are fewer. It takes a step for each run of which it leaves out the last entry.
+    pub fn pass(&mut self, count: u64)
+        ensures { self.new ≡ drop count self.old }
+    {
+        let mut left = count;
+        let mut here = self.run.count;
+        while here as u64 <= left {
+            left -= here as u64;
+            match self.runs.next_run() {
+                Some(run) => {
+                    self.run = run;
+                    here = run.count;
+                }
+                None => {
+                    self.run.count = 0;
+                    return;
+                }
+            }
+        }
+        self.run.count = here - left as u32;
     }
 }
 

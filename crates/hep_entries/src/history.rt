@@ -14,8 +14,8 @@ use std::marker::Model;
 ///
 /// They are kept in runs of equal ones. A run takes eight bytes, and sixteen from the first one on
 /// that is of a process above 2,097,151, or of more than 2,047 steps, or ends behind the entry
-/// 4,294,967,295; the last takes none.
-#[derive(Debug, Drop)]
+/// 4,294,967,295; the last takes none. There are 9,223,372,036,854,775,808 entries at most.
+#[derive(Debug)]
 pub struct History {
     shorts: Vec<Short>,
     longs: Vec<Run>,
@@ -23,6 +23,18 @@ pub struct History {
     closed: u64,
     // The last run, which gets more entries.
     last: Run,
+}
+
+// Written out, so that a caller's proof has one call of it at each exit.
+impl Drop for History {
+    fn drop(self) {
+        let History {
+            shorts,
+            longs,
+            closed,
+            last,
+        } = self;
+    }
 }
 
 impl Model for History {
@@ -37,7 +49,11 @@ impl Model for History {
     ghost invariant = { IsCounted };
 }
 
+// The most entries.
+const MOST: u64 = 0x8000_0000_0000_0000;
+
 // Adds an item, for which there is room.
+#[inline(always)]
 fn put<T: Copy>(items: &mut Vec<T>, item: T)
     requires { vec_len items.old < vec_capacity items.old }
     ensures items { items.new.items ≡ items.old.items ++ item ∷ [] }
@@ -48,10 +64,11 @@ fn put<T: Copy>(items: &mut Vec<T>, item: T)
 }
 
 // Adds a run behind the others, of so many entries. It takes no memory.
+#[inline(always)]
 fn close(shorts: &mut Vec<Short>, longs: &mut Vec<Run>, closed: u64, run: Run)
     requires rising { AreRising 0 shorts.old.items }
     requires closed { closed ≡ length (entries_of (runs_in shorts.old.items longs.old.items)) }
-    requires few { closed + run.count < 2 ^ 64 }
+    requires few { closed + run.count ≤ 2 ^ 63 }
     requires some { 0 < run.count }
     requires filled { AreFilled longs.old.items }
     requires room { (vec_len shorts.old < vec_capacity shorts.old) × (vec_len longs.old < vec_capacity longs.old) }
@@ -87,47 +104,65 @@ impl History {
         }
     }
 
-    /// Makes room for an entry, if there is none.
+    /// Makes room for an entry, so many times, if there is none.
     ///
     /// # Errors
     ///
-    /// Only where memory was refused.
-    pub fn reserve(&mut self) -> Result<(), AllocError>
+    /// Only where memory was refused, or where there would be more than 9,223,372,036,854,775,808 entries.
+    pub fn reserve(&mut self, count: u32) -> Result<(), AllocError>
         ensures room { OnOk result (0 < self.new.room) }
+        ensures few { OnOk result (length self.new.items + count ≤ 2 ^ 63) }
         ensures items { self.new.items ≡ self.old.items }
         ensures grows { self.old.room ≤ self.new.room }
-        ensures made { 0 < self.old.room → IsOk result }
+        ensures made { 0 < self.old.room → length self.old.items + count ≤ 2 ^ 63 → IsOk result }
     {
+        if self.len() > MOST - count as u64 {
+            return Err(AllocError);
+        }
         self.longs.reserve(1)?;
         self.shorts.reserve(1)
     }
 
+    // Begins a run behind the last one, of so many entries. It takes no memory.
+    #[inline(always)]
+    fn begin(&mut self, entry: Entry, count: u32)
+        requires room { 0 < self.old.room }
+        requires few { length self.old.items + count ≤ 2 ^ 63 }
+        requires some { 0 < count }
+        ensures items { self.new.items ≡ self.old.items ++ replicate count entry }
+        ensures room { self.old.room ≤ self.new.room + 1 }
+    {
+        if self.last.count > 0 {
+            close(&mut self.shorts, &mut self.longs, self.closed, self.last);
+            self.closed += self.last.count as u64;
+        }
+        self.last = Run {
+            process: entry.process,
+            steps: entry.steps,
+            count,
+        };
+    }
+
     /// Adds an entry so many times. It takes a constant time, and no memory.
+    #[inline(always)]
     pub fn push_many(&mut self, entry: Entry, count: u32)
         requires room { 0 < self.old.room }
-        requires few { length self.old.items + count < 2 ^ 64 }
+        requires few { length self.old.items + count ≤ 2 ^ 63 }
         ensures items { self.new.items ≡ self.old.items ++ replicate count entry }
         ensures room { self.old.room ≤ self.new.room + 1 }
     {
         if self.last.has(entry) && count <= u32::MAX - self.last.count {
             self.last.count += count;
         } else if count > 0 {
-            if self.last.count > 0 {
-                close(&mut self.shorts, &mut self.longs, self.closed, self.last);
-                self.closed += self.last.count as u64;
-            }
-            self.last = Run {
-                process: entry.process,
-                steps: entry.steps,
-                count,
-            };
+            self.begin(entry, count);
         }
     }
 
     /// Adds an entry. It takes a constant time, and no memory.
+    #[inline(always)]
     pub fn push(&mut self, entry: Entry)
         requires room { 0 < self.old.room }
-        requires few { length self.old.items + 1 < 2 ^ 64 }
+        requires few { length self.old.items < 2 ^ 63 }
         ensures items { self.new.items ≡ self.old.items ++ entry ∷ [] }
         ensures room { self.old.room ≤ self.new.room + 1 }
     {
@@ -138,22 +173,21 @@ impl History {
     ///
     /// # Errors
     ///
-    /// Only where memory was refused, or where there would be 18,446,744,073,709,551,616 entries.
+    /// Only where memory was refused, or where there would be more than 9,223,372,036,854,775,808 entries.
     pub fn append(&mut self, entry: Entry, count: u32) -> Result<(), AllocError>
         ensures items { OnOk result (self.new.items ≡ self.old.items ++ replicate count entry) }
         ensures refused { OnErr result (self.new.items ≡ self.old.items) }
     {
-        if self.len() > u64::MAX - count as u64 {
-            return Err(AllocError);
-        }
-        self.reserve()?;
+        self.reserve(count)?;
         self.push_many(entry, count);
         Ok(())
     }
 
     /// How many entries there are.
+    #[inline(always)]
     pub fn len(&self) -> u64
-        ensures { result ≡ length self.now.items }
+        ensures count { result ≡ length self.now.items }
+        ensures few { result ≤ 2 ^ 63 }
     {
         self.closed + self.last.count as u64
     }
@@ -176,6 +210,7 @@ impl History {
     }
 
     /// The last entry. It takes a constant time.
+    #[inline(always)]
     pub fn last(&self) -> Option<Entry>
         ensures { result ≡ slice_get self.now.items (length self.now.items - 1) }
     {

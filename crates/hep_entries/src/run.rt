@@ -24,6 +24,7 @@ impl Run {
     }
 
     // Whether this is the entry.
+    #[inline(always)]
     pub(crate) fn has(self, entry: Entry) -> bool
         ensures { IsTrue result ↔ (entry_of self ≡ entry) }
     {
@@ -62,6 +63,7 @@ impl Short {
 }
 
 // A run that begins after so many entries, in eight bytes, if they are enough.
+#[inline(always)]
 pub(crate) fn shortened(from: u64, run: Run) -> Option<Short>
     requires few { from + run.count < 2 ^ 64 }
     ensures same { IfSome result (λ short. run_of_short from short ≡ run) }

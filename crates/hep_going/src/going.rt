@@ -6,13 +6,12 @@ ghost use Rattle.hep_going.specs.Gone.{CanTakeTurns, HasNoMoveAhead, MakesMoves}
 use crate::top::go_top;
 use hep_quick::Tabled;
 use hep_state::{Machine, laws};
-use std::alloc::Global;
 
 /// So many turns of process p at most, which lives, and how many they were: each is a step of a plain operation, which fills and empties no
 /// cell, makes no process and no activation, and ends none. No memory is taken.
 ///
 /// It makes fewer only where no plain operation stands ahead of p any more, or one that is a fault.
-pub fn go_on(machine: &mut Machine, alloc: Global, tabled: &Tabled<'_>, p: u64, most: u64) -> u64
+pub fn go_on(machine: &mut Machine, tabled: &Tabled<'_>, p: u64, most: u64) -> u64
     requires { CanTakeTurns tabled.now p machine.old }
     ensures gone { MakesMoves tabled.now.image.now p machine.old result machine.new }
     ensures few { result ≤ most }
@@ -23,5 +22,5 @@ pub fn go_on(machine: &mut Machine, alloc: Global, tabled: &Tabled<'_>, p: u64, 
     tabled.image.is_runnable();
     laws::tops_are_running();
     let process = &mut machine.processes[(p - 1) as usize];
-    go_top(process, &mut machine.frames, alloc, tabled, most)
+    go_top(process, &mut machine.frames, tabled, most)
 }

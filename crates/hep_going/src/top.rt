@@ -6,15 +6,11 @@ use hep_moves::Activation;
 use hep_proc::{Frames, Process};
 use hep_quick::{Quick, Tabled, move_by_table};
 use hep_state::place;
-use hep_step::Standing;
-use std::alloc::Global;
-use std::mem::replace;
 
 /// So many steps at most of the top activation of a process, each of which only moves it, and how many they were.
 pub(crate) fn go_top(
     process: &mut Process,
     frames: &mut Frames,
-    alloc: Global,
     tabled: &Tabled<'_>,
     most: u64,
 ) -> u64
@@ -25,7 +21,7 @@ pub(crate) fn go_top(
     ensures holes { frames.new.arena.holes ≡ frames.old.arena.holes }
     ensures capacity { vec_capacity process.old.operands ≤ vec_capacity process.new.operands }
 {
-    let (unit, frame, index) = place(process, frames, tabled.image);
+    let (unit, frame, mut index) = place(process, frames, tabled.image);
     let activation = Activation {
         code: unit.code.as_slice(),
         arrays: unit.arrays.as_slice(),
@@ -34,11 +30,8 @@ pub(crate) fn go_top(
     let level = process.top();
     let table = tabled.table(level.unit as usize);
     let quick = Quick { activation, table };
-    let operands = replace(&mut process.operands, Vec::new(alloc));
-    let mut standing = Standing { operands, index };
-    let made = move_by_table(alloc, &quick, &mut frames.arena, &mut standing, most);
-    let Standing { operands, index } = standing;
-    process.operands = operands;
+    let operands = &mut process.operands;
+    let made = move_by_table(&quick, &mut frames.arena, operands, &mut index, most);
     process.stand_at(index);
     made
 }

@@ -8,6 +8,7 @@ use hep_core::{
     ChooseFault, CommitFault, Core, Entry, NewFault, Segment, Ticket, Verdict, compute,
 };
 use hep_dump::dump_text;
+use hep_entries::History;
 use hep_history::{HistFault, ReplayFault, read_text, replay, write_text};
 use hep_image::Image;
 use hep_lower::{LowerFault, lower};
@@ -222,8 +223,12 @@ fn new_at(alloc: Global, number: usize) -> Result<bool, Fail> {
 }
 
 fn write_text_at(alloc: Global, number: usize) -> Result<bool, Fail> {
+    let mut history = History::new(alloc);
+    for entry in ENTRIES {
+        history.append(entry, 1)?;
+    }
     command(alloc, number);
-    let answer = write_text(alloc, &ENTRIES);
+    let answer = write_text(alloc, &history);
     let refused = command(alloc, 0);
     match answer {
         Err(AllocError) => wanted(refused)?,
@@ -292,7 +297,7 @@ fn dump_text_at(alloc: Global, number: usize) -> Result<bool, Fail> {
 // ---- whole runs of a core: each call once with the growth of one number refused, and where it wants memory once more
 
 // What is seen of a core.
-fn seen(core: &Core) -> ((usize, u32, usize, usize), (Verdict, Option<u64>)) {
+fn seen(core: &Core) -> ((u64, u32, usize, usize), (Verdict, Option<u64>)) {
     let sizes = (
         core.history().len(),
         core.used(),
@@ -444,20 +449,20 @@ fn run_workers_at<R: Threads + Wait + Sync>(
     let refused = command(alloc, 0);
     match answer {
         Err(fault) => wanted(refused && matches!(fault.number(), None | Some(704)))?,
-        Ok(report) => is_over(alloc, &report.core)?,
+        Ok(report) => is_over(alloc, report.core())?,
     }
     Ok(refused)
 }
 
 fn close_at<R: Threads + Wait + Sync>(rt: &R, alloc: Global, number: usize) -> Result<bool, Fail> {
     let image = sums_image(alloc)?;
-    let Report { core, logs } = worked(rt, alloc)?;
+    let (core, logs) = worked(rt, alloc)?.into_parts();
     command(alloc, number);
     let answer = close(alloc, core, &image, &options(), logs);
     let refused = command(alloc, 0);
     match answer {
         Err(CloseFault::NoMemory) => wanted(refused)?,
-        report => is_over(alloc, &report?.core)?,
+        report => is_over(alloc, report?.core())?,
     }
     Ok(refused)
 }

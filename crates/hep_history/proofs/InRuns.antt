@@ -1,50 +1,53 @@
--- Runs of entries, and the places of their entries.
-use Rattle.std.proofs.Common.{◌≡◌, ℕ, ◌+◌, ◌<◌, ◌≤◌, List, [], ◌∷◌, Some, length, length-append, replicate, take, get_or, ap, ◌∙◌, subst, arith, slice_get, take_all}
+-- Runs of entries that are left, and the places of their entries; and the lines of a run.
+use Rattle.std.proofs.Common.{◌≡◌, ℕ, ◌+◌, ◌-◌, ◌<◌, ◌≤◌, List, [], ◌∷◌, ◌++◌, Some, length, length-append, replicate, drop, sym, ap, ◌∙◌, arith, slice_get, append_assoc}
 use Rattle.std.proofs.lemmas.Grind.{flat_map-append}
-use Rattle.std.proofs.lemmas.List.{get_or-replicate, length-replicate, take_more}
-use Rattle.std.proofs.lemmas.List.Concat.{get_or-flat_map}
-use Rattle.std.proofs.lemmas.List.Folds.{length-flat_map-take}
-use Rattle.std.proofs.lemmas.Option.{slice_get-get_or}
+use Rattle.std.proofs.lemmas.List.{append-nil, drop-drop, length-drop, length-replicate, replicate-append-replicate}
 use Rattle.hep_machine.specs.declared.event.Entry.{Entry}
-use Rattle.hep_history.specs.declared.alike.Run.{Run}
-use Rattle.hep_history.specs.Alike.{entries_of, entry_of}
+use Rattle.hep_entries.specs.declared.run.Run.{Run}
+use Rattle.hep_entries.specs.Runs.{entries_of, entry_of}
+use Rattle.hep_entries.proofs.InRuns.{drop_past, run_has, slice_get-behind}
+use Rattle.hep_history.specs.Histories.{entry_text, history_text}
 
-abbrev pub no_run : Run
-no_run = record { process = 0; steps = 0; count = 0 }
+-- the first of the runs that are left, behind so many entries
+module _ (entries : List Entry) (at : ℕ) (run : Run) (rest : List Run) (place : drop at entries ≡ entries_of (run ∷ rest)) where
+  -- where its entries stand
+  pub run_here : (k : ℕ) → k < run.count → slice_get entries (at + k) ≡ Some (entry_of run)
+  run_here k lt = slice_get-behind at k entries ∙ ap (λ es. slice_get es k) place ∙ run_has run.count k (entry_of run) (entries_of rest) lt
 
--- the entries of a run are among all
-pub runs_within : (runs : List Run) (i : ℕ) → i < length runs → length (entries_of (take i runs)) + (get_or runs i no_run).count ≤ length (entries_of runs)
-runs_within runs i lt =
-    let run : Run = get_or runs i no_run in
-    omega (arith, length-flat_map-take (λ (r : Run). replicate r.count (entry_of r)) runs i no_run lt, length-replicate run.count (entry_of run))
+  -- they are among all
+  pub run_within : at ≤ length entries → at + run.count ≤ length entries
+  run_within le =
+      let left = length-drop at entries in
+      let some = ap length place in
+      let parts = length-append (replicate run.count (entry_of run)) (entries_of rest) in
+      let count = length-replicate run.count (entry_of run) in
+      omega arith
 
--- where they stand
-pub run_here : (runs : List Run) (entries : List Entry) (i at k : ℕ) → entries_of runs ≡ entries → at ≡ length (entries_of (take i runs)) → i < length runs → k < (get_or runs i no_run).count
-    → slice_get entries (at + k) ≡ Some (entry_of (get_or runs i no_run))
-run_here runs entries i at k same place lt less =
-    let run : Run = get_or runs i no_run in
-    let count = length-replicate run.count (entry_of run) in
-    let before = length (entries_of (take i runs)) in
-    let found : slice_get (entries_of runs) (before + k) ≡ Some (entry_of run) =
-    slice_get-get_or (entries_of runs) (before + k) (entry_of run) (omega (arith, runs_within runs i lt, less))
-    ∙ ap (λ e. Some e) (
-    get_or-flat_map (λ (r : Run). replicate r.count (entry_of r)) runs i k no_run (entry_of run) lt (omega (arith, count, less))
-    ∙ get_or-replicate run.count k (entry_of run) (entry_of run) less) in
-    ap (λ n. slice_get entries (n + k)) place ∙ subst (λ es. slice_get es (before + k) ≡ Some (entry_of run)) same found
+  -- what is left behind it
+  pub run_after : drop (at + run.count) entries ≡ entries_of rest
+  run_after =
+      let none : run.count - run.count ≡ 0 = omega arith in
+      sym (drop-drop run.count at entries)
+      ∙ ap (λ es. drop run.count es) place
+      ∙ drop_past run.count run.count (entry_of run) (entries_of rest) (omega arith)
+      ∙ ap (λ k. drop k (entries_of rest)) none
 
--- what stands before the next run
-pub run_after : (runs : List Run) (i : ℕ) → i < length runs → length (entries_of (take (i + 1) runs)) ≡ length (entries_of (take i runs)) + (get_or runs i no_run).count
-run_after runs i lt =
-    let run : Run = get_or runs i no_run in
-    ap (λ rs. length (entries_of rs)) (take_more runs i no_run lt)
-    ∙ ap (λ es. length es) (flat_map-append (λ (r : Run). replicate r.count (entry_of r)) (take i runs) (run ∷ []))
-    ∙ length-append (entries_of (take i runs)) (entries_of (run ∷ []))
-    ∙ ap (λ n. length (entries_of (take i runs)) + n) (last run)
-  where
-    last : (r : Run) → length (entries_of (r ∷ [])) ≡ r.count
-    last r = omega (arith, length-append (replicate r.count (entry_of r)) [], length-replicate r.count (entry_of r))
+-- where no run is left
+pub runs_past : (entries : List Entry) (at : ℕ) (runs : List Run) → drop at entries ≡ entries_of runs → at ≤ length entries → runs ≡ [] → at ≡ length entries
+runs_past entries at runs place le none =
+    let left = length-drop at entries in
+    let nothing : length (drop at entries) ≡ 0 = ap length (place ∙ ap (λ rs. entries_of rs) none) in
+    omega arith
 
--- behind the last run
-pub runs_past : (runs : List Run) (entries : List Entry) (i at : ℕ) → entries_of runs ≡ entries → at ≡ length (entries_of (take i runs)) → length runs ≤ i → at ≡ length entries
-runs_past runs entries i at same place past =
-    place ∙ ap (λ rs. length (entries_of rs)) (take_all i runs past) ∙ ap (λ es. length es) same
+-- one line more
+pub line_more : (n : ℕ) (e : Entry) → history_text (replicate n e) ++ entry_text e ≡ history_text (replicate (n + 1) e)
+line_more n e =
+    ap (λ text. history_text (replicate n e) ++ text) (sym (append-nil (entry_text e)))
+    ∙ sym (flat_map-append entry_text (replicate n e) (e ∷ []))
+    ∙ ap history_text (replicate-append-replicate n 1 e)
+
+-- the lines of a run more, before those of the others
+pub lines_more : (text : List ℕ) (run : Run) (rest : List Run) → (text ++ history_text (replicate run.count (entry_of run))) ++ history_text (entries_of rest) ≡ text ++ history_text (entries_of (run ∷ rest))
+lines_more text run rest =
+    append_assoc text (history_text (replicate run.count (entry_of run))) (history_text (entries_of rest))
+    ∙ ap (λ lines. text ++ lines) (sym (flat_map-append entry_text (replicate run.count (entry_of run)) (entries_of rest)))

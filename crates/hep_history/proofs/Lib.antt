@@ -2,4 +2,5 @@ pub mod Readings
 pub mod Digits
 pub mod InRuns
 pub mod Turns
+mod Choosing
 mod Worked

@@ -1,6 +1,6 @@
 pub mod Lines
 pub mod Choices
 pub mod Histories
-pub mod Alike
+pub mod Given
 pub mod Replays
 pub mod Progress

@@ -5,20 +5,21 @@
 //! a new core.
 #![tactic(auto)]
 
-pub mod alike;
 pub mod choices;
 pub mod fault;
+pub mod given;
 pub mod history;
 pub mod laws;
 mod lines;
 mod number;
 pub mod replays;
 
-pub use alike::{Run, Runs};
 pub use choices::{Choices, read_choices};
 pub use fault::ReplayFault;
+pub use given::{choices_of_history, read_given};
 /// Why a text is refused: 601 for a history, 602 for choices, with the first bad line, and line 0
 /// where the text is too long. Neither is about a name.
 pub use hep_base::Refusal as HistFault;
-pub use history::{History, read_text, write_text};
+pub use hep_entries::History;
+pub use history::{read_text, write_text};
 pub use replays::replay;

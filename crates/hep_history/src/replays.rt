@@ -4,9 +4,9 @@ ghost use Rattle.hep_machine.specs.Words.{opening_layout, schedule_of};
 ghost use Rattle.hep_history.specs.Replays.{most_entries, replayed, ArePossible, IsUnmade};
 ghost use Rattle.hep_history.specs.Progress.{EntryMade, IsStanding, RunMade, SomeMade, SomeStepsMade, StepsMade, TurnMade};
 
-use crate::alike::Runs;
 use crate::fault::ReplayFault;
 use hep_core::{ChooseFault, Core};
+use hep_entries::History;
 use hep_image::Image;
 use hep_machine::Entry;
 use std::alloc::Global;
@@ -127,19 +127,24 @@ fn make_run(core: &mut Core, entry: Entry, count: u32) -> Result<u32, ReplayFaul
 ///
 /// `ArenaFull` where the main program's frame has no gap in the arena; `Refused` with 603 and the
 /// first entry that isn't possible, also where a frame that it makes has no gap; `NoMemory`.
-pub fn replay(alloc: Global, image: Image, cells: u32, entries: &Runs) -> Result<Core, ReplayFault>
+pub fn replay(
+    alloc: Global,
+    image: Image,
+    cells: u32,
+    entries: &History,
+) -> Result<Core, ReplayFault>
     requires some { 1 ≤ cells }
     requires few { cells ≤ 16777216 }
-    ensures made { IfOk result (λ core. core ≡ replayed image cells entries.now) }
-    ensures expanded { IfOk result (λ core. schedule_of core.history ≡ schedule_of entries.now) }
+    ensures made { IfOk result (λ core. core ≡ replayed image cells entries.now.items) }
+    ensures expanded { IfOk result (λ core. schedule_of core.history ≡ schedule_of entries.now.items) }
     ensures fits { OnOk result (IsSome (opening_layout image cells)) }
-    ensures possible { OnOk result (ArePossible image cells entries.now (length entries.now)) }
-    ensures unmade { IfErr result (IsUnmade image cells entries.now) }
+    ensures possible { OnOk result (ArePossible image cells entries.now.items (length entries.now.items)) }
+    ensures unmade { IfErr result (IsUnmade image cells entries.now.items) }
 {
     let mut core = Core::new(alloc, image, cells, MOST_ENTRIES)?;
-    let runs = entries.as_slice();
+    let mut runs = entries.runs();
     let mut at = 0;
-    for run in runs {
+    while let Some(run) = runs.next() {
         let made = make_run(&mut core, run.entry(), run.count)?;
         if made < run.count {
             return Err(ReplayFault::Refused {

@@ -5,4 +5,5 @@ pub mod BlocksBegun
 pub mod Numbers
 pub mod FewInstructions
 pub mod FewOperands
+pub mod Counted
 mod Worked

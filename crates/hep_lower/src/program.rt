@@ -4,10 +4,12 @@ ghost use Rattle.hep_machine.specs.Words.{main_among, unit_at, common_cells, fra
 ghost use Rattle.hep_common.specs.Starts.{AreBlocks, AreStarts};
 ghost use Rattle.hep_code.specs.Words.{most_instructions};
 ghost use Rattle.hep_image.specs.Image.{most_cells};
+ghost use Rattle.hep_lower.specs.Counts.{IsByCount};
 ghost use Rattle.hep_lower.specs.Refusals.{AreCellsBeyond, IsLowered, Refuses};
 ghost use Rattle.hep_lower.specs.Units.{AreRows, AreTables, AreUnits};
 
 use crate::blocks::starts_of;
+use crate::laws::limits_are_wide;
 use crate::mains::main_index;
 use crate::spellings::names_in_order;
 use crate::units::{LoweredProgram, lower_units};
@@ -149,7 +151,10 @@ pub fn lower(alloc: Global, checked: Checked) -> Result<Image, LowerFault>
     ensures lowered { OnOk result (IsLowered checked) }
     // Else the number and the line say why there is none.
     ensures refused { IfErr result (Refuses checked) }
+    // A program that is refused by 401 or 402 is large by what stands in it.
+    ensures counted { IfErr result (IsByCount checked) }
 {
+    limits_are_wide();
     let Some(main) = main_index(checked.program().as_slice()) else {
         return Err(LowerFault::refused(alloc, 204, 0));
     };

@@ -8,3 +8,4 @@ mod moving;
 mod plain;
 
 pub use moving::{Activation, move_on};
+pub use plain::is_plain_operation;

@@ -15,7 +15,8 @@ fn is_plain_evaluation(evaluation: Evaluation) -> bool
     }
 }
 
-fn is_plain_operation(operation: Operation) -> bool
+/// An operation is plain: it reads no variable with `$` and assigns to none, tests no cell, prints nothing, and begins and ends no activation.
+pub fn is_plain_operation(operation: Operation) -> bool
     ensures { result ≡ plain.is_plain_operation operation }
 {
     match operation {

@@ -7,14 +7,14 @@ use Rattle.hep_notes.specs.Places.{line_at, place_in, place_of_line}
 use Rattle.hep_notes.specs.Reasons.{reason}
 use Rattle.hep_notes.specs.Shown.{caret_text, line_text_of, words_text}
 
--- the name that the rule is about, if it is about one
-abbrev pub name_text : List ℕ → List ℕ
-name_text [] = []
-name_text (c ∷ cs) = (c ∷ cs) ++ codes ": "
+-- what the rule is about, if it is anything by itself
+abbrev pub about_text : List ℕ → List ℕ
+about_text [] = []
+about_text (c ∷ cs) = (c ∷ cs) ++ codes ": "
 
 -- the rule in a few words
 abbrev pub words_of : ℕ → List ℕ → List ℕ
-words_of number name = name_text name ++ reason number
+words_of number about = about_text about ++ reason number
 
 -- these words, under the place in the source that they are about, if there is one
 abbrev pub notes_at : List ℕ → List ℕ → Option Span → List ℕ
@@ -27,8 +27,8 @@ line_notes source number line name = notes_at source (words_of number name) (pla
 
 -- by what begins with this character of the statement that begins on the line
 abbrev pub statement_notes : List ℕ → List Stmt → ℕ → ℕ → List ℕ → ℕ → List ℕ
-statement_notes source statements number line name index =
-    notes_at source (words_of number name) (place_in statements line index)
+statement_notes source statements number line about index =
+    notes_at source (words_of number about) (place_in statements line index)
 
 -- ---- of a violation behind the first one
 
@@ -42,5 +42,6 @@ abbrev pub also_line : ℕ → ℕ → List ℕ → List ℕ
 also_line number line name = codes "ALSO " ++ decimal number ++ codes " LINE " ++ decimal line ++ name_behind name ++ codes "\n"
 
 -- this line, and then what is said of any violation
-abbrev pub also_notes : List ℕ → List Stmt → ℕ → ℕ → List ℕ → ℕ → List ℕ
-also_notes source statements number line name index = also_line number line name ++ statement_notes source statements number line name index
+abbrev pub also_notes : List ℕ → List Stmt → ℕ → ℕ → List ℕ → List ℕ → ℕ → List ℕ
+also_notes source statements number line name about index =
+    also_line number line name ++ statement_notes source statements number line about index

@@ -9,37 +9,39 @@ use hep_base::Text;
 use hep_text::{Span, Stmt};
 use std::alloc::{AllocError, Global};
 
-/// What a refusal is about: the rule, the initial line of the statement, and what in it, if it is known.
+/// What a refusal is about: the rule, the initial line of the statement, its name, and what in it, if it is known.
 #[derive(Clone, Copy)]
 pub struct Subject<'a> {
     /// The number of the rule.
     pub number: u16,
     /// The line, counted from 1; 0 where the whole source is refused.
     pub line: u32,
-    /// The name that the rule is about, empty where it is about none.
+    /// The name that stands in the line of the refusal, empty where none does.
     pub name: &'a [u8],
-    /// How many characters of the statement stand before what the rule is about.
+    /// What the rule is about, as it is written, empty where it is nothing by itself.
+    pub about: &'a [u8],
+    /// How many characters of the statement stand before it.
     pub position: usize,
 }
 
-// Appends a name, if there is one.
-fn append_name(text: &mut Vec<u8>, name: &[u8]) -> Result<(), AllocError>
-    ensures { OnOk result (text.new.items ≡ text.old.items ++ refusals.name_text name.now) }
+// Appends what the rule is about, if it is anything by itself.
+fn append_about(text: &mut Vec<u8>, about: &[u8]) -> Result<(), AllocError>
+    ensures { OnOk result (text.new.items ≡ text.old.items ++ refusals.about_text about.now) }
 {
-    if name.is_empty() {
+    if about.is_empty() {
         return Ok(());
     }
-    text.extend_from_slice(name)?;
+    text.extend_from_slice(about)?;
     text.extend_from_slice(b": ")?;
     Ok(())
 }
 
 // The rule in a few words.
-fn words_of(alloc: Global, number: u16, name: &[u8]) -> Result<Vec<u8>, AllocError>
-    ensures { IfOk result (λ words. words.items ≡ refusals.words_of number name.now) }
+fn words_of(alloc: Global, number: u16, about: &[u8]) -> Result<Vec<u8>, AllocError>
+    ensures { IfOk result (λ words. words.items ≡ refusals.words_of number about.now) }
 {
     let mut words = Vec::new(alloc);
-    append_name(&mut words, name)?;
+    append_about(&mut words, about)?;
     words.extend_from_slice(reason(number))?;
     Ok(words)
 }
@@ -102,10 +104,10 @@ pub fn statement_notes(
     subject: &Subject<'_>,
 ) -> Result<Text, AllocError>
     ensures { IfOk result (λ notes. notes
-        ≡ refusals.statement_notes source.now statements.now subject.now.number subject.now.line subject.now.name.now
+        ≡ refusals.statement_notes source.now statements.now subject.now.number subject.now.line subject.now.about.now
         subject.now.position) }
 {
-    let words = words_of(alloc, subject.number, subject.name)?;
+    let words = words_of(alloc, subject.number, subject.about)?;
     let place = place_in(statements, subject.line, subject.position);
     notes_at(alloc, source, &words, place)
 }
@@ -150,7 +152,7 @@ pub fn append_also(
 ) -> Result<(), AllocError>
     ensures { OnOk result (text.new.items
         ≡ text.old.items ++ refusals.also_notes source.now statements.now subject.now.number subject.now.line subject.now.name.now
-        subject.now.position) }
+        subject.now.about.now subject.now.position) }
 {
     append_also_line(text, subject)?;
     let notes = statement_notes(alloc, source, statements, subject)?;

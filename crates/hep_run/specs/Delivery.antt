@@ -14,7 +14,7 @@ use Rattle.hep_run.specs.Outcome.{Outcome}
 -- the run has this outcome, and both outputs took all of it
 pub record IsDelivered (o : Outcome) (run : Run) (output output' messages messages' : Option (List ℕ)) : Type 0 where
   pub status : run.status ≡ status_code o.status
-  pub history : run.history ≡ o.history
+  pub history : run.history.items ≡ o.history
   pub output_taken : Appends output output' o.output
   pub messages_taken : Appends messages messages' o.messages
 
@@ -39,7 +39,7 @@ MessagesFailed o output output' messages messages' =
 -- a write failed
 pub record IsBroken (o : Outcome) (run : Run) (output output' messages messages' : Option (List ℕ)) : Type 0 where
   pub status : run.status ≡ status_code DeviceFailed
-  pub history : run.history ≡ o.history
+  pub history : run.history.items ≡ o.history
   pub taken : OutputFailed o output output' messages messages' ⊎ MessagesFailed o output output' messages messages'
 
 -- an outcome was delivered, or a write failed
@@ -56,7 +56,7 @@ SaysLines lines status code messages messages' =
 -- a run with this history says these lines, with this status, or fails at them
 abbrev pub WritesMessages : List ℕ → Status → List Entry → Run → Option (List ℕ) → Option (List ℕ) → Type 0
 WritesMessages lines status history run messages messages' =
-    (run.history ≡ history) × SaysLines lines status run.status messages messages'
+    (run.history.items ≡ history) × SaysLines lines status run.status messages messages'
 
 -- an outcome of these bytes, where they are known
 abbrev pub IsOutcomeOf : (List ℕ → Outcome → Type 0) → Option (List ℕ) → Outcome → Type 0
@@ -93,9 +93,9 @@ CannotRead code messages messages' = (fault : ReadFault) × SaysUnread fault cod
 -- All that may be left of a reader's bytes that have these outcomes: they couldn't be read, and no record is written; or they were.
 abbrev pub LeavesOfSource : (List ℕ → Outcome → Type 0) → Option (List ℕ) → Option (List ℕ) → Run → Option (List ℕ) → Option (List ℕ) → Option (List ℕ) → Option (List ℕ) → Type 0
 LeavesOfSource Is source source' run output output' messages messages' =
-    (Keeps output output' × (run.history ≡ []) × CannotRead run.status messages messages')
+    (Keeps output output' × (run.history.items ≡ []) × CannotRead run.status messages messages')
     ⊎ (HasRead source source' × LeavesOneOf (IsOutcomeOf Is source) run output output' messages messages')
 
 -- a run without a history, of this exit status
 abbrev pub status_alone : ℕ → Run
-status_alone code = record { status = code; history = [] }
+status_alone code = record { status = code; history = record { items = []; room = 0 } }

@@ -42,7 +42,7 @@ IsKept code = (code ≡ 0) ⊎ ((3 ≤ code) × (code ≤ 6))
 
 -- the text of a run's history; or nothing is to be written, or memory was refused for it
 abbrev pub KeepsHistory : Run → Result (List ℕ) ℕ → Option (List ℕ) → Option (List ℕ) → Type 0
-KeepsHistory run (Ok text) messages messages' = IsKept run.status × (text ≡ history_text run.history) × Keeps messages messages'
+KeepsHistory run (Ok text) messages messages' = IsKept run.status × (text ≡ history_text run.history.items) × Keeps messages messages'
 KeepsHistory run (Err code) messages messages' =
     ((IsKept run.status → ⊥) × (code ≡ run.status) × Keeps messages messages')
     ⊎ (IsKept run.status × SaysLines (codes "NO MEMORY\n") NoMemory code messages messages')

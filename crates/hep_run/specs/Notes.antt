@@ -1,5 +1,5 @@
 -- What stands behind the line of a refusal where more is asked for: docs/MACHINE.md, "Notes".
-use Rattle.std.specs.Prelude.{◌≡◌, ◌⊎◌, ℕ, Bool, true, false, List, [], ◌++◌, Ok, Option, Some, None}
+use Rattle.std.specs.Prelude.{◌≡◌, ◌⊎◌, ℕ, Bool, true, false, List, [], ◌++◌, Ok, map, Option, Some, None}
 use Rattle.std.specs.List.{flat_map}
 use Rattle.std.specs.Option.{option_map_or}
 use Rattle.hep_text.specs.declared.statement.Stmt.{Stmt}
@@ -9,10 +9,15 @@ use Rattle.hep_machine.specs.declared.event.Entry.{Entry}
 use Rattle.hep_machine.specs.Words.{is_held, spelling, state_after, Units, used_cells}
 use Rattle.hep_conditions.specs.declared.violation.Violation.{Violation}
 use Rattle.hep_conditions.specs.Words.{first_violation}
-use Rattle.hep_check.specs.Further.{further}
+use Rattle.hep_check.specs.declared.further.Told.{Told}
+use Rattle.hep_check.specs.Further.{as_told, further}
+use Rattle.hep_culprits.specs.declared.culprit.Culprit.{Culprit}
+use Rattle.hep_culprits.specs.Culprits.{culprit_of}
+use Rattle.hep_culprits.specs.Texts.{position_of, text_of}
 use Rattle.hep_core.specs.declared.stop.ChoiceStop.{ChoiceStop}
 use Rattle.hep_core.specs.declared.stop.ChoiceStop.TheVariants.{ArenaFull, Halted, StepLimit}
 use Rattle.hep_dump.specs.Stops.{all_places_notes, opening_notes, used_notes}
+use Rattle.hep_dump.specs.Wants.{all_wants_notes}
 use Rattle.hep_notes.specs.Refusals.{also_notes, line_notes, statement_notes}
 use Rattle.hep_run.specs.Sources.{IsRefusedFor, IsUnrunnableProgram}
 
@@ -25,20 +30,21 @@ line_notes_when false source number line name = []
 line_notes_when true source number line name = line_notes source number line name
 
 -- what is said of a violation behind the first one
-abbrev pub also_of : List ℕ → List Stmt → Violation → List ℕ
-also_of source statements v = also_notes source statements v.number v.line (option_map_or spelling v.name []) v.position
+abbrev pub also_of : List ℕ → List Stmt → Told → List ℕ
+also_of source statements t =
+    also_notes source statements t.violation.number t.violation.line (option_map_or spelling t.violation.name []) (text_of t.culprit) (position_of t.culprit)
 
--- notes at a character of a statement, and then what is said of further violations
-abbrev pub violation_notes : List ℕ → List Stmt → ℕ → List Violation → ℕ → ℕ → List ℕ → List ℕ
-violation_notes source statements position others number line name =
-    statement_notes source statements number line name position ++ flat_map (also_of source statements) others
+-- notes at what in a statement violates a condition, and then what is said of further violations
+abbrev pub violation_notes : List ℕ → List Stmt → Option Culprit → List Told → ℕ → ℕ → List ℕ → List ℕ
+violation_notes source statements culprit others number line name =
+    statement_notes source statements number line (text_of culprit) (position_of culprit) ++ flat_map (also_of source statements) others
 
 -- notes at the place of the first violation of the program, and of those behind it
 abbrev pub AreViolationNotes : List ℕ → ℕ → ℕ → List ℕ → List ℕ → Type 0
 AreViolationNotes source number line name notes =
     (statements : List Stmt) × (program : Units) × (v : Violation)
     × (statements_of source ≡ Ok statements) × IsProgram statements program × (first_violation program ≡ Some v)
-    × (notes ≡ violation_notes source statements v.position (further program v) number line name)
+    × (notes ≡ violation_notes source statements (culprit_of program v) (map (as_told program) (further program v)) number line name)
 
 -- the notes of a refusal of a source: of its text, its statements or a limit, or of its violations
 abbrev pub AreNotes : Bool → List ℕ → ℕ → ℕ → List ℕ → List ℕ → Type 0
@@ -54,10 +60,11 @@ abbrev pub opening_notes_when : Bool → Units → ℕ → List ℕ
 opening_notes_when false program cells = []
 opening_notes_when true program cells = opening_notes program cells
 
--- after a history in an arena of so many cells: how many are taken, where a frame has no gap; where each process is, where the history
--- is full
+-- after a history in an arena of so many cells: where a frame has no gap, how many are taken, and what the frames take that processes are
+-- to make; where each process is, where the history is full
 abbrev pub notes_of_stop : Units → ℕ → List Entry → Option ChoiceStop → List ℕ
-notes_of_stop program cells history (Some ArenaFull) = used_notes (used_cells program is_held (state_after program history)) cells
+notes_of_stop program cells history (Some ArenaFull) =
+    used_notes (used_cells program is_held (state_after program history)) cells ++ all_wants_notes program cells history
 notes_of_stop program cells history (Some StepLimit) = all_places_notes program history
 notes_of_stop program cells history (Some Halted) = []
 notes_of_stop program cells history None = []

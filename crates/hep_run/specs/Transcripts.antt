@@ -8,7 +8,7 @@ use Rattle.hep_run.specs.declared.refusal.SourceFault.{SourceFault}
 use Rattle.hep_run.specs.declared.refusal.SourceFault.TheVariants as source
 
 abbrev pub outcome_of : Transcript → Outcome
-outcome_of r = record { output = r.output.items; messages = r.messages.items; status = r.status; history = r.history }
+outcome_of r = record { output = r.output.items; messages = r.messages.items; status = r.status; history = r.history.items }
 
 -- the outcome of a source that isn't run for this reason; want of memory has none
 abbrev pub IsOutcomeOfFault : SourceFault → Outcome → Type 0

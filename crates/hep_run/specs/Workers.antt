@@ -1,19 +1,21 @@
 -- What a run by workers comes to, from the bytes of a source to the bytes that it writes: docs/MACHINE.md, "Workers".
-use Rattle.std.specs.Prelude.{◌≡◌, ◌≢◌, ◌⊎◌, ℕ, true, Bool, nat_eq, List, [], ◌∷◌, Option, None}
+use Rattle.std.specs.Prelude.{◌≡◌, ◌≢◌, ◌⊎◌, ℕ, true, Bool, nat_eq, List, [], ◌∷◌, Option, None, IsSome}
 use Rattle.std.specs.List.{list_any}
 use Rattle.hep_machine.specs.declared.event.Entry.{Entry}
 use Rattle.hep_machine.specs.Words.{IsLegal, opening_layout, Units}
 use Rattle.hep_core.specs.declared.stop.ChoiceStop.{ChoiceStop}
 use Rattle.hep_core.specs.declared.stop.Verdict.TheVariants.{Running}
-use Rattle.hep_core.specs.Value.{IsStop}
+use Rattle.hep_core.specs.Value.{AreSingle, IsStop}
 use Rattle.hep_workers.specs.declared.options.WorkOptions.{WorkOptions}
 use Rattle.hep_run.specs.declared.status.Status.TheVariants as statuses
 use Rattle.hep_run.specs.Outcome.{Outcome, RunsTo, outcome_of_end, outcome_of_full_arena, verdict_after}
 use Rattle.hep_run.specs.Texts.{workers_text}
 
--- the workers' history is a legal one of the program by these options, with the stop that it says, after which the run is over
+-- the workers' history is a legal one of the program by these options, each entry of which has one step or none, with the stop that it says,
+-- after which the run is over
 pub record IsWorked (program : Units) (options : WorkOptions) (history : List Entry) (stop : Option ChoiceStop) : Type 0 where
   pub legal : IsLegal program options.arena options.steps history
+  pub single : AreSingle history
   pub stopped : IsStop program options.arena options.steps history stop
   pub over : verdict_after program history stop ≢ Running
 
@@ -28,7 +30,8 @@ outcome_of_refused_workers number = record { output = []; messages = workers_tex
 abbrev pub IsImageWorked : Bool → Units → WorkOptions → Outcome → Type 0
 IsImageWorked long program options o =
     ((opening_layout program options.arena ≡ None) × (o ≡ outcome_of_full_arena long program options.arena))
-    ⊎ ((number : ℕ) × (is_refusal_of_workers number ≡ true) × (o ≡ outcome_of_refused_workers number))
+    ⊎ (IsSome (opening_layout program options.arena)
+    × (number : ℕ) × (is_refusal_of_workers number ≡ true) × (o ≡ outcome_of_refused_workers number))
     ⊎ ((history : List Entry) × (stop : Option ChoiceStop) × IsWorked program options history stop
     × (o ≡ outcome_of_end long program options.arena history stop))
 

@@ -10,7 +10,7 @@ use crate::options::Run;
 use crate::source::NO_MEMORY;
 use crate::status::Status;
 use crate::transcript::Transcript;
-use hep_history::History;
+use hep_entries::History;
 use hep_output::{PutFault, put_all};
 use itoa::Buffer;
 use std::alloc::{AllocError, Global};
@@ -57,7 +57,7 @@ pub fn write_messages<E: Write>(
     status: Status,
     history: History,
 ) -> Run
-    ensures { WritesMessages lines.now status history result
+    ensures { WritesMessages lines.now status history.items result
         (E.contents messages.old) (E.contents messages.new) }
 {
     Run {
@@ -114,7 +114,7 @@ pub(crate) fn deliver_made<W: Write, E: Write>(
     ensures { LeavesMade made result (W.contents output.old) (W.contents output.new)
         (E.contents messages.old) (E.contents messages.new) }
 {
-    let none = History::from(Vec::new(alloc));
+    let none = History::new(alloc);
     match made {
         Ok(transcript) => deliver(transcript, output, messages),
         Err(_) => write_messages(messages, NO_MEMORY, Status::NoMemory, none),

@@ -99,7 +99,7 @@ pub fn history_text<E: Write>(alloc: Global, run: &Run, messages: &mut E) -> Res
     if !matches!(run.status, 0 | 3..=6) {
         return Err(run.status);
     }
-    match write_text(alloc, run.history.as_slice()) {
+    match write_text(alloc, &run.history) {
         Ok(text) => Ok(text),
         Err(_) => Err(say(messages, NO_MEMORY, Status::NoMemory)),
     }

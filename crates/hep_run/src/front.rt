@@ -1,6 +1,7 @@
 //! From a source's bytes to its program, checked or as a core runs it.
 ghost use Rattle.std.specs.Prelude.{◌≡◌, ◌⊎◌, ◌++◌, IfOk, IfErr, OnOk};
 ghost use Rattle.std.specs.List.{flat_map};
+ghost use Rattle.hep_notes.specs.Refusals.{statement_notes};
 ghost use Rattle.hep_run.specs.Notes as told;
 ghost use Rattle.hep_run.specs.Notes.{also_of, line_notes_when, no_notes};
 ghost use Rattle.hep_run.specs.Sources.{IsAcceptedSource, IsRunnableSource};
@@ -8,8 +9,9 @@ ghost use Rattle.hep_run.specs.Refusals.{IsCheckRefusal, IsSourceRefusal, noted,
 
 use crate::refusal::SourceFault;
 use hep_base::{Refusal, Text};
-use hep_check::{Checked, Rejected, Unaccepted, fault_of, judge, judge_further};
+use hep_check::{Checked, Rejected, Told, Unaccepted, fault_of, judge, judge_further};
 use hep_conditions::Violation;
+use hep_culprits::{culprit_text, position_of};
 use hep_image::Image;
 use hep_lower::lower;
 use hep_notes::{Subject, append_also, line_notes, statement_notes};
@@ -61,18 +63,20 @@ fn append_violation(
     text: &mut Vec<u8>,
     source: &[u8],
     statements: &[Stmt],
-    violation: &Violation,
+    violation: &Told,
 ) -> Result<(), AllocError>
     ensures { OnOk result (text.new.items ≡ text.old.items ++ also_of source.now statements.now violation.now) }
 {
-    let Refusal::Refused { number, line, name } = fault_of(alloc, *violation) else {
+    let Refusal::Refused { number, line, name } = fault_of(alloc, violation.violation) else {
         return Err(AllocError);
     };
+    let about = culprit_text(alloc, violation.culprit)?;
     let subject = Subject {
         number,
         line,
         name: name.as_slice(),
-        position: violation.position,
+        about: about.as_slice(),
+        position: position_of(violation.culprit),
     };
     append_also(alloc, text, source, statements, &subject)
 }
@@ -83,7 +87,7 @@ fn append_further(
     text: &mut Vec<u8>,
     source: &[u8],
     statements: &[Stmt],
-    further: &[Violation],
+    further: &[Told],
 ) -> Result<(), AllocError>
     ensures { OnOk result (text.new.items ≡ text.old.items ++ flat_map (also_of source.now statements.now) further.now) }
 {
@@ -99,11 +103,11 @@ fn violation_notes(
     source: &[u8],
     statements: &[Stmt],
     subject: &Subject<'_>,
-    further: &[Violation],
+    further: &[Told],
 ) -> Result<Text, AllocError>
     ensures { IfOk result (λ notes. notes
-        ≡ told.violation_notes source.now statements.now subject.now.position further.now subject.now.number subject.now.line
-        subject.now.name.now) }
+        ≡ statement_notes source.now statements.now subject.now.number subject.now.line subject.now.about.now subject.now.position
+        ++ flat_map (also_of source.now statements.now) further.now) }
 {
     let mut text = statement_notes(alloc, source, statements, subject)?.into_vec();
     append_further(alloc, &mut text, source, statements, further)?;
@@ -115,20 +119,24 @@ fn refused_further(
     alloc: Global,
     source: &[u8],
     statements: &[Stmt],
-    first: Violation,
-    further: &[Violation],
+    first: Told,
+    further: &[Told],
 ) -> SourceFault
     ensures { (result ≡ SourceFault.NoMemory)
-        ⊎ (result ≡ noted (told.violation_notes source.now statements.now first.position further.now) (refusal_of first)) }
+        ⊎ (result ≡ noted (told.violation_notes source.now statements.now first.culprit further.now) (refusal_of first.violation)) }
 {
-    let Refusal::Refused { number, line, name } = fault_of(alloc, first) else {
+    let Refusal::Refused { number, line, name } = fault_of(alloc, first.violation) else {
+        return SourceFault::NoMemory;
+    };
+    let Ok(about) = culprit_text(alloc, first.culprit) else {
         return SourceFault::NoMemory;
     };
     let subject = Subject {
         number,
         line,
         name: name.as_slice(),
-        position: first.position,
+        about: about.as_slice(),
+        position: position_of(first.culprit),
     };
     match violation_notes(alloc, source, statements, &subject, further) {
         Ok(notes) => SourceFault::Refused {

@@ -3,7 +3,8 @@ ghost use Rattle.std.specs.Prelude.{◌≡◌, ◌≤◌, []};
 ghost use Rattle.hep_run.specs.Statuses.{status_code};
 
 use crate::status::Status;
-use hep_history::{Choices, History};
+use hep_entries::History;
+use hep_history::Choices;
 use hep_workers::WorkOptions;
 use std::alloc::Global;
 

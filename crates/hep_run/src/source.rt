@@ -12,7 +12,7 @@ use crate::input::read_input;
 use crate::options::{AskedReplay, AskedRun, Options, Run};
 use crate::replay::replay_transcript;
 use crate::run::transcript_of;
-use hep_history::History;
+use hep_entries::History;
 use std::alloc::Global;
 use std::io::{Read, Write};
 
@@ -140,7 +140,7 @@ pub fn run_noted<R: Read, W: Write, E: Write>(
         Ok(bytes) => run_bytes(alloc, &bytes, asked, output, messages),
         Err(fault) => Run {
             status: say_unread(messages, fault),
-            history: History::from(Vec::new(alloc)),
+            history: History::new(alloc),
         },
     }
 }
@@ -203,7 +203,7 @@ pub fn replay_noted<R: Read, W: Write, E: Write>(
         Ok(bytes) => replay_bytes(alloc, &bytes, asked, output, messages),
         Err(fault) => Run {
             status: say_unread(messages, fault),
-            history: History::from(Vec::new(alloc)),
+            history: History::new(alloc),
         },
     }
 }

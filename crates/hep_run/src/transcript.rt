@@ -14,8 +14,10 @@ use crate::refusal::SourceFault;
 use crate::status::Status;
 use crate::texts::put_refusal;
 use hep_core::{ChoiceStop, Core, Fault, Verdict};
-use hep_dump::{append_all_waiting, append_faults, append_places, opening_notes, used_notes};
-use hep_history::History;
+use hep_dump::{
+    append_all_waiting, append_all_wants, append_faults, append_places, opening_notes, used_notes,
+};
+use hep_entries::History;
 use hep_image::Image;
 use hep_output::{append_number, append_records};
 use hep_source::Text;
@@ -104,7 +106,7 @@ fn append_notes_of_stop(
         Some(ChoiceStop::ArenaFull) => {
             let notes = used_notes(alloc, core.used(), core.cells())?;
             text.extend_from_slice(notes.as_slice())?;
-            Ok(())
+            append_all_wants(alloc, text, core)
         }
         Some(ChoiceStop::StepLimit) => append_places(alloc, text, core),
         None | Some(ChoiceStop::Halted) => Ok(()),
@@ -140,9 +142,9 @@ fn stop_of(core: &Core) -> Option<ChoiceStop>
 
 // The history of a core that is no longer needed.
 fn history_of(core: Core) -> History
-    ensures { result ≡ core.history }
+    ensures { result.items ≡ core.history }
 {
-    History::from(core.into_history())
+    core.into_history()
 }
 
 /// What a run that is over writes, with notes where `long` is true.
@@ -223,7 +225,7 @@ pub fn workers_transcript(alloc: Global, number: u16) -> Result<Transcript, Allo
     messages.extend_from_slice(b"WORKERS REFUSED ")?;
     append_number(&mut messages, number)?;
     messages.extend_from_slice(b"\n")?;
-    let history = History::from(Vec::new(alloc));
+    let history = History::new(alloc);
     Ok(Transcript::silent(alloc, messages, Status::NoMemory, history))
 }
 
@@ -237,7 +239,7 @@ pub fn history_transcript(alloc: Global, number: u16, place: u64) -> Result<Tran
 {
     let mut messages = Vec::new(alloc);
     put_refusal(&mut messages, number, place, b"")?;
-    let history = History::from(Vec::new(alloc));
+    let history = History::new(alloc);
     Ok(Transcript::silent(alloc, messages, Status::Usage, history))
 }
 
@@ -254,7 +256,7 @@ fn refused_transcript(
     let mut messages = Vec::new(alloc);
     put_refusal(&mut messages, number, u64::from(line), name.as_slice())?;
     messages.extend_from_slice(notes.as_slice())?;
-    let history = History::from(Vec::new(alloc));
+    let history = History::new(alloc);
     Ok(Transcript::silent(alloc, messages, Status::Refused, history))
 }
 
@@ -285,7 +287,7 @@ pub fn text_transcript(alloc: Global, text: Vec<u8>) -> Transcript
         output: text,
         messages: Vec::new(alloc),
         status: Status::Done,
-        history: History::from(Vec::new(alloc)),
+        history: History::new(alloc),
     }
 }
 
@@ -319,6 +321,6 @@ pub fn full_transcript(alloc: Global, notes: &Text) -> Result<Transcript, AllocE
 {
     let mut messages = Vec::from_slice(alloc, stop_text(Some(ChoiceStop::ArenaFull)))?;
     messages.extend_from_slice(notes.as_slice())?;
-    let history = History::from(Vec::new(alloc));
+    let history = History::new(alloc);
     Ok(Transcript::silent(alloc, messages, Status::ArenaFull, history))
 }

@@ -12,7 +12,7 @@ use crate::input::read_input;
 use crate::source::MOST_BYTES;
 use crate::status::Status;
 use crate::transcript::{Transcript, fault_transcript};
-use hep_history::History;
+use hep_entries::History;
 use hep_source::Program;
 use hep_warnings::{warning_text, warnings};
 use std::alloc::{AllocError, Global};
@@ -32,7 +32,7 @@ fn warned_transcript(
         output: Vec::new(alloc),
         messages: text.into_vec(),
         status: Status::Done,
-        history: History::from(Vec::new(alloc)),
+        history: History::new(alloc),
     })
 }
 

@@ -14,7 +14,7 @@ use crate::transcript::{
     Transcript, ended_transcript, fault_transcript, full_transcript, opening_notes_when,
     workers_transcript,
 };
-use hep_history::History;
+use hep_entries::History;
 use hep_image::Image;
 use hep_workers::{Gate, WorkFault, WorkOptions, run_workers};
 use std::alloc::{AllocError, Global};
@@ -33,8 +33,9 @@ fn image_transcript<H: Threads + Wait + Sync, G: Gate + Sync>(
     let notes = opening_notes_when(alloc, &image, asked.options.arena, asked.long)?;
     match run_workers(asked.threads, alloc, image, asked.options, asked.gate) {
         Ok(report) => {
-            report.core.headline();
-            ended_transcript(alloc, report.core, asked.long)
+            let (core, _) = report.into_parts();
+            core.headline();
+            ended_transcript(alloc, core, asked.long)
         }
         Err(WorkFault::ArenaFull) => full_transcript(alloc, &notes),
         Err(fault) => match fault.number() {
@@ -80,7 +81,7 @@ pub fn work_noted<H: Threads + Wait + Sync, G: Gate + Sync, R: Read, W: Write, E
         }
         Err(fault) => Run {
             status: say_unread(messages, fault),
-            history: History::from(Vec::new(alloc)),
+            history: History::new(alloc),
         },
     }
 }

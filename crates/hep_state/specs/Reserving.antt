@@ -1,18 +1,18 @@
 -- Room for what a turn may write: docs/ARCHITECTURE.md, "Forms".
-use Rattle.std.specs.Prelude.{◌≡◌, ◌-◌, ◌+◌, ◌<◌, ◌≤◌, ℕ, List, [], Some, OnOk, Result, length, slice_get, vec_capacity, vec_len}
-use Rattle.std.specs.Global.{Vec}
+use Rattle.std.specs.Prelude.{◌≡◌, ◌-◌, ◌+◌, ◌^◌, ◌<◌, ◌≤◌, ℕ, List, [], Some, OnOk, Result, length, slice_get, vec_capacity, vec_len}
 use Rattle.slab.specs.Slab.{HasRoomFor}
-use Rattle.hep_machine.specs.declared.event.Entry.{Entry}
 use Rattle.hep_machine.specs.Words.{Units}
 use Rattle.hep_blocked.specs.Numbers.{Numbers}
+use Rattle.hep_entries.specs.Entries.{Kept}
 use Rattle.hep_state.specs.declared.machine.Machine.{Machine}
 use Rattle.hep_proc.specs.declared.process.Process.{Process}
 use Rattle.hep_state.specs.Rooms.{HaveRoom}
 use Rattle.hep_state.specs.Snapshots.{snapshot_of}
 
 -- a history stays, and has room for an entry more, or memory was refused
-pub record HasRoomForEntry {A E : Type 0} (old : Vec Entry) (result : Result A E) (new : Vec Entry) : Type 0 where
-  pub room : OnOk result (vec_len new < vec_capacity new)
+pub record HasRoomForEntry {A E : Type 0} (old : Kept) (result : Result A E) (new : Kept) : Type 0 where
+  pub room : OnOk result (0 < new.room)
+  pub few : OnOk result (length new.items < 2 ^ 63)
   pub entries : new.items ≡ old.items
 
 -- the same processes are ready, and no number lost its room

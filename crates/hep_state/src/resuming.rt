@@ -6,8 +6,8 @@ ghost use Rattle.hep_state.specs.Words.{CanPart, CanTakeResume, HasRoomForEntry,
 use crate::laws;
 use crate::machine::{Machine, append};
 use hep_blocked::Ready;
+use hep_entries::History;
 use hep_image::Image;
-use hep_machine::Entry;
 use hep_proc::{Local, Process};
 use std::alloc::AllocError;
 
@@ -31,7 +31,7 @@ impl Machine {
         image: &Image,
         p: u64,
         next: u32,
-        history: &mut Vec<Entry>,
+        history: &mut History,
         ready: &mut Ready,
     ) -> Result<(), AllocError>
         requires { CanTakeResume image.now history.old.items p self.old next ready.old }

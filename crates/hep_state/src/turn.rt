@@ -13,8 +13,8 @@ use crate::machine::Machine;
 use crate::upcoming::{CallAhead, StepAhead};
 use hep_blocked::Ready;
 use hep_cells::Want;
+use hep_entries::History;
 use hep_image::Image;
-use hep_machine::Entry;
 use hep_proc::Process;
 use hep_step::{Effect, Way};
 use std::alloc::{AllocError, Global};
@@ -70,7 +70,7 @@ impl Machine {
     }
 
     // Room for what a turn may write: a record, a fault, and its entry of the history.
-    fn reserve(&mut self, history: &mut Vec<Entry>) -> Result<(), AllocError>
+    fn reserve(&mut self, history: &mut History) -> Result<(), AllocError>
         ensures records { OnOk result (vec_len self.new.records < vec_capacity self.new.records) }
         ensures faults { OnOk result (vec_len self.new.faults < vec_capacity self.new.faults) }
         ensures entry { HasRoomForEntry history.old result history.new }
@@ -89,7 +89,7 @@ impl Machine {
         p: u64,
         operands: u32,
         kept: u32,
-        history: &mut Vec<Entry>,
+        history: &mut History,
     ) -> Result<(), AllocError>
         requires { HasLevels (snapshot_of self.old) p }
         ensures level { OnOk result (HasRoomForLevel self.new p operands kept) }
@@ -106,7 +106,7 @@ impl Machine {
     pub(crate) fn reserve_process(
         &mut self,
         operands: u32,
-        history: &mut Vec<Entry>,
+        history: &mut History,
         ready: &mut Ready,
     ) -> Result<Process, AllocError>
         ensures made { IfOk result (IsEmptyProcess operands) }
@@ -130,7 +130,7 @@ impl Machine {
     fn reserve_creation(
         &mut self,
         operands: u32,
-        history: &mut Vec<Entry>,
+        history: &mut History,
         ready: &mut Ready,
     ) -> Result<Process, AllocError>
         ensures node { OnOk result (HasRoomFor self.new.frames.nodes 1) }
@@ -165,7 +165,7 @@ impl Machine {
         alloc: Global,
         image: &Image,
         p: u64,
-        history: &mut Vec<Entry>,
+        history: &mut History,
     ) -> Result<Turned, AllocError>
         requires { CanTakeOperation image.now history.old.items p self.old }
         ensures turned { IfOk result (λ turned. IsTurn image.now history.old.items p self.old turned self.new) }
@@ -191,7 +191,7 @@ impl Machine {
         image: &Image,
         p: u64,
         call: CallAhead,
-        history: &mut Vec<Entry>,
+        history: &mut History,
         ready: &mut Ready,
     ) -> Result<Turned, TurnFault>
         requires { CanTakeCall image.now history.old.items p self.old call ready.old }
@@ -251,7 +251,7 @@ impl Machine {
         alloc: Global,
         image: &Image,
         p: u64,
-        history: &mut Vec<Entry>,
+        history: &mut History,
         ready: &mut Ready,
     ) -> Result<Turned, TurnFault>
         requires { CanTurn image.now history.old.items p self.old ready.old }

@@ -9,7 +9,8 @@ mod streams;
 mod workers;
 
 use hep_check::check;
-use hep_core::{ChooseFault, Core, Entry, Turn, Verdict};
+use hep_core::{ChooseFault, Core, Turn, Verdict};
+use hep_entries::History;
 use hep_image::Image;
 use hep_lower::lower;
 use hep_parse::parse;
@@ -39,7 +40,7 @@ fn chosen(core: &mut Core, process: u64) -> Result<Turn, ChooseFault> {
 }
 
 // So many entries of one step of process 1.
-fn is_single_steps(history: &[Entry], count: usize) -> bool {
+fn is_single_steps(history: &History, count: u64) -> bool {
     history.len() == count
         && history
             .iter()

@@ -70,11 +70,13 @@ struct Reading {
 /// comment; the twentieth continuation line of a statement (104); a continuation line before any
 /// initial line (105); and where no line has one of these, the first statement with a character
 /// constant that is open or empty (106). A text of more than 65,535 lines or 4,194,304 bytes is
-/// refused before all of these, at line 0 (107). [`TextFault::NoMemory`] where memory was refused.
+/// refused before all of these, at line 0 (107). [`TextFault::NoMemory`] where memory was refused, which is asked for
+/// only where the text isn't that large.
 #[tactic(auto, using(crate::proofs::Grammar::agrees))]
 pub fn statements(alloc: Global, source: &[u8]) -> Result<Vec<Stmt>, TextFault>
     ensures ok { IfOk result (λ v. statements_of source.now ≡ Ok v.items) }
     ensures refused { IfErr result (λ e. Reports e (statements_of source.now)) }
+    ensures small { IfErr result (λ e. e ≡ NoMemory → reading.is_too_large source.now ≡ false) }
     ensures shape { IfOk result (λ v. All IsWellFormed v.items) }
     ensures constants { (s t : List Character) → IsText s t ↔ Gives s t }
 {

@@ -18,4 +18,4 @@ pub use scope::Scope;
 pub use shapes::{KnownShape, Shapes};
 pub use types::{KnownType, is_typed, is_typed_as, type_of_tree, type_of_value};
 pub use variables::{is_dummy, is_plain_integer_scalar, loop_variables};
-pub use violation::type_violation;
+pub use violation::{is_statement_typed, type_violation};

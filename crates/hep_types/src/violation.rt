@@ -88,9 +88,13 @@ fn are_groups_typed(scope: &Scope, groups: &[DataGroup]) -> Result<bool, AllocEr
     Ok(true)
 }
 
-// Whether a statement is typed, by the constants given before it; those that it gives join them.
+/// Whether a statement is typed, by the constants given before it; those that it gives join them.
+///
+/// # Errors
+///
+/// Only where memory was refused.
 #[tactic(auto, using(crate::proofs::BoundedArrays::bounded_arrays))]
-fn is_statement_typed(
+pub fn is_statement_typed(
     alloc: Global,
     program: &ProgramSymbols,
     symbols: &Symbols,

@@ -3,3 +3,5 @@ pub mod Sets
 pub mod Merging
 pub mod Appending
 pub mod Noted
+pub mod Between
+pub mod Ordered

@@ -1,5 +1,6 @@
 pub mod Lines
 pub mod Merge
+pub mod Order
 pub mod Behind
 pub mod Labels
 pub mod Units

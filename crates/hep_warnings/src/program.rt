@@ -1,5 +1,6 @@
 //! All warnings of a source and its program.
 ghost use Rattle.std.specs.Prelude.{◌≡◌, IfOk};
+ghost use Rattle.hep_warnings.specs.Order.{Rise, lines_of_program, lines_of_warnings};
 ghost use Rattle.hep_warnings.specs.Warnings as all;
 
 use crate::behind::behind_warnings;
@@ -24,13 +25,14 @@ fn unit_and_name_warnings(alloc: Global, units: &[Unit]) -> Result<Vec<Warning>,
     Ok(found)
 }
 
-/// The warnings of a source and of the program that it is, by their lines.
+/// The warnings of a source and of the program that it is, by their lines where the statements of the program stand so.
 ///
 /// # Errors
 ///
 /// Only where memory was refused.
 pub fn warnings(alloc: Global, source: &[u8], program: &Program) -> Result<Vec<Warning>, AllocError>
-    ensures { IfOk result (λ found. found.items ≡ all.warnings source.now program.now) }
+    ensures exact { IfOk result (λ found. found.items ≡ all.warnings source.now program.now) }
+    ensures ordered { IfOk result (λ found. Rise 0 (lines_of_program program.now) → Rise 0 (lines_of_warnings found.items)) }
 {
     let units = program.as_slice();
     let behind = behind_warnings(alloc, source)?;

@@ -13,9 +13,13 @@ abbrev pub is_unset : Option Bool → Bool
 is_unset None = false
 is_unset (Some b) = not b
 
+-- the mark of a receipt's entry is set, if there is one, and it wasn't
+abbrev pub mark_at : Option Entry → List Bool → Receipt → Option (List Bool)
+mark_at entry marks r =
+    if is_named_by r entry && is_unset (slice_get marks r.index) then Some (slice_set marks r.index true) else None
+
 abbrev pub mark : List Entry → List Bool → Receipt → Option (List Bool)
-mark history marks r =
-    if is_named_by r (slice_get history r.index) && is_unset (slice_get marks r.index) then Some (slice_set marks r.index true) else None
+mark history marks r = mark_at (slice_get history r.index) marks r
 
 -- the marks after all receipts; none where one of them couldn't be marked
 abbrev pub marked : List Entry → List Bool → List Receipt → Option (List Bool)

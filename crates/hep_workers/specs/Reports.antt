@@ -1,5 +1,5 @@
 -- What a report says, and why there is none: docs/MACHINE.md, "Workers".
-use Rattle.std.specs.Prelude.{◌≡◌, ◌≢◌, true, false, List, None}
+use Rattle.std.specs.Prelude.{◌≡◌, ◌≢◌, true, false, List, None, IsSome}
 use Rattle.hep_machine.specs.Words.{opening_layout, Units}
 use Rattle.hep_core.specs.Value.{CoreValue, verdict_of}
 use Rattle.hep_core.specs.declared.stop.Verdict.TheVariants.{Running}
@@ -15,6 +15,18 @@ use Rattle.hep_workers.specs.Receipts.{AreEntries, all_rise, receipts_of}
 abbrev pub IsOfRun : CoreValue → Units → WorkOptions → Type 0
 IsOfRun core program options = (core.program ≡ program) × (core.cells ≡ options.arena) × (core.limit ≡ options.steps)
 
+-- what is seen of a report
+pub record ReportValue : Type 0 where
+  pub core : CoreValue
+  pub logs : List (List Receipt)
+
+-- the receipts are the core's entries, each once, those of each log in their order, and the run is over
+pub record IsClosed (report : ReportValue) : Type 0 where
+  pub entries : AreEntries report.core.history (receipts_of report.logs)
+  pub rising : all_rise report.logs ≡ true
+  pub over : verdict_of report.core ≢ Running
+
+-- they are so, and the core is of this program and these options
 pub record IsReport (core : CoreValue) (program : Units) (options : WorkOptions) (logs : List (List Receipt)) : Type 0 where
   pub entries : AreEntries core.history (receipts_of logs)
   pub rising : all_rise logs ≡ true
@@ -31,7 +43,8 @@ IsUnclosed NotTheRun core program options logs =
 IsUnclosed StillRunning core program options logs =
     AreEntries core.history (receipts_of logs) × (all_rise logs ≡ true) × IsOfRun core program options × (verdict_of core ≡ Running)
 
--- why a run by workers leaves no report: the arena is full just where the main program's frame has no gap in it
+-- why a run by workers leaves no report: the arena is full just where the main program's frame has no gap in it, and anything else, want of
+-- memory too, comes only where it has
 abbrev pub IsWorkFault : WorkFault → Units → WorkOptions → Type 0
 IsWorkFault work.ArenaFull program options = opening_layout program options.arena ≡ None
-IsWorkFault _ program options = Unit {0}
+IsWorkFault _ program options = IsSome (opening_layout program options.arena)

@@ -7,6 +7,7 @@ ghost use Rattle.hep_source.specs.contracts.program.Program as program;
 ghost use Rattle.hep_core.specs.contracts.scheduler.Core as core;
 
 use hep_blocked::{Ready, Waits};
+use hep_entries::History;
 use hep_image::{BlockStart, DataRow, UnitCode};
 use hep_quick::Table;
 use hep_source::{Expr, Sequence, Text};
@@ -54,6 +55,7 @@ pub(crate) fn cores_cross()
 {
     images_cross();
     pass::<Table>();
+    pass::<History>();
     pass::<Machine>();
     pass::<Waits>();
     pass::<Ready>();

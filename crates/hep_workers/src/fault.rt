@@ -71,7 +71,8 @@ impl WorkFault {
         ensures { result ≡ number_of self }
     {
         match self {
-            WorkFault::NoMemory | WorkFault::ArenaFull | WorkFault::Close(CloseFault::NoMemory) => None,
+            WorkFault::NoMemory | WorkFault::ArenaFull | WorkFault::Close(CloseFault::NoMemory) =>
+                None,
             WorkFault::NoTicket => Some(506),
             WorkFault::NoThread => Some(704),
             WorkFault::Close(CloseFault::NotTheEntries) => Some(701),

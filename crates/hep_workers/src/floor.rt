@@ -1,5 +1,6 @@
 //! The workers at their work: threads that share a core under a lock.
-ghost use Rattle.std.specs.Prelude.{◌≤◌, IfErr, IfOk};
+ghost use Rattle.std.specs.Prelude.{◌≤◌, IfErr, IfOk, IsSome, OnOk};
+ghost use Rattle.hep_machine.specs.Words.{opening_layout};
 ghost use Rattle.hep_workers.specs.Reports.{IsReport, IsWorkFault};
 
 use crate::crossing::{cores_cross, images_cross};
@@ -41,8 +42,8 @@ struct Work {
 ///
 /// # Errors
 ///
-/// `ArenaFull` as `Core::new` has it; `NoTicket` or `NoThread` where the workers gave up for it, and `NoMemory` where memory was refused to
-/// any of them; else `Close` where `close` refuses what they left.
+/// `ArenaFull` just where COMMON and the main program's frame don't fit the arena. Else `NoTicket` or `NoThread` where the workers gave up
+/// for it, and `NoMemory` where memory was refused to any of them; else `Close` where `close` refuses what they left.
 pub fn run_workers<R: Threads + Wait + Sync, G: Gate + Sync>(
     rt: &R,
     alloc: Global,
@@ -50,10 +51,13 @@ pub fn run_workers<R: Threads + Wait + Sync, G: Gate + Sync>(
     options: &WorkOptions,
     gate: &G,
 ) -> Result<Report, WorkFault>
-    ensures report { IfOk result (λ report. IsReport report.core image options.now report.logs.items) }
+    ensures fits { OnOk result (IsSome (opening_layout image options.now.arena)) }
+    ensures report { IfOk result (λ report. IsReport report.core image options.now report.logs) }
     ensures fault { IfErr result (λ fault. IsWorkFault fault image options.now) }
 {
-    let core = Core::new(alloc, image.copy(alloc)?, options.arena, options.steps)?;
+    // A full arena is found before memory is asked for, and so before the image is copied.
+    let core = Core::new(alloc, image, options.arena, options.steps)?;
+    let image = core.image().copy(alloc)?;
     let floor = Floor::new(core);
     let logs = work_all(rt, alloc, &floor, &image, options.workers, gate)?;
     let Floor { core, .. } = floor;

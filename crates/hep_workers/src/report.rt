@@ -1,24 +1,72 @@
 //! The comparison of the workers' logs with the core, once all have ended.
-ghost use Rattle.std.specs.Prelude.{◌≡◌, IfErr, IfOk, MatchBool, None, Some, if◌then◌else◌};
+ghost use Rattle.std.specs.Prelude.{◌≡◌, IfErr, IfOk, MatchBool, None, Some, drop, if◌then◌else◌, slice_get};
 ghost use Rattle.std.specs.List.{list_all};
-ghost use Rattle.hep_workers.specs.Marks.{mark, marked};
+ghost use Rattle.hep_workers.specs.Marks.{mark_at, marked};
 ghost use Rattle.hep_workers.specs.Receipts.{AreEntries, all_rise, receipts_of, rises};
-ghost use Rattle.hep_workers.specs.Reports.{IsOfRun, IsReport, IsUnclosed};
+ghost use Rattle.hep_workers.specs.Reports.{IsClosed, IsOfRun, IsReport, IsUnclosed};
 
 use crate::fault::CloseFault;
 use crate::options::WorkOptions;
 use crate::receipt::{Log, Receipt};
 use hep_core::{Core, Verdict};
+use hep_entries::{Entries, History};
 use hep_image::Image;
 use hep_machine::Entry;
 use std::alloc::{AllocError, Global};
+use std::marker::Model;
 
-/// A run by workers that is over.
+/// A run by workers that is over, with a log for each worker: the receipts are the entries of the core's history, each once, and those of
+/// each log stand in their order. Contracts see the core and the logs.
 #[derive(Drop)]
 pub struct Report {
-    pub core: Core,
+    core: Core,
+    logs: Vec<Log>,
+}
+
+impl Model for Report {
+    ghost use Rattle.hep_workers.specs.Reports.{ReportValue, IsClosed};
+    ghost use Rattle.hep_source.specs.contracts.expression.Expr as expression;
+    ghost use Rattle.std.specs.Coded.{codes};
+
+    ghost Value = { ReportValue };
+
+    ghost coded = { Prim.hlevel (codes, expression.the_row.coded) };
+
+    ghost view = { λ r. record { core = r.core; logs = r.logs.items } };
+
+    ghost invariant = { λ r. IsClosed (record { core = r.core; logs = r.logs.items }) };
+}
+
+impl Report {
+    /// Does nothing: its clause says what every report is.
+    pub fn is_closed(&self)
+        ensures { IsClosed self.now }
+    {
+        let _ = &self.core;
+    }
+
+    /// The core that the workers shared.
+    pub fn core(&self) -> &Core
+        ensures { result.now ≡ self.now.core }
+    {
+        &self.core
+    }
+
     /// A log for each worker.
-    pub logs: Vec<Log>,
+    pub fn logs(&self) -> &[Log]
+        ensures { result.now ≡ self.now.logs }
+    {
+        &self.logs
+    }
+
+    /// The core and the logs.
+    pub fn into_parts(self) -> (Core, Vec<Log>)
+        ensures core { result.0 ≡ self.core }
+        ensures logs { result.1.items ≡ self.logs }
+    {
+        let Report { core, logs } = self;
+        (core, logs)
+    }
 }
 
 /// A report of a core and the logs of its workers: the receipts are the history's entries, each once, those of each log in their order; the
@@ -36,7 +84,7 @@ pub fn close(
     options: &WorkOptions,
     logs: Vec<Log>,
 ) -> Result<Report, CloseFault>
-    ensures kept { IfOk result (λ report. (report.core ≡ core) × (report.logs ≡ logs)) }
+    ensures kept { IfOk result (λ report. (report.core ≡ core) × (report.logs ≡ logs.items)) }
     ensures closed { IfOk result (λ report. IsReport core image.now options.now logs.items) }
     ensures unclosed { IfErr result (λ fault. IsUnclosed fault core image.now options.now logs.items) }
 {
@@ -66,11 +114,11 @@ fn is_of_run(core: &Core, image: &Image, options: &WorkOptions) -> bool
 }
 
 // The receipts of all logs are the history's entries, each once.
-fn are_entries(alloc: Global, history: &[Entry], logs: &[Log]) -> Result<bool, AllocError>
-    ensures { IfOk result (λ are. MatchBool are (AreEntries history.now (receipts_of logs.now))
-        (AreEntries history.now (receipts_of logs.now) → ⊥)) }
+fn are_entries(alloc: Global, history: &History, logs: &[Log]) -> Result<bool, AllocError>
+    ensures { IfOk result (λ are. MatchBool are (AreEntries history.now.items (receipts_of logs.now))
+        (AreEntries history.now.items (receipts_of logs.now) → ⊥)) }
 {
-    let mut named = Vec::from_elem(alloc, false, history.len())?;
+    let mut named = Vec::from_elem(alloc, false, history.len() as usize)?;
     if !mark_logs(history, &mut named, logs) {
         return Ok(false);
     }
@@ -78,8 +126,8 @@ fn are_entries(alloc: Global, history: &[Entry], logs: &[Log]) -> Result<bool, A
 }
 
 // Marks the entries that the receipts of all logs name. False where a receipt names none, or one that is marked.
-fn mark_logs(history: &[Entry], named: &mut Vec<bool>, logs: &[Log]) -> bool
-    ensures { marked history.now named.old.items (receipts_of logs.now) ≡ (if result then Some named.new.items else None) }
+fn mark_logs(history: &History, named: &mut Vec<bool>, logs: &[Log]) -> bool
+    ensures { marked history.now.items named.old.items (receipts_of logs.now) ≡ (if result then Some named.new.items else None) }
 {
     for log in logs {
         if !mark_log(history, named, log.receipts()) {
@@ -89,26 +137,55 @@ fn mark_logs(history: &[Entry], named: &mut Vec<bool>, logs: &[Log]) -> bool
     true
 }
 
-fn mark_log(history: &[Entry], named: &mut Vec<bool>, receipts: &[Receipt]) -> bool
-    ensures { marked history.now named.old.items receipts.now ≡ (if result then Some named.new.items else None) }
+// The same of one log. Where its indexes rise, this goes over the runs of the history once.
+fn mark_log(history: &History, named: &mut Vec<bool>, receipts: &[Receipt]) -> bool
+    ensures { marked history.now.items named.old.items receipts.now ≡ (if result then Some named.new.items else None) }
 {
+    let mut entries = history.iter();
+    let mut passed = 0;
     for receipt in receipts {
-        if !mark(history, named, *receipt) {
+        let entry = entry_at(history, &mut entries, &mut passed, receipt.index);
+        if !mark(entry, named, *receipt) {
             return false;
         }
     }
     true
 }
 
-// Marks the entry that a receipt names.
-fn mark(history: &[Entry], named: &mut Vec<bool>, receipt: Receipt) -> bool
-    ensures { mark history.now named.old.items receipt ≡ (if result then Some named.new.items else None) }
+// The entry at an index, where those are left behind so many of them that are passed. Where the index is before, it begins anew.
+fn entry_at<'a>(
+    history: &'a History,
+    entries: &mut Entries<'a>,
+    passed: &mut u64,
+    index: u64,
+) -> Option<Entry>
+    requires { entries.old ≡ drop passed.old history.now.items }
+    ensures entry { result ≡ slice_get history.now.items index }
+    ensures left { entries.new ≡ drop passed.new history.now.items }
 {
+    if index >= history.len() {
+        return None;
+    }
+    if index < *passed {
+        *entries = history.iter();
+        *passed = 0;
+    }
+    entries.pass(index - *passed);
+    *passed = index + 1;
+    entries.next()
+}
+
+// Marks the entry that a receipt names, which is this one, if there is one.
+fn mark(entry: Option<Entry>, named: &mut Vec<bool>, receipt: Receipt) -> bool
+    ensures { mark_at entry named.old.items receipt ≡ (if result then Some named.new.items else None) }
+{
+    let Some(entry) = entry else {
+        return false;
+    };
     let at = receipt.index as usize;
-    if at >= history.len() || at >= named.len() {
+    if at >= named.len() {
         return false;
     }
-    let entry = history[at];
     if entry.process != receipt.process || entry.steps != receipt.steps || named[at] {
         return false;
     }

@@ -17,7 +17,7 @@ pub fn worker_turn(core: &mut Core, worker: u32, segment: &Segment) -> Result<Re
     ensures unmade { IfErr result (λ fault. IsCommitted core.old segment.now (Err fault) core.new) }
     ensures kept { OnErr result (core.new.history ≡ core.old.history) }
 {
-    let index = core.history().len() as u64;
+    let index = core.history().len();
     let process = segment.ticket().process;
     let turn = core.commit(segment)?;
     Ok(Receipt {

@@ -6,7 +6,7 @@ use hep_core::{ChoiceStop, ChooseFault, CommitFault, Core, Segment, Ticket, Verd
 use hep_image::Image;
 use hep_source::Value;
 use hep_workers::{
-    CloseFault, Gate, Log, NoGate, Receipt, Report, WorkOptions, close, run_workers, worker_turn,
+    CloseFault, Gate, Log, NoGate, Receipt, WorkOptions, close, run_workers, worker_turn,
 };
 use std::alloc::{AllocError, Global};
 use std::sync::atomic::{AtomicU32, AtomicU64, Ordering};
@@ -316,7 +316,7 @@ fn two_workers_take_turns(rt: HostRuntime) -> Result<(), Fail> {
     let alloc = rt.alloc();
     let image = image_from(alloc, &storing(alloc)?)?;
     let gate = Holding::new(&rt);
-    let Report { core, logs } = run_workers(&rt, alloc, image, &options_of(10_000, 2), &gate)?;
+    let (core, logs) = run_workers(&rt, alloc, image, &options_of(10_000, 2), &gate)?.into_parts();
     assert!(rt; gate.polls.load(Ordering::SeqCst) < MOST_POLLS);
     assert!(rt; 2 <= gate.calls_of_other.load(Ordering::SeqCst));
     assert_eq!(rt; core.verdict(), Verdict::Done);

@@ -1,5 +1,6 @@
-use Rattle.std.proofs.Common.{ℕ, ◌<◌, List, length, take, subst, inl, inr}
+use Rattle.std.proofs.Common.{ℕ, ◌<◌, List, ap, length, take, subst, inl, inr}
 use Rattle.std.specs.Io.KnownBytes.{Appends}
+use Rattle.hep_entries.specs.Entries.{Kept}
 use Rattle.hep_run.specs.Delivery.{WritesMessages}
 use Rattle.hep_run.specs.Transcripts.{outcome_of}
 use Rattle.hep_run.proofs.Messages.{of_either, left_by}
@@ -11,7 +12,7 @@ returns-in-Err g c =
     let prefix = subst (λ (l : List ℕ). Appends (g.W.Write.contents c.args.output.now) (g.W.Write.contents c.put_all.new.writer) (take n l)) c.deref.ensures.value c.in-Err.ensures.prefix in
     inr (record {
       status = c.new.ensures.status;
-      history = c.new.ensures.history;
+      history = ap (λ (k : Kept). k.items) c.new.ensures.history;
       taken = inl (n, subst (λ (l : List ℕ). n < length l) c.deref.ensures.value c.in-Err.ensures.fewer, prefix, of_either c.put_write_fault.result _ _ _ c.put_write_fault.ensures.all c.put_write_fault.ensures.some);
     })
 
@@ -19,5 +20,5 @@ pub returns : goal.returns
 returns g c =
     let r = c.args.transcript in
     let taken = subst (Appends (g.W.Write.contents c.args.output.now) (g.W.Write.contents c.put_all.new.writer)) c.deref.ensures.value c.in_default.ensures.all in
-    let said = subst (λ (l : List ℕ). WritesMessages l r.status r.history c.write_messages.result (g.E.Write.contents c.args.messages.now) (g.E.Write.contents c.write_messages.new.messages)) c.deref-2.ensures.value c.write_messages.ensures in
+    let said = subst (λ (l : List ℕ). WritesMessages l r.status r.history.items c.write_messages.result (g.E.Write.contents c.args.messages.now) (g.E.Write.contents c.write_messages.new.messages)) c.deref-2.ensures.value c.write_messages.ensures in
     left_by (outcome_of r) c.write_messages.result _ _ _ _ taken said

@@ -1,4 +1,4 @@
-use Rattle.std.proofs.Common.{inl, ◌∙◌}
+use Rattle.std.proofs.Common.{inl}
 use Rattle.std.proofs.KnownBytes.{Keeps-refl}
 use Rattle.hep_run.specs.Sources.{IsRefusedProgram, IsRunnable}
 use Rattle.hep_run.specs.Workers.{IsImageWorked, IsWorkOutcome}
@@ -12,4 +12,4 @@ returns-in-Ok g c =
     made_left (IsWorkOutcome c.args.asked.now.long c.args.asked.now.options.now c.deref.result.now) c.work_transcript-made.result _ _ _ _ _ c.work_transcript-made.ensures c.deliver_made.ensures)
 
 pub returns-in-Err : goal.returns-in-Err
-returns-in-Err g c = inl (Keeps-refl _, c.from.ensures ∙ c.new.ensures.items, (_, c.say_unread.ensures))
+returns-in-Err g c = inl (Keeps-refl _, c.new.ensures.items, (_, c.say_unread.ensures))

@@ -1,4 +1,6 @@
-use Rattle.std.proofs.Common.{◌≡◌, ◌∙◌, sym, refl, false, length, arith}
+use Rattle.std.proofs.Common.{◌≡◌, ℕ, ◌∙◌, sym, refl, false, List, [], length, arith, Result, Ok, Err, IfErr}
+use Rattle.hep_base.specs.declared.refusal.Refusal.{Refusal as TextFault}
+use Rattle.hep_base.specs.declared.refusal.Refusal.TheVariants.{NoMemory, Refused}
 use Rattle.std.proofs.lemmas.Result.{err_from_is_err_and}
 use Rattle.std.proofs.lemmas.Bool.{eqb-true}
 use Rattle.hep_text.specs.Line.{lines}
@@ -12,6 +14,17 @@ use Rattle.hep_text.proofs.reading.statements.Goals as goal
 pub returns-then-is_too_large-clause-refused : goal.returns-then-is_too_large-clause-refused
 returns-then-is_too_large-clause-refused c =
     rw c.refused.ensures (too_large c.args.source.now (sym c.is_too_large.ensures.value ∙ c.if-is_too_large.true), refl)
+
+refused-memory : (number line : ℕ) (name : List ℕ) → Refused number line name ≡ NoMemory → ⊥
+refused-memory number line name e = absurd cc
+
+-- what holds anyway holds where memory was refused
+anyway : {A P : Type 0} (r : Result A TextFault) → P → IfErr r (λ e. e ≡ NoMemory → P)
+anyway (Ok x) p = tt
+anyway (Err e) p = λ none. p
+
+pub returns-then-is_too_large-clause-small : goal.returns-then-is_too_large-clause-small
+returns-then-is_too_large-clause-small c none = absurd (refused-memory 107 0 [] (sym c.refused.ensures ∙ none))
 
 pub loop-rest-preserved : goal.loop-rest-preserved
 loop-rest-preserved c =
@@ -31,6 +44,9 @@ returns-in_err-take_line-clause-refused c =
     let p = err_from_is_err_and c.from_residual.result c.from_residual.ensures.1 in
     rw (p.1, p.2, all) (c.in_err-take_line.ensures.err (lines c.next_line.result.1.now))
 
+pub returns-in_err-take_line-clause-small : goal.returns-in_err-take_line-clause-small
+returns-in_err-take_line-clause-small c = anyway c.from_residual.result (sym c.is_too_large.ensures.value ∙ c.if-is_too_large.false)
+
 pub returns : goal.returns
 returns c =
     let reading = c.loop-rest.reading in
@@ -41,5 +57,6 @@ returns c =
       ok = rw all c.all_read.ensures.ok;
       shape = shape_of c.all_read.result c.args.source.now _ all c.all_read.ensures.ok;
       refused = rw all c.all_read.ensures.refused;
+      small = anyway c.all_read.result small;
       constants = agrees;
     }

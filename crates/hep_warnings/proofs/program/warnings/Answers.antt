@@ -1,13 +1,15 @@
-use Rattle.std.proofs.Common.{◌≡◌, ◌∙◌, ap}
+use Rattle.std.proofs.Common.{◌≡◌, ◌∙◌, ap, subst, sym}
 use Rattle.hep_warnings.specs.Behind.{behind_warnings}
 use Rattle.hep_warnings.specs.Labels.{label_warnings}
 use Rattle.hep_warnings.specs.Lines.{Warnings}
 use Rattle.hep_warnings.specs.Merge.{merged}
+use Rattle.hep_warnings.specs.Order.{lines_of_warnings, Rise}
 use Rattle.hep_warnings.specs.Warnings.{unit_and_name_warnings}
+use Rattle.hep_warnings.proofs.Ordered.{by_line}
 use Rattle.hep_warnings.proofs.program.warnings.Goals as goal
 
-pub returns : goal.returns
-returns c =
+pub returns-clause-exact : goal.returns-clause-exact
+returns-clause-exact c =
     let program = c.args.program.now in
     let source = c.args.source.now in
     let a : c.in_ok-behind.behind.items ≡ behind_warnings source = c.in_ok-behind.ensures in
@@ -20,3 +22,7 @@ returns c =
     o ∙ (ap (λ (us : Warnings). merged us c.in_ok-of_program.of_program.items) a
     ∙ ap (λ (us : Warnings). merged (behind_warnings source) us) (m ∙ (ap (λ (us : Warnings). merged us c.in_ok-others.others.items) b
     ∙ ap (λ (us : Warnings). merged (label_warnings program) us) d)))
+
+pub returns-clause-ordered : goal.returns-clause-ordered
+returns-clause-ordered c = λ rise.
+    subst (λ (ws : Warnings). Rise 0 (lines_of_warnings ws)) (sym (returns-clause-exact c)) (by_line c.args.source.now c.args.program.now rise)

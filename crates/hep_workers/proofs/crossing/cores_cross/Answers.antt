@@ -4,7 +4,7 @@ use denote.Struct.Field.{u32-field, u64-field}
 use denote.Param.Send.{IsSend, sendable, view_send}
 use denote.Param.SendFields.{as_row_send, declared_send, variants_send}
 use Rattle.hep_blocked.specs.contracts.waits.Waits as waits
-use Rattle.hep_machine.specs.contracts.event.Entry as entry
+use Rattle.hep_entries.specs.contracts.history.History as history
 use Rattle.hep_blocked.specs.contracts.ready.Ready as ready
 use Rattle.hep_core.specs.contracts.scheduler.Core.TheInside as inside
 use Rattle.hep_core.specs.contracts.stop.ChoiceStop as stop
@@ -13,9 +13,6 @@ use Rattle.hep_state.specs.contracts.machine.Machine as machine
 use Rattle.hep_core.specs.contracts.ticket.TicketId as ticket
 use Rattle.hep_image.specs.contracts.image.Image as image
 use Rattle.hep_workers.proofs.crossing.cores_cross.Goals as goal
-
-entry-send : IsSend entry.the_row
-entry-send = search (crosses, sendable, declared_send, as_row_send) depth 20
 
 ticket-send : IsSend ticket.the_row
 ticket-send = search (crosses, sendable, declared_send, as_row_send) depth 20
@@ -32,9 +29,10 @@ count-send = search sendable depth 20
 pub returns : goal.returns
 returns c =
     let table-send : IsSend table.the_row = record { owned = c.pass.ensures.send.owned; leaving = search (crosses, sendable) depth 30 fits 5000 } in
-    let machine-send : IsSend machine.the_row = record { owned = c.pass-2.ensures.send.owned; leaving = search (crosses, sendable) depth 30 fits 5000 } in
-    let waits-send : IsSend waits.the_row = record { owned = c.pass-3.ensures.send.owned; leaving = λ k d w. tt } in
-    let ready-send : IsSend ready.the_row = record { owned = c.pass-4.ensures.send.owned; leaving = λ k d w. tt } in
+    let history-send : IsSend history.the_row = record { owned = c.pass-2.ensures.send.owned; leaving = λ k d w. tt } in
+    let machine-send : IsSend machine.the_row = record { owned = c.pass-3.ensures.send.owned; leaving = search (crosses, sendable) depth 30 fits 5000 } in
+    let waits-send : IsSend waits.the_row = record { owned = c.pass-4.ensures.send.owned; leaving = λ k d w. tt } in
+    let ready-send : IsSend ready.the_row = record { owned = c.pass-5.ensures.send.owned; leaving = λ k d w. tt } in
     record {
       send = view_send inside.the_row _ _ _ _ (declared_send inside.the_type (
         search (crosses, sendable, declared_send, as_row_send) depth 20,
@@ -47,7 +45,7 @@ returns c =
               (
                 as_row_send u64-field count-send,
                 (
-                  search (crosses, sendable, as_row_send, entry-send) depth 20,
+                  as_row_send history.the_field history-send,
                   (
                     search (crosses, sendable, variants_send, as_row_send, stop-send) depth 20,
                     (

@@ -6,7 +6,7 @@ use Rattle.hep_workers.proofs.report.mark_logs.Goals as goal
 
 pub returns-then-not-mark_log : goal.returns-then-not-mark_log
 returns-then-not-mark_log c =
-    let h = c.args.history.now in
+    let h = c.args.history.now.items in
     let log = c.log-item.result in
     let rest = receipts_of (drop (c.loop-log.log-index + 1) c.args.logs.now) in
     let here : marked h c.loop-log.named.items log ≡ None = search rules in
@@ -14,7 +14,7 @@ returns-then-not-mark_log c =
 
 pub loop-log-preserved : goal.loop-log-preserved
 loop-log-preserved c =
-    let h = c.args.history.now in
+    let h = c.args.history.now.items in
     let log = c.log-item.result in
     let rest = receipts_of (drop (c.loop-log.log-index + 1) c.args.logs.now) in
     let here : marked h c.loop-log.named.items log ≡ Some c.mark_log.new.named.items = search rules in

@@ -5,4 +5,4 @@ use Rattle.hep_workers.proofs.report.mark_logs.Given as goal
 
 abbrev pub invariant-loop-log : goal.invariant-loop-log
 invariant-loop-log l =
-    marked l.history l.named.items (receipts_of (drop l.log-index l.logs)) ≡ marked l.fn.history l.fn.named.items (receipts_of l.fn.logs)
+    marked l.history.items l.named.items (receipts_of (drop l.log-index l.logs)) ≡ marked l.fn.history.items l.fn.named.items (receipts_of l.fn.logs)

@@ -1,4 +1,6 @@
+use Rattle.hep_machine.specs.Words.{living_from, progress_after, ready_in, state_after}
 use Rattle.hep_state.specs.Words.{snapshot_of}
+use Rattle.hep_core.proofs.Idle.{idle, no-more-ready}
 use Rattle.hep_core.proofs.Kept.{AreSeen, view-is}
 use Rattle.hep_core.proofs.scheduler.Core.headline.Goals as goal
 
@@ -8,3 +10,10 @@ returns-clause-view c =
     let runs = c.is_runnable.ensures in
     let seen : AreSeen i.image i.cells = λ choices m. c.views_are_of_states.ensures i.image i.cells choices m runs.accepted runs.main in
     rw (← c.self.view_is) (view-is i.image i.cells i.history.items (snapshot_of i.machine) c.self.invariant.after.after seen)
+
+pub returns-clause-waiting : goal.returns-clause-waiting
+returns-clause-waiting c =
+    let i = c.self.inside in
+    let alive = living_from 1 (state_after i.image i.history.items).processes in
+    rw (← c.self.view_is) (λ waiting.
+    idle i.image i.cells i.history.items i.waits i.ready.ready c.self.invariant.listed (no-more-ready i.stop alive (ready_in (progress_after i.image i.history.items)) waiting))

@@ -39,7 +39,7 @@ no-stop : (c : After-lives) → c.self.inside.stop ≡ None
 no-stop c = search rules
 
 at-home : (c : After-lives) → is_out c.args.p c.self.inside.out.items ≡ false
-at-home c = subst (λ (v : CoreValue). is_out c.args.p v.out ≡ false) (sym c.self.view_is) c.requires
+at-home c = subst (λ (v : CoreValue). is_out c.args.p v.out ≡ false) (sym c.self.view_is) c.requires.home
 
 are-seen : (c : After-note_all) → AreSeen c.self.inside.image c.self.inside.cells
 are-seen c choices n = c.views_are_of_states.ensures c.self.inside.image c.self.inside.cells choices n c.is_runnable.ensures.accepted c.is_runnable.ensures.main
@@ -65,7 +65,7 @@ entries-are : (c : After-note_all) → c.note_all.new.history.items ≡ entries_
 entries-are c = c.note_all.ensures ∙ ap (λ (es : List Entry). entries_along es c.args.p c.go_on-made.result) c.reserve.ensures.items
 
 within : (c : After-note_all) → length c.self.inside.history.items + c.go_on-made.result ≤ c.self.inside.limit
-within c = omega (arith, c.go_on-made.ensures.few, c.min-most.ensures, c.len.ensures, c.self.invariant.legal.within, c.self.inside.history.ok.0)
+within c = omega (arith, c.go_on-made.ensures.few, c.min-most.ensures, c.len.ensures.count, c.self.invariant.legal.within)
 
 kept : (c : After-note_all) → c.self.inside.stop ≡ None → is_out c.args.p c.self.inside.out.items ≡ false → CoreInvariant (core_along c.self.inside c.note_all.new.history c.go_on-made.new.machine)
 kept c none home =
@@ -101,9 +101,8 @@ returns-clause-all c fewer =
       fewer,
       all,
       c.min-most.ensures,
-      c.len.ensures,
+      c.len.ensures.count,
       c.self.invariant.legal.within,
-      i.history.ok.0,
       ap length (entries-are at.After-note_all),
       entries-more i.history.items c.args.p c.go_on-made.result,
     ) in

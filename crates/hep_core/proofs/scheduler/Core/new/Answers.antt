@@ -5,8 +5,8 @@ use Rattle.hep_blocked.specs.Numbers.{with_number}
 use Rattle.hep_state.specs.Words.{IsMachineAfter, snapshot_of}
 use Rattle.hep_views.specs.Seen.{machine_view}
 use Rattle.hep_core.specs.Tickets.{is_out}
-use Rattle.hep_core.specs.Value.{opening_of}
-use Rattle.hep_core.proofs.Histories.{legal-none, progress-none, schedule-none, single-none}
+use Rattle.hep_core.specs.Value.{AreSingle, opening_of}
+use Rattle.hep_core.proofs.Histories.{legal-none, progress-none, schedule-none}
 use Rattle.hep_core.proofs.Kept.{AreSeen, laid-out, opening-goes, view-is}
 use Rattle.hep_core.proofs.scheduler.Core.new.Goals as goal
 
@@ -28,7 +28,7 @@ invariant_of-result c =
       numbers = omega (arith, c.in_ok-machine.ensures.alone, c.in_ok-reserve.ensures.room, c.add.ensures.room);
       waiting = omega (arith, ap length c.new-2.ensures);
       legal = subst (IsLegal program c.args.cells c.args.steps) none (legal-none program c.args.cells c.args.steps (laid-out program c.args.cells [] (snapshot_of m) after.after));
-      single = subst (λ es. length (schedule_of es) ≤ length es) none (single-none);
+      single = subst AreSingle none tt;
       named = subst (λ es. (state_after program es).halted ≡ _) none (opening-goes program);
       living = λ q away. absurd (true≢false (sym away ∙ ap (is_out q) c.new-3.ensures.items));
       tabled = c.in_ok-tables.ensures;

@@ -18,7 +18,7 @@ use Rattle.hep_core.specs.Value.{CoreValue, IsStop, IsTurn, stop_after}
 use Rattle.hep_core.specs.declared.stop.ChoiceStop.{ChoiceStop}
 use Rattle.hep_core.specs.Waking.{AreInArena, awake_after, is_woken_after}
 use Rattle.hep_core.specs.declared.stop.ChoiceStop.TheVariants.{ArenaFull, Halted}
-use Rattle.hep_core.proofs.Histories.{state-is}
+use Rattle.hep_core.proofs.Histories.{few-steps, state-is}
 use Rattle.hep_core.proofs.Kept.{AreSeen, halted-is, halted-next, named-left, next, some-of, state-next, stepped-kept, steps-on, unturned-kept, unturned-view, view-is, view-next, waited-kept, IsNoWait, along, along-emptying, as-many, blocked-now, emptied-to-lists, in-arena, made-step, no-memory, waits-unstepped, within}
 use Rattle.hep_core.proofs.scheduler.Core.turn.Goals.{After-len, After-lives, After-turn, After-wait, After-wake_after}
 use Rattle.hep_core.proofs.scheduler.Core.turn.Goals as goal
@@ -39,7 +39,7 @@ is-alive c =
     some-of (living (state_after i.image i.history.items) c.args.p) (ap (λ (s : State). is_some (living s c.args.p)) (state-is i.image i.history.items) ∙ sym (c.lives.ensures.lives i.image i.cells (schedule_of i.history.items) c.self.invariant.after.after) ∙ lives)
 
 is-asked : (c : After-turn) → length c.self.inside.history.items < c.self.inside.limit
-is-asked c = omega (arith, c.len.ensures)
+is-asked c = omega (arith, c.len.ensures.count)
 
 are-seen : (c : After-turn) → AreSeen c.self.inside.image c.self.inside.cells
 are-seen c choices n = c.views_are_of_states.ensures c.self.inside.image c.self.inside.cells choices n c.is_runnable.ensures.accepted c.is_runnable.ensures.main
@@ -65,10 +65,10 @@ returns-then-self-len c =
     let h = i.history.items in
     let going = going-on (goal.at.returns-then-self-len c).After-lives in
     let alive = is-alive (goal.at.returns-then-self-len c).After-len in
-    let full : length h ≡ i.limit = omega (arith, c.len.ensures, c.if-self-len.true, c.self.invariant.legal.within) in
+    let full : length h ≡ i.limit = omega (arith, c.len.ensures.count, c.if-self-len.true, c.self.invariant.legal.within) in
     rw (← c.self.view_is) (inr (inl ((going, alive, at-home (goal.at.returns-then-self-len c).After-lives), full, refl, refl)))
 
--- each activation was made by an entry of its own, and the history is a vector
+-- each activation was made by an entry of its own, of which there are less than 2^64 by far
 pub turn-requires : goal.turn-requires
 turn-requires c =
     let i = c.self.inside in
@@ -80,7 +80,7 @@ turn-requires c =
       after = after-history i.image i.cells h i.machine k.after;
       running = halted-is i.image i.cells h (snapshot_of i.machine) k.after.after ∙ going.1;
       living = c.lives.ensures.levels lives;
-      countable = omega (arith, c.activations_are_few.ensures i.image i.cells (schedule_of h) (snapshot_of i.machine) k.after.after, k.single, i.history.ok.0, i.history.ok.1, i.history.small);
+      countable = omega (arith, c.activations_are_few.ensures i.image i.cells (schedule_of h) (snapshot_of i.machine) k.after.after, few-steps h k.single, c.len.ensures.count, c.len.ensures.few);
       numbers = k.numbers;
     }
 

@@ -1,0 +1,116 @@
+//! What a violation is about.
+ghost use Rattle.std.specs.Prelude.{◌≡◌, IfOk, find};
+ghost use Rattle.std.specs.Option.{option_copied, option_map};
+ghost use Rattle.hep_culprits.specs.Culprits as words;
+
+use crate::arguments::misfit;
+use crate::counts::miscounted;
+use crate::forms::mistyped;
+use crate::labels::{absent_label, structure_culprit, target_label};
+use crate::lone::{lone_block, lone_target, unit_header};
+use hep_conditions::Violation;
+use hep_names::{ProgramSymbols, Symbols};
+use hep_source::{Name, Occurrence, Statement};
+use std::alloc::{AllocError, Global};
+
+/// What in a statement violates a condition.
+#[derive(Clone, Copy, Debug, PartialEq, Eq)]
+pub enum Culprit {
+    /// A name where it stands.
+    Name(Occurrence),
+    /// A label.
+    Label(u32),
+    /// A common block; blank COMMON has no name.
+    Block(Option<Name>),
+}
+
+fn named(found: Option<Occurrence>) -> Option<Culprit>
+    ensures { result ≡ option_map words.a_name found }
+{
+    match found {
+        Some(occurrence) => Some(Culprit::Name(occurrence)),
+        None => None,
+    }
+}
+
+fn labelled(found: Option<u32>) -> Option<Culprit>
+    ensures { result ≡ option_map words.a_label found }
+{
+    match found {
+        Some(label) => Some(Culprit::Label(label)),
+        None => None,
+    }
+}
+
+// What in a statement of a unit violates the condition with this number.
+fn culprit_in(
+    alloc: Global,
+    program: &ProgramSymbols,
+    symbols: &Symbols,
+    statement: &Statement,
+    number: u16,
+) -> Result<Option<Culprit>, AllocError>
+    ensures { IfOk result (λ culprit. culprit ≡ words.culprit_in program.now symbols.now statement.now number) }
+{
+    match number {
+        302 => Ok(named(mistyped(program, symbols, statement))),
+        303 => Ok(named(miscounted(alloc, program, symbols, statement)?)),
+        304 => Ok(named(misfit(alloc, program, symbols, statement)?)),
+        305 => Ok(lone_block(&statement.form)),
+        306 => Ok(labelled(absent_label(alloc, symbols, statement)?)),
+        307 => Ok(structure_culprit(program, symbols, statement)),
+        308 => Ok(labelled(target_label(&statement.form))),
+        311 => Ok(named(lone_target(&statement.form))),
+        312 => Ok(named(unit_header(symbols.statements()))),
+        _ => Ok(None),
+    }
+}
+
+// The statement of a unit at a line.
+fn statement_at<'a>(symbols: &Symbols<'a>, line: u32) -> Option<&'a Statement>
+    ensures { option_copied result ≡ find (words.is_at line) symbols.now }
+{
+    for statement in symbols.statements() {
+        if statement.line == line {
+            return Some(statement);
+        }
+    }
+    None
+}
+
+// What stands at the line of a violation and violates its condition.
+fn culprit_at(
+    alloc: Global,
+    program: &ProgramSymbols,
+    violation: &Violation,
+) -> Result<Option<Culprit>, AllocError>
+    ensures { IfOk result (λ culprit. culprit ≡ words.culprit_among program.now violation.now program.now) }
+{
+    for symbols in program.units() {
+        if let Some(statement) = statement_at(symbols, violation.line) {
+            return culprit_in(alloc, program, symbols, statement, violation.number);
+        }
+    }
+    Ok(None)
+}
+
+/// What a violation of a program is about, as far as one thing is: a name where it stands, a label, or a common block.
+///
+/// # Errors
+///
+/// Only where memory was refused.
+pub fn culprit_of(
+    alloc: Global,
+    program: &ProgramSymbols,
+    violation: &Violation,
+) -> Result<Option<Culprit>, AllocError>
+    ensures { IfOk result (λ culprit. culprit ≡ words.culprit_of program.now violation.now) }
+{
+    match violation.name {
+        Some(name) => Ok(Some(Culprit::Name(Occurrence {
+            name,
+            position: violation.position,
+        }))),
+        None => culprit_at(alloc, program, violation),
+    }
+}

@@ -1,0 +1,55 @@
+//! One write, and the fault that its refusal is.
+ghost use Rattle.std.specs.Prelude.{◌≡◌, ◌≤◌, ◌<◌, ◌+◌, drop, length, take, IfOk, IfErr, OnErr};
+ghost use Rattle.std.specs.Io.KnownBytes.{Appends, Keeps};
+
+use std::io::Write;
+use thiserror::Error;
+
+// What a writer answers that takes no more.
+#[derive(Clone, Copy, Debug, PartialEq, Eq)]
+enum Answer {
+    Failed,
+    TookNothing,
+}
+
+/// A write that failed: the writer has taken just the first `written` bytes.
+///
+/// No code but `write_on` can make one, which does so right behind a writer's answer.
+#[derive(Clone, Copy, Debug, PartialEq, Eq, Error)]
+#[error("write fault after {written}")]
+pub struct PutFault {
+    /// How many bytes were taken.
+    pub written: usize,
+    answer: Answer,
+}
+
+/// Writes on where so many bytes were taken: how many further ones the writer takes, which is one at least.
+///
+/// # Errors
+///
+/// Where the write fails, an interrupted one too, or takes nothing.
+pub(crate) fn write_on<W: Write>(
+    writer: &mut W,
+    bytes: &[u8],
+    written: usize,
+) -> Result<usize, PutFault>
+    requires { written < length bytes.now }
+    ensures some { IfOk result (λ count. 1 ≤ count) }
+    ensures within { IfOk result (λ count. written + count ≤ length bytes.now) }
+    ensures taken { IfOk result (λ count.
+        Appends (W.contents writer.old) (W.contents writer.new) (take count (drop written bytes.now))) }
+    ensures told { IfErr result (λ fault. fault.written ≡ written) }
+    ensures refused { OnErr result (Keeps (W.contents writer.old) (W.contents writer.new)) }
+{
+    match writer.write(&bytes[written..]) {
+        Ok(0) => Err(PutFault {
+            written,
+            answer: Answer::TookNothing,
+        }),
+        Ok(count) => Ok(count),
+        Err(_) => Err(PutFault {
+            written,
+            answer: Answer::Failed,
+        }),
+    }
+}
