@@ -12,8 +12,8 @@ _hepf() {
     [[ $before != = ]] || before=${COMP_WORDS[COMP_CWORD - 2]}
     [[ $word != = ]] || word=
     case $before in
-        --arena | --steps | --workers) return ;;
-        --choices | --history)
+        --arena | --steps | --workers | --seed | --runs) return ;;
+        --choices | --history | --keep)
             _hepf_offer -f
             return
             ;;
@@ -22,13 +22,14 @@ _hepf() {
     local at=1
     [[ ${COMP_WORDS[1]} != --long ]] || at=2
     if ((COMP_CWORD <= at)); then
-        _hepf_offer -W "check run replay list explain help --long --help --version"
+        _hepf_offer -W "check run sample replay list explain help --long --help --version"
         return
     fi
     case ${COMP_WORDS[at]} in
         check) options="--warn --long --help" ;;
         list) options="--long --help" ;;
-        run) options="--arena --steps --workers --choices --history --long --help" ;;
+        run) options="--arena --steps --workers --seed --choices --history --long --help" ;;
+        sample) options="--runs --seed --arena --steps --keep --long --help" ;;
         replay) options="--arena --long --help" ;;
         explain)
             if ((COMP_CWORD == at + 1)); then
@@ -39,7 +40,7 @@ _hepf() {
             return
             ;;
         help)
-            _hepf_offer -W "check run replay list explain"
+            _hepf_offer -W "check run sample replay list explain"
             return
             ;;
         *) return ;;

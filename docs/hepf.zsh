@@ -7,6 +7,7 @@ _hepf() {
     commands=(
         'check:say why a source is refused'
         'run:run a source'
+        'sample:run a source by lots many times and count what comes'
         'replay:make the steps of a history again'
         'list:show the units and common blocks of a source'
         'explain:say what a line or a status means'
@@ -32,9 +33,14 @@ _hepf_words() {
             ;;
         run)
             _arguments '--arena=[cells of storage]:cells:' '--steps=[entries of the history]:entries:' \
-                '--workers=[threads, 1 to 16]:threads:' '--choices=[processes that are chosen first]:choices:_files' \
+                '--workers=[threads, 1 to 16]:threads:' '--seed=[what lots are drawn by]:seed:' '--choices=[processes that are chosen first]:choices:_files' \
                 '--history=[file that gets the history]:history:_files' '--long[say more of what went wrong]' '--help[show help]' \
                 '1:source:_files'
+            ;;
+        sample)
+            _arguments '--runs=[runs, 1 to 1000000]:runs:' '--seed=[seed of the first run]:seed:' '--arena=[cells of storage]:cells:' \
+                '--steps=[entries of the history]:entries:' '--keep=[how the files of histories begin]:prefix:_files' \
+                '--long[say more of what went wrong]' '--help[show help]' '1:source:_files'
             ;;
         replay)
             _arguments '--arena=[cells of storage]:cells:' '--long[say more of what went wrong]' '--help[show help]' '1:source:_files' \
@@ -45,7 +51,7 @@ _hepf_words() {
                 '*:its next word:(ARENA STEP FULL LIMIT MEMORY REFUSED FAULT RUNNING 0 1 2 3 4 5 6 7 8 70)'
             ;;
         help)
-            _arguments '1:command:(check run replay list explain)'
+            _arguments '1:command:(check run sample replay list explain)'
             ;;
     esac
 }

@@ -1,7 +1,7 @@
 -- What the words for numbers, jobs and names say, row by row.
 use Rattle.std.proofs.Common.{◌≡◌, ◌∷◌, [], Some, None, false, refl, true, codes}
 use Rattle.clap.proofs.OnLiterals.{clap_on_literals}
-use Rattle.hep_command.specs.Asked.{check, explain, heard, replay, run, standard}
+use Rattle.hep_command.specs.Asked.{check, explain, heard, replay, run, sample, standard}
 use Rattle.hep_command.specs.Explanations.{is_explained, name_of}
 use Rattle.hep_command.specs.Numbers.{number_within}
 use Rattle.hep_command.specs.Program.{asked, is_long}
@@ -45,14 +45,29 @@ no_word = refl
 
 run_with_all : asked (codes "hepf" ∷ codes "run" ∷ codes "--history" ∷ codes "h" ∷ codes "a.f" ∷ codes "--steps=4294967296"
     ∷ codes "--choices" ∷ codes "c" ∷ codes "--arena" ∷ codes "9" ∷ [])
-    ≡ Some (run (codes "a.f") 9 4294967296 None (Some (codes "c")) (Some (codes "h")))
+    ≡ Some (run (codes "a.f") 9 4294967296 None None (Some (codes "c")) (Some (codes "h")))
 unfolding asked clap_on_literals
 run_with_all = refl
 
 run_by_workers : asked (codes "hepf" ∷ codes "run" ∷ codes "a.f" ∷ codes "--workers" ∷ codes "16" ∷ [])
-    ≡ Some (run (codes "a.f") 65536 10000000 (Some 16) None None)
+    ≡ Some (run (codes "a.f") 65536 10000000 (Some 16) None None None)
 unfolding asked clap_on_literals
 run_by_workers = refl
+
+run_by_lots : asked (codes "hepf" ∷ codes "run" ∷ codes "a.f" ∷ codes "--seed" ∷ codes "7" ∷ [])
+    ≡ Some (run (codes "a.f") 65536 10000000 None (Some 7) None None)
+unfolding asked clap_on_literals
+run_by_lots = refl
+
+sample_with_defaults : asked (codes "hepf" ∷ codes "sample" ∷ codes "a.f" ∷ [])
+    ≡ Some (sample (codes "a.f") 100 1 65536 10000000 None)
+unfolding asked clap_on_literals
+sample_with_defaults = refl
+
+sample_with_all : asked (codes "hepf" ∷ codes "sample" ∷ codes "--runs" ∷ codes "9" ∷ codes "a.f" ∷ codes "--keep" ∷ codes "k" ∷ codes "--seed=4" ∷ [])
+    ≡ Some (sample (codes "a.f") 9 4 65536 10000000 (Some (codes "k")))
+unfolding asked clap_on_literals
+sample_with_all = refl
 
 replay_with_defaults : asked (codes "hepf" ∷ codes "replay" ∷ codes "a.f" ∷ codes "h" ∷ [])
     ≡ Some (replay (codes "a.f") (codes "h") 65536)

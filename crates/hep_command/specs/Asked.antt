@@ -8,13 +8,14 @@ use Rattle.clap.specs.Words.{Row, Text, first_of, found_of, rows_of}
 use Rattle.clap.specs.declared.parser.matches.ArgMatches.{ArgMatches}
 use Rattle.hep_command.specs.Numbers.{number_within, option_number}
 use Rattle.hep_command.specs.declared.job.Job.{Job}
-use Rattle.hep_command.specs.declared.job.Job.TheVariants.{Standard, Check, Run, Replay, List, Explain}
+use Rattle.hep_command.specs.declared.job.Job.TheVariants.{Standard, Check, Run, Sample, Replay, List, Explain}
 
 -- a job with the texts of its paths
 pub data Asked : Type 0 where
   standard : Asked
   check : Text → Bool → Asked
-  run : Text → ℕ → ℕ → Option ℕ → Option Text → Option Text → Asked
+  run : Text → ℕ → ℕ → Option ℕ → Option ℕ → Option Text → Option Text → Asked
+  sample : Text → ℕ → ℕ → ℕ → ℕ → Option Text → Asked
   replay : Text → Text → ℕ → Asked
   list : Text → Asked
   explain : Text → Option Text → Option Text → Asked
@@ -25,7 +26,8 @@ texts = option_map (λ path. path.now)
 abbrev pub asked_by : Job → Asked
 asked_by Standard = standard
 asked_by (Check file warn) = check file.now warn
-asked_by (Run file arena steps workers choices history) = run file.now arena steps workers (texts choices) (texts history)
+asked_by (Run file arena steps workers seed choices history) = run file.now arena steps workers seed (texts choices) (texts history)
+asked_by (Sample file runs seed arena steps keep) = sample file.now runs seed arena steps (texts keep)
 asked_by (Replay file history arena) = replay file.now history.now arena
 asked_by (List file) = list file.now
 asked_by (Explain first second third) = explain first.now (texts second) (texts third)
@@ -68,22 +70,37 @@ arena_in rows = option_number 16777216 65536 (first_of (codes "arena") rows)
 abbrev pub steps_in : ListOf Row → Option ℕ
 steps_in rows = option_number 4294967296 10000000 (first_of (codes "steps") rows)
 
--- how many workers there are, where their option is given
-abbrev pub workers_by : Option Text → Option (Option ℕ)
-workers_by None = Some None
-workers_by (Some text) = option_map Some (number_within 1 16 text)
+-- the number of an option, up to this one, where it is given
+abbrev pub number_by : ℕ → Option Text → Option (Option ℕ)
+number_by most None = Some None
+number_by most (Some text) = option_map Some (number_within 1 most text)
 
 abbrev pub workers_in : ListOf Row → Option (Option ℕ)
-workers_in rows = workers_by (first_of (codes "workers") rows)
+workers_in rows = number_by 16 (first_of (codes "workers") rows)
+
+abbrev pub seed_in : ListOf Row → Option (Option ℕ)
+seed_in rows = number_by 4294967296 (first_of (codes "seed") rows)
+
+abbrev pub first_seed_in : ListOf Row → Option ℕ
+first_seed_in rows = option_number 4294967296 1 (first_of (codes "seed") rows)
+
+abbrev pub runs_in : ListOf Row → Option ℕ
+runs_in rows = option_number 1000000 100 (first_of (codes "runs") rows)
 
 abbrev pub check_in : ListOf Row → Option Asked
 check_in rows = option_map (λ file. check file (is_given (codes "warn") rows)) (first_of (codes "file") rows)
 
 abbrev pub run_in : ListOf Row → Option Asked
 run_in rows =
-    option_and_then (λ file. option_and_then (λ arena. option_and_then (λ steps. option_map
-    (λ workers. run file arena steps workers (first_of (codes "choices") rows) (first_of (codes "history") rows))
-    (workers_in rows)) (steps_in rows)) (arena_in rows)) (first_of (codes "file") rows)
+    option_and_then (λ file. option_and_then (λ arena. option_and_then (λ steps. option_and_then (λ workers. option_map
+    (λ seed. run file arena steps workers seed (first_of (codes "choices") rows) (first_of (codes "history") rows))
+    (seed_in rows)) (workers_in rows)) (steps_in rows)) (arena_in rows)) (first_of (codes "file") rows)
+
+abbrev pub sample_in : ListOf Row → Option Asked
+sample_in rows =
+    option_and_then (λ file. option_and_then (λ runs. option_and_then (λ seed. option_and_then (λ arena. option_map
+    (λ steps. sample file runs seed arena steps (first_of (codes "keep") rows))
+    (steps_in rows)) (arena_in rows)) (first_seed_in rows)) (runs_in rows)) (first_of (codes "file") rows)
 
 abbrev pub replay_in : ListOf Row → Option Asked
 replay_in rows =
@@ -103,9 +120,10 @@ abbrev pub command_in : Text → ListOf Row → Option Asked
 command_in command rows =
     if bytes_eq command (codes "check") then check_in rows
     else (if bytes_eq command (codes "run") then run_in rows
+    else (if bytes_eq command (codes "sample") then sample_in rows
     else (if bytes_eq command (codes "replay") then replay_in rows
     else (if bytes_eq command (codes "list") then list_in rows
-    else (if bytes_eq command (codes "explain") then explain_in rows else None))))
+    else (if bytes_eq command (codes "explain") then explain_in rows else None)))))
 
 -- with no command the source on standard input is run
 abbrev pub job_in : Option (Text × ListOf Row) → Option Asked

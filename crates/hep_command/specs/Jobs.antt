@@ -4,7 +4,7 @@ use Rattle.std.specs.Borrow.{Bor}
 use Rattle.clap.specs.declared.error.kind.ErrorKind.{ErrorKind}
 use Rattle.clap.specs.declared.error.kind.ErrorKind.TheVariants.{DisplayHelp, DisplayVersion, OutOfMemory}
 use Rattle.hep_command.specs.declared.job.Job.{Job}
-use Rattle.hep_command.specs.declared.job.Job.TheVariants.{Standard, Check, Run, Replay, List, Explain}
+use Rattle.hep_command.specs.declared.job.Job.TheVariants.{Standard, Check, Run, Sample, Replay, List, Explain}
 
 abbrev pub IsArena : ℕ → Type 0
 IsArena cells = (1 ≤ cells) × (cells ≤ 16777216)
@@ -16,11 +16,22 @@ abbrev pub AreWorkers : Option ℕ → Type 0
 AreWorkers None = Unit {0}
 AreWorkers (Some workers) = (1 ≤ workers) × (workers ≤ 16)
 
+abbrev pub IsSeed : ℕ → Type 0
+IsSeed seed = (1 ≤ seed) × (seed ≤ 4294967296)
+
+abbrev pub HasSeed : Option ℕ → Type 0
+HasSeed None = Unit {0}
+HasSeed (Some seed) = IsSeed seed
+
+abbrev pub AreSampled : ℕ → Type 0
+AreSampled runs = (1 ≤ runs) × (runs ≤ 1000000)
+
 -- the numbers of the job are those that its options allow
 abbrev pub IsInRange : Job → Type 0
 IsInRange Standard = Unit {0}
 IsInRange (Check file warn) = Unit {0}
-IsInRange (Run file arena steps workers choices history) = IsArena arena × IsSteps steps × AreWorkers workers
+IsInRange (Run file arena steps workers seed choices history) = IsArena arena × IsSteps steps × AreWorkers workers × HasSeed seed
+IsInRange (Sample file runs seed arena steps keep) = AreSampled runs × IsSeed seed × IsArena arena × IsSteps steps
 IsInRange (Replay file history arena) = IsArena arena
 IsInRange (List file) = Unit {0}
 IsInRange (Explain first second third) = Unit {0}
@@ -31,12 +42,14 @@ IsNoPath None other = Unit {0}
 IsNoPath (Some path) other = path.now ≢ other.now
 
 abbrev pub IsWrittenApart : Job → Type 0
-IsWrittenApart (Run file arena steps workers choices (Some history)) = (file.now ≢ history.now) × IsNoPath choices history
+IsWrittenApart (Run file arena steps workers seed choices (Some history)) = (file.now ≢ history.now) × IsNoPath choices history
 IsWrittenApart _ = Unit {0}
 
--- who steps first is said by the choices, or else by the workers
+-- who comes when is said by the choices, or else by the workers, or else by lots
 abbrev pub IsOneOrder : Job → Type 0
-IsOneOrder (Run file arena steps (Some workers) (Some choices) history) = ⊥
+IsOneOrder (Run file arena steps (Some workers) (Some seed) choices history) = ⊥
+IsOneOrder (Run file arena steps (Some workers) None (Some choices) history) = ⊥
+IsOneOrder (Run file arena steps None (Some seed) (Some choices) history) = ⊥
 IsOneOrder _ = Unit {0}
 
 -- a text was asked for, the words are wrong, or memory was refused

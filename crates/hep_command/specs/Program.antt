@@ -43,6 +43,16 @@ steps_option = number_option (codes "steps") 4294967296
 abbrev pub workers_option : Rule
 workers_option = number_option (codes "workers") 16
 
+abbrev pub seed_option : Rule
+seed_option = number_option (codes "seed") 4294967296
+
+abbrev pub runs_option : Rule
+runs_option = number_option (codes "runs") 1000000
+
+-- a word that begins the names of files
+abbrev pub keep_option : Rule
+keep_option = file_option (codes "keep")
+
 abbrev pub choices_option : Rule
 choices_option = file_option (codes "choices")
 
@@ -62,8 +72,13 @@ check_command = with_rule (with_rule (with_rule (new_app (codes "check")) source
 
 abbrev pub run_command : App
 run_command =
-    with_rule (with_rule (with_rule (with_rule (with_rule (with_rule (with_rule (new_app (codes "run")) source_word)
-    arena_option) steps_option) workers_option) choices_option) history_option) long_flag
+    with_rule (with_rule (with_rule (with_rule (with_rule (with_rule (with_rule (with_rule (new_app (codes "run")) source_word)
+    arena_option) steps_option) workers_option) seed_option) choices_option) history_option) long_flag
+
+abbrev pub sample_command : App
+sample_command =
+    with_rule (with_rule (with_rule (with_rule (with_rule (with_rule (with_rule (new_app (codes "sample")) source_word)
+    runs_option) seed_option) arena_option) steps_option) keep_option) long_flag
 
 abbrev pub replay_command : App
 replay_command =
@@ -87,8 +102,8 @@ bare_program = with_rule named_program long_flag
 
 abbrev pub hepf : App
 hepf =
-    with_subcommand (with_subcommand (with_subcommand (with_subcommand (with_subcommand bare_program
-    check_command.top) run_command.top) replay_command.top) list_command.top) explain_command.top
+    with_subcommand (with_subcommand (with_subcommand (with_subcommand (with_subcommand (with_subcommand bare_program
+    check_command.top) run_command.top) sample_command.top) replay_command.top) list_command.top) explain_command.top
 
 -- a parse sees this of the argument, and of the command
 abbrev pub IsArgument : Rule → Arg → Type 0
@@ -110,7 +125,7 @@ abbrev pub IsAskedBy : List Text → Request → Type 0
 IsAskedBy words request = (asked words ≡ Some (asked_by request.job)) × (request.long ≡ is_long words)
 
 -- the status where the words get no job: that of a fault which they have, and 2 where they have none, as where the
--- history would be written to a file that is read, or both choices and workers are given
+-- history would be written to a file that is read, or two of choices, workers and a seed are given
 unfoldable pub IsStatusFor : List Text → ℕ → Type 0
 IsStatusFor words status = ((fault_of hepf (heard words) ≡ []) × (status ≡ 2))
     ⊎ ((kind : ErrorKind) × IsAmong kind (fault_of hepf (heard words)) × (status ≡ usage_status kind))

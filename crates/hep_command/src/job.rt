@@ -18,6 +18,18 @@ pub const MOST_STEPS: u64 = 4_294_967_296;
 /// The most workers that an option allows a run.
 pub const MOST_WORKERS: u64 = 16;
 
+/// The greatest seed of lots.
+pub const MOST_SEED: u64 = 4_294_967_296;
+
+/// The seed of a sample's first run, where no option says which one.
+pub const FIRST_SEED: u64 = 1;
+
+/// The runs of a sample, where no option says how many.
+pub const RUNS: u64 = 100;
+
+/// The most runs of a sample.
+pub const MOST_RUNS: u64 = 1_000_000;
+
 /// What a command line asks for. Files go by their paths.
 #[derive(Clone, Copy, Debug, PartialEq, Eq)]
 pub enum Job<'a> {
@@ -38,10 +50,26 @@ pub enum Job<'a> {
         steps: u64,
         /// How many workers run it, 1 to 16; without them the run is serial.
         workers: Option<u32>,
+        /// The seed of the lots that it is run by, 1 to 4,294,967,296.
+        seed: Option<u64>,
         /// The file of the choices, which only a serial run has.
         choices: Option<&'a str>,
         /// The file that gets the history.
         history: Option<&'a str>,
+    },
+    /// To run a source by lots, by one seed after the other, and count what comes of it.
+    Sample {
+        file: &'a str,
+        /// How many runs there are, 1 to 1,000,000.
+        runs: u32,
+        /// The seed of the first run, 1 to 4,294,967,296.
+        seed: u64,
+        /// The cells of the arena, 1 to 16,777,216.
+        arena: u32,
+        /// The entries that the history of a run may have, 1 to 4,294,967,296.
+        steps: u64,
+        /// How the names of the files begin that get the histories of the first runs.
+        keep: Option<&'a str>,
     },
     /// To make the steps of a history again.
     Replay {

@@ -14,4 +14,4 @@ pub use explaining::explain;
 pub use job::{Job, Request, Usage};
 pub use meanings::meaning;
 pub use refusals::explanation;
-pub use words::{SAME_FILE, TWO_ORDERS, read_request, read_words};
+pub use words::{LOTS_TOO, SAME_FILE, TWO_ORDERS, read_request, read_words};

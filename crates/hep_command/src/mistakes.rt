@@ -1,6 +1,6 @@
 //! What is said of words that `clap` refuses: its own text, and more where that says too little.
 
-use crate::job::{MOST_ARENA, MOST_STEPS, MOST_WORKERS};
+use crate::job::{MOST_ARENA, MOST_RUNS, MOST_SEED, MOST_STEPS, MOST_WORKERS};
 use clap::Error;
 use clap::error::ErrorKind;
 use std::alloc::{AllocError, Global};
@@ -43,6 +43,12 @@ fn most_of(option: &str) -> u64 {
     }
     if option == "steps" {
         return MOST_STEPS;
+    }
+    if option == "seed" {
+        return MOST_SEED;
+    }
+    if option == "runs" {
+        return MOST_RUNS;
     }
     MOST_WORKERS
 }

@@ -5,7 +5,7 @@ ghost use Rattle.clap.specs.Words.{App, Rule, with_rule, with_subcommand};
 ghost use Rattle.hep_command.specs.Program.{IsArgument, IsCommand};
 ghost use Rattle.hep_command.specs.Program as spec;
 
-use crate::job::{MOST_ARENA, MOST_STEPS, MOST_WORKERS};
+use crate::job::{MOST_ARENA, MOST_RUNS, MOST_SEED, MOST_STEPS, MOST_WORKERS};
 use clap::builder::ValueParser;
 use clap::{Arg, ArgAction, Command};
 use std::alloc::{AllocError, Global};
@@ -23,6 +23,10 @@ const CHECK_EXAMPLE: &str = "Example: hepf check examples/powers.f
          hepf check --warn examples/quotients.f";
 
 const RUN_EXAMPLE: &str = "Example: hepf run examples/powers.f --history powers.history";
+
+const SAMPLE_EXAMPLE: &str = "What no lot shows isn't shown never to happen.
+
+Example: hepf sample examples/race.f --runs 1000 --keep race";
 
 const REPLAY_EXAMPLE: &str = "Example: hepf replay examples/powers.f powers.history";
 
@@ -141,10 +145,18 @@ fn workers_option<'a>(alloc: Global) -> Arg<'a>
     number_option(alloc, "workers", MOST_WORKERS).help("Run by so many threads, 1 to 16")
 }
 
+fn seed_option<'a>(alloc: Global) -> Arg<'a>
+    ensures { IsArgument spec.seed_option result }
+{
+    number_option(alloc, "seed", MOST_SEED).help(
+        "Draw lots who comes next, by seed 1 to 4294967296",
+    )
+}
+
 fn choices_option<'a>(alloc: Global) -> Arg<'a>
     ensures { IsArgument spec.choices_option result }
 {
-    file_option(alloc, "choices").help("The processes that are chosen first, one a line")
+    file_option(alloc, "choices").help("The processes chosen first, one a line, or a history")
 }
 
 fn history_option<'a>(alloc: Global) -> Arg<'a>
@@ -163,9 +175,48 @@ fn run_command<'a>(alloc: Global) -> Result<Command<'a>, AllocError>
     let run = with_arg(run, arena_option(alloc));
     let run = with_arg(run, steps_option(alloc));
     let run = with_arg(run, workers_option(alloc));
+    let run = with_arg(run, seed_option(alloc));
     let run = with_arg(run, choices_option(alloc));
     let run = with_arg(run, history_option(alloc));
     with_arg(run, long_flag(alloc))
+}
+
+fn runs_option<'a>(alloc: Global) -> Arg<'a>
+    ensures { IsArgument spec.runs_option result }
+{
+    number_option(alloc, "runs", MOST_RUNS).help("Runs, 1 to 1000000 [default: 100]")
+}
+
+fn first_seed_option<'a>(alloc: Global) -> Arg<'a>
+    ensures { IsArgument spec.seed_option result }
+{
+    number_option(alloc, "seed", MOST_SEED).help(
+        "The seed of the first run, 1 to 4294967296 [default: 1]",
+    )
+}
+
+fn keep_option<'a>(alloc: Global) -> Arg<'a>
+    ensures { IsArgument spec.keep_option result }
+{
+    Arg::new(alloc, "keep")
+        .long("keep")
+        .value_name("PREFIX")
+        .help("Keep the first history of each outcome in PREFIX.SEED")
+}
+
+fn sample_command<'a>(alloc: Global) -> Result<Command<'a>, AllocError>
+    ensures { IfOk result (IsCommand spec.sample_command) }
+{
+    let sample = Command::new(alloc, "sample")
+        .about("Run a source by lots many times and count what comes")
+        .after_help(SAMPLE_EXAMPLE)
+        .arg(source_argument(alloc));
+    let sample = with_arg(sample, runs_option(alloc));
+    let sample = with_arg(sample, first_seed_option(alloc));
+    let sample = with_arg(sample, arena_option(alloc));
+    let sample = with_arg(sample, steps_option(alloc));
+    let sample = with_arg(sample, keep_option(alloc));
+    with_arg(sample, long_flag(alloc))
 }
 
 // A first part of a history that is there.
@@ -236,6 +287,7 @@ pub(crate) fn program<'a>(alloc: Global) -> Result<Command<'a>, AllocError>
         .arg(long_flag(alloc));
     let whole = with_command(whole, check_command(alloc));
     let whole = with_command(whole, run_command(alloc));
+    let whole = with_command(whole, sample_command(alloc));
     let whole = with_command(whole, replay_command(alloc));
     let whole = with_command(whole, list_command(alloc));
     with_command(whole, explain_command(alloc))

@@ -1,14 +1,17 @@
 //! The words of a command line.
-ghost use Rattle.std.specs.Prelude.{◌≡◌, ◌⊎◌, ◌≤◌, false, true, IfOk, IfErr, IfSome, Some, map, option_map};
+ghost use Rattle.std.specs.Prelude.{◌≡◌, ◌⊎◌, ◌≤◌, false, true, IfOk, IfErr, IfNone, IfSome, Some, map, option_map};
 ghost use Rattle.clap.specs.Words.{kind_of, subcommand_rows_of};
 ghost use Rattle.hep_command.specs.Program.{IsAskedBy, IsStatusFor, asked};
 ghost use Rattle.hep_command.specs.Numbers.{number_within, option_number};
 ghost use Rattle.hep_command.specs.Asked.{asked_by, arena_in, asks_from, check_in, command_in, explain_in, heard, is_given, is_help_of_help};
 ghost use Rattle.hep_command.specs.Asked.{is_long_in, is_word, job_in, list_in, replay_in, run_in, steps_in, word_of, words_found};
-ghost use Rattle.hep_command.specs.Asked.{workers_in};
+ghost use Rattle.hep_command.specs.Asked.{first_seed_in, runs_in, sample_in, seed_in, workers_in};
 ghost use Rattle.hep_command.specs.Jobs.{IsInRange, IsNoPath, IsOneOrder, IsUsageStatus, IsWrittenApart, usage_status};
 
-use crate::job::{ARENA, Job, MOST_ARENA, MOST_STEPS, MOST_WORKERS, Request, STEPS, Usage};
+use crate::job::{
+    ARENA, FIRST_SEED, Job, MOST_ARENA, MOST_RUNS, MOST_SEED, MOST_STEPS, MOST_WORKERS, RUNS,
+    Request, STEPS, Usage,
+};
 use crate::mistakes::said;
 use crate::program::program;
 use clap::error::ErrorKind;
@@ -25,6 +28,9 @@ pub const SAME_FILE: &str = "error: --history names a file that is read\n";
 
 /// What is said where both the choices and the workers are given: who steps first would be said twice.
 pub const TWO_ORDERS: &str = "USAGE: --choices excludes --workers\n";
+
+/// What is said where a seed is given beside the choices or the workers, for the same reason.
+pub const LOTS_TOO: &str = "USAGE: --seed excludes --choices and --workers\n";
 
 // The number that a text of decimal digits writes, where it lies in the range. Of options `clap` has
 // checked this before; it is read anew from the text, so that the job's number is the word's.
@@ -83,6 +89,32 @@ fn workers_of(found: &ArgMatches<'_>) -> Option<Option<u32>>
     Some(Some(workers as u32))
 }
 
+// The seed of a run by lots, where the option is given.
+fn seed_of(found: &ArgMatches<'_>) -> Option<Option<u64>>
+    ensures range { IfSome result (λ seed. IfSome seed (λ n. (1 ≤ n) × (n ≤ 4294967296))) }
+    ensures number { result ≡ seed_in (words_found found.now) }
+{
+    let Some(text) = word_of(found, "seed") else {
+        return Some(None);
+    };
+    Some(Some(number_within(text, 1, MOST_SEED)?))
+}
+
+fn first_seed_of(found: &ArgMatches<'_>) -> Option<u64>
+    ensures range { IfSome result (λ n. (1 ≤ n) × (n ≤ 4294967296)) }
+    ensures number { result ≡ first_seed_in (words_found found.now) }
+{
+    number_of(found, "seed", MOST_SEED, FIRST_SEED)
+}
+
+fn runs_of(found: &ArgMatches<'_>) -> Option<u32>
+    ensures range { IfSome result (λ n. (1 ≤ n) × (n ≤ 1000000)) }
+    ensures number { result ≡ runs_in (words_found found.now) }
+{
+    let runs = number_of(found, "runs", MOST_RUNS, RUNS)?;
+    Some(runs as u32)
+}
+
 fn check_job<'a>(found: &ArgMatches<'a>) -> Option<Job<'a>>
     ensures range { IfSome result IsInRange }
     ensures job { option_map asked_by result ≡ check_in (words_found found.now) }
@@ -102,8 +134,23 @@ fn run_job<'a>(found: &ArgMatches<'a>) -> Option<Job<'a>>
         arena: arena_of(found)?,
         steps: steps_of(found)?,
         workers: workers_of(found)?,
+        seed: seed_of(found)?,
         choices: word_of(found, "choices"),
         history: word_of(found, "history"),
+    })
+}
+
+fn sample_job<'a>(found: &ArgMatches<'a>) -> Option<Job<'a>>
+    ensures range { IfSome result IsInRange }
+    ensures job { option_map asked_by result ≡ sample_in (words_found found.now) }
+{
+    Some(Job::Sample {
+        file: word_of(found, "file")?,
+        runs: runs_of(found)?,
+        seed: first_seed_of(found)?,
+        arena: arena_of(found)?,
+        steps: steps_of(found)?,
+        keep: word_of(found, "keep"),
     })
 }
 
@@ -148,6 +195,9 @@ fn command_job<'a>(command: &str, found: &ArgMatches<'a>) -> Option<Job<'a>>
     }
     if command == "run" {
         return run_job(found);
+    }
+    if command == "sample" {
+        return sample_job(found);
     }
     if command == "replay" {
         return replay_job(found);
@@ -221,18 +271,28 @@ fn is_overwriting(job: &Job<'_>) -> bool
     }
 }
 
-// Whether both the choices and the workers are given.
-fn has_two_orders(job: &Job<'_>) -> bool
-    ensures one { result ≡ false → IsOneOrder job.now }
-    ensures two { result ≡ true → ¬ (IsOneOrder job.now) }
+// Two of choices, workers and a seed that are given, as it is said.
+fn two_orders(job: &Job<'_>) -> Option<&'static str>
+    ensures one { IfNone result (IsOneOrder job.now) }
+    ensures two { IfSome result (λ _. ¬ (IsOneOrder job.now)) }
 {
     match job {
         Job::Run {
-            workers,
-            choices,
+            workers: Some(_),
+            seed: Some(_),
             ..
-        } => workers.is_some() && choices.is_some(),
-        _ => false,
+        }
+        | Job::Run {
+            seed: Some(_),
+            choices: Some(_),
+            ..
+        } => Some(LOTS_TOO),
+        Job::Run {
+            workers: Some(_),
+            choices: Some(_),
+            ..
+        } => Some(TWO_ORDERS),
+        _ => None,
     }
 }
 
@@ -303,8 +363,8 @@ fn request_of<'a>(alloc: Global, matches: &ArgMatches<'a>) -> Result<Request<'a>
     if is_overwriting(&job) {
         return Err(Usage::of_text(alloc, 2, SAME_FILE));
     }
-    if has_two_orders(&job) {
-        return Err(Usage::of_text(alloc, 2, TWO_ORDERS));
+    if let Some(text) = two_orders(&job) {
+        return Err(Usage::of_text(alloc, 2, text));
     }
     let long = is_long(matches);
     Ok(Request { job, long })
@@ -340,7 +400,7 @@ pub fn read_request<'a, S: AsStr>(alloc: Global, words: &'a [S]) -> Result<Reque
 ///
 /// What is to be written in the place of a job: help, the version, or what is wrong with the words,
 /// in the words of `clap` and a few of its own, or that the history would be written to a file that is
-/// read, or that both the choices and the workers are given. The status is 0 for help and the version,
+/// read, or that two of choices, workers and a seed are given. The status is 0 for help and the version,
 /// 2 for words that are wrong, and 7 where memory was refused.
 pub fn read_words<'a, S: AsStr>(alloc: Global, words: &'a [S]) -> Result<Job<'a>, Usage>
     ensures job { IfOk result IsInRange }

@@ -40,7 +40,7 @@ line_in (Err e) = e.line
 notes_alike : (s t : List ℕ) (number line : ℕ) (name : List ℕ) → line ≡ 0 → line_notes t number line name ≡ line_notes s number line name
 notes_alike s t number line name none = subst (λ (l : ℕ). line_notes t number l name ≡ line_notes s number l name) (sym none) refl
 
-unread : {P : Type 0} (t : List ℕ) (statements : List Stmt) → statements_of t ≡ refusal 107 0 → statements_of t ≡ Ok statements → P
+pub unread : {P : Type 0} (t : List ℕ) (statements : List Stmt) → statements_of t ≡ refusal 107 0 → statements_of t ≡ Ok statements → P
 unread t statements refused read = let bad : refusal {A = List Stmt} 107 0 ≡ Ok statements = sym refused ∙ read in cc
 
 refused_at_0 : (Is : Units → ℕ → ℕ → List ℕ → Type 0) (t : List ℕ) (number line : ℕ) (name : List ℕ) → statements_of t ≡ refusal 107 0 → IsRefusedFor Is t number line name → line ≡ 0

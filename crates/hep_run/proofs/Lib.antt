@@ -1,4 +1,6 @@
 mod Schedules
+mod Drawings
+mod Counts
 mod Messages
 mod Fronts
 mod Accepted
@@ -6,3 +8,4 @@ mod Answered
 mod Outcomes
 mod Noted
 mod Worked
+mod Wanted

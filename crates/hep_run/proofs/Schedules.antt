@@ -230,14 +230,18 @@ progress_state : (program : Units) (history : List Entry) → (progress_after pr
 unfolding state_after run
 progress_state program history = from_state program (record { state = opening program; listed = [] }) history
 
-pub ready_lives : (program : Units) (history : List Entry) (p : ℕ) → next_ready program history ≡ Some p → living (state_after program history) p ≢ None
-ready_lives program history p e =
+-- one that comes next after any number lives
+pub comes_lives : (program : Units) (history : List Entry) (n p : ℕ) → next_of_ready n (ready_in (progress_after program history)) ≡ Some p → living (state_after program history) p ≢ None
+comes_lives program history n p e =
     let x = progress_after program history in
     let s = x.state in
     let ready = ready_in x in
     let all = all_kept (LivesFrom 0 s.processes) (λ q. not (is_number_among q x.listed)) (living_from 1 s.processes) (all_live 0 s.processes) in
     subst (λ (t : State). living t p ≢ None) (progress_state program history)
-    (lives s p (first_of (LivesFrom 0 s.processes) (last_process history) ready (slice_get ready 0) all (least_of (LivesFrom 0 s.processes) ready all) p e))
+    (lives s p (first_of (LivesFrom 0 s.processes) n ready (slice_get ready 0) all (least_of (LivesFrom 0 s.processes) ready all) p e))
+
+pub ready_lives : (program : Units) (history : List Entry) (p : ℕ) → next_ready program history ≡ Some p → living (state_after program history) p ≢ None
+ready_lives program history p e = comes_lives program history (last_process history) p e
 
 -- ---- once the choices are made
 

@@ -9,6 +9,7 @@ use Rattle.hep_run.specs.declared.status.Status.{Status}
 use Rattle.hep_run.specs.declared.status.Status.TheVariants.{NoMemory, DeviceFailed}
 use Rattle.hep_run.specs.Statuses.{status_code}
 use Rattle.hep_run.specs.Texts.{write_fault_text}
+use Rattle.hep_run.specs.Inputs.{HasLost}
 use Rattle.hep_run.specs.Outcome.{Outcome}
 
 -- the run has this outcome, and both outputs took all of it
@@ -87,13 +88,14 @@ abbrev pub SaysUnread : ReadFault → ℕ → Option (List ℕ) → Option (List
 SaysUnread unread.NoMemory code messages messages' = SaysLines (codes "NO MEMORY\n") NoMemory code messages messages'
 SaysUnread unread.Failed code messages messages' = SaysLines (codes "READ FAULT\n") DeviceFailed code messages messages'
 
-abbrev pub CannotRead : ℕ → Option (List ℕ) → Option (List ℕ) → Type 0
-CannotRead code messages messages' = (fault : ReadFault) × SaysUnread fault code messages messages'
+-- an input that may have so many bytes couldn't be read
+abbrev pub CannotRead : ℕ → Option (List ℕ) → Option (List ℕ) → ℕ → Option (List ℕ) → Option (List ℕ) → Type 0
+CannotRead most source source' code messages messages' = HasLost most source source' × (fault : ReadFault) × SaysUnread fault code messages messages'
 
 -- All that may be left of a reader's bytes that have these outcomes: they couldn't be read, and no record is written; or they were.
 abbrev pub LeavesOfSource : (List ℕ → Outcome → Type 0) → Option (List ℕ) → Option (List ℕ) → Run → Option (List ℕ) → Option (List ℕ) → Option (List ℕ) → Option (List ℕ) → Type 0
 LeavesOfSource Is source source' run output output' messages messages' =
-    (Keeps output output' × (run.history.items ≡ []) × CannotRead run.status messages messages')
+    (Keeps output output' × (run.history.items ≡ []) × CannotRead most_source_bytes source source' run.status messages messages')
     ⊎ (HasRead source source' × LeavesOneOf (IsOutcomeOf Is source) run output output' messages messages')
 
 -- a run without a history, of this exit status

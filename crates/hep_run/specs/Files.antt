@@ -1,8 +1,8 @@
 -- Files and texts beside a source, and its two outputs: docs/MACHINE.md, "The program".
 use Rattle.std.specs.Prelude.{◌≡◌, ◌⊎◌, ℕ, ◌<◌, ◌≤◌, List, [], codes, length, take, Option, Result, Ok, Err}
 use Rattle.std.specs.Io.KnownBytes.{Appends, Keeps, Consumes, IsAtEnd}
-use Rattle.hep_history.specs.Lines.{AreLines, IsRefusedText, most_bytes}
-use Rattle.hep_history.specs.Choices.{choice_text, IsProcess}
+use Rattle.hep_history.specs.Lines.{most_bytes}
+use Rattle.hep_history.specs.Given.{AreGiven, IsRefusedGiven}
 use Rattle.hep_history.specs.Histories.{history_text}
 use Rattle.hep_run.specs.declared.options.Run.{Run}
 use Rattle.hep_run.specs.declared.status.Status.TheVariants.{Usage, NoMemory, DeviceFailed}
@@ -21,12 +21,12 @@ abbrev pub SaysRefusal : ℕ → ℕ → ℕ → Option (List ℕ) → Option (L
 SaysRefusal number k code messages messages' =
     SaysLines (codes "NO MEMORY\n") NoMemory code messages messages' ⊎ SaysLines (refusal_text number k []) Usage code messages messages'
 
--- the choices of a text, or why there are none
+-- the choices that a text gives, as lines of their own or as a history, or why it gives none
 abbrev pub ReadsChoices : List ℕ → Result (List ℕ) ℕ → Option (List ℕ) → Option (List ℕ) → Type 0
-ReadsChoices text (Ok choices) messages messages' = AreLines choice_text IsProcess text choices × Keeps messages messages'
+ReadsChoices text (Ok choices) messages messages' = AreGiven text choices × Keeps messages messages'
 ReadsChoices text (Err code) messages messages' =
     SaysLines (codes "NO MEMORY\n") NoMemory code messages messages'
-    ⊎ ((k : ℕ) × IsRefusedText choice_text IsProcess text k × SaysRefusal 602 k code messages messages')
+    ⊎ ((number : ℕ) × (k : ℕ) × IsRefusedGiven text number k × SaysRefusal number k code messages messages')
 
 -- ---- what is written
 

@@ -1,4 +1,5 @@
 pub mod Texts
+pub mod Lines
 pub mod Statuses
 pub mod Sources
 pub mod Notes
@@ -8,7 +9,11 @@ pub mod Workers
 pub mod Checks
 pub mod Warned
 pub mod Refusals
+pub mod Memory
 pub mod Transcripts
+pub mod Inputs
 pub mod Delivery
 pub mod Files
 pub mod Progress
+pub mod Draws
+pub mod Tallies

@@ -1,5 +1,6 @@
 //! The bytes of a source to what `check` and `list` write.
-ghost use Rattle.std.specs.Prelude.{IfOk};
+ghost use Rattle.std.specs.Prelude.{IfOk, OnErr};
+ghost use Rattle.hep_run.specs.Memory.{MayReadOn};
 ghost use Rattle.hep_run.specs.Checks.{IsCheckOutcome, IsListOutcome};
 ghost use Rattle.hep_run.specs.Transcripts.{outcome_of};
 
@@ -12,9 +13,10 @@ use std::alloc::{AllocError, Global};
 ///
 /// # Errors
 ///
-/// Only where memory was refused.
+/// Only where memory was refused, which without notes is asked for only where the source isn't too large.
 pub fn check_transcript(alloc: Global, source: &[u8], long: bool) -> Result<Transcript, AllocError>
-    ensures { IfOk result (λ r. IsCheckOutcome long source.now (outcome_of r)) }
+    ensures made { IfOk result (λ r. IsCheckOutcome long source.now (outcome_of r)) }
+    ensures unmade { OnErr result (MayReadOn long source.now) }
 {
     match image_of_source(alloc, source, long) {
         Ok(_) => Ok(text_transcript(alloc, Vec::new(alloc))),
@@ -26,9 +28,10 @@ pub fn check_transcript(alloc: Global, source: &[u8], long: bool) -> Result<Tran
 ///
 /// # Errors
 ///
-/// Only where memory was refused.
+/// Only where memory was refused, which without notes is asked for only where the source isn't too large.
 pub fn list_transcript(alloc: Global, source: &[u8], long: bool) -> Result<Transcript, AllocError>
-    ensures { IfOk result (λ r. IsListOutcome long source.now (outcome_of r)) }
+    ensures made { IfOk result (λ r. IsListOutcome long source.now (outcome_of r)) }
+    ensures unmade { OnErr result (MayReadOn long source.now) }
 {
     match checked_source(alloc, source, long) {
         Ok(checked) => {

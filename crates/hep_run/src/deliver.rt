@@ -101,7 +101,7 @@ pub fn deliver<W: Write, E: Write>(transcript: Transcript, output: &mut W, messa
         let _ = put_write_fault(messages, fault.written);
         return Run::new(Status::DeviceFailed, history);
     }
-    write_messages(messages, &lines, status, history)
+    write_messages(messages, lines.as_slice(), status, history)
 }
 
 // Writes the transcript that was made, as `deliver` does, or that memory was refused for it.

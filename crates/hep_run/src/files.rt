@@ -4,6 +4,7 @@
 //! why, so that nothing more is to be written.
 ghost use Rattle.std.specs.Prelude.{◌≡◌, codes, IfOk, IfErr, Ok, Err};
 ghost use Rattle.std.specs.Io.KnownBytes.{Keeps};
+ghost use Rattle.hep_history.specs.Lines.{most_bytes};
 ghost use Rattle.hep_run.specs.Delivery.{CannotRead, SaysLines, SaysUnread, SomeOf};
 ghost use Rattle.hep_run.specs.Files.{HasReadText, KeepsHistory, PutsText, ReadsChoices, SaysRefusal};
 ghost use Rattle.hep_run.specs.Texts.{write_fault_text};
@@ -17,7 +18,7 @@ use crate::status::Status;
 use crate::texts::put_refusal;
 use hep_base::Refusal;
 use hep_history::history::MOST_BYTES;
-use hep_history::{Choices, read_choices, write_text};
+use hep_history::{Choices, read_given, write_text};
 use std::alloc::Global;
 use std::io::{Read, Write};
 
@@ -47,7 +48,8 @@ pub fn read_text_file<R: Read, E: Write>(
         HasReadText (R.remaining file.old) (R.remaining file.new) bytes.items) }
     ensures silent { IfOk result (λ _. Keeps (E.contents messages.old) (E.contents messages.new)) }
     ensures unread { IfErr result (λ code.
-        CannotRead code (E.contents messages.old) (E.contents messages.new)) }
+        CannotRead most_bytes (R.remaining file.old) (R.remaining file.new) code
+        (E.contents messages.old) (E.contents messages.new)) }
 {
     match read_input(alloc, file, MOST_BYTES) {
         Ok(bytes) => Ok(bytes),
@@ -66,7 +68,7 @@ fn say_refusal<E: Write>(alloc: Global, messages: &mut E, number: u16, line: u32
     }
 }
 
-/// The choices that a text has.
+/// The choices that a text gives: a line `p` for each, or those of a history where its first line has a blank.
 ///
 /// # Errors
 ///
@@ -74,7 +76,7 @@ fn say_refusal<E: Write>(alloc: Global, messages: &mut E, number: u16, line: u32
 pub fn choices_of<E: Write>(alloc: Global, text: &[u8], messages: &mut E) -> Result<Choices, u8>
     ensures { ReadsChoices text.now result (E.contents messages.old) (E.contents messages.new) }
 {
-    match read_choices(alloc, text) {
+    match read_given(alloc, text) {
         Ok(choices) => Ok(choices),
         Err(Refusal::NoMemory) => Err(say(messages, NO_MEMORY, Status::NoMemory)),
         Err(Refusal::Refused { number, line, .. }) => {

@@ -1,9 +1,11 @@
 //! From a source's bytes to its program, checked or as a core runs it.
-ghost use Rattle.std.specs.Prelude.{◌≡◌, ◌⊎◌, ◌++◌, IfOk, IfErr, OnOk};
+ghost use Rattle.std.specs.Prelude.{◌≡◌, ◌⊎◌, ◌++◌, true, false, IfOk, IfErr, Ok, OnErr, OnOk};
 ghost use Rattle.std.specs.List.{flat_map};
+ghost use Rattle.hep_text.specs.Reading.{statements_of};
 ghost use Rattle.hep_notes.specs.Refusals.{statement_notes};
 ghost use Rattle.hep_run.specs.Notes as told;
 ghost use Rattle.hep_run.specs.Notes.{also_of, line_notes_when, no_notes};
+ghost use Rattle.hep_run.specs.Memory.{IsWant};
 ghost use Rattle.hep_run.specs.Sources.{IsAcceptedSource, IsRunnableSource};
 ghost use Rattle.hep_run.specs.Refusals.{IsCheckRefusal, IsSourceRefusal, noted, refusal_of};
 
@@ -19,19 +21,34 @@ use hep_parse::parse;
 use hep_text::{Stmt, statements};
 use std::alloc::{AllocError, Global};
 
-// A refusal with what is said behind it where more is asked for, by its number, its line and its name.
+// What is said behind the line of a refusal where more is asked for, by its number, its line and its name.
+fn line_notes_when(
+    alloc: Global,
+    source: &[u8],
+    number: u16,
+    line: u32,
+    name: &[u8],
+    long: bool,
+) -> Result<Text, AllocError>
+    ensures made { IfOk result (λ notes. notes ≡ line_notes_when long source.now number line name.now) }
+    ensures unmade { OnErr result (long ≡ true) }
+{
+    if long {
+        line_notes(alloc, source, number, line, name)
+    } else {
+        Ok(Text::from(Vec::new(alloc)))
+    }
+}
+
+// A refusal with what is said behind it where more is asked for.
 fn refused_at_line(alloc: Global, source: &[u8], refusal: Refusal, long: bool) -> SourceFault
-    ensures { (result ≡ SourceFault.NoMemory) ⊎ (result ≡ noted (line_notes_when long source.now) refusal) }
+    ensures told { (result ≡ SourceFault.NoMemory) ⊎ (result ≡ noted (line_notes_when long source.now) refusal) }
+    ensures short { long ≡ false → result ≡ noted (line_notes_when long source.now) refusal }
 {
     let Refusal::Refused { number, line, name } = refusal else {
         return SourceFault::NoMemory;
     };
-    let notes = if long {
-        line_notes(alloc, source, number, line, name.as_slice())
-    } else {
-        Ok(Text::from(Vec::new(alloc)))
-    };
-    match notes {
+    match line_notes_when(alloc, source, number, line, name.as_slice(), long) {
         Ok(notes) => SourceFault::Refused {
             number,
             line,
@@ -149,21 +166,18 @@ fn refused_further(
     }
 }
 
-/// The program of a source that is accepted.
-///
-/// # Errors
-///
-/// The first refusal of the source: of its text, of its statements, or of a condition that it violates; or
-/// `NoMemory`. Where `long` is true it has what is said behind its line, of the violations behind the first one too.
-pub fn checked_source(alloc: Global, source: &[u8], long: bool) -> Result<Checked, SourceFault>
+// The program of the statements of a source, where it is accepted; else the first refusal of the statements, or of a condition.
+fn checked_statements(
+    alloc: Global,
+    source: &[u8],
+    statements: &[Stmt],
+    long: bool,
+) -> Result<Checked, SourceFault>
+    requires { statements_of source.now ≡ Ok statements.now }
     ensures made { IfOk result (IsAcceptedSource source.now) }
     ensures refused { IfErr result (IsCheckRefusal long source.now) }
 {
-    let statements = match statements(alloc, source) {
-        Ok(statements) => statements,
-        Err(refusal) => return Err(refused_at_line(alloc, source, refusal, long)),
-    };
-    let program = match parse(alloc, &statements) {
+    let program = match parse(alloc, statements) {
         Ok(program) => program,
         Err(refusal) => return Err(refused_at_line(alloc, source, refusal, long)),
     };
@@ -172,11 +186,7 @@ pub fn checked_source(alloc: Global, source: &[u8], long: bool) -> Result<Checke
             Ok(checked) => Ok(checked),
             Err(Rejected::NoMemory) => Err(SourceFault::NoMemory),
             Err(Rejected::Violated { first, further }) => Err(refused_further(
-                alloc,
-                source,
-                &statements,
-                first,
-                &further,
+                alloc, source, statements, first, &further,
             )),
         };
     }
@@ -185,6 +195,25 @@ pub fn checked_source(alloc: Global, source: &[u8], long: bool) -> Result<Checke
         Err(Unaccepted::NoMemory) => Err(SourceFault::NoMemory),
         Err(Unaccepted::Violated(violation)) => Err(refused_alone(alloc, violation)),
     }
+}
+
+/// The program of a source that is accepted.
+///
+/// # Errors
+///
+/// The first refusal of the source: of its text, of its statements, or of a condition that it violates; or
+/// `NoMemory`. Where `long` is true it has what is said behind its line, of the violations behind the first one too; where it is false
+/// memory isn't asked for if the source is too large.
+pub fn checked_source(alloc: Global, source: &[u8], long: bool) -> Result<Checked, SourceFault>
+    ensures made { IfOk result (IsAcceptedSource source.now) }
+    ensures refused { IfErr result (IsCheckRefusal long source.now) }
+    ensures wanted { IfErr result (IsWant long source.now) }
+{
+    let statements = match statements(alloc, source) {
+        Ok(statements) => statements,
+        Err(refusal) => return Err(refused_at_line(alloc, source, refusal, long)),
+    };
+    checked_statements(alloc, source, &statements, long)
 }
 
 /// The image of a source that is accepted and within the limits.
@@ -196,6 +225,7 @@ pub fn checked_source(alloc: Global, source: &[u8], long: bool) -> Result<Checke
 pub fn image_of_source(alloc: Global, source: &[u8], long: bool) -> Result<Image, SourceFault>
     ensures made { IfOk result (IsRunnableSource source.now) }
     ensures refused { IfErr result (IsSourceRefusal long source.now) }
+    ensures wanted { IfErr result (IsWant long source.now) }
 {
     let checked = checked_source(alloc, source, long)?;
     match lower(alloc, checked) {

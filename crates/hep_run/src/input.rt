@@ -1,5 +1,6 @@
 //! Reading a whole input.
-ghost use Rattle.std.specs.Prelude.{◌+◌, ◌≤◌, length, IfOk};
+ghost use Rattle.std.specs.Prelude.{◌+◌, ◌≤◌, length, IfOk, OnErr};
+ghost use Rattle.hep_run.specs.Inputs.{HasLost};
 ghost use Rattle.std.specs.Io.KnownBytes.{Consumes, IsAtEnd};
 
 use std::alloc::{AllocError, AllocFailed, Global};
@@ -38,13 +39,15 @@ impl From<AllocError> for ReadFault {
 ///
 /// # Errors
 ///
-/// `Failed` where a read failed or 5,000,000 reads didn't reach the end, `NoMemory`.
+/// `Failed` where a read failed or 5,000,000 reads didn't reach the end, `NoMemory`. The reader has given first bytes then, which are no
+/// more than 4,096 above `most`.
 pub fn read_input<R: Read>(alloc: Global, reader: &mut R, most: usize) -> Result<Vec<u8>, ReadFault>
     ensures first { IfOk result (λ bytes.
         Consumes (R.remaining reader.old) (R.remaining reader.new) bytes.items) }
     ensures all { IfOk result (λ bytes.
         length bytes.items ≤ most → IsAtEnd (R.remaining reader.new)) }
     ensures stops { IfOk result (λ bytes. length bytes.items ≤ most + 4096) }
+    ensures lost { OnErr result (HasLost most (R.remaining reader.old) (R.remaining reader.new)) }
 {
     let mut bytes = Vec::new(alloc);
     let mut piece = [0u8; 4096];

@@ -6,10 +6,13 @@ pub mod deliver;
 pub mod files;
 pub mod front;
 pub mod input;
+pub mod lines;
+pub mod lots;
 pub mod options;
 pub mod refusal;
 pub mod replay;
 pub mod run;
+pub mod sample;
 pub mod source;
 pub mod status;
 pub mod texts;
@@ -21,7 +24,12 @@ pub use deliver::put_text;
 pub use files::{answer, choices_of, history_text, read_text_file, say_unread, say_unwritten};
 pub use hep_workers::{Gate, NoGate, WorkOptions};
 pub use input::ReadFault;
-pub use options::{AskedReplay, AskedRun, AskedWork, Options, Run};
+pub use lots::{lots_bytes, lots_noted};
+pub use options::{
+    AskedLots, AskedReplay, AskedRun, AskedSample, AskedWork, LotOptions, Options, Run,
+    SampleOptions,
+};
+pub use sample::{MOST_SEED, Sample, lots_history, sample_bytes};
 pub use source::{
     check_noted, check_source, list_noted, list_source, replay_bytes, replay_noted, replay_source,
     run_bytes, run_noted, run_source,

@@ -70,6 +70,52 @@ pub struct AskedWork<'a, H, G> {
     pub long: bool,
 }
 
+/// How lots run a source.
+#[derive(Clone, Copy, Debug, PartialEq, Eq)]
+pub struct LotOptions {
+    /// The arena's size in cells, 1 to 16,777,216.
+    pub arena: u32,
+    /// How many entries the history may have.
+    pub steps: u64,
+    /// What the lots are drawn by.
+    pub seed: u64,
+    ghost some: { 1 ≤ arena },
+    ghost few: { arena ≤ 16777216 },
+}
+
+/// How a source is sampled.
+#[derive(Clone, Copy, Debug, PartialEq, Eq)]
+pub struct SampleOptions {
+    /// The arena's size in cells, 1 to 16,777,216.
+    pub arena: u32,
+    /// How many entries the history of a run may have.
+    pub steps: u64,
+    /// The seed of the first run, 1 to 4,294,967,296.
+    pub seed: u64,
+    /// How many runs there are.
+    pub runs: u32,
+    ghost some: { 1 ≤ arena },
+    ghost few: { arena ≤ 16777216 },
+    ghost one: { 1 ≤ seed },
+    ghost seeds: { seed ≤ 4294967296 },
+}
+
+/// What a run by lots is asked for.
+#[derive(Clone, Copy)]
+pub struct AskedLots<'a> {
+    pub options: &'a LotOptions,
+    /// Whether more is said than the lines that are fixed.
+    pub long: bool,
+}
+
+/// What a sample is asked for.
+#[derive(Clone, Copy)]
+pub struct AskedSample<'a> {
+    pub options: &'a SampleOptions,
+    /// Whether more is said than the lines that are fixed.
+    pub long: bool,
+}
+
 /// What a run came to.
 #[derive(Drop)]
 pub struct Run {

@@ -1,5 +1,6 @@
 //! The bytes of a source and of a history to what a replay writes.
-ghost use Rattle.std.specs.Prelude.{◌≤◌, IfOk};
+ghost use Rattle.std.specs.Prelude.{◌≤◌, IfOk, OnErr};
+ghost use Rattle.hep_run.specs.Memory.{MayReadOn};
 ghost use Rattle.hep_run.specs.Replay.{IsReplayOutcome, IsTextOutcome};
 ghost use Rattle.hep_run.specs.Transcripts.{outcome_of};
 
@@ -42,13 +43,14 @@ fn image_transcript(
 ///
 /// # Errors
 ///
-/// Only where memory was refused.
+/// Only where memory was refused, which without notes is asked for only where the source isn't too large.
 pub fn replay_transcript(
     alloc: Global,
     source: &[u8],
     asked: &AskedReplay<'_>,
 ) -> Result<Transcript, AllocError>
-    ensures { IfOk result (λ r. IsReplayOutcome asked.now.long asked.now.history.now asked.now.arena source.now (outcome_of r)) }
+    ensures made { IfOk result (λ r. IsReplayOutcome asked.now.long asked.now.history.now asked.now.arena source.now (outcome_of r)) }
+    ensures unmade { OnErr result (MayReadOn asked.now.long source.now) }
 {
     match image_of_source(alloc, source, asked.long) {
         Ok(image) => image_transcript(alloc, image, asked),

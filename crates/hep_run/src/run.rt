@@ -1,8 +1,9 @@
 //! From a source's bytes to what its run writes.
-ghost use Rattle.std.specs.Prelude.{◌≡◌, ◌≤◌, ◌<◌, ℕ, [], None, Some, IfOk, IfErr, OnOk, length, slice_get};
+ghost use Rattle.std.specs.Prelude.{◌≡◌, ◌≤◌, ◌<◌, ℕ, [], None, Some, IfOk, IfErr, OnErr, OnOk, length, slice_get};
 ghost use Rattle.hep_machine.specs.Words.{last_process};
 ghost use Rattle.hep_core.specs.Value.{opening_of};
 ghost use Rattle.hep_run.specs.Outcome.{IsOutcome, IsProgramOutcome, IsRunOutcome, next_process};
+ghost use Rattle.hep_run.specs.Memory.{MayOpen, MayReadOn};
 ghost use Rattle.hep_run.specs.Transcripts.{outcome_of};
 ghost use Rattle.hep_run.specs.Progress.{IsRunning, IsHaltedBy};
 
@@ -151,14 +152,19 @@ fn run_transcript(
     ended_transcript(alloc, core, long)
 }
 
-// What a run of an accepted program writes, with notes where `long` is true.
-fn image_transcript(
+/// All that a run of an accepted program comes to, with notes where `long` is true.
+///
+/// # Errors
+///
+/// Only where memory was refused, which without notes is asked for only where COMMON and the main program's frame fit the arena.
+pub fn image_transcript(
     alloc: Global,
     image: Image,
     options: &Options,
     long: bool,
 ) -> Result<Transcript, AllocError>
-    ensures { IfOk result (λ r. IsProgramOutcome long image options.now (outcome_of r)) }
+    ensures made { IfOk result (λ r. IsProgramOutcome long image options.now (outcome_of r)) }
+    ensures unmade { OnErr result (MayOpen long image options.now.arena) }
 {
     let notes = opening_notes_when(alloc, &image, options.arena, long)?;
     match Core::new(alloc, image, options.arena, options.steps) {
@@ -172,14 +178,15 @@ fn image_transcript(
 ///
 /// # Errors
 ///
-/// Only where memory was refused.
+/// Only where memory was refused, which without notes is asked for only where the source isn't too large.
 pub fn transcript_of(
     alloc: Global,
     source: &[u8],
     options: &Options,
     long: bool,
 ) -> Result<Transcript, AllocError>
-    ensures { IfOk result (λ r. IsOutcome long options.now source.now (outcome_of r)) }
+    ensures made { IfOk result (λ r. IsOutcome long options.now source.now (outcome_of r)) }
+    ensures unmade { OnErr result (MayReadOn long source.now) }
 {
     match image_of_source(alloc, source, long) {
         Ok(image) => image_transcript(alloc, image, options, long),

@@ -1,5 +1,7 @@
 //! What a run writes, its status and its history.
-ghost use Rattle.std.specs.Prelude.{◌≡◌, ◌+◌, ◌++◌, [], IfOk, OnOk, length};
+ghost use Rattle.std.specs.Prelude.{◌≡◌, ◌≢◌, ◌+◌, ◌++◌, [], true, false, IfOk, OnErr, OnOk, length};
+ghost use Rattle.hep_run.specs.Memory.{tells_large};
+ghost use Rattle.hep_run.specs.declared.refusal.SourceFault.TheVariants.{Refused};
 ghost use Rattle.hep_run.specs.Texts as texts;
 ghost use Rattle.hep_run.specs.Outcome as outcome;
 ghost use Rattle.hep_run.specs.Outcome.{outcome_of_end, outcome_of_refused_choice};
@@ -10,6 +12,7 @@ ghost use Rattle.hep_run.specs.Replay.{outcome_of_core, outcome_of_refused_histo
 ghost use Rattle.hep_run.specs.Transcripts.{IsOutcomeOfFault, outcome_of};
 ghost use Rattle.hep_run.specs.Workers.{outcome_of_refused_workers};
 
+use crate::lines::Lines;
 use crate::refusal::SourceFault;
 use crate::status::Status;
 use crate::texts::put_refusal;
@@ -29,7 +32,7 @@ pub struct Transcript {
     /// The lines of the records.
     pub output: Vec<u8>,
     /// The lines of the faults, of the processes that wait and of a stop, or that of a refusal.
-    pub messages: Vec<u8>,
+    pub messages: Lines,
     /// What the run came to.
     pub status: Status,
     /// An entry for each choice that was made.
@@ -38,7 +41,7 @@ pub struct Transcript {
 
 impl Transcript {
     /// A transcript without records.
-    fn silent(alloc: Global, messages: Vec<u8>, status: Status, history: History) -> Transcript
+    fn silent(alloc: Global, messages: Lines, status: Status, history: History) -> Transcript
         ensures output { result.output.items ≡ [] }
         ensures messages { result.messages ≡ messages }
         ensures status { result.status ≡ status }
@@ -167,7 +170,7 @@ pub fn ended_transcript(alloc: Global, core: Core, long: bool) -> Result<Transcr
     append_stop_notes(alloc, &mut messages, &core, stop, long)?;
     Ok(Transcript {
         output,
-        messages,
+        messages: Lines::Made(messages),
         status: status_of(verdict, core.faults()),
         history: history_of(core),
     })
@@ -191,11 +194,20 @@ pub fn core_transcript(alloc: Global, core: Core, long: bool) -> Result<Transcri
     ensures { IfOk result (λ r. outcome_of r ≡ outcome_of_core long core) }
 {
     let verdict = core.verdict();
-    let mut transcript = ended_transcript(alloc, core, long)?;
-    transcript
-        .messages
-        .extend_from_slice(running_text(verdict))?;
-    Ok(transcript)
+    let Transcript {
+        output,
+        messages: lines,
+        status,
+        history,
+    } = ended_transcript(alloc, core, long)?;
+    let mut messages = lines.into_vec(alloc)?;
+    messages.extend_from_slice(running_text(verdict))?;
+    Ok(Transcript {
+        output,
+        messages: Lines::Made(messages),
+        status,
+        history,
+    })
 }
 
 /// What a run writes whose next choice is refused; it is this one, counted from 1.
@@ -210,7 +222,7 @@ pub fn choice_transcript(alloc: Global, core: Core, choice: usize) -> Result<Tra
     let mut messages = Vec::new(alloc);
     put_refusal(&mut messages, 501, choice as u64, b"")?;
     let history = history_of(core);
-    Ok(Transcript::silent(alloc, messages, Status::Usage, history))
+    Ok(Transcript::silent(alloc, Lines::Made(messages), Status::Usage, history))
 }
 
 /// What workers leave that gave up, or left no report, for the reason with this number.
@@ -226,7 +238,7 @@ pub fn workers_transcript(alloc: Global, number: u16) -> Result<Transcript, Allo
     append_number(&mut messages, number)?;
     messages.extend_from_slice(b"\n")?;
     let history = History::new(alloc);
-    Ok(Transcript::silent(alloc, messages, Status::NoMemory, history))
+    Ok(Transcript::silent(alloc, Lines::Made(messages), Status::NoMemory, history))
 }
 
 /// What a history leaves that is refused at this line of its text, or at this entry.
@@ -240,11 +252,31 @@ pub fn history_transcript(alloc: Global, number: u16, place: u64) -> Result<Tran
     let mut messages = Vec::new(alloc);
     put_refusal(&mut messages, number, place, b"")?;
     let history = History::new(alloc);
-    Ok(Transcript::silent(alloc, messages, Status::Usage, history))
+    Ok(Transcript::silent(alloc, Lines::Made(messages), Status::Usage, history))
 }
 
-// What a refused source leaves.
-fn refused_transcript(
+// A source that is refused so, with nothing behind it, is too large.
+fn is_too_large(number: u16, line: u32, name: &Text, notes: &Text) -> bool
+    ensures { result ≡ tells_large (Refused number line name.now notes.now) }
+{
+    number == 107 && line == 0 && name.as_slice().is_empty() && notes.as_slice().is_empty()
+}
+
+// What a source leaves that is too large.
+fn large_transcript(alloc: Global) -> Transcript
+    ensures { outcome_of result ≡ outcome.refused 107 0 [] [] }
+{
+    let history = History::new(alloc);
+    Transcript::silent(
+        alloc,
+        Lines::Fixed(b"REFUSED 107 LINE 0\n"),
+        Status::Refused,
+        history,
+    )
+}
+
+// What a source leaves that is refused so, whose line is made.
+fn told_transcript(
     alloc: Global,
     number: u16,
     line: u32,
@@ -257,16 +289,34 @@ fn refused_transcript(
     put_refusal(&mut messages, number, u64::from(line), name.as_slice())?;
     messages.extend_from_slice(notes.as_slice())?;
     let history = History::new(alloc);
-    Ok(Transcript::silent(alloc, messages, Status::Refused, history))
+    Ok(Transcript::silent(alloc, Lines::Made(messages), Status::Refused, history))
+}
+
+// What a refused source leaves.
+fn refused_transcript(
+    alloc: Global,
+    number: u16,
+    line: u32,
+    name: &Text,
+    notes: &Text,
+) -> Result<Transcript, AllocError>
+    ensures made { IfOk result (λ r. outcome_of r ≡ outcome.refused number line name.now notes.now) }
+    ensures unmade { OnErr result (tells_large (Refused number line name.now notes.now) ≡ false) }
+{
+    if is_too_large(number, line, name, notes) {
+        return Ok(large_transcript(alloc));
+    }
+    told_transcript(alloc, number, line, name, notes)
 }
 
 /// What a source leaves that isn't run for this reason.
 ///
 /// # Errors
 ///
-/// Only where memory was refused.
+/// Only where memory was refused, which isn't asked for where the source is too large and there are no notes.
 pub fn fault_transcript(alloc: Global, fault: SourceFault) -> Result<Transcript, AllocError>
-    ensures { IfOk result (λ r. IsOutcomeOfFault fault (outcome_of r)) }
+    ensures made { IfOk result (λ r. IsOutcomeOfFault fault (outcome_of r)) }
+    ensures unmade { OnErr result (tells_large fault ≡ false) }
 {
     match fault {
         SourceFault::NoMemory => Err(AllocError),
@@ -285,7 +335,7 @@ pub fn text_transcript(alloc: Global, text: Vec<u8>) -> Transcript
 {
     Transcript {
         output: text,
-        messages: Vec::new(alloc),
+        messages: Lines::Made(Vec::new(alloc)),
         status: Status::Done,
         history: History::new(alloc),
     }
@@ -295,14 +345,15 @@ pub fn text_transcript(alloc: Global, text: Vec<u8>) -> Transcript
 ///
 /// # Errors
 ///
-/// Only where memory was refused.
+/// Only where memory was refused, which isn't asked for where `long` is false.
 pub fn opening_notes_when(
     alloc: Global,
     image: &Image,
     cells: u32,
     long: bool,
 ) -> Result<Text, AllocError>
-    ensures { IfOk result (λ notes. notes ≡ told.opening_notes_when long image.now cells) }
+    ensures made { IfOk result (λ notes. notes ≡ told.opening_notes_when long image.now cells) }
+    ensures unmade { OnErr result (long ≡ true) }
 {
     if long {
         opening_notes(alloc, image, cells)
@@ -311,16 +362,36 @@ pub fn opening_notes_when(
     }
 }
 
-/// What a program leaves whose main program's frame doesn't fit the arena, with these notes.
-///
-/// # Errors
-///
-/// Only where memory was refused.
-pub fn full_transcript(alloc: Global, notes: &Text) -> Result<Transcript, AllocError>
+// What a program leaves whose main program's frame doesn't fit the arena, where nothing more is said.
+fn bare_full_transcript(alloc: Global) -> Transcript
+    ensures { outcome_of result ≡ outcome.full_with [] }
+{
+    let line = stop_text(Some(ChoiceStop::ArenaFull));
+    let history = History::new(alloc);
+    Transcript::silent(alloc, Lines::Fixed(line), Status::ArenaFull, history)
+}
+
+// The same with these notes.
+fn noted_full_transcript(alloc: Global, notes: &Text) -> Result<Transcript, AllocError>
     ensures { IfOk result (λ r. outcome_of r ≡ outcome.full_with notes.now) }
 {
     let mut messages = Vec::from_slice(alloc, stop_text(Some(ChoiceStop::ArenaFull)))?;
     messages.extend_from_slice(notes.as_slice())?;
     let history = History::new(alloc);
-    Ok(Transcript::silent(alloc, messages, Status::ArenaFull, history))
+    Ok(Transcript::silent(alloc, Lines::Made(messages), Status::ArenaFull, history))
+}
+
+/// What a program leaves whose main program's frame doesn't fit the arena, with these notes.
+///
+/// # Errors
+///
+/// Only where memory was refused, which isn't asked for without notes.
+pub fn full_transcript(alloc: Global, notes: &Text) -> Result<Transcript, AllocError>
+    ensures made { IfOk result (λ r. outcome_of r ≡ outcome.full_with notes.now) }
+    ensures unmade { OnErr result (notes.now ≢ []) }
+{
+    if notes.as_slice().is_empty() {
+        return Ok(bare_full_transcript(alloc));
+    }
+    noted_full_transcript(alloc, notes)
 }

@@ -1,5 +1,6 @@
 //! What `check --warn` of a source writes.
-ghost use Rattle.std.specs.Prelude.{◌≡◌, false, IfOk};
+ghost use Rattle.std.specs.Prelude.{◌≡◌, false, IfOk, OnErr};
+ghost use Rattle.hep_run.specs.Memory.{MayReadOn};
 ghost use Rattle.hep_warnings.specs.Warnings as all;
 ghost use Rattle.hep_run.specs.Delivery.{LeavesOfSource, status_alone};
 ghost use Rattle.hep_run.specs.Transcripts.{outcome_of};
@@ -9,6 +10,7 @@ use crate::deliver::deliver_made;
 use crate::files::say_unread;
 use crate::front::image_of_source;
 use crate::input::read_input;
+use crate::lines::Lines;
 use crate::source::MOST_BYTES;
 use crate::status::Status;
 use crate::transcript::{Transcript, fault_transcript};
@@ -30,7 +32,7 @@ fn warned_transcript(
     let text = warning_text(alloc, &found)?;
     Ok(Transcript {
         output: Vec::new(alloc),
-        messages: text.into_vec(),
+        messages: Lines::Made(text.into_vec()),
         status: Status::Done,
         history: History::new(alloc),
     })
@@ -40,9 +42,10 @@ fn warned_transcript(
 ///
 /// # Errors
 ///
-/// Only where memory was refused.
+/// Only where memory was refused, which without notes is asked for only where the source isn't too large.
 pub fn warn_transcript(alloc: Global, source: &[u8], long: bool) -> Result<Transcript, AllocError>
-    ensures { IfOk result (λ r. IsWarnOutcome long source.now (outcome_of r)) }
+    ensures made { IfOk result (λ r. IsWarnOutcome long source.now (outcome_of r)) }
+    ensures unmade { OnErr result (MayReadOn long source.now) }
 {
     match image_of_source(alloc, source, long) {
         Ok(image) => warned_transcript(alloc, source, image.program()),

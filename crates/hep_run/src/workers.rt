@@ -1,6 +1,7 @@
 //! A source's run by workers.
-ghost use Rattle.std.specs.Prelude.{IfOk, false};
+ghost use Rattle.std.specs.Prelude.{IfOk, OnErr, false};
 ghost use Rattle.hep_run.specs.Delivery.{LeavesOfSource};
+ghost use Rattle.hep_run.specs.Memory.{MayOpen, MayReadOn};
 ghost use Rattle.hep_run.specs.Transcripts.{outcome_of};
 ghost use Rattle.hep_run.specs.Workers.{IsImageWorked, IsWorkOutcome};
 
@@ -28,7 +29,8 @@ fn image_transcript<H: Threads + Wait + Sync, G: Gate + Sync>(
     image: Image,
     asked: &AskedWork<'_, H, G>,
 ) -> Result<Transcript, AllocError>
-    ensures { IfOk result (λ r. IsImageWorked asked.now.long image asked.now.options.now (outcome_of r)) }
+    ensures made { IfOk result (λ r. IsImageWorked asked.now.long image asked.now.options.now (outcome_of r)) }
+    ensures unmade { OnErr result (MayOpen asked.now.long image asked.now.options.now.arena) }
 {
     let notes = opening_notes_when(alloc, &image, asked.options.arena, asked.long)?;
     match run_workers(asked.threads, alloc, image, asked.options, asked.gate) {
@@ -37,10 +39,12 @@ fn image_transcript<H: Threads + Wait + Sync, G: Gate + Sync>(
             core.headline();
             ended_transcript(alloc, core, asked.long)
         }
-        Err(WorkFault::ArenaFull) => full_transcript(alloc, &notes),
-        Err(fault) => match fault.number() {
-            Some(number) => workers_transcript(alloc, number),
-            None => Err(AllocError),
+        Err(fault) => match fault {
+            WorkFault::ArenaFull => full_transcript(alloc, &notes),
+            _ => match fault.number() {
+                Some(number) => workers_transcript(alloc, number),
+                None => Err(AllocError),
+            },
         },
     }
 }
@@ -51,7 +55,8 @@ fn work_transcript<H: Threads + Wait + Sync, G: Gate + Sync>(
     source: &[u8],
     asked: &AskedWork<'_, H, G>,
 ) -> Result<Transcript, AllocError>
-    ensures { IfOk result (λ r. IsWorkOutcome asked.now.long asked.now.options.now source.now (outcome_of r)) }
+    ensures made { IfOk result (λ r. IsWorkOutcome asked.now.long asked.now.options.now source.now (outcome_of r)) }
+    ensures unmade { OnErr result (MayReadOn asked.now.long source.now) }
 {
     match image_of_source(alloc, source, asked.long) {
         Ok(image) => image_transcript(alloc, image, asked),

@@ -5,6 +5,7 @@ mod cells;
 mod histories;
 mod lowering;
 mod parts;
+mod segments;
 mod streams;
 mod workers;
 

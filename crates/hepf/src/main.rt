@@ -10,9 +10,10 @@ ghost use Rattle.hep_command.specs.Jobs.{IsInRange};
 use hep_command::{Job, Request, SAME_FILE, explain, read_request};
 use hep_history::Choices;
 use hep_run::{
-    AskedReplay, AskedRun, AskedWork, NoGate, Options, ReadFault, Run, WorkOptions, answer,
-    check_noted, choices_of, history_text, list_noted, put_text, read_text_file, replay_noted,
-    run_noted, say_unread, say_unwritten, warn_noted, work_noted,
+    AskedLots, AskedReplay, AskedRun, AskedSample, AskedWork, LotOptions, NoGate, Options,
+    ReadFault, Run, SampleOptions, WorkOptions, answer, check_noted, choices_of, history_text,
+    list_noted, lots_history, lots_noted, put_text, read_text_file, replay_noted, run_noted,
+    sample_bytes, say_unread, say_unwritten, warn_noted, work_noted,
 };
 use std::fs::File;
 use std::io::ErrorKind;
@@ -21,6 +22,9 @@ use std::process::ExitCode;
 use std::sync::Wait;
 use std::thread::Threads;
 use std::{env, fs, io};
+
+// What is said where a kept history would be written to the source.
+const KEPT_OVER: &str = "error: --keep names a file that is read\n";
 
 // Each function here gives the exit status, or what it is named after or else the exit status. Where `long` is true, more is said
 // than the lines that are fixed.
@@ -191,6 +195,18 @@ fn run_file(rt: &HostRuntime, file: &str, options: &Options, long: bool) -> Resu
     ))
 }
 
+fn draw_file(rt: &HostRuntime, file: &str, options: &LotOptions, long: bool) -> Result<Run, u8> {
+    let mut source = opened(rt, file, long)?;
+    let asked = AskedLots { options, long };
+    Ok(lots_noted(
+        rt.alloc(),
+        &mut source,
+        &asked,
+        &mut rt.stdout(),
+        &mut rt.stderr(),
+    ))
+}
+
 // `threads` is the runtime itself, which may start threads where it is handed on as such.
 fn work_file<H: Threads + Wait + Sync>(
     rt: &HostRuntime,
@@ -221,6 +237,72 @@ fn end_run(rt: &HostRuntime, run: &Run, history: Option<&str>, long: bool) -> u8
         Some(path) => write_history(rt, run, path, long),
         None => run.status,
     }
+}
+
+// The path of a history that is kept by its prefix and its seed, unless it is that of the source.
+fn kept_path(rt: &HostRuntime, file: &str, prefix: &str, seed: u64) -> Result<String, u8> {
+    let Ok(path) = format!(in rt.alloc(); "{prefix}.{seed}") else {
+        return Err(answer(7, b"", &mut rt.stdout(), &mut rt.stderr()));
+    };
+    if is_one_file(rt, path.as_str(), file) {
+        let text = KEPT_OVER.as_bytes();
+        return Err(answer(2, text, &mut rt.stdout(), &mut rt.stderr()));
+    }
+    Ok(path)
+}
+
+// Writes the history of a run by lots to a file.
+fn keep_history(
+    rt: &HostRuntime,
+    source: &[u8],
+    options: &LotOptions,
+    path: &str,
+    long: bool,
+) -> Result<u8, u8> {
+    let mut messages = rt.stderr();
+    let text = lots_history(rt.alloc(), source, options, &mut messages)?;
+    match File::create(rt, path) {
+        Ok(mut kept) => Ok(put_text(&text, 0, &mut kept, &mut messages)),
+        Err(fault) => Err(say_uncreated(rt, path, &fault, long)),
+    }
+}
+
+// Samples a source, and where all was written and histories are to be kept, writes those of the first runs.
+fn sample_file(
+    rt: &HostRuntime,
+    file: &str,
+    options: &SampleOptions,
+    keep: Option<&str>,
+    long: bool,
+) -> Result<u8, u8> {
+    let source = file_bytes(rt, file, long)?;
+    let asked = AskedSample { options, long };
+    let sample = sample_bytes(
+        rt.alloc(),
+        &source,
+        &asked,
+        &mut rt.stdout(),
+        &mut rt.stderr(),
+    );
+    if sample.status != 0 {
+        return Ok(sample.status);
+    }
+    let Some(prefix) = keep else {
+        return Ok(0);
+    };
+    for seed in sample.seeds.as_slice() {
+        let options = LotOptions {
+            arena: options.arena,
+            steps: options.steps,
+            seed: *seed,
+        };
+        let path = kept_path(rt, file, prefix, *seed)?;
+        let status = keep_history(rt, &source, &options, path.as_str(), long)?;
+        if status != 0 {
+            return Err(status);
+        }
+    }
+    Ok(0)
 }
 
 fn replay_file(
@@ -266,6 +348,7 @@ fn done<H: Threads + Wait + Sync>(
             arena,
             steps,
             workers,
+            seed,
             choices,
             history,
         } => {
@@ -282,6 +365,11 @@ fn done<H: Threads + Wait + Sync>(
                 let run = work_file(rt, threads, file, &options, long)?;
                 return Ok(end_run(rt, &run, history, long));
             }
+            if let Some(seed) = seed {
+                let options = LotOptions { arena, steps, seed };
+                let run = draw_file(rt, file, &options, long)?;
+                return Ok(end_run(rt, &run, history, long));
+            }
             let choices = file_choices(rt, choices, long)?;
             let options = Options {
                 arena,
@@ -290,6 +378,22 @@ fn done<H: Threads + Wait + Sync>(
             };
             let run = run_file(rt, file, &options, long)?;
             Ok(end_run(rt, &run, history, long))
+        }
+        Job::Sample {
+            file,
+            runs,
+            seed,
+            arena,
+            steps,
+            keep,
+        } => {
+            let options = SampleOptions {
+                arena,
+                steps,
+                seed,
+                runs,
+            };
+            sample_file(rt, file, &options, keep, long)
         }
         Job::Replay {
             file,

@@ -11,8 +11,11 @@ to_check = with_subcommand spec.bare_program spec.check_command.top
 abbrev to_run : App
 to_run = with_subcommand to_check spec.run_command.top
 
+abbrev to_sample : App
+to_sample = with_subcommand to_run spec.sample_command.top
+
 abbrev to_replay : App
-to_replay = with_subcommand to_run spec.replay_command.top
+to_replay = with_subcommand to_sample spec.replay_command.top
 
 abbrev to_list : App
 to_list = with_subcommand to_replay spec.list_command.top
@@ -25,6 +28,7 @@ returns c =
     IfOk-weaker c.arg-whole.result _ _ (λ r h. h.shape long.1 ∙ ap₂ with_rule named long.0) c.arg-whole.ensures in
     let with_check = c.with_command-whole.ensures spec.bare_program spec.check_command refl bare c.check_command.ensures in
     let with_run = c.with_command-whole-2.ensures to_check spec.run_command refl with_check c.run_command.ensures in
-    let with_replay = c.with_command-whole-3.ensures to_run spec.replay_command refl with_run c.replay_command.ensures in
-    let with_list = c.with_command-whole-4.ensures to_replay spec.list_command refl with_replay c.list_command.ensures in
+    let with_sample = c.with_command-whole-3.ensures to_run spec.sample_command refl with_run c.sample_command.ensures in
+    let with_replay = c.with_command-whole-4.ensures to_sample spec.replay_command refl with_sample c.replay_command.ensures in
+    let with_list = c.with_command-whole-5.ensures to_replay spec.list_command refl with_replay c.list_command.ensures in
     c.with_command.ensures to_list spec.explain_command refl with_list c.explain_command.ensures

@@ -20,5 +20,5 @@ pub returns : goal.returns
 returns g c =
     let r = c.args.transcript in
     let taken = subst (Appends (g.W.Write.contents c.args.output.now) (g.W.Write.contents c.put_all.new.writer)) c.deref.ensures.value c.in_default.ensures.all in
-    let said = subst (λ (l : List ℕ). WritesMessages l r.status r.history.items c.write_messages.result (g.E.Write.contents c.args.messages.now) (g.E.Write.contents c.write_messages.new.messages)) c.deref-2.ensures.value c.write_messages.ensures in
+    let said = subst (λ (l : List ℕ). WritesMessages l r.status r.history.items c.write_messages.result (g.E.Write.contents c.args.messages.now) (g.E.Write.contents c.write_messages.new.messages)) c.as_slice.ensures c.write_messages.ensures in
     left_by (outcome_of r) c.write_messages.result _ _ _ _ taken said

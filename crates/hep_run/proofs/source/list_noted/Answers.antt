@@ -8,7 +8,7 @@ use Rattle.hep_run.proofs.source.list_noted.Goals as goal
 
 pub returns-in-Ok : goal.returns-in-Ok
 returns-in-Ok g c =
-    checked_left c.args.long IsViolatingProgram IsAccepted listing _ _ c.in-Ok.bytes.items _ c.list_transcript-made.result _ _ _ _ _ c.deref.ensures.value c.in-Ok.ensures.first c.in-Ok.ensures.all c.list_transcript-made.ensures c.deliver_made.ensures
+    checked_left c.args.long IsViolatingProgram IsAccepted listing _ _ c.in-Ok.bytes.items _ c.list_transcript-made.result _ _ _ _ _ c.deref.ensures.value c.in-Ok.ensures.first c.in-Ok.ensures.all c.list_transcript-made.ensures.made c.deliver_made.ensures
 
 pub returns-in-Err : goal.returns-in-Err
-returns-in-Err g c = inl (Keeps-refl _, refl, (_, c.say_unread.ensures))
+returns-in-Err g c = inl (Keeps-refl _, refl, (c.in-Err.ensures.lost, _, c.say_unread.ensures))

@@ -9,7 +9,7 @@ use Rattle.hep_run.proofs.workers.work_noted.Goals as goal
 pub returns-in-Ok : goal.returns-in-Ok
 returns-in-Ok g c =
     source_left c.args.asked.now.long IsRefusedProgram IsRunnable (λ program. IsImageWorked c.args.asked.now.long program c.args.asked.now.options.now) _ _ c.in-Ok.bytes.items _ _ _ _ _ _ c.deref.ensures.value c.in-Ok.ensures.first c.in-Ok.ensures.all (
-    made_left (IsWorkOutcome c.args.asked.now.long c.args.asked.now.options.now c.deref.result.now) c.work_transcript-made.result _ _ _ _ _ c.work_transcript-made.ensures c.deliver_made.ensures)
+    made_left (IsWorkOutcome c.args.asked.now.long c.args.asked.now.options.now c.deref.result.now) c.work_transcript-made.result _ _ _ _ _ c.work_transcript-made.ensures.made c.deliver_made.ensures)
 
 pub returns-in-Err : goal.returns-in-Err
-returns-in-Err g c = inl (Keeps-refl _, c.new.ensures.items, (_, c.say_unread.ensures))
+returns-in-Err g c = inl (Keeps-refl _, c.new.ensures.items, (c.in-Err.ensures.lost, _, c.say_unread.ensures))

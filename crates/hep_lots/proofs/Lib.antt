@@ -1,0 +1,3 @@
+pub mod Draws
+mod Made
+mod Worked

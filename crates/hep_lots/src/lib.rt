@@ -1,0 +1,6 @@
+//! Lots: which of the ready processes comes next, by a seed.
+#![tactic(auto)]
+
+pub mod lots;
+
+pub use lots::Lots;

@@ -1,0 +1,5 @@
+pub mod Moves
+pub mod Along
+mod Dependence
+pub mod Cases
+mod Worked

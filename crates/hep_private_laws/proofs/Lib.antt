@@ -1,0 +1,10 @@
+mod Inside
+mod Runs
+mod Room
+mod Turns
+mod Lists
+mod Stored
+mod Saved
+mod Bare
+mod Kept
+mod Owned

@@ -1,0 +1,21 @@
+use Rattle.std.proofs.Common.{◌≡◌, Bool, List, [], ap, inl, inr, ℕ}
+use Rattle.hep_run.specs.declared.options.SampleOptions.{SampleOptions}
+use Rattle.hep_run.specs.Outcome.{Outcome}
+use Rattle.hep_run.specs.Tallies.{IsSampleOutcome}
+use Rattle.hep_run.specs.Transcripts.{outcome_of}
+use Rattle.hep_run.proofs.Accepted.{left_alone}
+use Rattle.hep_run.proofs.sample.sample_bytes.Goals as goal
+
+-- a sample has no history of its own
+no_history : (long : Bool) (options : SampleOptions) (seeds source : List ℕ) (o : Outcome) → IsSampleOutcome long options seeds source o → o.history ≡ []
+no_history long options seeds source o (inl (number, line, name, notes, refused, are, is)) = ap (λ (x : Outcome). x.history) is
+no_history long options seeds source o (inr (program, holds, sampled)) = ap (λ (x : Outcome). x.history) sampled.3
+
+pub returns-in-Ok : goal.returns-in-Ok
+returns-in-Ok g c =
+    let long = c.args.asked.now.long in
+    let options = c.args.asked.now.options.now in
+    let seeds = c.in-Ok.seeds.items in
+    let source = c.args.source.now in
+    left_alone (IsSampleOutcome long options seeds source) (no_history long options seeds source) c.deliver.result _ _ _ _ (
+    inr (outcome_of c.in-Ok.transcript, c.in-Ok.ensures, c.deliver.ensures))

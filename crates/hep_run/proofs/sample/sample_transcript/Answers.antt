@@ -1,0 +1,19 @@
+use Rattle.std.proofs.Common.{Bool, List, inl, ℕ}
+use Rattle.hep_machine.specs.Words.{Units}
+use Rattle.hep_run.specs.declared.refusal.SourceFault.{SourceFault}
+use Rattle.hep_run.specs.declared.refusal.SourceFault.TheVariants.{NoMemory, Refused}
+use Rattle.hep_run.specs.Outcome.{Outcome, RunsTo}
+use Rattle.hep_run.specs.Refusals.{IsSourceRefusal}
+use Rattle.hep_run.specs.Tallies.{IsSampled}
+use Rattle.hep_run.specs.Transcripts.{IsOutcomeOfFault, outcome_of}
+use Rattle.hep_run.proofs.sample.sample_transcript.Goals as goal
+
+-- the outcome of a fault of a source
+of_fault : (long : Bool) (Comes : Units → Outcome → Type 0) (source : List ℕ) (fault : SourceFault) (o : Outcome) → IsSourceRefusal long source fault → IsOutcomeOfFault fault o → RunsTo long Comes source o
+of_fault long Comes source NoMemory o refused told = absurd told
+of_fault long Comes source (Refused number line name notes) o refused told = inl (number, line, name, notes, refused.0, refused.1, told)
+
+pub returns : goal.returns
+returns c =
+    of_fault c.args.long (λ program. IsSampled c.args.long c.args.options.now c.args.source.now c.new.result.items) c.args.source.now c.in-Err.fault
+    (outcome_of c.in_ok-fault_transcript-in-Err.field-0) c.in-Err.ensures.refused c.in_ok-fault_transcript-in-Err.ensures.made

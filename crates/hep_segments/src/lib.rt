@@ -1,0 +1,20 @@
+//! Segments: what a worker makes of a process that is out, without the core.
+//!
+//! A [`Ticket`] has what the top activation of the process has for itself: its place, its operands, and copies of its private scalars and of
+//! the cells of its DOs. [`compute`] makes the private steps that come next (`hep_private`) from that and from the image alone, and
+//! records them.
+#![tactic(auto)]
+
+mod looping;
+mod memory;
+mod operands;
+mod performing;
+mod progress;
+mod records;
+mod segment;
+mod ticket;
+
+pub use operands::Operands;
+pub use records::Records;
+pub use segment::{Segment, compute, compute_into};
+pub use ticket::{Copied, Ticket, TicketId};

@@ -1,0 +1,159 @@
+//! What a step reads: the copies of a ticket, and what the steps before it have stored.
+ghost use Rattle.std.specs.Prelude.{◌≡◌, ◌-◌, not, pos};
+ghost use Rattle.hep_machine.specs.Words.{is_number_among, natural};
+ghost use Rattle.hep_private.specs.Own.{stores_of};
+ghost use Rattle.hep_segments.specs.Memory.{last_stored, stored_in, stores_of_store, values_now, written_now};
+ghost use Rattle.hep_segments.specs.Segments.{value_copied};
+
+use crate::ticket::Copied;
+use hep_private::Record;
+use hep_source::Value;
+
+/// The cells of an activation: those of its unit's private scalars, the copies of a ticket, and the records of the steps since.
+#[derive(Clone, Copy)]
+pub(crate) struct Memory<'a> {
+    pub(crate) private: &'a [u32],
+    pub(crate) copies: &'a [Copied],
+    pub(crate) records: &'a [Record],
+}
+
+#[tactic(auto, using(hep_source::proofs::Tests::drop_at))]
+fn copied(copies: &[Copied], cell: usize) -> Option<Value>
+    ensures { result ≡ value_copied copies.now cell }
+{
+    for copy in copies {
+        if copy.cell as usize == cell {
+            return copy.value;
+        }
+    }
+    None
+}
+
+// What a step of a DO stored: the value of its variable, and in its two cells how many iterations are left, and the increment.
+#[derive(Clone, Copy)]
+struct LoopStore {
+    variable: u32,
+    cells: u32,
+    value: i64,
+    left: i64,
+    increment: i64,
+}
+
+fn stored_by_loop(store: LoopStore, cell: usize) -> Option<Value>
+    ensures { result ≡ last_stored (stores_of_store store) cell }
+{
+    let first = store.cells as usize;
+    if cell == first + 1 {
+        Some(Value::Int(store.increment))
+    } else if cell == first {
+        Some(Value::Int(store.left))
+    } else if cell == store.variable as usize {
+        Some(Value::Int(store.value))
+    } else {
+        None
+    }
+}
+
+// So many iterations, none where the number is negative.
+fn iterations(number: i64) -> i64
+    ensures { result ≡ pos (natural number) }
+{
+    number.max(0)
+}
+
+/// One less of them, if there is one.
+pub(crate) fn one_less(number: i64) -> i64
+    ensures { result ≡ pos (natural number - 1) }
+{
+    number.max(1) - 1
+}
+
+// What a step stored in a cell.
+fn stored_by(note: Record, cell: usize) -> Option<Value>
+    ensures { result ≡ last_stored (stores_of note) cell }
+{
+    match note {
+        Record::Goes { .. } | Record::Gives { .. } | Record::Reads { .. } => None,
+        Record::Stores {
+            cell: stored,
+            value,
+            ..
+        } => {
+            if cell == stored as usize {
+                Some(value)
+            } else {
+                None
+            }
+        }
+        Record::Enters {
+            variable,
+            cells,
+            initial,
+            count,
+            increment,
+            ..
+        } => {
+            let store = LoopStore {
+                variable,
+                cells,
+                value: initial,
+                left: iterations(count),
+                increment,
+            };
+            stored_by_loop(store, cell)
+        }
+        Record::Ends {
+            variable,
+            cells,
+            raised,
+            count,
+            increment,
+            ..
+        } => {
+            let store = LoopStore {
+                variable,
+                cells,
+                value: raised,
+                left: one_less(count),
+                increment,
+            };
+            stored_by_loop(store, cell)
+        }
+    }
+}
+
+// What the last one of these steps that stored in a cell has stored there.
+#[tactic(auto, using(crate::proofs::Along::stored_last))]
+fn stored(records: &[Record], cell: usize) -> Option<Value>
+    ensures { result ≡ stored_in records.now cell }
+{
+    let mut rest = records;
+    while let Some((last, before)) = rest.split_last() {
+        if let Some(value) = stored_by(*last, cell) {
+            return Some(value);
+        }
+        rest = before;
+    }
+    None
+}
+
+impl Memory<'_> {
+    /// A private scalar of the unit has this cell.
+    pub(crate) fn is_private(&self, cell: u32) -> bool
+        ensures { result ≡ is_number_among cell self.now.private.now }
+    {
+        self.private.iter().any(|private| cell == *private)
+    }
+
+    /// The value of a cell, and whether no step has stored in it.
+    #[tactic(auto, using(crate::proofs::Along::value_along, crate::proofs::Along::written_here))]
+    pub(crate) fn read(&self, cell: usize) -> (bool, Option<Value>)
+        ensures first { result.0 ≡ not (is_number_among cell (written_now self.now)) }
+        ensures value { result.1 ≡ values_now self.now cell }
+    {
+        match stored(self.records, cell) {
+            Some(value) => (false, Some(value)),
+            None => (true, copied(self.copies, cell)),
+        }
+    }
+}

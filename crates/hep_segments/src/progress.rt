@@ -1,0 +1,117 @@
+//! Private steps, one after the other.
+ghost use Rattle.std.specs.Prelude.{◌≡◌, ◌<◌, drop, length, IfSome};
+ghost use Rattle.hep_private.specs.Recorded.{next_made};
+ghost use Rattle.hep_segments.specs.Memory.{HasSettled, constant_ahead};
+ghost use Rattle.hep_segments.specs.Progress.{HasAdvanced, HasFound, HasMade, own_of};
+ghost use Rattle.hep_segments.specs.Segments.{most_records, value_copied};
+
+use crate::memory::Memory;
+use crate::operands::Operands;
+use crate::performing::{Deed, Here, deed_ahead};
+use crate::records::Records;
+use crate::ticket::Copied;
+use hep_code::Instruction;
+use hep_source::Value;
+
+/// The steps that were made so far, and where the activation is, with its operands.
+#[derive(Drop)]
+pub(crate) struct Progress {
+    pub(crate) records: Records,
+    pub(crate) operands: Operands,
+    pub(crate) index: usize,
+}
+
+/// What the steps are made of: the code of a unit, the cells of its private scalars, and the copies of a ticket.
+#[derive(Clone, Copy)]
+pub(crate) struct Source<'a> {
+    pub(crate) code: &'a [Instruction],
+    pub(crate) private: &'a [u32],
+    pub(crate) copies: &'a [Copied],
+}
+
+// The constant at an index of the code, if one stands there.
+fn constant_at(code: &[Instruction], index: usize) -> Option<Value>
+    ensures value { result ≡ constant_ahead (drop index code.now) }
+    ensures there { IfSome result (λ v. index < length code.now) }
+{
+    match code.get(index) {
+        Some(Instruction::Push(value)) => Some(*value),
+        _ => None,
+    }
+}
+
+// Puts the constants that stand ahead behind the operands, and says where the operation is; none where they have no room.
+fn settle(code: &[Instruction], operands: &mut Operands, index: usize) -> Option<usize>
+    ensures { HasSettled code.now operands.old index result operands.new }
+{
+    let mut at = index;
+    while let Some(value) = constant_at(code, at) {
+        if !operands.push(value) {
+            return None;
+        }
+        at += 1;
+    }
+    Some(at)
+}
+
+// The next step, if it is private. The constants that stand ahead are operands then.
+fn next_deed(source: &Source<'_>, progress: &mut Progress) -> Option<Deed>
+    ensures found { HasFound source.now.private.now source.now.code.now (own_of (value_copied source.now.copies.now) progress.old)
+        result progress.new.operands }
+    ensures records { progress.new.records ≡ progress.old.records }
+    ensures index { progress.new.index ≡ progress.old.index }
+{
+    match settle(source.code, &mut progress.operands, progress.index) {
+        Some(index) => {
+            let memory = Memory {
+                private: source.private,
+                copies: source.copies,
+                records: progress.records.as_slice(),
+            };
+            let here = Here {
+                memory,
+                operands: progress.operands.as_slice(),
+                index,
+            };
+            deed_ahead(&here, source.code)
+        }
+        None => None,
+    }
+}
+
+// Makes a step, if its operands have room, and says whether they have. Else so many of the operands stay, the first ones.
+fn make(deed: Deed, kept: usize, progress: &mut Progress) -> bool
+    requires { length progress.old.records < most_records }
+    ensures { HasMade deed kept progress.old result progress.new }
+{
+    let made = match deed.given {
+        Some((kept, value)) => progress.operands.replace(kept, value),
+        None => {
+            progress.operands.truncate(0);
+            true
+        }
+    };
+    if made {
+        progress.records.push(deed.note);
+        progress.index = deed.index;
+    } else {
+        progress.operands.truncate(kept);
+    }
+    made
+}
+
+/// Makes the next step, if it is private, and says whether it did. Else nothing changes.
+pub(crate) fn advance(source: &Source<'_>, progress: &mut Progress) -> bool
+    requires { length progress.old.records < most_records }
+    ensures { HasAdvanced (next_made source.now.private.now source.now.code.now (own_of (value_copied source.now.copies.now) progress.old))
+        progress.old result progress.new }
+{
+    let kept = progress.operands.as_slice().len();
+    match next_deed(source, progress) {
+        Some(deed) => make(deed, kept, progress),
+        None => {
+            progress.operands.truncate(kept);
+            false
+        }
+    }
+}

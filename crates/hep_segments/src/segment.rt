@@ -1,0 +1,167 @@
+//! Segments.
+ghost use Rattle.std.specs.Prelude.{◌≡◌, ◌≤◌, ◌<◌, [], length, IfNone, IfSome};
+ghost use Rattle.hep_code.specs.Words.{most_operands};
+ghost use Rattle.hep_image.specs.Image.{IsUnitCode};
+ghost use Rattle.hep_segments.specs.Progress.{HasTaken, IsBegun};
+ghost use Rattle.hep_segments.specs.Segments.{IsComputed, most_records};
+
+use crate::operands::{Operands, assign};
+use crate::progress::{Progress, Source, advance};
+use crate::records::{MOST_RECORDS, Records};
+use crate::ticket::{Ticket, TicketId};
+use hep_image::{Image, UnitCode};
+use hep_private::Record;
+use hep_source::Value;
+use std::marker::Model;
+
+/// What a worker has made of a process that is out, without the core: private steps, each with its record. Contracts see which ticket it is
+/// made of, where the activation was and is, its operands then and now, and the records.
+#[derive(Drop)]
+pub struct Segment {
+    id: TicketId,
+    unit: u32,
+    index: usize,
+    operands: Operands,
+    progress: Progress,
+}
+
+impl Model for Segment {
+    ghost use Rattle.hep_segments.specs.Segments.{IsSegment, SegmentValue, segment_value};
+
+    ghost Value = { SegmentValue };
+
+    ghost view = { λ s. segment_value s.id s.unit s.index s.operands s.progress.records s.progress.index s.progress.operands };
+
+    ghost invariant = { λ s. IsSegment (segment_value s.id s.unit s.index s.operands s.progress.records s.progress.index s.progress.operands) };
+}
+
+impl Segment {
+    /// A segment without a step, in which others can be made.
+    pub fn new() -> Segment
+        ensures { result.records ≡ [] }
+    {
+        Segment {
+            id: TicketId {
+                number: 0,
+                process: 0,
+            },
+            unit: 0,
+            index: 0,
+            operands: Operands::new(),
+            progress: Progress {
+                records: Records::new(),
+                operands: Operands::new(),
+                index: 0,
+            },
+        }
+    }
+
+    /// Which ticket it is made of.
+    pub fn ticket(&self) -> TicketId
+        ensures { result ≡ self.now.id }
+    {
+        self.id
+    }
+
+    /// The unit of the activation.
+    pub fn unit(&self) -> u32
+        ensures { result ≡ self.now.unit }
+    {
+        self.unit
+    }
+
+    /// Where the activation was in the unit's code.
+    pub fn index(&self) -> usize
+        ensures { result ≡ self.now.index }
+    {
+        self.index
+    }
+
+    /// The operands that it had there.
+    pub fn operands(&self) -> &[Value]
+        ensures operands { result.now ≡ self.now.operands }
+        ensures few { length result.now ≤ most_operands }
+    {
+        self.operands.as_slice()
+    }
+
+    /// The records of its steps.
+    pub fn records(&self) -> &[Record]
+        ensures records { result.now ≡ self.now.records }
+        ensures few { length result.now ≤ most_records }
+    {
+        self.progress.records.as_slice()
+    }
+
+    /// Where the activation is then.
+    pub fn end_index(&self) -> usize
+        ensures { result ≡ self.now.end_index }
+    {
+        self.progress.index
+    }
+
+    /// The operands that it has there.
+    pub fn end_operands(&self) -> &[Value]
+        ensures operands { result.now ≡ self.now.end_operands }
+        ensures few { length result.now ≤ most_operands }
+    {
+        self.progress.operands.as_slice()
+    }
+}
+
+// What an image has of a unit, if it has that unit.
+fn unit_of(image: &Image, unit: u32) -> Option<&UnitCode>
+    ensures there { IfSome result (λ code. IsUnitCode image.now unit code.now) }
+    ensures none { IfNone result (length image.now ≤ unit) }
+{
+    if (unit as usize) < image.program().as_slice().len() {
+        Some(image.unit(unit as usize))
+    } else {
+        None
+    }
+}
+
+// Makes the private steps that come next, as many as there may be.
+fn take_steps(image: &Image, ticket: &Ticket, progress: &mut Progress)
+    requires { IsBegun ticket.now progress.old }
+    ensures { HasTaken image.now ticket.now progress.new }
+{
+    let Some(unit) = unit_of(image, ticket.unit()) else {
+        return;
+    };
+    let source = Source {
+        code: unit.code.as_slice(),
+        private: unit.private.as_slice(),
+        copies: ticket.copies(),
+    };
+    while progress.records.len() < MOST_RECORDS {
+        if !advance(&source, progress) {
+            return;
+        }
+    }
+}
+
+/// Makes the segment of a ticket in the place of another one, by an image. This needs no core and takes no memory.
+///
+/// It makes the private steps that come next, until the next one isn't private or there are 1,023.
+pub fn compute_into(image: &Image, ticket: &Ticket, segment: &mut Segment)
+    ensures { IsComputed image.now ticket.now segment.new }
+{
+    segment.id = ticket.id();
+    segment.unit = ticket.unit();
+    segment.index = ticket.index();
+    assign(&mut segment.operands, ticket.operands());
+    segment.progress.records.clear();
+    segment.progress.index = ticket.index();
+    assign(&mut segment.progress.operands, ticket.operands());
+    take_steps(image, ticket, &mut segment.progress);
+}
+
+/// The segment of a ticket, by an image, as [`compute_into`] makes it.
+pub fn compute(image: &Image, ticket: &Ticket) -> Segment
+    ensures { IsComputed image.now ticket.now result }
+{
+    let mut segment = Segment::new();
+    compute_into(image, ticket, &mut segment);
+    segment
+}
