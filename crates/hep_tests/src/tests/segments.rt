@@ -20,7 +20,8 @@ const LOOP: &[u8] = b"      PROGRAM P
 
 const RAISE: &[u8] = b"      I=I+1\n      I=-I\n      END\n";
 
-const PASSED: &[u8] = b"      I=1\n      J=2\n      CALL S(J)\n      END\n      SUBROUTINE S(K)\n      END\n";
+const PASSED: &[u8] =
+    b"      I=1\n      J=2\n      CALL S(J)\n      END\n      SUBROUTINE S(K)\n      END\n";
 
 // At the first statement of the first unit, with these copies.
 fn ticket_of(
