@@ -9,6 +9,7 @@ _hepf() {
         'run:run a source'
         'sample:run a source by lots many times and count what comes'
         'replay:make the steps of a history again'
+        'state:show what everything holds'
         'list:show the units and common blocks of a source'
         'explain:say what a line or a status means'
         'help:show help'
@@ -46,12 +47,16 @@ _hepf_words() {
             _arguments '--arena=[cells of storage]:cells:' '--long[say more of what went wrong]' '--help[show help]' '1:source:_files' \
                 '2:history:_files'
             ;;
+        state)
+            _arguments '--at=[after how many entries]:entries:' '--arena=[cells of storage]:cells:' '--long[say more of what went wrong]' \
+                '--help[show help]' '1:source:_files' '2:history:_files'
+            ;;
         explain)
             _arguments '--long[say more of what went wrong]' '--help[show help]' '1:number or name:(101 102 103 104 105 106 107 201 202 203 204 205 301 302 303 304 305 306 307 308 309 310 311 312 401 402 501 506 601 602 603 701 702 703 704 705 OVERFLOW DIVIDE RANGE UNDEFINED SHAPE STEP FAULT WAITING STOPPED ARENA NO WORKERS READ WRITE REFUSED STILL WARNING STATUS)' \
                 '*:its next word:(ARENA STEP FULL LIMIT MEMORY REFUSED FAULT RUNNING 0 1 2 3 4 5 6 7 8 70)'
             ;;
         help)
-            _arguments '1:command:(check run sample replay list explain)'
+            _arguments '1:command:(check run sample replay state list explain)'
             ;;
     esac
 }

@@ -10,7 +10,7 @@ use Rattle.hep_source.proofs.Tests.{and-false, none-from-not}
 
 -- ---- of the numbers that pass a test
 
-abbrev IsLeastAbove : (ℕ → Bool) → ℕ → Option ℕ → Type 0
+abbrev pub IsLeastAbove : (ℕ → Bool) → ℕ → Option ℕ → Type 0
 IsLeastAbove test p None = (q : ℕ) → p < q → test q ≡ false
 IsLeastAbove test p (Some q) = (p < q) × (test q ≡ true) × ((r : ℕ) → p < r → r < q → test r ≡ false)
 
@@ -33,7 +33,7 @@ least-alike test other p (Some q) same l = (l.0, sym (same q l.0) ∙ l.1, λ r 
 
 -- ---- of rising numbers
 
-abbrev is_among : List ℕ → ℕ → Bool
+abbrev pub is_among : List ℕ → ℕ → Bool
 is_among xs q = is_number_among q xs
 
 below-all : (q least greatest : ℕ) (xs : List ℕ) → q < least → AreRising least greatest xs → is_among xs q ≡ false
@@ -41,7 +41,7 @@ below-all q least greatest [] low rise = refl
 below-all q least greatest (x ∷ xs) low rise =
     rw (ne_eqb q x (λ e. omega (arith, rise.0))) (below-all q (x + 1) greatest xs (omega (arith, rise.0)) rise.2)
 
-first-least : (p least greatest : ℕ) (xs : List ℕ) → AreRising least greatest xs → IsLeastAbove (is_among xs) p (first_above p xs None)
+pub first-least : (p least greatest : ℕ) (xs : List ℕ) → AreRising least greatest xs → IsLeastAbove (is_among xs) p (first_above p xs None)
 first-least p least greatest [] rise = λ q above. refl
 first-least p least greatest (x ∷ xs) rise = elim (cases_lt p x) [
   | inl l ↦ rw (lt-ltb p x l) (

@@ -8,6 +8,7 @@ mod Worked
 pub mod Bits
 pub mod Listed
 mod WorkedNumbers
+mod WorkedRolls
 pub mod Waiting
 pub mod Staying
 pub mod Touching
@@ -18,3 +19,5 @@ pub mod Members
 pub mod Living
 pub mod Waking
 pub mod Keeping
+pub mod Ranks
+pub mod Rosters

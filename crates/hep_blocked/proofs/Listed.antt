@@ -1,8 +1,8 @@
 -- The numbers where marks are set: after a mark is set or taken away, which comes first above a number, and where there is none.
-use Rattle.std.proofs.Common.{◌≡◌, ℕ, zero, suc, ◌+◌, ◌*◌, ◌<◌, ◌≤◌, Bool, true, false, List, [], ◌∷◌, ◌++◌, length, length-drop, drop, replicate, set, Option, Some, None, refl, sym, ap, ◌∙◌, inl, inr, arith, ◌==◌, not, slice_get}
+use Rattle.std.proofs.Common.{◌≡◌, ℕ, zero, suc, ◌+◌, ◌*◌, ◌<◌, ◌≤◌, Bool, true, false, List, [], ◌∷◌, ◌++◌, length, length-drop, drop, replicate, set, Option, Some, None, refl, sym, ap, ◌∙◌, inl, inr, arith, ◌==◌, nat_lt, not, slice_get}
 use Rattle.std.proofs.lemmas.Bool.{cases_lt, lt-ltb, le-ltb, ne_eqb, eq-eqb}
 use Rattle.std.proofs.lemmas.List.{get_or_past}
-use Rattle.hep_machine.specs.Words.{first_above, without}
+use Rattle.hep_machine.specs.Words.{first_above, is_number_among, without}
 use Rattle.hep_blocked.specs.Numbers.{AreRising, numbers_from, with_number}
 use Rattle.hep_lengths.specs.Trees.{number}
 
@@ -119,3 +119,22 @@ numbers-rise least n greatest (zero ∷ ms) from to = numbers-rise least (suc n)
 
 pub rise-from_one : (size : ℕ) (marks : List ℕ) → length marks ≡ 2 * size → AreRising 1 size (numbers_from 1 (drop size marks))
 rise-from_one size marks nodes = numbers-rise 1 1 size (drop size marks) (omega arith) (omega (arith, length-drop size marks))
+
+-- ---- whether a number is one of them
+
+pub among-before : (n q : ℕ) (ms : List ℕ) → q < n → is_number_among q (numbers_from n ms) ≡ false
+among-before n q [] h = refl
+among-before n q (suc m ∷ ms) h = rw (ne_eqb q n (λ same. omega arith)) (among-before (suc n) q ms (omega arith))
+among-before n q (zero ∷ ms) h = among-before (suc n) q ms (omega arith)
+
+pub among-marked : (n i q : ℕ) (ms : List ℕ) → q ≡ n + i → is_number_among q (numbers_from n ms) ≡ nat_lt 0 (number ms i)
+among-marked n i q [] e = refl
+among-marked n zero q (suc m ∷ ms) e = rw (eq-eqb q n (omega arith)) (sym (lt-ltb 0 (suc m) (omega arith)))
+among-marked n zero q (zero ∷ ms) e = among-before (suc n) q ms (omega arith)
+among-marked n (suc i) q (suc m ∷ ms) e = rw (ne_eqb q n (λ same. omega arith)) (among-marked (suc n) i q ms (omega arith))
+among-marked n (suc i) q (zero ∷ ms) e = among-marked (suc n) i q ms (omega arith)
+
+pub among-past : (n q : ℕ) (ms : List ℕ) → n + length ms ≤ q → is_number_among q (numbers_from n ms) ≡ false
+among-past n q [] h = refl
+among-past n q (suc m ∷ ms) h = rw (ne_eqb q n (λ same. omega arith)) (among-past (suc n) q ms (omega arith))
+among-past n q (zero ∷ ms) h = among-past (suc n) q ms (omega arith)

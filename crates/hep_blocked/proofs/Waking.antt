@@ -6,7 +6,7 @@ use mathlib.Core.Bool.{beq}
 use Rattle.hep_machine.specs.Words.{Units, Layout, is_held, layout_of, run, Location, State, step, is_waiting}
 use Rattle.hep_cells.specs.Changes.{full_after}
 use Rattle.hep_cells.specs.declared.want.Want.{Want}
-use Rattle.hep_blocked.specs.Waiting.{waiting_at, want_eq}
+use Rattle.hep_blocked.specs.Waiting.{want_eq}
 use Rattle.hep_layout.specs.Words.{address}
 use Rattle.hep_blocked.specs.Awaiting.{NeedsCell}
 use Rattle.hep_blocked.proofs.Awaiting.{need-after, waits-by-state}
@@ -52,10 +52,10 @@ awake-made None (Some v) = refl
 awake-made (Some w) None = refl
 awake-made (Some w) (Some v) = refl
 
-pub woken-made : (changed : Option Want) (waiting : List (Option Want)) (q : ℕ)
-    → is_woken changed waiting q ≡ passes (is_made changed) (waiting_at waiting q)
-woken-made changed waiting q = by_want changed (waiting_at waiting q) refl where
-  by_want : (changed o : Option Want) → waiting_at waiting q ≡ o
+pub woken-made : (changed : Option Want) (waiting : ℕ → Option Want) (q : ℕ)
+    → is_woken changed waiting q ≡ passes (is_made changed) (waiting q)
+woken-made changed waiting q = by_want changed (waiting q) refl where
+  by_want : (changed o : Option Want) → waiting q ≡ o
       → is_woken changed waiting q ≡ passes (is_made changed) o
   by_want None None e = refl
   by_want None (Some v) e = refl

@@ -4,7 +4,7 @@ use Rattle.std.specs.Option.{unwrap_or}
 use Rattle.hep_machine.specs.Words.{Units, Layout, is_number_among, living, run, Progress, ready_in, Location, is_waiting}
 use Rattle.hep_cells.specs.Changes.{full_after}
 use Rattle.hep_cells.specs.declared.want.Want.{Want}
-use Rattle.hep_blocked.specs.Waiting.{awake, waiting_at, waits_for}
+use Rattle.hep_blocked.specs.Waiting.{awake, wants}
 use Rattle.hep_layout.specs.Words.{address}
 use Rattle.hep_blocked.specs.Awaiting.{NeedsCell}
 
@@ -15,17 +15,17 @@ abbrev pub IsBlocked : Units → ℕ → List ℕ → ℕ → Want → Type 0
 IsBlocked program cells choices p w = NeedsCell program cells choices p w.cell w.full × (is_waiting program (run program choices) p ≡ true)
 
 -- after turns of these processes: who is listed waits for what is kept of it, and who is ready is so by the definition
-pub record AreListed (program : Units) (cells : ℕ) (choices : List ℕ) (x : Progress) (waiting : List (Option Want)) (ready : List ℕ) : Type 0 where
+pub record AreListed (program : Units) (cells : ℕ) (choices : List ℕ) (x : Progress) (waiting : ℕ → Option Want) (ready : List ℕ) : Type 0 where
   pub state : x.state ≡ run program choices
-  pub listed : (p : ℕ) → is_number_among p x.listed ≡ is_some (waiting_at waiting p)
-  pub blocked : (p : ℕ) (w : Want) → waiting_at waiting p ≡ Some w → IsBlocked program cells choices p w
+  pub listed : (p : ℕ) → is_number_among p x.listed ≡ is_some (waiting p)
+  pub blocked : (p : ℕ) (w : Want) → waiting p ≡ Some w → IsBlocked program cells choices p w
   pub are_ready : (p : ℕ) → is_number_among p ready ≡ is_number_among p (ready_in x)
 
 -- ---- process p was found waiting
 
 -- it waits for this, if it didn't wait before; the others wait as before
-abbrev pub WaitsNow : ℕ → Want → List (Option Want) → List (Option Want) → Type 0
-WaitsNow p w before after = (q : ℕ) → waiting_at after q ≡ (if nat_eq p q then Some (unwrap_or (waiting_at before p) w) else waiting_at before q)
+abbrev pub WaitsNow : ℕ → Want → (ℕ → Option Want) → (ℕ → Option Want) → Type 0
+WaitsNow p w before after = (q : ℕ) → after q ≡ (if nat_eq p q then Some (unwrap_or (before p) w) else before q)
 
 abbrev pub IsReadyNoMore : ℕ → List ℕ → List ℕ → Type 0
 IsReadyNoMore p before after = (q : ℕ) → is_number_among q after ≡ (not (nat_eq p q) && is_number_among q before)
@@ -37,9 +37,9 @@ abbrev pub awake_by : Option Want → Option Want → Option Want
 awake_by None waiting = waiting
 awake_by (Some w) waiting = awake w waiting
 
-abbrev pub is_woken : Option Want → List (Option Want) → ℕ → Bool
+abbrev pub is_woken : Option Want → (ℕ → Option Want) → ℕ → Bool
 is_woken None waiting q = false
-is_woken (Some w) waiting q = waits_for w waiting q
+is_woken (Some w) waiting q = wants w (waiting q)
 
 -- process p isn't ready any more where it has ended, and a process that it made is; so many processes were made before and after
 abbrev pub is_noted : ℕ → Bool → ℕ → ℕ → List ℕ → ℕ → Bool
@@ -52,8 +52,8 @@ HasChanged program choices p layout changed =
     → ((run program (choices ++ p ∷ [])).store at).full ≡ full_after changed c ((run program choices).store at).full
 
 -- what is kept of who waits and who is ready goes along with the step
-pub record GoesAlong (program : Units) (choices : List ℕ) (p : ℕ) (changed : Option Want) (waiting waiting_after : List (Option Want)) (ready ready_after : List ℕ) : Type 0 where
-  pub waits : (q : ℕ) → waiting_at waiting_after q ≡ awake_by changed (waiting_at waiting q)
+pub record GoesAlong (program : Units) (choices : List ℕ) (p : ℕ) (changed : Option Want) (waiting waiting_after : ℕ → Option Want) (ready ready_after : List ℕ) : Type 0 where
+  pub waits : (q : ℕ) → waiting_after q ≡ awake_by changed (waiting q)
   pub are_ready : (q : ℕ) → is_number_among q ready_after
       ≡ (is_woken changed waiting q || is_noted p (is_some (living (run program (choices ++ p ∷ [])) p)) (length (run program choices).processes) (length (run program (choices ++ p ∷ [])).processes) ready q)
 
@@ -70,8 +70,8 @@ wants_emptied emptied None = false
 wants_emptied emptied (Some w) = not w.full && emptied w.cell
 
 -- process q waits for it
-abbrev pub is_woken_where : (ℕ → Bool) → List (Option Want) → ℕ → Bool
-is_woken_where emptied waiting q = wants_emptied emptied (waiting_at waiting q)
+abbrev pub is_woken_where : (ℕ → Bool) → (ℕ → Option Want) → ℕ → Bool
+is_woken_where emptied waiting q = wants_emptied emptied (waiting q)
 
 -- the step leaves each storage unit as full as it was whose cell isn't among these, and those of these cells are empty after it
 pub record HasEmptied (program : Units) (choices : List ℕ) (p : ℕ) (layout : Layout) (emptied : ℕ → Bool) : Type 0 where
@@ -79,7 +79,7 @@ pub record HasEmptied (program : Units) (choices : List ℕ) (p : ℕ) (layout :
   pub now : (at : Location) (c : ℕ) → address program (run program choices) layout at ≡ Some c → emptied c ≡ true → ((run program (choices ++ p ∷ [])).store at).full ≡ false
 
 -- what is kept of who waits and who is ready goes along with a step that empties these cells
-pub record GoesAlongEmptying (program : Units) (choices : List ℕ) (p : ℕ) (emptied : ℕ → Bool) (waiting waiting_after : List (Option Want)) (ready ready_after : List ℕ) : Type 0 where
-  pub waits : (q : ℕ) → waiting_at waiting_after q ≡ awake_where emptied (waiting_at waiting q)
+pub record GoesAlongEmptying (program : Units) (choices : List ℕ) (p : ℕ) (emptied : ℕ → Bool) (waiting waiting_after : ℕ → Option Want) (ready ready_after : List ℕ) : Type 0 where
+  pub waits : (q : ℕ) → waiting_after q ≡ awake_where emptied (waiting q)
   pub are_ready : (q : ℕ) → is_number_among q ready_after
       ≡ (is_woken_where emptied waiting q || is_noted p (is_some (living (run program (choices ++ p ∷ [])) p)) (length (run program choices).processes) (length (run program (choices ++ p ∷ [])).processes) ready q)

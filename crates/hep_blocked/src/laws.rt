@@ -3,7 +3,7 @@ ghost use Rattle.std.specs.Prelude.{◌≡◌, ◌≢◌, ◌++◌, ◌∷◌, �
 ghost use Rattle.hep_machine.specs.Words.{Units, Layout, is_held, layout_of, opening, run, Progress, living_from};
 ghost use Rattle.hep_machine.specs.Words.{progress_after_entry, progress_after_step, ready_in, step};
 ghost use Rattle.hep_cells.specs.declared.want.Want.{Want};
-ghost use Rattle.hep_blocked.specs.Waiting.{waiting_at};
+ghost use Rattle.hep_blocked.specs.Rolls.{want_of};
 ghost use Rattle.hep_blocked.specs.Numbers.{AreRising};
 ghost use Rattle.hep_blocked.specs.Listing.{AreListed, GoesAlong, GoesAlongEmptying, HasChanged, HasEmptied, IsBlocked, IsReadyNoMore};
 ghost use Rattle.hep_blocked.specs.Listing.{WaitsNow};
@@ -12,12 +12,13 @@ use crate::need_laws::others_need_the_same;
 
 /// At the opening nobody is listed, and process 1 is ready.
 pub fn openings_list_nobody()
-    ensures { (program : Units) (cells : ℕ) → AreListed program cells [] (record { state = opening program; listed = [] }) [] (1 ∷ []) }
+    ensures { (program : Units) (cells : ℕ)
+        → AreListed program cells [] (record { state = opening program; listed = [] }) (want_of []) (1 ∷ []) }
 {}
 
 /// An entry without a step lists its process, which waits.
 pub fn waiting_processes_are_listed()
-    ensures { (program : Units) (cells : ℕ) (choices : List ℕ) (x : Progress) (waiting after : List (Option Want))
+    ensures { (program : Units) (cells : ℕ) (choices : List ℕ) (x : Progress) (waiting after : ℕ → Option Want)
         (ready left : List ℕ) (p : ℕ) (w : Want) → AreListed program cells choices x waiting ready → IsBlocked program cells choices p w
         → WaitsNow p w waiting after → IsReadyNoMore p ready left
         → AreListed program cells choices (progress_after_entry program x (record { process = p; steps = 0 }) 0) after left }
@@ -26,7 +27,7 @@ pub fn waiting_processes_are_listed()
 /// After a step that fills or empties one cell at most just those are listed that still wait, and just those of the others are ready that
 /// live.
 pub fn lists_go_along_with_steps()
-    ensures { (program : Units) (cells : ℕ) (choices : List ℕ) (x : Progress) (waiting waiting_after : List (Option Want))
+    ensures { (program : Units) (cells : ℕ) (choices : List ℕ) (x : Progress) (waiting waiting_after : ℕ → Option Want)
         (ready ready_after : List ℕ) (p : ℕ) (changed : Option Want) (layout : Layout)
         → AreListed program cells choices x waiting ready → step program p (run program choices) ≢ None
         → layout_of program cells is_held choices ≡ Some layout → HasChanged program choices p layout changed
@@ -40,7 +41,7 @@ pub fn lists_go_along_with_steps()
 /// After a step that empties cells, as a PURGE does, just those are listed that still wait, and just those of the others
 /// are ready that live.
 pub fn lists_go_along_with_purges()
-    ensures { (program : Units) (cells : ℕ) (choices : List ℕ) (x : Progress) (waiting waiting_after : List (Option Want))
+    ensures { (program : Units) (cells : ℕ) (choices : List ℕ) (x : Progress) (waiting waiting_after : ℕ → Option Want)
         (ready ready_after : List ℕ) (p : ℕ) (emptied : ℕ → Bool) (layout : Layout) → AreListed program cells choices x waiting ready
         → step program p (run program choices) ≢ None → layout_of program cells is_held choices ≡ Some layout
         → HasEmptied program choices p layout emptied → GoesAlongEmptying program choices p emptied waiting waiting_after ready ready_after
@@ -53,11 +54,11 @@ pub fn lists_go_along_with_purges()
 /// Numbers that rise and are those of the ready processes are the list of them; and where nobody is ready, somebody waits just where
 /// somebody lives.
 pub fn lists_are_those_of_definitions()
-    ensures ready { (program : Units) (cells room : ℕ) (choices : List ℕ) (x : Progress) (waiting : List (Option Want)) (ready : List ℕ)
+    ensures ready { (program : Units) (cells room : ℕ) (choices : List ℕ) (x : Progress) (waiting : ℕ → Option Want) (ready : List ℕ)
         → AreListed program cells choices x waiting ready → AreRising 1 room ready → ready ≡ ready_in x }
-    ensures done { (program : Units) (cells : ℕ) (choices : List ℕ) (x : Progress) (waiting : List (Option Want)) (ready : List ℕ)
-        → AreListed program cells choices x waiting ready → ready_in x ≡ [] → ((p : ℕ) → waiting_at waiting p ≡ None)
+    ensures done { (program : Units) (cells : ℕ) (choices : List ℕ) (x : Progress) (waiting : ℕ → Option Want) (ready : List ℕ)
+        → AreListed program cells choices x waiting ready → ready_in x ≡ [] → ((p : ℕ) → waiting p ≡ None)
         → living_from 1 x.state.processes ≡ [] }
-    ensures waiting { (program : Units) (cells p : ℕ) (choices : List ℕ) (x : Progress) (waiting : List (Option Want)) (ready : List ℕ)
-        → AreListed program cells choices x waiting ready → waiting_at waiting p ≢ None → living_from 1 x.state.processes ≢ [] }
+    ensures waiting { (program : Units) (cells p : ℕ) (choices : List ℕ) (x : Progress) (waiting : ℕ → Option Want) (ready : List ℕ)
+        → AreListed program cells choices x waiting ready → waiting p ≢ None → living_from 1 x.state.processes ≢ [] }
 {}

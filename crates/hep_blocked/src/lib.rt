@@ -7,9 +7,12 @@
 pub mod laws;
 mod lists;
 pub mod need_laws;
+mod places;
 mod ready;
+mod roster;
 mod waits;
 
 pub use hep_cells::Want;
 pub use ready::Ready;
+pub use roster::Roster;
 pub use waits::Waits;

@@ -1,7 +1,7 @@
 //! The ready processes.
 ghost use Rattle.std.specs.Int.{bit_at};
 ghost use Rattle.std.specs.Prelude.{◌≡◌, ◌==◌, ◌<◌, ◌≤◌, ℕ, [], None, IfErr, IsOk, OnOk, if◌then◌else◌, length, nat_eq};
-ghost use Rattle.hep_machine.specs.Words.{first_above, next_of_ready, without};
+ghost use Rattle.hep_machine.specs.Words.{first_above, is_number_among, next_of_ready, without};
 ghost use Rattle.hep_blocked.specs.Numbers.{AreRising, IsNextBit, with_number};
 
 use hep_lengths::Tree;
@@ -153,6 +153,20 @@ impl Ready {
         }
         let at = self.tree.first_after(p as usize)?;
         Some(at as u64 + 1)
+    }
+
+    /// A process is ready. This costs a constant time.
+    pub fn has(&self, p: u64) -> bool
+        ensures { result ≡ is_number_among p self.now.ready }
+    {
+        let size = self.tree.size() as u64;
+        if p == 0 {
+            return false;
+        }
+        if p > size {
+            return false;
+        }
+        self.tree.get(p as usize - 1) > 0
     }
 
     /// No process is ready. This costs a constant time.

@@ -1,7 +1,7 @@
 -- What the words for numbers, jobs and names say, row by row.
 use Rattle.std.proofs.Common.{◌≡◌, ◌∷◌, [], Some, None, false, refl, true, codes}
 use Rattle.clap.proofs.OnLiterals.{clap_on_literals}
-use Rattle.hep_command.specs.Asked.{check, explain, heard, replay, run, sample, standard}
+use Rattle.hep_command.specs.Asked.{check, explain, heard, replay, run, sample, standard, state}
 use Rattle.hep_command.specs.Explanations.{is_explained, name_of}
 use Rattle.hep_command.specs.Numbers.{number_within}
 use Rattle.hep_command.specs.Program.{asked, is_long}
@@ -68,6 +68,16 @@ sample_with_all : asked (codes "hepf" ∷ codes "sample" ∷ codes "--runs" ∷ 
     ≡ Some (sample (codes "a.f") 9 4 65536 10000000 (Some (codes "k")))
 unfolding asked clap_on_literals
 sample_with_all = refl
+
+state_at : asked (codes "hepf" ∷ codes "state" ∷ codes "a.f" ∷ codes "h" ∷ codes "--at" ∷ codes "0" ∷ [])
+    ≡ Some (state (codes "a.f") (codes "h") (Some 0) 65536)
+unfolding asked clap_on_literals
+state_at = refl
+
+state_of_all : asked (codes "hepf" ∷ codes "state" ∷ codes "a.f" ∷ codes "h" ∷ codes "--arena" ∷ codes "9" ∷ [])
+    ≡ Some (state (codes "a.f") (codes "h") None 9)
+unfolding asked clap_on_literals
+state_of_all = refl
 
 replay_with_defaults : asked (codes "hepf" ∷ codes "replay" ∷ codes "a.f" ∷ codes "h" ∷ [])
     ≡ Some (replay (codes "a.f") (codes "h") 65536)

@@ -8,7 +8,7 @@ use Rattle.clap.specs.Words.{Row, Text, first_of, found_of, rows_of}
 use Rattle.clap.specs.declared.parser.matches.ArgMatches.{ArgMatches}
 use Rattle.hep_command.specs.Numbers.{number_within, option_number}
 use Rattle.hep_command.specs.declared.job.Job.{Job}
-use Rattle.hep_command.specs.declared.job.Job.TheVariants.{Standard, Check, Run, Sample, Replay, List, Explain}
+use Rattle.hep_command.specs.declared.job.Job.TheVariants.{Standard, Check, Run, Sample, Replay, State, List, Explain}
 
 -- a job with the texts of its paths
 pub data Asked : Type 0 where
@@ -17,6 +17,7 @@ pub data Asked : Type 0 where
   run : Text → ℕ → ℕ → Option ℕ → Option ℕ → Option Text → Option Text → Asked
   sample : Text → ℕ → ℕ → ℕ → ℕ → Option Text → Asked
   replay : Text → Text → ℕ → Asked
+  state : Text → Text → Option ℕ → ℕ → Asked
   list : Text → Asked
   explain : Text → Option Text → Option Text → Asked
 
@@ -29,6 +30,7 @@ asked_by (Check file warn) = check file.now warn
 asked_by (Run file arena steps workers seed choices history) = run file.now arena steps workers seed (texts choices) (texts history)
 asked_by (Sample file runs seed arena steps keep) = sample file.now runs seed arena steps (texts keep)
 asked_by (Replay file history arena) = replay file.now history.now arena
+asked_by (State file history at arena) = state file.now history.now at arena
 asked_by (List file) = list file.now
 asked_by (Explain first second third) = explain first.now (texts second) (texts third)
 
@@ -107,6 +109,19 @@ replay_in rows =
     option_and_then (λ file. option_and_then (λ history. option_map (replay file history)
     (arena_in rows)) (first_of (codes "history") rows)) (first_of (codes "file") rows)
 
+-- after how many entries, where their option is given
+abbrev pub entries_by : Option Text → Option (Option ℕ)
+entries_by None = Some None
+entries_by (Some text) = option_map Some (number_within 0 4294967296 text)
+
+abbrev pub entries_in : ListOf Row → Option (Option ℕ)
+entries_in rows = entries_by (first_of (codes "at") rows)
+
+abbrev pub state_in : ListOf Row → Option Asked
+state_in rows =
+    option_and_then (λ file. option_and_then (λ history. option_and_then (λ entries. option_map (state file history entries)
+    (arena_in rows)) (entries_in rows)) (first_of (codes "history") rows)) (first_of (codes "file") rows)
+
 abbrev pub list_in : ListOf Row → Option Asked
 list_in rows = option_map list (first_of (codes "file") rows)
 
@@ -122,8 +137,9 @@ command_in command rows =
     else (if bytes_eq command (codes "run") then run_in rows
     else (if bytes_eq command (codes "sample") then sample_in rows
     else (if bytes_eq command (codes "replay") then replay_in rows
+    else (if bytes_eq command (codes "state") then state_in rows
     else (if bytes_eq command (codes "list") then list_in rows
-    else (if bytes_eq command (codes "explain") then explain_in rows else None)))))
+    else (if bytes_eq command (codes "explain") then explain_in rows else None))))))
 
 -- with no command the source on standard input is run
 abbrev pub job_in : Option (Text × ListOf Row) → Option Asked

@@ -78,6 +78,15 @@ pub enum Job<'a> {
         /// The cells of the arena, 1 to 16,777,216.
         arena: u32,
     },
+    /// To say what everything holds after the first entries of a history.
+    State {
+        file: &'a str,
+        history: &'a str,
+        /// After how many entries; after all of them where none is said.
+        at: Option<u64>,
+        /// The cells of the arena, 1 to 16,777,216.
+        arena: u32,
+    },
     /// To list the units and common blocks of a source with their cells.
     List {
         file: &'a str,

@@ -30,6 +30,8 @@ Example: hepf sample examples/race.f --runs 1000 --keep race";
 
 const REPLAY_EXAMPLE: &str = "Example: hepf replay examples/powers.f powers.history";
 
+const STATE_EXAMPLE: &str = "Example: hepf state examples/powers.f powers.history --at 100";
+
 const LIST_EXAMPLE: &str = "Example: hepf list examples/sort.f";
 
 const EXPLAIN_EXAMPLES: &str =
@@ -240,6 +242,28 @@ fn replay_command<'a>(alloc: Global) -> Result<Command<'a>, AllocError>
     with_arg(replay, long_flag(alloc))
 }
 
+fn entries_option<'a>(alloc: Global) -> Arg<'a>
+    ensures { IsArgument spec.entries_option result }
+{
+    file_option(alloc, "at")
+        .value_name("K")
+        .value_parser(ValueParser::unsigned(0, MOST_STEPS))
+        .help("After how many entries [default: all]")
+}
+
+fn state_command<'a>(alloc: Global) -> Result<Command<'a>, AllocError>
+    ensures { IfOk result (IsCommand spec.state_command) }
+{
+    let state = Command::new(alloc, "state")
+        .about("Say what everything holds after the first entries of a history")
+        .after_help(STATE_EXAMPLE)
+        .arg(source_argument(alloc));
+    let state = with_arg(state, history_argument(alloc));
+    let state = with_arg(state, entries_option(alloc));
+    let state = with_arg(state, arena_option(alloc));
+    with_arg(state, long_flag(alloc))
+}
+
 fn list_command<'a>(alloc: Global) -> Result<Command<'a>, AllocError>
     ensures { IfOk result (IsCommand spec.list_command) }
 {
@@ -289,6 +313,7 @@ pub(crate) fn program<'a>(alloc: Global) -> Result<Command<'a>, AllocError>
     let whole = with_command(whole, run_command(alloc));
     let whole = with_command(whole, sample_command(alloc));
     let whole = with_command(whole, replay_command(alloc));
+    let whole = with_command(whole, state_command(alloc));
     let whole = with_command(whole, list_command(alloc));
     with_command(whole, explain_command(alloc))
 }

@@ -9,6 +9,7 @@ use Rattle.hep_machine.specs.declared.event.Entry.{Entry}
 use Rattle.hep_machine.specs.Words.{Units, IsLegal, Layout, is_held, is_number_among, layout_of, living, Progress, progress_after, progress_after_step, ready_in, run, schedule_of, State, state_after, state_made, step, step_result_of, view_of}
 use Rattle.hep_cells.specs.declared.want.Want.{Want}
 use Rattle.hep_blocked.specs.Listing.{AreListed, GoesAlong, HasChanged, is_noted}
+use Rattle.hep_blocked.specs.Rolls.{want_of}
 use Rattle.hep_blocked.proofs.Members.{ready-rise, rising-same}
 use Rattle.hep_entries.specs.Entries.{Kept}
 use Rattle.hep_state.specs.declared.machine.Machine.{Machine}
@@ -27,7 +28,7 @@ use Rattle.hep_core.proofs.Kept.{AreSeen, halted-is, listed-next, living-next, n
 -- the law of lists that go along with a step
 abbrev pub GoAlong : Type 0
 GoAlong =
-    (program : Units) (cells : ℕ) (choices : List ℕ) (x : Progress) (waiting waiting_after : List (Option Want)) (ready ready_after : List ℕ) (p : ℕ) (changed : Option Want) (layout : Layout)
+    (program : Units) (cells : ℕ) (choices : List ℕ) (x : Progress) (waiting waiting_after : ℕ → Option Want) (ready ready_after : List ℕ) (p : ℕ) (changed : Option Want) (layout : Layout)
     → AreListed program cells choices x waiting ready → step program p (run program choices) ≢ None → layout_of program cells is_held choices ≡ Some layout
     → HasChanged program choices p layout changed → GoesAlong program choices p changed waiting waiting_after ready ready_after
     → AreListed program cells (choices ++ p ∷ []) (progress_after_step program x p (run program (choices ++ p ∷ []))) waiting_after ready_after
@@ -62,7 +63,7 @@ entries-many h p (suc n) =
     ∙ sym (append_assoc h (replicate n e) (e ∷ []))
     ∙ ap (λ es. es ++ e ∷ []) (entries-many h p n)
 
-module _ (law : GoAlong) (program : Units) (cells limit p : ℕ) (waiting : List (Option Want)) (ready : List ℕ) (out : List TicketId) (home : is_out p out ≡ false) where
+module _ (law : GoAlong) (program : Units) (cells limit p : ℕ) (waiting : ℕ → Option Want) (ready : List ℕ) (out : List TicketId) (home : is_out p out ≡ false) where
   abbrev one : Entry
   one = record { process = p; steps = 1 }
 
@@ -135,24 +136,23 @@ module _ (law : GoAlong) (i : Inside) (p : ℕ) (k : CoreInvariant i) (running :
   abbrev h : List Entry
   h = i.history.items
 
-  start : Far law i.image i.cells i.limit p i.waits i.ready.ready i.out.items home h
+  start : Far law i.image i.cells i.limit p (want_of i.roster.waiting) i.roster.ready i.out.items home h
   start = record { layout = k.after.after.layout; laid = k.after.after.laid; listed = k.listed; single = k.single; legal = λ within. k.legal; living = k.living }
 
-  come : (n : ℕ) (after : List ℕ) → HasGone i.image i.cells p (schedule_of h) n after → HasCome law i.image i.cells i.limit p i.waits i.ready.ready i.out.items home h start n after
-  come n after gone = come-so law i.image i.cells i.limit p i.waits i.ready.ready i.out.items home h start n after gone
+  come : (n : ℕ) (after : List ℕ) → HasGone i.image i.cells p (schedule_of h) n after → HasCome law i.image i.cells i.limit p (want_of i.roster.waiting) i.roster.ready i.out.items home h start n after
+  come n after gone = come-so law i.image i.cells i.limit p (want_of i.roster.waiting) i.roster.ready i.out.items home h start n after gone
 
   -- it keeps what a core keeps
   pub core-goes-on : (n : ℕ) (after : List ℕ) (machine : Machine) (history : Kept) → HasGone i.image i.cells p (schedule_of h) n after → IsMachineAfter i.image i.cells after machine
       → machine.halted ≡ false → length machine.processes.items ≡ length i.machine.processes.items → length h + n ≤ i.limit → history.items ≡ entries_along h p n → CoreInvariant (core_along i history machine)
   core-goes-on n after machine history gone kept unhalted count room is =
       let c = come n after gone in
-      let far = subst (Far law i.image i.cells i.limit p i.waits i.ready.ready i.out.items home) (sym is) c.far in
+      let far = subst (Far law i.image i.cells i.limit p (want_of i.roster.waiting) i.roster.ready i.out.items home) (sym is) c.far in
       let there : IsMachineAfter i.image i.cells (schedule_of history.items) machine = subst (λ ps. IsMachineAfter i.image i.cells ps machine) (sym (ap schedule_of is ∙ c.turns)) kept in
       record {
         after = there;
         listed = far.listed;
-        numbers = omega (arith, k.numbers, count);
-        waiting = k.waiting;
+        room = record { room = omega (arith, k.room.room, count); last = omega (arith, k.room.last, count) };
         legal = far.legal (omega (arith, room, ap length is, entries-more h p n));
         single = far.single;
         named = subst (λ stop. IsStop i.image i.cells i.limit history.items stop) (sym running) (sym (halted-is i.image i.cells history.items (snapshot_of machine) there.after) ∙ unhalted);

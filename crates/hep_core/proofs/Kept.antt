@@ -4,7 +4,8 @@ use Rattle.hep_machine.specs.Words.{Units, IsLegal, is_held, layout_of, Layout, 
 use Rattle.hep_machine.specs.declared.event.Entry.{Entry}
 use Rattle.hep_cells.specs.declared.want.Want.{Want}
 use Rattle.hep_blocked.specs.Listing.{AreListed, GoesAlong, GoesAlongEmptying, HasEmptied, IsBlocked, awake_by, awake_where, is_noted, is_woken, is_woken_where}
-use Rattle.hep_blocked.specs.Numbers.{Numbers}
+use Rattle.hep_blocked.specs.Rolls.{KeepsRoll, Roll, want_of}
+use Rattle.hep_blocked.proofs.Keeping.{listed-alike}
 use Rattle.hep_entries.specs.Entries.{Kept}
 use Rattle.hep_proc.specs.Stacks.{stack_of}
 use Rattle.hep_state.specs.declared.machine.Machine.{Machine}
@@ -23,7 +24,6 @@ use Rattle.std.proofs.lemmas.List.{length-map}
 use Rattle.std.specs.Result.{IsErrAnd}
 use Rattle.std.proofs.lemmas.Option.{none-some, same_Some, slice_get_within}
 use Rattle.std.proofs.lemmas.Result.{err_from_is_err_and}
-use Rattle.hep_blocked.specs.Waiting.{waiting_at}
 use Rattle.hep_layout.specs.Words.{address}
 use Rattle.hep_image.specs.Image.{most_cells}
 use Rattle.hep_blocked.proofs.Living.{waits-idle}
@@ -36,7 +36,7 @@ use Rattle.hep_state.specs.declared.turn.Turned.TheVariants.{Stepped, Purged, Wa
 use Rattle.hep_core.specs.declared.fault.ChooseFault.{ChooseFault}
 use Rattle.hep_core.specs.declared.fault.ChooseFault.TheVariants.{NoMemory}
 use Rattle.hep_core.specs.declared.stop.Turn.{Turn}
-use Rattle.hep_core.specs.Waking.{AreInArena}
+use Rattle.hep_core.specs.Waking.{AreInArena, HasRoomLeft}
 
 -- what is seen of machines: `hep_views`
 abbrev pub AreSeen : Units → ℕ → Type 0
@@ -68,17 +68,15 @@ module _ (program : Units) (cells : ℕ) (history : List Entry) (m : Snapshot) (
 -- ---- a turn that wasn't taken
 
 -- a core with the same entries, whose machine keeps the same state
-module _ (c : Inside) (kept : CoreInvariant c) (history : Kept) (machine : Machine) (ready : Numbers) (same : history.items ≡ c.history.items) (after : IsMachineAfter c.image c.cells (schedule_of c.history.items) machine)
-    (noted : ready.ready ≡ c.ready.ready) (numbers : length machine.processes.items ≤ ready.room) (room : length c.waits ≤ ready.room) where
-  pub unturned-kept : (waits : List (Option Want)) → waits ≡ c.waits → (stop : Option ChoiceStop) → IsStop c.image c.cells c.limit c.history.items stop → CoreInvariant (record c { history = history; stop = stop; machine = machine; waits = waits; ready = ready })
-  unturned-kept waits waiting stop named =
+module _ (c : Inside) (kept : CoreInvariant c) (history : Kept) (machine : Machine) (roster : Roll) (same : history.items ≡ c.history.items) (after : IsMachineAfter c.image c.cells (schedule_of c.history.items) machine)
+    (noted : KeepsRoll c.roster roster) (room : HasRoomLeft machine roster) where
+  pub unturned-kept : (stop : Option ChoiceStop) → IsStop c.image c.cells c.limit c.history.items stop → CoreInvariant (record c { history = history; stop = stop; machine = machine; roster = roster })
+  unturned-kept stop named =
       record {
         after = subst (λ es. IsMachineAfter c.image c.cells (schedule_of es) machine) (sym same) after;
-        listed = subst (λ es. AreListed c.image c.cells (schedule_of es) (progress_after c.image es) waits ready.ready) (sym same) (
-            subst (λ ws. AreListed c.image c.cells (schedule_of c.history.items) (progress_after c.image c.history.items) ws ready.ready) (sym waiting) (
-            subst (AreListed c.image c.cells (schedule_of c.history.items) (progress_after c.image c.history.items) c.waits) (sym noted) kept.listed));
-        numbers = numbers;
-        waiting = subst (λ ws. length ws ≤ ready.room) (sym waiting) room;
+        listed = subst (λ es. AreListed c.image c.cells (schedule_of es) (progress_after c.image es) (want_of roster.waiting) roster.ready) (sym same) (
+            listed-alike c.image c.cells (schedule_of c.history.items) (progress_after c.image c.history.items) (want_of c.roster.waiting) (want_of roster.waiting) c.roster.ready roster.ready kept.listed noted.waiting noted.ready);
+        room = room;
         legal = subst (IsLegal c.image c.cells c.limit) (sym same) kept.legal;
         single = subst AreSingle (sym same) kept.single;
         named = subst (λ es. IsStop c.image c.cells c.limit es stop) (sym same) named;
@@ -121,7 +119,7 @@ module _ (program : Units) (cells : ℕ) (h : List Entry) (p : ℕ) (h' : List E
   living-next out home lives = subst (λ es. AreLiving program es out) (sym is) (living-stepped program h p next out steps-on home lives)
 
   -- the lists that go along with the step
-  pub listed-next : (waits : List (Option Want)) (ready : List ℕ) → (progress_after program h).state ≡ run program (schedule_of h)
+  pub listed-next : (waits : ℕ → Option Want) (ready : List ℕ) → (progress_after program h).state ≡ run program (schedule_of h)
       → AreListed program cells (schedule_of h ++ p ∷ []) (progress_after_step program (progress_after program h) p (run program (schedule_of h ++ p ∷ []))) waits ready
       → AreListed program cells (schedule_of h') (progress_after program h') waits ready
   listed-next waits ready state listed =
@@ -155,7 +153,7 @@ module _ (program : Units) (cells : ℕ) (h : List Entry) (p : ℕ) (h' : List E
   pub single-left : AreSingle h → AreSingle h'
   single-left single = subst AreSingle (sym is) (single-last h (record { process = p; steps = 0 }) (omega arith) single)
 
-  pub listed-left : (waits : List (Option Want)) (ready : List ℕ) → AreListed program cells (schedule_of h) (progress_after_entry program (progress_after program h) (record { process = p; steps = 0 }) 0) waits ready
+  pub listed-left : (waits : ℕ → Option Want) (ready : List ℕ) → AreListed program cells (schedule_of h) (progress_after_entry program (progress_after program h) (record { process = p; steps = 0 }) 0) waits ready
       → AreListed program cells (schedule_of h') (progress_after program h') waits ready
   listed-left waits ready listed =
       subst (λ ps. AreListed program cells ps (progress_after program h') waits ready) (sym schedule-left) (
@@ -176,16 +174,15 @@ opening-goes program = refl
 
 -- that made a step
 module _ (i : Inside) (k : CoreInvariant i) (p : ℕ) (lt : length i.history.items < i.limit) (home : is_out p i.out.items ≡ false) (history : Kept) (is : history.items ≡ i.history.items ++ record { process = p; steps = 1 } ∷ []) (m : Machine)
-    (made : step i.image p (run i.image (schedule_of i.history.items)) ≢ None) (after : IsMachineAfter i.image i.cells (schedule_of i.history.items ++ p ∷ []) m) (waits : List (Option Want)) (ready : Numbers)
-    (listed : AreListed i.image i.cells (schedule_of i.history.items ++ p ∷ []) (progress_after_step i.image (progress_after i.image i.history.items) p (run i.image (schedule_of i.history.items ++ p ∷ []))) waits ready.ready)
-    (numbers : length m.processes.items ≤ ready.room) (room : length waits ≤ ready.room) where
-  pub stepped-kept : (stop : Option ChoiceStop) → IsStop i.image i.cells i.limit history.items stop → CoreInvariant (record i { history = history; stop = stop; machine = m; waits = waits; ready = ready })
+    (made : step i.image p (run i.image (schedule_of i.history.items)) ≢ None) (after : IsMachineAfter i.image i.cells (schedule_of i.history.items ++ p ∷ []) m) (roster : Roll)
+    (listed : AreListed i.image i.cells (schedule_of i.history.items ++ p ∷ []) (progress_after_step i.image (progress_after i.image i.history.items) p (run i.image (schedule_of i.history.items ++ p ∷ []))) (want_of roster.waiting) roster.ready)
+    (room : HasRoomLeft m roster) where
+  pub stepped-kept : (stop : Option ChoiceStop) → IsStop i.image i.cells i.limit history.items stop → CoreInvariant (record i { history = history; stop = stop; machine = m; roster = roster })
   stepped-kept stop named =
       record {
         after = after-next i.image i.cells i.history.items p history.items is made m after;
-        listed = listed-next i.image i.cells i.history.items p history.items is made waits ready.ready k.listed.state listed;
-        numbers = numbers;
-        waiting = room;
+        listed = listed-next i.image i.cells i.history.items p history.items is made (want_of roster.waiting) roster.ready k.listed.state listed;
+        room = room;
         legal = legal-next i.image i.cells i.history.items p history.items is made m after i.limit k.legal lt;
         single = single-next i.image i.cells i.history.items p history.items is made k.single;
         named = named;
@@ -195,16 +192,15 @@ module _ (i : Inside) (k : CoreInvariant i) (p : ℕ) (lt : length i.history.ite
 
 -- that found its process waiting
 module _ (i : Inside) (k : CoreInvariant i) (p : ℕ) (lt : length i.history.items < i.limit) (history : Kept) (is : history.items ≡ i.history.items ++ record { process = p; steps = 0 } ∷ []) (m : Machine)
-    (after : IsMachineAfter i.image i.cells (schedule_of i.history.items) m) (waiting : is_waiting i.image (run i.image (schedule_of i.history.items)) p ≡ true) (waits : List (Option Want)) (ready : Numbers)
-    (listed : AreListed i.image i.cells (schedule_of i.history.items) (progress_after_entry i.image (progress_after i.image i.history.items) (record { process = p; steps = 0 }) 0) waits ready.ready)
-    (numbers : length m.processes.items ≤ ready.room) (room : length waits ≤ ready.room) where
-  pub waited-kept : (stop : Option ChoiceStop) → IsStop i.image i.cells i.limit history.items stop → CoreInvariant (record i { history = history; stop = stop; machine = m; waits = waits; ready = ready })
+    (after : IsMachineAfter i.image i.cells (schedule_of i.history.items) m) (waiting : is_waiting i.image (run i.image (schedule_of i.history.items)) p ≡ true) (roster : Roll)
+    (listed : AreListed i.image i.cells (schedule_of i.history.items) (progress_after_entry i.image (progress_after i.image i.history.items) (record { process = p; steps = 0 }) 0) (want_of roster.waiting) roster.ready)
+    (room : HasRoomLeft m roster) where
+  pub waited-kept : (stop : Option ChoiceStop) → IsStop i.image i.cells i.limit history.items stop → CoreInvariant (record i { history = history; stop = stop; machine = m; roster = roster })
   waited-kept stop named =
       record {
         after = subst (λ ps. IsMachineAfter i.image i.cells ps m) (sym (schedule-left i.image i.cells i.history.items p history.items is)) after;
-        listed = listed-left i.image i.cells i.history.items p history.items is waits ready.ready listed;
-        numbers = numbers;
-        waiting = room;
+        listed = listed-left i.image i.cells i.history.items p history.items is (want_of roster.waiting) roster.ready listed;
+        room = room;
         legal = legal-left i.image i.cells i.history.items p history.items is i.limit k.legal lt waiting;
         single = single-left i.image i.cells i.history.items p history.items is k.single;
         named = named;
@@ -258,9 +254,9 @@ noted-so program choices p woken ready noted left before now counted many are is
     ∙ λ i. woken q || is_noted p (is_some (living (run program (choices ++ p ∷ [])) p)) (counted i) (many i) ready q)
 
 -- the lists once those are woken that waited, and the others are noted
-pub along : (program : Units) (choices : List ℕ) (p : ℕ) (changed : Option Want) (waiting after : List (Option Want)) (ready noted left : List ℕ) (before now : ℕ)
+pub along : (program : Units) (choices : List ℕ) (p : ℕ) (changed : Option Want) (waiting after : ℕ → Option Want) (ready noted left : List ℕ) (before now : ℕ)
     → before ≡ length (run program choices).processes → now ≡ length (run program (choices ++ p ∷ [])).processes
-    → ((q : ℕ) → waiting_at after q ≡ awake_by changed (waiting_at waiting q))
+    → ((q : ℕ) → after q ≡ awake_by changed (waiting q))
     → ((q : ℕ) → is_number_among q noted ≡ is_noted p (is_some (living (run program (choices ++ p ∷ [])) p)) before now ready q)
     → ((q : ℕ) → is_number_among q left ≡ (is_woken changed waiting q || is_number_among q noted))
     → GoesAlong program choices p changed waiting after ready left
@@ -270,9 +266,9 @@ along program choices p changed waiting after ready noted left before now counte
       are_ready = noted-so program choices p (is_woken changed waiting) ready noted left before now counted many are woken;
     }
 
-pub along-emptying : (program : Units) (choices : List ℕ) (p : ℕ) (emptied : ℕ → Bool) (waiting after : List (Option Want)) (ready noted left : List ℕ) (before now : ℕ)
+pub along-emptying : (program : Units) (choices : List ℕ) (p : ℕ) (emptied : ℕ → Bool) (waiting after : ℕ → Option Want) (ready noted left : List ℕ) (before now : ℕ)
     → before ≡ length (run program choices).processes → now ≡ length (run program (choices ++ p ∷ [])).processes
-    → ((q : ℕ) → waiting_at after q ≡ awake_where emptied (waiting_at waiting q))
+    → ((q : ℕ) → after q ≡ awake_where emptied (waiting q))
     → ((q : ℕ) → is_number_among q noted ≡ is_noted p (is_some (living (run program (choices ++ p ∷ [])) p)) before now ready q)
     → ((q : ℕ) → is_number_among q left ≡ (is_woken_where emptied waiting q || is_number_among q noted))
     → GoesAlongEmptying program choices p emptied waiting after ready left

@@ -3,11 +3,13 @@ use Rattle.std.specs.Prelude.{◌≡◌, ◌≢◌, ◌≤◌, ℕ, true, List, 
 use Rattle.hep_machine.specs.declared.event.Entry.{Entry}
 use Rattle.hep_machine.specs.Words.{IsLegal, Units, living, progress_after, schedule_of, state_after}
 use Rattle.hep_blocked.specs.Listing.{AreListed}
+use Rattle.hep_blocked.specs.Rolls.{want_of}
 use Rattle.hep_quick.specs.UnitTables.{AreTables}
 use Rattle.hep_state.specs.Words.{IsMachineAfter, snapshot_of}
 use Rattle.hep_views.specs.Seen.{machine_view}
 use Rattle.hep_core.specs.Tickets.{is_out}
 use Rattle.hep_core.specs.Value.{AreSingle, CoreValue, IsStop}
+use Rattle.hep_core.specs.Waking.{HasRoomLeft}
 use Rattle.hep_core.specs.declared.scheduler.Core.TheInside.{Inside}
 use Rattle.hep_core.specs.declared.ticket.TicketId.{TicketId}
 
@@ -29,13 +31,12 @@ abbrev pub AreLiving : Units → List Entry → List TicketId → Type 0
 AreLiving program history out = (p : ℕ) → is_out p out ≡ true → living (state_after program history) p ≢ None
 
 -- the machine keeps the state after the history, which is legal, and each entry of which has one step or none; those that wait are the
--- listed ones and the others that live are ready, and each process that was made has room to be; those that are out live; the tables are those
+-- listed ones and the others that live are ready, and each process that was made has room to be enrolled; those that are out live; the tables are those
 -- of the program
 pub record CoreInvariant (c : Inside) : Type 0 where
   pub after : IsMachineAfter c.image c.cells (schedule_of c.history.items) c.machine
-  pub listed : AreListed c.image c.cells (schedule_of c.history.items) (progress_after c.image c.history.items) c.waits c.ready.ready
-  pub numbers : length c.machine.processes.items ≤ c.ready.room
-  pub waiting : length c.waits ≤ c.ready.room
+  pub listed : AreListed c.image c.cells (schedule_of c.history.items) (progress_after c.image c.history.items) (want_of c.roster.waiting) c.roster.ready
+  pub room : HasRoomLeft c.machine c.roster
   pub legal : IsLegal c.image c.cells c.limit c.history.items
   pub single : AreSingle c.history.items
   pub named : IsStop c.image c.cells c.limit c.history.items c.stop

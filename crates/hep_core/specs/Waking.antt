@@ -5,6 +5,7 @@ use Rattle.hep_machine.specs.Words.{Units, is_number_among, living, run}
 use Rattle.hep_cells.specs.declared.want.Want.{Want}
 use Rattle.hep_image.specs.Image.{most_cells}
 use Rattle.hep_blocked.specs.Listing.{awake_by, awake_where, is_noted, is_woken, is_woken_where}
+use Rattle.hep_blocked.specs.Rolls.{Roll}
 use Rattle.hep_purging.specs.declared.range.ClosedRange.{ClosedRange}
 use Rattle.hep_purging.specs.Purged.{have_cell}
 use Rattle.hep_state.specs.declared.machine.Machine.{Machine}
@@ -19,13 +20,18 @@ NotesReady p made m old new =
     (program : Units) (cells : ℕ) (choices : List ℕ) → IsAfter program cells choices (snapshot_of m) → (q : ℕ)
     → is_number_among q new ≡ is_noted p (is_some (living (run program choices) p)) made (length m.processes.items) old q
 
+-- each process that was made has room to be enrolled, and none was that wasn't made
+pub record HasRoomLeft (m : Machine) (roster : Roll) : Type 0 where
+  pub room : length m.processes.items ≤ roster.room
+  pub last : roster.last ≤ length m.processes.items
+
 -- what a process still waits for, by what the turn changed, or by the cells that a PURGE emptied
 abbrev pub awake_after : Turned → List ClosedRange → Option Want → Option Want
 awake_after (Stepped changed) emptied waiting = awake_by changed waiting
 awake_after Purged emptied waiting = awake_where (have_cell emptied) waiting
 awake_after (Waits want) emptied waiting = waiting
 
-abbrev pub is_woken_after : Turned → List ClosedRange → List (Option Want) → ℕ → Bool
+abbrev pub is_woken_after : Turned → List ClosedRange → (ℕ → Option Want) → ℕ → Bool
 is_woken_after (Stepped changed) emptied waiting q = is_woken changed waiting q
 is_woken_after Purged emptied waiting q = is_woken_where (have_cell emptied) waiting q
 is_woken_after (Waits want) emptied waiting q = false

@@ -2,7 +2,9 @@
 ghost use Rattle.std.specs.Prelude.{◌≡◌, ◌≢◌, ◌≤◌, ◌<◌, ◌++◌, ◌∷◌, [], None, Some, IsSome, IfNone, IfSome, IfOk, OnErr, OnOk, IfErr, Err, false, true};
 ghost use Rattle.std.specs.Prelude.{◌+◌, ◌^◌, is_some, length, nat_lt};
 ghost use Rattle.hep_machine.specs.Words.{IsLegal, common_cells, is_held, opening_layout, used_cells, living, first_above, last_process};
-ghost use Rattle.hep_machine.specs.Words.{next_of_ready, view_of};
+ghost use Rattle.hep_machine.specs.Words.{is_number_among, next_of_ready, progress_after, schedule_of, view_of};
+ghost use Rattle.hep_blocked.specs.Listing.{IsBlocked};
+ghost use Rattle.hep_state.specs.Words.{IsMachineAfter};
 ghost use Rattle.hep_views.specs.Standing.{whereabouts_by};
 ghost use Rattle.hep_core.specs.Value.{state_of, opening_of, IsNewFault, IsChoice, HasNoStop, IsStop, IsStoppedWhereFull};
 ghost use Rattle.hep_core.specs.Commits.{IsCancelled, IsCheckedOut, IsCommitted, IsGivenTo, core_after_return, most_tickets};
@@ -13,15 +15,15 @@ ghost use Rattle.hep_core.specs.Going.{AreChoices, AreTurns, IsAtRest, IsTurnOnc
 ghost use Rattle.hep_core.specs.Value.{AreSingle, IsAtPosition, IsIdle, free_of, next_listed_of, verdict_of, next_ready_of, ready_of};
 
 use crate::fault::{ChooseFault, CommitFault, NewFault};
-use crate::lists::{note_ready, wait, wake_after};
+use crate::lists::{note_ready, wake_after};
 use crate::stop::{ChoiceStop, Turn, Turns, Verdict};
 use crate::ticket::{Segment, Ticket, TicketId, come_back};
+use hep_blocked::{Roster, Want};
 use hep_blocked::laws::{
     lists_are_those_of_definitions, lists_go_along_with_purges, lists_go_along_with_steps,
     openings_list_nobody, waiting_processes_are_listed,
 };
 use hep_blocked::need_laws::waiting_processes_need_it;
-use hep_blocked::{Ready, Waits};
 use hep_entries::History;
 use hep_going::go_on;
 use hep_image::Image;
@@ -57,10 +59,8 @@ pub struct Core {
     history: History,
     stop: Option<ChoiceStop>,
     machine: Machine,
-    // The processes that were found waiting and wait since, and what they wait for.
-    waits: Waits,
-    // The others that live.
-    ready: Ready,
+    // The processes that live: those that were found waiting and wait since, with what they wait for, and the others, which are ready.
+    roster: Roster,
     // The tickets that are out, and how many were given.
     out: Vec<TicketId>,
     given: u64,
@@ -78,8 +78,7 @@ impl Drop for Core {
             history,
             stop,
             machine,
-            waits,
-            ready,
+            roster,
             out,
             given,
         } = self;
@@ -125,9 +124,9 @@ impl Core {
         }
         let machine = Machine::open(alloc, &image, cells)?;
         let tables = tables_of(alloc, &image)?;
-        let mut ready = Ready::new(alloc);
-        ready.reserve(1)?;
-        ready.add(FIRST_PROCESS);
+        let mut roster = Roster::new(alloc);
+        roster.reserve(FIRST_PROCESS)?;
+        roster.enroll(FIRST_PROCESS);
         Ok(Core {
             alloc,
             image,
@@ -137,8 +136,7 @@ impl Core {
             history: History::new(alloc),
             stop: None,
             machine,
-            waits: Waits::new(alloc),
-            ready,
+            roster,
             out: Vec::new(alloc),
             given: 0,
         })
@@ -279,11 +277,11 @@ impl Core {
             &self.image,
             p,
             &mut self.history,
-            &mut self.ready,
+            &mut self.roster,
         ) {
             Ok(turned) => match turned {
                 Turned::Waits(want) => {
-                    wait(&mut self.waits, &mut self.ready, p, want)?;
+                    self.roster.block(p, want)?;
                     note(&mut self.history, p, 0);
                     Ok(Turn {
                         steps: 0,
@@ -292,9 +290,9 @@ impl Core {
                 }
                 _ => {
                     note(&mut self.history, p, 1);
-                    note_ready(&mut self.ready, &self.machine, p, made);
+                    note_ready(&mut self.roster, &self.machine, p, made);
                     let emptied = &self.machine.passing.ranges;
-                    wake_after(&mut self.waits, &mut self.ready, turned, emptied);
+                    wake_after(&mut self.roster, turned, emptied);
                     if self.machine.halted {
                         self.stop = Some(ChoiceStop::Halted);
                     }
@@ -508,7 +506,7 @@ impl Core {
         ensures { result ≡ first_above p (ready_of self.now) None }
     {
         lists_are_those_of_definitions();
-        self.ready.first_above(p)
+        self.roster.first_above(p)
     }
 
     // The process that comes next after p, whoever is out.
@@ -517,7 +515,7 @@ impl Core {
         ensures { result ≡ next_of_ready p (ready_of self.now) }
     {
         lists_are_those_of_definitions();
-        self.ready.next(p)
+        self.roster.next(p)
     }
 
     // Of those that aren't out the one with the least number above p.
@@ -533,8 +531,8 @@ impl Core {
 
     /// The process that comes next after p: of those that live, don't wait and aren't out the least above p, else the least.
     ///
-    /// This costs the logarithm of how many processes were made, for each process that is out and once more; a constant time for each where
-    /// at most 64 were made.
+    /// This costs the logarithm of how many processes lived at one time, for each process that is out and once more; a constant time for each
+    /// where at most 64 were made.
     #[inline(always)]
     pub fn ready_after(&self, p: u64) -> Option<u64>
         ensures { result ≡ next_of_ready p (free_of self.now) }
@@ -572,8 +570,8 @@ impl Core {
         lists_are_those_of_definitions();
         match self.stop {
             Some(stop) => Verdict::Stopped(stop),
-            None if !self.ready.is_empty() => Verdict::Running,
-            None if self.waits.is_empty() => Verdict::Done,
+            None if !self.roster.none_ready() => Verdict::Running,
+            None if self.roster.none_waits() => Verdict::Done,
             None => Verdict::Waiting,
         }
     }
@@ -581,14 +579,29 @@ impl Core {
     /// Of the processes that were found waiting and wait since the one with the least number above p: where it is, and for what it
     /// waits.
     ///
-    /// This costs the logarithm of how many processes were made, and a step for each activation from the process's top one up to the
+    /// This costs the logarithm of how many processes lived at one time, and a step for each activation from the process's top one up to the
     /// one whose variable it waits for.
     pub fn waiting_after(&self, p: u64) -> Option<Listed>
         ensures { result ≡ next_listed_of self.now p }
     {
-        let next = self.waits.next_after(p)?;
-        let want = self.waits.waiting(next)?;
+        let next = self.roster.next_waiting(p)?;
+        let want = self.roster.waiting(next)?;
         Some(listed(&self.machine, &self.image, next, want))
+    }
+
+    /// For what process p waits, if it was found waiting and waits since.
+    pub fn want(&self, p: u64) -> Option<Want>
+        ensures listed { is_some result ≡ is_number_among p (progress_after self.now.program self.now.history).listed }
+        ensures want { IfSome result (IsBlocked self.now.program self.now.cells (schedule_of self.now.history) p) }
+    {
+        self.roster.waiting(p)
+    }
+
+    /// What is kept of the state.
+    pub fn machine(&self) -> &Machine
+        ensures { IsMachineAfter self.now.program self.now.cells (schedule_of self.now.history) result.now }
+    {
+        &self.machine
     }
 
     /// How many processes were made.
@@ -662,8 +675,7 @@ impl Core {
             history,
             stop,
             machine,
-            waits,
-            ready,
+            roster,
             out,
             given,
         } = self;

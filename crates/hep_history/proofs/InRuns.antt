@@ -1,5 +1,5 @@
 -- Runs of entries that are left, and the places of their entries; and the lines of a run.
-use Rattle.std.proofs.Common.{◌≡◌, ℕ, ◌+◌, ◌-◌, ◌<◌, ◌≤◌, List, [], ◌∷◌, ◌++◌, Some, length, length-append, replicate, drop, sym, ap, ◌∙◌, arith, slice_get, append_assoc}
+use Rattle.std.proofs.Common.{◌≡◌, ℕ, zero, suc, ◌+◌, ◌-◌, ◌<◌, ◌≤◌, List, [], ◌∷◌, ◌++◌, Some, length, length-append, min, replicate, drop, take, refl, sym, ap, ◌∙◌, arith, slice_get, append_assoc}
 use Rattle.std.proofs.lemmas.Grind.{flat_map-append}
 use Rattle.std.proofs.lemmas.List.{append-nil, drop-drop, length-drop, length-replicate, replicate-append-replicate}
 use Rattle.hep_machine.specs.declared.event.Entry.{Entry}
@@ -51,3 +51,24 @@ pub lines_more : (text : List ℕ) (run : Run) (rest : List Run) → (text ++ hi
 lines_more text run rest =
     append_assoc text (history_text (replicate run.count (entry_of run))) (history_text (entries_of rest))
     ∙ ap (λ lines. text ++ lines) (sym (flat_map-append entry_text (replicate run.count (entry_of run)) (entries_of rest)))
+
+-- the first of an entry that stands several times, and of those behind it
+in_both : {X : Type 0} (x : X) (xs : List X) (m m' l l' : ℕ) → m ≡ m' → l ≡ l' → replicate m x ++ take l xs ≡ replicate m' x ++ take l' xs
+in_both x xs m m' l l' ms ls = ap (λ k. replicate k x ++ take l xs) ms ∙ ap (λ k. replicate m' x ++ take k xs) ls
+
+take_run : {X : Type 0} (n c : ℕ) (x : X) (xs : List X) → take n (replicate c x ++ xs) ≡ replicate (min n c) x ++ take (n - min n c) xs
+take_run zero zero x xs = in_both x xs 0 (min 0 0) 0 (0 - min 0 0) (omega arith) (omega arith)
+take_run zero (suc c) x xs = in_both x xs 0 (min 0 (suc c)) 0 (0 - min 0 (suc c)) (omega arith) (omega arith)
+take_run (suc n) zero x xs = in_both x xs 0 (min (suc n) 0) (suc n) (suc n - min (suc n) 0) (omega arith) (omega arith)
+take_run (suc n) (suc c) x xs =
+    ap (λ ys. x ∷ ys) (take_run n c x xs)
+    ∙ in_both x xs (suc (min n c)) (min (suc n) (suc c)) (n - min n c) (suc n - min (suc n) (suc c)) (omega arith) (omega arith)
+
+-- so many first entries of a run and of those behind it, after others
+pub front_more : (front more : List Entry) (run : Run) (rest : List Run) (n k : ℕ) → k ≡ min n run.count → more ≡ front ++ replicate k (entry_of run)
+    → more ++ take (n - k) (entries_of rest) ≡ front ++ take n (entries_of (run ∷ rest))
+front_more front more run rest n k least is =
+    ap (λ es. es ++ take (n - k) (entries_of rest)) is
+    ∙ append_assoc front (replicate k (entry_of run)) (take (n - k) (entries_of rest))
+    ∙ ap (λ j. front ++ (replicate j (entry_of run) ++ take (n - j) (entries_of rest))) least
+    ∙ ap (λ es. front ++ es) (sym (take_run n run.count (entry_of run) (entries_of rest)))

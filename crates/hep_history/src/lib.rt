@@ -7,6 +7,7 @@
 
 pub mod choices;
 pub mod fault;
+pub mod first;
 pub mod given;
 pub mod history;
 pub mod laws;
@@ -16,6 +17,7 @@ pub mod replays;
 
 pub use choices::{Choices, read_choices};
 pub use fault::ReplayFault;
+pub use first::first_entries;
 pub use given::{choices_of_history, read_given};
 /// Why a text is refused: 601 for a history, 602 for choices, with the first bad line, and line 0
 /// where the text is too long. Neither is about a name.

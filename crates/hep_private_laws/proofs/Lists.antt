@@ -10,7 +10,7 @@ use Rattle.hep_going.specs.Gone.{HasGone, IsPlainTurn, none, more}
 -- the law of lists that go along with a step
 abbrev pub GoAlong : Type 0
 GoAlong =
-    (program : Units) (cells : ℕ) (choices : List ℕ) (x : Progress) (waiting waiting_after : List (Option Want)) (ready ready_after : List ℕ) (p : ℕ) (changed : Option Want) (layout : Layout)
+    (program : Units) (cells : ℕ) (choices : List ℕ) (x : Progress) (waiting waiting_after : ℕ → Option Want) (ready ready_after : List ℕ) (p : ℕ) (changed : Option Want) (layout : Layout)
     → AreListed program cells choices x waiting ready → step program p (run program choices) ≢ None → layout_of program cells is_held choices ≡ Some layout
     → HasChanged program choices p layout changed → GoesAlong program choices p changed waiting waiting_after ready ready_after
     → AreListed program cells (choices ++ p ∷ []) (progress_after_step program x p (run program (choices ++ p ∷ []))) waiting_after ready_after
@@ -28,7 +28,7 @@ progress-last : (program : Units) (x : Progress) (p n : ℕ)
 progress-last program x p zero = refl
 progress-last program x p (suc n) = progress-last program (progress_after_step program x p (state_after_turn program p x.state)) p n
 
-module _ (law : GoAlong) (program : Units) (cells p : ℕ) (waits : List (Option Want)) (ready : List ℕ) where
+module _ (law : GoAlong) (program : Units) (cells p : ℕ) (waits : ℕ → Option Want) (ready : List ℕ) where
   pub record AreFar (choices : List ℕ) (x : Progress) : Type 0 where
     pub layout : Layout
     pub laid : layout_of program cells is_held choices ≡ Some layout

@@ -71,7 +71,7 @@ pub fn private_steps_have_room()
 
 /// They leave the lists: who waits and who is ready stays as it was.
 pub fn private_steps_leave_lists()
-    ensures { (t : TurnOf) (n : ℕ) (records : List ARecord) (end : Own) (x : Progress) (waits : List (Option AWant)) (ready : List ℕ)
+    ensures { (t : TurnOf) (n : ℕ) (records : List ARecord) (end : Own) (x : Progress) (waits : ℕ → Option AWant) (ready : List ℕ)
         → IsAccepted t.program → is_some (main_among t.program) ≡ true → t.cells ≤ most_cells → IsTurning t
         → recorded (private_cells (unit_at t.program t.level.unit)) (unit_code t.program t.level.unit) n (own_of t) ≡ Some (records, end)
         → AreListed t.program t.cells t.choices x waits ready

@@ -9,3 +9,4 @@ mod Outcomes
 mod Noted
 mod Worked
 mod Wanted
+mod Told

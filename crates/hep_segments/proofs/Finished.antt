@@ -21,4 +21,4 @@ module _ (program : Units) (ticket : TicketValue) (id : TicketId) (unit index : 
   is-segment = subst IsSegment same (record { few = taken.few; program = program; values = value_copied ticket.copies; made = made })
 
   pub computed : IsComputed program ticket (segment_value id unit index operands p.records p.index p.operands)
-  computed = subst (IsComputed program ticket) same (record { id = refl; unit = refl; index = refl; operands = refl; made = made; all = taken.all })
+  computed = subst (IsComputed program ticket) same (record { id = refl; unit = refl; index = refl; operands = refl; few = taken.few; made = made; all = taken.all })

@@ -2,7 +2,7 @@
 ghost use Rattle.std.specs.Prelude.{◌≡◌, ◌-◌, not, pos};
 ghost use Rattle.hep_machine.specs.Words.{is_number_among, natural};
 ghost use Rattle.hep_private.specs.Own.{stores_of};
-ghost use Rattle.hep_segments.specs.Memory.{last_stored, stored_in, stores_of_store, values_now, written_now};
+ghost use Rattle.hep_segments.specs.Memory.{last_stored, stored_in, stores_of_end, stores_of_entry, stores_of_store, values_now, written_now};
 ghost use Rattle.hep_segments.specs.Segments.{value_copied};
 
 use crate::ticket::Copied;
@@ -68,6 +68,56 @@ pub(crate) fn one_less(number: i64) -> i64
     number.max(1) - 1
 }
 
+// What the entry of a DO stored in a cell.
+fn stored_by_entry(note: Record, cell: usize) -> Option<Value>
+    ensures { result ≡ last_stored (stores_of_entry note) cell }
+{
+    let Record::Enters {
+        variable,
+        cells,
+        initial,
+        count,
+        increment,
+        ..
+    } = note
+    else {
+        return None;
+    };
+    let store = LoopStore {
+        variable,
+        cells,
+        value: initial,
+        left: iterations(count),
+        increment,
+    };
+    stored_by_loop(store, cell)
+}
+
+// What the end of an iteration stored in a cell.
+fn stored_by_end(note: Record, cell: usize) -> Option<Value>
+    ensures { result ≡ last_stored (stores_of_end note) cell }
+{
+    let Record::Ends {
+        variable,
+        cells,
+        raised,
+        count,
+        increment,
+        ..
+    } = note
+    else {
+        return None;
+    };
+    let store = LoopStore {
+        variable,
+        cells,
+        value: raised,
+        left: one_less(count),
+        increment,
+    };
+    stored_by_loop(store, cell)
+}
+
 // What a step stored in a cell.
 fn stored_by(note: Record, cell: usize) -> Option<Value>
     ensures { result ≡ last_stored (stores_of note) cell }
@@ -85,40 +135,8 @@ fn stored_by(note: Record, cell: usize) -> Option<Value>
                 None
             }
         }
-        Record::Enters {
-            variable,
-            cells,
-            initial,
-            count,
-            increment,
-            ..
-        } => {
-            let store = LoopStore {
-                variable,
-                cells,
-                value: initial,
-                left: iterations(count),
-                increment,
-            };
-            stored_by_loop(store, cell)
-        }
-        Record::Ends {
-            variable,
-            cells,
-            raised,
-            count,
-            increment,
-            ..
-        } => {
-            let store = LoopStore {
-                variable,
-                cells,
-                value: raised,
-                left: one_less(count),
-                increment,
-            };
-            stored_by_loop(store, cell)
-        }
+        Record::Enters { .. } => stored_by_entry(note, cell),
+        Record::Ends { .. } => stored_by_end(note, cell),
     }
 }
 

@@ -181,15 +181,8 @@ fn perform(here: &Here<'_>, operation: Operation, entries: &[Instruction]) -> Op
         | Operation::BySign { .. }
         | Operation::Condition { .. }
         | Operation::Branch { .. } => Some(lead(here, operation, entries)),
-        Operation::Call { .. }
-        | Operation::Create { .. }
-        | Operation::Refer { .. }
-        | Operation::Purge { .. }
-        | Operation::Print { .. }
-        | Operation::Return
-        | Operation::Answer { .. }
-        | Operation::Resume { .. }
-        | Operation::Stop => None,
+        // All else isn't private.
+        _ => None,
     }
 }
 

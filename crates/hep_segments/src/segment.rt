@@ -3,7 +3,7 @@ ghost use Rattle.std.specs.Prelude.{◌≡◌, ◌≤◌, ◌<◌, [], length, I
 ghost use Rattle.hep_code.specs.Words.{most_operands};
 ghost use Rattle.hep_image.specs.Image.{IsUnitCode};
 ghost use Rattle.hep_segments.specs.Progress.{HasTaken, IsBegun};
-ghost use Rattle.hep_segments.specs.Segments.{IsComputed, most_records};
+ghost use Rattle.hep_segments.specs.Segments.{IsComputed, IsSegment, most_records};
 
 use crate::operands::{Operands, assign};
 use crate::progress::{Progress, Source, advance};
@@ -54,6 +54,13 @@ impl Segment {
                 index: 0,
             },
         }
+    }
+
+    /// Its records are those of private steps from its start to its end, and not too many.
+    pub fn is_made(&self)
+        ensures { IsSegment self.now }
+    {
+        let _ = &self.progress;
     }
 
     /// Which ticket it is made of.

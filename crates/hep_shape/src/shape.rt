@@ -105,6 +105,7 @@ impl Syntax for Shape {
 ///
 /// None where there is another number of subscripts than of dimensions, one is outside its bounds, or the number
 /// would be above 1,048,576.
+#[inline(always)]
 pub fn element_among(bounds: &[Bound], subscripts: &[i64]) -> Option<u32>
     ensures { result ≡ counted_element bounds.now subscripts.now }
 {
@@ -182,6 +183,7 @@ fn element_count(bounds: &[Bound]) -> Option<u32>
 
 // The number of an element, by one subscript for each dimension; none where a subscript is outside its
 // bounds, or the number is above the last that is counted.
+#[inline(always)]
 fn counted_element(bounds: &[Bound], subscripts: &[i64]) -> Option<u32>
     requires { length subscripts.now ≡ length bounds.now }
     ensures { result ≡ counted_element bounds.now subscripts.now }

@@ -2,7 +2,7 @@
 use Rattle.std.specs.Prelude.{◌≡◌, ◌<◌, ◌≤◌, ◌+◌, ◌^◌, ℕ, false, List, length}
 use Rattle.hep_machine.specs.declared.event.Entry.{Entry}
 use Rattle.hep_machine.specs.Words.{Units, schedule_of}
-use Rattle.hep_blocked.specs.Numbers.{Numbers}
+use Rattle.hep_blocked.specs.Rolls.{Roll}
 use Rattle.hep_state.specs.declared.machine.Machine.{Machine}
 use Rattle.hep_state.specs.declared.turn.TurnFault.{TurnFault}
 use Rattle.hep_state.specs.declared.turn.Turned.{Turned}
@@ -26,25 +26,25 @@ IsAfterHistory program history m = IsMachineAfter program (cells_of m) (schedule
 -- ---- what a turn asks for
 
 -- process p of it has a turn, and what a CREATE makes has a number
-pub record CanTurn (program : Units) (history : List Entry) (p : ℕ) (m : Machine) (ready : Numbers) : Type 0 where
+pub record CanTurn (program : Units) (history : List Entry) (p : ℕ) (m : Machine) (roster : Roll) : Type 0 where
   pub after : IsAfterHistory program history m
   pub running : m.halted ≡ false
   pub living : HasLevels (snapshot_of m) p
   pub countable : m.activations + 1 < 2 ^ 64
-  pub numbers : length m.processes.items ≤ ready.room
+  pub numbers : length m.processes.items ≤ roster.room
 
 -- it is at a CALL, CREATE or reference
-pub record CanTakeCall (program : Units) (history : List Entry) (p : ℕ) (m : Machine) (call : CallAhead) (ready : Numbers) : Type 0 where
+pub record CanTakeCall (program : Units) (history : List Entry) (p : ℕ) (m : Machine) (call : CallAhead) (roster : Roll) : Type 0 where
   pub after : IsAfterHistory program history m
   pub at : HasCallAhead program (cells_of m) (schedule_of history) p (snapshot_of m) call
   pub countable : m.activations + 1 < 2 ^ 64
-  pub numbers : length m.processes.items ≤ ready.room
+  pub numbers : length m.processes.items ≤ roster.room
 
 -- at RESUME, behind which it goes on at an index
-pub record CanTakeResume (program : Units) (history : List Entry) (p : ℕ) (m : Machine) (next : ℕ) (ready : Numbers) : Type 0 where
+pub record CanTakeResume (program : Units) (history : List Entry) (p : ℕ) (m : Machine) (next : ℕ) (roster : Roll) : Type 0 where
   pub after : IsAfterHistory program history m
   pub at : HasResumeAhead program (cells_of m) (schedule_of history) p (snapshot_of m) next
-  pub numbers : length m.processes.items ≤ ready.room
+  pub numbers : length m.processes.items ≤ roster.room
 
 -- or at none of them, nor at a PURGE
 pub record CanTakeOperation (program : Units) (history : List Entry) (p : ℕ) (m : Machine) : Type 0 where

@@ -2,7 +2,7 @@
 use Rattle.std.specs.Prelude.{◌≡◌, ◌-◌, ◌+◌, ◌^◌, ◌<◌, ◌≤◌, ℕ, List, [], Some, OnOk, Result, length, slice_get, vec_capacity, vec_len}
 use Rattle.slab.specs.Slab.{HasRoomFor}
 use Rattle.hep_machine.specs.Words.{Units}
-use Rattle.hep_blocked.specs.Numbers.{Numbers}
+use Rattle.hep_blocked.specs.Rolls.{KeepsRoll, Roll}
 use Rattle.hep_entries.specs.Entries.{Kept}
 use Rattle.hep_state.specs.declared.machine.Machine.{Machine}
 use Rattle.hep_proc.specs.declared.process.Process.{Process}
@@ -15,16 +15,10 @@ pub record HasRoomForEntry {A E : Type 0} (old : Kept) (result : Result A E) (ne
   pub few : OnOk result (length new.items < 2 ^ 63)
   pub entries : new.items ≡ old.items
 
--- the same processes are ready, and no number lost its room
-pub record KeepsReady (old new : Numbers) : Type 0 where
-  pub grows : old.room ≤ new.room
-  pub ready : new.ready ≡ old.ready
-
--- and each process of a machine has room to be
-pub record KeepsReadyFor (m : Machine) (old new : Numbers) : Type 0 where
+-- the same processes are ready, and wait for the same; and each process of a machine has room to be enrolled
+pub record KeepsRollFor (m : Machine) (old new : Roll) : Type 0 where
   pub numbers : length m.processes.items ≤ new.room
-  pub grows : old.room ≤ new.room
-  pub ready : new.ready ≡ old.ready
+  pub kept : KeepsRoll old new
 
 -- whatever program runs in an arena of whatever size, there is the room that there was
 abbrev pub KeepsRoom : Machine → Machine → Type 0
@@ -44,10 +38,10 @@ pub record HasRoomForLevel (m : Machine) (p deep kept : ℕ) : Type 0 where
   pub operands : (q : Process) → slice_get m.processes.items (p - 1) ≡ Some q → deep ≤ vec_capacity q.operands
   pub pending : (q : Process) → slice_get m.processes.items (p - 1) ≡ Some q → vec_len q.pending + kept ≤ vec_capacity q.pending
 
--- a process more has room, and its number to be ready
-pub record HasRoomForProcess (m : Machine) (ready : Numbers) : Type 0 where
+-- a process more has room, and its number to be enrolled
+pub record HasRoomForProcess (m : Machine) (roster : Roll) : Type 0 where
   pub process : vec_len m.processes < vec_capacity m.processes
-  pub numbers : length m.processes.items + 1 ≤ ready.room
+  pub numbers : length m.processes.items + 1 ≤ roster.room
 
 -- a process without activations, with room for a level and for so many operands at once
 pub record IsEmptyProcess (deep : ℕ) (q : Process) : Type 0 where

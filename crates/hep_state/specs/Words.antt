@@ -34,7 +34,7 @@ unfoldable pub use Rattle.hep_state.specs.Parts.{KeepsRoomWith, KeepsState, Leav
 unfoldable pub use Rattle.hep_state.specs.Parts.{StepsByCreation, TurnsByPurge, WaitsAfter}
 pub use Rattle.hep_state.specs.Parts.{CanBegin, CanCall, CanCreate, CanEmpty, CanPart, IsAtOperation, IsItsTurn, IsSeenAlike, KeepsWritten}
 unfoldable pub use Rattle.hep_state.specs.Reserving.{KeepsRoom}
-pub use Rattle.hep_state.specs.Reserving.{HasRoomForEntry, HasRoomForLevel, HasRoomForProcess, IsEmptyProcess, KeepsReady, KeepsReadyFor}
+pub use Rattle.hep_state.specs.Reserving.{HasRoomForEntry, HasRoomForLevel, HasRoomForProcess, IsEmptyProcess, KeepsRollFor}
 pub use Rattle.hep_state.specs.Reserving.{ShowsSame}
 unfoldable pub use Rattle.hep_state.specs.Histories.{IsAfterHistory, IsTurn, IsUntaken, cells_of}
 pub use Rattle.hep_state.specs.Histories.{CanTakeCall, CanTakeOperation, CanTakeResume, CanTurn, LeavesAlone}

@@ -1,11 +1,11 @@
 //! RESUME: an activation that lets the one below it go on, and is a process of its own (docs/MACHINE.md, "Steps").
 ghost use Rattle.std.specs.Prelude.{◌≡◌, ◌+◌, None, OnErr, OnOk, length};
 ghost use Rattle.hep_state.specs.declared.turn.Turned.TheVariants.{Stepped};
-ghost use Rattle.hep_state.specs.Words.{CanPart, CanTakeResume, HasRoomForEntry, IsTurn, KeepsReadyFor, KeepsRoomParting, LeavesAlone, PartsAt};
+ghost use Rattle.hep_state.specs.Words.{CanPart, CanTakeResume, HasRoomForEntry, IsTurn, KeepsRollFor, KeepsRoomParting, LeavesAlone, PartsAt};
 
 use crate::laws;
 use crate::machine::{Machine, append};
-use hep_blocked::Ready;
+use hep_blocked::Roster;
 use hep_entries::History;
 use hep_image::Image;
 use hep_proc::{Local, Process};
@@ -32,13 +32,13 @@ impl Machine {
         p: u64,
         next: u32,
         history: &mut History,
-        ready: &mut Ready,
+        roster: &mut Roster,
     ) -> Result<(), AllocError>
-        requires { CanTakeResume image.now history.old.items p self.old next ready.old }
+        requires { CanTakeResume image.now history.old.items p self.old next roster.old }
         ensures turned { OnOk result (IsTurn image.now history.old.items p self.old (Stepped None) self.new) }
         ensures refused { OnErr result (LeavesAlone image.now history.old.items self.old self.new) }
         ensures entry { HasRoomForEntry history.old result history.new }
-        ensures ready { KeepsReadyFor self.new ready.old ready.new }
+        ensures roster { KeepsRollFor self.new roster.old roster.new }
     {
         image.is_runnable();
         laws::resumes_are_shown();
@@ -49,7 +49,7 @@ impl Machine {
             return Ok(());
         }
         let unit = image.unit(self.processes[at].top().unit as usize);
-        let process = self.reserve_process(unit.operands, history, ready)?;
+        let process = self.reserve_process(unit.operands, history, roster)?;
         self.part(p, next as usize, process);
         Ok(())
     }

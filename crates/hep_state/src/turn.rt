@@ -2,16 +2,17 @@
 ghost use Rattle.std.specs.Prelude.{◌≡◌, ◌<◌, ◌≤◌, ◌+◌, true, IfOk, IfErr, OnErr, OnOk, length, vec_len, vec_capacity};
 ghost use Rattle.slab.specs.Slab.{HasRoomFor};
 ghost use Rattle.hep_step.specs.Performed.{changed_in};
+ghost use Rattle.hep_blocked.specs.Rolls.{KeepsRoll};
 ghost use Rattle.hep_state.specs.Words.{CanTakeCall, CanTakeOperation, CanTurn, ChangesNext, HasLevels, HasRoomForEntry, HasRoomForLevel};
 ghost use Rattle.hep_state.specs.Words.{HasRoomForProcess, IsAtOperation, IsEmptyProcess, IsSeenAlike, IsTurn, IsUntaken, IsWhetherLives};
-ghost use Rattle.hep_state.specs.Words.{KeepsReady, KeepsReadyFor, KeepsWritten, LeavesAlone, LeavesBy, ShowsSame, snapshot_of};
+ghost use Rattle.hep_state.specs.Words.{KeepsRollFor, KeepsWritten, LeavesAlone, LeavesBy, ShowsSame, snapshot_of};
 
 use crate::advancing::advance;
 use crate::calling::Called;
 use crate::laws;
 use crate::machine::Machine;
 use crate::upcoming::{CallAhead, StepAhead};
-use hep_blocked::Ready;
+use hep_blocked::Roster;
 use hep_cells::Want;
 use hep_entries::History;
 use hep_image::Image;
@@ -102,23 +103,23 @@ impl Machine {
     }
 
     // Room for a process more, and for the entry of the turn that makes it; and that process, which is empty so far, with room for a level
-    // and for so many operands at once. Its number has room to be ready.
+    // and for so many operands at once. Its number has room to be enrolled.
     pub(crate) fn reserve_process(
         &mut self,
         operands: u32,
         history: &mut History,
-        ready: &mut Ready,
+        roster: &mut Roster,
     ) -> Result<Process, AllocError>
         ensures made { IfOk result (IsEmptyProcess operands) }
-        ensures process { OnOk result (HasRoomForProcess self.new ready.new) }
+        ensures process { OnOk result (HasRoomForProcess self.new roster.new) }
         ensures entry { HasRoomForEntry history.old result history.new }
-        ensures ready { KeepsReady ready.old ready.new }
+        ensures roster { KeepsRoll roster.old roster.new }
         ensures same { ShowsSame self.old self.new }
     {
         let alloc = *self.processes.allocator();
         history.reserve(1)?;
         self.processes.reserve(1)?;
-        ready.reserve(self.processes.len() as u64 + 1)?;
+        roster.reserve(self.processes.len() as u64 + 1)?;
         Ok(Process {
             levels: Vec::with_capacity(alloc, 1)?,
             operands: Vec::with_capacity(alloc, operands as usize)?,
@@ -131,16 +132,16 @@ impl Machine {
         &mut self,
         operands: u32,
         history: &mut History,
-        ready: &mut Ready,
+        roster: &mut Roster,
     ) -> Result<Process, AllocError>
         ensures node { OnOk result (HasRoomFor self.new.frames.nodes 1) }
         ensures made { IfOk result (IsEmptyProcess operands) }
-        ensures process { OnOk result (HasRoomForProcess self.new ready.new) }
+        ensures process { OnOk result (HasRoomForProcess self.new roster.new) }
         ensures entry { HasRoomForEntry history.old result history.new }
-        ensures ready { KeepsReady ready.old ready.new }
+        ensures roster { KeepsRoll roster.old roster.new }
         ensures same { ShowsSame self.old self.new }
     {
-        let process = self.reserve_process(operands, history, ready)?;
+        let process = self.reserve_process(operands, history, roster)?;
         self.frames.reserve()?;
         Ok(process)
     }
@@ -192,14 +193,14 @@ impl Machine {
         p: u64,
         call: CallAhead,
         history: &mut History,
-        ready: &mut Ready,
+        roster: &mut Roster,
     ) -> Result<Turned, TurnFault>
-        requires { CanTakeCall image.now history.old.items p self.old call ready.old }
+        requires { CanTakeCall image.now history.old.items p self.old call roster.old }
         ensures turned { IfOk result (λ turned. IsTurn image.now history.old.items p self.old turned self.new) }
         ensures unturned { IfErr result (IsUntaken image.now history.old.items p self.old) }
         ensures refused { OnErr result (LeavesAlone image.now history.old.items self.old self.new) }
         ensures entry { HasRoomForEntry history.old result history.new }
-        ensures ready { KeepsReadyFor self.new ready.old ready.new }
+        ensures roster { KeepsRollFor self.new roster.old roster.new }
     {
         image.is_runnable();
         laws::calls_can_be_made();
@@ -232,7 +233,7 @@ impl Machine {
                 self.call(p, called, kept, call.next);
             }
             Way::Creates => {
-                let process = self.reserve_creation(unit.operands, history, ready)?;
+                let process = self.reserve_creation(unit.operands, history, roster)?;
                 self.create(p, called, call.next, process);
             }
         }
@@ -240,7 +241,7 @@ impl Machine {
     }
 
     /// A turn of process p, which lives: the machine shows the state after the source machine's step, or the same state where the process
-    /// waits. The history gets room for the entry of the turn, and a process that is made has room to be ready; which ones are stays.
+    /// waits. The history gets room for the entry of the turn, and a process that is made has room to be enrolled; who is ready and who waits stays.
     ///
     /// # Errors
     ///
@@ -252,28 +253,28 @@ impl Machine {
         image: &Image,
         p: u64,
         history: &mut History,
-        ready: &mut Ready,
+        roster: &mut Roster,
     ) -> Result<Turned, TurnFault>
-        requires { CanTurn image.now history.old.items p self.old ready.old }
+        requires { CanTurn image.now history.old.items p self.old roster.old }
         ensures turned { IfOk result (λ turned. IsTurn image.now history.old.items p self.old turned self.new) }
         ensures unturned { IfErr result (IsUntaken image.now history.old.items p self.old) }
         ensures refused { OnErr result (LeavesAlone image.now history.old.items self.old self.new) }
         ensures entry { HasRoomForEntry history.old result history.new }
-        ensures ready { KeepsReadyFor self.new ready.old ready.new }
+        ensures roster { KeepsRollFor self.new roster.old roster.new }
     {
         image.is_runnable();
         laws::other_steps_find_gaps();
         laws::purges_are_shown();
         laws::resumes_are_shown();
         match self.step_ahead(image, p) {
-            StepAhead::Call(call) => self.take_call(image, p, call, history, ready),
+            StepAhead::Call(call) => self.take_call(image, p, call, history, roster),
             StepAhead::Purge(purge) => {
                 self.reserve(history)?;
                 self.purge(image, p, purge);
                 Ok(Turned::Purged)
             }
             StepAhead::Resume { next } => {
-                self.take_resume(image, p, next, history, ready)?;
+                self.take_resume(image, p, next, history, roster)?;
                 Ok(Turned::Stepped { changed: None })
             }
             StepAhead::Other => Ok(self.take_operation(alloc, image, p, history)?),

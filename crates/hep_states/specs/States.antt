@@ -64,8 +64,11 @@ module _ (program : Units) (s : State) where
   stack_text p waiting (level ∷ levels) = lines.process_text p (level_text level) waiting ++ levels_text (unit_in level.activation) levels
 
   -- what it waits for is told where it is listed
+  abbrev pub wait_text : ℕ → Bool → List ℕ
+  wait_text p listed = if listed then waiting_text (wanted_by program p s) else []
+
   abbrev pub process_text : ℕ → Bool → Process → List ℕ
-  process_text p listed q = stack_text p (if listed then waiting_text (wanted_by program p s) else []) q
+  process_text p listed q = stack_text p (wait_text p listed) q
 
   -- those of processes by their numbers, of which the first one has this number
   abbrev pub processes_text : List ℕ → ℕ → List Process → List ℕ

@@ -9,5 +9,8 @@ mod subscripts;
 mod values;
 pub mod variable;
 
-pub use lines::{append_activation, append_block, append_head, append_level};
+pub use lines::{
+    append_activation, append_block, append_block_name, append_element, append_head, append_level,
+    append_owner, append_waiting,
+};
 pub use variable::{Variable, append_variable};

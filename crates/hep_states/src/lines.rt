@@ -2,6 +2,7 @@
 ghost use Rattle.std.specs.Prelude.{◌≡◌, ◌++◌, OnOk};
 ghost use Rattle.hep_states.specs.Lines as words;
 
+use crate::values::state_text;
 use hep_output::append_number;
 use std::alloc::AllocError;
 
@@ -77,5 +78,60 @@ pub fn append_activation(text: &mut Vec<u8>, activation: u64, unit: &[u8]) -> Re
     text.extend_from_slice(b"ACTIVATION ")?;
     append_number(text, activation)?;
     append_name(text, unit)?;
+    Ok(())
+}
+
+/// Appends a common block by its name: `/name/`.
+///
+/// # Errors
+///
+/// Only where memory was refused.
+pub fn append_block_name(text: &mut Vec<u8>, name: &[u8]) -> Result<(), AllocError>
+    ensures { OnOk result (text.new.items ≡ text.old.items ++ words.block_name name.now) }
+{
+    text.extend_from_slice(b"/")?;
+    text.extend_from_slice(name)?;
+    text.extend_from_slice(b"/")?;
+    Ok(())
+}
+
+/// Appends to the name of a variable or of a common block an element or a position by its number.
+///
+/// # Errors
+///
+/// Only where memory was refused.
+pub fn append_element(name: &mut Vec<u8>, element: u32) -> Result<(), AllocError>
+    ensures { OnOk result (name.new.items ≡ words.element_text name.old.items element) }
+{
+    name.extend_from_slice(b"#")?;
+    append_number(name, element)?;
+    Ok(())
+}
+
+/// Appends to the name of a variable, or of an element, whose it is.
+///
+/// # Errors
+///
+/// Only where memory was refused.
+pub fn append_owner(name: &mut Vec<u8>, owner: u64) -> Result<(), AllocError>
+    ensures { OnOk result (name.new.items ≡ words.owned_text name.old.items owner) }
+{
+    name.extend_from_slice(b" OF ")?;
+    append_number(name, owner)?;
+    Ok(())
+}
+
+/// Appends that a process waits until what has this name is full, or is empty.
+///
+/// # Errors
+///
+/// Only where memory was refused.
+pub fn append_waiting(text: &mut Vec<u8>, full: bool, place: &[u8]) -> Result<(), AllocError>
+    ensures { OnOk result (text.new.items ≡ text.old.items ++ words.waiting_text full place.now) }
+{
+    text.extend_from_slice(b" WAITING FOR")?;
+    text.extend_from_slice(state_text(full))?;
+    text.extend_from_slice(b" ")?;
+    text.extend_from_slice(place)?;
     Ok(())
 }

@@ -18,7 +18,8 @@ fn append_value(text: &mut Vec<u8>, value: Option<Value>) -> Result<(), AllocErr
     }
 }
 
-fn state_text(full: bool) -> &'static [u8]
+/// A word for whether a cell is full, behind a blank.
+pub(crate) fn state_text(full: bool) -> &'static [u8]
     ensures { result.now ≡ words.state_text full }
 {
     if full { b" FULL" } else { b" EMPTY" }

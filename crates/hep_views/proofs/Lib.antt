@@ -1,5 +1,5 @@
 pub mod Read
-mod Nodes
+pub mod Nodes
 pub mod Cells
 pub mod Wants
 mod Stopped

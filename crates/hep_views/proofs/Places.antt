@@ -51,7 +51,7 @@ part-unit a (Some (argument y, zero)) x i e =
 part-unit a _ x i e = absurd (none-some (local a x i) e)
 
 -- the variable that is found by a cell of a frame
-variable-told : (a : ℕ) (unit : List Statement) (n : ℕ) (x : Name) (i : ℕ) → AreGivenOnce (dummies_of unit)
+pub variable-told : (a : ℕ) (unit : List Statement) (n : ℕ) (x : Name) (i : ℕ) → AreGivenOnce (dummies_of unit)
     → unit_in_frame a unit n ≡ Some (local a x i) → (j : ℕ) × (i ≡ suc j) × IsTold unit n x j
 variable-told a unit n x i once e =
     let p = part-unit a (owner_in (frame_row unit) n) x i e in

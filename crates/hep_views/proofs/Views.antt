@@ -154,7 +154,7 @@ module _ (addressed : AddressedUnit) (k : ℕ) (work : Work) where
   line-of-next (wants (evaluating r)) after rest h = ap (λ c. line_ahead (c ++ rest)) h.is ∙ ap line_ahead (append_assoc (map Push (h.before ++ operands_of_redex r)) _ rest) ∙ line-after (h.before ++ operands_of_redex r) _
   line-of-next (does a) after rest h = ap (λ c. line_ahead (c ++ rest)) h.1 ∙ ap line_ahead (append_assoc (map Push (operands_of_action a)) _ rest) ∙ line-after (operands_of_action a) _
 
-  line-is : (operands : List Value) (index : ℕ) → Stands addressed k work operands index → line_ahead (drop index (code_of addressed)) ≡ line_at addressed.unit k
+  pub line-is : (operands : List Value) (index : ℕ) → Stands addressed k work operands index → line_ahead (drop index (code_of addressed)) ≡ line_at addressed.unit k
   line-is operands index stands =
       sym (line-after operands (drop index (code_of addressed))) ∙ ap line_ahead (sym stands.same) ∙ line-of-next (next_of addressed.unit work) _ stands.rest (work_is addressed k work)
 

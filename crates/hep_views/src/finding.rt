@@ -30,8 +30,8 @@ fn top(machine: &Machine, p: u64) -> Local
     levels[levels.len() - 1]
 }
 
-// The line of the first operation from an index on.
-fn line_from(code: &[Instruction], index: usize) -> u32
+/// The line of the first operation from an index of a unit's code on; 0 where there is none.
+pub fn line_from(code: &[Instruction], index: usize) -> u32
     ensures { result ≡ depths.line_ahead (drop index code.now) }
 {
     let mut at = index;

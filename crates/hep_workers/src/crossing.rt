@@ -6,7 +6,7 @@ ghost use Rattle.hep_source.specs.contracts.expression.Expr as expression;
 ghost use Rattle.hep_source.specs.contracts.program.Program as program;
 ghost use Rattle.hep_core.specs.contracts.scheduler.Core as core;
 
-use hep_blocked::{Ready, Waits};
+use hep_blocked::Roster;
 use hep_entries::History;
 use hep_image::{BlockStart, DataRow, UnitCode};
 use hep_quick::Table;
@@ -57,6 +57,5 @@ pub(crate) fn cores_cross()
     pass::<Table>();
     pass::<History>();
     pass::<Machine>();
-    pass::<Waits>();
-    pass::<Ready>();
+    pass::<Roster>();
 }

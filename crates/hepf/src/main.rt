@@ -10,10 +10,10 @@ ghost use Rattle.hep_command.specs.Jobs.{IsInRange};
 use hep_command::{Job, Request, SAME_FILE, explain, read_request};
 use hep_history::Choices;
 use hep_run::{
-    AskedLots, AskedReplay, AskedRun, AskedSample, AskedWork, LotOptions, NoGate, Options,
-    ReadFault, Run, SampleOptions, WorkOptions, answer, check_noted, choices_of, history_text,
-    list_noted, lots_history, lots_noted, put_text, read_text_file, replay_noted, run_noted,
-    sample_bytes, say_unread, say_unwritten, warn_noted, work_noted,
+    AskedLots, AskedReplay, AskedRun, AskedSample, AskedState, AskedWork, LotOptions, NoGate,
+    Options, ReadFault, Run, SampleOptions, WorkOptions, answer, check_noted, choices_of,
+    history_text, list_noted, lots_history, lots_noted, put_text, read_text_file, replay_noted,
+    run_noted, sample_bytes, say_unread, say_unwritten, state_noted, warn_noted, work_noted,
 };
 use std::fs::File;
 use std::io::ErrorKind;
@@ -331,6 +331,18 @@ fn replay_file(
     Ok(run.status)
 }
 
+// Says what everything holds after the first entries of a history, all of them where none are said.
+fn state_file(rt: &HostRuntime, file: &str, asked: &AskedState<'_>) -> Result<u8, u8> {
+    let mut source = opened(rt, file, asked.long)?;
+    Ok(state_noted(
+        rt.alloc(),
+        &mut source,
+        asked,
+        &mut rt.stdout(),
+        &mut rt.stderr(),
+    ))
+}
+
 fn done<H: Threads + Wait + Sync>(
     rt: &HostRuntime,
     threads: &H,
@@ -400,6 +412,21 @@ fn done<H: Threads + Wait + Sync>(
             history,
             arena,
         } => replay_file(rt, file, &file_bytes(rt, history, long)?, arena, long),
+        Job::State {
+            file,
+            history,
+            at,
+            arena,
+        } => {
+            let history = file_bytes(rt, history, long)?;
+            let asked = AskedState {
+                history: &history,
+                entries: at.unwrap_or(u64::MAX),
+                arena,
+                long,
+            };
+            state_file(rt, file, &asked)
+        }
         Job::List { file } => list_file(rt, file, long),
         Job::Explain {
             first,

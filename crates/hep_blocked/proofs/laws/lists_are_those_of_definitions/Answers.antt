@@ -1,7 +1,6 @@
 use Rattle.std.proofs.Common.{◌≡◌, length, Option, Some, None, refl, sym, ap, ◌∙◌, true≢false, ◌&&◌, is_some, not}
 use Rattle.hep_machine.specs.Words.{is_number_among, living, run, living_from, ready_in, State}
 use Rattle.hep_cells.specs.declared.want.Want.{Want}
-use Rattle.hep_blocked.specs.Waiting.{waiting_at}
 use Rattle.hep_blocked.proofs.Living.{waits-live}
 use Rattle.hep_blocked.proofs.Members.{among-living, among-ready, none-among, rising-same, ready-rise}
 use Rattle.hep_blocked.proofs.laws.lists_are_those_of_definitions.Goals as goal
@@ -18,8 +17,8 @@ returns-clause-done c program cells choices x waiting ready are none nobody =
     ∙ (sym (among-ready x q) ∙ ap (is_number_among q) none)))
 
 pub returns-clause-waiting : goal.returns-clause-waiting
-returns-clause-waiting c program cells p choices x waiting ready are some none = by_want (waiting_at waiting p) refl where
-  by_want : (o : Option Want) → waiting_at waiting p ≡ o → ⊥
+returns-clause-waiting c program cells p choices x waiting ready are some none = by_want (waiting p) refl where
+  by_want : (o : Option Want) → waiting p ≡ o → ⊥
   by_want None e = some e
   by_want (Some w) e =
       let lives = waits-live program p (run program choices) (are.blocked p w e).1 in

@@ -1,7 +1,6 @@
-use Rattle.std.proofs.Common.{◌≡◌, ℕ, zero, suc, [], ◌∷◌, None, refl, sym, ap, ◌∙◌, is_some}
+use Rattle.std.proofs.Common.{◌≡◌, [], ◌∷◌, refl, ap}
 use Rattle.std.proofs.lemmas.Option.{none-some}
 use Rattle.hep_machine.specs.Words.{Units, opening, is_number_among, run, run_from, ready_in}
-use Rattle.hep_blocked.specs.Waiting.{waiting_at}
 use Rattle.hep_blocked.proofs.laws.openings_list_nobody.Goals as goal
 
 opening-run : (program : Units) → opening program ≡ run program []
@@ -12,15 +11,11 @@ opening-ready : (program : Units) → 1 ∷ [] ≡ ready_in (record { state = op
 unfolding opening
 opening-ready program = refl
 
-nobody : (p : ℕ) → waiting_at [] p ≡ None
-nobody zero = refl
-nobody (suc k) = refl
-
 pub returns : goal.returns
 returns c program cells =
     record {
       state = opening-run program;
-      listed = λ p. ap is_some (sym (nobody p));
-      blocked = λ p w e. absurd (none-some w (sym (nobody p) ∙ e));
+      listed = λ p. refl;
+      blocked = λ p w e. absurd (none-some w e);
       are_ready = λ p. ap (is_number_among p) (opening-ready program);
     }

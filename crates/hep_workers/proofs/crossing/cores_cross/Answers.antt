@@ -3,9 +3,8 @@ use denote.Builtin.{u32, u64}
 use denote.Struct.Field.{u32-field, u64-field}
 use denote.Param.Send.{IsSend, sendable, view_send}
 use denote.Param.SendFields.{as_row_send, declared_send, variants_send}
-use Rattle.hep_blocked.specs.contracts.waits.Waits as waits
+use Rattle.hep_blocked.specs.contracts.roster.Roster as roster
 use Rattle.hep_entries.specs.contracts.history.History as history
-use Rattle.hep_blocked.specs.contracts.ready.Ready as ready
 use Rattle.hep_core.specs.contracts.scheduler.Core.TheInside as inside
 use Rattle.hep_core.specs.contracts.stop.ChoiceStop as stop
 use Rattle.hep_quick.specs.contracts.table.Table as table
@@ -31,8 +30,7 @@ returns c =
     let table-send : IsSend table.the_row = record { owned = c.pass.ensures.send.owned; leaving = search (crosses, sendable) depth 30 fits 5000 } in
     let history-send : IsSend history.the_row = record { owned = c.pass-2.ensures.send.owned; leaving = λ k d w. tt } in
     let machine-send : IsSend machine.the_row = record { owned = c.pass-3.ensures.send.owned; leaving = search (crosses, sendable) depth 30 fits 5000 } in
-    let waits-send : IsSend waits.the_row = record { owned = c.pass-4.ensures.send.owned; leaving = λ k d w. tt } in
-    let ready-send : IsSend ready.the_row = record { owned = c.pass-5.ensures.send.owned; leaving = λ k d w. tt } in
+    let roster-send : IsSend roster.the_row = record { owned = c.pass-4.ensures.send.owned; leaving = λ k d w. tt } in
     record {
       send = view_send inside.the_row _ _ _ _ (declared_send inside.the_type (
         search (crosses, sendable, declared_send, as_row_send) depth 20,
@@ -51,8 +49,8 @@ returns c =
                     (
                       machine-send,
                       (
-                        as_row_send waits.the_field waits-send,
-                        (as_row_send ready.the_field ready-send, (search (crosses, sendable, as_row_send, ticket-send) depth 20, (as_row_send u64-field count-send, tt))),
+                        as_row_send roster.the_field roster-send,
+                        (search (crosses, sendable, as_row_send, ticket-send) depth 20, (as_row_send u64-field count-send, tt)),
                       ),
                     ),
                   ),

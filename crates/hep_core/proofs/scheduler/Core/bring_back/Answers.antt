@@ -10,8 +10,7 @@ invariant_of-self c =
     record {
       after = k.after;
       listed = k.listed;
-      numbers = k.numbers;
-      waiting = k.waiting;
+      room = k.room;
       legal = k.legal;
       single = k.single;
       named = k.named;

@@ -1,4 +1,5 @@
 use Rattle.hep_machine.specs.Words.{living_from, progress_after, ready_in, state_after}
+use Rattle.hep_blocked.specs.Rolls.{want_of}
 use Rattle.hep_state.specs.Words.{snapshot_of}
 use Rattle.hep_core.proofs.Idle.{idle, no-more-ready}
 use Rattle.hep_core.proofs.Kept.{AreSeen, view-is}
@@ -16,4 +17,4 @@ returns-clause-waiting c =
     let i = c.self.inside in
     let alive = living_from 1 (state_after i.image i.history.items).processes in
     rw (← c.self.view_is) (λ waiting.
-    idle i.image i.cells i.history.items i.waits i.ready.ready c.self.invariant.listed (no-more-ready i.stop alive (ready_in (progress_after i.image i.history.items)) waiting))
+    idle i.image i.cells i.history.items (want_of i.roster.waiting) i.roster.ready c.self.invariant.listed (no-more-ready i.stop alive (ready_in (progress_after i.image i.history.items)) waiting))

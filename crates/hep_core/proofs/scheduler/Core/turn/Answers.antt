@@ -1,26 +1,28 @@
-use Rattle.std.proofs.Common.{◌≡◌, ◌≢◌, ◌<◌, ◌≤◌, ℕ, List, ◌++◌, ◌∷◌, [], ◌∙◌, inl, inr, sym, ap, subst, rules, false, true, Option, None, Some, length, arith, refl, ◌||◌, is_some}
-use Rattle.std.proofs.lemmas.List.{length-map}
+use Rattle.std.proofs.Common.{◌≡◌, ◌≢◌, ◌<◌, ◌≤◌, ℕ, List, ◌++◌, ◌∷◌, [], ◌∙◌, inl, inr, sym, ap, subst, rules, false, true, Option, None, Some, length, arith, refl, ◌||◌, ◌&&◌, is_some, nat_eq, nat_lt, not}
 use Rattle.hep_machine.specs.declared.event.Entry.{Entry}
-use Rattle.hep_machine.specs.Words.{is_number_among, living, run, schedule_of, state_after, progress_after, progress_after_step, State, is_waiting, step}
-use Rattle.hep_blocked.specs.Waiting.{waiting_at}
-use Rattle.hep_blocked.specs.Listing.{AreListed, IsBlocked, IsReadyNoMore, is_noted}
+use Rattle.hep_machine.specs.Words.{Units, is_number_among, living, run, schedule_of, state_after, progress_after, progress_after_step, State, is_waiting, step}
+use Rattle.hep_blocked.specs.Listing.{AreListed, IsBlocked, IsReadyNoMore, WaitsNow, is_noted}
 use Rattle.hep_purging.specs.Purged.{have_cell}
-use Rattle.hep_blocked.specs.Numbers.{Numbers}
-use Rattle.hep_proc.specs.Stacks.{stack_of}
+use Rattle.hep_blocked.specs.Rolls.{KeepsRoll, Roll, want_of}
+use Rattle.hep_blocked.proofs.Keeping.{living-enrolled}
 use Rattle.hep_state.specs.declared.turn.Turned.{Turned}
 use Rattle.hep_state.specs.declared.turn.Turned.TheVariants.{Stepped, Purged, Waits}
-use Rattle.hep_state.specs.Words.{HasTurned, IsMachineAfter, snapshot_of, IsUnturned}
+use Rattle.hep_state.specs.Words.{HasTurned, IsAfter, IsMachineAfter, KeepsRollFor, snapshot_of, IsUnturned}
 use Rattle.hep_state.proofs.Histories.{after-history, still-after, turned-at, unturned-at}
 use Rattle.hep_core.specs.Invariant.{CoreInvariant, core_value}
+use Rattle.hep_core.specs.declared.scheduler.Core.TheInside.{Inside}
+use Rattle.hep_layout.proofs.HeldFrames.{run-last}
+use Rattle.hep_machine.proofs.Others.{processes_after}
+use Rattle.hep_state.specs.declared.machine.Machine.{Machine}
 use Rattle.hep_views.specs.Seen.{machine_view}
 use Rattle.hep_core.specs.Tickets.{is_out}
 use Rattle.hep_core.specs.Value.{CoreValue, IsStop, IsTurn, stop_after}
 use Rattle.hep_core.specs.declared.stop.ChoiceStop.{ChoiceStop}
-use Rattle.hep_core.specs.Waking.{AreInArena, awake_after, is_woken_after}
+use Rattle.hep_core.specs.Waking.{AreInArena, HasRoomLeft, awake_after, is_woken_after}
 use Rattle.hep_core.specs.declared.stop.ChoiceStop.TheVariants.{ArenaFull, Halted}
 use Rattle.hep_core.proofs.Histories.{few-steps, state-is}
-use Rattle.hep_core.proofs.Kept.{AreSeen, halted-is, halted-next, named-left, next, some-of, state-next, stepped-kept, steps-on, unturned-kept, unturned-view, view-is, view-next, waited-kept, IsNoWait, along, along-emptying, as-many, blocked-now, emptied-to-lists, in-arena, made-step, no-memory, waits-unstepped, within}
-use Rattle.hep_core.proofs.scheduler.Core.turn.Goals.{After-len, After-lives, After-turn, After-wait, After-wake_after}
+use Rattle.hep_core.proofs.Kept.{AreSeen, halted-is, halted-next, named-left, next, some-of, state-next, stepped-kept, steps-on, unturned-kept, unturned-view, view-is, view-next, waited-kept, IsNoWait, along, along-emptying, as-many, blocked-now, emptied-to-lists, in-arena, made-step, no-memory, waits-unstepped}
+use Rattle.hep_core.proofs.scheduler.Core.turn.Goals.{After-len, After-lives, After-turn, After-block, After-wake_after}
 use Rattle.hep_core.proofs.scheduler.Core.turn.Goals as goal
 use Rattle.hep_source.proofs.Tests.{none-from-not}
 
@@ -81,7 +83,16 @@ turn-requires c =
       running = halted-is i.image i.cells h (snapshot_of i.machine) k.after.after ∙ going.1;
       living = c.lives.ensures.levels lives;
       countable = omega (arith, c.activations_are_few.ensures i.image i.cells (schedule_of h) (snapshot_of i.machine) k.after.after, few-steps h k.single, c.len.ensures.count, c.len.ensures.few);
-      numbers = k.numbers;
+      numbers = k.room.room;
+    }
+
+-- a process that was made has room to be enrolled, and none was that wasn't made
+left-room : (i : Inside) (k : CoreInvariant i) (m : Machine) (roster : Roll) → IsMachineAfter i.image i.cells (schedule_of i.history.items) m → KeepsRollFor m i.roster roster → HasRoomLeft m roster
+left-room i k m roster after kept =
+    let choices = schedule_of i.history.items in
+    record {
+      room = kept.numbers;
+      last = omega (arith, kept.kept.last, k.room.last, as-many i.image i.cells choices m after.after, as-many i.image i.cells choices i.machine k.after.after);
     }
 
 -- ---- a turn that wasn't taken
@@ -89,11 +100,11 @@ turn-requires c =
 -- the core keeps its invariant, whatever it has stopped
 unturned : (c : After-turn) → IsMachineAfter c.self.inside.image c.self.inside.cells (schedule_of c.self.inside.history.items) c.turn.new.self
     → (stop : Option ChoiceStop) → IsStop c.self.inside.image c.self.inside.cells c.self.inside.limit c.self.inside.history.items stop
-    → CoreInvariant (record c.self.inside { history = c.turn.new.history; stop = stop; machine = c.turn.new.self; ready = c.turn.new.ready })
+    → CoreInvariant (record c.self.inside { history = c.turn.new.history; stop = stop; machine = c.turn.new.self; roster = c.turn.new.roster })
 unturned c after =
     let i = c.self.inside in
     let k = c.self.invariant in
-    unturned-kept i k c.turn.new.history c.turn.new.self c.turn.new.ready c.turn.ensures.entry.entries after c.turn.ensures.ready.ready c.turn.ensures.ready.numbers (omega (arith, k.waiting, c.turn.ensures.ready.grows)) i.waits refl
+    unturned-kept i k c.turn.new.history c.turn.new.self c.turn.new.roster c.turn.ensures.entry.entries after c.turn.ensures.roster.kept (left-room i k c.turn.new.self c.turn.new.roster after c.turn.ensures.roster)
 
 -- what is seen of it is what was seen, but for the stop
 unturned-value : (c : After-turn) → IsMachineAfter c.self.inside.image c.self.inside.cells (schedule_of c.self.inside.history.items) c.turn.new.self
@@ -165,29 +176,29 @@ counted-after c =
     let i = c.self.inside in
     as-many i.image i.cells (schedule_of i.history.items ++ c.args.p ∷ []) c.turn.new.self (stepped-now c).1.after
 
-noted-now : (c : After-wake_after) (q : ℕ) → is_number_among q c.note_ready.new.ready.ready
-    ≡ is_noted c.args.p (is_some (living (run c.self.inside.image (schedule_of c.self.inside.history.items ++ c.args.p ∷ [])) c.args.p)) c.len-made.result (length c.turn.new.self.processes.items) c.self.inside.ready.ready q
+noted-now : (c : After-wake_after) (q : ℕ) → is_number_among q c.note_ready.new.roster.ready
+    ≡ is_noted c.args.p (is_some (living (run c.self.inside.image (schedule_of c.self.inside.history.items ++ c.args.p ∷ [])) c.args.p)) c.len-made.result (length c.turn.new.self.processes.items) c.self.inside.roster.ready q
 noted-now c q =
     let i = c.self.inside in
     let p = c.args.p in
     let lives = is_some (living (run i.image (schedule_of i.history.items ++ p ∷ [])) p) in
-    c.note_ready.ensures.ready i.image i.cells (schedule_of i.history.items ++ p ∷ []) (stepped-now c).1.after q ∙ ap (λ ns. is_noted p lives c.len-made.result (length c.turn.new.self.processes.items) ns q) c.turn.ensures.ready.ready
+    c.note_ready.ensures.ready i.image i.cells (schedule_of i.history.items ++ p ∷ []) (stepped-now c).1.after q ∙ ap (λ b. (b && (not (nat_eq p q) || lives)) || (nat_lt c.len-made.result (length c.turn.new.self.processes.items) && nat_eq q (length c.turn.new.self.processes.items))) (c.turn.ensures.roster.kept.ready q)
 
 -- the lists go along with what the turn came to
 lists-by : (c : After-wake_after) (turned : Turned) → IsNoWait turned → HasTurned c.self.inside.image c.self.inside.cells (schedule_of c.self.inside.history.items) c.args.p turned c.turn.new.self
-    → ((q : ℕ) → waiting_at c.wake_after.new.waits q ≡ awake_after turned c.turn.new.self.passing.ranges.items (waiting_at c.self.inside.waits q))
-    → ((q : ℕ) → is_number_among q c.wake_after.new.ready.ready ≡ (is_woken_after turned c.turn.new.self.passing.ranges.items c.self.inside.waits q || is_number_among q c.note_ready.new.ready.ready))
+    → ((q : ℕ) → want_of c.wake_after.new.roster.waiting q ≡ awake_after turned c.turn.new.self.passing.ranges.items (want_of c.self.inside.roster.waiting q))
+    → ((q : ℕ) → is_number_among q c.wake_after.new.roster.ready ≡ (is_woken_after turned c.turn.new.self.passing.ranges.items (want_of c.self.inside.roster.waiting) q || is_number_among q c.note_ready.new.roster.ready))
     → AreListed c.self.inside.image c.self.inside.cells (schedule_of c.self.inside.history.items ++ c.args.p ∷ [])
-    (progress_after_step c.self.inside.image (progress_after c.self.inside.image c.self.inside.history.items) c.args.p (run c.self.inside.image (schedule_of c.self.inside.history.items ++ c.args.p ∷ []))) c.wake_after.new.waits c.wake_after.new.ready.ready
+    (progress_after_step c.self.inside.image (progress_after c.self.inside.image c.self.inside.history.items) c.args.p (run c.self.inside.image (schedule_of c.self.inside.history.items ++ c.args.p ∷ []))) (want_of c.wake_after.new.roster.waiting) c.wake_after.new.roster.ready
 lists-by c (Stepped changed) other done waits woken =
     let i = c.self.inside in
     let k = c.self.invariant in
     let p = c.args.p in
     let choices = schedule_of i.history.items in
     let before = k.after.after in
-    c.lists_go_along_with_steps.ensures i.image i.cells choices (progress_after i.image i.history.items) i.waits c.wake_after.new.waits i.ready.ready c.wake_after.new.ready.ready p changed before.layout
+    c.lists_go_along_with_steps.ensures i.image i.cells choices (progress_after i.image i.history.items) (want_of i.roster.waiting) (want_of c.wake_after.new.roster.waiting) i.roster.ready c.wake_after.new.roster.ready p changed before.layout
     k.listed done.0 before.laid (done.2.told before.layout before.laid)
-    (along i.image choices p changed i.waits c.wake_after.new.waits i.ready.ready c.note_ready.new.ready.ready c.wake_after.new.ready.ready c.len-made.result (length c.turn.new.self.processes.items) (counted-before c) (counted-after c) waits (noted-now c) woken)
+    (along i.image choices p changed (want_of i.roster.waiting) (want_of c.wake_after.new.roster.waiting) i.roster.ready c.note_ready.new.roster.ready c.wake_after.new.roster.ready c.len-made.result (length c.turn.new.self.processes.items) (counted-before c) (counted-after c) waits (noted-now c) woken)
 lists-by c Purged other done waits woken =
     let i = c.self.inside in
     let k = c.self.invariant in
@@ -195,17 +206,21 @@ lists-by c Purged other done waits woken =
     let choices = schedule_of i.history.items in
     let ranges = c.turn.new.self.passing.ranges.items in
     let before = k.after.after in
-    c.lists_go_along_with_purges.ensures i.image i.cells choices (progress_after i.image i.history.items) i.waits c.wake_after.new.waits i.ready.ready c.wake_after.new.ready.ready p (have_cell ranges) before.layout
+    c.lists_go_along_with_purges.ensures i.image i.cells choices (progress_after i.image i.history.items) (want_of i.roster.waiting) (want_of c.wake_after.new.roster.waiting) i.roster.ready c.wake_after.new.roster.ready p (have_cell ranges) before.layout
     k.listed done.0 before.laid (emptied-to-lists i.image i.cells choices p before.layout ranges before.laid done.2)
-    (along-emptying i.image choices p (have_cell ranges) i.waits c.wake_after.new.waits i.ready.ready c.note_ready.new.ready.ready c.wake_after.new.ready.ready c.len-made.result (length c.turn.new.self.processes.items) (counted-before c) (counted-after c) waits (noted-now c) woken)
+    (along-emptying i.image choices p (have_cell ranges) (want_of i.roster.waiting) (want_of c.wake_after.new.roster.waiting) i.roster.ready c.note_ready.new.roster.ready c.wake_after.new.roster.ready c.len-made.result (length c.turn.new.self.processes.items) (counted-before c) (counted-after c) waits (noted-now c) woken)
 lists-by c (Waits want) other done waits woken = absurd (other want refl)
 
 lists-now : (c : After-wake_after) → AreListed c.self.inside.image c.self.inside.cells (schedule_of c.self.inside.history.items ++ c.args.p ∷ [])
-    (progress_after_step c.self.inside.image (progress_after c.self.inside.image c.self.inside.history.items) c.args.p (run c.self.inside.image (schedule_of c.self.inside.history.items ++ c.args.p ∷ []))) c.wake_after.new.waits c.wake_after.new.ready.ready
+    (progress_after_step c.self.inside.image (progress_after c.self.inside.image c.self.inside.history.items) c.args.p (run c.self.inside.image (schedule_of c.self.inside.history.items ++ c.args.p ∷ []))) (want_of c.wake_after.new.roster.waiting) c.wake_after.new.roster.ready
 lists-now c =
+    let rs = c.turn.new.self.passing.ranges.items in
     let same = c.deref.ensures.value in
-    lists-by c c.in-Ok.turned (no-wait c) (turned-now c) (subst (λ rs. (q : ℕ) → waiting_at c.wake_after.new.waits q ≡ awake_after c.in-Ok.turned rs (waiting_at c.self.inside.waits q)) same c.wake_after.ensures.waits)
-    (subst (λ rs. (q : ℕ) → is_number_among q c.wake_after.new.ready.ready ≡ (is_woken_after c.in-Ok.turned rs c.self.inside.waits q || is_number_among q c.note_ready.new.ready.ready)) same c.wake_after.ensures.ready)
+    let old = want_of c.self.inside.roster.waiting in
+    let before : want_of c.note_ready.new.roster.waiting ≡ old = λ j q. (c.note_ready.ensures.waiting q ∙ c.turn.ensures.roster.kept.waiting q) j in
+    let waits = subst (λ ws. (q : ℕ) → want_of c.wake_after.new.roster.waiting q ≡ awake_after c.in-Ok.turned rs (ws q)) before (subst (λ rs'. (q : ℕ) → want_of c.wake_after.new.roster.waiting q ≡ awake_after c.in-Ok.turned rs' (want_of c.note_ready.new.roster.waiting q)) same c.wake_after.ensures.waiting) in
+    let woken = subst (λ ws. (q : ℕ) → is_number_among q c.wake_after.new.roster.ready ≡ (is_woken_after c.in-Ok.turned rs ws q || is_number_among q c.note_ready.new.roster.ready)) before (subst (λ rs'. (q : ℕ) → is_number_among q c.wake_after.new.roster.ready ≡ (is_woken_after c.in-Ok.turned rs' (want_of c.note_ready.new.roster.waiting) q || is_number_among q c.note_ready.new.roster.ready)) same c.wake_after.ensures.ready) in
+    lists-by c c.in-Ok.turned (no-wait c) (turned-now c) waits woken
 
 -- the state that the step leads to, and that the machine has stopped just where it has
 after-step : (c : After-wake_after) → State
@@ -226,12 +241,13 @@ halted-history c =
 -- the core keeps its invariant, whatever it has stopped
 step-kept : (c : After-wake_after) → length c.self.inside.history.items < c.self.inside.limit → is_out c.args.p c.self.inside.out.items ≡ false
     → (stop : Option ChoiceStop) → IsStop c.self.inside.image c.self.inside.cells c.self.inside.limit c.note-in_default-turned.new.history.items stop
-    → CoreInvariant (record c.self.inside { history = c.note-in_default-turned.new.history; stop = stop; machine = c.turn.new.self; waits = c.wake_after.new.waits; ready = c.wake_after.new.ready })
+    → CoreInvariant (record c.self.inside { history = c.note-in_default-turned.new.history; stop = stop; machine = c.turn.new.self; roster = c.wake_after.new.roster })
 step-kept c lt home =
     let done = stepped-now c in
-    stepped-kept c.self.inside c.self.invariant c.args.p lt home c.note-in_default-turned.new.history (entry-is c) c.turn.new.self done.0 done.1 c.wake_after.new.waits c.wake_after.new.ready (lists-now c)
-    (omega (arith, c.turn.ensures.ready.numbers, c.note_ready.ensures.room, c.wake_after.ensures.room))
-    (omega (arith, c.self.invariant.waiting, c.wake_after.ensures.size, c.turn.ensures.ready.grows, c.note_ready.ensures.room, c.wake_after.ensures.room))
+    stepped-kept c.self.inside c.self.invariant c.args.p lt home c.note-in_default-turned.new.history (entry-is c) c.turn.new.self done.0 done.1 c.wake_after.new.roster (lists-now c) (record {
+      room = omega (arith, c.note_ready.ensures.room.room, c.wake_after.ensures.others.1);
+      last = omega (arith, c.note_ready.ensures.room.last, c.wake_after.ensures.others.0);
+    })
 
 -- the turn is one that made a step
 step-made : (c : After-wake_after) → AreSeen c.self.inside.image c.self.inside.cells → (stop : Option ChoiceStop) → stop ≡ stop_after (after-step c)
@@ -274,40 +290,77 @@ returns-else-self c =
     let halted : (after-step at.After-wake_after).halted ≡ false = sym (halted-after at.After-wake_after) ∙ c.if-self.false in
     rw (← c.self.view_is) (going, at-home at.After-lives, is-asked at.After-turn, step-made at.After-wake_after (are-seen at.After-turn) c.self.inside.stop (going.0 ∙ rw halted refl))
 
-pub wake_after-requires-clause-few : goal.wake_after-requires-clause-few
-wake_after-requires-clause-few c =
+pub wake_after-requires : goal.wake_after-requires
+wake_after-requires c =
     let i = c.self.inside in
-    subst (AreInArena c.in-Ok.turned) (sym c.deref.ensures.value) (
-    in-arena i.image i.cells (schedule_of i.history.items) c.args.p c.in-Ok.turned c.turn.new.self (turned-at i.image i.cells i.history.items i.machine c.self.invariant.after c.args.p c.in-Ok.turned c.turn.new.self c.in-Ok.ensures.turned))
+    record {
+      few = subst (AreInArena c.in-Ok.turned) (sym c.deref.ensures.value) (
+          in-arena i.image i.cells (schedule_of i.history.items) c.args.p c.in-Ok.turned c.turn.new.self (turned-at i.image i.cells i.history.items i.machine c.self.invariant.after c.args.p c.in-Ok.turned c.turn.new.self c.in-Ok.ensures.turned));
+    }
+
+-- no process is taken back
+risen : (program : Units) (cells : ℕ) (choices : List ℕ) (p : ℕ) (turned : Turned) (old new : Machine) → IsAfter program cells choices (snapshot_of old) → IsNoWait turned → HasTurned program cells choices p turned new
+    → length old.processes.items ≤ length new.processes.items
+risen program cells choices p turned old new after other has =
+    let s = run program choices in
+    let made = made-step program cells choices p turned new other has in
+    let grown : length s.processes ≤ length (run program (choices ++ p ∷ [])).processes =
+    subst (λ (t : State). length s.processes ≤ length t.processes) (sym (run-last program choices p)) (elim (processes_after program p s) [ inl e ↦ omega (arith, e) | inr e ↦ omega (arith, e) ]) in
+    omega (arith, grown, as-many program cells choices old after, as-many program cells (choices ++ p ∷ []) new made.1.after)
+
+pub note_ready-requires-clause-last : goal.note_ready-requires-clause-last
+note_ready-requires-clause-last c =
+    let i = c.self.inside in
+    omega (arith, c.turn.ensures.roster.kept.last, c.self.invariant.room.last, c.len-made.ensures, i.machine.processes.ok.0)
+
+pub note_ready-requires-clause-more : goal.note_ready-requires-clause-more
+note_ready-requires-clause-more c =
+    let i = c.self.inside in
+    let h = i.history.items in
+    let k = c.self.invariant in
+    let turned = turned-at i.image i.cells h i.machine k.after c.args.p c.in-Ok.turned c.turn.new.self c.in-Ok.ensures.turned in
+    omega (arith, risen i.image i.cells (schedule_of h) c.args.p c.in-Ok.turned i.machine c.turn.new.self k.after.after c.in_default-turned.not-Waits turned, c.len-made.ensures, i.machine.processes.ok.0)
 
 -- ---- a turn that found its process waiting
 
-waited-now : (c : After-wait) → HasTurned c.self.inside.image c.self.inside.cells (schedule_of c.self.inside.history.items) c.args.p (Waits c.in-Waits.want) c.turn.new.self
+pub block-requires : goal.block-requires
+block-requires c =
+    let i = c.self.inside in
+    let k = c.self.invariant in
+    let choices = schedule_of i.history.items in
+    let kept = c.turn.ensures.roster.kept in
+    let lives : c.lives.result ≡ true = search rules in
+    record {
+      enrolled = (λ j. kept.ready c.args.p j || is_some (kept.waiting c.args.p j))
+          ∙ living-enrolled i.image i.cells choices (progress_after i.image i.history.items) (want_of i.roster.waiting) i.roster.ready k.listed c.args.p (sym (c.lives.ensures.lives i.image i.cells choices k.after.after) ∙ lives);
+    }
+
+waited-now : (c : After-block) → HasTurned c.self.inside.image c.self.inside.cells (schedule_of c.self.inside.history.items) c.args.p (Waits c.in-Waits.want) c.turn.new.self
 waited-now c =
     let i = c.self.inside in
     subst (λ turned. HasTurned i.image i.cells (schedule_of i.history.items) c.args.p turned c.turn.new.self) c.in-Waits.is (turned-at i.image i.cells i.history.items i.machine c.self.invariant.after c.args.p c.in-Ok.turned c.turn.new.self c.in-Ok.ensures.turned)
 
-is-blocked : (c : After-wait) → IsBlocked c.self.inside.image c.self.inside.cells (schedule_of c.self.inside.history.items) c.args.p c.in-Waits.want
+is-blocked : (c : After-block) → IsBlocked c.self.inside.image c.self.inside.cells (schedule_of c.self.inside.history.items) c.args.p c.in-Waits.want
 is-blocked c =
     let i = c.self.inside in
     let choices = schedule_of i.history.items in
     let h = (waited-now c).0 in
     blocked-now i.image i.cells choices c.args.p c.in-Waits.want (snapshot_of c.turn.new.self) h (c.waiting_processes_need_it.ensures i.image c.args.p (run i.image choices) h.wanted h.waits)
 
-pub invariant_of-self-in_err-wait-in-Waits : goal.invariant_of-self-in_err-wait-in-Waits
-invariant_of-self-in_err-wait-in-Waits c =
+pub invariant_of-self-in_err-block-in-Waits : goal.invariant_of-self-in_err-block-in-Waits
+invariant_of-self-in_err-block-in-Waits c =
     let i = c.self.inside in
     let k = c.self.invariant in
-    let done = waited-now (goal.at.invariant_of-self-in_err-wait-in-Waits c).After-wait in
-    let same = c.in_err-wait-in-Waits.ensures.refused in
-    unturned-kept i k c.turn.new.history c.turn.new.self c.wait.new.ready c.turn.ensures.entry.entries done.1 (ap (λ (r : Numbers). r.ready) same.1 ∙ c.turn.ensures.ready.ready) (omega (arith, c.turn.ensures.ready.numbers, c.wait.ensures.room))
-    (omega (arith, k.waiting, c.turn.ensures.ready.grows, c.wait.ensures.room)) c.wait.new.waits same.0 i.stop k.named
+    let done = waited-now (goal.at.invariant_of-self-in_err-block-in-Waits c).After-block in
+    let same = c.in_err-block-in-Waits.ensures.refused in
+    unturned-kept i k c.turn.new.history c.turn.new.self c.block.new.self c.turn.ensures.entry.entries done.1 (subst (KeepsRoll i.roster) (sym same) c.turn.ensures.roster.kept)
+    (subst (HasRoomLeft c.turn.new.self) (sym same) (left-room i k c.turn.new.self c.turn.new.roster done.1 c.turn.ensures.roster)) i.stop k.named
 
-pub returns-in_err-wait-in-Waits : goal.returns-in_err-wait-in-Waits
-returns-in_err-wait-in-Waits c =
+pub returns-in_err-block-in-Waits : goal.returns-in_err-block-in-Waits
+returns-in_err-block-in-Waits c =
     let i = c.self.inside in
-    let done = waited-now (goal.at.returns-in_err-wait-in-Waits c).After-wait in
-    let at = goal.at.returns-in_err-wait-in-Waits c in
+    let done = waited-now (goal.at.returns-in_err-block-in-Waits c).After-block in
+    let at = goal.at.returns-in_err-block-in-Waits c in
     let unstepped = waits-unstepped i.image c.args.p (run i.image (schedule_of i.history.items)) done.0.wanted done.0.waits in
     rw (← c.self.view_is) (
     no-memory (core_value i) c.args.p c.from_residual.result (record (core_value i) { history = c.turn.new.history.items; view = machine_view i.image (snapshot_of c.turn.new.self) }) c.from_residual.ensures.1
@@ -315,7 +368,7 @@ returns-in_err-wait-in-Waits c =
 
 pub invariant_of-self-in-Waits : goal.invariant_of-self-in-Waits
 invariant_of-self-in-Waits c =
-    let at = (goal.at.invariant_of-self-in-Waits c).After-wait in
+    let at = (goal.at.invariant_of-self-in-Waits c).After-block in
     let i = c.self.inside in
     let k = c.self.invariant in
     let h = i.history.items in
@@ -325,28 +378,28 @@ invariant_of-self-in-Waits c =
     let is : c.note.new.history.items ≡ h ++ record { process = p; steps = 0 } ∷ [] = c.note.ensures ∙ ap (λ (es : List Entry). es ++ record { process = p; steps = 0 } ∷ []) c.turn.ensures.entry.entries in
     let lt = is-asked (goal.at.invariant_of-self-in-Waits c).After-turn in
     let going = going-on (goal.at.invariant_of-self-in-Waits c).After-lives in
-    let listed = c.waiting_processes_are_listed.ensures i.image i.cells (schedule_of h) (progress_after i.image h) i.waits c.wait.new.waits i.ready.ready c.wait.new.ready.ready p c.in-Waits.want k.listed blocked
-    c.in_ok-wait-in-Waits.ensures.waits (subst (λ ns. IsReadyNoMore p ns c.wait.new.ready.ready) c.turn.ensures.ready.ready c.in_ok-wait-in-Waits.ensures.ready) in
-    let lives : c.lives.result ≡ true = search rules in
-    let there = c.lives.ensures.levels lives in
-    let many : length c.turn.new.self.processes.items ≡ length i.machine.processes.items = as-many i.image i.cells (schedule_of h) c.turn.new.self done.1.after ∙ sym (as-many i.image i.cells (schedule_of h) i.machine k.after.after) in
-    let numbered : p ≤ length c.turn.new.self.processes.items = omega (arith, within (snapshot_of i.machine) p there, length-map i.machine.processes.items stack_of, many) in
-    let numbers : length c.turn.new.self.processes.items ≤ c.wait.new.ready.room = omega (arith, c.turn.ensures.ready.numbers, c.wait.ensures.room) in
-    let room : length c.wait.new.waits ≤ c.wait.new.ready.room = omega (arith, k.waiting, c.turn.ensures.ready.grows, c.wait.ensures.room, c.in_ok-wait-in-Waits.ensures.size, numbered, numbers) in
-    waited-kept i k p lt c.note.new.history is c.turn.new.self done.1 blocked.1 c.wait.new.waits c.wait.new.ready listed numbers room i.stop
-    (subst (IsStop i.image i.cells i.limit c.note.new.history.items) (sym going.0) (named-left i k p lt c.note.new.history is c.turn.new.self done.1 blocked.1 c.wait.new.waits c.wait.new.ready listed numbers room going.1))
+    let kept = c.turn.ensures.roster.kept in
+    let told = c.in_ok-block-in-Waits.ensures in
+    let before : want_of c.turn.new.roster.waiting ≡ want_of i.roster.waiting = λ j q. kept.waiting q j in
+    let waits = subst (λ ws. WaitsNow p c.in-Waits.want ws (want_of c.block.new.self.waiting)) before told.waits in
+    let ready : IsReadyNoMore p i.roster.ready c.block.new.self.ready = λ q. told.ready q ∙ ap (λ b. not (nat_eq p q) && b) (kept.ready q) in
+    let listed = c.waiting_processes_are_listed.ensures i.image i.cells (schedule_of h) (progress_after i.image h) (want_of i.roster.waiting) (want_of c.block.new.self.waiting) i.roster.ready c.block.new.self.ready p c.in-Waits.want k.listed blocked waits ready in
+    let left = left-room i k c.turn.new.self c.turn.new.roster done.1 c.turn.ensures.roster in
+    let room : HasRoomLeft c.turn.new.self c.block.new.self = record { room = omega (arith, left.room, c.block.ensures.others.1); last = omega (arith, left.last, c.block.ensures.others.0) } in
+    waited-kept i k p lt c.note.new.history is c.turn.new.self done.1 blocked.1 c.block.new.self listed room i.stop
+    (subst (IsStop i.image i.cells i.limit c.note.new.history.items) (sym going.0) (named-left i k p lt c.note.new.history is c.turn.new.self done.1 blocked.1 c.block.new.self listed room going.1))
 
-pub returns-in_ok-wait-in-Waits : goal.returns-in_ok-wait-in-Waits
-returns-in_ok-wait-in-Waits c =
-    let at = (goal.at.returns-in_ok-wait-in-Waits c).After-wait in
+pub returns-in_ok-block-in-Waits : goal.returns-in_ok-block-in-Waits
+returns-in_ok-block-in-Waits c =
+    let at = (goal.at.returns-in_ok-block-in-Waits c).After-block in
     let i = c.self.inside in
     let h = i.history.items in
     let p = c.args.p in
     let done = waited-now at in
     let is : c.note.new.history.items ≡ h ++ record { process = p; steps = 0 } ∷ [] = c.note.ensures ∙ ap (λ (es : List Entry). es ++ record { process = p; steps = 0 } ∷ []) c.turn.ensures.entry.entries in
-    let lt = is-asked (goal.at.returns-in_ok-wait-in-Waits c).After-turn in
-    let going = going-on (goal.at.returns-in_ok-wait-in-Waits c).After-lives in
+    let lt = is-asked (goal.at.returns-in_ok-block-in-Waits c).After-turn in
+    let going = going-on (goal.at.returns-in_ok-block-in-Waits c).After-lives in
     let stop : i.stop ≡ stop_after (state_after i.image h) = going.0 ∙ rw going.1 refl in
-    let seen = are-seen (goal.at.returns-in_ok-wait-in-Waits c).After-turn in
+    let seen = are-seen (goal.at.returns-in_ok-block-in-Waits c).After-turn in
     let view = view-is i.image i.cells h (snapshot_of c.turn.new.self) done.1.after seen in
-    rw (← c.self.view_is) (going, at-home (goal.at.returns-in_ok-wait-in-Waits c).After-lives, lt, (ap (λ (s : State). is_waiting i.image s p) (state-is i.image h) ∙ (is-blocked at).1, λ j. record (core_value i) { history = is j; stop = stop j; view = view j }))
+    rw (← c.self.view_is) (going, at-home (goal.at.returns-in_ok-block-in-Waits c).After-lives, lt, (ap (λ (s : State). is_waiting i.image s p) (state-is i.image h) ∙ (is-blocked at).1, λ j. record (core_value i) { history = is j; stop = stop j; view = view j }))

@@ -4,6 +4,7 @@ use Rattle.std.proofs.lemmas.Bool.Decides.{nat_tests}
 use Rattle.hep_machine.specs.Words.{Units, is_number_among, schedule_of, state_after, Progress, living_from, progress_after, ready_in, State}
 use Rattle.hep_machine.specs.declared.event.Entry.{Entry}
 use Rattle.hep_blocked.specs.Listing.{AreListed}
+use Rattle.hep_blocked.specs.Rolls.{want_of}
 use Rattle.hep_blocked.proofs.Members.{among-living, among-ready, none-among}
 use Rattle.hep_core.specs.Value.{verdict_by}
 use Rattle.hep_core.specs.declared.stop.Verdict.TheVariants.{Done, Running, Waiting}
@@ -65,23 +66,23 @@ pub returns-in-None : goal.returns-in-None
 returns-in-None c =
     let i = c.self.inside in
     let none : i.stop ≡ None = search rules in
-    rw (← c.self.view_is) (runs-on i.image i.cells i.history.items i.waits i.ready.ready c.self.invariant.listed (sym c.if-not-is_empty.ensures) ∙ ap (λ stop. verdict_by stop (living_from 1 (state_after i.image i.history.items).processes) (ready_in (progress_after i.image i.history.items))) (sym none))
+    rw (← c.self.view_is) (runs-on i.image i.cells i.history.items (want_of i.roster.waiting) i.roster.ready c.self.invariant.listed (sym c.if-not-none_ready.ensures) ∙ ap (λ stop. verdict_by stop (living_from 1 (state_after i.image i.history.items).processes) (ready_in (progress_after i.image i.history.items))) (sym none))
 
 pub returns-in-None-2 : goal.returns-in-None-2
 returns-in-None-2 c =
     let i = c.self.inside in
     let none : i.stop ≡ None = search rules in
-    let empty : i.ready.ready ≡ [] = no-members i.ready.ready (sym c.if-not-is_empty.ensures) in
+    let empty : i.roster.ready ≡ [] = no-members i.roster.ready (sym c.if-not-none_ready.ensures) in
     let k = c.self.invariant.listed in
-    let ended = c.lists_are_those_of_definitions.ensures.done i.image i.cells (schedule_of i.history.items) (progress_after i.image i.history.items) i.waits i.ready.ready k (none-ready i.image i.cells i.history.items i.waits i.ready.ready k empty) (λ q. c.if-is_empty.ensures.nobody refl q) in
-    rw (← c.self.view_is) (is-done i.image i.cells i.history.items i.waits i.ready.ready k empty ended ∙ ap (λ stop. verdict_by stop (living_from 1 (state_after i.image i.history.items).processes) (ready_in (progress_after i.image i.history.items))) (sym none))
+    let ended = c.lists_are_those_of_definitions.ensures.done i.image i.cells (schedule_of i.history.items) (progress_after i.image i.history.items) (want_of i.roster.waiting) i.roster.ready k (none-ready i.image i.cells i.history.items (want_of i.roster.waiting) i.roster.ready k empty) (λ q. c.if-none_waits.ensures.nobody refl q) in
+    rw (← c.self.view_is) (is-done i.image i.cells i.history.items (want_of i.roster.waiting) i.roster.ready k empty ended ∙ ap (λ stop. verdict_by stop (living_from 1 (state_after i.image i.history.items).processes) (ready_in (progress_after i.image i.history.items))) (sym none))
 
 pub returns-in-None-3 : goal.returns-in-None-3
 returns-in-None-3 c =
     let i = c.self.inside in
     let none : i.stop ≡ None = search rules in
-    let empty : i.ready.ready ≡ [] = no-members i.ready.ready (sym c.if-not-is_empty.ensures) in
+    let empty : i.roster.ready ≡ [] = no-members i.roster.ready (sym c.if-not-none_ready.ensures) in
     let k = c.self.invariant.listed in
-    let some = c.if-is_empty.ensures.somebody refl in
-    let lives = c.lists_are_those_of_definitions.ensures.waiting i.image i.cells some.0 (schedule_of i.history.items) (progress_after i.image i.history.items) i.waits i.ready.ready k some.1 in
-    rw (← c.self.view_is) (is-waiting i.image i.cells i.history.items i.waits i.ready.ready k empty lives ∙ ap (λ stop. verdict_by stop (living_from 1 (state_after i.image i.history.items).processes) (ready_in (progress_after i.image i.history.items))) (sym none))
+    let some = c.if-none_waits.ensures.somebody refl in
+    let lives = c.lists_are_those_of_definitions.ensures.waiting i.image i.cells some.0 (schedule_of i.history.items) (progress_after i.image i.history.items) (want_of i.roster.waiting) i.roster.ready k some.1 in
+    rw (← c.self.view_is) (is-waiting i.image i.cells i.history.items (want_of i.roster.waiting) i.roster.ready k empty lives ∙ ap (λ stop. verdict_by stop (living_from 1 (state_after i.image i.history.items).processes) (ready_in (progress_after i.image i.history.items))) (sym none))

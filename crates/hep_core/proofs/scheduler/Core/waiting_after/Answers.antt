@@ -1,7 +1,7 @@
 use Rattle.std.proofs.Common.{◌≡◌, ℕ, suc, ◌-◌, ◌≤◌, Bool, true, length, Option, Some, None, sym, ap, ◌∙◌, subst, arith, if◌then◌else◌, is_some}
 use Rattle.hep_machine.specs.Words.{is_number_among, run, schedule_of, state_after, progress_after, State}
 use Rattle.hep_cells.specs.declared.want.Want.{Want}
-use Rattle.hep_blocked.specs.Waiting.{waiting_at}
+use Rattle.hep_blocked.specs.Rolls.{want_of}
 use Rattle.hep_blocked.proofs.Living.{living-within, waits-live}
 use Rattle.hep_blocked.specs.Listing.{IsBlocked}
 use Rattle.hep_views.specs.declared.listed.Listed.{Listed}
@@ -18,7 +18,7 @@ there b o l e f = ap (λ c. if c then o else None) e ∙ f
 
 module _ (i : Inside) (k : CoreInvariant i) where
   -- one that waits for nothing isn't listed
-  unlisted : (q : ℕ) → waiting_at i.waits q ≡ None → listed_after i.image i.history.items q ≡ None
+  unlisted : (q : ℕ) → want_of i.roster.waiting q ≡ None → listed_after i.image i.history.items q ≡ None
   unlisted q e = ap (λ b. if b then listed_by i.image q (state_after i.image i.history.items) else None) (k.listed.listed q ∙ ap is_some e)
 
   -- one that waits was made

@@ -1,0 +1,55 @@
+//! Numbers that rise, and at which places they stand: the first one stands at place 1.
+ghost use Rattle.std.specs.Prelude.{◌≡◌, ◌+◌, ◌++◌, ◌<◌, ◌≤◌, ◌∷◌, [], ℕ, length, vec_capacity, vec_len};
+ghost use Rattle.hep_blocked.specs.Numbers.{AreRising};
+ghost use Rattle.hep_blocked.specs.Rolls.{number_at, place_of, places_to};
+
+/// How many of the numbers aren't above p.
+///
+/// This costs a constant time where each number up to p stands there, and else the logarithm of how many stand there.
+pub(crate) fn places_to(numbers: &[u64], p: u64) -> u64
+    requires rising { (greatest : ℕ) × AreRising 1 greatest numbers.now }
+    ensures { result ≡ places_to numbers.now p }
+{
+    if p > 0 && p <= numbers.len() as u64 && numbers[p as usize - 1] == p {
+        return p;
+    }
+    match numbers.binary_search(&p) {
+        Ok(at) => at as u64 + 1,
+        Err(at) => at as u64,
+    }
+}
+
+/// A number more, for which there is room.
+pub(crate) fn append(numbers: &mut Vec<u64>, number: u64)
+    requires { vec_len numbers.old < vec_capacity numbers.old }
+    ensures added { numbers.new.items ≡ numbers.old.items ++ number ∷ [] }
+    ensures len { vec_len numbers.new ≡ vec_len numbers.old + 1 }
+    ensures capacity { vec_capacity numbers.old ≤ vec_capacity numbers.new }
+{
+    let _ = numbers.push(number);
+}
+
+/// The number at a place.
+pub(crate) fn number_at(numbers: &[u64], place: u64) -> u64
+    requires some { 1 ≤ place }
+    requires inside { place ≤ length numbers.now }
+    ensures { result ≡ number_at numbers.now place }
+{
+    numbers[place as usize - 1]
+}
+
+/// Where a number stands; 0 where it doesn't.
+///
+/// This costs what `places_to` does.
+pub(crate) fn place_of(numbers: &[u64], p: u64) -> u64
+    requires rising { (greatest : ℕ) × AreRising 1 greatest numbers.now }
+    ensures place { result ≡ place_of numbers.now p }
+    ensures inside { result ≤ length numbers.now }
+{
+    let place = places_to(numbers, p);
+    if place > 0 && number_at(numbers, place) == p {
+        place
+    } else {
+        0
+    }
+}

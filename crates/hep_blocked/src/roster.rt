@@ -1,0 +1,320 @@
+//! The processes that live, by their numbers.
+ghost use Rattle.std.specs.Prelude.{◌≡◌, ◌≢◌, ℕ, ◌+◌, ◌<◌, ◌≤◌, ◌==◌, ◌&&◌, ◌||◌, [], None, IfErr, IfNone, IfOk, IfSome, IsOk, OnErr, OnOk};
+ghost use Rattle.std.specs.Prelude.{true, false, if◌then◌else◌, length, max, nat_eq};
+ghost use Rattle.hep_machine.specs.Words.{first_above, is_number_among, next_of_ready};
+ghost use Rattle.hep_blocked.specs.Listing.{IsReadyNoMore, WaitsNow};
+ghost use Rattle.hep_blocked.specs.Numbers.{AreRising};
+ghost use Rattle.hep_blocked.specs.Rolls.{KeepsRoll, is_enrolled, place_of, want_of};
+ghost use Rattle.hep_blocked.specs.Waiting.{awake, waiting_at, wants};
+
+use crate::places::{append, number_at, place_of, places_to};
+use crate::{Ready, Waits};
+use hep_cells::Want;
+use std::alloc::{AllocError, Global};
+use std::marker::Model;
+
+/// The processes that live, by their numbers: each is ready or waits. Contracts see the numbers of those that are ready, which rise; those
+/// that wait, each with what it waits for; the greatest number that was enrolled; and the greatest one that has room to be.
+///
+/// It keeps a place for each process, and the place of one that has ended until it makes room: so its memory goes by the most processes
+/// that lived at one time, and not by how many there were.
+pub struct Roster {
+    alloc: Global,
+    // Numbers, which rise, some of them of processes that have ended. The first one stands at place 1.
+    numbers: Vec<u64>,
+    // The places of those that are ready.
+    ready: Ready,
+    // What the process at each place waits for.
+    waits: Waits,
+    // The greatest number that was enrolled.
+    last: u64,
+    // How many places more have room.
+    free: usize,
+}
+
+impl Drop for Roster {
+    fn drop(self) {
+        let Roster {
+            alloc,
+            numbers,
+            ready,
+            waits,
+            last,
+            free,
+        } = self;
+    }
+}
+
+impl Model for Roster {
+    ghost use Rattle.std.specs.Coded.{codes};
+    ghost use Rattle.hep_cells.specs.contracts.want.Want as want;
+    ghost use Rattle.hep_blocked.specs.Rolls.{HasPlaces, Roll, roll_of};
+
+    ghost Value = { Roll };
+
+    ghost coded = { Prim.hlevel (codes, want.the_row.coded) };
+
+    ghost view = { roll_of };
+
+    ghost invariant = { HasPlaces };
+}
+
+impl Roster {
+    /// Nobody lives, and no number has room. This takes no memory.
+    pub fn new(alloc: Global) -> Roster
+        ensures ready { result.ready ≡ [] }
+        ensures waiting { result.waiting ≡ [] }
+        ensures last { result.last ≡ 0 }
+    {
+        Roster {
+            alloc,
+            numbers: Vec::new(alloc),
+            ready: Ready::new(alloc),
+            waits: Waits::new(alloc),
+            last: 0,
+            free: 0,
+        }
+    }
+
+    /// Makes room for the numbers up to this one to be enrolled. Who is ready and who waits stays.
+    ///
+    /// Where there is too little room, those that live move to new places, with as much room again, in linear time: processes that are
+    /// made one after the other cost a constant time each, on the whole.
+    ///
+    /// # Errors
+    ///
+    /// `AllocError` where memory was refused; nothing has changed then.
+    pub fn reserve(&mut self, number: u64) -> Result<(), AllocError>
+        ensures room { OnOk result (number ≤ self.new.room) }
+        ensures kept { KeepsRoll self.old self.new }
+        ensures refused { IfErr result (λ _. self.new ≡ self.old) }
+        ensures made { number ≤ self.old.room → IsOk result × (self.new ≡ self.old) }
+    {
+        if number <= self.last {
+            return Ok(());
+        }
+        if number - self.last <= self.free as u64 {
+            return Ok(());
+        }
+        let mut roster = moved(self.alloc, &self.numbers, &self.ready, &self.waits)?;
+        roster.make_room(self.last, number)?;
+        *self = roster;
+        Ok(())
+    }
+
+    // A process with a greater number than all others is ready, or waits, unless it has ended. No room is kept.
+    fn keep(&mut self, number: u64, is_ready: bool, want: Option<Want>) -> Result<(), AllocError>
+        requires later { self.old.last < number }
+        ensures ready { OnOk result ((q : ℕ) → is_number_among q self.new.ready
+            ≡ ((nat_eq q number && is_ready) || is_number_among q self.old.ready)) }
+        ensures waiting { OnOk result ((q : ℕ) → want_of self.new.waiting q
+            ≡ (if nat_eq q number then want else want_of self.old.waiting q)) }
+        ensures last { self.new.last ≤ number }
+    {
+        let place = self.numbers.len() as u64 + 1;
+        if want.is_none() {
+            if !is_ready {
+                return Ok(());
+            }
+        }
+        self.free = 0;
+        self.ready.reserve(place)?;
+        self.numbers.push(number)?;
+        self.last = number;
+        mark(&mut self.ready, place, is_ready);
+        note(&mut self.waits, place, want)
+    }
+
+    // Room for as many processes as there are places, and for the numbers up to this one, where all up to another one have been enrolled.
+    fn make_room(&mut self, last: u64, number: u64) -> Result<(), AllocError>
+        requires enrolled { self.old.last ≤ last }
+        requires more { last < number }
+        ensures room { OnOk result (number ≤ self.new.room) }
+        ensures last { OnOk result (self.new.last ≡ last) }
+        ensures ready { self.new.ready ≡ self.old.ready }
+        ensures waiting { self.new.waiting ≡ self.old.waiting }
+    {
+        let free = self.numbers.len().saturating_add((number - last) as usize);
+        self.numbers.reserve(free)?;
+        self.ready.reserve((self.numbers.len() + free) as u64)?;
+        self.last = last;
+        self.free = free;
+        Ok(())
+    }
+
+    /// A process that was made, with a greater number than all before it, which has room. It is ready.
+    ///
+    /// This takes no memory, and costs the logarithm of the room.
+    pub fn enroll(&mut self, p: u64)
+        requires later { self.old.last < p }
+        requires room { p ≤ self.old.room }
+        ensures ready { (q : ℕ) → is_number_among q self.new.ready ≡ (nat_eq q p || is_number_among q self.old.ready) }
+        ensures waiting { (q : ℕ) → want_of self.new.waiting q ≡ want_of self.old.waiting q }
+        ensures last { self.new.last ≡ p }
+        ensures room { self.old.room ≤ self.new.room }
+    {
+        append(&mut self.numbers, p);
+        self.ready.add(self.numbers.len() as u64);
+        self.last = p;
+        self.free -= 1;
+    }
+
+    /// A process isn't ready, whether it was or not. If it doesn't wait it has ended, and gives its place back.
+    ///
+    /// This costs the logarithm of the room.
+    pub fn remove(&mut self, p: u64)
+        ensures ready { IsReadyNoMore p self.old.ready self.new.ready }
+        ensures others { self.new ≡ record self.old { ready = self.new.ready } }
+    {
+        self.ready.remove(place_of(&self.numbers, p));
+    }
+
+    /// A process that is ready or waits isn't ready any more, and waits for a cell to be full, or to be empty, if it didn't wait before.
+    ///
+    /// This costs the logarithm of the room, and a constant time on the whole.
+    ///
+    /// # Errors
+    ///
+    /// `AllocError` where memory was refused; nothing has changed then.
+    pub fn block(&mut self, p: u64, want: Want) -> Result<(), AllocError>
+        requires enrolled { is_enrolled self.old p ≡ true }
+        ensures waits { OnOk result (WaitsNow p want (want_of self.old.waiting) (want_of self.new.waiting)) }
+        ensures ready { OnOk result (IsReadyNoMore p self.old.ready self.new.ready) }
+        ensures others { (self.new.last ≡ self.old.last) × (self.new.room ≡ self.old.room) }
+        ensures refused { OnErr result (self.new ≡ self.old) }
+    {
+        let place = place_of(&self.numbers, p);
+        hold(&mut self.waits, place, want)?;
+        self.ready.remove(place);
+        Ok(())
+    }
+
+    /// Those that wait for this are ready and wait no more.
+    ///
+    /// This takes no memory. It costs a constant time, and for each process that it wakes the logarithm of the room.
+    pub fn wake(&mut self, want: Want)
+        ensures waiting { (q : ℕ) → want_of self.new.waiting q ≡ awake want (want_of self.old.waiting q) }
+        ensures ready { (q : ℕ) → is_number_among q self.new.ready
+            ≡ (wants want (want_of self.old.waiting q) || is_number_among q self.old.ready) }
+        ensures others { (self.new.last ≡ self.old.last) × (self.new.room ≡ self.old.room) }
+    {
+        self.waits.wake(want, &mut self.ready);
+    }
+
+    /// What a process waits for.
+    ///
+    /// This costs the logarithm of the room, and a constant time where each number up to its own has a place.
+    pub fn waiting(&self, p: u64) -> Option<Want>
+        ensures { result ≡ want_of self.now.waiting p }
+    {
+        self.waits.waiting(place_of(&self.numbers, p))
+    }
+
+    /// Of the processes that wait the one with the least number above this. None where there is none.
+    ///
+    /// This costs the logarithm of the room.
+    pub fn next_waiting(&self, p: u64) -> Option<u64>
+        ensures found { IfSome result (λ q. (p < q) × (want_of self.now.waiting q ≢ None)
+            × ((r : ℕ) → p < r → r < q → want_of self.now.waiting r ≡ None)) }
+        ensures none { IfNone result ((q : ℕ) → p < q → want_of self.now.waiting q ≡ None) }
+    {
+        let place = self.waits.next_after(places_to(&self.numbers, p))?;
+        Some(number_at(&self.numbers, place))
+    }
+
+    /// Nobody waits. This costs a constant time.
+    pub fn none_waits(&self) -> bool
+        ensures nobody { result ≡ true → (p : ℕ) → want_of self.now.waiting p ≡ None }
+        ensures somebody { result ≡ false → (p : ℕ) × (want_of self.now.waiting p ≢ None) }
+    {
+        self.waits.is_empty()
+    }
+
+    /// The ready process that comes next after one: of those with a greater number the least, or else the least of all. None where none
+    /// is ready.
+    ///
+    /// This costs the logarithm of the room, and a constant time where that is at most 64 and each number up to that one has a place.
+    pub fn next(&self, last: u64) -> Option<u64>
+        ensures next { result ≡ next_of_ready last self.now.ready }
+        ensures rising { AreRising 1 self.now.last self.now.ready }
+    {
+        match self.first_above(last) {
+            Some(p) => Some(p),
+            None => self.first_above(0),
+        }
+    }
+
+    /// Of the ready processes with a greater number the least. None where there is none: unlike `next`, this doesn't begin again with the
+    /// least of all.
+    ///
+    /// This costs what `next` does.
+    pub fn first_above(&self, p: u64) -> Option<u64>
+        ensures next { result ≡ first_above p self.now.ready None }
+        ensures rising { AreRising 1 self.now.last self.now.ready }
+    {
+        let place = self.ready.first_above(places_to(&self.numbers, p))?;
+        Some(number_at(&self.numbers, place))
+    }
+
+    /// No process is ready. This costs a constant time.
+    pub fn none_ready(&self) -> bool
+        ensures { result ≡ (length self.now.ready == 0) }
+    {
+        self.ready.is_empty()
+    }
+}
+
+// A place is marked as ready, or isn't.
+fn mark(ready: &mut Ready, place: u64, is_ready: bool)
+    requires some { 1 ≤ place }
+    requires room { place ≤ ready.old.room }
+    ensures ready { (k : ℕ) → is_number_among k ready.new.ready ≡ ((nat_eq k place && is_ready) || is_number_among k ready.old.ready) }
+    ensures room { ready.new.room ≡ ready.old.room }
+{
+    if is_ready {
+        ready.add(place);
+    }
+}
+
+// At a place where nothing was waited for this is, if it is anything.
+fn note(waits: &mut Waits, place: u64, want: Option<Want>) -> Result<(), AllocError>
+    requires some { 1 ≤ place }
+    requires idle { waiting_at waits.old place ≡ None }
+    ensures waiting { OnOk result ((k : ℕ) → waiting_at waits.new k ≡ (if nat_eq place k then want else waiting_at waits.old k)) }
+    ensures size { length waits.new ≤ max place (length waits.old) }
+{
+    match want {
+        Some(want) => waits.block(place, want),
+        None => Ok(()),
+    }
+}
+
+// At a place this is waited for, unless something was before.
+fn hold(waits: &mut Waits, place: u64, want: Want) -> Result<(), AllocError>
+    requires { 1 ≤ place }
+    ensures waits { OnOk result (WaitsNow place want (waiting_at waits.old) (waiting_at waits.new)) }
+    ensures size { length waits.new ≤ max place (length waits.old) }
+    ensures refused { OnErr result (waits.new ≡ waits.old) }
+{
+    if waits.waiting(place).is_none() {
+        waits.block(place, want)?;
+    }
+    Ok(())
+}
+
+// Those that live, at new places.
+fn moved(alloc: Global, numbers: &[u64], ready: &Ready, waits: &Waits) -> Result<Roster, AllocError>
+    requires rising { (greatest : ℕ) × AreRising 1 greatest numbers.now }
+    requires places { (k : ℕ) → is_number_among k ready.now.ready ≡ true → (1 ≤ k) × (k ≤ length numbers.now) }
+    ensures ready { IfOk result (λ roster. (q : ℕ) → is_number_among q roster.ready
+        ≡ is_number_among (place_of numbers.now q) ready.now.ready) }
+    ensures waiting { IfOk result (λ roster. (q : ℕ) → want_of roster.waiting q ≡ waiting_at waits.now (place_of numbers.now q)) }
+    ensures last { IfOk result (λ roster. (greatest : ℕ) → AreRising 1 greatest numbers.now → roster.last ≤ greatest) }
+{
+    let mut roster = Roster::new(alloc);
+    for at in 0..numbers.len() {
+        let place = at as u64 + 1;
+        roster.keep(numbers[at], ready.has(place), waits.waiting(place))?;
+    }
+    Ok(roster)
+}

@@ -1,0 +1,120 @@
+//! The bytes of a source and of a history to what everything holds after the history's first entries.
+ghost use Rattle.std.specs.Prelude.{◌≤◌, false, IfOk, OnErr};
+ghost use Rattle.hep_run.specs.Delivery.{LeavesOfSource, status_alone};
+ghost use Rattle.hep_run.specs.Memory.{MayReadOn};
+ghost use Rattle.hep_run.specs.States.{IsFirstOutcome, IsSourceState};
+ghost use Rattle.hep_run.specs.Transcripts.{outcome_of};
+
+use crate::deliver::deliver_made;
+use crate::files::say_unread;
+use crate::front::image_of_source;
+use crate::input::read_input;
+use crate::options::AskedState;
+use crate::source::MOST_BYTES;
+use crate::transcript::{
+    Transcript, fault_transcript, full_transcript, history_transcript, opening_notes_when,
+    text_transcript,
+};
+use hep_base::Refusal;
+use hep_history::{ReplayFault, first_entries, read_text, replay};
+use hep_image::Image;
+use hep_survey::state_text;
+use std::alloc::{AllocError, Global};
+use std::io::{Read, Write};
+
+// What is written of the state of an accepted program.
+fn image_state(
+    alloc: Global,
+    image: Image,
+    asked: &AskedState<'_>,
+) -> Result<Transcript, AllocError>
+    ensures { IfOk result (λ r.
+        IsFirstOutcome asked.now.long asked.now.history.now asked.now.entries asked.now.arena image (outcome_of r)) }
+{
+    let entries = match read_text(alloc, asked.history) {
+        Ok(entries) => entries,
+        Err(Refusal::NoMemory) => return Err(AllocError),
+        Err(Refusal::Refused { number, line, .. }) => {
+            return history_transcript(alloc, number, u64::from(line));
+        }
+    };
+    let first = first_entries(alloc, &entries, asked.entries)?;
+    let notes = opening_notes_when(alloc, &image, asked.arena, asked.long)?;
+    match replay(alloc, image, asked.arena, &first) {
+        Ok(core) => {
+            let text = state_text(alloc, &core, first.len())?;
+            Ok(text_transcript(alloc, text))
+        }
+        Err(ReplayFault::NoMemory) => Err(AllocError),
+        Err(ReplayFault::ArenaFull) => full_transcript(alloc, &notes),
+        Err(ReplayFault::Refused { number, entry }) => history_transcript(alloc, number, entry),
+    }
+}
+
+/// All that is written of a state, before a byte of it is.
+///
+/// # Errors
+///
+/// Only where memory was refused, which without notes is asked for only where the source isn't too large.
+pub fn state_transcript(
+    alloc: Global,
+    source: &[u8],
+    asked: &AskedState<'_>,
+) -> Result<Transcript, AllocError>
+    ensures made { IfOk result (λ r.
+        IsSourceState asked.now.long asked.now.history.now asked.now.entries asked.now.arena source.now (outcome_of r)) }
+    ensures unmade { OnErr result (MayReadOn asked.now.long source.now) }
+{
+    match image_of_source(alloc, source, asked.long) {
+        Ok(image) => image_state(alloc, image, asked),
+        Err(fault) => fault_transcript(alloc, fault),
+    }
+}
+
+/// Reads a source, makes the first entries of a history of it again, and writes to `output` what everything holds then: where each process
+/// is, and what each variable of COMMON and of the activations that are held has; or to `messages` why there is no such state.
+///
+/// The history's bytes were read before, as those of `replay_noted` are. The answer is the code of a `Status`.
+pub fn state_noted<R: Read, W: Write, E: Write>(
+    alloc: Global,
+    source: &mut R,
+    asked: &AskedState<'_>,
+    output: &mut W,
+    messages: &mut E,
+) -> u8
+    ensures { LeavesOfSource (IsSourceState asked.now.long asked.now.history.now asked.now.entries asked.now.arena)
+        (R.remaining source.old) (R.remaining source.new)
+        (status_alone result) (W.contents output.old) (W.contents output.new)
+        (E.contents messages.old) (E.contents messages.new) }
+{
+    match read_input(alloc, source, MOST_BYTES) {
+        Ok(bytes) => {
+            let made = state_transcript(alloc, &bytes, asked);
+            deliver_made(alloc, made, output, messages).status
+        }
+        Err(fault) => say_unread(messages, fault),
+    }
+}
+
+/// Writes what everything holds after the first entries of a history, as `state_noted` does without notes, in an arena of 65,536 cells.
+pub fn state_source<R: Read, W: Write, E: Write>(
+    alloc: Global,
+    source: &mut R,
+    history: &[u8],
+    entries: u64,
+    output: &mut W,
+    messages: &mut E,
+) -> u8
+    ensures { LeavesOfSource (IsSourceState false history.now entries 65536)
+        (R.remaining source.old) (R.remaining source.new)
+        (status_alone result) (W.contents output.old) (W.contents output.new)
+        (E.contents messages.old) (E.contents messages.new) }
+{
+    let asked = AskedState {
+        history,
+        entries,
+        arena: 65_536,
+        long: false,
+    };
+    state_noted(alloc, source, &asked, output, messages)
+}

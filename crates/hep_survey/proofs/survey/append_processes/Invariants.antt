@@ -1,0 +1,10 @@
+use Rattle.std.proofs.Common.{◌≡◌, suc, ◌++◌, drop}
+use Rattle.hep_core.specs.Value.{state_of}
+use Rattle.hep_machine.specs.Words.{progress_after}
+use Rattle.hep_states.specs.States as words
+use Rattle.hep_survey.proofs.survey.append_processes.Given as goal
+
+abbrev pub invariant-loop-index : goal.invariant-loop-index
+invariant-loop-index l =
+    l.text.items ++ words.processes_text l.core.program (state_of l.core) (progress_after l.core.program l.core.history).listed (suc l.index) (drop l.index (state_of l.core).processes)
+    ≡ l.initial.text.items ++ words.processes_text l.core.program (state_of l.core) (progress_after l.core.program l.core.history).listed 1 (state_of l.core).processes

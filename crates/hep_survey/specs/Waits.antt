@@ -1,0 +1,34 @@
+-- What processes wait for, read from what a core keeps: docs/RUNS.md, "What everything holds".
+use Rattle.std.specs.Prelude.{◌≡◌, ℕ, zero, suc, List, [], Option, Some, None, slice_get}
+use Rattle.hep_blocked.specs.Listing.{IsBlocked}
+use Rattle.hep_cells.specs.declared.want.Want.{Want}
+use Rattle.hep_machine.specs.Words.{Units, run, wanted_by}
+use Rattle.hep_state.specs.declared.machine.Machine.{Machine}
+use Rattle.hep_state.specs.Words.{IsMachineAfter}
+use Rattle.hep_states.specs.Lines as lines
+use Rattle.hep_states.specs.States.{waiting_text}
+use Rattle.hep_views.specs.declared.listed.Listed.{Listed}
+
+abbrev pub name_seen : Option (List ℕ) → List ℕ
+name_seen None = []
+name_seen (Some name) = name
+
+-- a variable, which has no number where it is no array
+abbrev pub element_seen : List ℕ → ℕ → List ℕ
+element_seen name zero = name
+element_seen name (suc k) = lines.element_text name (suc k)
+
+-- COMMON has no activation as its owner
+abbrev pub owned_seen : List ℕ → ℕ → ℕ → List ℕ
+owned_seen name element zero = lines.element_text (lines.block_name name) element
+owned_seen name element (suc a) = lines.owned_text (element_seen name element) (suc a)
+
+-- where variables and blocks have these names by number
+abbrev pub place_seen : List (List ℕ) → Listed → List ℕ
+place_seen names l = owned_seen (name_seen (slice_get names l.name)) l.element l.owner
+
+-- after whichever turns process p waits for the cell to be so, these are the words for it
+abbrev pub IsTextOfWait : Units → Machine → ℕ → Want → List ℕ → Type 0
+IsTextOfWait program m p want text =
+    (cells : ℕ) (choices : List ℕ) → IsMachineAfter program cells choices m → IsBlocked program cells choices p want
+    → text ≡ waiting_text program (run program choices) (wanted_by program p (run program choices))

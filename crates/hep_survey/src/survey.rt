@@ -1,0 +1,91 @@
+//! All of it.
+ghost use Rattle.std.specs.Prelude.{◌≡◌, ◌++◌, ◌≤◌, ◌<◌, ℕ, Some, IfOk, OnOk};
+ghost use Rattle.hep_core.specs.Value.{state_of};
+ghost use Rattle.hep_machine.specs.Words.{Process, is_number_among, numbered, progress_after};
+ghost use Rattle.hep_states.specs.States as words;
+
+use crate::common::append_common;
+use crate::frames::append_activations;
+use crate::levels::append_process;
+use crate::storage::Storage;
+use crate::waits::waiting_text;
+use hep_core::Core;
+use hep_names::ProgramSymbols;
+use hep_states::append_head;
+use std::alloc::{AllocError, Global};
+
+// Words for what process p waits for, if it was found waiting and waits since.
+fn wait_of(alloc: Global, core: &Core, p: u64) -> Result<Vec<u8>, AllocError>
+    ensures { IfOk result (λ text. text.items
+        ≡ words.wait_text core.now.program (state_of core.now) p
+        (is_number_among p (progress_after core.now.program core.now.history).listed)) }
+{
+    match core.want(p) {
+        None => Ok(Vec::new(alloc)),
+        Some(want) => waiting_text(alloc, core.machine(), core.image(), p, want),
+    }
+}
+
+// The lines of process p, if it lives.
+fn append_one(alloc: Global, text: &mut Vec<u8>, core: &Core, p: u64) -> Result<(), AllocError>
+    ensures { OnOk result ((q : Process) → numbered (state_of core.now).processes p ≡ Some q
+        → text.new.items ≡ text.old.items ++ words.process_text core.now.program (state_of core.now) p
+        (is_number_among p (progress_after core.now.program core.now.history).listed) q) }
+{
+    if !core.lives(p) {
+        return Ok(());
+    }
+    let waiting = wait_of(alloc, core, p)?;
+    append_process(text, core.machine(), core.image(), p, &waiting)?;
+    Ok(())
+}
+
+// The lines of all processes that live, by their numbers.
+fn append_processes(alloc: Global, text: &mut Vec<u8>, core: &Core) -> Result<(), AllocError>
+    ensures { OnOk result (text.new.items
+        ≡ text.old.items ++ words.processes_text core.now.program (state_of core.now) (progress_after core.now.program core.now.history).listed 1
+        (state_of core.now).processes) }
+{
+    for index in 0..core.made() {
+        append_one(alloc, text, core, index + 1)?;
+    }
+    Ok(())
+}
+
+// The lines of all that is kept, by the names of the program's units.
+fn append_contents(
+    alloc: Global,
+    text: &mut Vec<u8>,
+    core: &Core,
+    symbols: &ProgramSymbols,
+) -> Result<(), AllocError>
+    requires { symbols.now ≡ core.now.program }
+    ensures { OnOk result (text.new.items
+        ≡ text.old.items ++ words.contents_text core.now.program (state_of core.now) (progress_after core.now.program core.now.history).listed) }
+{
+    let machine = core.machine();
+    let storage = Storage {
+        frames: &machine.frames,
+        image: core.image(),
+        symbols,
+    };
+    append_processes(alloc, text, core)?;
+    append_common(alloc, text, machine, &storage)?;
+    append_activations(alloc, text, machine, &storage)?;
+    Ok(())
+}
+
+/// What everything holds after a core's history, as a text, which says that it was told in so many entries.
+///
+/// # Errors
+///
+/// Only where memory was refused.
+pub fn state_text(alloc: Global, core: &Core, entries: u64) -> Result<Vec<u8>, AllocError>
+    ensures { IfOk result (λ text. text.items ≡ words.state_text core.now.program entries core.now.history) }
+{
+    let symbols = ProgramSymbols::new(alloc, core.image().program().as_slice())?;
+    let mut text = Vec::new(alloc);
+    append_head(&mut text, entries)?;
+    append_contents(alloc, &mut text, core, &symbols)?;
+    Ok(text)
+}
