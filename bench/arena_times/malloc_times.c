@@ -1,12 +1,12 @@
 /* What arena_times does to an arena, done by glibc's malloc and free: the same sizes in the same order. A cell
-   has 32 bytes. With the word `cleared` a block's cells are written when it is taken, as the arena does. */
+   has 16 bytes. With the word `cleared` a block's cells are written when it is taken, as the arena does. */
 #include <stdint.h>
 #include <stdio.h>
 #include <stdlib.h>
 #include <string.h>
 #include <time.h>
 
-enum { CELL = 32, BLOCK = 100 };
+enum { CELL = 16, BLOCK = 100 };
 
 static uint64_t state;
 static int clears;

@@ -9,7 +9,7 @@ use types.Kit.{‵, ◌⊛◌, ◌$◌, ◌∵◌, !, qed, by, move, use1, use3,
 use types.Logic.{Logic, sem}
 use denote.Index.{row, place_is}
 use Rattle.hep_machine.specs.declared.slot.Slot.{Slot}
-use Rattle.hep_machine.specs.contracts.slot.Slot.{the_row as S}
+use Rattle.hep_arena.specs.contracts.cell.Cell.{the_row as S}
 use Rattle.hep_arena.proofs.Rows.{size, begins, front, run, back, ends, length-run, length-front, as_parts, taken_out, put_back}
 
 -- ---- runs of parts of a list
@@ -68,7 +68,7 @@ module _ {M : Type 1} {𝓤 : Ura M} (𝓛 : Logic 𝓤) (xs : List Slot) (b o i
       let f = back xs o j n in let o' = ends xs o j n in let k = i - (j + n) in
       let fits : k + m ≤ length f = let u = length-drop j xs in let v = length-drop n (drop_l j xs) in omega arith in
       let e : run f o' k m ≡ run xs o i m = ap (λ (l : List Slot). take m l) (ap (drop_l k) (drop-both j n xs) ∙ drop-both (j + n) k xs ∙ ap (λ (h : ℕ). drop_l h xs) (omega arith)) in
-      let p : begins f o' k m ≡ begins xs o i m = let u : o' ≡ n * 32 + (j * 32 + o) = place_is size (begins xs o j n) n in let w : k * 32 + o' ≡ i * 32 + o = omega arith in w in
+      let p : begins f o' k m ≡ begins xs o i m = let u : o' ≡ n * 16 + (j * 16 + o) = place_is size (begins xs o j n) n in let w : k * 16 + o' ≡ i * 16 + o = omega arith in w in
       let others = fsep (row S full_share (front f o' k m) b o') (fsep (row S full_share (back f o' k m) b (ends f o' k m)) (row S full_share (front xs o j n) b o)) in
       record {
         others = others;

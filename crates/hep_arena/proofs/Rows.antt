@@ -8,7 +8,7 @@ use types.Logic.{Logic, sem}
 use denote.Index.{row, place, place_is}
 use denote.Memory.{part_at, mem}
 use Rattle.hep_machine.specs.declared.slot.Slot.{Slot}
-use Rattle.hep_machine.specs.contracts.slot.Slot.{the_row as S}
+use Rattle.hep_arena.specs.contracts.cell.Cell.{the_row as S}
 use Rattle.hep_arena.specs.Lending.{covered, with_run}
 
 -- the bytes of a slot

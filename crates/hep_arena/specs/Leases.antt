@@ -7,7 +7,7 @@ use Rattle.std.specs.contracts.impls.GlobalAllocator.TheImpl.{ghosts}
 use Rattle.std.specs.contracts.vec.Vec as vector
 use Rattle.core.specs.Allocator.{array_of}
 use Rattle.hep_machine.specs.declared.slot.Slot.{Slot}
-use Rattle.hep_machine.specs.contracts.slot.Slot.{the_row as slot_row}
+use Rattle.hep_arena.specs.contracts.cell.Cell.{the_row as cell_row}
 use base.Fml.{Fml, fsep, flt, feq, fex}
 use denote.Memory.{lone}
 use denote.RawPtr.{room_for, ◌+ₚ◌}
@@ -20,10 +20,10 @@ abbrev pub SlotVec : Type 0
 SlotVec = Vec Slot
 
 abbrev pub vec_type : Owning
-vec_type = vector.the_type slot_row heap.the_row ghosts
+vec_type = vector.the_type cell_row heap.the_row ghosts
 
 -- the vector's fields, the room after its items, and the right to free its memory
 abbrev pub lease_owns : SlotVec → List Val → Fml
 lease_owns v vs =
     fex (List Val) (λ us. fsep (feq (List Val) vs (vstruct (of_list us) ∷ [])) (fsep ((Struct (shape vec_type)).own_val (v.ptr, (v.len, (v.cap, (v.alloc, tt)))) us)
-    (fsep (flt (v.cap * type_size slot_row) (2 ^ 63)) (fsep (room_for (array_of slot_row (v.cap - v.len)) (v.ptr +ₚ v.len * size (lone slot_row.mir))) (ghosts.dealloc_token v.alloc (array_of slot_row v.cap) v.ptr)))))
+    (fsep (flt (v.cap * type_size cell_row) (2 ^ 63)) (fsep (room_for (array_of cell_row (v.cap - v.len)) (v.ptr +ₚ v.len * size (lone cell_row.mir))) (ghosts.dealloc_token v.alloc (array_of cell_row v.cap) v.ptr)))))

@@ -2,7 +2,7 @@
 use Rattle.std.specs.Prelude.{ℕ, List, ◌++◌, length, take, drop}
 use Rattle.std.specs.Borrow.{Lends, MutBor, Fml, Array}
 use Rattle.hep_machine.specs.declared.slot.Slot.{Slot}
-use Rattle.hep_machine.specs.contracts.slot.Slot.{the_row as slot_row}
+use Rattle.hep_arena.specs.contracts.cell.Cell.{the_row as cell_row}
 use Rattle.hep_arena.specs.declared.region.Region.{Region}
 use Rattle.hep_arena.specs.contracts.region.Region.{the_row}
 
@@ -22,8 +22,8 @@ with_slots_run r at n run = record r { slots = with_run r.slots at n run }
 
 -- once the loan ends, all slots of the region are what the loan then holds
 abbrev pub LendsAll : MutBor Region → MutBor (List Slot) → Fml
-LendsAll region loan = Lends the_row (Array slot_row 0) region loan (with_slots region.now)
+LendsAll region loan = Lends the_row (Array cell_row 0) region loan (with_slots region.now)
 
 -- once the loan ends, the n slots from an index on are what the loan then holds
 abbrev pub LendsRun : MutBor Region → ℕ → ℕ → MutBor (List Slot) → Fml
-LendsRun region at n loan = Lends the_row (Array slot_row 0) region loan (with_slots_run region.now at n)
+LendsRun region at n loan = Lends the_row (Array cell_row 0) region loan (with_slots_run region.now at n)

@@ -2,7 +2,7 @@
 use Rattle.std.specs.Prelude.{ℕ, List, length}
 use Rattle.std.specs.Borrow.{Lends, MutBor, Fml, Array}
 use Rattle.hep_machine.specs.declared.slot.Slot.{Slot}
-use Rattle.hep_machine.specs.contracts.slot.Slot.{the_row as slot_row}
+use Rattle.hep_arena.specs.contracts.cell.Cell.{the_row as cell_row}
 use Rattle.hep_arena.specs.Lending.{with_run}
 use Rattle.hep_arena.specs.Space.{Space}
 use Rattle.hep_arena.specs.contracts.arena.Arena.{the_row}
@@ -12,7 +12,7 @@ with_block space at n slots = record space { contents = with_run space.contents 
 
 -- once the loan ends, the n slots from an index on are what the loan then holds, and nothing else changes
 abbrev pub LendsBlock : MutBor Space → ℕ → ℕ → MutBor (List Slot) → Fml
-LendsBlock space at n loan = Lends the_row (Array slot_row 0) space loan (with_block space.now at n)
+LendsBlock space at n loan = Lends the_row (Array cell_row 0) space loan (with_block space.now at n)
 
 -- so with all slots
 abbrev pub LendsAll : MutBor Space → MutBor (List Slot) → Fml

@@ -1,3 +1,4 @@
+pub mod Cells
 pub mod Ownership
 pub mod Lending
 pub mod Leases

@@ -7,6 +7,7 @@ ghost use Rattle.hep_machine.specs.Words.{unset_cell};
 ghost use Rattle.hep_arena.specs.Holes.{AreHoles, IsOut, first_fit, free_cells, given, taken};
 
 use crate::block::Block;
+use crate::cell::Cell;
 use crate::holes::Holes;
 use crate::region::{Lease, Region, parted, rejoined};
 use hep_machine::Slot;
@@ -57,13 +58,13 @@ const UNSET: Slot = Slot {
 };
 
 // Makes n cells empty, without values.
-fn clear(slots: &mut [Slot], at: u32, n: u32)
+fn clear(slots: &mut [Cell], at: u32, n: u32)
     requires { at + n ≤ length slots.old }
     ensures cleared { (k : ℕ) → at ≤ k → k < at + n → slice_get slots.new k ≡ Some unset_cell }
     ensures kept { (k : ℕ) → (k < at) ⊎ (at + n ≤ k) → slice_get slots.new k ≡ slice_get slots.old k }
 {
     for place in at as usize..at as usize + n as usize {
-        slots[place] = UNSET;
+        slots[place] = Cell::new(UNSET);
     }
 }
 
@@ -88,7 +89,7 @@ impl Arena {
         ensures holes { IfOk result (λ arena. arena.holes ≡ (0, cells) ∷ []) }
     {
         let holes = Holes::new(alloc, cells)?;
-        let mut vec = Vec::from_elem(alloc, UNSET, cells as usize)?;
+        let mut vec = Vec::from_elem(alloc, Cell::new(UNSET), cells as usize)?;
         let memory = vec.as_mut_ptr();
         let len = vec.len();
         let (region, lease) = parted(vec, memory, len);
@@ -166,7 +167,7 @@ impl Arena {
         requires out { IsOut at self.now.holes }
         ensures { slice_get self.now.contents at ≡ Some result }
     {
-        self.region.slots()[at as usize]
+        self.region.slots()[at as usize].slot()
     }
 
     /// Writes the slot of a cell.
@@ -178,11 +179,11 @@ impl Arena {
         ensures contents { self.new.contents ≡ slice_set self.old.contents at slot }
         ensures holes { self.new.holes ≡ self.old.holes }
     {
-        self.region.slots_mut()[at as usize] = slot;
+        self.region.slots_mut()[at as usize] = Cell::new(slot);
     }
 
     /// The slots of all cells, to be read and written.
-    pub fn slots_mut(&mut self) -> &mut [Slot]
+    pub fn slots_mut(&mut self) -> &mut [Cell]
         ensures* writes_back { sem 𝓛 (LendsAll self.entry result) }
         ensures value { result.now ≡ self.old.contents }
     {
@@ -193,7 +194,7 @@ impl Arena {
     /// The slots of a block, to be read and written.
     ///
     /// The block has to be out.
-    pub fn lend(&mut self, block: &Block) -> &mut [Slot]
+    pub fn lend(&mut self, block: &Block) -> &mut [Cell]
         requires inside { block.now.at + block.now.len ≤ length self.old.contents }
         requires out { (k : ℕ) → block.now.at ≤ k → k < block.now.at + block.now.len → IsOut k self.old.holes }
         ensures* writes_back { sem 𝓛 (LendsBlock self.entry block.now.at block.now.len result) }
@@ -205,7 +206,7 @@ impl Arena {
     /// The slots of one block, to be read, and of another, to be written.
     ///
     /// Both have to be out, and have no common cell.
-    pub fn lend_two(&mut self, from: &Block, to: &Block) -> (&[Slot], &mut [Slot])
+    pub fn lend_two(&mut self, from: &Block, to: &Block) -> (&[Cell], &mut [Cell])
         requires from_inside { from.now.at + from.now.len ≤ length self.old.contents }
         requires from_out { (k : ℕ) → from.now.at ≤ k → k < from.now.at + from.now.len → IsOut k self.old.holes }
         requires to_inside { to.now.at + to.now.len ≤ length self.old.contents }

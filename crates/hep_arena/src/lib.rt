@@ -6,10 +6,12 @@
 
 mod arena;
 mod block;
+mod cell;
 mod holes;
 pub mod laws;
 mod region;
 
 pub use arena::Arena;
 pub use block::Block;
+pub use cell::Cell;
 pub use hep_machine::Slot;

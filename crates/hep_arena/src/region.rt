@@ -6,14 +6,14 @@ ghost use Rattle.std.specs.Prelude.{◌≡◌, ◌<◌, length, List};
 ghost use Rattle.std_alloc.specs.Vec.{vec_ptr, vec_len, vec_capacity};
 ghost use Rattle.hep_machine.specs.declared.slot.Slot.{Slot as SlotValue};
 
-use hep_machine::Slot;
+use crate::cell::Cell;
 use std::alloc::Global;
 use std::marker::{Model, Move, Owns};
 
 /// So many slots from the one on that the pointer points at. It owns the slots, and not the right to free
 /// their memory.
 pub struct Region {
-    memory: *mut Slot,
+    memory: *mut Cell,
     cells: usize,
     pub ghost slots: { List SlotValue },
 }
@@ -21,11 +21,11 @@ pub struct Region {
 impl Model for Region {
     ghost use Rattle.std_alloc.specs.Vec.Ownership.{vec_shares};
     ghost use Rattle.hep_arena.specs.Ownership.{region_owns};
-    ghost use Rattle.hep_machine.specs.contracts.slot.Slot.{the_row as slot_row};
+    ghost use Rattle.hep_arena.specs.contracts.cell.Cell.{the_row as cell_row};
 
-    ghost also_owns = { λ r. region_owns slot_row r.memory r.cells r.slots };
+    ghost also_owns = { λ r. region_owns cell_row r.memory r.cells r.slots };
 
-    ghost also_shares = { λ r _ κ. vec_shares slot_row r.memory r.cells r.cells r.slots κ };
+    ghost also_shares = { λ r _ κ. vec_shares cell_row r.memory r.cells r.cells r.slots κ };
 }
 
 unsafe impl Send for Region {}
@@ -36,14 +36,14 @@ impl Region {
     ghost use Rattle.hep_arena.specs.Lending.{LendsAll, LendsRun};
 
     /// All slots, to be read.
-    pub fn slots(&self) -> &[Slot]
+    pub fn slots(&self) -> &[Cell]
         ensures { result.now ≡ self.now.slots }
     {
         unsafe { std::slice::from_raw_parts(self.memory, self.cells) }
     }
 
     /// All slots, to be written.
-    pub fn slots_mut(&mut self) -> &mut [Slot]
+    pub fn slots_mut(&mut self) -> &mut [Cell]
         ensures* writes_back { sem 𝓛 (LendsAll self.entry result) }
         ensures value { result.now ≡ self.old.slots }
     {
@@ -51,7 +51,7 @@ impl Region {
     }
 
     /// The slots of a run, to be written.
-    pub fn lend(&mut self, at: usize, len: usize) -> &mut [Slot]
+    pub fn lend(&mut self, at: usize, len: usize) -> &mut [Cell]
         requires { at + len ≤ length self.old.slots }
         ensures* writes_back { sem 𝓛 (LendsRun self.entry at len result) }
         ensures value { result.now ≡ slice_range self.old.slots at (at + len) }
@@ -66,7 +66,7 @@ impl Region {
         from_len: usize,
         to: usize,
         to_len: usize,
-    ) -> (&[Slot], &mut [Slot])
+    ) -> (&[Cell], &mut [Cell])
         requires from { from + from_len ≤ length self.old.slots }
         requires to { to + to_len ≤ length self.old.slots }
         requires apart { (from + from_len ≤ to) ⊎ (to + to_len ≤ from) }
@@ -85,7 +85,7 @@ impl Region {
 
 /// What is left of a vector whose items are a region: the right to free its memory.
 pub struct Lease {
-    vec: Vec<Slot, Global>,
+    vec: Vec<Cell, Global>,
 }
 
 impl Owns for Lease {
@@ -106,7 +106,7 @@ impl Move for Lease {
 unsafe impl Send for Lease {}
 
 // The items of a vector as a region. It moves nothing.
-pub(crate) fn parted(vec: Vec<Slot, Global>, memory: *mut Slot, cells: usize) -> (Region, Lease)
+pub(crate) fn parted(vec: Vec<Cell, Global>, memory: *mut Cell, cells: usize) -> (Region, Lease)
     requires parts { (memory ≡ vec_ptr vec) × (cells ≡ vec_len vec) × (0 < vec_capacity vec) }
     ensures { (result.0.slots ≡ vec.items) × (result.0.memory ≡ vec_ptr vec) × (result.0.cells ≡ vec_len vec) × (result.1 ≡ vec) }
 {
@@ -114,7 +114,7 @@ pub(crate) fn parted(vec: Vec<Slot, Global>, memory: *mut Slot, cells: usize) ->
 }
 
 // The vector again, which can be dropped.
-pub(crate) fn rejoined(region: Region, lease: Lease) -> Vec<Slot, Global>
+pub(crate) fn rejoined(region: Region, lease: Lease) -> Vec<Cell, Global>
     requires parts { (region.memory ≡ vec_ptr lease) × (region.cells ≡ vec_len lease) × (0 < vec_capacity lease) }
     ensures { result.items ≡ region.slots }
 {

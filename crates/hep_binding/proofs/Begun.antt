@@ -1,4 +1,4 @@
--- The activation that a CALL or CREATE makes, and what its dummy arguments stand for.
+-- The activation that a CALL, a CREATE or a reference makes, and what its dummy arguments stand for.
 use Rattle.std.proofs.Common.{◌≡◌, ℕ, ◌+◌, ◌-◌, ◌<◌, Bool, true, false, List, [], ◌∷◌, length, Option, Some, None, Result, Ok, Err, refl, sym, ap, ◌∙◌, subst, arith, zero, suc, ◌++◌, if◌then◌else◌, nat_eq, eqb-true, eq-eqb, length-append}
 use Rattle.hep_machine.specs.Words.{Name, Statement, Units, dummies_of, unit_at, Binding, binding_for, binding_with_shapes, bound_values, dummies_for, dummy_before, dummy_for, dummy_with_shape, first_element, from_element, with_actuals, with_shape, with_shapes, with_store, shape_by, is_array, Actual, evaluated}
 use Rattle.hep_machine.specs.Words.{referred, Layout, Scope, storage_of, dummy_at, Bounds, fits, Dummy, State, Store, local, Activation, further, with_value, activation_of, unit_of, is_owned, next_activation, scope_of}

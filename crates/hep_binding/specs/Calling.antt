@@ -1,4 +1,4 @@
--- A CALL or CREATE, and the activation that it makes: docs/MACHINE.md, "Steps" and "Binding".
+-- A CALL, a CREATE or a reference of a function, and the activation that it makes: docs/MACHINE.md, "Steps" and "Binding".
 use Rattle.std.specs.Prelude.{◌≡◌, ℕ, ◌+◌, ◌*◌, ◌≤◌, Bool, true, false, List, [], ◌∷◌, ◌++◌, length, Some, IsSome, Ok}
 use Rattle.slab.specs.Slab.{ContainsKey, HasRoomFor}
 use Rattle.hep_machine.specs.Words.{Statement, Units, dummies_of, unit_at, Binding, first_element, from_element, level_after_statement, Actual, evaluated, referred, Layout, with_frame, Scope, storage_of, living, unit_of, with_process, run, Activation, Dummy, Level, Process, State, Top, binding_of, entry_level, next_activation, scope_of, unit_on_top, with_activation, with_new_process, frame_cells}
@@ -16,10 +16,10 @@ use Rattle.hep_step.specs.declared.given.Given.TheVariants as given
 use Rattle.hep_binding.specs.Giving.{AreDistinct}
 use Rattle.hep_binding.specs.Writing.{written_up_to}
 
--- ---- a CALL or CREATE
+-- ---- a CALL, a CREATE or a reference
 
--- after turns of these processes: the program, those turns, the process that calls or creates, its levels, the top one first, the unit that is
--- called, the actual arguments, and what they are bound to
+-- after turns of these processes: the program, those turns, the process that calls, creates or refers to a function, its levels, the top one
+-- first, the unit that is called, the actual arguments, and what they are bound to
 pub record CallOf : Type 0 where
   pub program : Units
   pub choices : List ℕ
@@ -55,7 +55,7 @@ AreActualsPassed program s layout scope [] [] = Unit {0}
 AreActualsPassed program s layout scope (y ∷ ys) (g ∷ gs) = IsPassed program s layout scope y g × AreActualsPassed program s layout scope ys gs
 AreActualsPassed program s layout scope _ _ = ⊥
 
--- what is given is that of the actual arguments of a CALL or CREATE
+-- what is given is that of the actual arguments
 abbrev pub ArePassed : CallOf → Layout → List Given → Type 0
 ArePassed call layout gs =
     AreActualsPassed call.program (state_before_call call) layout (scope_of call.program (state_before_call call) call.top.0.activation) call.actuals gs
@@ -77,7 +77,7 @@ level_called call = entry_level (unit_at call.program call.unit) (next_activatio
 abbrev pub level_behind : CallOf → Level
 level_behind call = level_after_statement (unit_on_top call.program (caller call)) call.top.0
 
--- after a CALL it is on top of its caller
+-- after a CALL or a reference it is on top of its caller
 abbrev pub state_called : CallOf → State
 state_called call = with_process (with_activation (caller call) call.unit call.binding) call.process (level_called call ∷ (call.top.0 ∷ call.top.1))
 
@@ -123,8 +123,7 @@ AreAllKept program s layout = (a : ℕ) → is_stacked s a ≡ true → AreKept 
 
 -- ---- what is passed
 
--- a CALL or CREATE passes as many actual arguments as the unit has dummy arguments, whose names are distinct, and they are bound without a
--- fault
+-- as many actual arguments are passed as the unit has dummy arguments, whose names are distinct, and they are bound without a fault
 pub record IsPassing (call : CallOf) : Type 0 where
   pub lives : living (state_before_call call) call.process ≡ Some call.top
   pub bound : binding_of call.program (caller call) call.unit call.actuals ≡ Ok call.binding

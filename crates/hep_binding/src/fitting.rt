@@ -32,34 +32,6 @@ fn has_room(count: u32, shape: &Option<Shape>) -> bool
     }
 }
 
-// A dummy argument fits so many storage units, where this is the shape of one that is adjustable.
-fn is_fitting(count: u32, shape: &Option<Shape>, dummy: &DummyArgument) -> bool
-    ensures { result ≡ definitions.is_fitting_as count shape.now dummy.now }
-{
-    match dummy {
-        DummyArgument::Scalar => true,
-        DummyArgument::Array(constant) => constant.fits(count),
-        DummyArgument::Adjustable(_) => has_room(count, shape),
-    }
-}
-
-// The shape of an adjustable array, none of all others.
-fn shape_of(
-    dummy: &DummyArgument,
-    arena: &Arena,
-    given: &[Given],
-    stack: &mut Vec<Value>,
-) -> Option<Shape>
-    requires readable { IsShapable arena.now given.now (vec_capacity stack.old) dummy.now }
-    ensures shape { result ≡ definitions.shape_of_dummy arena.now.contents given.now dummy.now }
-    ensures capacity { vec_capacity stack.old ≤ vec_capacity stack.new }
-{
-    match dummy {
-        DummyArgument::Scalar | DummyArgument::Array(_) => None,
-        DummyArgument::Adjustable(code) => shape_given(code.as_slice(), arena, given, stack),
-    }
-}
-
 // Puts the shape of the next dummy argument behind those in front of it, and answers whether this one fits what is given.
 fn find_shape(
     dummy: &DummyArgument,
@@ -76,10 +48,22 @@ fn find_shape(
     ensures rooms { (vec_capacity stack.old ≤ vec_capacity stack.new) × (vec_capacity shapes.old ≤ vec_capacity shapes.new) }
 {
     let count = count_given(given, shapes.len());
-    let shape = shape_of(dummy, arena, given, stack);
-    let fits = is_fitting(count, &shape, dummy);
-    let _ = shapes.push(shape);
-    fits
+    match dummy {
+        DummyArgument::Scalar => {
+            shapes.push_reserved(None);
+            true
+        }
+        DummyArgument::Array(constant) => {
+            shapes.push_reserved(None);
+            constant.fits(count)
+        }
+        DummyArgument::Adjustable(code) => {
+            let shape = shape_given(code.as_slice(), arena, given, stack);
+            let fits = has_room(count, &shape);
+            shapes.push_reserved(shape);
+            fits
+        }
+    }
 }
 
 /// Whether each array among the dummy arguments of a unit has a shape and no more elements than what is given to it, where

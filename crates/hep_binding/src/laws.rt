@@ -39,8 +39,8 @@ pub fn cells_are_written_in_order()
         → Keeps (written_up_to f a (cells_to_bounds_of (unit_framed f a) k + 2 * (j + 1))) after nodes }
 {}
 
-/// The activation that a CALL or CREATE makes begins with nothing stored in it. Its dummy arguments stand for what the actual
-/// arguments give, in the layout with its frame, and the values among them are what the binding stores.
+/// The activation that a CALL, a CREATE or a reference makes begins with nothing stored in it. Its dummy arguments stand for what the
+/// actual arguments give, in the layout with its frame, and the values among them are what the binding stores.
 pub fn dummies_are_bound()
     ensures begun { (call : CallOf) → IsBegun (state_before_call call) (state_begun call) (called_activation call) }
     ensures stored { (call : CallOf) (t : State) (layout : Layout) (given : List Given) → IsPassing call → ArePassed call layout given
@@ -78,7 +78,7 @@ pub fn other_cells_are_unset()
     ensures all { (unit : List Statement) → cells_to_bounds_of unit (length (dummies_of unit)) ≡ frame_cells unit }
 {}
 
-/// Once all cells of the new activation's frame are written, the frames of the state after the CALL or CREATE are kept.
+/// Once all cells of the new activation's frame are written, the frames of the state with it are kept.
 pub fn frames_are_entered()
     ensures { (creates : Bool) (call : CallOf) (layout : Layout) (first cells : ℕ) (out : ℕ → Bool) (arena : Space) (nodes : Nodes)
         → living (state_before_call call) call.process ≡ Some call.top → IsLaid call.program (state_before_call call) cells layout
@@ -86,8 +86,8 @@ pub fn frames_are_entered()
         → IsKeptIn (frames_before_call call out layout) (state_made_by creates call) first arena nodes }
 {}
 
-/// What dummy arguments of activations on stacks stand for that isn't their own is kept in cells that follow one another, after a CALL
-/// or CREATE too.
+/// What dummy arguments of activations on stacks stand for that isn't their own is kept in cells that follow one another, with the new
+/// activation too.
 pub fn references_are_kept()
     ensures { (creates : Bool) (call : CallOf) (layout : Layout) (first cells : ℕ) (given : List Given) → IsPassing call
         → ArePassed call layout given → IsLaid call.program (state_before_call call) cells layout

@@ -56,7 +56,7 @@ pub fn calls_are_shapable()
     hep_accepted_laws::values::arrays_have_shapes();
 }
 
-/// Where the actual arguments of a CALL or CREATE give what the dummy arguments of a unit stand for, these are bound if each
+/// Where the actual arguments that are passed give what the dummy arguments of a unit stand for, these are bound if each
 /// array among them has a shape that fits what it is given, as `find_shapes` tells, and an adjustable one has the shape that
 /// is found; else the fault is SHAPE (X3.9-1978, 5.5, 5.5.1 and 15.9.3.3).
 pub fn shapes_decide_bindings()

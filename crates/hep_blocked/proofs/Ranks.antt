@@ -57,6 +57,11 @@ to-is p zero (n ∷ ns) h low high = rw (lt-ltb p n (high 0 (omega arith) (omega
 to-is p (suc i) (n ∷ ns) h low high =
     rw (le-ltb p n (low 0 (omega arith))) (ap suc (to-is p i ns (omega arith) (λ k l. low (suc k) (omega arith)) (λ k l m. high (suc k) (omega arith) (omega arith))))
 
+-- none is 0
+pub to-zero : (greatest : ℕ) (ns : List ℕ) → AreRising 1 greatest ns → 0 ≡ places_to ns 0
+to-zero greatest [] rise = refl
+to-zero greatest (n ∷ ns) rise = rw (lt-ltb 0 n (omega (arith, rise.0))) refl
+
 -- a number that stands there
 pub to-found : (greatest p i : ℕ) (ns : List ℕ) → AreRising 1 greatest ns → i < length ns → get_or ns i 0 ≡ p → suc i ≡ places_to ns p
 to-found greatest p i ns rise h is = to-is p (suc i) ns (omega arith) low (λ k l m. omega (arith, rise-less 1 greatest i k ns rise (omega arith) m, is)) where

@@ -5,14 +5,27 @@ ghost use Rattle.hep_blocked.specs.Rolls.{number_at, place_of, places_to};
 
 /// How many of the numbers aren't above p.
 ///
-/// This costs a constant time where each number up to p stands there, and else the logarithm of how many stand there.
+/// This costs a constant time where p is 0 or each number up to p stands there, and else the logarithm of how many stand there.
+#[inline(always)]
 pub(crate) fn places_to(numbers: &[u64], p: u64) -> u64
     requires rising { (greatest : ℕ) × AreRising 1 greatest numbers.now }
     ensures { result ≡ places_to numbers.now p }
 {
-    if p > 0 && p <= numbers.len() as u64 && numbers[p as usize - 1] == p {
+    if p == 0 {
+        return 0;
+    }
+    if p <= numbers.len() as u64 && numbers[p as usize - 1] == p {
         return p;
     }
+    places_sought(numbers, p)
+}
+
+// The same by halves. A function of its own, so that who finds it at once needs no room for it.
+#[inline(never)]
+fn places_sought(numbers: &[u64], p: u64) -> u64
+    requires rising { (greatest : ℕ) × AreRising 1 greatest numbers.now }
+    ensures { result ≡ places_to numbers.now p }
+{
     match numbers.binary_search(&p) {
         Ok(at) => at as u64 + 1,
         Err(at) => at as u64,

@@ -136,6 +136,7 @@ impl Ready {
     /// `next`, this doesn't begin again with the least of all.
     ///
     /// This costs the logarithm of the room, and a constant time where that is at most 64.
+    #[inline(always)]
     pub fn first_above(&self, p: u64) -> Option<u64>
         ensures next { result ≡ first_above p self.now.ready None }
         ensures rising { AreRising 1 self.now.room self.now.ready }

@@ -234,6 +234,7 @@ impl Roster {
     /// is ready.
     ///
     /// This costs the logarithm of the room, and a constant time where that is at most 64 and each number up to that one has a place.
+    #[inline(always)]
     pub fn next(&self, last: u64) -> Option<u64>
         ensures next { result ≡ next_of_ready last self.now.ready }
         ensures rising { AreRising 1 self.now.last self.now.ready }
@@ -248,6 +249,7 @@ impl Roster {
     /// least of all.
     ///
     /// This costs what `next` does.
+    #[inline(always)]
     pub fn first_above(&self, p: u64) -> Option<u64>
         ensures next { result ≡ first_above p self.now.ready None }
         ensures rising { AreRising 1 self.now.last self.now.ready }

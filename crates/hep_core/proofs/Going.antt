@@ -6,7 +6,7 @@ use Rattle.std.proofs.lemmas.List.{append-nil, replicate-append-replicate}
 use Rattle.std.proofs.lemmas.Option.{none-some}
 use Rattle.hep_source.proofs.Tests.{some-there}
 use Rattle.hep_machine.specs.declared.event.Entry.{Entry}
-use Rattle.hep_machine.specs.Words.{Units, IsLegal, Layout, is_held, is_number_among, layout_of, living, Progress, progress_after, progress_after_step, ready_in, run, schedule_of, State, state_after, state_made, step, step_result_of, view_of}
+use Rattle.hep_machine.specs.Words.{Units, IsLegal, Layout, is_held, is_number_among, last_process, layout_of, living, next_of_ready, Progress, progress_after, progress_after_step, ready_in, run, schedule_of, State, state_after, state_made, step, step_result_of, view_of}
 use Rattle.hep_cells.specs.declared.want.Want.{Want}
 use Rattle.hep_blocked.specs.Listing.{AreListed, GoesAlong, HasChanged, is_noted}
 use Rattle.hep_blocked.specs.Rolls.{want_of}
@@ -15,14 +15,15 @@ use Rattle.hep_entries.specs.Entries.{Kept}
 use Rattle.hep_state.specs.declared.machine.Machine.{Machine}
 use Rattle.hep_state.specs.Words.{IsMachineAfter, snapshot_of}
 use Rattle.hep_going.specs.Gone.{HasGone, IsPlainTurn, none, more}
-use Rattle.hep_core.specs.Going.{AreChoices, IsPlainChoice, again, begun, entries_along}
+use Rattle.hep_core.specs.Going.{AreChoices, AreMoves, AreRounds, CanMove, IsPlainChoice, again, begun, entries_along, goes_round, started}
 use Rattle.hep_core.specs.Invariant.{AreLiving, CoreInvariant, core_value}
 use Rattle.hep_core.specs.Tickets.{is_out}
-use Rattle.hep_core.specs.Value.{AreSingle, CoreValue, HasNoStop, IsChoice, IsStop, stop_after}
+use Rattle.hep_core.specs.Value.{AreSingle, CoreValue, HasNoStop, IsChoice, IsStop, free_of, next_ready_of, ready_of, stop_after}
 use Rattle.hep_core.specs.declared.stop.ChoiceStop.TheVariants.{Halted}
 use Rattle.hep_core.specs.declared.scheduler.Core.TheInside.{Inside}
 use Rattle.hep_core.specs.declared.ticket.TicketId.{TicketId}
 use Rattle.hep_core.proofs.Histories.{legal-stepped, state-is}
+use Rattle.hep_core.proofs.Outs.{all_free}
 use Rattle.hep_core.proofs.Kept.{AreSeen, halted-is, listed-next, living-next, next, schedule-next, single-next, state-next, steps-on, view-is}
 
 -- the law of lists that go along with a step
@@ -144,7 +145,7 @@ module _ (law : GoAlong) (i : Inside) (p : ℕ) (k : CoreInvariant i) (running :
 
   -- it keeps what a core keeps
   pub core-goes-on : (n : ℕ) (after : List ℕ) (machine : Machine) (history : Kept) → HasGone i.image i.cells p (schedule_of h) n after → IsMachineAfter i.image i.cells after machine
-      → machine.halted ≡ false → length machine.processes.items ≡ length i.machine.processes.items → length h + n ≤ i.limit → history.items ≡ entries_along h p n → CoreInvariant (core_along i history machine)
+      → machine.halted ≡ false → machine.made ≡ i.machine.made → length h + n ≤ i.limit → history.items ≡ entries_along h p n → CoreInvariant (core_along i history machine)
   core-goes-on n after machine history gone kept unhalted count room is =
       let c = come n after gone in
       let far = subst (Far law i.image i.cells i.limit p (want_of i.roster.waiting) i.roster.ready i.out.items home) (sym is) c.far in
@@ -224,3 +225,79 @@ choices-began p _ _ _ some (again old n core new before is) = elim (cases_lt 0 n
   | inl above ↦ choices-began p old n core above before
   | inr first ↦ subst (λ c. HasNoStop c × (length c.history < c.limit)) (sym (unmoved p old n core (omega (arith, first)) before)) (is.chosen.0, is.chosen.2)
 ]
+
+-- ---- choices of one process, or in rounds
+
+-- the one that is chosen next
+abbrev pub IsNext : Bool → ℕ → ℕ → CoreValue → Type 0
+IsNext true p q core = next_ready_of core ≡ Some q
+IsNext false p q core = q ≡ p
+
+pub moves-begun : (rounds : Bool) (p : ℕ) (core : CoreValue) → AreMoves rounds p core 0 core
+moves-begun true p core = started core
+moves-begun false p core = begun core
+
+pub next-begun : (rounds : Bool) (p : ℕ) (core : CoreValue) → CanMove rounds p core → IsNext rounds p p core
+next-begun true p core can = can.1
+next-begun false p core can = refl
+
+-- it isn't out
+pub home-so : (rounds : Bool) (p q : ℕ) (old core : CoreValue) → CanMove rounds p old → IsNext rounds p q core → is_out q old.out ≡ false
+home-so true p q old core can is = ap (is_out q) can.0
+home-so false p q old core can is = ap (λ n. is_out n old.out) is ∙ can
+
+pub next-alone : (rounds : Bool) (p q : ℕ) (core : CoreValue) → rounds ≡ false → IsNext rounds p q core → q ≡ p
+next-alone true p q core e is = absurd cc
+next-alone false p q core e is = is
+
+pub nobody-out : (rounds : Bool) (p : ℕ) (core : CoreValue) → rounds ≡ true → CanMove rounds p core → core.out ≡ []
+nobody-out true p core e can = can.0
+nobody-out false p core e can = absurd cc
+
+pub next-round : (rounds : Bool) (p q : ℕ) (core : CoreValue) → rounds ≡ true → next_ready_of core ≡ Some q → IsNext rounds p q core
+next-round true p q core e is = is
+next-round false p q core e is = absurd cc
+
+choices-on : (p : ℕ) (old core new : CoreValue) (n m : ℕ) → AreChoices p old n core → AreChoices p core m new → AreChoices p old (n + m) new
+choices-on p old core _ n _ before (begun _) = let e : n ≡ n + 0 = omega arith in subst (λ k. AreChoices p old k core) e before
+choices-on p old core new n _ before (again _ m mid _ others is) =
+    let e : suc (n + m) ≡ n + suc m = omega arith in
+    subst (λ k. AreChoices p old k new) e (again old (n + m) mid new (choices-on p old core mid n m before others) is)
+
+rounds-on : (p : ℕ) (old core new : CoreValue) (n m : ℕ) → AreRounds old n core → next_ready_of core ≡ Some p → m ≤ 1 → AreChoices p core m new → AreRounds old (n + m) new
+rounds-on p old core _ n _ before is few (begun _) = let e : n ≡ n + 0 = omega arith in subst (λ k. AreRounds old k core) e before
+rounds-on p old core new n _ before is few (again _ m mid _ others chosen) =
+    let first : m ≡ 0 = omega (arith, few) in
+    let e : suc n ≡ n + suc m = omega (arith, first) in
+    let plain = subst (λ v. IsPlainChoice v p new) (sym (unmoved p core m mid first others)) chosen in
+    subst (λ k. AreRounds old k new) e (goes_round old n core new p before is plain)
+
+-- so many more of it, in rounds one
+pub moves-on : (rounds : Bool) (p q : ℕ) (old core new : CoreValue) (n m : ℕ) → AreMoves rounds p old n core → IsNext rounds p q core → (rounds ≡ true → m ≤ 1) → AreChoices q core m new → AreMoves rounds p old (n + m) new
+moves-on true p q old core new n m before is few others = rounds-on q old core new n m before is (few refl) others
+moves-on false p q old core new n m before is few others = choices-on p old core new n m before (subst (λ k. AreChoices k core m new) is others)
+
+last-more : (h : List Entry) (e : Entry) → last_process (h ++ e ∷ []) ≡ e.process
+last-more [] e = refl
+last-more (x ∷ []) e = refl
+last-more (x ∷ y ∷ es) e = last-more (y ∷ es) e
+
+pub last-along : (h : List Entry) (p n : ℕ) → 1 ≤ n → last_process (entries_along h p n) ≡ p
+last-along h p zero some = absurd (omega (arith, some))
+last-along h p (suc n) some = last-more (entries_along h p n) (record { process = p; steps = 1 })
+
+-- in rounds the one that comes next after the last one
+pub next-so : (i : Inside) (p q : ℕ) → i.out.items ≡ [] → last_process i.history.items ≡ p → i.roster.ready ≡ ready_of (core_value i) → next_of_ready p i.roster.ready ≡ Some q → next_ready_of (core_value i) ≡ Some q
+next-so i p q nobody last same is =
+    let core = core_value i in
+    ap (λ n. next_of_ready n (free_of core)) last ∙ ap (next_of_ready p) (all_free (ready_of core) core.out nobody ∙ sym same) ∙ is
+
+-- none in rounds leave the core as it was
+pub rounds-none : (old : CoreValue) (n : ℕ) (new : CoreValue) → n ≡ 0 → AreRounds old n new → old ≡ new
+rounds-none _ _ _ z (started core) = refl
+rounds-none _ _ _ z (goes_round old n core new p before ready is) = absurd (omega (arith, z))
+
+-- a core that is at no stop after them was at none before
+pub rounds-going : (old : CoreValue) (n : ℕ) (new : CoreValue) → AreRounds old n new → new.stop ≡ None → old.stop ≡ None
+rounds-going _ _ _ (started core) stops = stops
+rounds-going _ _ _ (goes_round old n core new p before ready is) stops = rounds-going old n core before is.chosen.0.0

@@ -7,7 +7,6 @@ use Rattle.hep_blocked.specs.Listing.{AreListed, GoesAlong, GoesAlongEmptying, H
 use Rattle.hep_blocked.specs.Rolls.{KeepsRoll, Roll, want_of}
 use Rattle.hep_blocked.proofs.Keeping.{listed-alike}
 use Rattle.hep_entries.specs.Entries.{Kept}
-use Rattle.hep_proc.specs.Stacks.{stack_of}
 use Rattle.hep_state.specs.declared.machine.Machine.{Machine}
 use Rattle.hep_state.specs.Words.{IsMachineAfter, Snapshot, snapshot_of, IsAfter, HasWaited, HasPurged, HasTurned, HasLevels}
 use Rattle.hep_views.specs.Seen.{machine_view}
@@ -20,7 +19,7 @@ use Rattle.hep_core.specs.Tickets.{is_out}
 use Rattle.hep_core.proofs.Staying.{living-stepped, living-waited}
 use Rattle.hep_core.proofs.Histories.{legal-stepped, legal-waited, progress-last, progress-stepped, schedule-stepped, schedule-waited, single-last, state-is, state-stepped}
 use Rattle.hep_source.proofs.Tests.{some-there}
-use Rattle.std.proofs.lemmas.List.{length-map}
+use Rattle.hep_state.proofs.Numbered.{length-stacks}
 use Rattle.std.specs.Result.{IsErrAnd}
 use Rattle.std.proofs.lemmas.Option.{none-some, same_Some, slice_get_within}
 use Rattle.std.proofs.lemmas.Result.{err_from_is_err_and}
@@ -238,8 +237,8 @@ in-arena program cells choices p Purged new h = each-reached new new.passing.ran
 in-arena program cells choices p (Waits want) new h = tt
 
 -- as many processes as the state has
-pub as-many : (program : Units) (cells : ℕ) (choices : List ℕ) (m : Machine) → IsAfter program cells choices (snapshot_of m) → length m.processes.items ≡ length (run program choices).processes
-as-many program cells choices m after = sym (length-map m.processes.items stack_of) ∙ after.shows.processes
+pub as-many : (program : Units) (cells : ℕ) (choices : List ℕ) (m : Machine) → IsAfter program cells choices (snapshot_of m) → m.made ≡ length (run program choices).processes
+as-many program cells choices m after = sym (length-stacks m.processes.items 1 m.made) ∙ after.shows.processes
 
 -- who is ready once those who were woken and those who are noted are
 noted-so : (program : Units) (choices : List ℕ) (p : ℕ) (woken : ℕ → Bool) (ready noted left : List ℕ) (before now : ℕ)

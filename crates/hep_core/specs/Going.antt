@@ -1,12 +1,13 @@
 -- Choices of one process in a row, each of which only moves it: docs/MACHINE.md, "Histories" and "Which process comes next".
-use Rattle.std.specs.Prelude.{◌≡◌, ◌≢◌, ◌⊎◌, ℕ, zero, suc, false, List, [], ◌∷◌, ◌++◌, length, Ok, None}
+use Rattle.std.specs.Prelude.{◌≡◌, ◌≢◌, ◌⊎◌, ℕ, zero, suc, Bool, true, false, List, [], ◌∷◌, ◌++◌, length, Ok, Some, None}
 use Rattle.hep_machine.specs.declared.event.Entry.{Entry}
 use Rattle.hep_machine.specs.Words.{living, schedule_of}
 use Rattle.hep_state.specs.Words.{IsAfter, Snapshot}
 use Rattle.hep_going.specs.Gone.{HasNoMoveAhead}
 use Rattle.hep_core.specs.declared.stop.Turn.{Turn}
 use Rattle.hep_core.specs.declared.stop.Turns.{Turns}
-use Rattle.hep_core.specs.Value.{CoreValue, IsChoice, ready_of, state_of}
+use Rattle.hep_core.specs.Tickets.{is_out}
+use Rattle.hep_core.specs.Value.{CoreValue, IsChoice, next_ready_of, ready_of, state_of}
 
 -- p was chosen and made a step, after which the core isn't at a stop, and the same processes are ready
 pub record IsPlainChoice (old : CoreValue) (p : ℕ) (new : CoreValue) : Type 0 where
@@ -18,6 +19,21 @@ pub record IsPlainChoice (old : CoreValue) (p : ℕ) (new : CoreValue) : Type 0 
 pub data AreChoices (p : ℕ) : CoreValue → ℕ → CoreValue → Type 0 where
   begun : (core : CoreValue) → AreChoices p core 0 core
   again : (old : CoreValue) (n : ℕ) (core new : CoreValue) → AreChoices p old n core → IsPlainChoice core p new → AreChoices p old (suc n) new
+
+-- the process that comes next by itself was chosen, so many times, one after the other
+pub data AreRounds : CoreValue → ℕ → CoreValue → Type 0 where
+  started : (core : CoreValue) → AreRounds core 0 core
+  goes_round : (old : CoreValue) (n : ℕ) (core new : CoreValue) (p : ℕ) → AreRounds old n core → next_ready_of core ≡ Some p → IsPlainChoice core p new → AreRounds old (suc n) new
+
+-- p can be chosen, and so in rounds can whoever comes next
+abbrev pub CanMove : Bool → ℕ → CoreValue → Type 0
+CanMove true p core = (core.out ≡ []) × (next_ready_of core ≡ Some p)
+CanMove false p core = is_out p core.out ≡ false
+
+-- so many choices were made, of p or in rounds
+abbrev pub AreMoves : Bool → ℕ → CoreValue → ℕ → CoreValue → Type 0
+AreMoves true p old n new = AreRounds old n new
+AreMoves false p old n new = AreChoices p old n new
 
 -- p was chosen once, and made a step or was found waiting
 abbrev pub IsTurnOnce : CoreValue → ℕ → Turns → CoreValue → Type 0

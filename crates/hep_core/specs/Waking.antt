@@ -11,19 +11,27 @@ use Rattle.hep_purging.specs.Purged.{have_cell}
 use Rattle.hep_state.specs.declared.machine.Machine.{Machine}
 use Rattle.hep_state.specs.declared.turn.Turned.{Turned}
 use Rattle.hep_state.specs.declared.turn.Turned.TheVariants.{Stepped, Purged, Waits}
-use Rattle.hep_state.specs.Words.{snapshot_of, IsAfter}
+use Rattle.hep_state.specs.Words.{AreNumbered, snapshot_of, IsAfter}
 
 -- of those that were ready these are left, and one that was made is added, after a step of process p, before which so many processes were
 -- made, in the state that a machine keeps, whatever turns led to it
 abbrev pub NotesReady : ℕ → ℕ → Machine → List ℕ → List ℕ → Type 0
 NotesReady p made m old new =
     (program : Units) (cells : ℕ) (choices : List ℕ) → IsAfter program cells choices (snapshot_of m) → (q : ℕ)
-    → is_number_among q new ≡ is_noted p (is_some (living (run program choices) p)) made (length m.processes.items) old q
+    → is_number_among q new ≡ is_noted p (is_some (living (run program choices) p)) made m.made old q
 
 -- each process that was made has room to be enrolled, and none was that wasn't made
 pub record HasRoomLeft (m : Machine) (roster : Roll) : Type 0 where
-  pub room : length m.processes.items ≤ roster.room
-  pub last : roster.last ≤ length m.processes.items
+  pub room : m.made ≤ roster.room
+  pub last : roster.last ≤ m.made
+
+-- so many processes were made before, all that were enrolled among them; those that are made have room to be, and those that are kept rise by
+-- their numbers
+pub record CanNote (roster : Roll) (made : ℕ) (m : Machine) : Type 0 where
+  pub last : roster.last ≤ made
+  pub more : made ≤ m.made
+  pub room : m.made ≤ roster.room
+  pub numbers : AreNumbered m
 
 -- what a process still waits for, by what the turn changed, or by the cells that a PURGE emptied
 abbrev pub awake_after : Turned → List ClosedRange → Option Want → Option Want

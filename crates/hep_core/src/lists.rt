@@ -1,22 +1,20 @@
 //! Who is ready and who waits, around a turn.
-ghost use Rattle.std.specs.Prelude.{◌≡◌, ◌≤◌, ◌+◌, ◌||◌, ℕ, Some, length, slice_get};
+ghost use Rattle.std.specs.Prelude.{◌≡◌, ◌≤◌, ◌+◌, ◌||◌, ℕ, Some, slice_get};
 ghost use Rattle.hep_machine.specs.Words.{is_number_among};
 ghost use Rattle.hep_image.specs.Image.{most_cells};
 ghost use Rattle.hep_blocked.specs.Listing.{awake_by, awake_where, is_woken, is_woken_where};
 ghost use Rattle.hep_blocked.specs.Rolls.{want_of};
 ghost use Rattle.hep_purging.specs.declared.range.ClosedRange.{ClosedRange as PureRange};
 ghost use Rattle.hep_purging.specs.Purged.{has_cell, have_cell};
-ghost use Rattle.hep_core.specs.Waking.{AreInArena, HasRoomLeft, NotesReady, awake_after, is_woken_after};
+ghost use Rattle.hep_core.specs.Waking.{AreInArena, CanNote, HasRoomLeft, NotesReady, awake_after, is_woken_after};
 
 use hep_blocked::{Roster, Want};
 use hep_purging::ClosedRange;
 use hep_state::{Machine, Turned};
 
 /// After a step of process p, before which so many processes were made: p isn't ready once it has ended, and a process that it made is.
-pub(crate) fn note_ready(roster: &mut Roster, machine: &Machine, p: u64, made: usize)
-    requires last { roster.old.last ≤ made }
-    requires more { made ≤ length machine.now.processes.items }
-    requires room { length machine.now.processes.items ≤ roster.old.room }
+pub(crate) fn note_ready(roster: &mut Roster, machine: &Machine, p: u64, made: u64)
+    requires { CanNote roster.old made machine.now }
     ensures ready { NotesReady p made machine.now roster.old.ready roster.new.ready }
     ensures waiting { (q : ℕ) → want_of roster.new.waiting q ≡ want_of roster.old.waiting q }
     ensures room { HasRoomLeft machine.now roster.new }
@@ -24,8 +22,8 @@ pub(crate) fn note_ready(roster: &mut Roster, machine: &Machine, p: u64, made: u
     if !machine.lives(p) {
         roster.remove(p);
     }
-    if made < machine.processes.len() {
-        roster.enroll(machine.processes.len() as u64);
+    if made < machine.made {
+        roster.enroll(machine.made);
     }
 }
 

@@ -4,28 +4,29 @@ ghost use Rattle.std.specs.Prelude.{◌+◌, ◌^◌, is_some, length, nat_lt};
 ghost use Rattle.hep_machine.specs.Words.{IsLegal, common_cells, is_held, opening_layout, used_cells, living, first_above, last_process};
 ghost use Rattle.hep_machine.specs.Words.{is_number_among, next_of_ready, progress_after, schedule_of, view_of};
 ghost use Rattle.hep_blocked.specs.Listing.{IsBlocked};
-ghost use Rattle.hep_state.specs.Words.{IsMachineAfter};
+ghost use Rattle.hep_blocked.specs.Numbers.{AreRising};
+ghost use Rattle.hep_state.specs.Words.{AreNumbered, HasLevels, IsMachineAfter, snapshot_of};
 ghost use Rattle.hep_views.specs.Standing.{whereabouts_by};
 ghost use Rattle.hep_core.specs.Value.{state_of, opening_of, IsNewFault, IsChoice, HasNoStop, IsStop, IsStoppedWhereFull};
 ghost use Rattle.hep_core.specs.Commits.{IsCancelled, IsCheckedOut, IsCommitted, IsGivenTo, core_after_return, most_tickets};
 ghost use Rattle.hep_core.specs.Invariant.{AreLiving};
 ghost use Rattle.hep_core.specs.declared.stop.Verdict.TheVariants.{Waiting};
 ghost use Rattle.hep_core.specs.Tickets.{has_ticket, is_out};
-ghost use Rattle.hep_core.specs.Going.{AreChoices, AreTurns, IsAtRest, IsTurnOnce, entries_along};
+ghost use Rattle.hep_core.specs.Going.{AreMoves, AreRounds, AreTurns, CanMove, IsAtRest, IsTurnOnce, entries_along};
 ghost use Rattle.hep_core.specs.Value.{AreSingle, IsAtPosition, IsIdle, free_of, next_listed_of, verdict_of, next_ready_of, ready_of};
 
 use crate::fault::{ChooseFault, CommitFault, NewFault};
 use crate::lists::{note_ready, wake_after};
 use crate::stop::{ChoiceStop, Turn, Turns, Verdict};
 use crate::ticket::{Segment, Ticket, TicketId, come_back};
-use hep_blocked::{Roster, Want};
 use hep_blocked::laws::{
     lists_are_those_of_definitions, lists_go_along_with_purges, lists_go_along_with_steps,
     openings_list_nobody, waiting_processes_are_listed,
 };
 use hep_blocked::need_laws::waiting_processes_need_it;
+use hep_blocked::{Roster, Want};
 use hep_entries::History;
-use hep_going::go_on;
+use hep_going::{go_on, rests};
 use hep_image::Image;
 use hep_layout::laws::layouts_have_what_is_held;
 use hep_machine::{Entry, Fault, Record, Slot};
@@ -158,7 +159,10 @@ impl Core {
         if self.is_out(p) {
             return Err(ChooseFault::IsOut);
         }
-        match self.move_on(p, 1) {
+        if self.rests(p) {
+            return self.turn(p);
+        }
+        match self.move_on(p, 1, false) {
             Ok(0) => self.turn(p),
             Ok(_) => Ok(Turn {
                 steps: 1,
@@ -190,8 +194,11 @@ impl Core {
         if self.is_out(p) {
             return Err(ChooseFault::IsOut);
         }
+        if self.rests(p) {
+            return self.turn_once(p);
+        }
         // So many entries are one run.
-        match self.move_on(p, most.min(MOST_AT_ONCE)) {
+        match self.move_on(p, most.min(MOST_AT_ONCE), false) {
             Ok(0) => self.turn_once(p),
             Ok(made) => Ok(Turns {
                 made,
@@ -216,17 +223,55 @@ impl Core {
         }
     }
 
+    /// Chooses the process that comes next by itself, and then the next one, up to so many times: as long as nobody is out, another process comes
+    /// next than came last, and each choice makes a step that only moves its process, as `go_on` has it. Answers how many choices were made;
+    /// such choices cost less together than one by one.
+    #[inline(never)]
+    pub fn go_round(&mut self, most: u64) -> u64
+        ensures chosen { AreRounds self.old result self.new }
+        ensures few { result ≤ most }
+    {
+        if !self.out.is_empty() {
+            return 0;
+        }
+        let Some(p) = self.next_ready() else {
+            return 0;
+        };
+        match self.move_on(p, most.min(MOST_AT_ONCE), true) {
+            Ok(made) => made,
+            Err(_) => 0,
+        }
+    }
+
+    // The core is at no stop, process p lives, and the table says that no plain operation stands ahead of it.
+    #[inline(always)]
+    fn rests(&self, p: u64) -> bool
+        ensures { result ≡ true → IsAtRest self.now p }
+    {
+        if self.stop.is_some() {
+            return false;
+        }
+        if !self.machine.lives(p) {
+            return false;
+        }
+        let tabled = Tabled {
+            image: &self.image,
+            tables: &self.tables,
+        };
+        rests(&self.machine, &tabled, p)
+    }
+
     // Chooses process p up to so many times, 4,294,967,295 at most, as long as each choice makes a step that only moves the process, and
-    // says how often. Who waits and who is ready stays.
+    // says how often. In rounds it chooses p once, and then whoever comes next, if it is another one. Who waits and who is ready stays.
     //
     // It ends early only where the core is at a stop, p doesn't live, the history is full, or no plain operation stands ahead of p that
     // moves it. It sets no stop. It fails only where the history has no room for so many entries; nothing has changed then.
-    fn move_on(&mut self, p: u64, most: u64) -> Result<u64, AllocError>
-        requires home { is_out p self.old.out ≡ false }
+    fn move_on(&mut self, p: u64, most: u64, rounds: bool) -> Result<u64, AllocError>
+        requires ready { CanMove rounds p self.old }
         requires once { most < 2 ^ 32 }
-        ensures chosen { IfOk result (λ n. AreChoices p self.old n self.new) }
+        ensures chosen { IfOk result (λ n. AreMoves rounds p self.old n self.new) }
         ensures few { IfOk result (λ n. n ≤ most) }
-        ensures all { IfOk result (λ n. n < most → IsAtRest self.new p) }
+        ensures all { IfOk result (λ n. rounds ≡ false → n < most → IsAtRest self.new p) }
         ensures refused { OnErr result (self.new ≡ self.old) }
     {
         if self.stop.is_some() {
@@ -238,15 +283,32 @@ impl Core {
         self.image.is_runnable();
         views_are_of_states();
         lists_go_along_with_steps();
-        let most = most.min(self.limit - self.history.len());
-        self.history.reserve(most as u32)?;
-        let tabled = Tabled {
-            image: &self.image,
-            tables: &self.tables,
-        };
-        let made = go_on(&mut self.machine, &tabled, p, most);
-        note_all(&mut self.history, p, made as u32);
-        Ok(made)
+        lists_are_those_of_definitions();
+        let room = most.min(self.limit - self.history.len());
+        let each = at_once(room, rounds);
+        self.history.reserve(each as u32)?;
+        let mut next = p;
+        let mut done = 0;
+        while done < room {
+            let tabled = Tabled {
+                image: &self.image,
+                tables: &self.tables,
+            };
+            let made = go_on(&mut self.machine, &tabled, next, each);
+            note_all(&mut self.history, next, made as u32);
+            done += made;
+            if !rounds {
+                return Ok(done);
+            }
+            if made == 0 {
+                return Ok(done);
+            }
+            match other_next(&self.machine, &self.roster, &mut self.history, next) {
+                Some(other) => next = other,
+                None => return Ok(done),
+            }
+        }
+        Ok(done)
     }
 
     // A turn of process p, as `choose` has it.
@@ -271,7 +333,7 @@ impl Core {
         lists_go_along_with_steps();
         lists_go_along_with_purges();
         waiting_processes_need_it();
-        let made = self.machine.processes.len();
+        let made = self.machine.made;
         match self.machine.turn(
             self.alloc,
             &self.image,
@@ -608,7 +670,7 @@ impl Core {
     pub fn made(&self) -> u64
         ensures { result ≡ length (state_of self.now).processes }
     {
-        self.machine.processes.len() as u64
+        self.machine.made
     }
 
     /// Where process p is; none where it was never made or has ended.
@@ -712,6 +774,40 @@ fn note(history: &mut History, p: u64, steps: u32)
     ensures { history.new.items ≡ history.old.items ++ record { process = p; steps = steps } ∷ [] }
 {
     history.push(Entry { process: p, steps });
+}
+
+// How many choices of one process are made before another one is looked for.
+#[inline(always)]
+fn at_once(most: u64, rounds: bool) -> u64
+    requires { most < 2 ^ 32 }
+    ensures few { result < 2 ^ 32 }
+    ensures rounds { rounds ≡ true → result ≡ 1 }
+    ensures alone { rounds ≡ false → result ≡ most }
+{
+    if rounds { 1 } else { most }
+}
+
+// The process that comes next after p, where it is another one and lives, and there is room for an entry of it.
+#[inline(always)]
+fn other_next(machine: &Machine, roster: &Roster, history: &mut History, p: u64) -> Option<u64>
+    requires { AreNumbered machine.now }
+    ensures next { IfSome result (λ q. next_of_ready p roster.now.ready ≡ Some q) }
+    ensures lives { IfSome result (λ q. HasLevels (snapshot_of machine.now) q) }
+    ensures rising { AreRising 1 roster.now.last roster.now.ready }
+    ensures room { IfSome result (λ _. (0 < history.new.room) × (length history.new.items < 2 ^ 63)) }
+    ensures items { history.new.items ≡ history.old.items }
+{
+    let other = roster.next(p)?;
+    if other == p {
+        return None;
+    }
+    if !machine.lives(other) {
+        return None;
+    }
+    match history.reserve(1) {
+        Ok(()) => Some(other),
+        Err(_) => None,
+    }
 }
 
 // So many entries of process p, each of one step, for which there is room.

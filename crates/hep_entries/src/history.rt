@@ -60,7 +60,19 @@ fn put<T: Copy>(items: &mut Vec<T>, item: T)
     ensures len { vec_len items.new ≡ vec_len items.old + 1 }
     ensures capacity { vec_capacity items.old ≤ vec_capacity items.new }
 {
-    let _ = items.push(item);
+    items.push_reserved(item);
+}
+
+// Adds a run in sixteen bytes, for which there is room. A function of its own, so that a run in eight bytes needs no room for it.
+#[cold]
+#[inline(never)]
+fn put_long(longs: &mut Vec<Run>, run: Run)
+    requires { vec_len longs.old < vec_capacity longs.old }
+    ensures items { longs.new.items ≡ longs.old.items ++ run ∷ [] }
+    ensures len { vec_len longs.new ≡ vec_len longs.old + 1 }
+    ensures capacity { vec_capacity longs.old ≤ vec_capacity longs.new }
+{
+    longs.push_reserved(run);
 }
 
 // Adds a run behind the others, of so many entries. It takes no memory.
@@ -84,7 +96,7 @@ fn close(shorts: &mut Vec<Short>, longs: &mut Vec<Run>, closed: u64, run: Run)
             return;
         }
     }
-    put(longs, run);
+    put_long(longs, run);
 }
 
 impl History {
@@ -109,6 +121,7 @@ impl History {
     /// # Errors
     ///
     /// Only where memory was refused, or where there would be more than 9,223,372,036,854,775,808 entries.
+    #[inline(always)]
     pub fn reserve(&mut self, count: u32) -> Result<(), AllocError>
         ensures room { OnOk result (0 < self.new.room) }
         ensures few { OnOk result (length self.new.items + count ≤ 2 ^ 63) }
@@ -119,6 +132,23 @@ impl History {
         if self.len() > MOST - count as u64 {
             return Err(AllocError);
         }
+        if self.shorts.len() == self.shorts.capacity()
+            || self.longs.len() == self.longs.capacity()
+        {
+            return self.grow();
+        }
+        Ok(())
+    }
+
+    // Makes room for an entry, so many times, where there may be none. A function of its own, so that who has room needs no room for it.
+    #[cold]
+    #[inline(never)]
+    fn grow(&mut self) -> Result<(), AllocError>
+        ensures room { OnOk result (0 < self.new.room) }
+        ensures items { self.new.items ≡ self.old.items }
+        ensures grows { self.old.room ≤ self.new.room }
+        ensures made { 0 < self.old.room → IsOk result }
+    {
         self.longs.reserve(1)?;
         self.shorts.reserve(1)
     }

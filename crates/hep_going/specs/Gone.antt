@@ -1,5 +1,6 @@
 -- Turns of one process, one after the other, which only move it: docs/MACHINE.md, "Steps" and "The opening and runs".
 use Rattle.std.specs.Prelude.{◌≡◌, ◌≢◌, ℕ, suc, ◌<◌, ◌≤◌, false, List, [], ◌∷◌, ◌++◌, length, Some, None, vec_capacity}
+use Rattle.hep_machine.specs.declared.slot.Slot.{Slot}
 use Rattle.hep_machine.specs.Words.{Value, Units, Layout, common_cells, frame_cells, is_held, layout_of, living, run, step, unit_at}
 use Rattle.hep_arena.specs.Space.{Space}
 use Rattle.hep_layout.specs.Words.{Nodes}
@@ -61,6 +62,21 @@ abbrev pub GoesTop : Units → Process → Frames → ℕ → ℕ → Process �
 GoesTop program old frames most made new after =
     HoldsOfTop old (λ l ls operands pending.
     HasGoneOn program (nodes_of frames.nodes) l ls operands pending frames.arena after.arena most made (stack_of new))
+
+-- the tables are those of the image, and a process has a top level, whose unit is there
+pub record IsTabledTop (tabled : Tabled) (q : Process) : Type 0 where
+  pub tables : AreTables tabled.image.now tabled.tables.now
+  pub l : Local
+  pub ls : List Local
+  pub operands : List Value
+  pub pending : List Value
+  pub stack : stack_of q ≡ stack_with l ls operands pending
+  pub inside : l.unit < length tabled.image.now
+
+-- whatever the cells and the frames are, no plain operation stands ahead of its top activation
+abbrev pub RestsAtTop : Units → Process → Type 0
+RestsAtTop program q =
+    HoldsOfTop q (λ l ls operands pending. (nodes : Nodes) (contents : List Slot) → HasNoMoveAt program nodes l (snapshot contents operands l.index))
 
 -- a process lives, and no plain operation stands ahead of it that moves it
 pub record HasNoMoveAhead (program : Units) (p : ℕ) (m : Snapshot) : Type 0 where

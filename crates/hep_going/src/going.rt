@@ -1,9 +1,9 @@
 //! Turns of a process, one after the other, which only move it.
-ghost use Rattle.std.specs.Prelude.{◌≡◌, ◌≤◌, ◌<◌, false, length};
+ghost use Rattle.std.specs.Prelude.{◌≡◌, ◌≤◌, ◌<◌, false, true};
 ghost use Rattle.hep_state.specs.Words.{snapshot_of};
 ghost use Rattle.hep_going.specs.Gone.{CanTakeTurns, HasNoMoveAhead, MakesMoves};
 
-use crate::top::go_top;
+use crate::top::{go_top, top_rests};
 use hep_quick::Tabled;
 use hep_state::{Machine, laws};
 
@@ -16,11 +16,24 @@ pub fn go_on(machine: &mut Machine, tabled: &Tabled<'_>, p: u64, most: u64) -> u
     ensures gone { MakesMoves tabled.now.image.now p machine.old result machine.new }
     ensures few { result ≤ most }
     ensures all { result < most → HasNoMoveAhead tabled.now.image.now p (snapshot_of machine.new) }
-    ensures processes { length machine.new.processes.items ≡ length machine.old.processes.items }
+    ensures made { machine.new.made ≡ machine.old.made }
     ensures halted { machine.new.halted ≡ false }
 {
     tabled.image.is_runnable();
     laws::tops_are_running();
-    let process = &mut machine.processes[(p - 1) as usize];
+    let at = machine.place(p);
+    let process = &mut machine.processes[at];
     go_top(process, &mut machine.frames, tabled, most)
+}
+
+/// Where process p is, which lives, its table has an operation that isn't plain, so no plain operation stands ahead of it. Behind values that
+/// stand ahead one may be that isn't plain; that isn't told.
+#[inline(always)]
+pub fn rests(machine: &Machine, tabled: &Tabled<'_>, p: u64) -> bool
+    requires { CanTakeTurns tabled.now p machine.now }
+    ensures { result ≡ true → HasNoMoveAhead tabled.now.image.now p (snapshot_of machine.now) }
+{
+    let at = machine.place(p);
+    let process = &machine.processes[at];
+    top_rests(process, tabled)
 }

@@ -1,10 +1,11 @@
 //! The top activation of a process, and steps that only move it.
-ghost use Rattle.std.specs.Prelude.{◌≡◌, ◌≤◌, vec_capacity};
-ghost use Rattle.hep_going.specs.Gone.{CanGoTop, GoesTop};
+ghost use Rattle.std.specs.Prelude.{◌≡◌, ◌≤◌, true};
+ghost use Rattle.hep_proc.specs.Stacks.{IsSameProcess};
+ghost use Rattle.hep_going.specs.Gone.{CanGoTop, GoesTop, IsTabledTop, RestsAtTop};
 
 use hep_moves::Activation;
 use hep_proc::{Frames, Process};
-use hep_quick::{Quick, Tabled, move_by_table};
+use hep_quick::{Quick, Tabled, move_by_table, rests};
 use hep_state::place;
 
 /// So many steps at most of the top activation of a process, each of which only moves it, and how many they were.
@@ -19,7 +20,7 @@ pub(crate) fn go_top(
     ensures few { result ≤ most }
     ensures nodes { frames.new.nodes ≡ frames.old.nodes }
     ensures holes { frames.new.arena.holes ≡ frames.old.arena.holes }
-    ensures capacity { vec_capacity process.old.operands ≤ vec_capacity process.new.operands }
+    ensures same { IsSameProcess process.old process.new }
 {
     let (unit, frame, mut index) = place(process, frames, tabled.image);
     let activation = Activation {
@@ -34,4 +35,15 @@ pub(crate) fn go_top(
     let made = move_by_table(&quick, &mut frames.arena, operands, &mut index, most);
     process.stand_at(index);
     made
+}
+
+/// The table has an operation that isn't plain where the top activation of a process is.
+#[inline(always)]
+pub(crate) fn top_rests(process: &Process, tabled: &Tabled<'_>) -> bool
+    requires { IsTabledTop tabled.now process.now }
+    ensures { result ≡ true → RestsAtTop tabled.now.image.now process.now }
+{
+    let level = process.top();
+    let table = tabled.table(level.unit as usize);
+    rests(table, level.index)
 }

@@ -13,7 +13,7 @@ module _ (program : Units) (t : Top) (Holds : Activation → Type 0) where
   abbrev pub Adds : State → Type 0
   Adds s = (s.activations ≡ t.state.activations) ⊎ ((x : Activation) × (s.activations ≡ t.state.activations ++ x ∷ []) × Holds x)
 
-  -- what the actual arguments of a CALL or CREATE of a unit bind
+  -- what the actual arguments bind that a unit is given
   abbrev pub Binds : ℕ → Result Binding Kind → Type 0
   Binds u (Err k) = Unit {0}
   Binds u (Ok b) = Holds (record { unit = u; parent = Some t.level.activation; dummies = b.dummies })

@@ -201,8 +201,9 @@ impl Image {
         })
     }
 
-    /// Whether two images are one. What an image has beside its program follows from the program.
-    pub fn same(&self, other: &Image) -> bool
+    /// Whether two images are of one program. What an image has beside follows from its program, but for how the values of DATA are
+    /// split into rows, which isn't compared.
+    pub fn has_same_program(&self, other: &Image) -> bool
         ensures { IsTrue result ↔ (self.now ≡ other.now) }
     {
         self.program.same(&other.program)

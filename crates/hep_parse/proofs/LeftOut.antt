@@ -7,9 +7,10 @@ use Rattle.hep_expression.specs.declared.characters.Context.{Context}
 use Rattle.hep_expression.specs.Expression.{equivalence}
 use Rattle.hep_expression.specs.Reading.{◌>>=◌, if_some, Fails, after_text}
 use Rattle.hep_expression.proofs.Leaves.{bind_some, either_some, text_is, fits}
-use Rattle.hep_statement.specs.declared.rule.Rule.{Rule}
-use Rattle.hep_statement.specs.declared.rule.Rule.TheVariants.{Assignment, BlockIf, SignIf, LogicalIf, Unclosed, Worded}
-use Rattle.hep_statement.specs.Statement.{rule_of, IsLogicalIf}
+use Rattle.hep_rule.specs.Rules.{rule_of}
+use Rattle.hep_rule.specs.declared.rule.Rule.{Rule}
+use Rattle.hep_rule.specs.declared.rule.Rule.TheVariants.{Assignment, BlockIf, SignIf, LogicalIf, Unclosed, Worded}
+use Rattle.hep_statement.specs.Statement.{IsLogicalIf}
 use Rattle.hep_parse.specs.Program.{left_out_words, BeginsWith, IsLeftOut}
 use Rattle.hep_statement.specs.ReadingStatement.{logical_if}
 use Rattle.hep_parse.specs.ReadingProgram.{word_at, by_rule, left_out}

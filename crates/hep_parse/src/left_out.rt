@@ -6,7 +6,8 @@ ghost use Rattle.hep_parse.specs.ReadingProgram as reading;
 
 use hep_expression::Unread;
 use hep_expression::characters::{Context, after_text};
-use hep_statement::{Rule, logical_if, rule_of};
+use hep_rule::{Rule, rule_of};
+use hep_statement::logical_if;
 use std::alloc::Global;
 
 /// The words with which these statements begin, each with the name that is reported.

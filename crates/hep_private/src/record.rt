@@ -5,7 +5,7 @@ use hep_source::Value;
 /// A private step: the index of its operation in the code of its unit, and what it read and wrote.
 ///
 /// Cells are counted from the first one of the frame. What is *first* was read in a cell in which no step before it had stored.
-#[derive(Clone, Copy, Debug)]
+#[derive(Clone, Copy, Debug, PartialEq, Eq)]
 pub enum Record {
     /// Only the place is another one.
     Goes {

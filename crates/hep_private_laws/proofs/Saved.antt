@@ -1,7 +1,8 @@
 -- To put back what stood in some cells undoes what was stored in them alone.
-use Rattle.std.proofs.Common.{◌≡◌, ℕ, zero, suc, pos, ◌+◌, ◌-◌, ◌<◌, Bool, true, false, List, [], ◌∷◌, length, length-set, Some, refl, sym, ap, ◌∙◌, subst, arith, nat_eq, slice_set, if◌then◌else◌, ◌||◌}
+use Rattle.std.proofs.Common.{◌≡◌, ◌≤◌, inl, inr, ℕ, zero, suc, pos, ◌+◌, ◌-◌, ◌<◌, Bool, true, false, List, [], ◌∷◌, length, length-set, Some, refl, sym, ap, ◌∙◌, subst, arith, nat_eq, slice_set, if◌then◌else◌, ◌||◌}
+use Rattle.std.proofs.lemmas.Bool.{cases_lt, eq-eqb}
 use Rattle.std.proofs.lemmas.Bool.Decides.{nat_tests}
-use Rattle.hep_machine.specs.Words.{Value, Int, is_number_among, natural}
+use Rattle.hep_machine.specs.Words.{Value, Int, is_number_among, natural, unset_cell}
 use Rattle.hep_machine.specs.declared.slot.Slot.{Slot}
 use Rattle.hep_image.specs.Finding.{cells_in}
 use Rattle.hep_step.specs.Effects.{with_value_at}
@@ -9,7 +10,7 @@ use Rattle.hep_private.specs.declared.record.Record.{Record}
 use Rattle.hep_private.specs.declared.record.Record.TheVariants.{Goes, Gives, Reads, Stores, Enters, Ends}
 use Rattle.hep_private.specs.Own.{cells_of, contents_after, stores_of}
 use Rattle.hep_private_laws.specs.Gone.{contents_with}
-use Rattle.hep_private_laws.specs.Saved.{AreAmong, AreInside, AreOf, put_back}
+use Rattle.hep_private_laws.specs.Saved.{AreAmong, AreOf, put_back}
 use Rattle.hep_private_laws.proofs.Inside.{cells-set, next-test, size-after}
 
 -- it is none of these cells of a frame
@@ -63,26 +64,41 @@ same-lists (x ∷ xs) (y ∷ ys) size same = ap (λ z. z ∷ xs) (same 0) ∙ ap
 places-equal : (p q : ℕ) → nat_eq p q ≡ true → p ≡ q
 places-equal p q e = grind (arith, nat_tests, e)
 
+-- past the last cell nothing stands, and nothing is set
+cells-past : (xs : List Slot) (p : ℕ) → length xs ≤ p → cells_in xs p ≡ unset_cell
+cells-past [] p le = refl
+cells-past (x ∷ xs) zero le = absurd (omega (arith, le))
+cells-past (x ∷ xs) (suc p) le = cells-past xs p (omega (arith, le))
+
+set-past : (xs : List Slot) (i : ℕ) (slot : Slot) → length xs ≤ i → slice_set xs i slot ≡ xs
+set-past [] i slot le = refl
+set-past (x ∷ xs) zero slot le = absurd (omega (arith, le))
+set-past (x ∷ xs) (suc i) slot le = ap (λ ys. x ∷ ys) (set-past xs i slot (omega (arith, le)))
+
 module _ (first : ℕ) (old : List Slot) where
-  undone : (cells : List ℕ) (now : List Slot) → length now ≡ length old → AreAlike first cells old now → AreInside first (length old) cells → put_back first cells old now ≡ old
-  undone [] now size alike inside = same-lists now old size (λ p. alike p (λ c among. absurd (grind (arith, among))))
-  undone (c ∷ cs) now size alike inside =
-      undone cs (slice_set now (first + c) (cells_in old (first + c))) (length-set now (first + c) _ ∙ size) (λ p out. by_place p out (nat_eq p (first + c)) refl) inside.1 where
-        lt : first + c < length now
-        lt = omega (arith, inside.0, size)
-
-        set_to : (p : ℕ) → cells_in (slice_set now (first + c) (cells_in old (first + c))) p ≡ (if nat_eq p (first + c) then cells_in old (first + c) else cells_in now p)
-        set_to p = cells-set now (first + c) p (cells_in old (first + c)) lt
-
+  undone : (cells : List ℕ) (now : List Slot) → length now ≡ length old → AreAlike first cells old now → put_back first cells old now ≡ old
+  undone [] now size alike = same-lists now old size (λ p. alike p (λ c among. absurd (grind (arith, among))))
+  undone (c ∷ cs) now size alike =
+      undone cs (slice_set now (first + c) (cells_in old (first + c))) (length-set now (first + c) _ ∙ size) (λ p out. by_place p out (nat_eq p (first + c)) refl) where
         out_of_all : (p : ℕ) → IsOut first cs p → nat_eq p (first + c) ≡ false → IsOut first (c ∷ cs) p
         out_of_all p out ne d among = by_cell (nat_eq d c) refl where
           by_cell : (b : Bool) → nat_eq d c ≡ b → nat_eq p (first + d) ≡ false
           by_cell true e = subst (λ x. nat_eq p (first + x) ≡ false) (sym (places-equal d c e)) ne
           by_cell false e = out d (sym (ap (λ b. b || is_number_among d cs) e) ∙ among)
 
-        by_place : (p : ℕ) → IsOut first cs p → (b : Bool) → nat_eq p (first + c) ≡ b → cells_in (slice_set now (first + c) (cells_in old (first + c))) p ≡ cells_in old p
-        by_place p out true e = set_to p ∙ (ap (λ b. if b then cells_in old (first + c) else cells_in now p) e ∙ ap (cells_in old) (sym (places-equal p (first + c) e)))
-        by_place p out false e = set_to p ∙ (ap (λ b. if b then cells_in old (first + c) else cells_in now p) e ∙ alike p (out_of_all p out e))
+        set_there : cells_in (slice_set now (first + c) (cells_in old (first + c))) (first + c) ≡ cells_in old (first + c)
+        set_there =
+            elim (cases_lt (first + c) (length now)) [
+              | inl lt ↦ cells-set now (first + c) (first + c) (cells_in old (first + c)) lt ∙ ap (λ b. if b then cells_in old (first + c) else cells_in now (first + c)) (eq-eqb (first + c) (first + c) refl)
+              | inr past ↦
+                  ap (λ ys. cells_in ys (first + c)) (set-past now (first + c) (cells_in old (first + c)) past)
+                  ∙ (cells-past now (first + c) past ∙ sym (cells-past old (first + c) (omega (arith, past, size))))
+            ]
 
-pub saved-undo : (first : ℕ) (contents : List Slot) (cells : List ℕ) (records : List Record) → AreOf cells records → AreInside first (length contents) cells → put_back first cells contents (contents_with first contents records) ≡ contents
-saved-undo first contents cells records of inside = undone first contents cells (contents_with first contents records) (size-with first contents records) (alike-with first cells contents records of) inside
+        by_place : (p : ℕ) → IsOut first cs p → (b : Bool) → nat_eq p (first + c) ≡ b → cells_in (slice_set now (first + c) (cells_in old (first + c))) p ≡ cells_in old p
+        by_place p out true e =
+            subst (λ q. cells_in (slice_set now (first + c) (cells_in old (first + c))) q ≡ cells_in old q) (sym (places-equal p (first + c) e)) set_there
+        by_place p out false e = cells-other now (first + c) p (cells_in old (first + c)) e ∙ alike p (out_of_all p out e)
+
+pub saved-undo : (first : ℕ) (contents : List Slot) (cells : List ℕ) (records : List Record) → AreOf cells records → put_back first cells contents (contents_with first contents records) ≡ contents
+saved-undo first contents cells records of = undone first contents cells (contents_with first contents records) (size-with first contents records) (alike-with first cells contents records of)

@@ -15,7 +15,7 @@ ghost use Rattle.hep_state.specs.Words.{IsTurning, TurnOf};
 ghost use Rattle.hep_private.specs.declared.record.Record.{Record as ARecord};
 ghost use Rattle.hep_private.specs.Own.{Own, settled};
 ghost use Rattle.hep_private.specs.Recorded.{made_ahead, next_made, recorded};
-ghost use Rattle.hep_private_laws.specs.Saved.{AreInside, AreOf, HasLoopAhead, put_back};
+ghost use Rattle.hep_private_laws.specs.Saved.{AreOf, HasLoopAhead, put_back};
 ghost use Rattle.hep_private_laws.specs.Gone.{HaveGone, contents_with, own_of};
 ghost use Rattle.hep_private_laws.specs.Scalars.{is_private_at, is_private_scalar};
 
@@ -91,5 +91,5 @@ pub fn private_steps_store_in_own_cells()
 /// To put back what stood in these cells undoes all that was stored in them alone.
 pub fn saved_cells_undo_stores()
     ensures { (first : ℕ) (contents : List ASlot) (cells : List ℕ) (records : List ARecord) → AreOf cells records
-        → AreInside first (length contents) cells → put_back first cells contents (contents_with first contents records) ≡ contents }
+        → put_back first cells contents (contents_with first contents records) ≡ contents }
 {}

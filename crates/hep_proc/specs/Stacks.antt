@@ -1,5 +1,5 @@
 -- A process: its stack, and what is done to it by its parts: the top level, those below it, the operands of the top one and of those below.
-use Rattle.std.specs.Prelude.{◌≡◌, ◌+◌, ◌-◌, ◌≤◌, ℕ, List, [], ◌∷◌, ◌++◌, drop, length, map, reverse, take, vec_capacity}
+use Rattle.std.specs.Prelude.{◌≡◌, ◌+◌, ◌-◌, ◌≤◌, ◌&&◌, ◌==◌, ℕ, Bool, List, [], ◌∷◌, ◌++◌, drop, length, map, not, reverse, take, vec_capacity, vec_len}
 use Rattle.hep_machine.specs.Words.{Value}
 use Rattle.hep_proc.specs.declared.process.Local.{Local}
 use Rattle.hep_proc.specs.declared.process.Process.{Process}
@@ -13,12 +13,25 @@ pub record Stack : Type 0 where
 abbrev pub stack_of : Process → Stack
 stack_of q = record { levels = reverse q.levels.items; operands = q.operands.items; pending = q.pending.items }
 
+-- that of a process of which nothing is left
+abbrev pub no_stack : Stack
+no_stack = record { levels = []; operands = []; pending = [] }
+
+-- something is left of a process
+abbrev pub is_left : Process → Bool
+is_left q = not ((vec_len q.levels == 0) && (vec_len q.operands == 0) && (vec_len q.pending == 0))
+
 abbrev pub keys_of : List Local → List ℕ
 keys_of ls = map (λ (l : Local). l.key) ls
 
 -- a stack with a top level
 abbrev pub stack_with : Local → List Local → List Value → List Value → Stack
 stack_with l ls operands pending = record { levels = l ∷ ls; operands = operands; pending = pending }
+
+-- it is the same one, with as much room for operands at least
+pub record IsSameProcess (old new : Process) : Type 0 where
+  pub number : new.number ≡ old.number
+  pub room : vec_capacity old.operands ≤ vec_capacity new.operands
 
 -- ---- the top level
 

@@ -37,6 +37,7 @@ impl Process {
         requires none { self.old.operands.items ≡ [] }
         requires room { HasRoomForValue self.old }
         ensures stack { TakesValue self.old value self.new }
+        ensures number { self.new.number ≡ self.old.number }
         ensures levels { self.new.levels ≡ self.old.levels }
         ensures capacity { vec_capacity self.old.operands ≤ vec_capacity self.new.operands }
     {

@@ -1,6 +1,6 @@
 //! Processes: the activations on a stack, each with its place in the code, and their operands (docs/MACHINE.md, "Steps").
 ghost use Rattle.std.specs.Prelude.{◌≡◌, ◌+◌, ◌<◌, ◌≤◌, ◌++◌, ◌∷◌, [], OnOk, vec_len, vec_capacity};
-ghost use Rattle.hep_proc.specs.Stacks.{EndsTop, GoesOnAt, HasTop, PutsAbove, PutsTop, StandsAt};
+ghost use Rattle.hep_proc.specs.Stacks.{EndsTop, GoesOnAt, HasTop, PutsAbove, PutsTop, StandsAt, is_left};
 
 use crate::keeping::keep_back;
 use hep_source::Value;
@@ -17,9 +17,11 @@ pub struct Local {
     pub index: usize,
 }
 
-/// A process: its activations, the top last, and their operands. It has ended where there are none.
+/// A process: its number, its activations, the top last, and their operands. It has ended where there are none.
 #[derive(Drop)]
 pub struct Process {
+    /// Counted from 1, in the order in which processes are made.
+    pub number: u64,
     pub levels: Vec<Local>,
     /// Those of the top activation.
     pub operands: Vec<Value>,
@@ -28,6 +30,13 @@ pub struct Process {
 }
 
 impl Process {
+    /// Something is left of it: an activation or operands.
+    pub fn is_left(&self) -> bool
+        ensures { result ≡ is_left self.now }
+    {
+        !(self.levels.is_empty() && self.operands.is_empty() && self.pending.is_empty())
+    }
+
     /// The level of its top activation.
     pub fn top(&self) -> Local
         requires { 0 < vec_len self.now.levels }
@@ -40,6 +49,7 @@ impl Process {
     pub fn stand_at(&mut self, index: usize)
         requires { 0 < vec_len self.old.levels }
         ensures stack { StandsAt self.old index self.new }
+        ensures number { self.new.number ≡ self.old.number }
         ensures count { vec_len self.new.levels ≡ vec_len self.old.levels }
         ensures capacity { vec_capacity self.new.levels ≡ vec_capacity self.old.levels }
         ensures operands { self.new.operands ≡ self.old.operands }
@@ -52,6 +62,7 @@ impl Process {
     fn put_top(&mut self, level: Local)
         requires { 0 < vec_len self.old.levels }
         ensures stack { PutsTop self.old level self.new }
+        ensures number { self.new.number ≡ self.old.number }
         ensures count { vec_len self.new.levels ≡ vec_len self.old.levels }
         ensures capacity { vec_capacity self.new.levels ≡ vec_capacity self.old.levels }
         ensures operands { self.new.operands ≡ self.old.operands }
@@ -65,6 +76,7 @@ impl Process {
     pub fn go_on(&mut self, index: usize)
         requires { 0 < vec_len self.old.levels }
         ensures stack { GoesOnAt self.old index self.new }
+        ensures number { self.new.number ≡ self.old.number }
         ensures count { vec_len self.new.levels ≡ vec_len self.old.levels }
         ensures capacity { vec_capacity self.new.levels ≡ vec_capacity self.old.levels }
         ensures operands { vec_capacity self.new.operands ≡ vec_capacity self.old.operands }
@@ -80,6 +92,7 @@ impl Process {
         requires few { kept ≤ vec_len self.old.operands }
         requires pending { vec_len self.old.pending + kept ≤ vec_capacity self.old.pending }
         ensures stack { PutsAbove self.old kept index level self.new }
+        ensures number { self.new.number ≡ self.old.number }
         ensures operands { vec_capacity self.new.operands ≡ vec_capacity self.old.operands }
     {
         let below = Local {
@@ -97,6 +110,7 @@ impl Process {
         requires { 0 < vec_len self.old.levels }
         ensures level { HasTop self.old result }
         ensures stack { EndsTop self.old self.new }
+        ensures number { self.new.number ≡ self.old.number }
         ensures fewer { self.old.levels.items ≡ self.new.levels.items ++ result ∷ [] }
         ensures capacity { vec_capacity self.new.operands ≡ vec_capacity self.old.operands }
     {
@@ -111,6 +125,7 @@ impl Process {
         ensures pending { OnOk result (vec_len self.new.pending + kept ≤ vec_capacity self.new.pending) }
         ensures same { (self.new.levels.items ≡ self.old.levels.items) × (self.new.operands.items ≡ self.old.operands.items)
             × (self.new.pending.items ≡ self.old.pending.items) }
+        ensures number { self.new.number ≡ self.old.number }
         ensures capacity { vec_capacity self.old.operands ≤ vec_capacity self.new.operands }
     {
         self.levels.reserve(1)?;

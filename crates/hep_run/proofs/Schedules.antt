@@ -14,8 +14,8 @@ use Rattle.hep_machine.specs.declared.event.Entry.{Entry}
 use Rattle.hep_machine.specs.Words.{Units, State, Process, opening, run, run_from, schedule_of, state_after, state_after_turn, Progress, progress_after_step, progress_after_steps, progress_after_entry, progress_from, progress_after, living_from, ready_in, last_process, first_above, next_of_ready, next_ready, living, top_of, is_number_among}
 use Rattle.hep_core.specs.declared.stop.Turn.{Turn}
 use Rattle.hep_core.specs.declared.stop.Turns.{Turns}
-use Rattle.hep_core.specs.Going.{AreChoices, AreTurns, again, begun}
-use Rattle.hep_core.proofs.Going.{choices-began, unmoved}
+use Rattle.hep_core.specs.Going.{AreChoices, AreRounds, AreTurns, again, begun, goes_round, started}
+use Rattle.hep_core.proofs.Going.{choices-began, rounds-going, rounds-none, unmoved}
 use Rattle.hep_core.proofs.Outs.{all_free}
 use Rattle.hep_core.specs.Value.{CoreValue, state_of, core_after_choice, free_of, next_ready_of, ready_of, stop_after, HasNoStop, IsFree, IsTurn, IsChoice}
 use Rattle.hep_run.specs.declared.options.Options.{Options}
@@ -349,3 +349,13 @@ module _ (options : Options) (p : ℕ) (old : CoreValue) (running : IsRunning op
 pub ready_longer : (options : Options) (p : ℕ) (old : CoreValue) → IsRunning options old → (old.stop ≡ None → length options.choices ≤ length old.history) → next_ready old.program old.history ≡ Some p
     → (turns : Turns) (new : CoreValue) → 1 ≤ turns.made → (2 ≤ turns.made → last_process old.history ≡ p) → AreTurns old p turns new → IsLonger options old turns.made new
 ready_longer options p old running past ready turns new some alone made = ready_turns options p old running (past (turns_began p old turns new some made).0) ready turns new some alone made
+
+-- in rounds: each is the one that comes next
+module _ (options : Options) (old : CoreValue) (running : IsRunning options old) (past : old.stop ≡ None → length options.choices ≤ length old.history) where
+  pub rounds_made : (n : ℕ) (new : CoreValue) → AreRounds old n new → IsLonger options old n new
+  rounds_made _ _ (started core) = unlonger options old running
+  rounds_made _ _ (goes_round old n core new p before ready is) =
+      let far = rounds_made n core before in
+      let choice = is.chosen in
+      let comes = next_is_ready core.program options.choices core.history choice.0.1 (omega (arith, past (rounds-going old n core before choice.0.0), far.entries)) ∙ (sym (comes_next options core far.running) ∙ ready) in
+      one_longer options old core new n (λ z. rounds-none old n core z before) far (chosen options core new p (record { steps = 1; blocked = false }) choice far.running comes)

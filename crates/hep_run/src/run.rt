@@ -105,6 +105,22 @@ fn most_at_once(core: &Core, process: u64) -> u64
     }
 }
 
+// Chooses in rounds, where several processes are ready.
+fn go_round(core: &mut Core, options: &Options, most: u64)
+    requires running { IsRunning options.now core.old }
+    requires made { core.old.stop ≡ None
+        → length options.now.choices ≤ length core.old.history }
+    ensures program { core.new.program ≡ core.old.program }
+    ensures running { IsRunning options.now core.new }
+    ensures made { core.new.stop ≡ None
+        → length options.now.choices ≤ length core.new.history }
+    ensures more { (core.new.limit ≡ core.old.limit) × (length core.old.history ≤ length core.new.history) }
+{
+    if most == 1 {
+        core.go_round(u64::MAX);
+    }
+}
+
 // Chooses what is ready, until nothing is or the run stops.
 fn run_on(core: &mut Core, options: &Options) -> Result<(), AllocError>
     requires running { IsRunning options.now core.old }
@@ -118,7 +134,7 @@ fn run_on(core: &mut Core, options: &Options) -> Result<(), AllocError>
     while let Some(process) = core.next_ready() {
         let most = most_at_once(core, process);
         match core.go_on(process, most) {
-            Ok(_) => {}
+            Ok(_) => go_round(core, options, most),
             Err(ChooseFault::Stopped(_)) => return Ok(()),
             Err(ChooseFault::NoMemory) => return Err(AllocError),
             Err(ChooseFault::NoSuchProcess) => unreachable!(),

@@ -2,16 +2,26 @@
 use Rattle.std.proofs.Common.{◌≡◌, ℕ, List, length, Some, refl, sym, ap, ◌∙◌, subst}
 use Rattle.hep_machine.specs.Words.{Value, Units, unit_at}
 use Rattle.hep_segments.specs.declared.progress.Progress.{Progress}
+use Rattle.hep_segments.specs.declared.ticket.Copied.{Copied}
 use Rattle.hep_segments.specs.declared.ticket.TicketId.{TicketId}
-use Rattle.hep_segments.specs.Progress.{HasTaken, own_of}
-use Rattle.hep_segments.specs.Segments.{IsComputed, IsMadeOf, IsSegment, SegmentValue, TicketValue, segment_value, value_copied}
+use Rattle.hep_segments.specs.Progress.{HasTaken, own_of, start_of}
+use Rattle.hep_segments.specs.Segments.{IsComputed, IsMadeOf, IsSegment, SegmentValue, Start, TicketValue, most_records, segment_value, value_copied}
 
-module _ (program : Units) (ticket : TicketValue) (id : TicketId) (unit index : ℕ) (operands : List Value) (p : Progress)
-    (same_id : id ≡ ticket.id) (same_unit : unit ≡ ticket.unit) (same_index : index ≡ ticket.index) (same_operands : operands ≡ ticket.operands) (taken : HasTaken program ticket p) where
+-- the start of a ticket
+abbrev start-of-ticket : TicketValue → Start
+start-of-ticket ticket = record { unit = ticket.unit; index = ticket.index; operands = ticket.operands; values = value_copied ticket.copies }
+
+module _ (program : Units) (ticket : TicketValue) (id : TicketId) (unit index : ℕ) (operands : List Value) (first p : Progress) (copies : List Copied) (u : ℕ)
+    (same_id : id ≡ ticket.id) (same_unit : unit ≡ ticket.unit) (same_index : index ≡ ticket.index) (same_operands : operands ≡ ticket.operands)
+    (here : u ≡ ticket.unit) (there : first.index ≡ ticket.index) (having : first.operands ≡ ticket.operands) (copied : copies ≡ ticket.copies)
+    (made-steps : HasTaken program (start_of u (value_copied copies) first) most_records p) where
+  taken : HasTaken program (start-of-ticket ticket) most_records p
+  taken = subst (λ (s : Start). HasTaken program s most_records p) (λ i. record { unit = here i; index = there i; operands = having i; values = value_copied (copied i) }) made-steps
+
   abbrev made-of-ticket : SegmentValue
   made-of-ticket = segment_value ticket.id ticket.unit ticket.index ticket.operands p.records p.index p.operands
 
-  abbrev made : IsMadeOf program (value_copied ticket.copies) made-of-ticket
+  made : IsMadeOf program (value_copied ticket.copies) made-of-ticket
   made = record { end = own_of (value_copied ticket.copies) p; made = taken.along; index = refl; operands = refl }
 
   same : made-of-ticket ≡ segment_value id unit index operands p.records p.index p.operands
@@ -21,4 +31,14 @@ module _ (program : Units) (ticket : TicketValue) (id : TicketId) (unit index : 
   is-segment = subst IsSegment same (record { few = taken.few; program = program; values = value_copied ticket.copies; made = made })
 
   pub computed : IsComputed program ticket (segment_value id unit index operands p.records p.index p.operands)
-  computed = subst (IsComputed program ticket) same (record { id = refl; unit = refl; index = refl; operands = refl; few = taken.few; made = made; all = taken.all })
+  computed =
+      subst (IsComputed program ticket) same (
+      record {
+        id = refl;
+        unit = refl;
+        index = refl;
+        operands = refl;
+        few = taken.few;
+        made = record { end = own_of (value_copied ticket.copies) p; made = taken.along; index = refl; operands = refl };
+        all = taken.all;
+      })

@@ -6,3 +6,5 @@ mod Steps
 mod Taken
 mod Blank
 mod Finished
+mod Again
+mod Kept

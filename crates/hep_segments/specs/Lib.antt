@@ -1,3 +1,5 @@
 pub mod Memory
 pub mod Segments
+pub mod Bases
+pub mod Places
 pub mod Progress

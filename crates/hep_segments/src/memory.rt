@@ -1,19 +1,31 @@
-//! What a step reads: the copies of a ticket, and what the steps before it have stored.
+//! What a step reads: what was there before the first step, and what the steps before it have stored.
 ghost use Rattle.std.specs.Prelude.{◌≡◌, ◌-◌, not, pos};
 ghost use Rattle.hep_machine.specs.Words.{is_number_among, natural};
 ghost use Rattle.hep_private.specs.Own.{stores_of};
 ghost use Rattle.hep_segments.specs.Memory.{last_stored, stored_in, stores_of_end, stores_of_entry, stores_of_store, values_now, written_now};
+ghost use Rattle.hep_private.specs.Own.{values_at};
+ghost use Rattle.hep_segments.specs.Bases.{values_of};
 ghost use Rattle.hep_segments.specs.Segments.{value_copied};
 
 use crate::ticket::Copied;
+use hep_machine::Slot;
 use hep_private::Record;
 use hep_source::Value;
 
-/// The cells of an activation: those of its unit's private scalars, the copies of a ticket, and the records of the steps since.
+/// The values that are there before the first step.
+#[derive(Clone, Copy)]
+pub(crate) enum Base<'a> {
+    /// Those of a ticket's copies.
+    Copies(&'a [Copied]),
+    /// Those in the slots of the arena, in which the frame begins at a cell.
+    Slots { slots: &'a [Slot], first: usize },
+}
+
+/// The cells of an activation: those of its unit's private scalars, what they have before the first step, and the records of the steps since.
 #[derive(Clone, Copy)]
 pub(crate) struct Memory<'a> {
     pub(crate) private: &'a [u32],
-    pub(crate) copies: &'a [Copied],
+    pub(crate) base: Base<'a>,
     pub(crate) records: &'a [Record],
 }
 
@@ -22,11 +34,33 @@ fn copied(copies: &[Copied], cell: usize) -> Option<Value>
     ensures { result ≡ value_copied copies.now cell }
 {
     for copy in copies {
-        if copy.cell as usize == cell {
+        if copy.cell == cell {
             return copy.value;
         }
     }
     None
+}
+
+// The value that a cell of a frame has in the arena, if it has one.
+fn held(slots: &[Slot], first: usize, cell: usize) -> Option<Value>
+    ensures { result ≡ values_at slots.now first cell }
+{
+    match slots.get(first.checked_add(cell)?) {
+        Some(slot) => slot.value,
+        None => None,
+    }
+}
+
+impl Base<'_> {
+    /// The value of a cell, if it has one.
+    pub(crate) fn value(self, cell: usize) -> Option<Value>
+        ensures { result ≡ values_of self.entry cell }
+    {
+        match self {
+            Base::Copies(copies) => copied(copies, cell),
+            Base::Slots { slots, first } => held(slots, first, cell),
+        }
+    }
 }
 
 // What a step of a DO stored: the value of its variable, and in its two cells how many iterations are left, and the increment.
@@ -171,7 +205,7 @@ impl Memory<'_> {
     {
         match stored(self.records, cell) {
             Some(value) => (false, Some(value)),
-            None => (true, copied(self.copies, cell)),
+            None => (true, self.base.value(cell)),
         }
     }
 }

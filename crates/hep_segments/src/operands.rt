@@ -5,7 +5,7 @@ ghost use Rattle.hep_code.specs.Words.{most_operands};
 use hep_source::Value;
 use std::marker::Model;
 
-const MOST_OPERANDS: usize = 256;
+pub(crate) const MOST_OPERANDS: usize = 256;
 
 /// As many operands as an activation has at most. Contracts see the list of them.
 #[derive(Drop)]

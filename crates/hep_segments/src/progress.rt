@@ -1,16 +1,18 @@
 //! Private steps, one after the other.
-ghost use Rattle.std.specs.Prelude.{◌≡◌, ◌<◌, drop, length, IfSome};
+ghost use Rattle.std.specs.Prelude.{◌≡◌, ◌<◌, [], drop, length, nat_le, IfSome};
+ghost use Rattle.hep_code.specs.Words.{most_operands};
 ghost use Rattle.hep_private.specs.Recorded.{next_made};
-ghost use Rattle.hep_segments.specs.Memory.{HasSettled, constant_ahead};
-ghost use Rattle.hep_segments.specs.Progress.{HasAdvanced, HasFound, HasMade, own_of};
-ghost use Rattle.hep_segments.specs.Segments.{most_records, value_copied};
+ghost use Rattle.hep_segments.specs.Bases.{values_of};
+ghost use Rattle.hep_segments.specs.Memory.{HasSettled, constant_ahead, operands_left};
+ghost use Rattle.hep_segments.specs.Progress.{HasAdvanced, HasFound, HasMade, own_behind, own_of};
+ghost use Rattle.hep_segments.specs.Segments.{most_records};
 
-use crate::memory::Memory;
-use crate::operands::Operands;
+use crate::memory::{Base, Memory};
+use crate::operands::{MOST_OPERANDS, Operands};
 use crate::performing::{Deed, Here, deed_ahead};
 use crate::records::Records;
-use crate::ticket::Copied;
 use hep_code::Instruction;
+use hep_private::Record;
 use hep_source::Value;
 
 /// The steps that were made so far, and where the activation is, with its operands.
@@ -21,12 +23,12 @@ pub(crate) struct Progress {
     pub(crate) index: usize,
 }
 
-/// What the steps are made of: the code of a unit, the cells of its private scalars, and the copies of a ticket.
+/// What the steps are made of: the code of a unit, the cells of its private scalars, and what is in the frame before the first step.
 #[derive(Clone, Copy)]
 pub(crate) struct Source<'a> {
     pub(crate) code: &'a [Instruction],
     pub(crate) private: &'a [u32],
-    pub(crate) copies: &'a [Copied],
+    pub(crate) base: Base<'a>,
 }
 
 // The constant at an index of the code, if one stands there.
@@ -54,28 +56,56 @@ fn settle(code: &[Instruction], operands: &mut Operands, index: usize) -> Option
     Some(at)
 }
 
-// The next step, if it is private. The constants that stand ahead are operands then.
-fn next_deed(source: &Source<'_>, progress: &mut Progress) -> Option<Deed>
-    ensures found { HasFound source.now.private.now source.now.code.now (own_of (value_copied source.now.copies.now) progress.old)
-        result progress.new.operands }
-    ensures records { progress.new.records ≡ progress.old.records }
-    ensures index { progress.new.index ≡ progress.old.index }
+/// The next step behind those with these records, if it is private. The constants that stand ahead are operands then.
+pub(crate) fn deed_behind(
+    source: &Source<'_>,
+    records: &[Record],
+    operands: &mut Operands,
+    index: usize,
+) -> Option<Deed>
+    ensures { HasFound source.now.private.now source.now.code.now (own_behind (values_of source.now.base) records.now operands.old index)
+        result operands.new }
 {
-    match settle(source.code, &mut progress.operands, progress.index) {
+    match settle(source.code, operands, index) {
         Some(index) => {
             let memory = Memory {
                 private: source.private,
-                copies: source.copies,
-                records: progress.records.as_slice(),
+                base: source.base,
+                records,
             };
             let here = Here {
                 memory,
-                operands: progress.operands.as_slice(),
+                operands: operands.as_slice(),
                 index,
             };
             deed_ahead(&here, source.code)
         }
         None => None,
+    }
+}
+
+// The next step of a segment, if it is private.
+fn next_deed(source: &Source<'_>, progress: &mut Progress) -> Option<Deed>
+    ensures found { HasFound source.now.private.now source.now.code.now (own_of (values_of source.now.base) progress.old)
+        result progress.new.operands }
+    ensures records { progress.new.records ≡ progress.old.records }
+    ensures index { progress.new.index ≡ progress.old.index }
+{
+    deed_behind(
+        source,
+        progress.records.as_slice(),
+        &mut progress.operands,
+        progress.index,
+    )
+}
+
+/// What a step gives has room behind the operands that it leaves.
+pub(crate) fn has_room(operands: &Operands, deed: Deed) -> bool
+    ensures { result ≡ nat_le (length (operands_left operands.now deed.given)) most_operands }
+{
+    match deed.given {
+        Some((kept, _)) => kept.min(operands.as_slice().len()) < MOST_OPERANDS,
+        None => true,
     }
 }
 
@@ -103,7 +133,7 @@ fn make(deed: Deed, kept: usize, progress: &mut Progress) -> bool
 /// Makes the next step, if it is private, and says whether it did. Else nothing changes.
 pub(crate) fn advance(source: &Source<'_>, progress: &mut Progress) -> bool
     requires { length progress.old.records < most_records }
-    ensures { HasAdvanced (next_made source.now.private.now source.now.code.now (own_of (value_copied source.now.copies.now) progress.old))
+    ensures { HasAdvanced (next_made source.now.private.now source.now.code.now (own_of (values_of source.now.base) progress.old))
         progress.old result progress.new }
 {
     let kept = progress.operands.as_slice().len();

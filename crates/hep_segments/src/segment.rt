@@ -1,15 +1,15 @@
 //! Segments.
-ghost use Rattle.std.specs.Prelude.{◌≡◌, ◌≤◌, ◌<◌, [], length, IfNone, IfSome};
+ghost use Rattle.std.specs.Prelude.{◌≡◌, ◌≤◌, [], length};
 ghost use Rattle.hep_code.specs.Words.{most_operands};
-ghost use Rattle.hep_image.specs.Image.{IsUnitCode};
-ghost use Rattle.hep_segments.specs.Progress.{HasTaken, IsBegun};
 ghost use Rattle.hep_segments.specs.Segments.{IsComputed, IsSegment, most_records};
 
+use crate::memory::Base;
 use crate::operands::{Operands, assign};
-use crate::progress::{Progress, Source, advance};
+use crate::progress::Progress;
 use crate::records::{MOST_RECORDS, Records};
+use crate::taking::take_steps;
 use crate::ticket::{Ticket, TicketId};
-use hep_image::{Image, UnitCode};
+use hep_image::Image;
 use hep_private::Record;
 use hep_source::Value;
 use std::marker::Model;
@@ -116,38 +116,6 @@ impl Segment {
     }
 }
 
-// What an image has of a unit, if it has that unit.
-fn unit_of(image: &Image, unit: u32) -> Option<&UnitCode>
-    ensures there { IfSome result (λ code. IsUnitCode image.now unit code.now) }
-    ensures none { IfNone result (length image.now ≤ unit) }
-{
-    if (unit as usize) < image.program().as_slice().len() {
-        Some(image.unit(unit as usize))
-    } else {
-        None
-    }
-}
-
-// Makes the private steps that come next, as many as there may be.
-fn take_steps(image: &Image, ticket: &Ticket, progress: &mut Progress)
-    requires { IsBegun ticket.now progress.old }
-    ensures { HasTaken image.now ticket.now progress.new }
-{
-    let Some(unit) = unit_of(image, ticket.unit()) else {
-        return;
-    };
-    let source = Source {
-        code: unit.code.as_slice(),
-        private: unit.private.as_slice(),
-        copies: ticket.copies(),
-    };
-    while progress.records.len() < MOST_RECORDS {
-        if !advance(&source, progress) {
-            return;
-        }
-    }
-}
-
 /// Makes the segment of a ticket in the place of another one, by an image. This needs no core and takes no memory.
 ///
 /// It makes the private steps that come next, until the next one isn't private or there are 1,023.
@@ -161,7 +129,13 @@ pub fn compute_into(image: &Image, ticket: &Ticket, segment: &mut Segment)
     segment.progress.records.clear();
     segment.progress.index = ticket.index();
     assign(&mut segment.progress.operands, ticket.operands());
-    take_steps(image, ticket, &mut segment.progress);
+    take_steps(
+        image,
+        ticket.unit(),
+        Base::Copies(ticket.copies()),
+        MOST_RECORDS,
+        &mut segment.progress,
+    );
 }
 
 /// The segment of a ticket, by an image, as [`compute_into`] makes it.

@@ -19,7 +19,7 @@ pub struct TicketId {
 #[derive(Clone, Copy, Debug, PartialEq, Eq)]
 pub struct Copied {
     /// The cell, counted from the first one of the frame.
-    pub cell: u32,
+    pub cell: usize,
     /// Its value, if it has one.
     pub value: Option<Value>,
 }

@@ -16,7 +16,7 @@ use Rattle.hep_step.specs.Calls.{GoesOn, IsCallAhead, comes_by, is_creation, las
 use Rattle.hep_step.specs.Simulation.{IsRunning, code_on_top, unit_addressed, unit_arrays, unit_code, Simulates, RunningTop, code_ahead}
 use Rattle.hep_accepted_laws.specs.Works.{ComesFrom}
 use Rattle.hep_state.specs.declared.upcoming.CallAhead.{CallAhead}
-use Rattle.hep_state.specs.Words.{HasResultBy, HoldsInTurn, IsAfterCall, IsAtCall, IsAtStep, IsMadeOf, IsTopRunning, IsTurning, TurnOf, given_of, AreRunning, IsKnown, snapshot_of, state_before, top_before, top_frame, turn_of, IsMaking, call_in, IsEnding, IsBehind, IsThere, running_top}
+use Rattle.hep_state.specs.Words.{AreNumbered, HasResultBy, HoldsInTurn, IsAfterCall, IsAtCall, IsAtStep, IsMadeOf, IsTopRunning, IsTurning, TurnOf, given_of, AreRunning, IsKnown, snapshot_of, state_before, top_before, top_frame, turn_of, IsMaking, call_in, IsEnding, IsBehind, IsPlaceOf, IsThere, running_top}
 use Rattle.hep_state.proofs.Standing.{are-on}
 use Rattle.hep_state.proofs.Moved.{standing-before, unit-is, top-node}
 use Rattle.hep_state.proofs.Runs.{there}
@@ -292,8 +292,10 @@ module _ {t : TurnOf} (call : CallAhead) (at : IsAtCall t call) (all : IsKnownTo
 -- ---- what is read of a machine where a process is at a CALL, CREATE or PURGE, and what its entries and operands give by that
 
 -- what is read of process p of a machine, with the operands past so many
-pub record IsRead (program : Units) (m : Machine) (p : ℕ) (q : Process) (entries : List Instruction) (arrays : List Array) (frame : CellFrame) (past : ℕ) (vs : List Value) : Type 0 where
-  pub process : q ≡ get_or m.processes.items (p - 1) q
+pub record IsRead (program : Units) (m : Machine) (p at : ℕ) (q : Process) (entries : List Instruction) (arrays : List Array) (frame : CellFrame) (past : ℕ) (vs : List Value) : Type 0 where
+  pub numbers : AreNumbered m
+  pub place : IsPlaceOf m.processes.items p at
+  pub process : q ≡ get_or m.processes.items at q
   pub behind : (l : Local) (ls : List Local) (before pending : List Value) → stack_of q ≡ stack_with l ls before pending → IsBehind program (nodes_of m.frames.nodes) l entries arrays frame
   pub operands : vs ≡ drop past q.operands.items
 
@@ -301,22 +303,22 @@ module _ {program : Units} {cells : ℕ} {choices : List ℕ} {p : ℕ} (m : Mac
   pub unit-inside : at.levels.level.unit < length program
   unit-inside = inside at.holds.turning
 
-  pub can-read : {q : Process} → q ≡ get_or m.processes.items (p - 1) q
+  pub can-read : {place : ℕ} {q : Process} → AreNumbered m → IsPlaceOf m.processes.items p place → q ≡ get_or m.processes.items place q
       → (l : Local) × (ls : List Local) × (operands : List Value) × (pending : List Value) × (stack_of q ≡ stack_with l ls operands pending) × IsThere program (nodes_of m.frames.nodes) l × (l.index < length (unit_code program l.unit))
-  can-read {q} is =
+  can-read {place} {q} numbers found is =
       let l = at.levels.level in
       let code = unit_code program l.unit in
-      let there = process-at m.processes.items p at.levels.kept is in
+      let there = process-at m p numbers found at.levels.kept is in
       (l, at.levels.below, at.levels.operands, at.levels.pending, there.stack, (unit-inside, top-node at.holds.turning), slice_get_within code l.index _ (dropped-first code l.index _ at.holds.behind at.holds.ahead))
 
 -- what is said of the frame, the arrays and the actual arguments of the caller is said of what was read
-module _ {program : Units} {cells : ℕ} {choices : List ℕ} {p : ℕ} {m : Machine} {line : ℕ} {o : Operation} {q : Process} {entries : List Instruction} {arrays : List Array} {frame : CellFrame} {past : ℕ} {operands : List Value}
-    (read : IsRead program m p q entries arrays frame past operands) (count : ℕ) (at : HoldsInTurn program cells choices p (snapshot_of m) (λ t. IsAtStep t line o)) where
+module _ {program : Units} {cells : ℕ} {choices : List ℕ} {p : ℕ} {m : Machine} {line : ℕ} {o : Operation} {place : ℕ} {q : Process} {entries : List Instruction} {arrays : List Array} {frame : CellFrame} {past : ℕ} {operands : List Value}
+    (read : IsRead program m p place q entries arrays frame past operands) (count : ℕ) (at : HoldsInTurn program cells choices p (snapshot_of m) (λ t. IsAtStep t line o)) where
   abbrev t : TurnOf
   t = turn_of at
 
   stack : stack_of q ≡ stack_with t.level t.below t.operands t.pending
-  stack = (process-at m.processes.items p at.levels.kept read.process).stack
+  stack = (process-at m p read.numbers read.place at.levels.kept read.process).stack
 
   here : IsBehind program (nodes_of m.frames.nodes) t.level entries arrays frame
   here = read.behind t.level t.below t.operands t.pending stack

@@ -1,11 +1,11 @@
 -- What a turn came to, by the cells that the machine before it had.
-use Rattle.std.proofs.Common.{◌≡◌, ℕ, List, sym, subst}
+use Rattle.std.proofs.Common.{ℕ, List, subst}
 use Rattle.hep_machine.specs.declared.event.Entry.{Entry}
 use Rattle.hep_machine.specs.Words.{Units, schedule_of}
 use Rattle.hep_state.specs.declared.machine.Machine.{Machine}
 use Rattle.hep_state.specs.declared.turn.TurnFault.{TurnFault}
 use Rattle.hep_state.specs.declared.turn.Turned.{Turned}
-use Rattle.hep_state.specs.Words.{HasTurned, IsAfterHistory, IsMachineAfter, IsTurn, IsUntaken, IsUnturned, LeavesAlone, cells_of}
+use Rattle.hep_state.specs.Words.{HasTurned, IsAfterHistory, IsMachineAfter, IsTurn, IsUntaken, IsUnturned, LeavesAlone}
 use Rattle.hep_state.proofs.Unchanged.{own-size}
 
 module _ (program : Units) (cells : ℕ) (history : List Entry) (old : Machine) (h : IsMachineAfter program cells (schedule_of history) old) where

@@ -6,6 +6,8 @@ pub mod Begun
 pub mod Resumed
 pub mod Tops
 pub mod Opened
+pub mod Numbered
+pub mod Searching
 pub mod Processes
 pub mod Taken
 pub mod Changes

@@ -1,75 +1,105 @@
 -- A process of a machine: its stack, what the machine shows once it has another one, and that there is still room for operands.
-use Rattle.std.proofs.Common.{◌≡◌, ℕ, zero, suc, ◌-◌, ◌<◌, ◌≤◌, true, false, not, nat_eq, List, [], ◌∷◌, ◌++◌, length, map, get_or, reverse, Some, None, refl, sym, ap, ◌∙◌, subst, arith, slice_get, slice_set, vec_capacity, vec_len}
-use Rattle.std.proofs.lemmas.Bool.Decides.{nat_tests}
-use Rattle.std.proofs.lemmas.List.{length-map, map-set, reverse-append, set-get_or, length-append, reverse-reverse}
-use Rattle.std.proofs.lemmas.Option.{same_Some, none-some, slice_get-get_or, slice_get-map, slice_get_past, slice_get_within}
+use Rattle.std.proofs.Common.{◌≡◌, ◌⊎◌, inl, inr, ℕ, zero, suc, ◌<◌, ◌≤◌, true, false, true≢false, List, [], ◌∷◌, ◌++◌, length, get_or, reverse, Some, None, refl, sym, ap, ◌∙◌, subst, arith, slice_get, slice_set, vec_capacity, vec_len}
+use Rattle.std.proofs.lemmas.Bool.{cases_Bool, cases_lt}
+use Rattle.std.proofs.lemmas.List.{reverse-append}
+use Rattle.std.proofs.lemmas.Option.{same_Some, none-some, slice_get-get_or, slice_get-map}
 use Rattle.std.specs.Option.{option_map}
-use Rattle.hep_machine.specs.Words.{Value, Units, numbered, with_numbered}
+use Rattle.hep_machine.specs.Words.{Value, Units, is_number_among, numbered, with_numbered}
+use Rattle.hep_blocked.specs.Numbers.{AreRising}
 use Rattle.hep_code.specs.Words.{deepest}
 use Rattle.hep_step.specs.Simulation.{unit_code}
 use Rattle.hep_proc.specs.declared.process.Local.{Local}
 use Rattle.hep_proc.specs.declared.process.Process.{Process}
-use Rattle.hep_proc.specs.Stacks.{Stack, stack_of, stack_with}
+use Rattle.hep_proc.specs.Stacks.{Stack, no_stack, stack_of, stack_with}
 use Rattle.hep_proc.proofs.Levels.{has-levels, last-there, levels-are, some-levels}
-use Rattle.hep_state.specs.Words.{HasRoom}
+use Rattle.hep_state.specs.declared.machine.Machine.{Machine}
+use Rattle.hep_state.specs.Words.{AreNumbered, HasLevels, HasRoom, IsPlaceOf, numbers_of, snapshot_of, stacks_of}
+use Rattle.hep_state.proofs.Numbered.{number-within, numbered-past, numbered-stack, numbered-there, numbers-set, one-place, set-stacks, stack-absent, stack-found}
 use Rattle.hep_source.proofs.Tests.{at-front}
 
--- ---- numbered processes
+-- ---- the process of a number
 
-numbered-one : {A : Type 0} (xs : List A) (p : ℕ) (x : A) → numbered xs p ≡ Some x → (1 ≤ p) × (slice_get xs (p - 1) ≡ Some x)
-numbered-one xs zero x e = absurd (none-some x e)
-numbered-one xs (suc i) x e = let same : suc i - 1 ≡ i = omega arith in (omega arith, ap (slice_get xs) same ∙ e)
-
--- a process that has a stack is the one at the index below its number
-pub record IsAt (qs : List Process) (p : ℕ) (k : Stack) (q : Process) : Type 0 where
-  pub one : 1 ≤ p
-  pub inside : p - 1 < length qs
-  pub there : slice_get qs (p - 1) ≡ Some q
+-- a process that stands at a place and has a stack
+pub record IsAt (qs : List Process) (p at : ℕ) (k : Stack) (q : Process) : Type 0 where
+  pub inside : at < length qs
+  pub there : slice_get qs at ≡ Some q
+  pub number : q.number ≡ p
   pub stack : stack_of q ≡ k
 
-pub inside-at : (qs : List Process) (p : ℕ) (k : Stack) → numbered (map stack_of qs) p ≡ Some k → (1 ≤ p) × (p - 1 < length qs)
-inside-at qs p k kept =
-    let it = numbered-one (map stack_of qs) p k kept in
-    (it.0, omega (arith, slice_get_within (map stack_of qs) (p - 1) k it.1, length-map {A = Process} qs stack_of))
-
-pub process-at : (qs : List Process) (p : ℕ) {k : Stack} {q : Process} → numbered (map stack_of qs) p ≡ Some k → q ≡ get_or qs (p - 1) q → IsAt qs p k q
-process-at qs p {k} {q} kept is =
-    let inside = inside-at qs p k kept in
-    let there : slice_get qs (p - 1) ≡ Some q = slice_get-get_or qs (p - 1) q inside.1 ∙ ap (λ z. Some z) (sym is) in
+-- the one at the place of p, where p has a stack
+pub process-at : (m : Machine) (p : ℕ) {at : ℕ} {k : Stack} {q : Process} → AreNumbered m → IsPlaceOf m.processes.items p at → numbered (snapshot_of m).processes p ≡ Some k → q ≡ get_or m.processes.items at q → IsAt m.processes.items p at k q
+process-at m p {at} {k} {q} numbers place kept is =
+    let qs = m.processes.items in
+    let there : slice_get qs at ≡ Some q = slice_get-get_or qs at q place.inside ∙ ap (λ z. Some z) (sym is) in
+    let own : q.number ≡ p = same_Some q.number p (sym (slice_get-map (λ (z : Process). z.number) qs at ∙ ap (option_map (λ (z : Process). z.number)) there) ∙ place.number) in
     record {
-      one = inside.0;
-      inside = inside.1;
+      inside = place.inside;
       there = there;
-      stack = same_Some (stack_of q) k (sym (slice_get-map stack_of qs (p - 1) ∙ ap (option_map stack_of) there) ∙ (numbered-one (map stack_of qs) p k kept).1);
+      number = own;
+      stack = sym (stack-found p 1 m.made qs at q numbers there own) ∙ (numbered-there qs m.made p k kept).2;
     }
 
 -- its levels, where it has some
-pub some-levels-at : {qs : List Process} {p : ℕ} {l : Local} {ls : List Local} {operands pending : List Value} {q : Process} → IsAt qs p (stack_with l ls operands pending) q → 0 < vec_len q.levels
-some-levels-at {qs} {p} {l} {ls} {operands} {pending} {q} it = some-levels q l ls operands pending it.stack
+pub some-levels-at : {qs : List Process} {p at : ℕ} {l : Local} {ls : List Local} {operands pending : List Value} {q : Process} → IsAt qs p at (stack_with l ls operands pending) q → 0 < vec_len q.levels
+some-levels-at {qs} {p} {at} {l} {ls} {operands} {pending} {q} it = some-levels q l ls operands pending it.stack
 
--- where other processes are the same as these
-pub process-still : (old new : List Process) (p : ℕ) {k : Stack} {q : Process} → new ≡ old → numbered (map stack_of old) p ≡ Some k → q ≡ get_or new (p - 1) q → IsAt new p k q
-process-still old new p {k} {q} same kept is = process-at new p (ap (λ qs. numbered (map stack_of qs) p) same ∙ kept) is
+-- in a machine with the same processes
+pub numbers-still : (old new : Machine) → new.processes.items ≡ old.processes.items → new.made ≡ old.made → AreNumbered old → AreNumbered new
+numbers-still old new same made numbers = subst (λ n. AreRising 1 n (numbers_of new.processes.items)) (sym made) (subst (λ qs. AreRising 1 old.made (numbers_of qs)) (sym same) numbers)
 
-pub stacks-set : (qs : List Process) (p : ℕ) (r : Process) (k : Stack) → stack_of r ≡ k → map stack_of (slice_set qs (p - 1) r) ≡ with_numbered (map stack_of qs) p k
-stacks-set qs p r k is = map-set stack_of qs (p - 1) r ∙ ap (λ z. with_numbered (map stack_of qs) p z) is
+pub process-still : (old new : Machine) (p : ℕ) {at : ℕ} {k : Stack} {q : Process} → new.processes.items ≡ old.processes.items → new.made ≡ old.made → AreNumbered old → IsPlaceOf old.processes.items p at → numbered (snapshot_of old).processes p ≡ Some k
+    → q ≡ get_or new.processes.items at q → IsAt new.processes.items p at k q
+process-still old new p {at} same made numbers place kept is =
+    process-at new p (numbers-still old new same made numbers) (subst (λ qs. IsPlaceOf qs p at) (sym same) place) ((λ i. numbered (stacks_of (same i) (made i)) p) ∙ kept) is
+
+-- where one has another stack, and the same number
+pub stacks-set : (m : Machine) (p : ℕ) {at : ℕ} {before : Stack} {q : Process} (r : Process) (k : Stack) → AreNumbered m → IsAt m.processes.items p at before q → r.number ≡ q.number → stack_of r ≡ k
+    → stacks_of (slice_set m.processes.items at r) m.made ≡ with_numbered (snapshot_of m).processes p k
+stacks-set m p {at} {before} {q} r k numbers it same is = set-stacks m.processes.items m.made p at q r k numbers it.there it.number (same ∙ it.number) is
+
+pub numbered-set : (m : Machine) (p : ℕ) {at : ℕ} {before : Stack} {q : Process} (r : Process) → AreNumbered m → IsAt m.processes.items p at before q → r.number ≡ q.number → AreRising 1 m.made (numbers_of (slice_set m.processes.items at r))
+numbered-set m p {at} {before} {q} r numbers it same = subst (AreRising 1 m.made) (sym (numbers-set m.processes.items at q r it.there same)) numbers
 
 -- ---- which processes have levels
 
-pub numbered-at : (qs : List Process) (p : ℕ) (q : Process) → (p ≡ 0 → ⊥) → slice_get qs (p - 1) ≡ Some q → numbered (map stack_of qs) p ≡ Some (stack_of q)
-numbered-at qs zero q one e = absurd (one refl)
-numbered-at qs (suc i) q one e = let same : suc i - 1 ≡ i = omega arith in slice_get-map stack_of qs i ∙ ap (option_map stack_of) (sym (ap (slice_get qs) same) ∙ e)
+-- one that is kept
+pub numbered-at : (m : Machine) (p at : ℕ) (q : Process) → AreNumbered m → slice_get m.processes.items at ≡ Some q → q.number ≡ p → numbered (snapshot_of m).processes p ≡ Some (stack_of q)
+numbered-at m p at q numbers there own =
+    let within = number-within 1 m.made m.processes.items at q numbers there in
+    numbered-stack m.processes.items m.made p (omega (arith, within.0, own)) (omega (arith, within.1, own))
+    ∙ ap (λ k. Some k) (stack-found p 1 m.made m.processes.items at q numbers there own)
 
-pub numbered-past : (qs : List Process) (p : ℕ) → (p ≡ 0 → ⊥) → length qs ≤ p - 1 → numbered (map stack_of qs) p ≡ None
-numbered-past qs zero one le = absurd (one refl)
-numbered-past qs (suc i) one le = slice_get_past (map stack_of qs) i (omega (arith, le, length-map {A = Process} qs stack_of))
+-- the one at the place of p
+pub numbered-of : (m : Machine) (p : ℕ) {at : ℕ} {q : Process} → AreNumbered m → IsPlaceOf m.processes.items p at → q ≡ get_or m.processes.items at q → numbered (snapshot_of m).processes p ≡ Some (stack_of q)
+numbered-of m p {at} {q} numbers place is =
+    let qs = m.processes.items in
+    let there : slice_get qs at ≡ Some q = slice_get-get_or qs at q place.inside ∙ ap (λ z. Some z) (sym is) in
+    let own : q.number ≡ p = same_Some q.number p (sym (slice_get-map (λ (z : Process). z.number) qs at ∙ ap (option_map (λ (z : Process). z.number)) there) ∙ place.number) in
+    numbered-at m p at q numbers there own
 
-pub some-levels-of : (qs : List Process) (p : ℕ) (q : Process) → numbered (map stack_of qs) p ≡ Some (stack_of q) → has-levels (reverse q.levels.items) ≡ true
-    → (l : Local) × (ls : List Local) × (numbered (map stack_of qs) p ≡ Some (stack_with l ls q.operands.items q.pending.items))
-some-levels-of qs p q there some = by_levels (reverse q.levels.items) refl some where
-  by_levels : (ks : List Local) → reverse q.levels.items ≡ ks → has-levels ks ≡ true → (l : Local) × (ls : List Local) × (numbered (map stack_of qs) p ≡ Some (stack_with l ls q.operands.items q.pending.items))
+-- one that isn't
+pub numbered-absent : (m : Machine) (p : ℕ) → is_number_among p (numbers_of m.processes.items) ≡ false → (numbered (snapshot_of m).processes p ≡ None) ⊎ (numbered (snapshot_of m).processes p ≡ Some no_stack)
+numbered-absent m zero none = inl refl
+numbered-absent m (suc i) none = elim (cases_lt m.made (suc i)) [
+  | inl past ↦ inl (numbered-past m.processes.items m.made (suc i) past)
+  | inr within ↦ inr (numbered-stack m.processes.items m.made (suc i) (omega arith) within ∙ ap (λ k. Some k) (stack-absent (suc i) m.processes.items none))
+]
+
+pub some-levels-of : (ks : List Stack) (p : ℕ) (q : Process) → numbered ks p ≡ Some (stack_of q) → has-levels (reverse q.levels.items) ≡ true
+    → (l : Local) × (ls : List Local) × (numbered ks p ≡ Some (stack_with l ls q.operands.items q.pending.items))
+some-levels-of ks p q there some = by_levels (reverse q.levels.items) refl some where
+  by_levels : (ls : List Local) → reverse q.levels.items ≡ ls → has-levels ls ≡ true → (l : Local) × (ms : List Local) × (numbered ks p ≡ Some (stack_with l ms q.operands.items q.pending.items))
   by_levels [] e h = absurd cc
   by_levels (l ∷ ls) e h = (l, ls, there ∙ (λ i. Some (record { levels = e i; operands = q.operands.items; pending = q.pending.items })))
+
+-- one that has levels is kept
+pub levels-kept : (m : Machine) (p : ℕ) → HasLevels (snapshot_of m) p → is_number_among p (numbers_of m.processes.items) ≡ true
+levels-kept m p levels = elim (cases_Bool (is_number_among p (numbers_of m.processes.items))) [
+  | inl among ↦ among
+  | inr none ↦ absurd (no-levels levels.level levels.below (ap (λ (k : Stack). k.levels) (sym (stack-absent p m.processes.items none) ∙ (numbered-there m.processes.items m.made p (stack_with levels.level levels.below levels.operands levels.pending) levels.kept).2)))
+] where
+  no-levels : (l : Local) (ls : List Local) → [] ≡ l ∷ ls → ⊥
+  no-levels l ls e = true≢false (sym (ap has-levels e))
 
 -- ---- room for operands
 
@@ -138,16 +168,20 @@ room-alone program q level alone enough i l e =
 -- ---- a process gets room for more levels and operands, and is the same but for that
 
 -- what was put in a place is there
-pub set-there : {A : Type 0} (xs : List A) (i : ℕ) (x y : A) → slice_get (slice_set xs i x) i ≡ Some y → x ≡ y
-set-there [] i x y e = absurd (none-some y e)
-set-there (z ∷ zs) zero x y e = same_Some x y e
-set-there (z ∷ zs) (suc i) x y e = set-there zs i x y e
+slice_set_there : {A : Type 0} (xs : List A) (i : ℕ) (x : A) → i < length xs → slice_get (slice_set xs i x) i ≡ Some x
+slice_set_there [] i x h = absurd (omega (arith, h))
+slice_set_there (z ∷ zs) zero x h = refl
+slice_set_there (z ∷ zs) (suc i) x h = slice_set_there zs i x (omega (arith, h))
 
--- its stack is the same
-pub stacks-same : (qs : List Process) (j : ℕ) (q r : Process) → q ≡ get_or qs j q → r.levels.items ≡ q.levels.items → r.operands.items ≡ q.operands.items → r.pending.items ≡ q.pending.items → map stack_of (slice_set qs j r) ≡ map stack_of qs
-stacks-same qs j q r is levels operands pending =
-    let same : stack_of r ≡ stack_of q = λ i. record { levels = reverse (levels i); operands = operands i; pending = pending i } in
-    map-set stack_of qs j r ∙ (ap (slice_set (map stack_of qs) j) same ∙ (sym (map-set stack_of qs j q) ∙ ap (map stack_of) (ap (slice_set qs j) is ∙ set-get_or qs j q)))
+-- it is the one process of its number
+pub is-there : (m : Machine) (p : ℕ) {at : ℕ} {before : Stack} {q : Process} (r : Process) → AreNumbered m → IsAt m.processes.items p at before q → r.number ≡ q.number
+    → (i : ℕ) (z : Process) → slice_get (slice_set m.processes.items at r) i ≡ Some z → z.number ≡ p → r ≡ z
+is-there m p {at} r numbers it same i z e own =
+    let rs = slice_set m.processes.items at r in
+    let rise = numbered-set m p r numbers it same in
+    let there = slice_set_there m.processes.items at r it.inside in
+    let place : i ≡ at = one-place 1 m.made rs i at z r rise e there (own ∙ sym (same ∙ it.number)) in
+    same_Some r z (sym there ∙ (ap (slice_get rs) (sym place) ∙ e))
 
 pub room-reserved : (program : Units) (q r : Process) → r.levels.items ≡ q.levels.items → vec_capacity q.operands ≤ vec_capacity r.operands → HasRoom program q → HasRoom program r
 room-reserved program q r levels more room i l e =

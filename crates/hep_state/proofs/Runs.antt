@@ -5,7 +5,7 @@ use Rattle.std.specs.Option.{option_map, unwrap_or}
 use Rattle.std.proofs.lemmas.Bool.{eq-eqb, eqb-true, eqb-false, cases_Bool}
 use Rattle.std.proofs.lemmas.Bool.Decides.{nat_tests}
 use Rattle.hep_machine.specs.Words.{Units, IsSameOrOneMore, Frame, Layout, Placing, common_cells, frame_of, is_held, layout_after_step, layout_after_turn, layout_of, layout_with_activation, lowest_gap, opening_layout, placing_from, placing_turn, remaining_layout, with_frame, opening, run, run_from, state_after_turn, State, Process, step, numbered, with_numbered}
-use Rattle.hep_machine.proofs.Others.{activations_after, other_numbered}
+use Rattle.hep_machine.proofs.Others.{activations_after, other_numbered, processes_after}
 use Rattle.hep_arena.specs.Gaps.{frame_among}
 use Rattle.hep_layout.specs.Words.{frame_from, IsAtRest, is_stacked, FrameNode, Nodes}
 use Rattle.hep_layout.proofs.HeldFrames.{run-last}
@@ -125,6 +125,21 @@ few-from program s (p ∷ ps) =
 pub few : (program : Units) (choices : List ℕ) → length (run program choices).activations ≤ 1 + length choices
 unfolding run opening
 few program choices = few-from program (opening program) choices
+
+-- and one process at most
+few-processes-from : (program : Units) (s : State) (ps : List ℕ) → length (run_from program s ps).processes ≤ length s.processes + length ps
+unfolding run_from
+few-processes-from program s [] = omega arith
+few-processes-from program s (p ∷ ps) =
+    let rest = few-processes-from program (state_after_turn program p s) ps in
+    elim (processes_after program p s) [
+      | inl same ↦ omega (arith, same, rest)
+      | inr more ↦ omega (arith, more, rest)
+    ]
+
+pub few-processes : (program : Units) (choices : List ℕ) → length (run program choices).processes ≤ 1 + length choices
+unfolding run opening
+few-processes program choices = few-processes-from program (opening program) choices
 
 -- ---- a layout all frames of which are kept
 

@@ -1,5 +1,5 @@
 -- The top activation of a process whose turn it is runs as the laws of steps ask; which processes have turns.
-use Rattle.std.proofs.Common.{◌≡◌, ◌≢◌, inl, ℕ, zero, suc, ◌+◌, ◌<◌, ◌≤◌, true, List, [], ◌∷◌, drop, length, Some, None, refl, sym, ap, ◌∙◌, subst, arith, inr, false, Option, ◌||◌, slice_get, Bool, is_some, eq-eqb, length-set}
+use Rattle.std.proofs.Common.{◌≡◌, ◌≢◌, inl, ℕ, zero, suc, ◌+◌, ◌<◌, ◌≤◌, true, List, [], ◌∷◌, drop, length, Some, None, refl, sym, ap, ◌∙◌, subst, arith, inr, false, Option, ◌||◌, slice_get, is_some, eq-eqb, length-set}
 use Rattle.std.proofs.lemmas.Option.{same_Some, none-some, slice_get_cases, slice_get_within}
 use Rattle.hep_machine.specs.Words.{Name, Value, index_among, is_array, Units, dummies_of, unit_at, Layout, activations_on, is_number_among, numbered, unit_of, with_numbered, living, top_of, run, Activation, Process, State, Work, Top, scope_of, state_with_level, unit_on_top}
 use Rattle.hep_machine.specs.declared.slot.Slot.{Slot}

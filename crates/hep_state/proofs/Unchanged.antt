@@ -1,19 +1,21 @@
 -- A machine that keeps what it kept: where only room was made, or what a CALL gives was written.
-use Rattle.std.proofs.Common.{◌≡◌, ℕ, ◌+◌, ◌∷◌, ◌++◌, [], None, List, Result, Ok, Err, sym, ap, ◌∙◌, subst, IfErr, OnErr, slice_get, slice_set, length}
+use Rattle.std.proofs.Common.{◌≡◌, ◌⊎◌, inl, inr, ℕ, ◌+◌, ◌∷◌, ◌++◌, [], Some, None, arith, List, Result, Ok, Err, sym, ap, ◌∙◌, subst, IfErr, OnErr, slice_get, slice_set, length}
+use Rattle.std.specs.List.{filter}
 use Rattle.std.specs.Result.{IsErr, IsErrAnd}
 use Rattle.std.proofs.lemmas.Result.{err_from_is_err_and}
-use Rattle.std.proofs.lemmas.List.{length-map}
 use Rattle.hep_machine.specs.declared.event.Entry.{Entry}
 use Rattle.hep_machine.specs.Words.{Units, schedule_of}
 use Rattle.hep_arena.specs.Space.{Space}
+use Rattle.hep_blocked.specs.Numbers.{AreRising}
 use Rattle.hep_state.specs.declared.machine.Machine.{Machine}
 use Rattle.hep_proc.specs.declared.process.Process.{Process}
-use Rattle.hep_proc.specs.Stacks.{stack_of}
+use Rattle.hep_proc.specs.Stacks.{Stack, is_left}
 use Rattle.hep_state.specs.declared.turn.Turned.TheVariants.{Stepped}
 use Rattle.hep_state.specs.declared.turn.TurnFault.{TurnFault}
 use Rattle.hep_state.specs.declared.turn.TurnFault.TheVariants.{NoMemory}
-use Rattle.hep_state.specs.Words.{Changes, HasStepped, HasTurned, HasRoom, HasRoomToPass, HaveRoom, IsMachineAfter, Snapshot, snapshot_of, IsAfter, IsAfterHistory, IsSeenSame, LeavesAlone, cells_of}
-use Rattle.hep_state.proofs.Processes.{all-set}
+use Rattle.hep_state.specs.Words.{AreNumbered, Changes, HasStepped, HasTurned, HasRoom, HasRoomToPass, HaveRoom, IsMachineAfter, ShowsSame, Snapshot, numbers_of, snapshot_of, stacks_of, IsAfter, IsAfterHistory, IsSeenSame, LeavesAlone, cells_of}
+use Rattle.hep_state.proofs.Numbered.{got-left, left-stacks, length-stacks, numbers-left, numbers-more}
+use Rattle.hep_state.proofs.Processes.{IsAt, all-more, all-set, numbered-set, numbers-still}
 
 -- ---- answers
 
@@ -32,15 +34,59 @@ on-err (Ok x) h given = absurd cc
 -- ---- machines
 
 pub rooms-of : (program : Units) (cells : ℕ) (choices : List ℕ) (m : Machine) → IsMachineAfter program cells choices m → HaveRoom program cells m
-rooms-of program cells choices m h = record { few = h.few; to_pass = h.to_pass; room = h.room }
+rooms-of program cells choices m h = record { few = h.few; to_pass = h.to_pass; room = h.room; numbers = h.numbers }
 
 pub machine-of : (program : Units) (cells : ℕ) (choices : List ℕ) (m : Machine) → IsAfter program cells choices (snapshot_of m) → HaveRoom program cells m → IsMachineAfter program cells choices m
-machine-of program cells choices m after rooms = record { after = after; few = rooms.few; to_pass = rooms.to_pass; room = rooms.room }
+machine-of program cells choices m after rooms = record { after = after; few = rooms.few; to_pass = rooms.to_pass; room = rooms.room; numbers = rooms.numbers }
 
--- in which one process is another one
-pub rooms-set : (program : Units) (cells : ℕ) (old new : Machine) (j : ℕ) (r : Process) → new.processes.items ≡ slice_set old.processes.items j r → new.passing ≡ old.passing → HasRoom program r → HaveRoom program cells old → HaveRoom program cells new
-rooms-set program cells old new j r set passing room h =
-    record { few = h.few; to_pass = subst (HasRoomToPass program) (sym passing) h.to_pass; room = λ i q e. all-set (HasRoom program) old.processes.items j r h.room room i q (ap (λ qs. slice_get qs i) (sym set) ∙ e) }
+-- in which one process has another stack, and the same number
+pub rooms-set : (program : Units) (cells : ℕ) (old new : Machine) {p at : ℕ} {k : Stack} {q : Process} (r : Process) → IsAt old.processes.items p at k q → r.number ≡ q.number
+    → new.processes.items ≡ slice_set old.processes.items at r → new.made ≡ old.made → new.passing ≡ old.passing → HasRoom program r → HaveRoom program cells old → HaveRoom program cells new
+rooms-set program cells old new {p} {at} r it same set made passing room h =
+    record {
+      few = h.few;
+      to_pass = subst (HasRoomToPass program) (sym passing) h.to_pass;
+      room = λ i z e. all-set (HasRoom program) old.processes.items at r h.room room i z (ap (λ qs. slice_get qs i) (sym set) ∙ e);
+      numbers = subst (λ n. AreRising 1 n (numbers_of new.processes.items)) (sym made) (subst (λ qs. AreRising 1 old.made (numbers_of qs)) (sym set) (numbered-set old p r h.numbers it same));
+    }
+
+-- in which there is one process more, with the next number
+pub rooms-more : (program : Units) (cells : ℕ) (old new : Machine) (rs : List Process) (r : Process) → new.processes.items ≡ rs ++ r ∷ [] → new.made ≡ old.made + 1 → r.number ≡ old.made + 1 → new.passing ≡ old.passing
+    → AreRising 1 old.made (numbers_of rs) → ((i : ℕ) (q : Process) → slice_get rs i ≡ Some q → HasRoom program q) → HasRoom program r → HaveRoom program cells old → HaveRoom program cells new
+rooms-more program cells old new rs r more made next passing numbers others own h =
+    record {
+      few = h.few;
+      to_pass = subst (HasRoomToPass program) (sym passing) h.to_pass;
+      room = λ i q e. all-more (HasRoom program) rs r others own i q (ap (λ qs. slice_get qs i) (sym more) ∙ e);
+      numbers = subst (λ n. AreRising 1 n (numbers_of new.processes.items)) (next ∙ sym made) (
+          subst (λ qs. AreRising 1 r.number (numbers_of qs)) (sym more) (numbers-more 1 old.made rs r numbers (omega (arith, next)) (omega (arith, next))));
+    }
+
+-- in which at most those went of which nothing is left
+abbrev pub AreLeft : Machine → Machine → Type 0
+AreLeft old new = (new.processes.items ≡ old.processes.items) ⊎ (new.processes.items ≡ filter is_left old.processes.items)
+
+pub shows-left : (old new : Machine) → AreNumbered old → AreLeft old new → new ≡ record old { processes = new.processes } → ShowsSame old new
+shows-left old new numbers left others =
+    record {
+      shown = ap snapshot_of others ∙ (λ i. record (snapshot_of old) { processes = stacks left i });
+      made = ap (λ (m : Machine). m.made) others;
+      passing = ap (λ (m : Machine). m.passing) others;
+      rooms = λ program cells h. subst (HaveRoom program cells) (sym others) (
+          record { few = h.few; to_pass = h.to_pass; room = room program h left; numbers = rise h.numbers left });
+    }
+  where
+    stacks : AreLeft old new → stacks_of new.processes.items old.made ≡ stacks_of old.processes.items old.made
+    stacks (inl same) = ap (λ qs. stacks_of qs old.made) same
+    stacks (inr fewer) = ap (λ qs. stacks_of qs old.made) fewer ∙ left-stacks old.processes.items old.made numbers
+
+    rise : AreNumbered old → AreLeft old new → AreRising 1 old.made (numbers_of new.processes.items)
+    rise h (inl same) = subst (λ qs. AreRising 1 old.made (numbers_of qs)) (sym same) h
+    rise h (inr fewer) = subst (λ qs. AreRising 1 old.made (numbers_of qs)) (sym fewer) (numbers-left 1 old.made old.processes.items h)
+
+    room : (program : Units) {cells : ℕ} → HaveRoom program cells old → AreLeft old new → (i : ℕ) (q : Process) → slice_get new.processes.items i ≡ Some q → HasRoom program q
+    room program h (inl same) i q e = h.room i q (ap (λ qs. slice_get qs i) (sym same) ∙ e)
+    room program h (inr fewer) i q e = let was = got-left old.processes.items i q (ap (λ qs. slice_get qs i) (sym fewer) ∙ e) in h.room was.0 q was.1
 
 -- in which room was made
 pub machine-reserved : (program : Units) (cells : ℕ) (choices : List ℕ) (old new : Machine) → snapshot_of new ≡ snapshot_of old → (HaveRoom program cells old → HaveRoom program cells new) → IsMachineAfter program cells choices old → IsMachineAfter program cells choices new
@@ -48,16 +94,17 @@ machine-reserved program cells choices old new shown rooms h = machine-of progra
 
 -- in which an activation has begun
 pub rooms-begun : (program : Units) (cells : ℕ) (old new : Machine) → new ≡ record old { frames = new.frames; activations = old.activations + 1 } → HaveRoom program cells old → HaveRoom program cells new
-rooms-begun program cells old new others h = subst (HaveRoom program cells) (sym others) (record { few = h.few; to_pass = h.to_pass; room = h.room })
+rooms-begun program cells old new others h = subst (HaveRoom program cells) (sym others) (record { few = h.few; to_pass = h.to_pass; room = h.room; numbers = h.numbers })
 
 -- another one that shows the same, with the same processes and the same room to pass
-pub machine-same : (program : Units) (cells : ℕ) (choices : List ℕ) (old new : Machine) → snapshot_of new ≡ snapshot_of old → new.processes ≡ old.processes → new.passing ≡ old.passing → IsMachineAfter program cells choices old → IsMachineAfter program cells choices new
-machine-same program cells choices old new shown processes passing h =
+pub machine-same : (program : Units) (cells : ℕ) (choices : List ℕ) (old new : Machine) → snapshot_of new ≡ snapshot_of old → new.processes ≡ old.processes → new.made ≡ old.made → new.passing ≡ old.passing → IsMachineAfter program cells choices old → IsMachineAfter program cells choices new
+machine-same program cells choices old new shown processes made passing h =
     record {
       after = subst (IsAfter program cells choices) (sym shown) h.after;
       few = h.few;
       to_pass = subst (HasRoomToPass program) (sym passing) h.to_pass;
       room = λ i q e. h.room i q (ap (λ qs. slice_get qs i) (ap (λ v. v.items) (sym processes)) ∙ e);
+      numbers = numbers-still old new (ap (λ v. v.items) processes) made h.numbers;
     }
 
 -- records and faults stay, with other room
@@ -67,11 +114,11 @@ shown-written old new others records faults = ap snapshot_of others ∙ (λ i. r
 pub machine-written : (program : Units) (cells : ℕ) (choices : List ℕ) (old new : Machine) → new ≡ record old { records = new.records; faults = new.faults } → new.records.items ≡ old.records.items → new.faults.items ≡ old.faults.items
     → IsMachineAfter program cells choices old → IsMachineAfter program cells choices new
 machine-written program cells choices old new others records faults =
-    machine-same program cells choices old new (shown-written old new others records faults) (ap (λ (m : Machine). m.processes) others) (ap (λ (m : Machine). m.passing) others)
+    machine-same program cells choices old new (shown-written old new others records faults) (ap (λ (m : Machine). m.processes) others) (ap (λ (m : Machine). m.made) others) (ap (λ (m : Machine). m.passing) others)
 
 -- with the room that there was
 pub rooms-written : (program : Units) (cells : ℕ) (old new : Machine) → new ≡ record old { records = new.records; faults = new.faults } → HaveRoom program cells old → HaveRoom program cells new
-rooms-written program cells old new others h = subst (HaveRoom program cells) (sym others) (record { few = h.few; to_pass = h.to_pass; room = h.room })
+rooms-written program cells old new others h = subst (HaveRoom program cells) (sym others) (record { few = h.few; to_pass = h.to_pass; room = h.room; numbers = h.numbers })
 
 -- ---- machines that are seen as others
 
@@ -101,8 +148,8 @@ seen-again old mid new h k =
     }
 
 -- as many processes
-pub as-many : (old new : Machine) → IsSeenSame (snapshot_of old) (snapshot_of new) → length new.processes.items ≡ length old.processes.items
-as-many old new h = sym (length-map new.processes.items stack_of) ∙ (h.processes ∙ length-map old.processes.items stack_of)
+pub as-many : (old new : Machine) → IsSeenSame (snapshot_of old) (snapshot_of new) → new.made ≡ old.made
+as-many old new h = sym (length-stacks new.processes.items 1 new.made) ∙ (h.processes ∙ length-stacks old.processes.items 1 old.made)
 
 -- as large an arena
 pub as-large : (old new : Machine) → IsSeenSame (snapshot_of old) (snapshot_of new) → cells_of new ≡ cells_of old
@@ -112,7 +159,7 @@ as-large old new h = ap (λ (a : Space). length a.contents) h.arena
 pub alone : (program : Units) (history : List Entry) (old new : Machine) → snapshot_of new ≡ snapshot_of old → (HaveRoom program (cells_of old) old → HaveRoom program (cells_of old) new) → IsAfterHistory program history old → LeavesAlone program history old new
 alone program history old new shown rooms h =
     let same = seen-shown (snapshot_of old) (snapshot_of new) shown in
-    record { after = machine-reserved program (cells_of old) (schedule_of history) old new shown rooms h; same = same; processes = as-many old new same }
+    record { after = machine-reserved program (cells_of old) (schedule_of history) old new shown rooms h; same = same; made = as-many old new same }
 
 -- one that is left alone after it was seen the same
 pub alone-after : (program : Units) (history : List Entry) (old mid new : Machine) → IsSeenSame (snapshot_of old) (snapshot_of mid) → LeavesAlone program history mid new → LeavesAlone program history old new
@@ -120,7 +167,7 @@ alone-after program history old mid new same h =
     record {
       after = subst (λ n. IsMachineAfter program n (schedule_of history) new) (as-large old mid same) h.after;
       same = seen-again (snapshot_of old) (snapshot_of mid) (snapshot_of new) same h.same;
-      processes = h.processes ∙ as-many old mid same;
+      made = h.made ∙ as-many old mid same;
     }
 
 -- by the size of its own arena

@@ -25,26 +25,29 @@ IsAfterHistory program history m = IsMachineAfter program (cells_of m) (schedule
 
 -- ---- what a turn asks for
 
--- process p of it has a turn, and what a CREATE makes has a number
+-- process p of it has a turn, and what a CREATE or a RESUME makes has a number
 pub record CanTurn (program : Units) (history : List Entry) (p : ℕ) (m : Machine) (roster : Roll) : Type 0 where
   pub after : IsAfterHistory program history m
   pub running : m.halted ≡ false
   pub living : HasLevels (snapshot_of m) p
   pub countable : m.activations + 1 < 2 ^ 64
-  pub numbers : length m.processes.items ≤ roster.room
+  pub numerable : m.made + 1 < 2 ^ 64
+  pub numbers : m.made ≤ roster.room
 
 -- it is at a CALL, CREATE or reference
 pub record CanTakeCall (program : Units) (history : List Entry) (p : ℕ) (m : Machine) (call : CallAhead) (roster : Roll) : Type 0 where
   pub after : IsAfterHistory program history m
   pub at : HasCallAhead program (cells_of m) (schedule_of history) p (snapshot_of m) call
   pub countable : m.activations + 1 < 2 ^ 64
-  pub numbers : length m.processes.items ≤ roster.room
+  pub numerable : m.made + 1 < 2 ^ 64
+  pub numbers : m.made ≤ roster.room
 
 -- at RESUME, behind which it goes on at an index
 pub record CanTakeResume (program : Units) (history : List Entry) (p : ℕ) (m : Machine) (next : ℕ) (roster : Roll) : Type 0 where
   pub after : IsAfterHistory program history m
   pub at : HasResumeAhead program (cells_of m) (schedule_of history) p (snapshot_of m) next
-  pub numbers : length m.processes.items ≤ roster.room
+  pub numerable : m.made + 1 < 2 ^ 64
+  pub numbers : m.made ≤ roster.room
 
 -- or at none of them, nor at a PURGE
 pub record CanTakeOperation (program : Units) (history : List Entry) (p : ℕ) (m : Machine) : Type 0 where
@@ -66,4 +69,4 @@ IsUntaken program history p m fault = IsUnturned fault program (cells_of m) (sch
 pub record LeavesAlone (program : Units) (history : List Entry) (old new : Machine) : Type 0 where
   pub after : IsMachineAfter program (cells_of old) (schedule_of history) new
   pub same : IsSeenSame (snapshot_of old) (snapshot_of new)
-  pub processes : length new.processes.items ≡ length old.processes.items
+  pub made : new.made ≡ old.made

@@ -1,3 +1,4 @@
+pub mod Numbered
 pub mod Snapshots
 pub mod Showing
 pub mod Turns

@@ -1,6 +1,6 @@
 -- What the parts of a turn do to a machine, whatever turns there were before: docs/MACHINE.md, "Steps".
-use Rattle.std.specs.Prelude.{◌≡◌, ◌∷◌, ◌<◌, ◌≤◌, ◌+◌, ◌-◌, ◌^◌, ℕ, Bool, false, List, [], length, slice_get, vec_capacity, vec_len}
-use Rattle.std.specs.Prelude.{Ok, Option, Some, IsSome}
+use Rattle.std.specs.Prelude.{◌≡◌, ◌∷◌, ◌<◌, ◌≤◌, ◌+◌, ◌^◌, ℕ, Bool, false, List, [], length, vec_capacity, vec_len}
+use Rattle.std.specs.Prelude.{Ok, Option, IsSome}
 use Rattle.slab.specs.Slab.{HasRoomFor}
 use Rattle.hep_machine.specs.Words.{Layout, State, Units}
 use Rattle.hep_machine.specs.declared.event.Kind.{Kind}
@@ -35,8 +35,8 @@ use Rattle.hep_state.specs.declared.upcoming.PurgeAhead.{PurgeAhead}
 use Rattle.hep_state.specs.Calls.{HasEntered, IsMaking, Makes, state_made}
 use Rattle.hep_state.specs.CallsAhead.{HasCallAhead, HasPurgeAhead, IsWithoutCall, ranges_ahead}
 use Rattle.hep_state.specs.Outcomes.{Changes, HasTurned}
-use Rattle.hep_state.specs.Rooms.{HasRoomAt, HaveRoom, IsMachineAfter}
-use Rattle.hep_state.specs.Snapshots.{snapshot_of}
+use Rattle.hep_state.specs.Rooms.{HasRoomAt, HaveRoom, HoldsOfProcess, IsMachineAfter}
+use Rattle.hep_state.specs.Snapshots.{AreNumbered, snapshot_of}
 use Rattle.hep_state.specs.Taking.{IsLeft, IsSeenSame, IsToEnd}
 use Rattle.hep_state.specs.Tops.{HasLevels, HoldsInTurn, snapshot_parted, turn_of, with_contents, with_stack}
 use Rattle.hep_state.specs.Turns.{HasStepped, HasWaited, IsAfter}
@@ -75,7 +75,8 @@ IsWhetherLives lives p m =
 
 -- the top activation of process p is to end with this effect
 abbrev pub IsEndingBy : Effect → ℕ → Machine → Type 0
-IsEndingBy effect p m = (program : Units) × (cells : ℕ) × (choices : List ℕ) × IsToEnd program cells choices p (snapshot_of m) effect
+IsEndingBy effect p m =
+    (program : Units) × (cells : ℕ) × (choices : List ℕ) × IsToEnd program cells choices p (snapshot_of m) effect × AreNumbered m
 
 -- and there is room for operands
 abbrev pub IsEndingWithRoom : Effect → ℕ → Machine → Type 0
@@ -111,12 +112,12 @@ pub record IsSeenAlike (program : Units) (old new : Machine) : Type 0 where
       → IsAfter program cells choices (snapshot_of new)
   pub same : IsSeenSame (snapshot_of old) (snapshot_of new)
 
--- what was written, how many processes there are, and the room that there was
+-- what was written, how many processes were made, and the room that there was
 pub record KeepsWritten (program : Units) (old new : Machine) : Type 0 where
   pub rooms : KeepsRoomOf program old new
   pub records : new.records ≡ old.records
   pub faults : new.faults ≡ old.faults
-  pub processes : length new.processes.items ≡ length old.processes.items
+  pub made : new.made ≡ old.made
 
 -- the operation ahead of process p was performed, with an effect, and there is room for operands
 abbrev pub IsLeftWithRoom : Performed → ℕ → Machine → Type 0
@@ -172,6 +173,7 @@ pub record CanBegin (p : ℕ) (m : Machine) (called : Called) : Type 0 where
   pub countable : m.activations + 1 < 2 ^ 64
   pub gap : IsSome (first_fit called.cells m.frames.arena.holes)
   pub node : HasRoomFor m.frames.nodes 1
+  pub numbers : AreNumbered m
 
 -- its frame has entered, with its node under a key
 abbrev pub Begins : ℕ → Called → Machine → ℕ → Machine → Type 0
@@ -189,8 +191,9 @@ pub record CanCall (p : ℕ) (m : Machine) (called : Called) (kept index : ℕ) 
   pub countable : m.activations + 1 < 2 ^ 64
   pub gap : IsSome (first_fit called.cells m.frames.arena.holes)
   pub node : HasRoomFor m.frames.nodes 1
-  pub level : (q : Process) → slice_get m.processes.items (p - 1) ≡ Some q → vec_len q.levels < vec_capacity q.levels
-  pub pending : (q : Process) → slice_get m.processes.items (p - 1) ≡ Some q → vec_len q.pending + kept ≤ vec_capacity q.pending
+  pub level : HoldsOfProcess m p (λ q. vec_len q.levels < vec_capacity q.levels)
+  pub pending : HoldsOfProcess m p (λ q. vec_len q.pending + kept ≤ vec_capacity q.pending)
+  pub numbers : AreNumbered m
 
 -- where it is called or referred to, the step was made
 abbrev pub StepsByCall : ℕ → Called → ℕ → ℕ → Machine → Machine → Type 0
@@ -203,7 +206,7 @@ abbrev pub KeepsRoomAt : ℕ → ℕ → Machine → Machine → Type 0
 KeepsRoomAt p unit old new =
     (program : Units) (cells : ℕ) → HaveRoom program cells old → HasRoomAt program p unit old → HaveRoom program cells new
 
--- it can begin as the one activation of a process, which is empty so far
+-- it can begin as the one activation of a process, which is empty so far and has the next number
 pub record CanCreate (p : ℕ) (m : Machine) (called : Called) (index : ℕ) (made : Process) : Type 0 where
   pub creating : (program : Units) × (cells : ℕ) × (choices : List ℕ) × (kept : ℕ)
       × Makes Creates program cells choices p m called kept index
@@ -214,6 +217,8 @@ pub record CanCreate (p : ℕ) (m : Machine) (called : Called) (index : ℕ) (ma
   pub empty : (made.levels.items ≡ []) × (made.operands.items ≡ []) × (made.pending.items ≡ [])
   pub level : vec_len made.levels < vec_capacity made.levels
   pub process : vec_len m.processes < vec_capacity m.processes
+  pub next : made.number ≡ m.made + 1
+  pub numbers : AreNumbered m
 
 -- where it is created, the step was made
 abbrev pub StepsByCreation : ℕ → Called → ℕ → Machine → Machine → Type 0
@@ -229,12 +234,14 @@ KeepsRoomWith made unit old new =
 
 -- ---- RESUME
 
--- the top activation of process p can become a process of its own, which is empty so far
+-- the top activation of process p can become a process of its own, which is empty so far and has the next number
 pub record CanPart (p : ℕ) (m : Machine) (made : Process) : Type 0 where
   pub levels : HasLevels (snapshot_of m) p
   pub empty : (made.levels.items ≡ []) × (made.operands.items ≡ []) × (made.pending.items ≡ [])
   pub level : vec_len made.levels < vec_capacity made.levels
   pub process : vec_len m.processes < vec_capacity m.processes
+  pub next : made.number ≡ m.made + 1
+  pub numbers : AreNumbered m
 
 -- it is one, at an index
 abbrev pub PartsAt : ℕ → ℕ → Machine → Machine → Type 0
@@ -268,6 +275,7 @@ FailsAtPurge program p m purge kind =
 -- process p lives, and the cells that were found are in the arena
 pub record CanEmpty (p : ℕ) (m : Machine) : Type 0 where
   pub living : HasLevels (snapshot_of m) p
+  pub numbers : AreNumbered m
   pub reached : AreReached m.frames.arena m.passing.ranges.items
   pub few : length m.frames.arena.contents ≤ most_cells
 

@@ -1,5 +1,5 @@
--- Room for operands in what a core keeps: docs/ARCHITECTURE.md, "Forms".
-use Rattle.std.specs.Prelude.{◌≡◌, ◌-◌, ◌<◌, ◌≤◌, ℕ, List, length, Some, slice_get, vec_capacity}
+-- Room for operands in what a core keeps, and the numbers of processes: docs/ARCHITECTURE.md, "Forms".
+use Rattle.std.specs.Prelude.{◌≡◌, ◌<◌, ◌≤◌, ℕ, List, length, Some, slice_get, vec_capacity}
 use Rattle.hep_machine.specs.Words.{Units, dummies_of, unit_at}
 use Rattle.hep_code.specs.declared.instruction.Instruction.TheVariants.{Step}
 use Rattle.hep_code.specs.declared.instruction.Operation.TheVariants.{Purge}
@@ -12,7 +12,7 @@ use Rattle.hep_proc.specs.declared.process.Local.{Local}
 use Rattle.hep_state.specs.declared.machine.Machine.{Machine}
 use Rattle.hep_state.specs.declared.machine.Passing.{Passing}
 use Rattle.hep_proc.specs.declared.process.Process.{Process}
-use Rattle.hep_state.specs.Snapshots.{snapshot_of}
+use Rattle.hep_state.specs.Snapshots.{AreNumbered, snapshot_of}
 use Rattle.hep_state.specs.Turns.{IsAfter}
 
 -- the operands of a process have room for the deepest stack of each unit that it runs, so no step takes memory for them
@@ -27,15 +27,21 @@ pub record HasRoomToPass (program : Units) (r : Passing) : Type 0 where
   pub values : (u : ℕ) → u < length program → longest_code (dummy_arguments program (unit_at program u)) ≤ vec_capacity r.values
   pub ranges : (u index line count next : ℕ) → u < length program → slice_get (unit_code program u) index ≡ Some (Step line (Purge count next)) → count ≤ vec_capacity r.ranges
 
+-- this is so of process p, if it is kept
+abbrev pub HoldsOfProcess : Machine → ℕ → (Process → Type 0) → Type 0
+HoldsOfProcess m p IsSo = (i : ℕ) (q : Process) → slice_get m.processes.items i ≡ Some q → q.number ≡ p → IsSo q
+
 -- the operands of process p have room for the deepest stack of unit u
 abbrev pub HasRoomAt : Units → ℕ → ℕ → Machine → Type 0
-HasRoomAt program p u m = (q : Process) → slice_get m.processes.items (p - 1) ≡ Some q → deepest (unit_code program u) ≤ vec_capacity q.operands
+HasRoomAt program p u m = HoldsOfProcess m p (λ q. deepest (unit_code program u) ≤ vec_capacity q.operands)
 
--- each process has room for operands, there is room to pass, and the arena has no more cells than it may have
+-- each process that is kept has room for operands, and they rise by their numbers; there is room to pass, and the arena has no more cells
+-- than it may have
 pub record HaveRoom (program : Units) (cells : ℕ) (m : Machine) : Type 0 where
   pub few : cells ≤ most_cells
   pub to_pass : HasRoomToPass program m.passing
   pub room : (i : ℕ) (q : Process) → slice_get m.processes.items i ≡ Some q → HasRoom program q
+  pub numbers : AreNumbered m
 
 -- a machine keeps the state after turns of these processes, with that room
 pub record IsMachineAfter (program : Units) (cells : ℕ) (choices : List ℕ) (m : Machine) : Type 0 where
@@ -43,3 +49,4 @@ pub record IsMachineAfter (program : Units) (cells : ℕ) (choices : List ℕ) (
   pub few : cells ≤ most_cells
   pub to_pass : HasRoomToPass program m.passing
   pub room : (i : ℕ) (q : Process) → slice_get m.processes.items i ≡ Some q → HasRoom program q
+  pub numbers : AreNumbered m

@@ -1,11 +1,13 @@
 -- What a core keeps of a state, without where it lies in memory: docs/ARCHITECTURE.md, "Forms".
-use Rattle.std.specs.Prelude.{ℕ, Bool, List, map}
+use Rattle.std.specs.Prelude.{ℕ, Bool, List}
 use Rattle.hep_machine.specs.declared.event.Fault.{Fault}
 use Rattle.hep_machine.specs.declared.record.Item.{Item}
 use Rattle.hep_arena.specs.Space.{Space}
+use Rattle.hep_blocked.specs.Numbers.{AreRising}
 use Rattle.hep_layout.specs.Words.{Nodes}
 use Rattle.hep_proc.specs.Nodes.{nodes_of}
-use Rattle.hep_proc.specs.Stacks.{Stack, stack_of}
+use Rattle.hep_proc.specs.Stacks.{Stack}
+use Rattle.hep_state.specs.Numbered.{numbers_of, stacks_of}
 use Rattle.hep_state.specs.declared.machine.Machine.{Machine}
 
 pub record Snapshot : Type 0 where
@@ -18,12 +20,16 @@ pub record Snapshot : Type 0 where
   pub faults : List Fault
   pub halted : Bool
 
+-- the processes that are kept rise by their numbers, the last of which is that of the last one that was made at most
+abbrev pub AreNumbered : Machine → Type 0
+AreNumbered m = AreRising 1 m.made (numbers_of m.processes.items)
+
 abbrev pub snapshot_of : Machine → Snapshot
 snapshot_of m =
     record {
       arena = m.frames.arena;
       nodes = nodes_of m.frames.nodes;
-      processes = map stack_of m.processes.items;
+      processes = stacks_of m.processes.items m.made;
       activations = m.activations;
       records = m.records.items;
       faults = m.faults.items;

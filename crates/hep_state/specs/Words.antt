@@ -1,5 +1,7 @@
 -- What others name of this crate's definitions, passed on from one place. Declares nothing.
-unfoldable pub use Rattle.hep_state.specs.Snapshots.{snapshot_of}
+unfoldable pub use Rattle.hep_state.specs.Numbered.{numbers_of, stack_numbered, stacks_from, stacks_of}
+pub use Rattle.hep_state.specs.Numbered.{IsPlaceOf}
+unfoldable pub use Rattle.hep_state.specs.Snapshots.{AreNumbered, snapshot_of}
 pub use Rattle.hep_state.specs.Snapshots.{Snapshot}
 unfoldable pub use Rattle.hep_state.specs.Showing.{AreThere, IsThere, node_under}
 pub use Rattle.hep_state.specs.Showing.{code_level, code_levels, IsStack, kept_below, kept_by, levels_below, Shows}
@@ -13,7 +15,7 @@ unfoldable pub use Rattle.hep_state.specs.Calls.{call_in, entered_level, HasResu
 pub use Rattle.hep_state.specs.Calls.{HasEntered, IsAfterCall, IsMaking, IsUnit, Makes}
 unfoldable pub use Rattle.hep_state.specs.Openings.{snapshot_opened, unset_opening}
 pub use Rattle.hep_state.specs.Openings.{IsEntered, IsGiven, IsQuiet}
-unfoldable pub use Rattle.hep_state.specs.Rooms.{HasRoom, HasRoomAt}
+unfoldable pub use Rattle.hep_state.specs.Rooms.{HasRoom, HasRoomAt, HoldsOfProcess}
 pub use Rattle.hep_state.specs.Rooms.{HasRoomToPass, HaveRoom, IsMachineAfter}
 unfoldable pub use Rattle.hep_state.specs.Taking.{IsLeft, IsToEnd}
 pub use Rattle.hep_state.specs.Taking.{CanAdvance, IsAdvanced, IsBehind, IsEnding, IsPlace, IsSeenSame, IsSettled}
@@ -34,7 +36,7 @@ unfoldable pub use Rattle.hep_state.specs.Parts.{KeepsRoomWith, KeepsState, Leav
 unfoldable pub use Rattle.hep_state.specs.Parts.{StepsByCreation, TurnsByPurge, WaitsAfter}
 pub use Rattle.hep_state.specs.Parts.{CanBegin, CanCall, CanCreate, CanEmpty, CanPart, IsAtOperation, IsItsTurn, IsSeenAlike, KeepsWritten}
 unfoldable pub use Rattle.hep_state.specs.Reserving.{KeepsRoom}
-pub use Rattle.hep_state.specs.Reserving.{HasRoomForEntry, HasRoomForLevel, HasRoomForProcess, IsEmptyProcess, KeepsRollFor}
+pub use Rattle.hep_state.specs.Reserving.{CanBeMore, HasRoomForCreation, HasRoomForEntry, HasRoomForLevel, HasRoomForProcess, IsEmptyProcess, KeepsRollFor}
 pub use Rattle.hep_state.specs.Reserving.{ShowsSame}
 unfoldable pub use Rattle.hep_state.specs.Histories.{IsAfterHistory, IsTurn, IsUntaken, cells_of}
 pub use Rattle.hep_state.specs.Histories.{CanTakeCall, CanTakeOperation, CanTakeResume, CanTurn, LeavesAlone}

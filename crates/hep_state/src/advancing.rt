@@ -1,5 +1,6 @@
 //! What stands ahead of a process: values are put behind the operands, and an operation is performed.
-ghost use Rattle.std.specs.Prelude.{◌≡◌, ◌≤◌, length, vec_capacity};
+ghost use Rattle.std.specs.Prelude.{◌≡◌, length};
+ghost use Rattle.hep_proc.specs.Stacks.{IsSameProcess};
 ghost use Rattle.hep_state.specs.Words.{AdvancesTop, CanAdvanceTop, CanSettle, HasBehind, HasPlace, IsInCode, IsPlaced, Settles};
 
 use hep_code::Instruction;
@@ -50,7 +51,7 @@ pub(crate) fn behind<'a>(
 pub(crate) fn settle_top(process: &mut Process, code: &[Instruction])
     requires { CanSettle process.old code.now }
     ensures settled { Settles process.old code.now process.new }
-    ensures capacity { vec_capacity process.old.operands ≤ vec_capacity process.new.operands }
+    ensures same { IsSameProcess process.old process.new }
 {
     let mut index = process.top().index;
     settle(code, &mut process.operands, &mut index);
@@ -71,7 +72,7 @@ pub(crate) fn advance(
     ensures nodes { frames.new.nodes ≡ frames.old.nodes }
     ensures holes { frames.new.arena.holes ≡ frames.old.arena.holes }
     ensures cells { length frames.new.arena.contents ≡ length frames.old.arena.contents }
-    ensures capacity { vec_capacity process.old.operands ≤ vec_capacity process.new.operands }
+    ensures same { IsSameProcess process.old process.new }
 {
     let (unit, frame, index) = place(process, frames, image);
     let code = unit.code.as_slice();

@@ -1,5 +1,5 @@
 //! CALL, CREATE and references: an activation that begins, with its frame (X3.9-1978, 15.5.2 and 15.6.2).
-ghost use Rattle.std.specs.Prelude.{◌≡◌, ◌+◌, length};
+ghost use Rattle.std.specs.Prelude.{◌≡◌, ◌+◌};
 ghost use Rattle.hep_state.specs.Words.{Begins, CanBegin, CanCall, CanCreate, KeepsRoomAt, KeepsRoomWith, StepsByCall};
 ghost use Rattle.hep_state.specs.Words.{StepsByCreation};
 
@@ -32,7 +32,8 @@ impl Machine {
         hep_binding::laws::other_cells_are_unset();
         hep_binding::laws::references_are_kept();
         let activation = self.activations + 1;
-        let parent = self.processes[(p - 1) as usize].top().key;
+        let at = self.place(p);
+        let parent = self.processes[at].top().key;
         let Called { unit, cells, entry } = called;
         let entrant = Entrant {
             activation,
@@ -59,26 +60,29 @@ impl Machine {
         requires { CanCall p self.old called kept index }
         ensures stepped { StepsByCall p called kept index self.old self.new }
         ensures rooms { KeepsRoomAt p called.unit self.old self.new }
-        ensures processes { length self.new.processes.items ≡ length self.old.processes.items }
+        ensures made { self.new.made ≡ self.old.made }
     {
+        let at = self.place(p);
         let level = self.begin_activation(p, called);
-        self.processes[(p - 1) as usize].put_above(kept, index, level);
+        self.processes[at].put_above(kept, index, level);
     }
 
     // Process p makes a process of a unit with what is given, and goes on at an index: the unit's activation has its
     // frame, with what is given to its dummy arguments and their shapes, and is the one level of the process, which was
     // empty.
     //
-    // There is a gap for the frame, and room for its node, for the process and for its level, and for the unit's operands.
+    // There is a gap for the frame, and room for its node, for the process and for its level, and for the unit's operands. The process has
+    // the next number.
     pub(crate) fn create(&mut self, p: u64, called: Called, index: usize, mut process: Process)
         requires { CanCreate p self.old called index process }
         ensures stepped { StepsByCreation p called index self.old self.new }
         ensures rooms { KeepsRoomWith process called.unit self.old self.new }
-        ensures processes { length self.new.processes.items ≡ length self.old.processes.items + 1 }
+        ensures made { self.new.made ≡ self.old.made + 1 }
     {
+        let at = self.place(p);
         let level = self.begin_activation(p, called);
-        self.processes[(p - 1) as usize].go_on(index);
+        self.processes[at].go_on(index);
         append(&mut process.levels, level);
-        append(&mut self.processes, process);
+        self.admit(process);
     }
 }

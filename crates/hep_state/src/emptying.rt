@@ -1,5 +1,5 @@
 //! A PURGE: the cells that its targets name are found, and then all of them are emptied (docs/LANGUAGE.md, 9).
-ghost use Rattle.std.specs.Prelude.{◌≡◌, ◌<◌, IfErr, OnOk, length, vec_len, vec_capacity};
+ghost use Rattle.std.specs.Prelude.{◌≡◌, ◌<◌, IfErr, OnOk, vec_len, vec_capacity};
 ghost use Rattle.hep_purging.specs.Ready.{AreReached};
 ghost use Rattle.hep_state.specs.Words.{CanEmpty, EmptiesTargets, FailsAtPurge, IsAtPurgeAhead, KeepsRoom, KeepsRoomOf, NamesRanges};
 ghost use Rattle.hep_state.specs.Words.{TurnsByPurge};
@@ -28,7 +28,8 @@ impl Machine {
         image.is_runnable();
         laws::purges_can_be_made();
         laws::purges_are_shown();
-        let process = &self.processes[(p - 1) as usize];
+        let at = self.place(p);
+        let process = &self.processes[at];
         let (entries, arrays, frame) = behind(process, &self.frames, image);
         let all = AllPassed {
             entries,
@@ -47,10 +48,11 @@ impl Machine {
         ensures moved { EmptiesTargets p index self.old self.new }
         ensures passing { self.new.passing ≡ self.old.passing }
         ensures rooms { KeepsRoom self.old self.new }
-        ensures processes { length self.new.processes.items ≡ length self.old.processes.items }
+        ensures made { self.new.made ≡ self.old.made }
     {
+        let at = self.place(p);
         hep_purging::purge(&mut self.frames.arena, &self.passing.ranges);
-        self.processes[(p - 1) as usize].go_on(index);
+        self.processes[at].go_on(index);
     }
 
     // Makes the PURGE ahead of process p, or ends the process with a fault. The cells that were emptied are in `passing`.
@@ -58,7 +60,7 @@ impl Machine {
         requires at { IsAtPurgeAhead image.now p self.old purge }
         requires room { vec_len self.old.faults < vec_capacity self.old.faults }
         ensures purged { TurnsByPurge image.now p purge self.old self.new }
-        ensures processes { length self.new.processes.items ≡ length self.old.processes.items }
+        ensures made { self.new.made ≡ self.old.made }
     {
         image.is_runnable();
         laws::purges_are_shown();

@@ -32,9 +32,10 @@ impl Machine {
         requires { IsEndingBy returns p self.old }
         ensures stepped { EndsBy returns p self.old self.new }
         ensures rooms { KeepsRoom self.old self.new }
-        ensures processes { length self.new.processes.items ≡ length self.old.processes.items }
+        ensures made { self.new.made ≡ self.old.made }
     {
-        let ended = self.processes[(p - 1) as usize].end_top();
+        let at = self.place(p);
+        let ended = self.processes[at].end_top();
         self.frames.leave(ended.key);
     }
 
@@ -44,9 +45,10 @@ impl Machine {
         requires { IsEndingWithRoom (answers value) p self.old }
         ensures stepped { EndsBy (answers value) p self.old self.new }
         ensures rooms { KeepsRoom self.old self.new }
-        ensures processes { length self.new.processes.items ≡ length self.old.processes.items }
+        ensures made { self.new.made ≡ self.old.made }
     {
-        let process = &mut self.processes[(p - 1) as usize];
+        let at = self.place(p);
+        let process = &mut self.processes[at];
         let ended = process.end_top();
         self.frames.leave(ended.key);
         process.take_value(value);
@@ -59,9 +61,10 @@ impl Machine {
         ensures stepped { EndsBy (fails line kind) p self.old self.new }
         ensures passing { self.new.passing ≡ self.old.passing }
         ensures rooms { KeepsRoom self.old self.new }
-        ensures processes { length self.new.processes.items ≡ length self.old.processes.items }
+        ensures made { self.new.made ≡ self.old.made }
     {
-        let process = &mut self.processes[(p - 1) as usize];
+        let at = self.place(p);
+        let process = &mut self.processes[at];
         let unit = process.top().unit;
         process.operands.clear();
         process.pending.clear();
@@ -82,7 +85,7 @@ impl Machine {
         requires faults { vec_len self.old.faults < vec_capacity self.old.faults }
         ensures ended { MatchOption result (StepsAfter effect p self.old self.new) (WaitsAfter effect p self.old self.new) }
         ensures rooms { KeepsRoom self.old self.new }
-        ensures processes { length self.new.processes.items ≡ length self.old.processes.items }
+        ensures made { self.new.made ≡ self.old.made }
     {
         match effect {
             Effect::Moved { .. } => {}

@@ -74,10 +74,12 @@ pub fn tops_are_running()
     hep_accepted_laws::runs::activations_are_bound_in_runs();
 }
 
-/// A turn makes one activation at most, and the opening has one.
+/// A turn makes one activation and one process at most, and the opening has one of each.
 pub fn activations_are_few()
-    ensures { (program : Units) (cells : ℕ) (choices : List ℕ) (m : Snapshot) → IsAfter program cells choices m
+    ensures activations { (program : Units) (cells : ℕ) (choices : List ℕ) (m : Snapshot) → IsAfter program cells choices m
         → m.activations ≤ 1 + length choices }
+    ensures processes { (program : Units) (cells : ℕ) (choices : List ℕ) (m : Snapshot) → IsAfter program cells choices m
+        → length m.processes ≤ 1 + length choices }
 {}
 
 /// Where the values that stand ahead are put behind the operands, the same state is shown.

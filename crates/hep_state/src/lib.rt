@@ -12,6 +12,7 @@ pub mod laws;
 mod machine;
 mod opening;
 mod passing;
+mod places;
 mod resuming;
 mod turn;
 mod upcoming;

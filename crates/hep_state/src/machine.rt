@@ -40,10 +40,12 @@ impl Drop for Passing {
     }
 }
 
-/// A state: the frames, the processes by number, counted from 1, how many activations were made, and what was written.
+/// A state: the frames, the processes that are kept, how many processes and activations were made, and what was written.
 pub struct Machine {
     pub frames: Frames,
+    /// By rising numbers. All that live are among them; one that has ended is until it gives its place to another one.
     pub processes: Vec<Process>,
+    pub made: u64,
     pub activations: u64,
     pub records: Vec<Record>,
     pub faults: Vec<Fault>,
@@ -60,6 +62,7 @@ impl Drop for Machine {
         let Machine {
             frames,
             processes,
+            made,
             activations,
             records,
             faults,

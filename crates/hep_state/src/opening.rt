@@ -160,14 +160,16 @@ fn room_to_pass(alloc: Global, image: &Image) -> Result<Passing, AllocError>
     })
 }
 
-// A process with one activation, and room for so many operands.
+// Process 1 with one activation, and room for so many operands.
 fn begun(alloc: Global, level: Local, operands: u32) -> Result<Process, AllocError>
+    ensures number { IfOk result (λ process. process.number ≡ 1) }
     ensures levels { IfOk result (λ process. process.levels.items ≡ level ∷ []) }
     ensures operands { IfOk result (λ process. process.operands.items ≡ []) }
     ensures pending { IfOk result (λ process. process.pending.items ≡ []) }
     ensures room { IfOk result (λ process. vec_capacity process.operands ≡ operands) }
 {
     Ok(Process {
+        number: 1,
         levels: vec![in alloc; level]?,
         operands: Vec::with_capacity(alloc, operands as usize)?,
         pending: Vec::new(alloc),
@@ -187,7 +189,7 @@ impl Machine {
         requires few { cells ≤ 16777216 }
         requires fits { IsSome (opening_layout image.now cells) }
         ensures opened { IfOk result (λ machine. IsMachineAfter image.now cells [] machine) }
-        ensures alone { IfOk result (λ machine. length machine.processes.items ≡ 1) }
+        ensures alone { IfOk result (λ machine. machine.made ≡ 1) }
         ensures quiet { IfOk result (λ machine. IsQuiet machine) }
     {
         hep_image::laws::openings_fit_by_numbers();
@@ -207,6 +209,7 @@ impl Machine {
         Ok(Machine {
             frames,
             processes: vec![in alloc; process]?,
+            made: 1,
             activations: 1,
             records: Vec::new(alloc),
             faults: Vec::new(alloc),

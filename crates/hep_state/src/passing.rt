@@ -45,7 +45,8 @@ impl Machine {
         image.is_runnable();
         laws::calls_can_be_made();
         laws::calls_give_what_is_bound();
-        let process = &self.processes[(p - 1) as usize];
+        let at = self.place(p);
+        let process = &self.processes[at];
         let (entries, arrays, frame) = behind(process, &self.frames, image);
         let Passing {
             given,

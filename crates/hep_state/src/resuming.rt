@@ -1,5 +1,5 @@
 //! RESUME: an activation that lets the one below it go on, and is a process of its own (docs/MACHINE.md, "Steps").
-ghost use Rattle.std.specs.Prelude.{◌≡◌, ◌+◌, None, OnErr, OnOk, length};
+ghost use Rattle.std.specs.Prelude.{◌≡◌, ◌+◌, None, OnErr, OnOk};
 ghost use Rattle.hep_state.specs.declared.turn.Turned.TheVariants.{Stepped};
 ghost use Rattle.hep_state.specs.Words.{CanPart, CanTakeResume, HasRoomForEntry, IsTurn, KeepsRollFor, KeepsRoomParting, LeavesAlone, PartsAt};
 
@@ -13,16 +13,17 @@ use std::alloc::AllocError;
 
 impl Machine {
     // The top activation of process p becomes a process of its own, which was empty, and goes on at an index there; the one below it goes
-    // on. There is room for the process and for its level.
+    // on. There is room for the process and for its level, and it has the next number.
     fn part(&mut self, p: u64, index: usize, mut process: Process)
         requires { CanPart p self.old process }
         ensures parted { PartsAt p index self.old self.new }
         ensures rooms { KeepsRoomParting p process self.old self.new }
-        ensures processes { length self.new.processes.items ≡ length self.old.processes.items + 1 }
+        ensures made { self.new.made ≡ self.old.made + 1 }
     {
-        let level = self.processes[(p - 1) as usize].end_top();
+        let at = self.place(p);
+        let level = self.processes[at].end_top();
         append(&mut process.levels, Local { index, ..level });
-        append(&mut self.processes, process);
+        self.admit(process);
     }
 
     // A turn of process p, which is at RESUME: its top activation goes on at an index, as a process of its own where one is below it.
@@ -42,7 +43,7 @@ impl Machine {
     {
         image.is_runnable();
         laws::resumes_are_shown();
-        let at = (p - 1) as usize;
+        let at = self.place(p);
         if self.processes[at].levels.len() == 1 {
             history.reserve(1)?;
             self.processes[at].stand_at(next as usize);

@@ -1,16 +1,16 @@
 //! One turn of a process.
-ghost use Rattle.std.specs.Prelude.{◌≡◌, ◌<◌, ◌≤◌, ◌+◌, true, IfOk, IfErr, OnErr, OnOk, length, vec_len, vec_capacity};
-ghost use Rattle.slab.specs.Slab.{HasRoomFor};
+ghost use Rattle.std.specs.Prelude.{◌≡◌, ◌<◌, ◌≤◌, ◌+◌, IfOk, IfErr, OnErr, OnOk, vec_len, vec_capacity};
 ghost use Rattle.hep_step.specs.Performed.{changed_in};
 ghost use Rattle.hep_blocked.specs.Rolls.{KeepsRoll};
-ghost use Rattle.hep_state.specs.Words.{CanTakeCall, CanTakeOperation, CanTurn, ChangesNext, HasLevels, HasRoomForEntry, HasRoomForLevel};
-ghost use Rattle.hep_state.specs.Words.{HasRoomForProcess, IsAtOperation, IsEmptyProcess, IsSeenAlike, IsTurn, IsUntaken, IsWhetherLives};
-ghost use Rattle.hep_state.specs.Words.{KeepsRollFor, KeepsWritten, LeavesAlone, LeavesBy, ShowsSame, snapshot_of};
+ghost use Rattle.hep_state.specs.Words.{AreNumbered, CanBeMore, CanTakeCall, CanTakeOperation, CanTurn, ChangesNext, HasLevels};
+ghost use Rattle.hep_state.specs.Words.{HasRoomForCreation, HasRoomForEntry, HasRoomForLevel, HasRoomForProcess, IsAtOperation, IsEmptyProcess, IsSeenAlike};
+ghost use Rattle.hep_state.specs.Words.{IsTurn, IsUntaken, KeepsRollFor, KeepsWritten, LeavesAlone, LeavesBy, ShowsSame, snapshot_of};
 
 use crate::advancing::advance;
 use crate::calling::Called;
 use crate::laws;
 use crate::machine::Machine;
+use crate::places::make_room;
 use crate::upcoming::{CallAhead, StepAhead};
 use hep_blocked::Roster;
 use hep_cells::Want;
@@ -56,20 +56,6 @@ pub enum Turned {
 }
 
 impl Machine {
-    /// Process p, counted from 1, was made and has activations.
-    pub fn lives(&self, p: u64) -> bool
-        ensures lives { IsWhetherLives result p self.now }
-        ensures levels { result ≡ true → HasLevels (snapshot_of self.now) p }
-    {
-        if p == 0 {
-            return false;
-        }
-        match self.processes.get((p - 1) as usize) {
-            Some(process) => !process.levels.is_empty(),
-            None => false,
-        }
-    }
-
     // Room for what a turn may write: a record, a fault, and its entry of the history.
     fn reserve(&mut self, history: &mut History) -> Result<(), AllocError>
         ensures records { OnOk result (vec_len self.new.records < vec_capacity self.new.records) }
@@ -92,25 +78,28 @@ impl Machine {
         kept: u32,
         history: &mut History,
     ) -> Result<(), AllocError>
-        requires { HasLevels (snapshot_of self.old) p }
+        requires living { HasLevels (snapshot_of self.old) p }
+        requires numbers { AreNumbered self.old }
         ensures level { OnOk result (HasRoomForLevel self.new p operands kept) }
         ensures entry { HasRoomForEntry history.old result history.new }
         ensures same { ShowsSame self.old self.new }
     {
         history.reserve(1)?;
         self.frames.reserve()?;
-        self.processes[(p - 1) as usize].reserve(operands, kept)
+        let at = self.place(p);
+        self.processes[at].reserve(operands, kept)
     }
 
     // Room for a process more, and for the entry of the turn that makes it; and that process, which is empty so far, with room for a level
-    // and for so many operands at once. Its number has room to be enrolled.
+    // and for so many operands at once. It has the next number, which has room to be enrolled.
     pub(crate) fn reserve_process(
         &mut self,
         operands: u32,
         history: &mut History,
         roster: &mut Roster,
     ) -> Result<Process, AllocError>
-        ensures made { IfOk result (IsEmptyProcess operands) }
+        requires { CanBeMore self.old }
+        ensures made { IfOk result (IsEmptyProcess (self.old.made + 1) operands) }
         ensures process { OnOk result (HasRoomForProcess self.new roster.new) }
         ensures entry { HasRoomForEntry history.old result history.new }
         ensures roster { KeepsRoll roster.old roster.new }
@@ -118,9 +107,11 @@ impl Machine {
     {
         let alloc = *self.processes.allocator();
         history.reserve(1)?;
-        self.processes.reserve(1)?;
-        roster.reserve(self.processes.len() as u64 + 1)?;
+        make_room(&mut self.processes)?;
+        let number = self.made + 1;
+        roster.reserve(number)?;
         Ok(Process {
+            number,
             levels: Vec::with_capacity(alloc, 1)?,
             operands: Vec::with_capacity(alloc, operands as usize)?,
             pending: Vec::new(alloc),
@@ -134,9 +125,9 @@ impl Machine {
         history: &mut History,
         roster: &mut Roster,
     ) -> Result<Process, AllocError>
-        ensures node { OnOk result (HasRoomFor self.new.frames.nodes 1) }
-        ensures made { IfOk result (IsEmptyProcess operands) }
-        ensures process { OnOk result (HasRoomForProcess self.new roster.new) }
+        requires { CanBeMore self.old }
+        ensures made { IfOk result (IsEmptyProcess (self.old.made + 1) operands) }
+        ensures process { OnOk result (HasRoomForCreation self.new roster.new) }
         ensures entry { HasRoomForEntry history.old result history.new }
         ensures roster { KeepsRoll roster.old roster.new }
         ensures same { ShowsSame self.old self.new }
@@ -156,7 +147,8 @@ impl Machine {
     {
         image.is_runnable();
         laws::tops_are_running();
-        let process = &mut self.processes[(p - 1) as usize];
+        let at = self.place(p);
+        let process = &mut self.processes[at];
         advance(process, &mut self.frames, alloc, image)
     }
 
@@ -171,7 +163,7 @@ impl Machine {
         requires { CanTakeOperation image.now history.old.items p self.old }
         ensures turned { IfOk result (λ turned. IsTurn image.now history.old.items p self.old turned self.new) }
         ensures refused { OnErr result (LeavesAlone image.now history.old.items self.old self.new) }
-        ensures processes { length self.new.processes.items ≡ length self.old.processes.items }
+        ensures made { self.new.made ≡ self.old.made }
         ensures entry { HasRoomForEntry history.old result history.new }
     {
         // What the turn may write has room before anything changes.

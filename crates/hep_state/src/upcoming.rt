@@ -105,7 +105,8 @@ impl Machine {
         ensures living { HasLevels (snapshot_of self.new) p }
     {
         image.is_runnable();
-        let process = &mut self.processes[(p - 1) as usize];
+        let at = self.place(p);
+        let process = &mut self.processes[at];
         let Local { unit, .. } = process.top();
         let code = image.unit(unit as usize).code.as_slice();
         settle_top(process, code);

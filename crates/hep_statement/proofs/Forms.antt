@@ -12,12 +12,13 @@ use Rattle.hep_expression.specs.declared.characters.Context.{Context}
 use Rattle.hep_expression.specs.Expression.{Reads, equivalence}
 use Rattle.hep_expression.specs.Reading.{◌>>=◌, all_read}
 use Rattle.hep_expression.proofs.Leaves.{bind_some, chosen, AllOf, one_is, shorter, fits}
-use Rattle.hep_statement.specs.declared.rule.Rule.{Rule}
-use Rattle.hep_statement.specs.declared.rule.Rule.TheVariants.{Assignment, BlockIf, SignIf, LogicalIf, Unclosed, Worded}
+use Rattle.hep_rule.specs.declared.rule.Rule.{Rule}
+use Rattle.hep_rule.specs.declared.rule.Rule.TheVariants.{Assignment, BlockIf, SignIf, LogicalIf, Unclosed, Worded}
 use Rattle.hep_statement.specs.declared.keyword.Keyword.{Keyword}
 use Rattle.hep_statement.specs.declared.keyword.Keyword.TheVariants as words
-use Rattle.hep_statement.specs.Statement.{after_closing, rule_of, IsWorded, IsOfAssignment, IsOfBlockIf, IsOfSignIf, IsFormBy, IsLogicalIf, HasForm, context, IsForm}
-use Rattle.hep_statement.specs.ReadingRule.{after_if}
+use Rattle.hep_statement.specs.Statement.{IsWorded, IsOfAssignment, IsOfBlockIf, IsOfSignIf, IsFormBy, IsLogicalIf, HasForm, context, IsForm}
+use Rattle.hep_rule.specs.ReadingRule.{after_if}
+use Rattle.hep_rule.specs.Rules.{after_closing, rule_of}
 use Rattle.hep_statement.specs.ReadingKeyword.{spelling, keywords}
 use Rattle.hep_statement.specs.ReadingExecutable.{if_condition_at, assignment, if_then, arithmetic_if}
 use Rattle.hep_statement.specs.ReadingStatement.{after_word, worded, form_by, closed_there, held_by, logical_if, after_condition, conditions, may_stand, after_conditions, form}

@@ -11,7 +11,6 @@ pub mod Declarators
 pub mod Commons
 pub mod DataStatements
 mod WorkedDeclarations
-pub mod Rules
 pub mod ConditionLoops
 pub mod ExecutableSound
 pub mod ExecutableComplete

@@ -29,9 +29,10 @@ use Rattle.hep_statement.specs.Target.{ReadsTarget}
 use Rattle.hep_statement.specs.Declaration.{ReadsUpper, ReadsLower, ReadsDimension, ReadsDeclarator, ReadsArrayDeclarator, ReadsBlockName, AreMoreBlocks, ReadsFirstName, AreBlocks, ReadsNamedConstant, ReadsDataConstant, ReadsRepeat, ReadsDataValue, ReadsGroup, AreMoreGroups, AreGroups}
 use Rattle.hep_statement.specs.Constant.{ReadsItem}
 use Rattle.hep_statement.specs.Executable.{AreLimits}
-use Rattle.hep_statement.specs.declared.rule.Rule.{Rule}
-use Rattle.hep_statement.specs.declared.rule.Rule.TheVariants.{Assignment, BlockIf, SignIf, LogicalIf, Unclosed, Worded}
-use Rattle.hep_statement.specs.Statement.{rule_of, IsWorded, IsFormBy, IsLogicalIf, HasForm, IsForm}
+use Rattle.hep_rule.specs.Rules.{rule_of}
+use Rattle.hep_rule.specs.declared.rule.Rule.{Rule}
+use Rattle.hep_rule.specs.declared.rule.Rule.TheVariants.{Assignment, BlockIf, SignIf, LogicalIf, Unclosed, Worded}
+use Rattle.hep_statement.specs.Statement.{IsWorded, IsFormBy, IsLogicalIf, HasForm, IsForm}
 
 abbrev sized : Sizes → ℕ → Context
 sized z n = record { sizes = z; length = n }

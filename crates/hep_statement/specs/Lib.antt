@@ -12,5 +12,4 @@ pub mod ReadingTarget
 pub mod ReadingDeclaration
 pub mod ReadingExecutable
 pub mod ReadingKeyword
-pub mod ReadingRule
 pub mod ReadingStatement

@@ -8,10 +8,11 @@ use Rattle.hep_source.specs.declared.statement.Form.TheVariants as forms
 use Rattle.hep_expression.specs.declared.characters.Sizes.{Sizes}
 use Rattle.hep_expression.specs.declared.characters.Context.{Context}
 use Rattle.hep_expression.specs.Reading.{Reader, ◌>>=◌, all_read}
-use Rattle.hep_statement.specs.Statement.{rule_of, context}
-use Rattle.hep_statement.specs.ReadingRule.{after_if}
-use Rattle.hep_statement.specs.declared.rule.Rule.{Rule}
-use Rattle.hep_statement.specs.declared.rule.Rule.TheVariants.{Assignment, BlockIf, SignIf, LogicalIf, Unclosed, Worded}
+use Rattle.hep_statement.specs.Statement.{context}
+use Rattle.hep_rule.specs.ReadingRule.{after_if}
+use Rattle.hep_rule.specs.Rules.{rule_of}
+use Rattle.hep_rule.specs.declared.rule.Rule.{Rule}
+use Rattle.hep_rule.specs.declared.rule.Rule.TheVariants.{Assignment, BlockIf, SignIf, LogicalIf, Unclosed, Worded}
 use Rattle.hep_statement.specs.declared.keyword.Keyword.{Keyword}
 use Rattle.hep_statement.specs.declared.keyword.Keyword.TheVariants as words
 use Rattle.hep_statement.specs.ReadingKeyword.{keyword_at}

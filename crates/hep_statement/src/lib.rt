@@ -1,7 +1,7 @@
 //! From the text of a statement without blanks to its conditions and its form.
 //!
-//! The grammar is stated in `specs/`: which rule says what form a statement has, and which texts
-//! have a form after the conditions of logical IFs. [`form`] answers with these conditions and this
+//! The grammar is stated in `specs/`: which texts have a form after the conditions of logical IFs, by the rule that
+//! `hep_rule` finds. [`form`] answers with these conditions and this
 //! form.
 #![tactic(auto)]
 
@@ -11,9 +11,7 @@ mod executable;
 mod item;
 mod keyword;
 mod list;
-mod rule;
 mod statement;
 mod target;
 
-pub use rule::{Rule, rule_of};
 pub use statement::{form, logical_if};

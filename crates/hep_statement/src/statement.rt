@@ -3,7 +3,7 @@ ghost use Rattle.std.specs.Prelude.{◌≡◌, Some, length};
 ghost use Rattle.hep_source.specs.Units as units;
 ghost use Rattle.hep_expression.specs.Reading.{Gives};
 ghost use Rattle.hep_statement.specs.ReadingStatement as reading;
-ghost use Rattle.hep_statement.specs.Statement as rules;
+ghost use Rattle.hep_rule.specs.Rules as rules;
 
 use crate::declaration::{
     common, data_statement, declare, dimension, function_header, implicit, parameter,
@@ -14,9 +14,9 @@ use crate::executable::{
     print, purge, stop,
 };
 use crate::keyword::{Keyword, keyword_at};
-use crate::rule::{Rule, after_if, rule_of};
 use hep_expression::Unread;
 use hep_expression::characters::{Context, Sizes, all_read};
+use hep_rule::{Rule, after_if, rule_of};
 use hep_source::{Expr, Form, ValueType};
 use std::alloc::Global;
 

@@ -1,4 +1,4 @@
-//! What the actual arguments of a CALL or CREATE give (X3.9-1978, 15.9.3).
+//! What the actual arguments of a CALL, a CREATE or a reference of a function give (X3.9-1978, 15.9.3).
 ghost use Rattle.std.specs.Prelude.{◌≡◌, ◌≤◌, Ok, Err, IfOk, IfErr, vec_capacity};
 ghost use Rattle.hep_step.specs.Cells.{HasFrame};
 ghost use Rattle.hep_step.specs.All.{AreAllPassable, made_of_all};
@@ -32,8 +32,8 @@ impl FromPassed for Given {
     }
 }
 
-/// What all actual arguments of a CALL or CREATE give, from left to right. There is room for them, so that no memory is
-/// taken. What was there before is gone.
+/// What all actual arguments give that are passed, from left to right. There is room for them, so that no memory is taken. What was
+/// there before is gone.
 ///
 /// # Errors
 ///

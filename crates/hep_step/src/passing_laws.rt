@@ -22,7 +22,7 @@ pub fn actuals_are_passed()
 {}
 
 /// All actual arguments give, in order, what the dummy arguments of the new activation stand for, or the first one that
-/// is no element is the same fault; and so do the entries behind a CALL or CREATE with its operands.
+/// is no element is the same fault; and so do the entries behind a CALL, a CREATE or a reference with its operands.
 pub fn all_actuals_are_passed()
     ensures actuals { (c : CallerOf) (b : ℕ) (xs : List Name) (actuals : List Actual) → IsCaller c
         → ArePlaced (variables_calling c) actuals → length xs ≡ length actuals
@@ -34,8 +34,8 @@ pub fn all_actuals_are_passed()
         (dummies_for (scope_calling c) b xs actuals) }
 {}
 
-/// A caller can pass whatever actual arguments it comes to: the entries behind its CALL or CREATE and its operands are what
-/// `give_actuals` asks for, and what each of them names is what `passed` asks for.
+/// A caller can pass whatever actual arguments it comes to: the entries behind its CALL, CREATE or reference and its operands are
+/// what `give_actuals` asks for, and what each of them names is what `passed` asks for.
 pub fn callers_can_pass()
     ensures frame { (c : CallerOf) → IsCaller c → IsMemory c.program c.state c.layout c.arena.contents c.arena.holes
         → length c.arena.contents ≤ most_cells → HasFrame c.arena (frame_in_arena c.frame) }

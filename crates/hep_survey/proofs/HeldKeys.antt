@@ -1,10 +1,10 @@
 -- The keys of the nodes of what a machine holds.
-use Rattle.std.proofs.Common.{◌≡◌, ℕ, zero, suc, ◌+◌, ◌-◌, ◌<◌, ◌≤◌, List, [], ◌∷◌, length, map, reverse, Option, Some, None, refl, sym, ap, ◌∙◌, subst, arith, slice_get, get_or}
+use Rattle.std.proofs.Common.{◌≡◌, inl, inr, ℕ, zero, suc, ◌+◌, ◌-◌, ◌<◌, ◌≤◌, List, [], ◌∷◌, length, reverse, Option, Some, None, refl, sym, ap, ◌∙◌, subst, arith, slice_get, get_or}
 use Rattle.std.specs.Option.{option_map}
 use Rattle.std.specs.List.{flat_map}
 use Rattle.std.proofs.lemmas.List.{get_or-reverse, length-reverse, reverse-reverse}
-use Rattle.std.proofs.lemmas.Option.{none-some, same_Some, slice_get_within, get_or_from_slice_get, slice_get-get_or, slice_get-map}
-use Rattle.hep_machine.specs.Words.{Units, parent_of, run, Process as SourceProcess, State}
+use Rattle.std.proofs.lemmas.Option.{none-some, same_Some, slice_get_within, get_or_from_slice_get, slice_get-get_or}
+use Rattle.hep_machine.specs.Words.{Units, numbered, parent_of, run, Process as SourceProcess, State}
 use Rattle.hep_machine.proofs.Ages.{run_older}
 use Rattle.hep_layout.specs.Words.{FrameNode, Nodes, activation_under}
 use Rattle.hep_layout.proofs.FrameTree.{under-parts}
@@ -13,7 +13,9 @@ use Rattle.hep_proc.specs.declared.process.Process.{Process}
 use Rattle.hep_proc.specs.Nodes.{nodes_of}
 use Rattle.hep_proc.specs.Stacks.{keys_of, Stack, stack_of}
 use Rattle.hep_state.specs.declared.machine.Machine.{Machine}
-use Rattle.hep_state.specs.Words.{AreThere, IsAfter, IsThere, node_under, snapshot_of}
+use Rattle.hep_state.specs.Words.{AreThere, IsAfter, IsMachineAfter, IsThere, node_under, snapshot_of, stack_numbered}
+use Rattle.hep_state.proofs.Numbered.{IsFrom, numbered-there, stack-from}
+use Rattle.hep_state.proofs.Processes.{numbered-at}
 use Rattle.hep_survey.specs.Keys.{AreHeldKeys, AreKeys, AreNoted, HaveNodes, IsClosedAt, IsForest, IsNoted}
 use Rattle.hep_survey.proofs.Keyed.{among-noted, noted-stacks}
 
@@ -37,7 +39,14 @@ other-there (z ∷ xs) [] i x long e = absurd (omega (arith, long))
 other-there (z ∷ xs) (y ∷ ys) zero x long e = (y, refl)
 other-there (z ∷ xs) (y ∷ ys) (suc i) x long e = other-there xs ys i x (omega (arith, long)) e
 
-module _ (program : Units) (cells : ℕ) (choices : List ℕ) (m : Machine) (after : IsAfter program cells choices (snapshot_of m)) where
+other-numbered : {A B : Type 0} (xs : List A) (ys : List B) (p : ℕ) (x : A) → length xs ≡ length ys → numbered xs p ≡ Some x → (y : B) × (numbered ys p ≡ Some y)
+other-numbered xs ys zero x long e = absurd (none-some x e)
+other-numbered xs ys (suc i) x long e = other-there xs ys i x long e
+
+module _ (program : Units) (cells : ℕ) (choices : List ℕ) (m : Machine) (kept : IsMachineAfter program cells choices m) where
+  abbrev after : IsAfter program cells choices (snapshot_of m)
+  after = kept.after
+
   abbrev s : State
   s = run program choices
 
@@ -67,9 +76,9 @@ module _ (program : Units) (cells : ℕ) (choices : List ℕ) (m : Machine) (aft
   -- the levels of a process have nodes
   pub levels-there : (i : ℕ) (q : Process) → slice_get m.processes.items i ≡ Some q → HaveNodes nodes q.levels.items
   levels-there i q e j l f =
-      let k = slice_get-map stack_of m.processes.items i ∙ ap (option_map stack_of) e in
-      let source = other-there (map stack_of m.processes.items) s.processes i (stack_of q) after.shows.processes k in
-      let there = (after.shows.stacks (suc i) (stack_of q) source.0 k source.1).there in
+      let k = numbered-at m q.number i q kept.numbers e refl in
+      let source = other-numbered (snapshot_of m).processes s.processes q.number (stack_of q) after.shows.processes k in
+      let there = (after.shows.stacks q.number (stack_of q) source.0 k source.1).there in
       let back = turned (reverse q.levels.items) j l (ap (λ ls. slice_get ls j) (reverse-reverse q.levels.items) ∙ f) in
       let it = there-at program nodes (reverse q.levels.items) back.0 l there back.1 in
       (node_under nodes l.key, it.1)
@@ -82,8 +91,8 @@ module _ (program : Units) (cells : ℕ) (choices : List ℕ) (m : Machine) (aft
         count = count;
         noted = are;
         others = λ i none. among-noted nodes m.activations forest keys are closed after.shows.keeps.tree.single (suc i) (suc m.activations)
-            (flat_map (λ (k : Stack). keys_of k.levels) (map stack_of m.processes.items))
-            (noted-stacks nodes m.activations forest keys are closed after.shows.keeps.tree.single (suc i) (map stack_of m.processes.items) (each m.processes.items noted)) (λ h. absent i none h);
+            (flat_map (λ (k : Stack). keys_of k.levels) (snapshot_of m).processes)
+            (noted-stacks nodes m.activations forest keys are closed after.shows.keeps.tree.single (suc i) (snapshot_of m).processes each) (λ h. absent i none h);
       }
     where
       absent : (i : ℕ) → slice_get keys i ≡ Some None → IsNoted keys (suc i - 1) → ⊥
@@ -91,7 +100,13 @@ module _ (program : Units) (cells : ℕ) (choices : List ℕ) (m : Machine) (aft
           let same : suc i - 1 ≡ i = omega arith in
           none-some h.0 (same_Some None (Some h.0) (sym none ∙ ap (slice_get keys) (sym same) ∙ h.1))
 
-      each : (qs : List Process) → ((i : ℕ) (q : Process) → slice_get qs i ≡ Some q → AreNoted nodes q.levels.items keys) → (i : ℕ) (k : Stack) → slice_get (map stack_of qs) i ≡ Some k → AreNoted nodes k.levels keys
-      each [] h i k e = absurd (none-some k e)
-      each (q ∷ qs) h zero k e = subst (λ (z : Stack). AreNoted nodes z.levels keys) (same_Some (stack_of q) k e) (λ j l n f g. let back = turned q.levels.items j l f in h 0 q refl back.0 l n back.1 g)
-      each (q ∷ qs) h (suc i) k e = each qs (λ j r f. h (suc j) r f) i k e
+      each : (i : ℕ) (k : Stack) → slice_get (snapshot_of m).processes i ≡ Some k → AreNoted nodes k.levels keys
+      each i k e = by_kept (stack-from m.processes.items (suc i)) where
+        is : stack_numbered m.processes.items (suc i) ≡ k
+        is = (numbered-there m.processes.items m.made (suc i) k e).2
+
+        by_kept : IsFrom m.processes.items (stack_numbered m.processes.items (suc i)) → AreNoted nodes k.levels keys
+        by_kept (inl none) = subst (λ (z : Stack). AreNoted nodes z.levels keys) (sym none ∙ is) (λ j l n f g. absurd (none-some l f))
+        by_kept (inr found) =
+            subst (λ (z : Stack). AreNoted nodes z.levels keys) (sym found.3 ∙ is) (
+            λ j l n f g. let back = turned found.1.levels.items j l f in noted found.0 found.1 found.2 back.0 l n back.1 g)

@@ -2,7 +2,7 @@
 ghost use Rattle.std.specs.Prelude.{◌≡◌, ◌<◌, ℕ, List, IfOk, length, slice_get};
 ghost use Rattle.hep_machine.specs.Words.{Units};
 ghost use Rattle.hep_proc.specs.Nodes.{nodes_of};
-ghost use Rattle.hep_state.specs.Words.{IsAfter, snapshot_of};
+ghost use Rattle.hep_state.specs.Words.{IsMachineAfter, snapshot_of};
 ghost use Rattle.hep_survey.specs.Keys.{AreHeldKeys, AreKeys, AreNoted, HaveNodes, IsClosedAt, IsForest, StayNoted};
 
 use hep_proc::{Frames, Local};
@@ -62,7 +62,7 @@ fn note_parents(keys: &mut Vec<Option<usize>>, frames: &Frames)
 ///
 /// Only where memory was refused.
 pub(crate) fn held_keys(alloc: Global, machine: &Machine) -> Result<Vec<Option<usize>>, AllocError>
-    requires { (program : Units) × (cells : ℕ) × (choices : List ℕ) × IsAfter program cells choices (snapshot_of machine.now) }
+    requires { (program : Units) × (cells : ℕ) × (choices : List ℕ) × IsMachineAfter program cells choices machine.now }
     ensures { IfOk result (λ keys. AreHeldKeys (snapshot_of machine.now) keys.items) }
 {
     let mut keys = Vec::from_elem(alloc, None, machine.activations as usize)?;

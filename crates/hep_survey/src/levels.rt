@@ -108,7 +108,8 @@ pub fn append_process(
         → numbered (run image.now choices).processes p ≡ Some q
         → text.new.items ≡ text.old.items ++ words.stack_text image.now (run image.now choices) p waiting.now q) }
 {
-    let levels = machine.processes[(p - 1) as usize].levels.as_slice();
+    let at = machine.place(p);
+    let levels = machine.processes[at].levels.as_slice();
     let below = levels.len() - 1;
     append_top(text, &machine.frames, image, p, levels[below])?;
     append_waiting(text, waiting)?;

@@ -2,6 +2,7 @@
 //! with their bytes are cases of the folder `tests` at the top of the repository.
 
 mod cells;
+mod growths;
 mod histories;
 mod lowering;
 mod parts;
@@ -17,23 +18,25 @@ use hep_lower::lower;
 use hep_parse::parse;
 use hep_source::Program;
 use hep_text::statements;
-use std::alloc::{AllocError, Global};
-use std::test::Fail;
+use std::alloc::Global;
+use std::process::Abort;
 
-// The calls that the tests make, without what their contracts say of them.
+// The calls that the tests make, without what their contracts say of them. Each ends the test where it is refused.
 
-fn program_of(alloc: Global, source: &[u8]) -> Result<Program, Fail> {
-    Ok(parse(alloc, &statements(alloc, source)?)?)
+fn program_of(rt: &impl Abort, alloc: Global, source: &[u8]) -> Program {
+    let read = statements(alloc, source).expect(rt, "no statements");
+    parse(alloc, &read).expect(rt, "no program")
 }
 
-fn image_from(alloc: Global, source: &[u8]) -> Result<Image, Fail> {
-    let checked = check(alloc, program_of(alloc, source)?)?;
-    Ok(lower(alloc, checked)?)
+fn image_from(rt: &impl Abort, alloc: Global, source: &[u8]) -> Image {
+    let checked = check(alloc, program_of(rt, alloc, source)).expect(rt, "not accepted");
+    lower(alloc, checked).expect(rt, "no image")
 }
 
 // In an arena of three cells.
-fn core_of(alloc: Global, source: &[u8], steps: u64) -> Result<Core, Fail> {
-    Ok(Core::new(alloc, image_from(alloc, source)?, 3, steps)?)
+fn core_of(rt: &impl Abort, alloc: Global, source: &[u8], steps: u64) -> Core {
+    let image = image_from(rt, alloc, source);
+    Core::new(alloc, image, 3, steps).expect(rt, "no core")
 }
 
 fn chosen(core: &mut Core, process: u64) -> Result<Turn, ChooseFault> {
@@ -95,54 +98,55 @@ const FORMS: [&[u8]; 40] = [
 ];
 
 // Lines, each with its end.
-fn source_of(alloc: Global, lines: &[&[u8]]) -> Result<Vec<u8>, AllocError> {
+fn source_of(rt: &impl Abort, alloc: Global, lines: &[&[u8]]) -> Vec<u8> {
     let mut source = Vec::new(alloc);
     for line in lines {
-        source.extend_from_slice(line)?;
-        source.push(b'\n')?;
+        source.extend_from_slice(line).expect(rt, "no memory");
+        source.push(b'\n').expect(rt, "no memory");
     }
-    Ok(source)
+    source
 }
 
 #[test]
-fn forms(rt: HostRuntime) -> Result<(), Fail> {
+fn forms(rt: HostRuntime) {
     let alloc = rt.alloc();
-    let source = source_of(alloc, &FORMS)?;
-    let program = program_of(alloc, &source)?;
-    assert_eq!(rt; program.as_slice().len(), 3);
-    let copy = program.copy(alloc)?;
+    let source = source_of(&rt, alloc, &FORMS);
+    let program = program_of(&rt, alloc, &source);
+    assert!(rt; program.as_slice().len() == 3);
+    let copy = program.copy(alloc).expect(&rt, "no copy");
     assert!(rt; program.same(&copy));
-    let other = program_of(alloc, UNDEFINED)?;
+    let other = program_of(&rt, alloc, UNDEFINED);
     assert!(rt; !program.same(&other));
-    Ok(())
 }
 
 // The core by itself: its cells, its refusals, and what they leave.
 #[test]
-fn core(rt: HostRuntime) -> Result<(), Fail> {
+fn core(rt: HostRuntime) {
     let alloc = rt.alloc();
-    let checked = check(alloc, parse(alloc, &statements(alloc, UNDEFINED)?)?)?;
+    let checked = check(alloc, program_of(&rt, alloc, UNDEFINED)).expect(&rt, "not accepted");
     checked.is_accepted();
-    assert_eq!(rt; checked.program().as_slice().len(), 1);
-    let mut core = Core::new(alloc, lower(alloc, checked)?, 3, 7)?;
-    assert_eq!(rt; core.image().name(0), Some(b"MAIN".as_slice()));
-    assert_eq!(rt; core.image().name(2), Some(b"J".as_slice()));
-    assert_eq!(rt; core.image().name(3), None);
-    assert_eq!(rt; core.choose(2).err(), Some(ChooseFault::NoSuchProcess));
+    assert!(rt; checked.program().as_slice().len() == 1);
+    let image = lower(alloc, checked).expect(&rt, "no image");
+    let mut core = Core::new(alloc, image, 3, 7).expect(&rt, "no core");
+    let unit = core.image().name(0).expect(&rt, "no name");
+    assert!(rt; unit == b"MAIN".as_slice());
+    let variable = core.image().name(2).expect(&rt, "no name");
+    assert!(rt; variable == b"J".as_slice());
+    assert!(rt; core.image().name(3).is_none());
+    assert!(rt; core.choose(2).err() == Some(ChooseFault::NoSuchProcess));
     for _step in 0..7 {
-        assert_eq!(rt; core.used(), 3);
-        assert_eq!(rt; core.verdict(), Verdict::Running);
-        assert_eq!(rt; core.next_ready(), Some(1));
-        let turn = core.choose(1)?;
-        assert_eq!(rt; (turn.steps, turn.blocked), (1, false));
+        assert!(rt; core.used() == 3);
+        assert!(rt; core.verdict() == Verdict::Running);
+        assert!(rt; core.next_ready() == Some(1));
+        let turn = core.choose(1).expect(&rt, "no turn");
+        assert!(rt; turn.steps == 1 && !turn.blocked);
     }
     // The frame was given back.
-    assert_eq!(rt; core.used(), 0);
-    assert_eq!(rt; core.verdict(), Verdict::Done);
-    assert_eq!(rt; core.next_ready(), None);
-    assert_eq!(rt; core.choose(1).err(), Some(ChooseFault::NoSuchProcess));
-    assert_eq!(rt; core.output().len(), 1);
-    assert_eq!(rt; core.faults().len(), 1);
+    assert!(rt; core.used() == 0);
+    assert!(rt; core.verdict() == Verdict::Done);
+    assert!(rt; core.next_ready().is_none());
+    assert!(rt; core.choose(1).err() == Some(ChooseFault::NoSuchProcess));
+    assert!(rt; core.output().len() == 1);
+    assert!(rt; core.faults().len() == 1);
     assert!(rt; is_single_steps(core.history(), 7));
-    Ok(())
 }

@@ -7,7 +7,7 @@ ghost use Rattle.hep_layout.specs.Words.{FrameNode};
 ghost use Rattle.hep_image.specs.Image.{most_cells};
 ghost use Rattle.hep_image.specs.Owners.{IsBlockTold, IsTold};
 ghost use Rattle.hep_proc.specs.Nodes.{nodes_of};
-ghost use Rattle.hep_state.specs.Words.{IsMachineAfter, snapshot_of, HasLevels};
+ghost use Rattle.hep_state.specs.Words.{AreNumbered, IsMachineAfter, snapshot_of, HasLevels};
 ghost use Rattle.hep_views.specs.Listed.{block_place, variable_place};
 ghost use Rattle.hep_views.specs.Standing.{whereabouts_by};
 ghost use Rattle.hep_views.specs.Sought.{CanBeListed, CanBeSought, IsListedAs, IsPlaceSought, has_cell as frame_has_cell, holder_above};
@@ -23,11 +23,12 @@ use hep_state::Machine;
 
 // The level of the top activation of process p.
 fn top(machine: &Machine, p: u64) -> Local
-    requires { HasLevels (snapshot_of machine.now) p }
+    requires numbers { AreNumbered machine.now }
+    requires living { HasLevels (snapshot_of machine.now) p }
     ensures { (levels : HasLevels (snapshot_of machine.now) p) → result ≡ levels.level }
 {
-    let levels = &machine.processes[(p - 1) as usize].levels;
-    levels[levels.len() - 1]
+    let at = machine.place(p);
+    machine.processes[at].top()
 }
 
 /// The line of the first operation from an index of a unit's code on; 0 where there is none.

@@ -110,7 +110,9 @@ pub fn close(
 fn is_of_run(core: &Core, image: &Image, options: &WorkOptions) -> bool
     ensures { MatchBool result (IsOfRun core.now image.now options.now) (IsOfRun core.now image.now options.now → ⊥) }
 {
-    core.cells() == options.arena && core.limit() == options.steps && core.image().same(image)
+    core.cells() == options.arena
+        && core.limit() == options.steps
+        && core.image().has_same_program(image)
 }
 
 // The receipts of all logs are the history's entries, each once.

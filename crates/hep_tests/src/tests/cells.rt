@@ -4,39 +4,36 @@ use super::{chosen, image_from, source_of};
 use hep_core::{ChoiceStop, ChooseFault, Core};
 use std::alloc::Global;
 use std::process::Abort;
-use std::test::Fail;
 
 // A core in an arena of so many cells, after a turn of each of these processes.
-fn core_after(alloc: Global, lines: &[&[u8]], cells: u8, choices: &[u64]) -> Result<Core, Fail> {
-    if cells == 0 {
-        Err("an arena has cells")?;
-    }
-    let source = source_of(alloc, lines)?;
-    let mut core = Core::new(alloc, image_from(alloc, &source)?, u32::from(cells), 100)?;
+fn core_after(rt: &impl Abort, alloc: Global, lines: &[&[u8]], cells: u8, choices: &[u64]) -> Core {
+    assert!(rt; 0 < cells);
+    let source = source_of(rt, alloc, lines);
+    let image = image_from(rt, alloc, &source);
+    let mut core = Core::new(alloc, image, u32::from(cells), 100).expect(rt, "no core");
     for process in choices {
-        let _turn = chosen(&mut core, *process)?;
+        let _turn = chosen(&mut core, *process).expect(rt, "no turn");
     }
-    Ok(core)
+    core
 }
 
 // A further turn of process 1 is refused by a stop, again and again, and changes nothing; so many cells are out.
 fn stays_stopped(rt: &impl Abort, core: &mut Core, stop: ChoiceStop, used: u32) {
     let entries = core.history().len();
     for _call in 0..2 {
-        assert_eq!(rt; chosen(core, 1).err(), Some(ChooseFault::Stopped(stop)));
-        assert_eq!(rt; core.used(), used);
-        assert_eq!(rt; core.history().len(), entries);
+        assert!(rt; chosen(core, 1).err() == Some(ChooseFault::Stopped(stop)));
+        assert!(rt; core.used() == used);
+        assert!(rt; core.history().len() == entries);
     }
 }
 
 const STOPPED: [&[u8]; 3] = [b"      PRINT *,1", b"      STOP", b"      END"];
 
 #[test]
-fn after_a_stop(rt: HostRuntime) -> Result<(), Fail> {
-    let mut core = core_after(rt.alloc(), &STOPPED, 8, &[1, 1])?;
+fn after_a_stop(rt: HostRuntime) {
+    let mut core = core_after(&rt, rt.alloc(), &STOPPED, 8, &[1, 1]);
     stays_stopped(&rt, &mut core, ChoiceStop::Halted, 1);
-    assert_eq!(rt; core.output().len(), 1);
-    Ok(())
+    assert!(rt; core.output().len() == 1);
 }
 
 const RECURSION: [&[u8]; 5] = [
@@ -48,10 +45,9 @@ const RECURSION: [&[u8]; 5] = [
 ];
 
 #[test]
-fn endless_recursion(rt: HostRuntime) -> Result<(), Fail> {
-    let mut core = core_after(rt.alloc(), &RECURSION, 4, &[1, 1, 1])?;
+fn endless_recursion(rt: HostRuntime) {
+    let mut core = core_after(&rt, rt.alloc(), &RECURSION, 4, &[1, 1, 1]);
     stays_stopped(&rt, &mut core, ChoiceStop::ArenaFull, 4);
-    Ok(())
 }
 
 // Two processes add to a variable, and the main program waits for both.
@@ -73,19 +69,18 @@ pub const ADDED: [&[u8]; 14] = [
 ];
 
 #[test]
-fn arenas(rt: HostRuntime) -> Result<(), Fail> {
+fn arenas(rt: HostRuntime) {
     let alloc = rt.alloc();
     for cells in 4..9 {
-        let mut core = core_after(alloc, &ADDED, cells, &[1])?;
+        let mut core = core_after(&rt, alloc, &ADDED, cells, &[1]);
         stays_stopped(&rt, &mut core, ChoiceStop::ArenaFull, 4);
     }
     for cells in 9..14 {
-        let mut core = core_after(alloc, &ADDED, cells, &[1, 1])?;
+        let mut core = core_after(&rt, alloc, &ADDED, cells, &[1, 1]);
         stays_stopped(&rt, &mut core, ChoiceStop::ArenaFull, 9);
     }
-    let core = core_after(alloc, &ADDED, 14, &[1, 1, 1])?;
-    assert_eq!(rt; core.used(), 14);
-    Ok(())
+    let core = core_after(&rt, alloc, &ADDED, 14, &[1, 1, 1]);
+    assert!(rt; core.used() == 14);
 }
 
 // Two processes of A, of which the first one ends, leave a gap that is too short for C in an arena of seven cells.
@@ -105,10 +100,9 @@ const GAPS: [&[u8]; 12] = [
 ];
 
 #[test]
-fn gaps(rt: HostRuntime) -> Result<(), Fail> {
-    let mut core = core_after(rt.alloc(), &GAPS, 7, &[1, 1, 2, 2])?;
+fn gaps(rt: HostRuntime) {
+    let mut core = core_after(&rt, rt.alloc(), &GAPS, 7, &[1, 1, 2, 2]);
     stays_stopped(&rt, &mut core, ChoiceStop::ArenaFull, 3);
-    let core = core_after(rt.alloc(), &GAPS, 8, &[1, 1, 2, 2, 1])?;
-    assert_eq!(rt; core.used(), 6);
-    Ok(())
+    let core = core_after(&rt, rt.alloc(), &GAPS, 8, &[1, 1, 2, 2, 1]);
+    assert!(rt; core.used() == 6);
 }

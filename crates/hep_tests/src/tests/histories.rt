@@ -4,7 +4,6 @@ use super::cells::ADDED;
 use super::{image_from, source_of};
 use hep_history::{read_text, replay, write_text};
 use hep_output::output_text;
-use std::test::Fail;
 
 // The first entries are those of five choices.
 const TEXT: &[u8] = b"1 1
@@ -32,11 +31,13 @@ const TEXT: &[u8] = b"1 1
 ";
 
 #[test]
-fn same_bytes(rt: HostRuntime) -> Result<(), Fail> {
+fn same_bytes(rt: HostRuntime) {
     let alloc = rt.alloc();
-    let image = image_from(alloc, &source_of(alloc, &ADDED)?)?;
-    let core = replay(alloc, image, 14, &read_text(alloc, TEXT)?)?;
-    assert!(rt; output_text(alloc, core.output())?.as_slice() == b" 2\n".as_slice());
-    assert!(rt; write_text(alloc, core.history())?.as_slice() == TEXT);
-    Ok(())
+    let image = image_from(&rt, alloc, &source_of(&rt, alloc, &ADDED));
+    let entries = read_text(alloc, TEXT).expect(&rt, "no history");
+    let core = replay(alloc, image, 14, &entries).expect(&rt, "no core");
+    let output = output_text(alloc, core.output()).expect(&rt, "no memory");
+    assert!(rt; output.as_slice() == b" 2\n".as_slice());
+    let text = write_text(alloc, core.history()).expect(&rt, "no memory");
+    assert!(rt; text.as_slice() == TEXT);
 }

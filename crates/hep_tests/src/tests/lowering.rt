@@ -1,20 +1,11 @@
 //! Images: what is lowered of a program, and the sizes of what they and the arena are made of.
 
-use super::program_of;
-use hep_base::Refusal;
-use hep_check::check;
+use super::image_from;
+use hep_arena::Cell;
 use hep_code::{Instruction, Operation, Variable};
 use hep_image::{DataRow, Image, UnitCode};
-use hep_lower::lower;
-use hep_machine::Slot;
 use hep_source::Value;
-use std::alloc::Global;
 use std::mem::size_of;
-use std::test::Fail;
-
-fn image_of(alloc: Global, source: &[u8]) -> Result<Result<Image, Refusal>, Fail> {
-    Ok(lower(alloc, check(alloc, program_of(alloc, source)?)?))
-}
 
 fn first_unit(image: &Image) -> Option<&UnitCode> {
     if image.program().as_slice().is_empty() {
@@ -41,28 +32,24 @@ fn row(first: u32, count: u32, value: i64) -> DataRow {
 }
 
 #[test]
-fn image(rt: HostRuntime) -> Result<(), Fail> {
-    let image = image_of(rt.alloc(), SUM)??;
-    assert_eq!(rt; image.common(), 1);
+fn image(rt: HostRuntime) {
+    let image = image_from(&rt, rt.alloc(), SUM);
+    assert!(rt; image.common() == 1);
     // The frame stands behind COMMON: a header, A and N.
     let rows = [row(5, 1, 5), row(2, 2, 7), row(4, 1, 8)];
-    assert_eq!(rt; image.rows(), rows.as_slice());
-    let Some(unit) = first_unit(&image) else {
-        assert!(rt; false);
-        return Ok(());
-    };
-    assert_eq!(rt; unit.cells, 5);
-    assert_eq!(rt; unit.private.as_slice(), [4].as_slice());
-    assert_eq!(rt; unit.arrays.as_slice().len(), 1);
-    assert_eq!(rt; unit.operands, 2);
-    let copy = image.copy(rt.alloc())?;
-    assert!(rt; copy.same(&image));
-    Ok(())
+    assert!(rt; image.rows() == rows.as_slice());
+    let unit = first_unit(&image).expect(&rt, "no unit");
+    assert!(rt; unit.cells == 5);
+    assert!(rt; unit.private.as_slice() == [4].as_slice());
+    assert!(rt; unit.arrays.as_slice().len() == 1);
+    assert!(rt; unit.operands == 2);
+    let copy = image.copy(rt.alloc()).expect(&rt, "no copy");
+    assert!(rt; copy.has_same_program(&image));
 }
 
 #[test]
-fn names(rt: HostRuntime) -> Result<(), Fail> {
-    let image = image_of(rt.alloc(), SUM)??;
+fn names(rt: HostRuntime) {
+    let image = image_from(&rt, rt.alloc(), SUM);
     let names = [
         b"P".as_slice(),
         b"A".as_slice(),
@@ -71,17 +58,17 @@ fn names(rt: HostRuntime) -> Result<(), Fail> {
         b"C".as_slice(),
     ];
     for (number, name) in names.iter().enumerate() {
-        assert_eq!(rt; image.name(number as u32), Some(*name));
+        let found = image.name(number as u32).expect(&rt, "no name");
+        assert!(rt; found == *name);
     }
-    assert_eq!(rt; image.name(5), None);
-    Ok(())
+    assert!(rt; image.name(5).is_none());
 }
 
 // A step reads an operation and some cells, so runs are as fast as these are small.
 #[test]
 fn sizes(rt: HostRuntime) {
-    assert_eq!(rt; size_of::<Variable>(), 8);
-    assert_eq!(rt; size_of::<Operation>(), 24);
-    assert_eq!(rt; size_of::<Instruction>(), 32);
-    assert_eq!(rt; size_of::<Slot>(), 32);
+    assert!(rt; size_of::<Variable>() == 8);
+    assert!(rt; size_of::<Operation>() == 24);
+    assert!(rt; size_of::<Instruction>() == 32);
+    assert!(rt; size_of::<Cell>() == 16);
 }

@@ -7,58 +7,51 @@ use hep_core::{ChoiceStop, ChooseFault, Core, NewFault, Verdict};
 use hep_text::{Span, statements};
 use std::alloc::Global;
 use std::process::Abort;
-use std::test::Fail;
 
 // ---- the text
 
 #[test]
-fn labels_and_blanks(rt: HostRuntime) -> Result<(), Fail> {
+fn labels_and_blanks(rt: HostRuntime) {
     let source = b"C a comment\r\n 1 0  go to 2 0\r\n      END";
-    let mut read = statements(rt.alloc(), source)?;
-    assert_eq!(rt; read.len(), 2);
+    let mut read = statements(rt.alloc(), source).expect(&rt, "no statements");
+    assert!(rt; read.len() == 2);
     if let Some(end) = read.pop() {
-        assert_eq!(rt; (end.line, end.label), (3, None));
-        assert_eq!(rt; end.text.into_vec().as_slice(), b"END".as_slice());
-        assert_eq!(rt; end.spans.into_vec().len(), 3);
+        assert!(rt; end.line == 3 && end.label.is_none());
+        assert!(rt; end.text.into_vec().as_slice() == b"END".as_slice());
+        assert!(rt; end.spans.into_vec().len() == 3);
     }
     if let Some(jump) = read.pop() {
-        assert_eq!(rt; (jump.line, jump.label), (2, Some(10)));
-        assert_eq!(rt; jump.text.as_slice(), b"GOTO20".as_slice());
+        assert!(rt; jump.line == 2 && jump.label == Some(10));
+        assert!(rt; jump.text.as_slice() == b"GOTO20".as_slice());
         let last = Span {
             line: 2,
             column: 15,
         };
-        assert_eq!(rt; jump.spans.as_slice().last().copied(), Some(last));
+        assert!(rt; jump.spans.as_slice().last().copied() == Some(last));
     }
-    Ok(())
 }
 
 // ---- the core
 
 #[test]
-fn full_history(rt: HostRuntime) -> Result<(), Fail> {
+fn full_history(rt: HostRuntime) {
     let alloc = rt.alloc();
-    let refused = Core::new(alloc, image_from(alloc, UNDEFINED)?, 2, 100);
-    assert_eq!(rt; refused.err(), Some(NewFault::ArenaFull));
-    let mut core = core_of(alloc, UNDEFINED, 3)?;
+    let refused = Core::new(alloc, image_from(&rt, alloc, UNDEFINED), 2, 100);
+    assert!(rt; refused.err() == Some(NewFault::ArenaFull));
+    let mut core = core_of(&rt, alloc, UNDEFINED, 3);
     for _step in 0..3 {
-        let _turn = chosen(&mut core, 1)?;
+        let _turn = chosen(&mut core, 1).expect(&rt, "no turn");
     }
     // That a process doesn't live is reported before that the history is full, and a stop before both.
-    assert_eq!(rt;
-        chosen(&mut core, 2).err(),
-        Some(ChooseFault::NoSuchProcess)
-    );
-    assert_eq!(rt; core.verdict(), Verdict::Running);
+    assert!(rt; chosen(&mut core, 2).err() == Some(ChooseFault::NoSuchProcess));
+    assert!(rt; core.verdict() == Verdict::Running);
     for process in [1, 2, 1] {
-        assert_eq!(rt;
-            chosen(&mut core, process).err(),
-            Some(ChooseFault::Stopped(ChoiceStop::StepLimit))
+        assert!(rt;
+            chosen(&mut core, process).err() == Some(ChooseFault::Stopped(ChoiceStop::StepLimit))
         );
-        assert_eq!(rt; core.verdict(), Verdict::Stopped(ChoiceStop::StepLimit));
+        assert!(rt; core.verdict() == Verdict::Stopped(ChoiceStop::StepLimit));
         assert!(rt; is_single_steps(core.history(), 3));
     }
-    Ok(())
 }
 
 // A creates B, which outlives it, and C comes after A.
@@ -109,111 +102,97 @@ const RESUMED: [&[u8]; 13] = [
 ];
 
 // How many cells are out at first, and after each choice of these processes, with which the run is done.
-fn follow(
-    rt: &impl Abort,
-    alloc: Global,
-    lines: &[&[u8]],
-    first: u32,
-    choices: &[(u64, u32)],
-) -> Result<(), Fail> {
-    let source = source_of(alloc, lines)?;
-    let mut core = Core::new(alloc, image_from(alloc, &source)?, 64, 100)?;
+fn follow(rt: &impl Abort, alloc: Global, lines: &[&[u8]], first: u32, choices: &[(u64, u32)]) {
+    let source = source_of(rt, alloc, lines);
+    let image = image_from(rt, alloc, &source);
+    let mut core = Core::new(alloc, image, 64, 100).expect(rt, "no core");
     for process in [99, 2] {
-        assert_eq!(rt;
-            chosen(&mut core, process).err(),
-            Some(ChooseFault::NoSuchProcess)
-        );
+        assert!(rt; chosen(&mut core, process).err() == Some(ChooseFault::NoSuchProcess));
     }
-    assert_eq!(rt; core.used(), first);
+    assert!(rt; core.used() == first);
     for (process, used) in choices {
-        let _turn = chosen(&mut core, *process)?;
-        assert_eq!(rt; core.used(), *used);
+        let _turn = chosen(&mut core, *process).expect(rt, "no turn");
+        assert!(rt; core.used() == *used);
     }
-    assert_eq!(rt; core.verdict(), Verdict::Done);
-    Ok(())
+    assert!(rt; core.verdict() == Verdict::Done);
 }
 
 // Frames are given back in the step that ends them; A's stays until B has ended, whose dummy argument is a variable of A.
 #[test]
-fn held_frames(rt: HostRuntime) -> Result<(), Fail> {
+fn held_frames(rt: HostRuntime) {
     let outlived = [(1, 3), (1, 6), (1, 6), (1, 8), (2, 8), (1, 6), (2, 0)];
-    follow(&rt, rt.alloc(), &OUTLIVED, 1, &outlived)?;
+    follow(&rt, rt.alloc(), &OUTLIVED, 1, &outlived);
     let shaped = [(1, 7), (1, 16), (1, 16), (1, 16), (1, 16), (1, 7), (1, 0)];
-    follow(&rt, rt.alloc(), &SHAPED, 7, &shaped)
+    follow(&rt, rt.alloc(), &SHAPED, 7, &shaped);
 }
 
 // The frame of a resumed activation, and that of its caller, which ends first, stay until it has ended.
 #[test]
-fn held_by_the_resumed(rt: HostRuntime) -> Result<(), Fail> {
+fn held_by_the_resumed(rt: HostRuntime) {
     let caller = [(1, 3), (1, 9), (1, 9), (2, 9), (1, 9), (1, 9), (1, 9)];
     let resumed = [(2, 9), (2, 9), (2, 9), (2, 9), (2, 9), (2, 9), (2, 0)];
     let mut choices = Vec::new(rt.alloc());
-    choices.extend_from_slice(&caller)?;
-    choices.extend_from_slice(&resumed)?;
-    follow(&rt, rt.alloc(), &RESUMED, 3, &choices)
+    choices.extend_from_slice(&caller).expect(&rt, "no memory");
+    choices.extend_from_slice(&resumed).expect(&rt, "no memory");
+    follow(&rt, rt.alloc(), &RESUMED, 3, &choices);
 }
 
 // Who was found waiting, for what, and who comes after it.
 #[test]
-fn waiting_processes(rt: HostRuntime) -> Result<(), Fail> {
-    let alloc = rt.alloc();
-    let mut core = core_of(alloc, b"      INTEGER $Q\n      I=$Q\n      END\n", 100)?;
+fn waiting_processes(rt: HostRuntime) {
+    let source = b"      INTEGER $Q\n      I=$Q\n      END\n";
+    let mut core = core_of(&rt, rt.alloc(), source, 100);
     assert!(rt; core.waiting_after(0).is_none());
-    assert!(rt; chosen(&mut core, 1)?.blocked);
-    assert_eq!(rt; core.verdict(), Verdict::Waiting);
-    assert_eq!(rt; core.next_ready(), None);
-    let found = core.waiting_after(0).ok_or("nobody waits")?;
-    assert_eq!(rt;
-        (found.process, found.unit, found.line, found.full),
-        (1, 0, 2, true)
-    );
-    assert_eq!(rt; (found.owner, found.element), (1, 0));
-    let name = core.image().name(found.name).ok_or("no name")?;
+    let turn = chosen(&mut core, 1).expect(&rt, "no turn");
+    assert!(rt; turn.blocked);
+    assert!(rt; core.verdict() == Verdict::Waiting);
+    assert!(rt; core.next_ready().is_none());
+    let found = core.waiting_after(0).expect(&rt, "nobody waits");
+    assert!(rt; found.process == 1 && found.unit == 0 && found.line == 2 && found.full);
+    assert!(rt; found.owner == 1 && found.element == 0);
+    let name = core.image().name(found.name).expect(&rt, "no name");
     assert!(rt; name == b"$Q".as_slice());
     assert!(rt; core.waiting_after(1).is_none());
-    Ok(())
 }
 
 // ---- the arena
 
 // Three blocks in an arena of ten cells leave a hole of one. A block of five fits where two neighbours have come back.
 #[test]
-fn three_blocks(rt: HostRuntime) -> Result<(), Fail> {
+fn three_blocks(rt: HostRuntime) {
     taking();
     giving();
-    let mut arena = Arena::new(rt.alloc(), 10)?.sent();
-    let first = arena.take(3).ok_or("no block")?;
-    let second = arena.take(4).ok_or("no block")?;
-    let third = arena.take(2).ok_or("no block")?;
-    assert_eq!(rt; (first.at(), second.at(), third.at()), (0, 3, 7));
-    assert_eq!(rt; arena.used(), 9);
+    let mut arena = Arena::new(rt.alloc(), 10).expect(&rt, "no memory").sent();
+    let first = arena.take(3).expect(&rt, "no block");
+    let second = arena.take(4).expect(&rt, "no block");
+    let third = arena.take(2).expect(&rt, "no block");
+    assert!(rt; first.at() == 0 && second.at() == 3 && third.at() == 7);
+    assert!(rt; arena.used() == 9);
     arena.give(second);
-    assert_eq!(rt; arena.used(), 5);
+    assert!(rt; arena.used() == 5);
     assert!(rt; arena.take(5).is_none());
-    assert_eq!(rt; arena.used(), 5);
+    assert!(rt; arena.used() == 5);
     arena.give(first);
-    assert_eq!(rt; arena.used(), 2);
-    let fourth = arena.take(5).ok_or("no block")?;
-    assert_eq!(rt; (fourth.at(), arena.used()), (0, 7));
+    assert!(rt; arena.used() == 2);
+    let fourth = arena.take(5).expect(&rt, "no block");
+    assert!(rt; fourth.at() == 0 && arena.used() == 7);
     assert!(rt; arena.fits(2) && !arena.fits(3));
-    Ok(())
 }
 
 // The same holes as at the end of those, of two cells and of one. Once the blocks beside them are back, all cells are one hole.
 #[test]
-fn all_given_back(rt: HostRuntime) -> Result<(), Fail> {
+fn all_given_back(rt: HostRuntime) {
     taking();
     giving();
-    let mut arena = Arena::new(rt.alloc(), 10)?.sent();
-    let first = arena.take(5).ok_or("no block")?;
-    let second = arena.take(2).ok_or("no block")?;
-    let third = arena.take(2).ok_or("no block")?;
+    let mut arena = Arena::new(rt.alloc(), 10).expect(&rt, "no memory").sent();
+    let first = arena.take(5).expect(&rt, "no block");
+    let second = arena.take(2).expect(&rt, "no block");
+    let third = arena.take(2).expect(&rt, "no block");
     arena.give(second);
-    assert_eq!(rt; (first.at(), third.at(), arena.used()), (0, 7, 7));
+    assert!(rt; first.at() == 0 && third.at() == 7 && arena.used() == 7);
     arena.give(third);
     assert!(rt; arena.fits(5) && !arena.fits(6));
     arena.give(first);
-    assert_eq!(rt; arena.used(), 0);
+    assert!(rt; arena.used() == 0);
     assert!(rt; arena.fits(10));
-    Ok(())
 }

@@ -5,8 +5,8 @@ use hep_image::Image;
 use hep_private::Record;
 use hep_segments::{Copied, Segment, Ticket, TicketId, compute, compute_into};
 use hep_source::Value;
-use std::alloc::{AllocError, Global};
-use std::test::Fail;
+use std::alloc::Global;
+use std::process::Abort;
 
 const LOOP: &[u8] = b"      PROGRAM P
       COMMON K
@@ -25,11 +25,12 @@ const PASSED: &[u8] =
 
 // At the first statement of the first unit, with these copies.
 fn ticket_of(
+    rt: &impl Abort,
     alloc: Global,
     image: &Image,
     number: u64,
     copies: &[Copied],
-) -> Result<Ticket, AllocError> {
+) -> Ticket {
     let id = TicketId { number, process: 1 };
     let index = if image.program().as_slice().is_empty() {
         0
@@ -37,22 +38,22 @@ fn ticket_of(
         image.unit(0).entry as usize
     };
     let mut kept = Vec::new(alloc);
-    kept.extend_from_slice(copies)?;
-    Ok(Ticket::new(id, 0, index, Vec::new(alloc), kept))
+    kept.extend_from_slice(copies).expect(rt, "no memory");
+    Ticket::new(id, 0, index, Vec::new(alloc), kept)
 }
 
-fn segment_of(alloc: Global, source: &[u8], copies: &[Copied]) -> Result<Segment, Fail> {
-    let image = image_from(alloc, source)?;
-    let ticket = ticket_of(alloc, &image, 1, copies)?;
-    Ok(compute(&image, &ticket))
+fn segment_of(rt: &impl Abort, alloc: Global, source: &[u8], copies: &[Copied]) -> Segment {
+    let image = image_from(rt, alloc, source);
+    let ticket = ticket_of(rt, alloc, &image, 1, copies);
+    compute(&image, &ticket)
 }
 
 // All steps but the store in COMMON, in front of which its value is an operand.
 #[test]
-fn steps_of_a_loop(rt: HostRuntime) -> Result<(), Fail> {
-    let segment = segment_of(rt.alloc(), LOOP, &[])?;
-    assert_eq!(rt; segment.records().len(), 21);
-    assert_eq!(rt; segment.end_operands(), [Value::Int(7)].as_slice());
+fn steps_of_a_loop(rt: HostRuntime) {
+    let segment = segment_of(&rt, rt.alloc(), LOOP, &[]);
+    assert!(rt; segment.records().len() == 21);
+    assert!(rt; segment.end_operands() == [Value::Int(7)].as_slice());
     let ends = segment.records()[7];
     let Record::Ends {
         first_variable,
@@ -65,49 +66,47 @@ fn steps_of_a_loop(rt: HostRuntime) -> Result<(), Fail> {
     } = ends
     else {
         assert!(rt; false);
-        return Ok(());
+        return;
     };
     assert!(rt; !first_variable && !first_count && !first_increment);
-    assert_eq!(rt; (raised, count, increment), (2, 3, 1));
-    Ok(())
+    assert!(rt; raised == 2 && count == 3 && increment == 1);
 }
 
 // What is read first is that of the copies; without a value there is no step.
 #[test]
-fn first_reads(rt: HostRuntime) -> Result<(), Fail> {
+fn first_reads(rt: HostRuntime) {
     let alloc = rt.alloc();
-    let none = segment_of(alloc, RAISE, &[])?;
+    let none = segment_of(&rt, alloc, RAISE, &[]);
     assert!(rt; none.records().is_empty());
     let copy = Copied {
         cell: 1,
         value: Some(Value::Int(5)),
     };
-    let segment = segment_of(alloc, RAISE, &[copy])?;
-    assert_eq!(rt; segment.records().len(), 6);
+    let segment = segment_of(&rt, alloc, RAISE, &[copy]);
+    assert!(rt; segment.records().len() == 6);
     let Record::Reads { first, value, .. } = segment.records()[0] else {
         assert!(rt; false);
-        return Ok(());
+        return;
     };
     assert!(rt; first);
-    assert_eq!(rt; value, Value::Int(5));
+    assert!(rt; value == Value::Int(5));
     let Record::Stores { cell, value, .. } = segment.records()[5] else {
         assert!(rt; false);
-        return Ok(());
+        return;
     };
-    assert_eq!(rt; (cell, value), (1, Value::Int(-6)));
-    Ok(())
+    assert!(rt; cell == 1 && value == Value::Int(-6));
 }
 
 // There is an end to a segment, and another one can be made in its place.
 #[test]
-fn longest_segment(rt: HostRuntime) -> Result<(), Fail> {
+fn longest_segment(rt: HostRuntime) {
     let alloc = rt.alloc();
-    let mut segment = segment_of(alloc, b"   10 GO TO 10\n      END\n", &[])?;
-    assert_eq!(rt; segment.records().len(), 1023);
-    let image = image_from(alloc, PASSED)?;
-    compute_into(&image, &ticket_of(alloc, &image, 2, &[])?, &mut segment);
+    let mut segment = segment_of(&rt, alloc, b"   10 GO TO 10\n      END\n", &[]);
+    assert!(rt; segment.records().len() == 1023);
+    let image = image_from(&rt, alloc, PASSED);
+    let ticket = ticket_of(&rt, alloc, &image, 2, &[]);
+    compute_into(&image, &ticket, &mut segment);
     // J is passed, so that it isn't private.
-    assert_eq!(rt; segment.records().len(), 1);
-    assert_eq!(rt; segment.ticket().number, 2);
-    Ok(())
+    assert!(rt; segment.records().len() == 1);
+    assert!(rt; segment.ticket().number == 2);
 }

@@ -8,9 +8,9 @@ use hep_source::Value;
 use hep_workers::{
     CloseFault, Gate, Log, NoGate, Receipt, WorkOptions, close, run_workers, worker_turn,
 };
-use std::alloc::{AllocError, Global};
+use std::alloc::Global;
+use std::process::Abort;
 use std::sync::atomic::{AtomicU32, AtomicU64, Ordering};
-use std::test::Fail;
 use std::thread::sleep;
 use std::time::{Clock, Duration};
 
@@ -29,33 +29,28 @@ fn options_of(steps: u64, workers: u32) -> WorkOptions
 
 // A process that is out is neither chosen nor checked out, and comes next no more; of two segments of a ticket one is committed.
 #[test]
-fn tickets(rt: HostRuntime) -> Result<(), Fail> {
-    let alloc = rt.alloc();
-    let image = image_from(alloc, WAITING)?;
-    let mut core = Core::new(alloc, image.copy(alloc)?, 3, 3)?;
-    assert_eq!(rt; core.check_out(2).err(), Some(ChooseFault::NoSuchProcess));
-    assert_eq!(rt; core.next_ready(), Some(1));
-    let cancelled = core.check_out(1)?;
-    assert_eq!(rt; core.next_ready(), None);
-    assert_eq!(rt; core.verdict(), Verdict::Running);
-    core.cancel(&cancelled)?;
-    assert_eq!(rt; core.cancel(&cancelled).err(), Some(CommitFault::Stale));
-    assert_eq!(rt;
-        core.commit(&compute(&image, &cancelled)).err(),
-        Some(CommitFault::Stale)
-    );
-    let ticket = core.check_out(1)?;
-    assert_eq!(rt; ticket.id().number, 2);
-    assert_eq!(rt; core.choose(1).err(), Some(ChooseFault::IsOut));
-    assert_eq!(rt; core.check_out(1).err(), Some(ChooseFault::IsOut));
+fn tickets(rt: HostRuntime) {
+    let image = image_from(&rt, rt.alloc(), WAITING);
+    let mut core = core_of(&rt, rt.alloc(), WAITING, 3);
+    assert!(rt; core.check_out(2).err() == Some(ChooseFault::NoSuchProcess));
+    assert!(rt; core.next_ready() == Some(1));
+    let cancelled = core.check_out(1).expect(&rt, "no ticket");
+    assert!(rt; core.next_ready().is_none());
+    assert!(rt; core.verdict() == Verdict::Running);
+    core.cancel(&cancelled).expect(&rt, "not cancelled");
+    assert!(rt; core.cancel(&cancelled).err() == Some(CommitFault::Stale));
+    assert!(rt; core.commit(&compute(&image, &cancelled)).err() == Some(CommitFault::Stale));
+    let ticket = core.check_out(1).expect(&rt, "no ticket");
+    assert!(rt; ticket.id().number == 2);
+    assert!(rt; core.choose(1).err() == Some(ChooseFault::IsOut));
+    assert!(rt; core.check_out(1).err() == Some(ChooseFault::IsOut));
     let first = compute(&image, &ticket);
     let second = compute(&image, &ticket);
-    let turn = core.commit(&first)?;
-    assert_eq!(rt; (turn.steps, turn.blocked), (0, true));
-    assert_eq!(rt; core.commit(&second).err(), Some(CommitFault::Stale));
-    assert_eq!(rt; core.history().len(), 1);
-    assert_eq!(rt; core.verdict(), Verdict::Waiting);
-    Ok(())
+    let turn = core.commit(&first).expect(&rt, "not committed");
+    assert!(rt; turn.steps == 0 && turn.blocked);
+    assert!(rt; core.commit(&second).err() == Some(CommitFault::Stale));
+    assert!(rt; core.history().len() == 1);
+    assert!(rt; core.verdict() == Verdict::Waiting);
 }
 
 const OVERFLOW: [&[u8]; 8] = [
@@ -71,105 +66,85 @@ const OVERFLOW: [&[u8]; 8] = [
 
 // At the opening there is process 1 alone; while it is out it isn't chosen, and of two segments of its ticket one is committed.
 #[test]
-fn at_the_opening(rt: HostRuntime) -> Result<(), Fail> {
+fn at_the_opening(rt: HostRuntime) {
     let alloc = rt.alloc();
-    let source = source_of(alloc, &OVERFLOW)?;
-    let image = image_from(alloc, &source)?;
-    let mut core = core_of(alloc, &source, 7)?;
+    let source = source_of(&rt, alloc, &OVERFLOW);
+    let image = image_from(&rt, alloc, &source);
+    let mut core = core_of(&rt, alloc, &source, 7);
     for process in [99, 2] {
-        assert_eq!(rt;
-            core.choose(process).err(),
-            Some(ChooseFault::NoSuchProcess)
-        );
-        assert_eq!(rt; core.history().len(), 0);
+        assert!(rt; core.choose(process).err() == Some(ChooseFault::NoSuchProcess));
+        assert!(rt; core.history().len() == 0);
     }
-    let ticket = core.check_out(1)?;
-    assert_eq!(rt; core.choose(1).err(), Some(ChooseFault::IsOut));
+    let ticket = core.check_out(1).expect(&rt, "no ticket");
+    assert!(rt; core.choose(1).err() == Some(ChooseFault::IsOut));
     let first = compute(&image, &ticket);
     let second = compute(&image, &ticket);
-    let turn = core.commit(&first)?;
-    assert_eq!(rt; (turn.steps, turn.blocked), (1, false));
-    assert_eq!(rt; core.commit(&second).err(), Some(CommitFault::Stale));
-    assert_eq!(rt; core.history().len(), 1);
+    let turn = core.commit(&first).expect(&rt, "not committed");
+    assert!(rt; turn.steps == 1 && !turn.blocked);
+    assert!(rt; core.commit(&second).err() == Some(CommitFault::Stale));
+    assert!(rt; core.history().len() == 1);
     let options = WorkOptions {
         arena: 3,
         steps: 7,
         workers: 1,
     };
-    let opening = core_of(alloc, &source, 7)?;
-    assert_eq!(rt;
-        close(alloc, opening, &image, &options, Vec::new(alloc)).err(),
-        Some(CloseFault::StillRunning)
+    let opening = core_of(&rt, alloc, &source, 7);
+    assert!(rt;
+        close(alloc, opening, &image, &options, Vec::new(alloc)).err()
+            == Some(CloseFault::StillRunning)
     );
-    Ok(())
 }
 
 // A segment of process 1 at the opening of another core, which has given so many tickets before and cancelled them.
-fn segment_after(alloc: Global, image: &Image, cancelled: u32) -> Result<Segment, Fail> {
-    let mut core = Core::new(alloc, image.copy(alloc)?, 3, 7)?;
+fn segment_after(rt: &impl Abort, alloc: Global, image: &Image, cancelled: u32) -> Segment {
+    let copy = image.copy(alloc).expect(rt, "no copy");
+    let mut core = Core::new(alloc, copy, 3, 7).expect(rt, "no core");
     for _ticket in 0..cancelled {
-        let ticket = core.check_out(1)?;
-        core.cancel(&ticket)?;
+        let ticket = core.check_out(1).expect(rt, "no ticket");
+        core.cancel(&ticket).expect(rt, "not cancelled");
     }
-    let ticket = core.check_out(1)?;
-    Ok(compute(image, &ticket))
+    let ticket = core.check_out(1).expect(rt, "no ticket");
+    compute(image, &ticket)
 }
 
 // A segment of another core is stale unless it agrees with the ticket that is out. A stale one changes nothing.
 #[test]
-fn foreign_segments(rt: HostRuntime) -> Result<(), Fail> {
+fn foreign_segments(rt: HostRuntime) {
     let alloc = rt.alloc();
-    let image = image_from(alloc, &source_of(alloc, &OVERFLOW)?)?;
-    let of_another_source = segment_after(alloc, &image_from(alloc, WAITING)?, 0)?;
-    let earlier = segment_after(alloc, &image, 0)?;
-    let later = segment_after(alloc, &image, 2)?;
-    let alike = segment_after(alloc, &image, 1)?;
-    let mut core = Core::new(alloc, image.copy(alloc)?, 3, 7)?;
-    assert_eq!(rt; core.commit(&alike).err(), Some(CommitFault::Stale));
-    let cancelled = core.check_out(1)?;
-    core.cancel(&cancelled)?;
-    let ticket = core.check_out(1)?;
+    let source = source_of(&rt, alloc, &OVERFLOW);
+    let image = image_from(&rt, alloc, &source);
+    let of_another_source = segment_after(&rt, alloc, &image_from(&rt, alloc, WAITING), 0);
+    let earlier = segment_after(&rt, alloc, &image, 0);
+    let later = segment_after(&rt, alloc, &image, 2);
+    let alike = segment_after(&rt, alloc, &image, 1);
+    let mut core = core_of(&rt, alloc, &source, 7);
+    assert!(rt; core.commit(&alike).err() == Some(CommitFault::Stale));
+    let cancelled = core.check_out(1).expect(&rt, "no ticket");
+    core.cancel(&cancelled).expect(&rt, "not cancelled");
+    let ticket = core.check_out(1).expect(&rt, "no ticket");
     for segment in [&of_another_source, &earlier, &later] {
-        assert_eq!(rt; core.commit(segment).err(), Some(CommitFault::Stale));
-        assert_eq!(rt;
-            (core.history().len(), core.used(), core.next_ready()),
-            (0, 1, None)
-        );
+        assert!(rt; core.commit(segment).err() == Some(CommitFault::Stale));
+        assert!(rt; core.history().len() == 0 && core.used() == 1 && core.next_ready().is_none());
     }
-    assert_eq!(rt; core.commit(&alike)?.steps, 1);
-    assert_eq!(rt;
-        core.commit(&compute(&image, &ticket)).err(),
-        Some(CommitFault::Stale)
-    );
-    assert_eq!(rt; core.history().len(), 1);
-    Ok(())
+    let turn = core.commit(&alike).expect(&rt, "not committed");
+    assert!(rt; turn.steps == 1);
+    assert!(rt; core.commit(&compute(&image, &ticket)).err() == Some(CommitFault::Stale));
+    assert!(rt; core.history().len() == 1);
 }
 
 // A history that is full stops a check-out, and a stop is reported before all else.
 #[test]
-fn full_histories(rt: HostRuntime) -> Result<(), Fail> {
-    let alloc = rt.alloc();
-    let image = image_from(alloc, WAITING)?;
-    let mut core = Core::new(alloc, image.copy(alloc)?, 3, 1)?;
-    core.choose(1)?;
-    assert_eq!(rt;
-        core.check_out(1).err(),
-        Some(ChooseFault::Stopped(ChoiceStop::StepLimit))
-    );
-    assert_eq!(rt;
-        core.check_out(7).err(),
-        Some(ChooseFault::Stopped(ChoiceStop::StepLimit))
-    );
-    assert_eq!(rt;
-        core.choose(7).err(),
-        Some(ChooseFault::Stopped(ChoiceStop::StepLimit))
-    );
-    Ok(())
+fn full_histories(rt: HostRuntime) {
+    let mut core = core_of(&rt, rt.alloc(), WAITING, 1);
+    core.choose(1).expect(&rt, "no turn");
+    assert!(rt; core.check_out(1).err() == Some(ChooseFault::Stopped(ChoiceStop::StepLimit)));
+    assert!(rt; core.check_out(7).err() == Some(ChooseFault::Stopped(ChoiceStop::StepLimit)));
+    assert!(rt; core.choose(7).err() == Some(ChooseFault::Stopped(ChoiceStop::StepLimit)));
 }
 
 // Why there is no report, each by itself.
 #[test]
-fn closing(rt: HostRuntime) -> Result<(), Fail> {
+fn closing(rt: HostRuntime) {
     let alloc = rt.alloc();
     let options = WorkOptions {
         arena: 3,
@@ -177,50 +152,50 @@ fn closing(rt: HostRuntime) -> Result<(), Fail> {
         workers: 1,
     };
     let source = b"      I=1\n      END\n";
-    let image = image_from(alloc, source)?;
+    let image = image_from(&rt, alloc, source);
     let opening = close(
         alloc,
-        core_of(alloc, source, 7)?,
+        core_of(&rt, alloc, source, 7),
         &image,
         &options,
         Vec::new(alloc),
     );
-    assert_eq!(rt; opening.err(), Some(CloseFault::StillRunning));
-    let other = image_from(alloc, WAITING)?;
+    assert!(rt; opening.err() == Some(CloseFault::StillRunning));
+    let other = image_from(&rt, alloc, WAITING);
     let other = close(
         alloc,
-        core_of(alloc, source, 7)?,
+        core_of(&rt, alloc, source, 7),
         &other,
         &options,
         Vec::new(alloc),
     );
-    assert_eq!(rt; other.err(), Some(CloseFault::NotTheRun));
+    assert!(rt; other.err() == Some(CloseFault::NotTheRun));
     let shorter = close(
         alloc,
-        core_of(alloc, source, 6)?,
+        core_of(&rt, alloc, source, 6),
         &image,
         &options,
         Vec::new(alloc),
     );
-    assert_eq!(rt; shorter.err(), Some(CloseFault::NotTheRun));
+    assert!(rt; shorter.err() == Some(CloseFault::NotTheRun));
 
-    let mut core = core_of(alloc, source, 7)?;
-    let ticket = core.check_out(1)?;
-    let receipt = worker_turn(&mut core, 1, &compute(&image, &ticket))?;
-    assert_eq!(rt;
-        receipt,
-        Receipt {
-            index: 0,
-            process: 1,
-            worker: 1,
-            steps: 1,
-        }
+    let mut core = core_of(&rt, alloc, source, 7);
+    let ticket = core.check_out(1).expect(&rt, "no ticket");
+    let segment = compute(&image, &ticket);
+    let receipt = worker_turn(&mut core, 1, &segment).expect(&rt, "no receipt");
+    assert!(rt;
+        receipt
+            == Receipt {
+                index: 0,
+                process: 1,
+                worker: 1,
+                steps: 1,
+            }
     );
-    assert_eq!(rt;
-        close(alloc, core, &image, &options, Vec::new(alloc)).err(),
-        Some(CloseFault::NotTheEntries)
+    assert!(rt;
+        close(alloc, core, &image, &options, Vec::new(alloc)).err()
+            == Some(CloseFault::NotTheEntries)
     );
-    Ok(())
 }
 
 // Holds the first worker that calls it after 20 calls, until the other one has called it twice more.
@@ -285,7 +260,7 @@ impl<R: Clock> Gate for Holding<'_, R> {
 }
 
 // A main program that creates two processes, which store into COMMON a thousand times each.
-const STORING: [&[u8]; 8] = [
+const STORING: [&[u8]; 9] = [
     b"      PROGRAM P",
     b"      CREATE S",
     b"      CREATE S",
@@ -294,13 +269,8 @@ const STORING: [&[u8]; 8] = [
     b"      COMMON N",
     b"      DO 10 I=1,1000",
     b"   10 N=I",
+    b"      END",
 ];
-
-fn storing(alloc: Global) -> Result<Vec<u8>, AllocError> {
-    let mut source = source_of(alloc, &STORING)?;
-    source.extend_from_slice(b"      END\n")?;
-    Ok(source)
-}
 
 // The log of this worker has one receipt for each of so many calls.
 fn is_log_of(log: &Log, worker: u32, calls: u64) -> bool {
@@ -312,28 +282,30 @@ fn is_log_of(log: &Log, worker: u32, calls: u64) -> bool {
 }
 
 #[test]
-fn two_workers_take_turns(rt: HostRuntime) -> Result<(), Fail> {
+fn two_workers_take_turns(rt: HostRuntime) {
     let alloc = rt.alloc();
-    let image = image_from(alloc, &storing(alloc)?)?;
+    let image = image_from(&rt, alloc, &source_of(&rt, alloc, &STORING));
     let gate = Holding::new(&rt);
-    let (core, logs) = run_workers(&rt, alloc, image, &options_of(10_000, 2), &gate)?.into_parts();
+    let options = options_of(10_000, 2);
+    let report = run_workers(&rt, alloc, image, &options, &gate).expect(&rt, "no report");
+    let (core, logs) = report.into_parts();
     assert!(rt; gate.polls.load(Ordering::SeqCst) < MOST_POLLS);
     assert!(rt; 2 <= gate.calls_of_other.load(Ordering::SeqCst));
-    assert_eq!(rt; core.verdict(), Verdict::Done);
-    assert_eq!(rt; core.output().len(), 0);
-    assert_eq!(rt; core.faults().len(), 0);
-    assert_eq!(rt; core.used(), 1);
-    assert_eq!(rt; core.history().len(), 6_007);
+    assert!(rt; core.verdict() == Verdict::Done);
+    assert!(rt; core.output().len() == 0);
+    assert!(rt; core.faults().len() == 0);
+    assert!(rt; core.used() == 1);
+    assert!(rt; core.history().len() == 6_007);
     let stored = core.common(0).and_then(|slot| slot.value);
-    assert_eq!(rt; stored, Some(Value::Int(1_000)));
-    assert_eq!(rt; core.common(1), None);
+    assert!(rt; stored == Some(Value::Int(1_000)));
+    assert!(rt; core.common(1).is_none());
     let calls = gate.calls.load(Ordering::SeqCst);
     let of_first = gate.calls_of_first.load(Ordering::SeqCst);
-    assert_eq!(rt; calls, 6_007);
+    assert!(rt; calls == 6_007);
     let [first, second] = logs.as_slice() else {
-        return Err("there are other than two logs")?;
+        assert!(rt; false, "there are other than two logs");
+        return;
     };
     assert!(rt; is_log_of(first, 1, of_first));
     assert!(rt; is_log_of(second, 2, calls.saturating_sub(of_first)));
-    Ok(())
 }

@@ -36,7 +36,7 @@ use denote.Struct.Owning.{shape}
 use denote.Struct.Struct.{Struct}
 use denote.Struct.Tuple.{Tuple}
 use denote.Triple.Walked.{Stays, stay_dropped, walk_of, Goes-dropped}
-use Rattle.hep_machine.specs.contracts.slot.Slot.{the_row as S}
+use Rattle.hep_arena.specs.contracts.cell.Cell.{the_row as S}
 use Rattle.hep_arena.specs.Leases.{vec_type}
 use Rattle.hep_arena.specs.contracts.region.Region.{the_row as R, the_type}
 use Rattle.hep_arena.specs.contracts.region.Lease.{the_row as L}

@@ -1,28 +1,17 @@
-use Rattle.std.proofs.Common.{◌≡◌, suc, ◌+◌, ◌-◌, Ok, Err, arith, ◌∙◌}
-use Rattle.std.proofs.lemmas.List.Sorted.{searched}
-use Rattle.hep_blocked.proofs.Ranks.{rise-order, to-found, to-is}
+use Rattle.std.proofs.Common.{◌≡◌, suc, ◌-◌, sym, ap, arith, ◌∙◌}
+use Rattle.hep_blocked.specs.Rolls.{places_to}
+use Rattle.hep_blocked.proofs.Ranks.{to-found, to-zero}
 use Rattle.hep_blocked.proofs.places.places_to.Goals as goal
+
+pub returns-then-p-eq0 : goal.returns-then-p-eq0
+returns-then-p-eq0 c =
+    let r = c.requires.rising in
+    let p : c.args.p ≡ 0 = omega (arith, c.if-p-eq0.true) in
+    to-zero r.0 c.args.numbers.now r.1 ∙ ap (places_to c.args.numbers.now) (sym p)
 
 pub returns-then-numbers-p : goal.returns-then-numbers-p
 returns-then-numbers-p c =
     let p = c.args.p in
     let r = c.requires.rising in
-    let place : p ≡ suc (p - 1) = omega (arith, c.if-p-gt0.true) in
-    place ∙ to-found r.0 p (p - 1) c.args.numbers.now r.1 (omega (arith, c.if-p-gt0.true, c.if-p-numbers.true)) c.if-numbers-p.true
-
-pub returns-in-Ok : goal.returns-in-Ok
-returns-in-Ok c =
-    let ns = c.args.numbers.now in
-    let r = c.requires.rising in
-    let at = c.in-Ok.at in
-    let found = searched ns c.args.p (Ok at) c.in-Ok.ensures.position (rise-order 1 r.0 ns r.1) in
-    let place : at + 1 ≡ suc at = omega arith in
-    place ∙ to-found r.0 c.args.p at ns r.1 found.0 found.1
-
-pub returns-in-Err : goal.returns-in-Err
-returns-in-Err c =
-    let ns = c.args.numbers.now in
-    let r = c.requires.rising in
-    let at = c.in-Err.at in
-    let found = searched ns c.args.p (Err at) c.in-Err.ensures.position (rise-order 1 r.0 ns r.1) in
-    to-is c.args.p at ns found.0 (λ k less. omega (arith, found.1 k less)) found.2
+    let place : p ≡ suc (p - 1) = omega (arith, c.if-p-eq0.false) in
+    place ∙ to-found r.0 p (p - 1) c.args.numbers.now r.1 (omega (arith, c.if-p-eq0.false, c.if-p-numbers.true)) c.if-numbers-p.true

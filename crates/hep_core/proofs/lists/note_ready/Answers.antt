@@ -1,4 +1,4 @@
-use Rattle.std.proofs.Common.{◌≡◌, ℕ, Bool, true, false, List, length, sym, ap, ◌∙◌, arith, ◌&&◌, ◌||◌, nat_eq, nat_lt, not, le-ltb, lt-ltb}
+use Rattle.std.proofs.Common.{◌≡◌, ℕ, Bool, true, false, List, sym, ap, ◌∙◌, arith, ◌&&◌, ◌||◌, nat_eq, nat_lt, not, le-ltb, lt-ltb}
 use Rattle.std.proofs.lemmas.Bool.Decides.{nat_tests}
 use Rattle.hep_machine.specs.Words.{is_number_among}
 use Rattle.hep_blocked.specs.Listing.{is_noted}
@@ -22,29 +22,28 @@ noted-more ns p made n q lives was same more = grind (arith, nat_tests, same, mo
 noted-same : (ns : List ℕ) (p made n q : ℕ) (lives was : Bool) → was ≡ lives → nat_lt made n ≡ false → is_left ns p q was ≡ is_noted p lives made n ns q
 noted-same ns p made n q lives was same none = grind (arith, nat_tests, same, none)
 
-pub returns-then-made-len-clause-ready : goal.returns-then-made-len-clause-ready
-returns-then-made-len-clause-ready c program cells choices after q =
+pub returns-then-made-machine-clause-ready : goal.returns-then-made-machine-clause-ready
+returns-then-made-machine-clause-ready c program cells choices after q =
     let p = c.args.p in
     let before = c.args.roster.now.ready in
-    let n = length c.args.machine.now.processes.items in
-    let count : c.len-then-made-len.result ≡ n = omega (arith, c.len-then-made-len.ensures, c.args.machine.now.processes.ok.0) in
+    let n = c.args.machine.now.made in
     let left : is_number_among q c.if-not-lives.roster.ready ≡ is_left before p q c.lives.result = elim c.if-not-lives.branch [
       | then-not-lives w ↦ ap (λ (r : Roll). is_number_among q r.ready) w.roster-is ∙ w.remove.ensures.ready q ∙ left-dead before p q ∙ ap (is_left before p q) (sym w.if-not-lives.true)
       | else-not-lives w ↦ ap (λ (r : Roll). is_number_among q r.ready) w.roster-is ∙ left-alive before p q ∙ ap (is_left before p q) (sym w.if-not-lives.false)
     ] in
-    c.enroll.ensures.ready q ∙ (λ i. nat_eq q (count i) || left i)
-    ∙ noted-more before p c.args.made n q _ c.lives.result (c.lives.ensures.lives program cells choices after) (lt-ltb c.args.made n (omega (arith, c.if-made-len.true, c.len.ensures, count)))
+    c.enroll.ensures.ready q ∙ (λ i. nat_eq q n || left i)
+    ∙ noted-more before p c.args.made n q _ c.lives.result (c.lives.ensures.lives program cells choices after) (lt-ltb c.args.made n (omega (arith, c.if-made-machine.true)))
 
-pub returns-else-made-len-clause-ready : goal.returns-else-made-len-clause-ready
-returns-else-made-len-clause-ready c program cells choices after q =
+pub returns-else-made-machine-clause-ready : goal.returns-else-made-machine-clause-ready
+returns-else-made-machine-clause-ready c program cells choices after q =
     let p = c.args.p in
     let before = c.args.roster.now.ready in
-    let n = length c.args.machine.now.processes.items in
+    let n = c.args.machine.now.made in
     let left : is_number_among q c.if-not-lives.roster.ready ≡ is_left before p q c.lives.result = elim c.if-not-lives.branch [
       | then-not-lives w ↦ ap (λ (r : Roll). is_number_among q r.ready) w.roster-is ∙ w.remove.ensures.ready q ∙ left-dead before p q ∙ ap (is_left before p q) (sym w.if-not-lives.true)
       | else-not-lives w ↦ ap (λ (r : Roll). is_number_among q r.ready) w.roster-is ∙ left-alive before p q ∙ ap (is_left before p q) (sym w.if-not-lives.false)
     ] in
-    left ∙ noted-same before p c.args.made n q _ c.lives.result (c.lives.ensures.lives program cells choices after) (le-ltb c.args.made n (omega (arith, c.if-made-len.false, c.len.ensures, c.args.machine.now.processes.ok.0)))
+    left ∙ noted-same before p c.args.made n q _ c.lives.result (c.lives.ensures.lives program cells choices after) (le-ltb c.args.made n (omega (arith, c.if-made-machine.false)))
 
 pub enroll-requires-clause-later : goal.enroll-requires-clause-later
 enroll-requires-clause-later c =
@@ -52,7 +51,7 @@ enroll-requires-clause-later c =
       | then-not-lives w ↦ ap (λ (r : Roll). r.last) w.roster-is ∙ ap (λ (r : Roll). r.last) w.remove.ensures.others
       | else-not-lives w ↦ ap (λ (r : Roll). r.last) w.roster-is
     ] in
-    omega (arith, last, c.requires.last, c.if-made-len.true, c.len.ensures, c.len-then-made-len.ensures)
+    omega (arith, last, c.requires.last, c.if-made-machine.true)
 
 pub enroll-requires-clause-room : goal.enroll-requires-clause-room
 enroll-requires-clause-room c =
@@ -60,35 +59,35 @@ enroll-requires-clause-room c =
       | then-not-lives w ↦ ap (λ (r : Roll). r.room) w.roster-is ∙ ap (λ (r : Roll). r.room) w.remove.ensures.others
       | else-not-lives w ↦ ap (λ (r : Roll). r.room) w.roster-is
     ] in
-    omega (arith, room, c.requires.room, c.len-then-made-len.ensures, c.args.machine.now.processes.ok.0)
+    omega (arith, room, c.requires.room)
 
-pub returns-then-made-len-clause-waiting : goal.returns-then-made-len-clause-waiting
-returns-then-made-len-clause-waiting c q =
+pub returns-then-made-machine-clause-waiting : goal.returns-then-made-machine-clause-waiting
+returns-then-made-machine-clause-waiting c q =
     let same : want_of c.if-not-lives.roster.waiting q ≡ want_of c.args.roster.now.waiting q = elim c.if-not-lives.branch [
       | then-not-lives w ↦ ap (λ (r : Roll). want_of r.waiting q) w.roster-is ∙ ap (λ (r : Roll). want_of r.waiting q) w.remove.ensures.others
       | else-not-lives w ↦ ap (λ (r : Roll). want_of r.waiting q) w.roster-is
     ] in
     c.enroll.ensures.waiting q ∙ same
 
-pub returns-then-made-len-clause-room : goal.returns-then-made-len-clause-room
-returns-then-made-len-clause-room c =
+pub returns-then-made-machine-clause-room : goal.returns-then-made-machine-clause-room
+returns-then-made-machine-clause-room c =
     let room : c.if-not-lives.roster.room ≡ c.args.roster.now.room = elim c.if-not-lives.branch [
       | then-not-lives w ↦ ap (λ (r : Roll). r.room) w.roster-is ∙ ap (λ (r : Roll). r.room) w.remove.ensures.others
       | else-not-lives w ↦ ap (λ (r : Roll). r.room) w.roster-is
     ] in
     record {
       room = omega (arith, room, c.requires.room, c.enroll.ensures.room);
-      last = omega (arith, c.enroll.ensures.last, c.len-then-made-len.ensures, c.args.machine.now.processes.ok.0);
+      last = omega (arith, c.enroll.ensures.last);
     }
 
-pub returns-else-made-len-clause-waiting : goal.returns-else-made-len-clause-waiting
-returns-else-made-len-clause-waiting c q = elim c.if-not-lives.branch [
+pub returns-else-made-machine-clause-waiting : goal.returns-else-made-machine-clause-waiting
+returns-else-made-machine-clause-waiting c q = elim c.if-not-lives.branch [
   | then-not-lives w ↦ ap (λ (r : Roll). want_of r.waiting q) w.roster-is ∙ ap (λ (r : Roll). want_of r.waiting q) w.remove.ensures.others
   | else-not-lives w ↦ ap (λ (r : Roll). want_of r.waiting q) w.roster-is
 ]
 
-pub returns-else-made-len-clause-room : goal.returns-else-made-len-clause-room
-returns-else-made-len-clause-room c =
+pub returns-else-made-machine-clause-room : goal.returns-else-made-machine-clause-room
+returns-else-made-machine-clause-room c =
     let last : c.if-not-lives.roster.last ≡ c.args.roster.now.last = elim c.if-not-lives.branch [
       | then-not-lives w ↦ ap (λ (r : Roll). r.last) w.roster-is ∙ ap (λ (r : Roll). r.last) w.remove.ensures.others
       | else-not-lives w ↦ ap (λ (r : Roll). r.last) w.roster-is

@@ -14,4 +14,4 @@ returns-in-Some-clause-rising c =
     rw c.put.ensures.items (AreRising-push 0 c.args.shorts.now.items c.in-Some.short c.requires.rising (omega (arith, ends, c.in-Some.ensures.end, c.requires.some)))
 
 pub returns-clause-filled : goal.returns-clause-filled
-returns-clause-filled c = rw c.put-2.ensures.items (AreFilled-push c.args.longs.now.items c.args.run c.requires.filled c.requires.some)
+returns-clause-filled c = rw c.put_long.ensures.items (AreFilled-push c.args.longs.now.items c.args.run c.requires.filled c.requires.some)

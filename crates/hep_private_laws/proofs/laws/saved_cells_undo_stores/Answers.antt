@@ -2,4 +2,4 @@ use Rattle.hep_private_laws.proofs.Saved.{saved-undo}
 use Rattle.hep_private_laws.proofs.laws.saved_cells_undo_stores.Goals as goal
 
 pub returns : goal.returns
-returns c first contents cells records of inside = saved-undo first contents cells records of inside
+returns c first contents cells records of = saved-undo first contents cells records of

@@ -1,38 +1,52 @@
-use Rattle.std.proofs.Common.{◌≡◌, ◌≤◌, ◌∙◌, ℕ, sym, length, Some, arith}
-use Rattle.hep_machine.specs.Words.{next_ready}
+use Rattle.std.proofs.Common.{◌≡◌, ◌≤◌, ◌∙◌, ℕ, sym, length, None, Some, arith}
+use Rattle.hep_machine.specs.Words.{last_process, next_ready}
 use Rattle.hep_core.specs.declared.fault.ChooseFault.TheVariants.{Stopped, NoSuchProcess}
+use Rattle.hep_core.specs.declared.stop.Turns.{Turns}
+use Rattle.hep_core.specs.Going.{AreTurns}
 use Rattle.hep_core.specs.Value.{CoreValue, next_ready_of}
 use Rattle.hep_run.specs.declared.options.Options.{Options}
 use Rattle.hep_run.specs.Outcome.{next_process}
 use Rattle.hep_run.specs.Progress.{IsRunning}
-use Rattle.hep_run.proofs.Schedules.{comes_next, is_none, next_is_ready, none_is_next, ready_lives, ready_longer, refused_for, stopped, turns_began}
+use Rattle.hep_run.proofs.Schedules.{IsLonger, comes_next, is_none, next_is_ready, none_is_next, ready_lives, ready_longer, refused_for, stopped, turns_began}
 use Rattle.hep_run.proofs.run.run_on.Goals as goal
 
 -- the process that was found ready comes next
 comes : (options : Options) (core : CoreValue) → IsRunning options core → (p : ℕ) → Some p ≡ next_ready_of core → next_ready core.program core.history ≡ Some p
 comes options core running p is = sym (comes_next options core running) ∙ sym is
 
+-- what came of choosing it
+chosen-so : (options : Options) (p most : ℕ) (old new : CoreValue) (turns : Turns) → IsRunning options old → (old.stop ≡ None → length options.choices ≤ length old.history) → Some p ≡ next_ready_of old
+    → 1 ≤ turns.made → turns.made ≤ most → (2 ≤ most → last_process old.history ≡ p) → AreTurns old p turns new → IsLonger options old turns.made new
+chosen-so options p most old new turns running past is some few alone made =
+    ready_longer options p old running past (comes options old running p is) turns new some (λ two. alone (omega (arith, two, few))) made
+
+pub go_round-requires-clause-running : goal.go_round-requires-clause-running
+go_round-requires-clause-running c =
+    let inv = c.loop-process.invariant in
+    let done = c.in-Ok.ensures in
+    (chosen-so c.args.options.now c.in-Some.process c.most_at_once-most.result c.loop-process.core c.go_on.new.self c.in-Ok.field-0 inv.running inv.made c.in-Some.ensures done.some done.few c.most_at_once-most.ensures.alone done.made).running
+
+pub go_round-requires-clause-made : goal.go_round-requires-clause-made
+go_round-requires-clause-made c none =
+    let inv = c.loop-process.invariant in
+    let done = c.in-Ok.ensures in
+    let more = chosen-so c.args.options.now c.in-Some.process c.most_at_once-most.result c.loop-process.core c.go_on.new.self c.in-Ok.field-0 inv.running inv.made c.in-Some.ensures done.some done.few c.most_at_once-most.ensures.alone done.made in
+    omega (arith, more.entries, inv.made (turns_began c.in-Some.process c.loop-process.core c.in-Ok.field-0 c.go_on.new.self done.some done.made).0)
+
 pub loop-process-preserved : goal.loop-process-preserved
 loop-process-preserved c =
-    let old = c.loop-process.core in
-    let made = c.in-Ok.ensures.made in
-    let some = c.in-Ok.ensures.some in
-    let past = c.loop-process.invariant.made (turns_began c.in-Some.process old c.in-Ok.field-0 c.go_on.new.self some made).0 in
-    let more = ready_longer c.args.options.now c.in-Some.process old c.loop-process.invariant.running c.loop-process.invariant.made (comes c.args.options.now old c.loop-process.invariant.running c.in-Some.process c.in-Some.ensures) c.in-Ok.field-0 c.go_on.new.self some
-    (λ two. c.most_at_once-most.ensures.alone (omega (arith, two, c.in-Ok.ensures.few))) made in
-    record {
-      program = more.program ∙ c.loop-process.invariant.program;
-      running = more.running;
-      made = λ none. omega (arith, more.entries, past);
-    }
+    let inv = c.loop-process.invariant in
+    let done = c.in-Ok.ensures in
+    let more = chosen-so c.args.options.now c.in-Some.process c.most_at_once-most.result c.loop-process.core c.go_on.new.self c.in-Ok.field-0 inv.running inv.made c.in-Some.ensures done.some done.few c.most_at_once-most.ensures.alone done.made in
+    let round = c.go_round.ensures in
+    record { program = round.program ∙ (more.program ∙ inv.program); running = round.running; made = round.made }
 
 pub loop-process-smaller : goal.loop-process-smaller
 loop-process-smaller c =
-    let old = c.loop-process.core in
-    let some = c.in-Ok.ensures.some in
-    let more = ready_longer c.args.options.now c.in-Some.process old c.loop-process.invariant.running c.loop-process.invariant.made (comes c.args.options.now old c.loop-process.invariant.running c.in-Some.process c.in-Some.ensures) c.in-Ok.field-0 c.go_on.new.self some
-    (λ two. c.most_at_once-most.ensures.alone (omega (arith, two, c.in-Ok.ensures.few))) c.in-Ok.ensures.made in
-    omega (arith, more.entries, more.limit, more.room some, some)
+    let inv = c.loop-process.invariant in
+    let done = c.in-Ok.ensures in
+    let more = chosen-so c.args.options.now c.in-Some.process c.most_at_once-most.result c.loop-process.core c.go_on.new.self c.in-Ok.field-0 inv.running inv.made c.in-Some.ensures done.some done.few c.most_at_once-most.ensures.alone done.made in
+    omega (arith, more.entries, more.limit, more.room done.some, done.some, c.go_round.ensures.more.0, c.go_round.ensures.more.1)
 
 pub returns-in-Err-Stopped-clause-running : goal.returns-in-Err-Stopped-clause-running
 returns-in-Err-Stopped-clause-running c =

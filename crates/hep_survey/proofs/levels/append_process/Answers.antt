@@ -10,22 +10,25 @@ use Rattle.hep_survey.proofs.Running.{are-there, below-are, joined, some, top-is
 use Rattle.hep_survey.proofs.Stacks.{stack-seen}
 use Rattle.hep_survey.proofs.levels.append_process.Goals as goal
 
+pub place-at-requires : goal.place-at-requires
+place-at-requires c = record { numbers = c.requires.after.2.numbers; living = c.requires.levels }
+
 pub overflow_sub-below : goal.overflow_sub-below
 overflow_sub-below c =
     let w = c.requires.levels in
-    let it = process-at c.args.machine.now.processes.items c.args.p w.kept c.index.ensures in
+    let it = process-at c.args.machine.now c.args.p c.requires.after.2.numbers c.place-at.ensures w.kept c.index.ensures in
     some c.index.result.now w.level w.below w.operands w.pending it.stack c.as_slice-levels.result.now c.as_slice-levels.ensures.value
 
 pub bounds-levels-below : goal.bounds-levels-below
 bounds-levels-below c =
     let w = c.requires.levels in
-    let it = process-at c.args.machine.now.processes.items c.args.p w.kept c.index.ensures in
+    let it = process-at c.args.machine.now c.args.p c.requires.after.2.numbers c.place-at.ensures w.kept c.index.ensures in
     omega (arith, some c.index.result.now w.level w.below w.operands w.pending it.stack c.as_slice-levels.result.now c.as_slice-levels.ensures.value)
 
 pub append_top-requires : goal.append_top-requires
 append_top-requires c =
     let w = c.requires.levels in
-    let it = process-at c.args.machine.now.processes.items c.args.p w.kept c.index.ensures in
+    let it = process-at c.args.machine.now c.args.p c.requires.after.2.numbers c.place-at.ensures w.kept c.index.ensures in
     let all = are-there c.args.image.now c.requires.after.0 c.requires.after.1 c.args.machine.now c.args.p w c.requires.after.2 in
     subst (IsThere c.args.image.now (nodes_of c.args.machine.now.frames.nodes)) (
     sym (top-is c.index.result.now w.level w.below w.operands w.pending it.stack c.as_slice-levels.result.now c.as_slice-levels.ensures.value (record { key = 0; unit = 0; kept = 0; index = 0 }))) all.0
@@ -33,7 +36,7 @@ append_top-requires c =
 pub append_backs-requires : goal.append_backs-requires
 append_backs-requires c =
     let w = c.requires.levels in
-    let it = process-at c.args.machine.now.processes.items c.args.p w.kept c.index.ensures in
+    let it = process-at c.args.machine.now c.args.p c.requires.after.2.numbers c.place-at.ensures w.kept c.index.ensures in
     let all = are-there c.args.image.now c.requires.after.0 c.requires.after.1 c.args.machine.now c.args.p w c.requires.after.2 in
     subst (AreThere c.args.image.now (nodes_of c.args.machine.now.frames.nodes)) (
     sym (below-are c.index.result.now w.level w.below w.operands w.pending it.stack c.as_slice-levels.result.now c.as_slice-levels.ensures.value)) all.1
@@ -45,7 +48,7 @@ returns c cells choices q after there =
     let nodes = nodes_of m.frames.nodes in
     let w = c.requires.levels in
     let levels = c.as_slice-levels.result.now in
-    let it = process-at m.processes.items c.args.p w.kept c.index.ensures in
+    let it = process-at m c.args.p c.requires.after.2.numbers c.place-at.ensures w.kept c.index.ensures in
     let same = c.as_slice-levels.ensures.value in
     let top = top-is c.index.result.now w.level w.below w.operands w.pending it.stack levels same (record { key = 0; unit = 0; kept = 0; index = 0 }) in
     let below = below-are c.index.result.now w.level w.below w.operands w.pending it.stack levels same in

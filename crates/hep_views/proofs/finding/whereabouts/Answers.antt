@@ -5,7 +5,10 @@ use Rattle.hep_views.proofs.Waiting.{living-top, whereabouts-is}
 use Rattle.hep_views.proofs.finding.whereabouts.Goals as goal
 
 pub top-level-requires : goal.top-level-requires
-top-level-requires c = (living-top c.args.image.now c.requires.0 c.requires.1 c.args.machine.now c.requires.2 c.args.p c.requires.3).is_top.levels
+top-level-requires c = record {
+  numbers = c.requires.2.numbers;
+  living = (living-top c.args.image.now c.requires.0 c.requires.1 c.args.machine.now c.requires.2 c.args.p c.requires.3).is_top.levels;
+}
 
 pub unit-unit-requires : goal.unit-unit-requires
 unit-unit-requires c =

@@ -3,7 +3,7 @@ use Rattle.std.proofs.Common.{◌-◌, ◌*◌}
 use Rattle.std.proofs.Crossing as heap
 use Rattle.std.specs.Mem.{type_size}
 use Rattle.core.specs.Allocator.{array_of}
-use Rattle.hep_machine.specs.contracts.slot.Slot.{the_row as S}
+use Rattle.hep_arena.specs.contracts.cell.Cell.{the_row as S}
 use Rattle.hep_arena.specs.Leases.{vec_type}
 use Rattle.hep_arena.specs.contracts.region.Lease.{the_row}
 use base.Shift.{Keyless}

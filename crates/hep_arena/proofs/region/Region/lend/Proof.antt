@@ -36,7 +36,7 @@ use denote.Struct.Owning.{shape}
 use denote.Struct.Struct.{Struct}
 use denote.Triple.Walked.{Stays, walk_of, says, stay_dropped, Goes-dropped, ends_at, Goes-spent_ref}
 use Rattle.hep_machine.specs.declared.slot.Slot.{Slot}
-use Rattle.hep_machine.specs.contracts.slot.Slot.{the_row as S}
+use Rattle.hep_arena.specs.contracts.cell.Cell.{the_row as S}
 use Rattle.hep_arena.specs.declared.region.Region.{Region}
 use Rattle.hep_arena.specs.Lending.{with_run, with_slots_run}
 use Rattle.hep_arena.specs.contracts.region.Region.{the_type, the_row as R}
@@ -105,10 +105,10 @@ lend_spec 𝓤 𝓛 𝓜 𝓡 wired =
     let xs = h.slots in let at = begins xs o i m in let ys = run xs o i m in
     let word = lowers.val_is h us is ∙ ap (λ (p : Ptr). lowers.lowered (record h { memory = p }) ∷ []) e in
     let Cell = λ (ws : List Val). ‵ (cell_at full_share R.mir ws rb ro) in
-    let bytes : h.cells * 32 < 2 ^ 63 = small in
-    let offset : i * 32 < 2 ^ 64 = omega arith in
+    let bytes : h.cells * 16 < 2 ^ 63 = small in
+    let offset : i * 16 < 2 ^ 64 = omega arith in
     let here = length-run xs o i m inside in
-    let room : Room S (length ys) = (subst (λ (k : ℕ). k < 2 ^ 64) (sym here) fm, subst (λ (k : ℕ). k * size < 2 ^ 63) (sym here) (let t : m * 32 < 2 ^ 63 = omega arith in t)) in
+    let room : Room S (length ys) = (subst (λ (k : ℕ). k < 2 ^ 64) (sym here) fm, subst (λ (k : ℕ). k * size < 2 ^ 63) (sym here) (let t : m * 16 < 2 ^ 63 = omega arith in t)) in
     let left = sem 𝓛 (Rest 𝓛 h rb ro b o e us i m inside) in let over = ended 𝓛 h rb ro b o e us i m inside small count in
     -- [the slots; what the fields own; the region's cell; the open borrow, in three entries]
     rewrite ! 2 Cell word refl $

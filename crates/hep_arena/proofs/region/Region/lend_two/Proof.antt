@@ -41,8 +41,8 @@ use denote.Struct.Struct.{Struct}
 use denote.Struct.Tuple.{Tuple}
 use denote.Triple.Walked.{Stays, walk_of, says, stay_dropped, Goes-dropped, ends_at, Goes-spent_ref}
 use Rattle.hep_machine.specs.declared.slot.Slot.{Slot}
-use Rattle.hep_machine.specs.contracts.slot.Slot.{the_row as S}
-use Rattle.hep_machine.proofs.slot.Slot.TheLaws as slot_laws
+use Rattle.hep_arena.specs.contracts.cell.Cell.{the_row as S}
+use Rattle.hep_arena.proofs.cell.Cell.TheLaws as cell_laws
 use Rattle.hep_arena.specs.declared.region.Region.{Region}
 use Rattle.hep_arena.specs.Lending.{with_run, with_slots_run}
 use Rattle.hep_arena.specs.contracts.region.Region.{the_type, the_row as R}
@@ -119,7 +119,7 @@ module _ {M : Type 1} {𝓤 : Ura M} (𝓛 : Logic 𝓤) (κ : Lft) (q : Share) 
       (takes_beside 𝓛 (mem R) Items (with_slots_run h j n) κ q rb ro b written_at γ (Lies ∷ []) (sem 𝓛 Rest) ended (R.coded.code h) (R.coded.code h) Written) $ await ! tt $ pick ! (λ δ. split3 ! $
       use2 𝓛 (‵ ((MutSlice (named 0) κ S).own_val (record { ref_ptr = (b, written_at); ghost_name = δ; now = Written }) (slice_val (b, written_at) (length Written) ∷ []))) (slice_of 𝓛 S (named 0) κ b written_at δ Written room) $
       move ! (1 ∷ []) $ split3 ! $ move ! (2 ∷ []) $ split ! $ move ! (0 ∷ 2 ∷ []) $
-      use2 𝓛 (later (‵ (shared_of (Array S m) Read b read_at κ) ⊛ ‵ (flft κ q))) (Shares-Array 𝓛 S tt m S.lives (slot_laws.the_row_laws.shares 𝓛) Read κ ((κ, q) ∷ []) b read_at (slot_laws.the_within κ) (Incl-refl κ)) $ await ! tt $ split ! $
+      use2 𝓛 (later (‵ (shared_of (Array S m) Read b read_at κ) ⊛ ‵ (flft κ q))) (Shares-Array 𝓛 S tt m S.lives (cell_laws.the_row_laws.shares 𝓛) Read κ ((κ, q) ∷ []) b read_at (cell_laws.the_within κ) (Incl-refl κ)) $ await ! tt $ split ! $
       at_once ! $ show ! Got δ $ keep ! (4 ∷ 0 ∷ 1 ∷ 3 ∷ []) $ done !)
 
 pub lend_two_spec : {M : Type 1} → statement M
@@ -147,11 +147,11 @@ lend_two_spec 𝓤 𝓛 𝓜 𝓡 wired =
     let two : AreApart 𝓛 h.slots b o i m j n = apart 𝓛 h.slots b o i m j n inside inside' gap in
     let word = lowers.val_is h us is ∙ ap (λ (p : Ptr). lowers.lowered (record h { memory = p }) ∷ []) e in
     let Cell = λ (ws : List Val). ‵ (cell_at full_share R.mir ws rb ro) in
-    let bytes : h.cells * 32 < 2 ^ 63 = small in
-    let offset : i * 32 < 2 ^ 64 = omega arith in let offset' : j * 32 < 2 ^ 64 = omega arith in
+    let bytes : h.cells * 16 < 2 ^ 63 = small in
+    let offset : i * 16 < 2 ^ 64 = omega arith in let offset' : j * 16 < 2 ^ 64 = omega arith in
     let xs = h.slots in let Rd = run xs o i m in let Wr = run xs o j n in let pr = begins xs o i m in let pw = begins xs o j n in
     let lr : length Rd ≡ m = length-run xs o i m inside in let lw : length Wr ≡ n = length-run xs o j n inside' in
-    let room : Room S (length Wr) = (subst (λ (k : ℕ). k < 2 ^ 64) (sym lw) fn, subst (λ (k : ℕ). k * size < 2 ^ 63) (sym lw) (let t : n * 32 < 2 ^ 63 = omega arith in t)) in
+    let room : Room S (length Wr) = (subst (λ (k : ℕ). k < 2 ^ 64) (sym lw) fn, subst (λ (k : ℕ). k * size < 2 ^ 63) (sym lw) (let t : n * 16 < 2 ^ 63 = omega arith in t)) in
     -- [the slots; what the fields own; the region's cell; the open borrow, in three entries]
     rewrite ! 2 Cell word refl $
     first ! $ blocks ! $
@@ -180,7 +180,7 @@ lend_two_spec 𝓤 𝓛 𝓜 𝓡 wired =
     split ! $ move ! (1 ∷ []) $ split ! $ move ! (1 ∷ []) $ split ! $ move ! (3 ∷ []) $
     -- [the slots that are written; the token; follows; those that are read]
     rewrite ! 0 (λ (k : ℕ). ‵ ((MutSlice (named 0) κ S).own_val to (slice_val (b, pw) k ∷ []))) lw refl $ move ! (3 ∷ []) $ fsplit ! $ drop ! $ hide ! $
-    flt_i ! (length Rd * size) (2 ^ 63) (subst (λ (k : ℕ). k * size < 2 ^ 63) (sym lr) (let t : m * 32 < 2 ^ 63 = omega arith in t)) $ flt_i ! (length Rd) (2 ^ 64) (subst (λ (k : ℕ). k < 2 ^ 64) (sym lr) fm) $ fjoin ! $
+    flt_i ! (length Rd * size) (2 ^ 63) (subst (λ (k : ℕ). k * size < 2 ^ 63) (sym lr) (let t : m * 16 < 2 ^ 63 = omega arith in t)) $ flt_i ! (length Rd) (2 ^ 64) (subst (λ (k : ℕ). k < 2 ^ 64) (sym lr) fm) $ fjoin ! $
     feq_i ! (List Val) (uf ∷ []) (slice_val (b, pr) (length Rd) ∷ []) (ap (λ (k : ℕ). slice_val (b, pr) k ∷ []) (sym lr)) $ fjoin ! $ fjoin ! $ move ! (0 ∷ 1 ∷ []) $
     use2 𝓛 (‵ ((Tuple (ShrSlice (named 0) κ S ∷ MutSlice (named 0) κ S ∷ [])).own_val (from, to) (pair_val uf ut ∷ []))) (pair_of 𝓛 (ShrSlice (named 0) κ S) (MutSlice (named 0) κ S) from to uf ut) $
     suffices ! _ (ends_at 𝓛 f.ended stayed c y (pair_val uf ut) (from, to) (tt, (tt, (tt, (tt, (tt, tt))))) (tt, (tt, (tt, (tt, (tt, tt)))))) $

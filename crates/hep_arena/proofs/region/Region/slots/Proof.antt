@@ -35,7 +35,7 @@ use denote.Triple.Entry.{on_entry}
 use denote.Triple.Spec.{Meets, triple_of}
 use denote.Triple.Table.{entered}
 use denote.Triple.Walked.{says, Stays, stay_none_ref, walk_of, ends_at, walked, Goes-none_ref, walk_Meets}
-use Rattle.hep_machine.specs.contracts.slot.Slot.{the_row as S}
+use Rattle.hep_arena.specs.contracts.cell.Cell.{the_row as S}
 use Rattle.hep_arena.specs.contracts.region.Region as region
 use Rattle.hep_arena.specs.contracts.region.Region.{the_row as R}
 use Rattle.hep_arena.specs.contracts.region.Region.slots as f

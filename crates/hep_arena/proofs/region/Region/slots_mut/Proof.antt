@@ -34,7 +34,7 @@ use denote.Struct.Owning.{shape}
 use denote.Struct.Struct.{Struct}
 use denote.Triple.Walked.{Stays, walk_of, says, stay_dropped, ends_at, Goes-spent_ref}
 use Rattle.hep_machine.specs.declared.slot.Slot.{Slot}
-use Rattle.hep_machine.specs.contracts.slot.Slot.{the_row as S}
+use Rattle.hep_arena.specs.contracts.cell.Cell.{the_row as S}
 use Rattle.hep_arena.specs.declared.region.Region.{Region}
 use Rattle.hep_arena.specs.Lending.{with_slots}
 use Rattle.hep_arena.specs.contracts.region.Region.{the_type, the_row as R}

@@ -3,6 +3,9 @@ use Rattle.hep_machine.specs.Words.{living, schedule_of, State}
 use Rattle.hep_core.proofs.Histories.{state-is}
 use Rattle.hep_core.proofs.scheduler.Core.lives.Goals as goal
 
+pub lives-requires : goal.lives-requires
+lives-requires c = c.self.invariant.after.numbers
+
 pub returns : goal.returns
 returns c =
     let i = c.self.inside in

@@ -1,33 +1,40 @@
-use Rattle.std.proofs.Common.{◌≡◌, ◌≤◌, ◌+◌, None, false, true, is_some, List, length, rules, sym, ap, ◌∙◌, subst, arith, inl, inr}
-use Rattle.std.proofs.lemmas.Bool.{cases_lt}
+use Rattle.std.proofs.Common.{◌≡◌, ◌≤◌, ◌<◌, ◌+◌, ℕ, None, Some, false, true, is_some, List, [], length, rules, true≢false, refl, sym, ap, ◌∙◌, subst, arith, inl, inr}
+use Rattle.std.proofs.lemmas.Bool.{cases_Bool, cases_lt}
 use Rattle.hep_source.proofs.Tests.{none-from-not}
 use Rattle.hep_machine.specs.declared.event.Entry.{Entry}
-use Rattle.hep_machine.specs.Words.{living, schedule_of, State, state_after}
+use Rattle.hep_machine.specs.Words.{last_process, living, progress_after, schedule_of, State, state_after}
+use Rattle.hep_blocked.specs.Rolls.{want_of}
+use Rattle.hep_entries.specs.Entries.{Kept}
 use Rattle.hep_quick.specs.UnitTables.{AreTables}
+use Rattle.hep_going.specs.Gone.{HasNoMoveAhead, none}
 use Rattle.hep_state.specs.Words.{snapshot_of}
 use Rattle.hep_core.specs.Invariant.{CoreInvariant, core_value}
-use Rattle.hep_core.specs.Going.{begun, entries_along}
+use Rattle.hep_core.specs.declared.scheduler.Core.TheInside.{Inside}
+use Rattle.hep_core.specs.Going.{AreMoves, IsAtRest, entries_along}
 use Rattle.hep_core.specs.Tickets.{is_out}
 use Rattle.hep_core.specs.Value.{CoreValue, IsStop}
-use Rattle.hep_core.proofs.Going.{chosen-so, core-goes-on, core_along, entries-more}
+use Rattle.hep_core.proofs.Going.{IsNext, chosen-so, core-goes-on, core_along, entries-more, home-so, last-along, moves-begun, moves-on, next-alone, next-begun, next-round, next-so, nobody-out}
 use Rattle.hep_core.proofs.Histories.{state-is}
 use Rattle.hep_core.proofs.Kept.{AreSeen, halted-is, some-of}
-use Rattle.hep_core.proofs.scheduler.Core.move_on.Goals.{After-lives, After-note_all}
+use Rattle.hep_core.proofs.scheduler.Core.move_on.Goals.{After-lives, After-note_all, After-other_next}
 use Rattle.hep_core.proofs.scheduler.Core.move_on.Goals as goal
+
+pub lives-requires : goal.lives-requires
+lives-requires c = c.self.invariant.after.numbers
 
 -- ---- none is made
 
 pub returns-then-is_some-clause-chosen : goal.returns-then-is_some-clause-chosen
-returns-then-is_some-clause-chosen c = rw (← c.self.view_is) (begun (core_value c.self.inside))
+returns-then-is_some-clause-chosen c = rw (← c.self.view_is) (moves-begun c.args.rounds c.args.p (core_value c.self.inside))
 
 pub returns-then-is_some-clause-all : goal.returns-then-is_some-clause-all
-returns-then-is_some-clause-all c fewer = rw (← c.self.view_is) (inl (some-of c.self.inside.stop (sym c.is_some.ensures ∙ c.if-is_some.true)))
+returns-then-is_some-clause-all c alone fewer = rw (← c.self.view_is) (inl (some-of c.self.inside.stop (sym c.is_some.ensures ∙ c.if-is_some.true)))
 
 pub returns-then-not-lives-clause-chosen : goal.returns-then-not-lives-clause-chosen
-returns-then-not-lives-clause-chosen c = rw (← c.self.view_is) (begun (core_value c.self.inside))
+returns-then-not-lives-clause-chosen c = rw (← c.self.view_is) (moves-begun c.args.rounds c.args.p (core_value c.self.inside))
 
 pub returns-then-not-lives-clause-all : goal.returns-then-not-lives-clause-all
-returns-then-not-lives-clause-all c fewer =
+returns-then-not-lives-clause-all c alone fewer =
     let i = c.self.inside in
     let h = i.history.items in
     let dead : c.lives.result ≡ false = search rules in
@@ -38,75 +45,201 @@ returns-then-not-lives-clause-all c fewer =
 no-stop : (c : After-lives) → c.self.inside.stop ≡ None
 no-stop c = search rules
 
-at-home : (c : After-lives) → is_out c.args.p c.self.inside.out.items ≡ false
-at-home c = subst (λ (v : CoreValue). is_out c.args.p v.out ≡ false) (sym c.self.view_is) c.requires.home
+-- a core at no stop isn't halted
+goes : (i : Inside) → CoreInvariant i → i.stop ≡ None → i.machine.halted ≡ false
+goes i k stop =
+    halted-is i.image i.cells i.history.items (snapshot_of i.machine) k.after.after ∙ subst (IsStop i.image i.cells i.limit i.history.items) stop k.named
 
-are-seen : (c : After-note_all) → AreSeen c.self.inside.image c.self.inside.cells
-are-seen c choices n = c.views_are_of_states.ensures c.self.inside.image c.self.inside.cells choices n c.is_runnable.ensures.accepted c.is_runnable.ensures.main
+-- ---- the loop
+
+pub loop-done-init : goal.loop-done-init
+loop-done-init c =
+    let i = c.self.inside in
+    let k = c.self.invariant in
+    let none-stops = no-stop (goal.at.loop-done-init c).After-lives in
+    let can = c.requires.ready in
+    let is = c.in_ok-reserve.ensures in
+    let history = c.reserve.new.self in
+    let items = c.reserve.ensures.items in
+    let lives : c.lives.result ≡ true = search rules in
+    let home = subst (λ (v : CoreValue). is_out c.args.p v.out ≡ false) (sym c.self.view_is) (home-so c.args.rounds c.args.p c.args.p c.args.self.now c.args.self.now can (next-begun c.args.rounds c.args.p c.args.self.now can)) in
+    let same : c.args.self.now ≡ core_value (core_along i history i.machine) = sym c.self.view_is ∙ (λ j. record (core_value i) { history = sym items j }) in
+    record {
+      kept = core-goes-on c.lists_go_along_with_steps.ensures i c.args.p k none-stops home 0 (schedule_of i.history.items) i.machine history (none (schedule_of i.history.items)) k.after (goes i k none-stops) refl (omega (arith, k.legal.within)) items;
+      going = none-stops;
+      program = ap (λ (v : CoreValue). v.program) c.self.view_is;
+      limit = ap (λ (v : CoreValue). v.limit) c.self.view_is;
+      out = ap (λ (v : CoreValue). v.out) c.self.view_is;
+      moves = subst (AreMoves c.args.rounds c.args.p c.args.self.now 0) same (moves-begun c.args.rounds c.args.p c.args.self.now);
+      next = subst (IsNext c.args.rounds c.args.p c.args.p) same (next-begun c.args.rounds c.args.p c.args.self.now can);
+      living = c.lives.ensures.levels lives;
+      entries = omega (arith, ap length items, ap (λ (v : CoreValue). length v.history) c.self.view_is);
+      few = omega arith;
+      alone = λ once. refl;
+      free = is.room;
+      short = omega (arith, is.few, ap length items);
+    }
 
 pub go_on-made-requires : goal.go_on-made-requires
 go_on-made-requires c =
-    let i = c.self.inside in
-    let k = c.self.invariant in
-    let going = subst (IsStop i.image i.cells i.limit i.history.items) (no-stop (goal.at.go_on-made-requires c).After-lives) k.named in
-    let lives : c.lives.result ≡ true = search rules in
+    let i = c.loop-done.self-inside in
+    let k = c.loop-done.invariant.kept in
     record {
-      turn = record {
-        after = (i.cells, schedule_of i.history.items, k.after);
-        running = halted-is i.image i.cells i.history.items (snapshot_of i.machine) k.after.after ∙ going;
-        living = c.lives.ensures.levels lives;
-      };
+      turn = record { after = (i.cells, schedule_of i.history.items, k.after); running = goes i k c.loop-done.invariant.going; living = c.loop-done.invariant.living };
       tables = subst (AreTables i.image) (sym c.deref.ensures.value) k.tabled;
     }
 
--- ---- what is kept after
+-- no more than there is room for
+few-made : (c : After-note_all) → c.loop-done.done + c.go_on-made.result ≤ c.min-room.result
+few-made c = elim (cases_Bool c.args.rounds) [
+  | inl round ↦ omega (arith, c.at_once-each.ensures.rounds round, c.go_on-made.ensures.few, c.loop-done-test.true)
+  | inr alone ↦ omega (arith, c.at_once-each.ensures.alone alone, c.loop-done.invariant.alone alone, c.go_on-made.ensures.few)
+]
 
-entries-are : (c : After-note_all) → c.note_all.new.history.items ≡ entries_along c.self.inside.history.items c.args.p c.go_on-made.result
-entries-are c = c.note_all.ensures ∙ ap (λ (es : List Entry). entries_along es c.args.p c.go_on-made.result) c.reserve.ensures.items
+within : (c : After-note_all) → length c.loop-done.self-inside.history.items + c.go_on-made.result ≤ c.loop-done.self-inside.limit
+within c =
+    let inv = c.loop-done.invariant in
+    omega (arith, few-made c, inv.entries, inv.limit, ap (λ (v : CoreValue). length v.history) c.self.view_is, ap (λ (v : CoreValue). v.limit) c.self.view_is, c.min-room.ensures, c.len.ensures.count, c.self.invariant.legal.within)
 
-within : (c : After-note_all) → length c.self.inside.history.items + c.go_on-made.result ≤ c.self.inside.limit
-within c = omega (arith, c.go_on-made.ensures.few, c.min-most.ensures, c.len.ensures.count, c.self.invariant.legal.within)
+home : (c : After-note_all) → is_out c.loop-done.next c.loop-done.self-inside.out.items ≡ false
+home c =
+    let inv = c.loop-done.invariant in
+    subst (λ out. is_out c.loop-done.next out ≡ false) (sym inv.out) (home-so c.args.rounds c.args.p c.loop-done.next c.args.self.now (core_value c.loop-done.self-inside) c.requires.ready inv.next)
 
-kept : (c : After-note_all) → c.self.inside.stop ≡ None → is_out c.args.p c.self.inside.out.items ≡ false → CoreInvariant (core_along c.self.inside c.note_all.new.history c.go_on-made.new.machine)
-kept c none home =
-    let i = c.self.inside in
-    let gone = c.go_on-made.ensures.gone i.cells (schedule_of i.history.items) c.self.invariant.after in
-    core-goes-on c.lists_go_along_with_steps.ensures i c.args.p c.self.invariant none home c.go_on-made.result gone.0 c.go_on-made.new.machine c.note_all.new.history gone.1 gone.2 c.go_on-made.ensures.halted c.go_on-made.ensures.processes
-    (within c) (entries-are c)
+kept : (c : After-note_all) → (history : Kept) → history.items ≡ entries_along c.loop-done.self-inside.history.items c.loop-done.next c.go_on-made.result
+    → CoreInvariant (core_along c.loop-done.self-inside history c.go_on-made.new.machine)
+kept c history is =
+    let i = c.loop-done.self-inside in
+    let inv = c.loop-done.invariant in
+    let done = c.go_on-made.ensures in
+    let gone = done.gone i.cells (schedule_of i.history.items) inv.kept.after in
+    core-goes-on c.lists_go_along_with_steps.ensures i c.loop-done.next inv.kept inv.going (home c) c.go_on-made.result gone.0 c.go_on-made.new.machine history gone.1 gone.2 done.halted done.made (within c) is
 
-pub invariant_of-self-2 : goal.invariant_of-self-2
-invariant_of-self-2 c =
-    let at = goal.at.invariant_of-self-2 c in
-    kept at.After-note_all (no-stop at.After-lives) (at-home at.After-lives)
+are-seen : (c : After-note_all) → AreSeen c.loop-done.self-inside.image c.loop-done.self-inside.cells
+are-seen c =
+    let cells = c.loop-done.self-inside.cells in
+    let same = ap (λ (v : CoreValue). v.program) c.self.view_is ∙ sym c.loop-done.invariant.program in
+    subst (λ program. AreSeen program cells) same (λ choices n. c.views_are_of_states.ensures c.self.inside.image cells choices n c.is_runnable.ensures.accepted c.is_runnable.ensures.main)
 
-pub returns-clause-chosen : goal.returns-clause-chosen
-returns-clause-chosen c =
-    let at = goal.at.returns-clause-chosen c in
-    let i = c.self.inside in
-    let none = no-stop at.After-lives in
-    let home = at-home at.After-lives in
-    let gone = c.go_on-made.ensures.gone i.cells (schedule_of i.history.items) c.self.invariant.after in
-    rw (← c.self.view_is) (
-    chosen-so c.lists_go_along_with_steps.ensures i c.args.p c.self.invariant none home (are-seen at.After-note_all) c.go_on-made.result gone.0 c.go_on-made.new.machine c.note_all.new.history gone.1 (kept at.After-note_all none home)
-    (within at.After-note_all) (entries-are at.After-note_all))
+moved : (c : After-note_all) → (history : Kept) → history.items ≡ entries_along c.loop-done.self-inside.history.items c.loop-done.next c.go_on-made.result
+    → AreMoves c.args.rounds c.args.p c.args.self.now (c.loop-done.done + c.go_on-made.result) (core_value (core_along c.loop-done.self-inside history c.go_on-made.new.machine))
+moved c history is =
+    let i = c.loop-done.self-inside in
+    let inv = c.loop-done.invariant in
+    let machine = c.go_on-made.new.machine in
+    let made = c.go_on-made.result in
+    let gone = c.go_on-made.ensures.gone i.cells (schedule_of i.history.items) inv.kept.after in
+    moves-on c.args.rounds c.args.p c.loop-done.next c.args.self.now (core_value i) (core_value (core_along i history machine)) c.loop-done.done made inv.moves inv.next
+    (λ round. omega (arith, c.at_once-each.ensures.rounds round, c.go_on-made.ensures.few))
+    (chosen-so c.lists_go_along_with_steps.ensures i c.loop-done.next inv.kept inv.going (home c) (are-seen c) made gone.0 machine history gone.1 (kept c history is) (within c) is)
 
-pub returns-clause-all : goal.returns-clause-all
-returns-clause-all c fewer =
-    let at = goal.at.returns-clause-all c in
-    let i = c.self.inside in
-    let none = no-stop at.After-lives in
-    let home = at-home at.After-lives in
-    let full : c.go_on-made.result ≡ c.min-most.result → length c.note_all.new.history.items ≡ i.limit = λ all. omega (
+-- ---- where it ends
+
+-- what is kept then, of one process
+at-rest : (c : After-note_all) → c.args.rounds ≡ false → c.loop-done.done + c.go_on-made.result < c.args.most
+    → IsAtRest (core_value (core_along c.loop-done.self-inside c.note_all.new.history c.go_on-made.new.machine)) c.args.p
+at-rest c alone fewer =
+    let i = c.loop-done.self-inside in
+    let inv = c.loop-done.invariant in
+    let made = c.go_on-made.result in
+    let each = c.at_once-each.ensures.alone alone in
+    let machine = c.go_on-made.new.machine in
+    let full : made ≡ c.at_once-each.result → length c.note_all.new.history.items ≡ i.limit = λ all. omega (
       arith,
       fewer,
       all,
-      c.min-most.ensures,
+      each,
+      inv.alone alone,
+      inv.entries,
+      inv.limit,
+      ap (λ (v : CoreValue). length v.history) c.self.view_is,
+      ap (λ (v : CoreValue). v.limit) c.self.view_is,
+      c.min-room.ensures,
       c.len.ensures.count,
       c.self.invariant.legal.within,
-      ap length (entries-are at.After-note_all),
-      entries-more i.history.items c.args.p c.go_on-made.result,
+      ap length c.note_all.ensures,
+      entries-more i.history.items c.loop-done.next made,
     ) in
-    elim (cases_lt c.go_on-made.result c.min-most.result) [
-      | inl less ↦ inr (inr (inr (snapshot_of c.go_on-made.new.machine, (kept at.After-note_all none home).after.after, c.go_on-made.ensures.all less)))
+    elim (cases_lt made c.at_once-each.result) [
+      | inl less ↦ inr (inr (inr (
+        snapshot_of machine,
+        (kept c c.note_all.new.history c.note_all.ensures).after.after,
+        subst (λ q. HasNoMoveAhead i.image q (snapshot_of machine)) (next-alone c.args.rounds c.args.p c.loop-done.next (core_value i) alone inv.next) (c.go_on-made.ensures.all less),
+      )))
       | inr most ↦ inr (inr (inl (full (omega (arith, most, c.go_on-made.ensures.few)))))
     ]
+
+pub invariant_of-self-then-not-rounds : goal.invariant_of-self-then-not-rounds
+invariant_of-self-then-not-rounds c = kept (goal.at.invariant_of-self-then-not-rounds c).After-note_all c.note_all.new.history c.note_all.ensures
+
+pub returns-then-not-rounds-clause-chosen : goal.returns-then-not-rounds-clause-chosen
+returns-then-not-rounds-clause-chosen c = moved (goal.at.returns-then-not-rounds-clause-chosen c).After-note_all c.note_all.new.history c.note_all.ensures
+
+pub returns-then-not-rounds-clause-few : goal.returns-then-not-rounds-clause-few
+returns-then-not-rounds-clause-few c = omega (arith, few-made (goal.at.returns-then-not-rounds-clause-few c).After-note_all, c.min-room.ensures)
+
+pub returns-then-not-rounds-clause-all : goal.returns-then-not-rounds-clause-all
+returns-then-not-rounds-clause-all c alone fewer = at-rest (goal.at.returns-then-not-rounds-clause-all c).After-note_all alone fewer
+
+pub invariant_of-self-then-made-eq0 : goal.invariant_of-self-then-made-eq0
+invariant_of-self-then-made-eq0 c = kept (goal.at.invariant_of-self-then-made-eq0 c).After-note_all c.note_all.new.history c.note_all.ensures
+
+pub returns-then-made-eq0-clause-chosen : goal.returns-then-made-eq0-clause-chosen
+returns-then-made-eq0-clause-chosen c = moved (goal.at.returns-then-made-eq0-clause-chosen c).After-note_all c.note_all.new.history c.note_all.ensures
+
+pub returns-then-made-eq0-clause-few : goal.returns-then-made-eq0-clause-few
+returns-then-made-eq0-clause-few c = omega (arith, few-made (goal.at.returns-then-made-eq0-clause-few c).After-note_all, c.min-room.ensures)
+
+pub returns-then-made-eq0-clause-all : goal.returns-then-made-eq0-clause-all
+returns-then-made-eq0-clause-all c alone fewer = at-rest (goal.at.returns-then-made-eq0-clause-all c).After-note_all alone fewer
+
+pub other_next-requires : goal.other_next-requires
+other_next-requires c = (kept (goal.at.other_next-requires c).After-note_all c.note_all.new.history c.note_all.ensures).after.numbers
+
+-- the entries, once there is room for one more
+noted : (c : After-other_next) → c.other_next.new.history.items ≡ entries_along c.loop-done.self-inside.history.items c.loop-done.next c.go_on-made.result
+noted c = c.other_next.ensures.items ∙ c.note_all.ensures
+
+pub invariant_of-self-in-None : goal.invariant_of-self-in-None
+invariant_of-self-in-None c =
+    let at = goal.at.invariant_of-self-in-None c in
+    kept at.After-note_all c.other_next.new.history (noted at.After-other_next)
+
+pub returns-in-None-clause-chosen : goal.returns-in-None-clause-chosen
+returns-in-None-clause-chosen c =
+    let at = goal.at.returns-in-None-clause-chosen c in
+    moved at.After-note_all c.other_next.new.history (noted at.After-other_next)
+
+pub loop-done-preserved : goal.loop-done-preserved
+loop-done-preserved c =
+    let at = goal.at.loop-done-preserved c in
+    let i = c.loop-done.self-inside in
+    let inv = c.loop-done.invariant in
+    let made = c.go_on-made.result in
+    let machine = c.go_on-made.new.machine in
+    let history = c.other_next.new.history in
+    let items = noted at.After-other_next in
+    let now = core_along i history machine in
+    let keeps = kept at.After-note_all history items in
+    let round : c.args.rounds ≡ true = search rules in
+    let once : made ≡ 1 = omega (arith, c.at_once-each.ensures.rounds round, c.go_on-made.ensures.few) in
+    let found = c.in-Some.ensures in
+    let nobody : i.out.items ≡ [] = inv.out ∙ nobody-out c.args.rounds c.args.p c.args.self.now round c.requires.ready in
+    let last : last_process history.items ≡ c.loop-done.next = ap last_process items ∙ last-along i.history.items c.loop-done.next made (omega (arith, once)) in
+    let same = c.lists_are_those_of_definitions.ensures.ready i.image i.cells i.roster.last (schedule_of history.items) (progress_after i.image history.items) (want_of i.roster.waiting) i.roster.ready keeps.listed c.other_next.ensures.rising in
+    let many : length history.items ≡ length i.history.items + made = ap length items ∙ entries-more i.history.items c.loop-done.next made in
+    record {
+      kept = keeps;
+      going = inv.going;
+      program = inv.program;
+      limit = inv.limit;
+      out = inv.out;
+      moves = moved at.After-note_all history items;
+      next = next-round c.args.rounds c.args.p c.in-Some.other (core_value now) round (next-so now c.loop-done.next c.in-Some.other nobody last same found.next);
+      living = found.lives;
+      entries = omega (arith, many, inv.entries);
+      few = few-made at.After-note_all;
+      alone = λ alone. absurd (true≢false (sym round ∙ alone));
+      free = found.room.0;
+      short = omega (arith, found.room.1, c.at_once-each.ensures.rounds round);
+    }

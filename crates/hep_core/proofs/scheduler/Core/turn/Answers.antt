@@ -9,6 +9,7 @@ use Rattle.hep_state.specs.declared.turn.Turned.{Turned}
 use Rattle.hep_state.specs.declared.turn.Turned.TheVariants.{Stepped, Purged, Waits}
 use Rattle.hep_state.specs.Words.{HasTurned, IsAfter, IsMachineAfter, KeepsRollFor, snapshot_of, IsUnturned}
 use Rattle.hep_state.proofs.Histories.{after-history, still-after, turned-at, unturned-at}
+use Rattle.hep_state.proofs.Numbered.{length-stacks}
 use Rattle.hep_core.specs.Invariant.{CoreInvariant, core_value}
 use Rattle.hep_core.specs.declared.scheduler.Core.TheInside.{Inside}
 use Rattle.hep_layout.proofs.HeldFrames.{run-last}
@@ -25,6 +26,9 @@ use Rattle.hep_core.proofs.Kept.{AreSeen, halted-is, halted-next, named-left, ne
 use Rattle.hep_core.proofs.scheduler.Core.turn.Goals.{After-len, After-lives, After-turn, After-block, After-wake_after}
 use Rattle.hep_core.proofs.scheduler.Core.turn.Goals as goal
 use Rattle.hep_source.proofs.Tests.{none-from-not}
+
+pub lives-requires : goal.lives-requires
+lives-requires c = c.self.invariant.after.numbers
 
 -- ---- what is known once a turn is asked for
 
@@ -82,7 +86,8 @@ turn-requires c =
       after = after-history i.image i.cells h i.machine k.after;
       running = halted-is i.image i.cells h (snapshot_of i.machine) k.after.after ∙ going.1;
       living = c.lives.ensures.levels lives;
-      countable = omega (arith, c.activations_are_few.ensures i.image i.cells (schedule_of h) (snapshot_of i.machine) k.after.after, few-steps h k.single, c.len.ensures.count, c.len.ensures.few);
+      countable = omega (arith, c.activations_are_few.ensures.activations i.image i.cells (schedule_of h) (snapshot_of i.machine) k.after.after, few-steps h k.single, c.len.ensures.count, c.len.ensures.few);
+      numerable = omega (arith, c.activations_are_few.ensures.processes i.image i.cells (schedule_of h) (snapshot_of i.machine) k.after.after, length-stacks i.machine.processes.items 1 i.machine.made, few-steps h k.single, c.len.ensures.count, c.len.ensures.few);
       numbers = k.room.room;
     }
 
@@ -166,23 +171,23 @@ stepped-now c =
 entry-is : (c : After-wake_after) → c.note-in_default-turned.new.history.items ≡ c.self.inside.history.items ++ record { process = c.args.p; steps = 1 } ∷ []
 entry-is c = c.note-in_default-turned.ensures ∙ ap (λ (es : List Entry). es ++ record { process = c.args.p; steps = 1 } ∷ []) c.turn.ensures.entry.entries
 
-counted-before : (c : After-wake_after) → c.len-made.result ≡ length (run c.self.inside.image (schedule_of c.self.inside.history.items)).processes
+counted-before : (c : After-wake_after) → c.self.inside.machine.made ≡ length (run c.self.inside.image (schedule_of c.self.inside.history.items)).processes
 counted-before c =
     let i = c.self.inside in
-    omega (arith, c.len-made.ensures, i.machine.processes.ok.0, as-many i.image i.cells (schedule_of i.history.items) i.machine c.self.invariant.after.after)
+    as-many i.image i.cells (schedule_of i.history.items) i.machine c.self.invariant.after.after
 
-counted-after : (c : After-wake_after) → length c.turn.new.self.processes.items ≡ length (run c.self.inside.image (schedule_of c.self.inside.history.items ++ c.args.p ∷ [])).processes
+counted-after : (c : After-wake_after) → c.turn.new.self.made ≡ length (run c.self.inside.image (schedule_of c.self.inside.history.items ++ c.args.p ∷ [])).processes
 counted-after c =
     let i = c.self.inside in
     as-many i.image i.cells (schedule_of i.history.items ++ c.args.p ∷ []) c.turn.new.self (stepped-now c).1.after
 
 noted-now : (c : After-wake_after) (q : ℕ) → is_number_among q c.note_ready.new.roster.ready
-    ≡ is_noted c.args.p (is_some (living (run c.self.inside.image (schedule_of c.self.inside.history.items ++ c.args.p ∷ [])) c.args.p)) c.len-made.result (length c.turn.new.self.processes.items) c.self.inside.roster.ready q
+    ≡ is_noted c.args.p (is_some (living (run c.self.inside.image (schedule_of c.self.inside.history.items ++ c.args.p ∷ [])) c.args.p)) c.self.inside.machine.made c.turn.new.self.made c.self.inside.roster.ready q
 noted-now c q =
     let i = c.self.inside in
     let p = c.args.p in
     let lives = is_some (living (run i.image (schedule_of i.history.items ++ p ∷ [])) p) in
-    c.note_ready.ensures.ready i.image i.cells (schedule_of i.history.items ++ p ∷ []) (stepped-now c).1.after q ∙ ap (λ b. (b && (not (nat_eq p q) || lives)) || (nat_lt c.len-made.result (length c.turn.new.self.processes.items) && nat_eq q (length c.turn.new.self.processes.items))) (c.turn.ensures.roster.kept.ready q)
+    c.note_ready.ensures.ready i.image i.cells (schedule_of i.history.items ++ p ∷ []) (stepped-now c).1.after q ∙ ap (λ b. (b && (not (nat_eq p q) || lives)) || (nat_lt c.self.inside.machine.made c.turn.new.self.made && nat_eq q c.turn.new.self.made)) (c.turn.ensures.roster.kept.ready q)
 
 -- the lists go along with what the turn came to
 lists-by : (c : After-wake_after) (turned : Turned) → IsNoWait turned → HasTurned c.self.inside.image c.self.inside.cells (schedule_of c.self.inside.history.items) c.args.p turned c.turn.new.self
@@ -198,7 +203,7 @@ lists-by c (Stepped changed) other done waits woken =
     let before = k.after.after in
     c.lists_go_along_with_steps.ensures i.image i.cells choices (progress_after i.image i.history.items) (want_of i.roster.waiting) (want_of c.wake_after.new.roster.waiting) i.roster.ready c.wake_after.new.roster.ready p changed before.layout
     k.listed done.0 before.laid (done.2.told before.layout before.laid)
-    (along i.image choices p changed (want_of i.roster.waiting) (want_of c.wake_after.new.roster.waiting) i.roster.ready c.note_ready.new.roster.ready c.wake_after.new.roster.ready c.len-made.result (length c.turn.new.self.processes.items) (counted-before c) (counted-after c) waits (noted-now c) woken)
+    (along i.image choices p changed (want_of i.roster.waiting) (want_of c.wake_after.new.roster.waiting) i.roster.ready c.note_ready.new.roster.ready c.wake_after.new.roster.ready c.self.inside.machine.made c.turn.new.self.made (counted-before c) (counted-after c) waits (noted-now c) woken)
 lists-by c Purged other done waits woken =
     let i = c.self.inside in
     let k = c.self.invariant in
@@ -208,7 +213,7 @@ lists-by c Purged other done waits woken =
     let before = k.after.after in
     c.lists_go_along_with_purges.ensures i.image i.cells choices (progress_after i.image i.history.items) (want_of i.roster.waiting) (want_of c.wake_after.new.roster.waiting) i.roster.ready c.wake_after.new.roster.ready p (have_cell ranges) before.layout
     k.listed done.0 before.laid (emptied-to-lists i.image i.cells choices p before.layout ranges before.laid done.2)
-    (along-emptying i.image choices p (have_cell ranges) (want_of i.roster.waiting) (want_of c.wake_after.new.roster.waiting) i.roster.ready c.note_ready.new.roster.ready c.wake_after.new.roster.ready c.len-made.result (length c.turn.new.self.processes.items) (counted-before c) (counted-after c) waits (noted-now c) woken)
+    (along-emptying i.image choices p (have_cell ranges) (want_of i.roster.waiting) (want_of c.wake_after.new.roster.waiting) i.roster.ready c.note_ready.new.roster.ready c.wake_after.new.roster.ready c.self.inside.machine.made c.turn.new.self.made (counted-before c) (counted-after c) waits (noted-now c) woken)
 lists-by c (Waits want) other done waits woken = absurd (other want refl)
 
 lists-now : (c : After-wake_after) → AreListed c.self.inside.image c.self.inside.cells (schedule_of c.self.inside.history.items ++ c.args.p ∷ [])
@@ -300,7 +305,7 @@ wake_after-requires c =
 
 -- no process is taken back
 risen : (program : Units) (cells : ℕ) (choices : List ℕ) (p : ℕ) (turned : Turned) (old new : Machine) → IsAfter program cells choices (snapshot_of old) → IsNoWait turned → HasTurned program cells choices p turned new
-    → length old.processes.items ≤ length new.processes.items
+    → old.made ≤ new.made
 risen program cells choices p turned old new after other has =
     let s = run program choices in
     let made = made-step program cells choices p turned new other has in
@@ -308,18 +313,19 @@ risen program cells choices p turned old new after other has =
     subst (λ (t : State). length s.processes ≤ length t.processes) (sym (run-last program choices p)) (elim (processes_after program p s) [ inl e ↦ omega (arith, e) | inr e ↦ omega (arith, e) ]) in
     omega (arith, grown, as-many program cells choices old after, as-many program cells (choices ++ p ∷ []) new made.1.after)
 
-pub note_ready-requires-clause-last : goal.note_ready-requires-clause-last
-note_ready-requires-clause-last c =
-    let i = c.self.inside in
-    omega (arith, c.turn.ensures.roster.kept.last, c.self.invariant.room.last, c.len-made.ensures, i.machine.processes.ok.0)
-
-pub note_ready-requires-clause-more : goal.note_ready-requires-clause-more
-note_ready-requires-clause-more c =
+pub note_ready-requires : goal.note_ready-requires
+note_ready-requires c =
     let i = c.self.inside in
     let h = i.history.items in
     let k = c.self.invariant in
     let turned = turned-at i.image i.cells h i.machine k.after c.args.p c.in-Ok.turned c.turn.new.self c.in-Ok.ensures.turned in
-    omega (arith, risen i.image i.cells (schedule_of h) c.args.p c.in-Ok.turned i.machine c.turn.new.self k.after.after c.in_default-turned.not-Waits turned, c.len-made.ensures, i.machine.processes.ok.0)
+    let no_wait = c.in_default-turned.not-Waits in
+    record {
+      last = omega (arith, c.turn.ensures.roster.kept.last, k.room.last);
+      more = risen i.image i.cells (schedule_of h) c.args.p c.in-Ok.turned i.machine c.turn.new.self k.after.after no_wait turned;
+      room = c.turn.ensures.roster.numbers;
+      numbers = (made-step i.image i.cells (schedule_of h) c.args.p c.in-Ok.turned c.turn.new.self no_wait turned).1.numbers;
+    }
 
 -- ---- a turn that found its process waiting
 

@@ -6,6 +6,9 @@ use Rattle.hep_core.proofs.Histories.{state-is}
 use Rattle.hep_core.proofs.scheduler.Core.whereabouts.Goals.{After-lives}
 use Rattle.hep_core.proofs.scheduler.Core.whereabouts.Goals as goal
 
+pub lives-requires : goal.lives-requires
+lives-requires c = c.self.invariant.after.numbers
+
 pub returns-then-not-lives : goal.returns-then-not-lives
 returns-then-not-lives c =
     let i = c.self.inside in

@@ -13,16 +13,19 @@ use Rattle.std.specs.Vec.{with_item}
 use Rattle.hep_proc.specs.declared.process.Local.{Local}
 use Rattle.hep_state.specs.declared.machine.Machine.{Machine}
 use Rattle.hep_proc.specs.declared.process.Process.{Process}
-use Rattle.hep_proc.specs.Stacks.{stack_of, stack_with}
+use Rattle.hep_proc.specs.Stacks.{Stack, stack_of, stack_with}
 use Rattle.hep_proc.proofs.Levels.{last-there}
-use Rattle.hep_state.specs.Words.{Changes, node_under, Snapshot, snapshot_of, IsLeft, turn_with, with_contents, with_stack, IsAfter}
+use Rattle.hep_state.specs.Words.{AreNumbered, Changes, node_under, Snapshot, snapshot_of, IsLeft, turn_with, with_contents, with_stack, IsAfter}
 use Rattle.hep_state.proofs.Moved.{top-node}
-use Rattle.hep_state.proofs.Processes.{process-at, room-moved, stacks-set}
+use Rattle.hep_state.proofs.Processes.{IsAt, process-at, room-moved, stacks-set}
 use Rattle.hep_state.proofs.Tops.{turning}
 use Rattle.hep_state.proofs.Changes.{changes-only}
 use Rattle.hep_state.proofs.Taken.{ahead-simulated, inside, left-over, ready, unperformed, with_performed}
 use Rattle.hep_state.proofs.Unchanged.{rooms-set}
 use Rattle.hep_state.proofs.machine.Machine.advance.Goals as goal
+
+pub place-at-requires : goal.place-at-requires
+place-at-requires c = record { numbers = c.requires.after.2.numbers; living = c.requires.plain.levels }
 
 pub advance-requires : goal.advance-requires
 advance-requires c =
@@ -35,7 +38,7 @@ advance-requires c =
     let laws = c.tops_are_running.ensures in
     let accepted = c.is_runnable.ensures.accepted in
     let main = c.is_runnable.ensures.main in
-    let it = process-at c.args.self.now.processes.items p l.kept c.index_mut-process.ensures.value in
+    let it = process-at c.args.self.now p c.requires.after.2.numbers c.place-at.ensures l.kept c.index_mut-process.ensures.value in
     let turn = turning p h.after l c.requires.running in
     let t = turn_with program c.requires.after.0 c.requires.after.1 l turn.0 in
     record {
@@ -48,15 +51,15 @@ advance-requires c =
       there = top-node turn.1;
       ready =
           ready turn.1 (laws.running t accepted main turn.1) (vec_capacity q.operands) (laws.arrays t accepted main turn.1) h.few
-          (h.room (p - 1) q it.there _ l.level (last-there q l.level l.below l.operands l.pending it.stack));
+          (h.room c.place-at.result q it.there _ l.level (last-there q l.level l.below l.operands l.pending it.stack));
     }
 
 -- what the machine shows, where a process has another stack and cells of the arena have changed
-shown-now : (m : Machine) (p : ℕ) (r : Process) (frames : Frames) (l : Local) (ls : List Local) (left pending : List Value) (next : ℕ) → stack_of r ≡ stack_with (record l { index = next }) ls left pending
-    → frames.arena.holes ≡ m.frames.arena.holes → frames.nodes ≡ m.frames.nodes
-    → snapshot_of (record m { frames = frames; processes = with_item m.processes (p - 1) r }) ≡ with_stack (with_contents (snapshot_of m) frames.arena.contents) p (record l { index = next } ∷ ls) left pending
-shown-now m p r frames l ls left pending next stack holes nodes =
-    let stacks = stacks-set m.processes.items p r (stack_with (record l { index = next }) ls left pending) stack in
+shown-now : (m : Machine) (p : ℕ) {at : ℕ} {before : Stack} {q : Process} (r : Process) (frames : Frames) (l : Local) (ls : List Local) (left pending : List Value) (next : ℕ) → AreNumbered m → IsAt m.processes.items p at before q → r.number ≡ q.number
+    → stack_of r ≡ stack_with (record l { index = next }) ls left pending → frames.arena.holes ≡ m.frames.arena.holes → frames.nodes ≡ m.frames.nodes
+    → snapshot_of (record m { frames = frames; processes = with_item m.processes at r }) ≡ with_stack (with_contents (snapshot_of m) frames.arena.contents) p (record l { index = next } ∷ ls) left pending
+shown-now m p r frames l ls left pending next numbers it same stack holes nodes =
+    let stacks = stacks-set m p r (stack_with (record l { index = next }) ls left pending) numbers it same stack in
     λ i. record (with_stack (with_contents (snapshot_of m) frames.arena.contents) p (record l { index = next } ∷ ls) left pending) {
       arena = record { contents = frames.arena.contents; holes = holes i };
       nodes = nodes_of (nodes i);
@@ -80,13 +83,13 @@ returns c =
     let law = c.tops_are_running.ensures.running in
     let accepted = c.is_runnable.ensures.accepted in
     let main = c.is_runnable.ensures.main in
-    let it = process-at old.processes.items p e.levels.kept c.index_mut-process.ensures.value in
+    let it = process-at old p c.requires.after.2.numbers c.place-at.ensures e.levels.kept c.index_mut-process.ensures.value in
     let a = done.advanced l ls vs ws it.stack in
     let k = stack_with (record l { index = a.next }) ls a.left ws in
     let after = performed.snapshot c.advance.new.frames.arena.contents a.left a.next in
     let ahead = effect_at (unit_code program l.unit) (unit_arrays program l.unit) (node_under m.nodes l.key).first m.arena.contents vs l.index in
     let changed = changed_at (unit_code program l.unit) (unit_arrays program l.unit) (node_under m.nodes l.key).first m.arena.contents vs l.index in
-    let shown = shown-now old p r c.advance.new.frames l ls a.left ws a.next a.stack done.holes done.nodes in
+    let shown = shown-now old p r c.advance.new.frames l ls a.left ws a.next c.requires.after.2.numbers it done.same.number a.stack done.holes done.nodes in
     record {
       left = IfOk-weaker c.advance.result _ _ (λ effect is cells choices h.
           let turn = turning p h.after e.levels c.requires.running in
@@ -104,7 +107,7 @@ returns c =
         same = record {
           arena = λ i. record { contents = (is i).contents; holes = done.holes i };
           nodes = ap nodes_of done.nodes;
-          processes = ap length (stacks-set old.processes.items p r k a.stack) ∙ length-set m.processes (p - 1) k;
+          processes = ap length (stacks-set old p r k c.requires.after.2.numbers it done.same.number a.stack) ∙ length-set m.processes (p - 1) k;
           activations = refl;
           records = refl;
           faults = refl;
@@ -112,9 +115,9 @@ returns c =
         };
       }) a.refused;
       kept = record {
-        rooms = λ cells h. rooms-set program cells old _ (p - 1) r refl refl (room-moved program q r l a.next ls vs a.left ws it.stack a.stack done.capacity (h.room (p - 1) q it.there)) h;
+        rooms = λ cells h. rooms-set program cells old _ r it done.same.number refl refl refl (room-moved program q r l a.next ls vs a.left ws it.stack a.stack done.same.room (h.room c.place-at.result q it.there)) h;
         records = refl;
         faults = refl;
-        processes = length-set old.processes.items (p - 1) r;
+        made = refl;
       };
     }

@@ -21,10 +21,13 @@ use Rattle.hep_state.proofs.Processes.{process-at, some-levels-at}
 use Rattle.hep_state.proofs.machine.Machine.begin_activation.Goals.{After-begin-key}
 use Rattle.hep_state.proofs.machine.Machine.begin_activation.Goals as goal
 
+pub place-at-requires : goal.place-at-requires
+place-at-requires c = record { numbers = c.requires.numbers; living = c.requires.making.6.making.levels }
+
 -- ---- the caller or creator
 
 pub top-parent-requires : goal.top-parent-requires
-top-parent-requires c = some-levels-at (process-at c.args.self.now.processes.items c.args.p c.requires.making.6.making.levels.kept c.index.ensures)
+top-parent-requires c = some-levels-at (process-at c.args.self.now c.args.p c.requires.numbers c.place-at.ensures c.requires.making.6.making.levels.kept c.index.ensures)
 
 pub begin-key-requires : goal.begin-key-requires
 begin-key-requires c =
@@ -36,7 +39,7 @@ begin-key-requires c =
     let slab = c.args.self.now.frames.nodes in
     let layout = e.turning.after.layout in
     let shows = e.turning.after.shows in
-    let it = process-at c.args.self.now.processes.items c.args.p r.6.making.levels.kept c.index.ensures in
+    let it = process-at c.args.self.now c.args.p c.requires.numbers c.place-at.ensures r.6.making.levels.kept c.index.ensures in
     let same = c.top-parent.ensures t.level t.below t.operands t.pending it.stack in
     let call = call_in t c.args.called.unit e.actuals e.binding in
     let many = passed-many r.1 s layout (scope_of r.1 s t.top.0.activation) e.actuals c.deref.result.now (subst (ArePassed call layout) (sym c.deref.ensures.value) e.passed) in
@@ -76,7 +79,7 @@ module _ (c : After-begin-key) (way : Way) (program : Units) (cells : ℕ) (choi
 
   parent : c.top-parent.result.key ≡ t.level.key
   parent =
-      let it = process-at c.args.self.now.processes.items c.args.p makes.making.levels.kept c.index.ensures in
+      let it = process-at c.args.self.now c.args.p c.requires.numbers c.place-at.ensures makes.making.levels.kept c.index.ensures in
       ap (λ (l : Local). l.key) (c.top-parent.ensures t.level t.below t.operands t.pending it.stack)
 
   more : later.activations ≡ (state_begun call).activations

@@ -12,14 +12,17 @@ use Rattle.hep_state.proofs.Tops.{dropped-first}
 use Rattle.hep_state.proofs.machine.Machine.find_targets.Goals.{After-deref}
 use Rattle.hep_state.proofs.machine.Machine.find_targets.Goals as goal
 
+pub place-at-requires : goal.place-at-requires
+place-at-requires c = record { numbers = c.requires.at.2.numbers; living = c.requires.at.3.levels }
+
 -- ---- what is named
 
 -- by what was read
-read : (c : After-deref) → IsRead c.args.image.now c.args.self.now c.args.p c.index-process.result.now c.behind.result.0.now c.behind.result.1.now c.behind.result.2 0 c.deref.result.now
-read c = record { process = c.index-process.ensures; behind = c.behind.ensures; operands = c.deref.ensures.value }
+read : (c : After-deref) → IsRead c.args.image.now c.args.self.now c.args.p c.place-at.result c.index-process.result.now c.behind.result.0.now c.behind.result.1.now c.behind.result.2 0 c.deref.result.now
+read c = record { numbers = c.requires.at.2.numbers; place = c.place-at.ensures; process = c.index-process.ensures; behind = c.behind.ensures; operands = c.deref.ensures.value }
 
 pub behind-requires : goal.behind-requires
-behind-requires c = can-read c.args.self.now c.requires.at.3 c.index-process.ensures
+behind-requires c = can-read c.args.self.now c.requires.at.3 c.requires.at.2.numbers c.place-at.ensures c.index-process.ensures
 
 pub find_ranges-requires : goal.find_ranges-requires
 find_ranges-requires c =

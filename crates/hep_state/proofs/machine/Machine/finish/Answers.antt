@@ -1,4 +1,4 @@
-use Rattle.std.proofs.Common.{[], ◌-◌, refl, sym, ap, ◌∙◌, subst, arith}
+use Rattle.std.proofs.Common.{[], refl, sym, ap, ◌∙◌, subst, arith}
 use Rattle.slab.specs.Slab.{ContainsKey}
 use Rattle.hep_machine.specs.Words.{is_held}
 use Rattle.hep_proc.specs.Nodes.{nodes_of}
@@ -10,15 +10,18 @@ use Rattle.hep_state.proofs.Processes.{process-at, room-fewer, stacks-set, some-
 use Rattle.hep_state.proofs.Unchanged.{rooms-set}
 use Rattle.hep_state.proofs.machine.Machine.finish.Goals as goal
 
+pub place-at-requires : goal.place-at-requires
+place-at-requires c = record { numbers = c.requires.4; living = c.requires.3.levels }
+
 pub end_top-ended-requires : goal.end_top-ended-requires
-end_top-ended-requires c = some-levels-at (process-at c.args.self.now.processes.items c.args.p c.requires.3.levels.kept c.index_mut.ensures.value)
+end_top-ended-requires c = some-levels-at (process-at c.args.self.now c.args.p c.requires.4 c.place-at.ensures c.requires.3.levels.kept c.index_mut.ensures.value)
 
 pub leave-requires : goal.leave-requires
 leave-requires c =
     let e = c.requires.3 in
     let slab = c.args.self.now.frames.nodes in
     let t = turn_of e in
-    let it = process-at c.args.self.now.processes.items c.args.p e.levels.kept c.index_mut.ensures.value in
+    let it = process-at c.args.self.now c.args.p c.requires.4 c.place-at.ensures e.levels.kept c.index_mut.ensures.value in
     record {
       there = subst (λ (l : Local). ContainsKey slab l.key) (sym (c.end_top-ended.ensures.level t.level t.below t.operands t.pending it.stack)) (some-value slab t.level.key _ (top-node e.holds.turning));
       kept = kept-now e.holds.turning;
@@ -32,13 +35,13 @@ returns-clause-stepped c program cells choices e =
     let nodes = nodes_of c.leave.new.self.nodes in
     let t = turn_of e in
     let turning = e.holds.turning in
-    let it = process-at c.args.self.now.processes.items p e.levels.kept c.index_mut.ensures.value in
+    let it = process-at c.args.self.now p c.requires.4 c.place-at.ensures e.levels.kept c.index_mut.ensures.value in
     let same = c.end_top-ended.ensures.level t.level t.below t.operands t.pending it.stack in
     let there = ap (λ (l : Local). m.nodes l.key) same ∙ top-node turning in
     let left = c.leave.ensures.ended program (state_before t) (state_returned t) (is_held (state_before t)) turning.after.layout (node_under m.nodes t.level.key) turning.after.shows.keeps there
     (returned-ended turning) (lead-upwards program choices (state_returned t) refl) in
     let shown = returned-shown turning arena nodes left c.leave.ensures.cells e.holds.simulated in
-    let stacks = stacks-set c.args.self.now.processes.items p c.end_top-ended.new.self (record { levels = t.below; operands = []; pending = t.pending }) (c.end_top-ended.ensures.stack t.level t.below t.operands t.pending it.stack) in
+    let stacks = stacks-set c.args.self.now p c.end_top-ended.new.self (record { levels = t.below; operands = []; pending = t.pending }) c.requires.4 it c.end_top-ended.ensures.number (c.end_top-ended.ensures.stack t.level t.below t.operands t.pending it.stack) in
     subst (HasMadeTurn t) (λ i. record (snapshot_returned t arena nodes) { processes = sym stacks i }) shown
 
 pub returns-clause-rooms : goal.returns-clause-rooms
@@ -46,6 +49,6 @@ returns-clause-rooms c program cells h =
     let p = c.args.p in
     let q = c.index_mut.result.now in
     let r = c.end_top-ended.new.self in
-    let it = process-at c.args.self.now.processes.items p c.requires.3.levels.kept c.index_mut.ensures.value in
-    rooms-set program cells c.args.self.now _ (p - 1) r refl refl (
-    room-fewer program q r c.end_top-ended.result c.end_top-ended.ensures.fewer (omega (arith, c.end_top-ended.ensures.capacity)) (h.room (p - 1) q it.there)) h
+    let it = process-at c.args.self.now p c.requires.4 c.place-at.ensures c.requires.3.levels.kept c.index_mut.ensures.value in
+    rooms-set program cells c.args.self.now _ r it c.end_top-ended.ensures.number refl refl refl (
+    room-fewer program q r c.end_top-ended.result c.end_top-ended.ensures.fewer (omega (arith, c.end_top-ended.ensures.capacity)) (h.room c.place-at.result q it.there)) h

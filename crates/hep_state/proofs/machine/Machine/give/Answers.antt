@@ -19,11 +19,14 @@ use Rattle.hep_state.proofs.Callers.{IsRead, behind-there, can-read, deepest-few
 use Rattle.hep_state.proofs.machine.Machine.give.Goals.{After-find_shapes, After-past}
 use Rattle.hep_state.proofs.machine.Machine.give.Goals as goal
 
+pub place-at-requires : goal.place-at-requires
+place-at-requires c = record { numbers = c.requires.at.2.numbers; living = c.requires.at.3.levels }
+
 -- ---- what is passed
 
 -- by what was read
-read : (c : After-past) → IsRead c.args.image.now c.args.self.now c.args.p c.index-process.result.now c.behind.result.0.now c.behind.result.1.now c.behind.result.2 c.in_front-kept.result c.past.result.now
-read c = record { process = c.index-process.ensures; behind = c.behind.ensures; operands = c.past.ensures ∙ ap (drop c.in_front-kept.result) c.deref.ensures.value }
+read : (c : After-past) → IsRead c.args.image.now c.args.self.now c.args.p c.place-at.result c.index-process.result.now c.behind.result.0.now c.behind.result.1.now c.behind.result.2 c.in_front-kept.result c.past.result.now
+read c = record { numbers = c.requires.at.2.numbers; place = c.place-at.ensures; process = c.index-process.ensures; behind = c.behind.ensures; operands = c.past.ensures ∙ ap (drop c.in_front-kept.result) c.deref.ensures.value }
 
 module _ (c : After-past) {cells : ℕ} {choices : List ℕ} (at : HasCallAhead c.args.image.now cells choices c.args.p (snapshot_of c.args.self.now) c.args.call) where
   -- where its operation is ahead
@@ -47,7 +50,7 @@ module _ (c : After-past) {cells : ℕ} {choices : List ℕ} (at : HasCallAhead 
 pub behind-requires : goal.behind-requires
 behind-requires c =
     let at = c.requires.at.3 in
-    can-read c.args.self.now (record { levels = at.levels; top = at.top; holds = at.holds.step }) c.index-process.ensures
+    can-read c.args.self.now (record { levels = at.levels; top = at.top; holds = at.holds.step }) c.requires.at.2.numbers c.place-at.ensures c.index-process.ensures
 
 pub past-requires : goal.past-requires
 past-requires c = omega (arith, c.in_front-kept.ensures, c.len.ensures, c.deref.ensures.len)

@@ -1,20 +1,25 @@
-use Rattle.std.proofs.Common.{◌≡◌, ◌-◌, ◌≤◌, List, [], ◌∷◌, ◌++◌, map, reverse, sym, ap, ◌∙◌, arith, slice_get, slice_set, vec_capacity}
-use Rattle.std.proofs.lemmas.List.{map-append}
+use Rattle.std.proofs.Common.{◌≡◌, ◌≤◌, List, [], ◌∷◌, ◌++◌, reverse, ap, ◌∙◌, arith, slice_set, vec_capacity}
 use Rattle.hep_code.specs.Words.{deepest}
 use Rattle.hep_step.specs.Simulation.{unit_code}
 use Rattle.hep_proc.specs.declared.process.Local.{Local}
 use Rattle.hep_proc.specs.declared.process.Process.{Process}
-use Rattle.hep_proc.specs.Stacks.{stack_of}
-use Rattle.hep_state.specs.Words.{HasRoom, snapshot_of}
-use Rattle.hep_state.proofs.Processes.{all-more, all-set, process-at, room-alone, room-fewer, some-levels-at, stacks-set}
-use Rattle.hep_state.proofs.machine.Machine.part.Goals.{After-append-2}
+use Rattle.hep_proc.specs.Stacks.{Stack, stack_of}
+use Rattle.hep_state.specs.declared.machine.Machine.{Machine}
+use Rattle.hep_state.specs.Words.{HasRoom, snapshot_of, stacks_of}
+use Rattle.hep_state.proofs.Numbered.{more-stacks}
+use Rattle.hep_state.proofs.Processes.{all-set, numbered-set, process-at, room-alone, room-fewer, some-levels-at, stacks-set}
+use Rattle.hep_state.proofs.Unchanged.{rooms-more}
+use Rattle.hep_state.proofs.machine.Machine.part.Goals.{After-admit}
 use Rattle.hep_state.proofs.machine.Machine.part.Goals as goal
 
+pub place-at-requires : goal.place-at-requires
+place-at-requires c = record { numbers = c.requires.numbers; living = c.requires.levels }
+
 pub end_top-level-requires : goal.end_top-level-requires
-end_top-level-requires c = some-levels-at (process-at c.args.self.now.processes.items c.args.p c.requires.levels.kept c.index_mut.ensures.value)
+end_top-level-requires c = some-levels-at (process-at c.args.self.now c.args.p c.requires.numbers c.place-at.ensures c.requires.levels.kept c.index_mut.ensures.value)
 
 -- the process that is made, and its one level
-module _ (c : After-append-2) where
+module _ (c : After-admit) where
   abbrev pub made : Process
   made = record c.args.process { levels = c.append.new.items }
 
@@ -28,25 +33,25 @@ pub returns-clause-parted : goal.returns-clause-parted
 returns-clause-parted c levels =
     let old = c.args.self.now in
     let r = c.end_top-level.new.self in
-    let it = process-at old.processes.items c.args.p levels.kept c.index_mut.ensures.value in
+    let it = process-at old c.args.p c.requires.numbers c.place-at.ensures levels.kept c.index_mut.ensures.value in
     let same = c.end_top-level.ensures.level levels.level levels.below levels.operands levels.pending it.stack in
-    let own = stacks-set old.processes.items c.args.p r (record { levels = levels.below; operands = []; pending = levels.pending }) (c.end_top-level.ensures.stack levels.level levels.below levels.operands levels.pending it.stack) in
-    let fresh : stack_of (made c) ≡ record { levels = record levels.level { index = c.args.index } ∷ []; operands = []; pending = [] } =
+    let same_number = c.end_top-level.ensures.number in
+    let own = stacks-set old c.args.p r (record { levels = levels.below; operands = []; pending = levels.pending }) c.requires.numbers it same_number (c.end_top-level.ensures.stack levels.level levels.below levels.operands levels.pending it.stack) in
+    let last : Stack = record { levels = record levels.level { index = c.args.index } ∷ []; operands = []; pending = [] } in
+    let fresh : stack_of (made c) ≡ last =
     λ i. record { levels = (ap reverse (alone c) ∙ ap (λ (l : Local). record l { index = c.args.index } ∷ []) same) i; operands = c.requires.empty.1 i; pending = c.requires.empty.2 i } in
-    let stacks = ap (map stack_of) c.append-2.ensures ∙ (map-append stack_of (slice_set old.processes.items (c.args.p - 1) r) (made c ∷ []) ∙ (λ i. own i ++ fresh i ∷ [])) in
-    λ i. record (snapshot_of old) { processes = stacks i }
+    let rest = slice_set old.processes.items c.place-at.result r in
+    let stacks = (λ i. stacks_of (c.admit.ensures.added i) (c.admit.ensures.made i)) ∙ (more-stacks rest old.made (made c) last (numbered-set old c.args.p r c.requires.numbers it same_number) c.requires.next fresh ∙ ap (λ (ks : List Stack). ks ++ last ∷ []) own) in
+    ap snapshot_of c.admit.ensures.others ∙ (λ i. record (snapshot_of old) { processes = stacks i })
 
 pub returns-clause-rooms : goal.returns-clause-rooms
 returns-clause-rooms c program cells h levels deep =
     let old = c.args.self.now in
     let q = c.index_mut.result.now in
     let r = c.end_top-level.new.self in
-    let it = process-at old.processes.items c.args.p levels.kept c.index_mut.ensures.value in
+    let it = process-at old c.args.p c.requires.numbers c.place-at.ensures levels.kept c.index_mut.ensures.value in
     let same = c.end_top-level.ensures.level levels.level levels.below levels.operands levels.pending it.stack in
-    let others = all-set (HasRoom program) old.processes.items (c.args.p - 1) r h.room (room-fewer program q r c.end_top-level.result c.end_top-level.ensures.fewer (omega (arith, c.end_top-level.ensures.capacity)) (h.room (c.args.p - 1) q it.there)) in
+    let others = all-set (HasRoom program) old.processes.items c.place-at.result r h.room (room-fewer program q r c.end_top-level.result c.end_top-level.ensures.fewer (omega (arith, c.end_top-level.ensures.capacity)) (h.room c.place-at.result q it.there)) in
     let enough : deepest (unit_code program (level c).unit) ≤ vec_capacity (made c).operands = omega (arith, ap (λ (l : Local). deepest (unit_code program l.unit)) same, deep) in
-    record {
-      few = h.few;
-      to_pass = h.to_pass;
-      room = λ i x is. all-more (HasRoom program) (slice_set old.processes.items (c.args.p - 1) r) (made c) others (room-alone program (made c) (level c) (alone c) enough) i x (ap (λ qs. slice_get qs i) (sym c.append-2.ensures) ∙ is);
-    }
+    rooms-more program cells old c.admit.new.self (slice_set old.processes.items c.place-at.result r) (made c) c.admit.ensures.added c.admit.ensures.made c.requires.next (ap (λ (m : Machine). m.passing) c.admit.ensures.others)
+    (numbered-set old c.args.p r c.requires.numbers it c.end_top-level.ensures.number) others (room-alone program (made c) (level c) (alone c) enough) h

@@ -4,6 +4,8 @@ use Rattle.hep_purging.specs.Purged.{purged}
 use Rattle.hep_purging.specs.Ready.{AreReached}
 use Rattle.hep_step.specs.Effects.{fails}
 use Rattle.hep_proc.specs.Stacks.{stack_with}
+use Rattle.hep_proc.specs.declared.frames.Frames.{Frames}
+use Rattle.hep_state.specs.declared.machine.Machine.{Machine}
 use Rattle.hep_state.specs.declared.machine.Passing.{Passing}
 use Rattle.hep_state.specs.Words.{HasLevels, HasMadeTurn, HasPurged, HasRoomToPass, Snapshot, snapshot_of, IsToEnd, snapshot_moved, turn_of}
 use Rattle.hep_state.proofs.Purging.{reached-alike}
@@ -59,10 +61,37 @@ returns-in-Err-clause-purged c cells choices h at =
       values = had.to_pass.values;
       ranges = λ u index line count next inside there. let room = had.to_pass.ranges u index line count next inside there in omega (arith, room, c.clear.ensures.capacity);
     } in
-    let rooms = c.fail.ensures.rooms program cells (record { few = had.few; to_pass = to_pass; room = had.room }) in
+    let rooms = c.fail.ensures.rooms program cells (record { few = had.few; to_pass = to_pass; room = had.room; numbers = had.numbers }) in
     let none = ap (λ (ps : Passing). ps.ranges.items) c.fail.ensures.passing ∙ c.clear.ensures.items in (
       stepped.stepped,
       machine-of program cells (choices ++ p ∷ []) new stepped.after rooms,
       subst (HasPurged program cells choices p) (sym none) (c.purges_are_shown.ensures.nothing (turn_of ends) line kind ends.holds),
       subst (AreReached new.frames.arena) (sym none) tt,
+    )
+
+-- ---- what each part asks for
+
+pub empty_targets-requires : goal.empty_targets-requires
+empty_targets-requires c =
+    let at = c.requires.at in
+    let between = c.find_targets.new.self in
+    let same : snapshot_of between ≡ snapshot_of c.args.self.now = ap snapshot_of c.in-Ok.ensures.others in
+    let levels = at.3.levels in
+    record {
+      living = record { level = levels.level; below = levels.below; operands = levels.operands; pending = levels.pending; kept = subst (λ (n : Snapshot). numbered n.processes c.args.p ≡ Some (stack_with levels.level levels.below levels.operands levels.pending)) (sym same) levels.kept };
+      numbers = (c.in-Ok.ensures.rooms at.0 (rooms-of c.args.image.now at.0 at.1 c.args.self.now at.2)).numbers;
+      reached = subst (λ (frames : Frames). AreReached frames.arena between.passing.ranges.items) (sym (ap (λ (m : Machine). m.frames) c.in-Ok.ensures.others)) c.in-Ok.ensures.reached;
+      few = omega (arith, at.2.few, at.2.after.size, ap (λ (n : Snapshot). length n.arena.contents) same);
+    }
+
+pub fail-requires-clause-ending : goal.fail-requires-clause-ending
+fail-requires-clause-ending c =
+    let at = c.requires.at in
+    let between = c.find_targets.new.self in
+    let same : snapshot_of between ≡ snapshot_of c.args.self.now = ap snapshot_of c.in-Err.ensures.others in (
+      c.args.image.now,
+      at.0,
+      at.1,
+      subst (λ (n : Snapshot). IsToEnd c.args.image.now at.0 at.1 c.args.p n (fails c.args.purge.line c.in-Err.kind)) (sym same) (c.in-Err.ensures.fault at.0 at.1 at.3),
+      (c.in-Err.ensures.rooms at.0 (rooms-of c.args.image.now at.0 at.1 c.args.self.now at.2)).numbers,
     )

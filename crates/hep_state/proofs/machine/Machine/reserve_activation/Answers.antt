@@ -1,7 +1,9 @@
-use Rattle.std.proofs.Common.{◌+◌, ◌-◌, ◌<◌, ◌≤◌, OnOk, Result, Ok, Err, length-set, refl, subst, vec_len, vec_capacity}
+use Rattle.std.proofs.Common.{◌≡◌, ◌+◌, ◌<◌, ◌≤◌, OnOk, Result, Ok, Err, refl, sym, subst, ◌∙◌, reverse, vec_len, vec_capacity}
 use Rattle.hep_proc.specs.declared.process.Process.{Process}
+use Rattle.hep_proc.specs.Stacks.{stack_of}
 use Rattle.hep_state.specs.Words.{snapshot_of}
-use Rattle.hep_state.proofs.Processes.{process-at, room-reserved, set-there, stacks-same}
+use Rattle.hep_state.proofs.Processes.{is-there, process-at, room-reserved, stacks-set}
+use Rattle.hep_state.proofs.Runs.{set-same}
 use Rattle.hep_state.proofs.Unchanged.{rooms-set}
 use Rattle.hep_state.proofs.machine.Machine.reserve_activation.Goals as goal
 
@@ -12,25 +14,29 @@ all-three (Err e) f p q r = tt
 
 pub returns-clause-level : goal.returns-clause-level
 returns-clause-level c =
-    let here = set-there c.args.self.now.processes.items (c.args.p - 1) c.reserve-3.new.self in
+    let m = c.args.self.now in
+    let it = process-at m c.args.p c.requires.numbers c.place-at.ensures c.requires.living.kept c.index_mut.ensures.value in
+    let here = is-there m c.args.p c.reserve-3.new.self c.requires.numbers it c.reserve-3.ensures.number in
     all-three c.reserve-3.result (λ level operands pending. record {
       node = c.in_ok-reserve-2.ensures.room;
-      level = λ q e. subst (λ (z : Process). vec_len z.levels < vec_capacity z.levels) (here q e) level;
-      operands = λ q e. subst (λ (z : Process). c.args.operands ≤ vec_capacity z.operands) (here q e) operands;
-      pending = λ q e. subst (λ (z : Process). vec_len z.pending + c.args.kept ≤ vec_capacity z.pending) (here q e) pending;
+      level = λ i q e own. subst (λ (z : Process). vec_len z.levels < vec_capacity z.levels) (here i q e own) level;
+      operands = λ i q e own. subst (λ (z : Process). c.args.operands ≤ vec_capacity z.operands) (here i q e own) operands;
+      pending = λ i q e own. subst (λ (z : Process). vec_len z.pending + c.args.kept ≤ vec_capacity z.pending) (here i q e own) pending;
     }) c.reserve-3.ensures.level c.reserve-3.ensures.operands c.reserve-3.ensures.pending
 
 pub returns-clause-same : goal.returns-clause-same
 returns-clause-same c =
     let m = c.args.self.now in
+    let q = c.index_mut.result.now in
+    let r = c.reserve-3.new.self in
     let made = c.reserve-3.ensures in
-    let stacks = stacks-same m.processes.items (c.args.p - 1) c.index_mut.result.now c.reserve-3.new.self c.index_mut.ensures.value made.same.0 made.same.1 made.same.2 in
+    let kept = c.requires.living.kept in
+    let it = process-at m c.args.p c.requires.numbers c.place-at.ensures kept c.index_mut.ensures.value in
+    let own : stack_of r ≡ stack_of q = λ i. record { levels = reverse (made.same.0 i); operands = made.same.1 i; pending = made.same.2 i } in
+    let stacks = stacks-set m c.args.p r _ c.requires.numbers it made.number (own ∙ it.stack) ∙ sym (set-same (snapshot_of m).processes c.args.p _ kept) in
     record {
       shown = λ i. record (snapshot_of m) { arena = c.in_ok-reserve-2.ensures.arena i; nodes = c.in_ok-reserve-2.ensures.nodes i; processes = stacks i };
-      processes = length-set m.processes.items (c.args.p - 1) c.reserve-3.new.self;
+      made = refl;
       passing = refl;
-      rooms = λ program cells h.
-          let q = c.index_mut.result.now in
-          let it = process-at m.processes.items c.args.p c.requires.kept c.index_mut.ensures.value in
-          rooms-set program cells m _ (c.args.p - 1) c.reserve-3.new.self refl refl (room-reserved program q c.reserve-3.new.self made.same.0 made.capacity (h.room (c.args.p - 1) q it.there)) h;
+      rooms = λ program cells h. rooms-set program cells m _ r it made.number refl refl refl (room-reserved program q r made.same.0 made.capacity (h.room c.place-at.result q it.there)) h;
     }

@@ -10,9 +10,9 @@ with-node : (old mid : Machine) (frames : Frames) → ShowsSame old mid → fram
 with-node old mid frames same arena nodes =
     record {
       shown = (λ i. record (snapshot_of mid) { arena = arena i; nodes = nodes i }) ∙ same.shown;
-      processes = same.processes;
+      made = same.made;
       passing = same.passing;
-      rooms = λ program cells h. let k = same.rooms program cells h in record { few = k.few; to_pass = k.to_pass; room = k.room };
+      rooms = λ program cells h. let k = same.rooms program cells h in record { few = k.few; to_pass = k.to_pass; room = k.room; numbers = k.numbers };
     }
 
 pub returns-in_err-reserve-clause-same : goal.returns-in_err-reserve-clause-same

@@ -22,6 +22,9 @@ use Rattle.hep_state.proofs.Unchanged.{carry, machine-of, rooms-of, rooms-set}
 use Rattle.hep_state.proofs.machine.Machine.step_ahead.Goals as goal
 use Rattle.hep_binding.proofs.Calls.{set-numbered}
 
+pub place-at-requires : goal.place-at-requires
+place-at-requires c = record { numbers = c.requires.after.2.numbers; living = c.requires.living }
+
 -- where none of them stands
 none-left-out : (code : List Instruction) (index : ℕ) → HasNone (drop index code) → IsNotLeftOut code index
 none-left-out code index none line o behind ahead = by_operation o (subst HasNone ahead none) where
@@ -34,12 +37,12 @@ none-left-out code index none line o behind ahead = by_operation o (subst HasNon
   by_operation _ h = refl
 
 pub top-unit-requires : goal.top-unit-requires
-top-unit-requires c = some-levels-at (process-at c.args.self.now.processes.items c.args.p c.requires.living.kept c.index_mut-process.ensures.value)
+top-unit-requires c = some-levels-at (process-at c.args.self.now c.args.p c.requires.after.2.numbers c.place-at.ensures c.requires.living.kept c.index_mut-process.ensures.value)
 
 pub unit-requires : goal.unit-requires
 unit-requires c =
     let e = c.requires.living in
-    let it = process-at c.args.self.now.processes.items c.args.p e.kept c.index_mut-process.ensures.value in
+    let it = process-at c.args.self.now c.args.p c.requires.after.2.numbers c.place-at.ensures e.kept c.index_mut-process.ensures.value in
     let turn = turning c.args.p c.requires.after.2.after e c.requires.running in
     subst (λ (l : Local). l.unit < length c.args.image.now) (sym (c.top-unit.ensures e.level e.below e.operands e.pending it.stack)) (inside turn.1)
 
@@ -50,18 +53,18 @@ settle_top-requires c =
     let l = e.level in
     let h = c.requires.after in
     let q = c.index_mut-process.result.now in
-    let it = process-at c.args.self.now.processes.items c.args.p e.kept c.index_mut-process.ensures.value in
+    let it = process-at c.args.self.now c.args.p c.requires.after.2.numbers c.place-at.ensures e.kept c.index_mut-process.ensures.value in
     let turn = turning c.args.p h.2.after e c.requires.running in
     let code : c.as_slice-code.result.now ≡ unit_code program l.unit = c.as_slice-code.ensures ∙ (c.unit.ensures.code ∙ ap (λ (k : Local). unit_code program k.unit) (c.top-unit.ensures l e.below e.operands e.pending it.stack)) in
     let ahead = ap (λ is. values_ahead (drop l.index is)) code in
-    let room : deepest (unit_code program l.unit) ≤ vec_capacity q.operands = h.2.room (c.args.p - 1) q it.there _ l (last-there q l e.below e.operands e.pending it.stack) in
+    let room : deepest (unit_code program l.unit) ≤ vec_capacity q.operands = h.2.room c.place-at.result q it.there _ l (last-there q l e.below e.operands e.pending it.stack) in
     (l, e.below, e.operands, e.pending, it.stack, omega (arith, ahead, room, room-ahead turn.1))
 
 pub top-requires : goal.top-requires
 top-requires c =
     let program = c.args.image.now in
     let e = c.requires.living in
-    let it = process-at c.args.self.now.processes.items c.args.p e.kept c.index_mut-process.ensures.value in
+    let it = process-at c.args.self.now c.args.p c.requires.after.2.numbers c.place-at.ensures e.kept c.index_mut-process.ensures.value in
     let code : c.as_slice-code.result.now ≡ unit_code program e.level.unit = c.as_slice-code.ensures ∙ (c.unit.ensures.code ∙ ap (λ (k : Local). unit_code program k.unit) (c.top-unit.ensures e.level e.below e.operands e.pending it.stack)) in
     let s = c.settle_top.ensures.settled program e.level e.below e.operands e.pending code it.stack in
     some-levels c.settle_top.new.process (record e.level { index = s.0 }) e.below s.1 e.pending s.2
@@ -96,14 +99,14 @@ returns c =
     let ls = e.below in
     let vs = e.operands in
     let ws = e.pending in
-    let it = process-at old.processes.items p e.kept c.index_mut-process.ensures.value in
+    let it = process-at old p c.requires.after.2.numbers c.place-at.ensures e.kept c.index_mut-process.ensures.value in
     let code : c.as_slice-code.result.now ≡ unit_code program l.unit = c.as_slice-code.ensures ∙ (c.unit.ensures.code ∙ ap (λ (k : Local). unit_code program k.unit) (c.top-unit.ensures l ls vs ws it.stack)) in
     let s = c.settle_top.ensures.settled program l ls vs ws code it.stack in
     let later = record l { index = s.0 } in
     let k = stack_with later ls s.1 ws in
     let top : c.top.result ≡ later = c.top.ensures later ls s.1 ws s.2 in
-    let stacks = stacks-set old.processes.items p r k s.2 in
-    let shown : snapshot_of (record old { processes = with_item old.processes (p - 1) r }) ≡ with_stack m p (later ∷ ls) s.1 ws = λ i. record m { processes = stacks i } in
+    let stacks = stacks-set old p r k c.requires.after.2.numbers it c.settle_top.ensures.same.number s.2 in
+    let shown : snapshot_of (record old { processes = with_item old.processes c.place-at.result r }) ≡ with_stack m p (later ∷ ls) s.1 ws = λ i. record m { processes = stacks i } in
     let levels : HasLevels (with_stack m p (later ∷ ls) s.1 ws) p = record { level = later; below = ls; operands = s.1; pending = ws; kept = set-numbered m.processes p (stack_with l ls vs ws) k e.kept } in
     let here : drop c.top.result.index c.as_slice-code.result.now ≡ drop s.0 (unit_code program l.unit) = (λ i. drop (top i).index (code i)) in
     record {
@@ -117,7 +120,7 @@ returns c =
       after = λ cells choices h.
           let turn = turning p h.after e c.requires.running in
           machine-of program cells choices _ (subst (IsAfter program cells choices) (sym shown) (settled turn.1 s.1 s.0 s.3.stands).after) (
-          rooms-set program cells old _ (p - 1) r refl refl (room-moved program q r l s.0 ls vs s.1 ws it.stack s.2 c.settle_top.ensures.capacity (h.room (p - 1) q it.there)) (rooms-of program cells choices old h));
+          rooms-set program cells old _ r it c.settle_top.ensures.same.number refl refl refl (room-moved program q r l s.0 ls vs s.1 ws it.stack s.2 c.settle_top.ensures.same.room (h.room c.place-at.result q it.there)) (rooms-of program cells choices old h));
       same = record { arena = refl; nodes = refl; processes = ap length stacks ∙ length-set m.processes (p - 1) k; activations = refl; records = refl; faults = refl; halted = refl };
       living = subst (λ (n : Snapshot). HasLevels n p) (sym shown) levels;
     }

@@ -1,5 +1,5 @@
 use Rattle.std.proofs.Common.{refl, ◌≡◌, ◌≤◌, ◌<◌, ◌+◌, ◌^◌, ℕ, true, List, None, IsSome, length, arith, sym, ap, ◌∙◌, subst, is_some, vec_capacity}
-use Rattle.hep_machine.specs.Words.{Units, schedule_of}
+use Rattle.hep_machine.specs.Words.{Units, numbered, schedule_of}
 use Rattle.hep_arena.specs.Holes.{first_fit}
 use Rattle.hep_code.specs.Words.{deepest}
 use Rattle.hep_image.specs.Image.{most_cells}
@@ -9,10 +9,9 @@ use Rattle.hep_step.specs.Effects.{fails}
 use Rattle.hep_step.specs.Simulation.{unit_code}
 use Rattle.hep_state.specs.declared.calling.Called.{Called}
 use Rattle.hep_state.specs.declared.machine.Machine.{Machine}
-use Rattle.hep_state.specs.declared.turn.TurnFault.{TurnFault}
-use Rattle.hep_state.specs.Words.{HasStepped, HoldsInTurn, IsMaking, IsTurn, IsUnit, IsUntaken, LeavesAlone, Makes, ShowsSame, Changes, HaveRoom, IsMachineAfter, Snapshot, snapshot_of, IsToEnd, HasGaps, cells_of, turn_of}
+use Rattle.hep_state.specs.Words.{AreNumbered, HasLevels, HasStepped, HoldsInTurn, IsMaking, IsTurn, IsUnit, IsUntaken, LeavesAlone, Makes, ShowsSame, Changes, HaveRoom, Snapshot, snapshot_of, IsToEnd, HasGaps, cells_of, turn_of}
 use Rattle.hep_state.specs.declared.turn.Turned.TheVariants.{Stepped}
-use Rattle.hep_state.proofs.Unchanged.{alone, carry, machine-reserved, machine-written, on-err, rooms-of, rooms-written, shown-written, turned-so, without-memory}
+use Rattle.hep_state.proofs.Unchanged.{alone, carry, on-err, rooms-of, rooms-written, shown-written, turned-so, without-memory}
 use Rattle.hep_state.proofs.machine.Machine.take_call.Goals.{After-fits, After-reserve}
 use Rattle.hep_state.proofs.machine.Machine.take_call.Goals as goal
 use Rattle.hep_source.proofs.Tests.{none-from-not}
@@ -50,6 +49,19 @@ returns-in-Err-clause-turned c =
     let untouched = c.calls_touch_nothing.ensures (turn_of at) c.args.call c.is_runnable.ensures.accepted c.is_runnable.ensures.main at.holds in
     let ending = subst (λ (n : Snapshot). IsToEnd program cells choices c.args.p n (fails c.args.call.line c.in-Err.kind)) (sym (reserved-shown before)) (c.in-Err.ensures.fault cells choices h at) in
     turned-so program cells choices c.args.p c.fail.new.self untouched (c.fail.ensures.stepped program cells choices ending) (c.fail.ensures.rooms program cells (reserved-rooms before cells (rooms-of program cells choices c.args.self.now h)))
+
+pub fail-requires-clause-ending : goal.fail-requires-clause-ending
+fail-requires-clause-ending c =
+    let program = c.args.image.now in
+    let cells = cells_of c.args.self.now in
+    let choices = schedule_of c.args.history.now.items in
+    let before = (goal.at.fail-requires-clause-ending c).After-reserve in (
+      program,
+      cells,
+      choices,
+      subst (λ (n : Snapshot). IsToEnd program cells choices c.args.p n (fails c.args.call.line c.in-Err.kind)) (sym (reserved-shown before)) (c.in-Err.ensures.fault cells choices c.requires.after c.requires.at),
+      (reserved-rooms before cells (rooms-of program cells choices c.args.self.now c.requires.after)).numbers,
+    )
 
 -- ---- none
 
@@ -160,6 +172,21 @@ returns-in_err-reserve_activation-in-Calls-clause-refused c =
     let r = c.from_residual-in_err-reserve_activation-in-Calls in
     on-err r.result r.ensures.0 (left-alone (goal.at.returns-in_err-reserve_activation-in-Calls-clause-refused c).After-fits c.reserve_activation.new.self c.reserve_activation.ensures.same)
 
+-- what room is made for lives, and processes have their numbers
+module _ (c : After-fits) where
+  living-given : HasLevels (snapshot_of c.give.new.self) c.args.p
+  living-given =
+      let levels = c.requires.at.levels in
+      record { level = levels.level; below = levels.below; operands = levels.operands; pending = levels.pending; kept = ap (λ (s : Snapshot). numbered s.processes c.args.p) (given-shown c) ∙ levels.kept }
+
+  numbers-given : AreNumbered c.give.new.self
+  numbers-given = (c.give.ensures.rooms (cells c) (rooms-of (program c) (cells c) (choices c) c.args.self.now c.requires.after)).numbers
+
+pub reserve_activation-requires : goal.reserve_activation-requires
+reserve_activation-requires c =
+    let before = (goal.at.reserve_activation-requires c).After-fits in
+    record { living = living-given before; numbers = numbers-given before }
+
 pub call-requires : goal.call-requires
 call-requires c =
     let before = (goal.at.call-requires c).After-fits in
@@ -174,6 +201,7 @@ call-requires c =
       node = room.node;
       level = room.level;
       pending = room.pending;
+      numbers = (rooms before new same).numbers;
     }
 
 pub returns-in_ok-reserve_activation-in-Calls-clause-turned : goal.returns-in_ok-reserve_activation-in-Calls-clause-turned
@@ -182,7 +210,7 @@ returns-in_ok-reserve_activation-in-Calls-clause-turned c =
     let new = c.reserve_activation.new.self in
     let same = c.reserve_activation.ensures.same in
     taken before new same c.call.new.self (c.call.ensures.stepped Calls (program before) (cells before) (choices before) refl (making before new same Calls c.in-Calls.is))
-    (c.call.ensures.rooms (program before) (cells before) (rooms before new same) (λ q e. subst (λ n. n ≤ vec_capacity q.operands) (deep before) (c.in_ok-reserve_activation-in-Calls.ensures.level.operands q e)))
+    (c.call.ensures.rooms (program before) (cells before) (rooms before new same) (λ i q e own. subst (λ n. n ≤ vec_capacity q.operands) (deep before) (c.in_ok-reserve_activation-in-Calls.ensures.level.operands i q e own)))
 
 -- ---- a reference
 
@@ -196,6 +224,11 @@ pub returns-in_err-reserve_activation-in-Refers-clause-refused : goal.returns-in
 returns-in_err-reserve_activation-in-Refers-clause-refused c =
     let r = c.from_residual-in_err-reserve_activation-in-Refers in
     on-err r.result r.ensures.0 (left-alone (goal.at.returns-in_err-reserve_activation-in-Refers-clause-refused c).After-fits c.reserve_activation-in-Refers.new.self c.reserve_activation-in-Refers.ensures.same)
+
+pub reserve_activation-requires-in-Refers : goal.reserve_activation-requires-in-Refers
+reserve_activation-requires-in-Refers c =
+    let before = (goal.at.reserve_activation-requires-in-Refers c).After-fits in
+    record { living = living-given before; numbers = numbers-given before }
 
 pub call-requires-in-Refers : goal.call-requires-in-Refers
 call-requires-in-Refers c =
@@ -211,6 +244,7 @@ call-requires-in-Refers c =
       node = room.node;
       level = room.level;
       pending = room.pending;
+      numbers = (rooms before new same).numbers;
     }
 
 pub returns-in_ok-reserve_activation-in-Refers-clause-turned : goal.returns-in_ok-reserve_activation-in-Refers-clause-turned
@@ -219,7 +253,7 @@ returns-in_ok-reserve_activation-in-Refers-clause-turned c =
     let new = c.reserve_activation-in-Refers.new.self in
     let same = c.reserve_activation-in-Refers.ensures.same in
     taken before new same c.call-in-Refers.new.self (c.call-in-Refers.ensures.stepped Refers (program before) (cells before) (choices before) refl (making before new same Refers c.in-Refers.is))
-    (c.call-in-Refers.ensures.rooms (program before) (cells before) (rooms before new same) (λ q e. subst (λ n. n ≤ vec_capacity q.operands) (deep before) (c.in_ok-reserve_activation-in-Refers.ensures.level.operands q e)))
+    (c.call-in-Refers.ensures.rooms (program before) (cells before) (rooms before new same) (λ i q e own. subst (λ n. n ≤ vec_capacity q.operands) (deep before) (c.in_ok-reserve_activation-in-Refers.ensures.level.operands i q e own)))
 
 -- ---- CREATE
 
@@ -234,6 +268,11 @@ returns-in_err-process-in-Creates-clause-refused c =
     let r = c.from_residual-in_err-process-in-Creates in
     on-err r.result r.ensures.0 (left-alone (goal.at.returns-in_err-process-in-Creates-clause-refused c).After-fits c.reserve_creation.new.self c.reserve_creation.ensures.same)
 
+pub reserve_creation-requires : goal.reserve_creation-requires
+reserve_creation-requires c =
+    let before = (goal.at.reserve_creation-requires c).After-fits in
+    record { numbers = numbers-given before; few = omega (arith, c.requires.numerable, ap (λ (m : Machine). m.made) c.give.ensures.others) }
+
 pub create-requires : goal.create-requires
 create-requires c =
     let before = (goal.at.create-requires c).After-fits in
@@ -245,10 +284,12 @@ create-requires c =
       few = few before new same;
       countable = countable before new same;
       gap = gap before new same c.if-not-fits.false;
-      node = room.node;
+      node = room.process.node;
       empty = room.made.empty;
       level = room.made.level;
       process = room.process.process;
+      next = room.made.number_is ∙ sym (ap (λ n. n + 1) same.made);
+      numbers = (rooms before new same).numbers;
     }
 
 pub returns-in_ok-process-in-Creates-clause-turned : goal.returns-in_ok-process-in-Creates-clause-turned

@@ -1,7 +1,7 @@
 use Rattle.std.proofs.Common.{ℕ, List, [], ◌∷◌, ◌++◌, ◌∙◌, subst, sym}
 use Rattle.hep_machine.specs.Words.{schedule_of}
 use Rattle.hep_state.specs.Words.{Changes, HaveRoom, IsSeenSame, IsWithoutCall, IsMachineAfter, cells_of, snapshot_of}
-use Rattle.hep_state.proofs.Unchanged.{alone, as-many, machine-of, machine-written, on-err, rooms-of, rooms-written, seen-again, seen-shown, shown-written}
+use Rattle.hep_state.proofs.Unchanged.{as-many, machine-of, machine-written, on-err, rooms-of, seen-again, seen-shown, shown-written}
 use Rattle.hep_state.proofs.machine.Machine.take_operation.Goals.{After-reserve}
 use Rattle.hep_state.proofs.machine.Machine.take_operation.Goals as goal
 
@@ -28,7 +28,7 @@ returns-in_err-reserve-clause-refused c =
     on-err c.from_residual.result c.from_residual.ensures.0 (record {
       after = reserved before;
       same = reserved-same before;
-      processes = as-many c.args.self.now c.reserve.new.self (reserved-same before);
+      made = as-many c.args.self.now c.reserve.new.self (reserved-same before);
     })
 
 pub returns-in_err-effect-clause-refused : goal.returns-in_err-effect-clause-refused
@@ -38,7 +38,7 @@ returns-in_err-effect-clause-refused c =
     on-err c.from_residual-in_err-effect.result c.from_residual-in_err-effect.ensures.0 (record {
       after = machine-of c.args.image.now (cells before) (choices before) c.advance.new.self (c.in_err-effect.ensures.refused.shown (cells before) (choices before) (reserved before).after) (c.advance.ensures.kept.rooms (cells before) (reserved-rooms before));
       same = same;
-      processes = as-many c.args.self.now c.advance.new.self same;
+      made = as-many c.args.self.now c.advance.new.self same;
     })
 
 pub advance-requires : goal.advance-requires

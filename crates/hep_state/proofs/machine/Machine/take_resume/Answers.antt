@@ -1,4 +1,4 @@
-use Rattle.std.proofs.Common.{◌≡◌, ℕ, ◌+◌, ◌<◌, ◌≤◌, ◌-◌, List, [], ◌∷◌, ◌++◌, length, length-append, reverse, refl, sym, ap, ◌∙◌, subst, arith, vec_capacity, vec_len}
+use Rattle.std.proofs.Common.{◌≡◌, ℕ, ◌+◌, ◌<◌, ◌≤◌, List, [], ◌∷◌, ◌++◌, length, length-append, reverse, refl, sym, ap, ◌∙◌, subst, arith, vec_capacity, vec_len}
 use Rattle.std.specs.Vec.{with_item}
 use Rattle.std.proofs.lemmas.List.{reverse-append}
 use Rattle.hep_machine.specs.Words.{Value, numbered, schedule_of, with_numbered}
@@ -9,11 +9,14 @@ use Rattle.hep_proc.specs.declared.process.Process.{Process}
 use Rattle.hep_proc.specs.Stacks.{stack_of, stack_with}
 use Rattle.hep_proc.proofs.Levels.{last-index, some-levels}
 use Rattle.hep_state.specs.Words.{cells_of, HasLevels, HasStepped, Snapshot, snapshot_moved, snapshot_of, snapshot_parted, turn_of}
-use Rattle.hep_state.proofs.Processes.{inside-at, process-at, room-moved, some-levels-at, stacks-set}
+use Rattle.hep_state.proofs.Processes.{process-at, room-moved, some-levels-at, stacks-set}
 use Rattle.hep_state.proofs.Taken.{inside}
 use Rattle.hep_state.proofs.Unchanged.{alone, on-err, rooms-of, rooms-set, turned-so}
 use Rattle.hep_state.proofs.machine.Machine.take_resume.Goals.{After-reserve_process}
 use Rattle.hep_state.proofs.machine.Machine.take_resume.Goals as goal
+
+pub place-at-requires : goal.place-at-requires
+place-at-requires c = record { numbers = c.requires.after.numbers; living = c.requires.at.levels }
 
 -- how many levels a process has
 counted : (q : Process) (l : Local) (ls : List Local) (operands pending : List Value) → stack_of q ≡ stack_with l ls operands pending → (n : ℕ) → n ≡ vec_len q.levels → n ≡ length (reverse ls) + 1
@@ -28,16 +31,13 @@ some-by : (ls : List Local) (n : ℕ) → n ≡ length (reverse ls) + 1 → (n �
 some-by [] n e other = absurd (other (omega (arith, e)))
 some-by (l ∷ ls) n e other = (l, ls, refl)
 
-pub index-requires-2 : goal.index-requires-2
-index-requires-2 c = omega (arith, (inside-at c.args.self.now.processes.items c.args.p _ c.requires.at.levels.kept).1)
-
 pub top-requires : goal.top-requires
-top-requires c = some-levels-at (process-at c.args.self.now.processes.items c.args.p c.requires.at.levels.kept c.index-2.ensures)
+top-requires c = some-levels-at (process-at c.args.self.now c.args.p c.requires.after.numbers c.place-at.ensures c.requires.at.levels.kept c.index-2.ensures)
 
 pub unit-unit-requires : goal.unit-unit-requires
 unit-unit-requires c =
     let at = c.requires.at in
-    let it = process-at c.args.self.now.processes.items c.args.p at.levels.kept c.index-2.ensures in
+    let it = process-at c.args.self.now c.args.p c.requires.after.numbers c.place-at.ensures at.levels.kept c.index-2.ensures in
     subst (λ (l : Local). l.unit < length c.args.image.now) (sym (c.top.ensures at.levels.level at.levels.below at.levels.operands at.levels.pending it.stack)) (inside at.holds.1.turning)
 
 -- ---- the lowest activation goes on
@@ -53,17 +53,17 @@ returns-then-len-eq1-clause-turned c =
     let old = c.args.self.now in
     let t = turn_of at in
     let q = c.index_mut.result.now in
-    let it = process-at old.processes.items p at.levels.kept c.index_mut.ensures.value in
-    let seen = process-at old.processes.items p at.levels.kept c.index.ensures in
+    let it = process-at old p c.requires.after.numbers c.place-at.ensures at.levels.kept c.index_mut.ensures.value in
+    let seen = process-at old p c.requires.after.numbers c.place-at.ensures at.levels.kept c.index.ensures in
     let many : c.len.result ≡ length (reverse t.below) + 1 = counted c.index.result.now t.level t.below t.operands t.pending seen.stack c.len.result c.len.ensures in
     let lowest = none-by t.below c.len.result many c.if-len-eq1.true in
     let made = c.resumes_are_shown.ensures.lowest t c.args.next c.is_runnable.ensures.accepted c.is_runnable.ensures.main at.holds lowest in
     let moved = c.stand_at.ensures.stack t.level t.below t.operands t.pending it.stack in
-    let stacks = stacks-set old.processes.items p c.stand_at.new.self (stack_with (record t.level { index = c.args.next }) t.below t.operands t.pending) moved in
-    let shown : snapshot_of (record old { processes = with_item old.processes (p - 1) c.stand_at.new.self }) ≡ snapshot_moved t t.machine.arena.contents t.operands c.args.next = λ i. record (snapshot_of old) { processes = stacks i } in
+    let stacks = stacks-set old p c.stand_at.new.self (stack_with (record t.level { index = c.args.next }) t.below t.operands t.pending) h.numbers it c.stand_at.ensures.number moved in
+    let shown : snapshot_of (record old { processes = with_item old.processes c.place-at.result c.stand_at.new.self }) ≡ snapshot_moved t t.machine.arena.contents t.operands c.args.next = λ i. record (snapshot_of old) { processes = stacks i } in
     turned-so program cells choices p _ (c.resumes_are_shown.ensures.nothing t c.args.next c.is_runnable.ensures.accepted c.is_runnable.ensures.main at.holds)
     (subst (HasStepped program cells choices p) (sym shown) made)
-    (rooms-set program cells old _ (p - 1) c.stand_at.new.self refl refl (room-moved program q c.stand_at.new.self t.level c.args.next t.below t.operands t.operands t.pending it.stack moved (omega (arith, ap vec_capacity c.stand_at.ensures.operands)) (h.room (p - 1) q it.there)) (rooms-of program cells choices old h))
+    (rooms-set program cells old _ c.stand_at.new.self it c.stand_at.ensures.number refl refl refl (room-moved program q c.stand_at.new.self t.level c.args.next t.below t.operands t.operands t.pending it.stack moved (omega (arith, ap vec_capacity c.stand_at.ensures.operands)) (h.room c.place-at.result q it.there)) (rooms-of program cells choices old h))
 
 -- ---- another one is a process of its own
 
@@ -72,6 +72,23 @@ returns-in_err-process-clause-refused c =
     let r = c.from_residual-in_err-process in
     let same = c.reserve_process.ensures.same in
     on-err r.result r.ensures.0 (alone c.args.image.now c.args.history.now.items c.args.self.now c.reserve_process.new.self same.shown (same.rooms c.args.image.now (cells_of c.args.self.now)) c.requires.after)
+
+pub reserve_process-requires : goal.reserve_process-requires
+reserve_process-requires c = record { numbers = c.requires.after.numbers; few = c.requires.numerable }
+
+pub part-requires : goal.part-requires
+part-requires c =
+    let same = c.reserve_process.ensures.same in
+    let made = c.in_ok-process.ensures.made in
+    let levels = c.requires.at.levels in
+    record {
+      levels = record { level = levels.level; below = levels.below; operands = levels.operands; pending = levels.pending; kept = ap (λ (s : Snapshot). numbered s.processes c.args.p) same.shown ∙ levels.kept };
+      empty = made.empty;
+      level = made.level;
+      process = c.in_ok-process.ensures.process.process;
+      next = made.number_is ∙ sym (ap (λ n. n + 1) same.made);
+      numbers = (same.rooms c.args.image.now (cells_of c.args.self.now) (rooms-of c.args.image.now (cells_of c.args.self.now) (schedule_of c.args.history.now.items) c.args.self.now c.requires.after)).numbers;
+    }
 
 pub returns-clause-turned : goal.returns-clause-turned
 returns-clause-turned c =
@@ -84,8 +101,8 @@ returns-clause-turned c =
     let old = c.args.self.now in
     let new = c.reserve_process.new.self in
     let t = turn_of at in
-    let it = process-at old.processes.items p at.levels.kept c.index-2.ensures in
-    let seen = process-at old.processes.items p at.levels.kept c.index.ensures in
+    let it = process-at old p c.requires.after.numbers c.place-at.ensures at.levels.kept c.index-2.ensures in
+    let seen = process-at old p c.requires.after.numbers c.place-at.ensures at.levels.kept c.index.ensures in
     let many : c.len.result ≡ length (reverse t.below) + 1 = counted c.index.result.now t.level t.below t.operands t.pending seen.stack c.len.result c.len.ensures in
     let above = some-by t.below c.len.result many c.if-len-eq1.false in
     let shown : snapshot_of new ≡ snapshot_of old = c.reserve_process.ensures.same.shown in

@@ -1,10 +1,11 @@
-use Rattle.std.proofs.Common.{◌≡◌, ◌≤◌, ◌<◌, ◌+◌, ◌^◌, ℕ, List, None, length, arith, sym, ◌∙◌, subst}
+use Rattle.std.proofs.Common.{◌≡◌, ◌≤◌, ℕ, List, None, arith, refl, sym, ap, ◌∙◌, subst}
 use Rattle.std.proofs.lemmas.Result.{IfErr-weaker, IfOk-weaker, on_err_weaker}
 use Rattle.hep_machine.specs.Words.{schedule_of}
+use Rattle.hep_blocked.specs.Rolls.{Roll}
 use Rattle.hep_state.specs.declared.machine.Machine.{Machine}
 use Rattle.hep_state.specs.declared.turn.Turned.{Turned}
 use Rattle.hep_state.specs.declared.turn.Turned.TheVariants.{Stepped}
-use Rattle.hep_state.specs.Words.{HasCallAhead, HasPurgeAhead, HasResumeAhead, HasTurned, IsMachineAfter, IsSeenSame, IsTurn, IsUntaken, IsUnturned, Snapshot, cells_of, snapshot_of, turn_of}
+use Rattle.hep_state.specs.Words.{HasCallAhead, HasPurgeAhead, HasResumeAhead, HasTurned, IsMachineAfter, IsSeenSame, IsTurn, IsUntaken, IsUnturned, KeepsRollFor, Snapshot, cells_of, snapshot_of, turn_of}
 use Rattle.hep_state.proofs.Unchanged.{alone-after, as-large, machine-written, on-err, own-size, seen-again, seen-shown, shown-written, without-memory, as-many}
 use Rattle.hep_state.proofs.machine.Machine.turn.Goals.{After-reserve, After-step_ahead}
 use Rattle.hep_state.proofs.machine.Machine.turn.Goals as goal
@@ -48,6 +49,7 @@ take_call-requires c =
       after = own-size c.args.image.now (cells before) (choices before) (between before) (looked before);
       at = subst (λ n. HasCallAhead c.args.image.now n (choices before) c.args.p (snapshot_of (between before)) c.in-Call.call) (sym (large before)) (c.in-Call.ensures.ahead (cells before) (choices before) c.requires.after);
       countable = omega (arith, same.activations, c.requires.countable);
+      numerable = omega (arith, as-many c.args.self.now (between before) same, c.requires.numerable);
       numbers = omega (arith, as-many c.args.self.now (between before) same, c.requires.numbers);
     }
 
@@ -126,7 +128,7 @@ returns-in_err-reserve-in-Purge-clause-unturned c =
 pub returns-in_err-reserve-in-Purge-clause-refused : goal.returns-in_err-reserve-in-Purge-clause-refused
 returns-in_err-reserve-in-Purge-clause-refused c =
     let before = (goal.at.returns-in_err-reserve-in-Purge-clause-refused c).After-reserve in
-    on-err c.from_residual.result c.from_residual.ensures.0 (record { after = reserved before; same = reserved-same before; processes = as-many c.args.self.now c.reserve.new.self (reserved-same before) })
+    on-err c.from_residual.result c.from_residual.ensures.0 (record { after = reserved before; same = reserved-same before; made = as-many c.args.self.now c.reserve.new.self (reserved-same before) })
 
 pub returns-in_ok-reserve-in-Purge-clause-turned : goal.returns-in_ok-reserve-in-Purge-clause-turned
 returns-in_ok-reserve-in-Purge-clause-turned c =
@@ -141,6 +143,7 @@ take_resume-requires c =
     record {
       after = own-size c.args.image.now (cells before) (choices before) (between before) (looked before);
       at = subst (λ n. HasResumeAhead c.args.image.now n (choices before) c.args.p (snapshot_of (between before)) c.in-Resume.next) (sym (large before)) (c.in-Resume.ensures.ahead (cells before) (choices before) c.requires.after);
+      numerable = omega (arith, as-many c.args.self.now (between before) c.in-Resume.ensures.same, c.requires.numerable);
       numbers = omega (arith, as-many c.args.self.now (between before) c.in-Resume.ensures.same, c.requires.numbers);
     }
 
@@ -159,3 +162,24 @@ returns-in_err-take_resume-in-Resume-clause-refused c =
 pub returns-in_ok-take_resume-in-Resume-clause-turned : goal.returns-in_ok-take_resume-in-Resume-clause-turned
 returns-in_ok-take_resume-in-Resume-clause-turned c =
     turned (goal.at.returns-in_ok-take_resume-in-Resume-clause-turned c).After-step_ahead (Stepped None) c.take_resume.new.self c.in_ok-take_resume-in-Resume.ensures.turned
+
+-- ---- who is ready and who waits stays, where no process is made
+
+kept-for : (m : Machine) (roster : Roll) → m.made ≤ roster.room → KeepsRollFor m roster roster
+kept-for m roster room = record { numbers = room; kept = record { grows = omega arith; ready = λ q. refl; waiting = λ q. refl; last = refl } }
+
+pub returns-in_err-reserve-in-Purge-clause-roster : goal.returns-in_err-reserve-in-Purge-clause-roster
+returns-in_err-reserve-in-Purge-clause-roster c =
+    kept-for c.reserve.new.self c.args.roster.now (omega (arith, c.requires.numbers, as-many c.args.self.now c.step_ahead.new.self c.in-Purge.ensures.same, ap (λ (m : Machine). m.made) c.reserve.ensures.others))
+
+pub returns-in_ok-reserve-in-Purge-clause-roster : goal.returns-in_ok-reserve-in-Purge-clause-roster
+returns-in_ok-reserve-in-Purge-clause-roster c =
+    kept-for c.purge.new.self c.args.roster.now (omega (arith, c.requires.numbers, as-many c.args.self.now c.step_ahead.new.self c.in-Purge.ensures.same, ap (λ (m : Machine). m.made) c.reserve.ensures.others, c.purge.ensures.made))
+
+pub returns-in_err-take_operation-in-Other-clause-roster : goal.returns-in_err-take_operation-in-Other-clause-roster
+returns-in_err-take_operation-in-Other-clause-roster c =
+    kept-for c.take_operation.new.self c.args.roster.now (omega (arith, c.requires.numbers, as-many c.args.self.now c.step_ahead.new.self c.in-Other.ensures.same, c.take_operation.ensures.made))
+
+pub returns-in_ok-take_operation-in-Other-clause-roster : goal.returns-in_ok-take_operation-in-Other-clause-roster
+returns-in_ok-take_operation-in-Other-clause-roster c =
+    kept-for c.take_operation.new.self c.args.roster.now (omega (arith, c.requires.numbers, as-many c.args.self.now c.step_ahead.new.self c.in-Other.ensures.same, c.take_operation.ensures.made))

@@ -1,0 +1,5 @@
+pub mod Values
+pub mod Lines
+pub mod Deeds
+pub mod Cells
+pub mod Traces
