@@ -1,4 +1,5 @@
 pub mod Gathering
-mod Placing
+mod Behind
 pub mod Sums
 mod Worked
+mod Judged

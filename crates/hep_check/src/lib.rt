@@ -7,6 +7,7 @@
 pub mod checked;
 mod frames;
 pub mod further;
+pub mod laws;
 mod listing;
 mod program;
 mod resuming;

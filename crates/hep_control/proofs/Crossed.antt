@@ -1,5 +1,5 @@
 -- Ranges of one variable, one in another; and what isn't nested, in four parts, by three passes over events and one over ranges: 307.
-use Rattle.std.proofs.Common.{◌≡◌, ℕ, suc, ◌<◌, ◌≤◌, Bool, true, false, ◌&&◌, ◌||◌, nat_lt, nat_le, cond, if◌then◌else◌, List, [], ◌∷◌, ◌++◌, Option, Some, None, refl, ◌∙◌, sym, ap, arith, map, reverse, le-ltb, lt-ltb}
+use Rattle.std.proofs.Common.{◌≡◌, ℕ, suc, ◌<◌, ◌≤◌, Bool, true, false, ◌&&◌, ◌||◌, nat_lt, nat_le, cond, if◌then◌else◌, List, [], ◌∷◌, ◌++◌, Option, Some, None, refl, ◌∙◌, sym, ap, arith, map, reverse, option_to_list, append_assoc, le-ltb, lt-ltb}
 use Rattle.std.specs.List.{flat_map, list_any}
 use Rattle.std.proofs.lemmas.Bool.Decides.{nat_tests}
 use Rattle.hep_machine.specs.Words.{Name, Form, Statement, name_eq, same_name, line_at, index_labelled}
@@ -8,17 +8,18 @@ use Rattle.hep_source.proofs.NameTests.{equal_names, name_eq-is}
 use Rattle.hep_conditions.specs.Words.{indexed_from, is_unconditional, range_to, range_by, ranges_of, shares_variable, block_ifs_of, ranges_cross, range_pair, leaves_range, leaves_block, crossing, nesting_violations, is_between, ends_after, end_between, least_line, line_when, least_line_of, reported, first_of, when, at_line}
 use Rattle.hep_conditions.proofs.Lines.{least_line-assoc, reported-append, reported-when, reported-of, least_line-or, least_line_of-same, least_line_of-both, least_line_of-any, least_line_of-turned}
 use Rattle.hep_control.specs.Ranges.{range_at, block_if, do_range}
-use Rattle.hep_control.specs.Crossing.{later, with_range, reaches, least_shared, value_of_range, question_of_range, question_of_block, BlockEnd, ends_from, ends_in, value_of_end, values_in, question_in_range}
+use Rattle.hep_control.specs.Crossing.{later, with_range, reaches, least_shared, lines_shared, value_of_range, question_of_range, question_of_block, BlockEnd, ends_from, ends_in, value_of_end, values_in, question_in_range}
 use Rattle.hep_source.proofs.Tests.{and-false, and-true, or-assoc, or-false, or-turned, any-or, and-assoc, any-flat}
 use Rattle.std.specs.Option.{unwrap_or}
 use Rattle.std.proofs.lemmas.List.{map-append}
+use Rattle.std.proofs.lemmas.List.Folds.{list_any-append}
 use Rattle.hep_conditions.specs.Nesting as nesting
 use Rattle.hep_control.specs.declared.blocks.BlockIf.{BlockIf}
 use Rattle.hep_control.specs.declared.region.DoRange.{DoRange}
-use Rattle.hep_control.specs.Sweep.{is_within, least_met}
-use Rattle.hep_control.proofs.Sets.{any-same, any-map, least_line_of-reverse, any-reverse}
+use Rattle.hep_control.specs.Sweep.{is_within, least_met, lines_asked}
+use Rattle.hep_control.proofs.Sets.{and-split, any-and, any-line, any-same, any-map, any-turned, any-when, least_line_of-reverse, line_passes, any-reverse}
 use Rattle.hep_control.proofs.Leaps.{least_line_of-map}
-use Rattle.hep_control.proofs.Swept.{met-asked}
+use Rattle.hep_control.proofs.Swept.{lines-asked, met-asked}
 
 -- ---- the pass
 
@@ -158,6 +159,29 @@ module _ (unit : List Statement) (all : List nesting.DoRange) where
       ∙ ap (least_line (in_another r))
       (shared-pass (suc r.start) (r ∷ met) ahead (omega arith, started-later n (suc r.start) met (omega (arith, a.0)) s) a.1 (together-next met ahead all r h))
 
+-- the lines of all of them
+module _ (unit : List Statement) (all : List nesting.DoRange) (test : ℕ → Bool) where
+  abbrev passes_in_another : nesting.DoRange → Bool
+  passes_in_another b = list_any (λ a. shares_variable a b) all && test (line_at unit b.start)
+
+  lines-pass : (n : ℕ) (met ahead : List nesting.DoRange) → Started n met → Rising n ahead → Together met ahead all → list_any test (lines_shared unit (latest met) ahead) ≡ list_any passes_in_another ahead
+  lines-pass n met [] s a h = refl
+  lines-pass n met (r ∷ ahead) s a h =
+      let is_in_one = reaches (latest met r.variable) r.start in
+      let here = any-line test is_in_one (line_at unit r.start) ∙ ap (λ b. b && test (line_at unit r.start)) (shares-here met ahead all r (started-later n r.start met a.0 s) a.1 h) in
+      let more =
+      lines-pass (suc r.start) (r ∷ met) ahead (omega arith, started-later n (suc r.start) met (omega (arith, a.0)) s) a.1 (together-next met ahead all r h) in
+      list_any-append test (option_to_list (line_when is_in_one (line_at unit r.start))) (lines_shared unit (latest (r ∷ met)) ahead) ∙ (λ i. here i || more i)
+
+-- one range more
+pub lines-shared-next : (unit : List Statement) (last new : Name → Option ℕ) (found next whole : List ℕ) (r : nesting.DoRange) (rs xs : List nesting.DoRange) → ((x : Name) → new x ≡ with_range last r x)
+    → xs ≡ r ∷ rs → found ++ lines_shared unit last xs ≡ whole → next ≡ found ++ option_to_list (line_when (reaches (last r.variable) r.start) (line_at unit r.start))
+    → next ++ lines_shared unit new rs ≡ whole
+lines-shared-next unit last new found next whole r rs xs h d k n =
+    let here = option_to_list (line_when (reaches (last r.variable) r.start) (line_at unit r.start)) in
+    (λ i. n i ++ lines_shared unit (λ x. h x i) rs)
+    ∙ (append_assoc found here (lines_shared unit (with_range last r) rs) ∙ (ap (λ ys. found ++ lines_shared unit last ys) (sym d) ∙ k))
+
 pub least-shared : (unit : List Statement)
     → least_shared unit (λ x. None) (ranges_of unit) ≡ least_line_of (λ b. line_when (list_any (λ a. shares_variable a b) (ranges_of unit)) (line_at unit b.start)) (ranges_of unit)
 least-shared unit = shared-pass unit (ranges_of unit) 0 [] (ranges_of unit) tt (rising unit) (λ test. refl)
@@ -247,6 +271,87 @@ module _ (unit : List Statement) where
       ∙ (ap (λ o. least_line o (least_line (least_line_of out_of_range rs) (least_line_of out_of_block rs))) all_pairs
       ∙ (ap (λ o. least_line (least_line (least_line_of crossed rs) (least_line_of shared rs)) (least_line o (least_line_of out_of_block rs))) all_out_of_range
       ∙ ap (λ o. least_line (least_line (least_line_of crossed rs) (least_line_of shared rs)) (least_line (least_line_of left_by_block bs) o)) all_out_of_block))))
+
+-- ---- what isn't nested, as a test of a line sees it
+
+module _ (unit : List Statement) (test : ℕ → Bool) where
+  abbrev doings : List nesting.DoRange
+  doings = ranges_of unit
+
+  abbrev blocks : List nesting.BlockIf
+  blocks = (block_ifs_of unit).closed
+
+  abbrev range_test : nesting.DoRange → Bool
+  range_test r = test (line_at unit r.start)
+
+  abbrev block_test : nesting.BlockIf → Bool
+  block_test b = test (line_at unit b.start)
+
+  abbrev pub crossed_passes : nesting.DoRange → Bool
+  crossed_passes b = list_any (λ a. ranges_cross a b) doings && range_test b
+
+  abbrev pub shared_passes : nesting.DoRange → Bool
+  shared_passes b = list_any (λ a. shares_variable a b) doings && range_test b
+
+  abbrev pub block_passes : nesting.BlockIf → Bool
+  block_passes b = list_any (λ a. leaves_range a b) doings && block_test b
+
+  abbrev pub range_passes : nesting.DoRange → Bool
+  range_passes a = list_any (leaves_block a) blocks && range_test a
+
+  abbrev pair_passes : nesting.DoRange → nesting.DoRange → Bool
+  pair_passes a b = (ranges_cross a b || shares_variable a b) && range_test b
+
+  two_pass : (b : nesting.DoRange) → list_any (λ a. pair_passes a b) doings ≡ (crossed_passes b || shared_passes b)
+  two_pass b =
+      any-and (λ a. ranges_cross a b || shares_variable a b) (range_test b) doings
+      ∙ (ap (λ c. c && range_test b) (any-or (λ a. ranges_cross a b) (λ a. shares_variable a b) doings)
+      ∙ sym (and-split (list_any (λ a. ranges_cross a b) doings) (list_any (λ a. shares_variable a b) doings) (range_test b)))
+
+  pairs_of : (a : nesting.DoRange) → list_any (line_passes test) (flat_map (range_pair unit a) doings) ≡ list_any (pair_passes a) doings
+  pairs_of a =
+      any-flat (line_passes test) (range_pair unit a) doings
+      ∙ any-same (λ b. list_any (line_passes test) (range_pair unit a b)) (pair_passes a) (λ b. any-when test 307 (line_at unit b.start) (ranges_cross a b || shares_variable a b)) doings
+
+  pairs_pass : list_any (λ a. list_any (line_passes test) (flat_map (range_pair unit a) doings)) doings ≡ (list_any crossed_passes doings || list_any shared_passes doings)
+  pairs_pass =
+      any-same (λ a. list_any (line_passes test) (flat_map (range_pair unit a) doings)) (λ a. list_any (pair_passes a) doings) pairs_of doings
+      ∙ (any-turned pair_passes doings doings
+      ∙ (any-same (λ b. list_any (λ a. pair_passes a b) doings) (λ b. crossed_passes b || shared_passes b) two_pass doings
+      ∙ any-or crossed_passes shared_passes doings))
+
+  abbrev leaves_passes : nesting.DoRange → nesting.BlockIf → Bool
+  leaves_passes a b = leaves_range a b && block_test b
+
+  crossing_passes : (a : nesting.DoRange) (b : nesting.BlockIf) → list_any (line_passes test) (crossing unit a b) ≡ (leaves_passes a b || (leaves_block a b && range_test a))
+  crossing_passes a b =
+      list_any-append (line_passes test) (when (leaves_range a b) (at_line 307 (line_at unit b.start))) (when (leaves_block a b) (at_line 307 (line_at unit a.start)))
+      ∙ (λ i. any-when test 307 (line_at unit b.start) (leaves_range a b) i || any-when test 307 (line_at unit a.start) (leaves_block a b) i)
+
+  out_of : (a : nesting.DoRange) → list_any (line_passes test) (flat_map (crossing unit a) blocks) ≡ (list_any (leaves_passes a) blocks || range_passes a)
+  out_of a =
+      any-flat (line_passes test) (crossing unit a) blocks
+      ∙ (any-same (λ b. list_any (line_passes test) (crossing unit a b)) (λ b. leaves_passes a b || (leaves_block a b && range_test a)) (crossing_passes a) blocks
+      ∙ (any-or (leaves_passes a) (λ b. leaves_block a b && range_test a) blocks
+      ∙ ap (λ c. list_any (leaves_passes a) blocks || c) (any-and (leaves_block a) (range_test a) blocks)))
+
+  out_pass : list_any (λ a. list_any (line_passes test) (flat_map (crossing unit a) blocks)) doings ≡ (list_any block_passes blocks || list_any range_passes doings)
+  out_pass =
+      any-same (λ a. list_any (line_passes test) (flat_map (crossing unit a) blocks)) (λ a. list_any (leaves_passes a) blocks || range_passes a) out_of doings
+      ∙ (any-or (λ a. list_any (leaves_passes a) blocks) range_passes doings
+      ∙ ap (λ c. c || list_any range_passes doings)
+      (any-turned leaves_passes doings blocks
+      ∙ any-same (λ b. list_any (λ a. leaves_passes a b) doings) block_passes (λ b. any-and (λ a. leaves_range a b) (block_test b) doings) blocks))
+
+  pub nesting-passes : list_any (line_passes test) (nesting_violations unit)
+      ≡ ((list_any crossed_passes doings || list_any shared_passes doings) || (list_any block_passes blocks || list_any range_passes doings))
+  nesting-passes =
+      any-flat (line_passes test) (λ (a : nesting.DoRange). flat_map (range_pair unit a) doings ++ flat_map (crossing unit a) blocks) doings
+      ∙ (any-same (λ a. list_any (line_passes test) (flat_map (range_pair unit a) doings ++ flat_map (crossing unit a) blocks))
+      (λ a. list_any (line_passes test) (flat_map (range_pair unit a) doings) || list_any (line_passes test) (flat_map (crossing unit a) blocks))
+      (λ a. list_any-append (line_passes test) (flat_map (range_pair unit a) doings) (flat_map (crossing unit a) blocks)) doings
+      ∙ (any-or (λ a. list_any (line_passes test) (flat_map (range_pair unit a) doings)) (λ a. list_any (line_passes test) (flat_map (crossing unit a) blocks)) doings
+      ∙ (λ i. pairs_pass i || out_pass i)))
 
 -- ---- block IFs that leave a range
 
@@ -344,3 +449,60 @@ module _ (unit : List Statement) (rs : List DoRange) (cs : List BlockIf) (ranges
       let cd = ap (λ o. least_line o d) (ce ∙ met-left_by_block) ∙ ap (least_line (least_line_of (left_by_block unit) (block_ifs_of unit).closed)) (de ∙ met-left_by_range) in
       ap (λ o. reported 307 (least_line o (least_line c d))) ab
       ∙ (ap (λ o. reported 307 (least_line (least_line (least_line_of (crossed unit) (ranges_of unit)) (least_line_of (shared unit) (ranges_of unit))) o)) cd ∙ sym (reported-nesting unit))
+
+  -- ---- all lines
+
+  module _ (test : ℕ → Bool) where
+    lines-crossed : list_any test (lines_asked (map value_of_range rs ++ map (question_of_range unit) rs)) ≡ list_any (crossed_passes unit test) (ranges_of unit)
+    lines-crossed =
+        lines-asked (λ (r : DoRange). r.start) (λ (r : DoRange). r.terminal) (λ (r : DoRange). r.start) (λ (r : DoRange). r.start) (λ (r : DoRange). r.terminal) (λ (r : DoRange). line_at unit r.start) test rs rs
+        ∙ (any-same (λ (b : DoRange). list_any (λ (a : DoRange). ranges_cross (do_range a) (do_range b)) rs && test (line_at unit b.start)) (λ b. crossed_passes unit test (do_range b))
+        (λ b. ap (λ t. t && test (line_at unit b.start)) (any-ranges (λ a. ranges_cross a (do_range b)))) rs
+        ∙ any-ranges (crossed_passes unit test))
+
+    lines-left_by_block : list_any test (lines_asked (map value_of_range rs ++ map (question_of_block unit) cs)) ≡ list_any (block_passes unit test) (block_ifs_of unit).closed
+    lines-left_by_block =
+        lines-asked (λ (r : DoRange). r.start) (λ (r : DoRange). r.terminal) (λ (b : BlockIf). b.start) (λ (b : BlockIf). b.start) (λ (b : BlockIf). unwrap_or b.end 0) (λ (b : BlockIf). line_at unit b.start) test rs cs
+        ∙ (any-same
+        (λ (b : BlockIf). list_any (λ (a : DoRange). nat_lt a.start b.start && (nat_le b.start a.terminal && nat_lt a.terminal (unwrap_or b.end 0))) rs && test (line_at unit b.start))
+        (λ b. block_passes unit test (block_if b))
+        (λ b. ap (λ t. t && test (line_at unit b.start))
+        (any-same (λ (a : DoRange). nat_lt a.start b.start && (nat_le b.start a.terminal && nat_lt a.terminal (unwrap_or b.end 0))) (λ a. leaves_range (do_range a) (block_if b)) (λ a. one-leaves_range a b) rs
+        ∙ any-ranges (λ a. leaves_range a (block_if b)))) cs
+        ∙ any-blocks (block_passes unit test))
+
+    lines-left_by_range : list_any test (lines_asked (flat_map values_in cs ++ map (question_in_range unit) rs)) ≡ list_any (range_passes unit test) (ranges_of unit)
+    lines-left_by_range =
+        ap (λ es. list_any test (lines_asked (es ++ map (question_in_range unit) rs))) (values_in-all cs)
+        ∙ (lines-asked (λ (e : BlockEnd). e.start) (λ (e : BlockEnd). e.end) (λ (r : DoRange). r.start) (λ (r : DoRange). suc r.start) (λ (r : DoRange). suc r.terminal) (λ (r : DoRange). line_at unit r.start) test (flat_map ends_in cs) rs
+        ∙ (any-same (λ (r : DoRange). list_any (answers r) (flat_map ends_in cs) && test (line_at unit r.start)) (λ r. range_passes unit test (do_range r))
+        (λ r. ap (λ t. t && test (line_at unit r.start))
+        (any-flat (answers r) ends_in cs
+        ∙ (any-same (λ b. list_any (answers r) (ends_in b)) (λ b. leaves_block (do_range r) (block_if b)) (one-leaves_block r) cs
+        ∙ any-blocks (leaves_block (do_range r))))) rs
+        ∙ any-ranges (range_passes unit test)))
+
+    lines-in_another : list_any test (lines_shared unit (λ x. None) (map do_range rs)) ≡ list_any (shared_passes unit test) (ranges_of unit)
+    lines-in_another =
+        ap (λ ds. list_any test (lines_shared unit (λ x. None) ds)) ranges
+        ∙ lines-pass unit (ranges_of unit) test 0 [] (ranges_of unit) tt (rising unit) (λ t. refl)
+
+    regrouped : (o c s b r : Bool) → ((((o || c) || s) || b) || r) ≡ (o || ((c || s) || (b || r)))
+    regrouped o c s b r =
+        or-assoc ((o || c) || s) b r ∙ (or-assoc (o || c) s (b || r) ∙ (or-assoc o c (s || (b || r)) ∙ ap (λ t. o || t) (sym (or-assoc c s (b || r)))))
+
+    pub crossing-told : (old a b c d : List ℕ) → list_any test a ≡ (list_any test old || list_any test (lines_asked (map value_of_range rs ++ map (question_of_range unit) rs)))
+        → b ≡ a ++ lines_shared unit (λ x. None) (map do_range rs)
+        → list_any test c ≡ (list_any test b || list_any test (lines_asked (map value_of_range rs ++ map (question_of_block unit) cs)))
+        → list_any test d ≡ (list_any test c || list_any test (lines_asked (flat_map values_in cs ++ map (question_in_range unit) rs)))
+        → list_any test d ≡ (list_any test old || list_any (line_passes test) (nesting_violations unit))
+    crossing-told old a b c d ae be ce de =
+        let first : list_any test a ≡ (list_any test old || list_any (crossed_passes unit test) (ranges_of unit)) = ae ∙ ap (λ t. list_any test old || t) lines-crossed in
+        let second : list_any test b ≡ (list_any test a || list_any (shared_passes unit test) (ranges_of unit)) =
+        ap (list_any test) be ∙ (list_any-append test a (lines_shared unit (λ x. None) (map do_range rs)) ∙ ap (λ t. list_any test a || t) lines-in_another) in
+        let third : list_any test c ≡ (list_any test b || list_any (block_passes unit test) (block_ifs_of unit).closed) = ce ∙ ap (λ t. list_any test b || t) lines-left_by_block in
+        let fourth : list_any test d ≡ (list_any test c || list_any (range_passes unit test) (ranges_of unit)) = de ∙ ap (λ t. list_any test c || t) lines-left_by_range in
+        (λ i. (fourth ∙ (λ j. (third ∙ (λ k. (second ∙ (λ l. first l || list_any (shared_passes unit test) (ranges_of unit))) k || list_any (block_passes unit test) (block_ifs_of unit).closed)) j || list_any (range_passes unit test) (ranges_of unit))) i)
+        ∙ (regrouped (list_any test old) (list_any (crossed_passes unit test) (ranges_of unit)) (list_any (shared_passes unit test) (ranges_of unit)) (list_any (block_passes unit test) (block_ifs_of unit).closed)
+        (list_any (range_passes unit test) (ranges_of unit))
+        ∙ ap (λ t. list_any test old || t) (sym (nesting-passes unit test)))

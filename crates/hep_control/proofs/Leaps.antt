@@ -1,5 +1,5 @@
 -- The regions of a unit in another order, and what is reported of jumps: 308.
-use Rattle.std.proofs.Common.{◌≡◌, ℕ, Bool, ◌||◌, List, [], ◌∷◌, ◌++◌, map, reverse, Option, Some, None, refl, ◌∙◌, sym, ap, suc, ◌-◌, ◌≤◌, not, ◌&&◌, nat_lt, arith}
+use Rattle.std.proofs.Common.{◌≡◌, ℕ, Bool, ◌||◌, List, [], ◌∷◌, ◌++◌, map, reverse, Option, Some, None, refl, ◌∙◌, sym, ap, suc, ◌-◌, ◌≤◌, not, ◌&&◌, nat_lt, option_to_list, arith}
 use Rattle.std.proofs.lemmas.List.{reverse-append}
 use Rattle.std.specs.List.{flat_map, list_any}
 use Rattle.std.proofs.lemmas.List.Folds.{list_any-append}
@@ -9,15 +9,15 @@ use Rattle.hep_conditions.specs.Words.{regions_before, regions_to_last, block_re
 use Rattle.hep_control.specs.declared.blocks.BlockIf.{BlockIf}
 use Rattle.hep_control.specs.Ranges.{block_if}
 use Rattle.hep_control.specs.Jumps.{blocks_from, blocks_in, region, Leap, leap, leap_to, leaps_at, leaps_of, value_by_start, question_by_start, value_by_end, question_by_end, line_to_division}
-use Rattle.hep_control.proofs.Sets.{or-comm, any-same, any-map, any-reverse}
+use Rattle.hep_control.proofs.Sets.{and-split, any-line, any-when, line_passes, or-comm, any-same, any-map, any-reverse}
 use Rattle.hep_source.proofs.Tests.{or-false, or-assoc, any-flat, any-or}
 use Rattle.std.below.core.specs.declared.int.usize.TheConstants.{MAX}
 use Rattle.std.proofs.lemmas.Bool.Decides.{nat_tests}
 use Rattle.hep_conditions.proofs.Lines.{reported-append, reported-when, least_line_of-append, least_line_of-same, least_line_of-both, least_line-or, least_line-none}
 use Rattle.hep_control.specs.declared.region.Region.{Region}
 use Rattle.hep_control.specs.declared.region.Jump.{Jump}
-use Rattle.hep_control.specs.Sweep.{is_within, least_met}
-use Rattle.hep_control.proofs.Swept.{met-asked}
+use Rattle.hep_control.specs.Sweep.{is_within, least_met, lines_asked}
+use Rattle.hep_control.proofs.Swept.{lines-asked, met-asked}
 
 -- ---- regions in another order
 
@@ -98,6 +98,33 @@ module _ (unit : List Statement) where
       (λ l. reported-jump p (index_labelled unit l)) (targets_of_jump p.statement.form))
       (indexed_statements unit)
 
+  -- the same, as a test of a line sees it
+  module _ (test : ℕ → Bool) where
+    abbrev pub wrong_passes : Leap → Bool
+    wrong_passes j = is_wrong_jump unit j.from j.to && test j.line
+
+    jump-passes : (p : IndexedStatement) (o : Option ℕ) → list_any (line_passes test) (jump_to unit p o) ≡ list_any wrong_passes (leap_to p.index p.statement.line o)
+    jump-passes p None = refl
+    jump-passes p (Some to) =
+        any-when test 308 p.statement.line (is_wrong_jump unit p.index to) ∙ sym (or-false (is_wrong_jump unit p.index to && test p.statement.line))
+
+    abbrev jumps_at : IndexedStatement → Violations
+    jumps_at p = flat_map (λ l. jump_to unit p (index_labelled unit l)) (targets_of_jump p.statement.form)
+
+    jumps-at : (p : IndexedStatement) → list_any (line_passes test) (jumps_at p) ≡ list_any wrong_passes (leaps_at unit p)
+    jumps-at p =
+        let labels = targets_of_jump p.statement.form in
+        any-flat (line_passes test) (λ l. jump_to unit p (index_labelled unit l)) labels
+        ∙ (any-same (λ l. list_any (line_passes test) (jump_to unit p (index_labelled unit l))) (λ l. list_any wrong_passes (leap_to p.index p.statement.line (index_labelled unit l)))
+        (λ l. jump-passes p (index_labelled unit l)) labels
+        ∙ sym (any-flat wrong_passes (λ l. leap_to p.index p.statement.line (index_labelled unit l)) labels))
+
+    pub jumps-pass : list_any (line_passes test) (jump_violations unit) ≡ list_any wrong_passes (leaps_of unit)
+    jumps-pass =
+        any-flat (line_passes test) jumps_at (indexed_statements unit)
+        ∙ (any-same (λ p. list_any (line_passes test) (jumps_at p)) (λ p. list_any wrong_passes (leaps_at unit p)) jumps-at (indexed_statements unit)
+        ∙ sym (any-flat wrong_passes (leaps_at unit) (indexed_statements unit)))
+
 -- ---- the regions that a jump leads into
 
 abbrev pub enters_late : Jump → Region → Bool
@@ -162,3 +189,54 @@ module _ (unit : List Statement) (rs : List Region) (js : List Jump)
       ∙ ap (λ o. least_line o (least_line_of (line_to_division unit) js))
       (least_line_of-both late early js
       ∙ (ap (λ o. least_line o (least_line_of early js)) (sym late-met) ∙ ap (least_line (least_met (map value_by_start rs ++ map question_by_start js))) (sym early-met)))))))
+
+  -- ---- all lines
+
+  module _ (test : ℕ → Bool) where
+    abbrev late_passes : Jump → Bool
+    late_passes j = list_any (enters_late j) rs && test j.line
+
+    abbrev early_passes : Jump → Bool
+    early_passes j = list_any (enters_early j) rs && test j.line
+
+    abbrev division_passes : Jump → Bool
+    division_passes j = is_division (role_of (statement_at unit j.to)) && test j.line
+
+    one_passes : (j : Jump) → wrong_passes unit test (leap j) ≡ ((late_passes j || early_passes j) || division_passes j)
+    one_passes j =
+        let division = is_division (role_of (statement_at unit j.to)) in
+        ap (λ b. (b || division) && test j.line) (sym (regions (enters j.from j.to)) ∙ any-enters j rs)
+        ∙ (sym (and-split (list_any (enters_late j) rs || list_any (enters_early j) rs) division (test j.line))
+        ∙ ap (λ b. b || (division && test j.line)) (sym (and-split (list_any (enters_late j) rs) (list_any (enters_early j) rs) (test j.line))))
+
+    late-lines : list_any test (lines_asked (map value_by_start rs ++ map question_by_start js)) ≡ list_any late_passes js
+    late-lines = lines-asked (λ (r : Region). r.after) (λ (r : Region). r.before) (λ (j : Jump). j.to) (λ (j : Jump). suc j.to) (λ (j : Jump). suc j.from) (λ (j : Jump). j.line) test rs js
+
+    early-lines : list_any test (lines_asked (map value_by_end rs ++ map question_by_end js)) ≡ list_any early_passes js
+    early-lines = lines-asked (λ (r : Region). MAX - r.before) (λ (r : Region). r.after) (λ (j : Jump). MAX - j.to) (λ (j : Jump). j.from) (λ (j : Jump). j.to) (λ (j : Jump). j.line) test rs js
+
+    division-lines : list_any test (flat_map (λ (j : Jump). option_to_list (line_to_division unit j)) js) ≡ list_any division_passes js
+    division-lines =
+        any-flat test (λ (j : Jump). option_to_list (line_to_division unit j)) js
+        ∙ any-same (λ (j : Jump). list_any test (option_to_list (line_to_division unit j))) division_passes (λ j. any-line test (is_division (role_of (statement_at unit j.to))) j.line) js
+
+    all_passes : list_any (line_passes test) (jump_violations unit) ≡ ((list_any late_passes js || list_any early_passes js) || list_any division_passes js)
+    all_passes =
+        jumps-pass unit test
+        ∙ (ap (list_any (wrong_passes unit test)) (sym jumps)
+        ∙ (any-map (wrong_passes unit test) leap js
+        ∙ (any-same (λ j. wrong_passes unit test (leap j)) (λ j. (late_passes j || early_passes j) || division_passes j) one_passes js
+        ∙ (any-or (λ j. late_passes j || early_passes j) division_passes js
+        ∙ ap (λ b. b || list_any division_passes js) (any-or late_passes early_passes js)))))
+
+    -- three parts
+    pub jumps-told : (old a b c : List ℕ) → old ≡ [] → list_any test a ≡ (list_any test old || list_any test (lines_asked (map value_by_start rs ++ map question_by_start js)))
+        → list_any test b ≡ (list_any test a || list_any test (lines_asked (map value_by_end rs ++ map question_by_end js)))
+        → c ≡ b ++ flat_map (λ (j : Jump). option_to_list (line_to_division unit j)) js
+        → list_any test c ≡ list_any (line_passes test) (jump_violations unit)
+    jumps-told old a b c n ae be ce =
+        let first : list_any test a ≡ list_any late_passes js = ae ∙ ((λ i. list_any test (n i) || late-lines i)) in
+        let second : list_any test b ≡ (list_any late_passes js || list_any early_passes js) = be ∙ (λ i. first i || early-lines i) in
+        ap (list_any test) ce
+        ∙ (list_any-append test b (flat_map (λ (j : Jump). option_to_list (line_to_division unit j)) js)
+        ∙ ((λ i. second i || division-lines i) ∙ sym all_passes))

@@ -1,5 +1,5 @@
 -- Lists and sets, as tests of some element see them; and lists that grow at their end, or stand in another order.
-use Rattle.std.proofs.Common.{◌≡◌, ℕ, ◌≤◌, Bool, true, false, ◌||◌, is_some, List, [], ◌∷◌, map, refl, ◌∙◌, sym, ap, arith, slice_get, if◌then◌else◌, ◌+◌, ◌++◌, append_assoc, Option, Some, None, reverse}
+use Rattle.std.proofs.Common.{◌≡◌, ℕ, ◌≤◌, Bool, true, false, ◌&&◌, ◌||◌, is_some, option_to_list, List, [], ◌∷◌, map, refl, ◌∙◌, sym, ap, arith, slice_get, if◌then◌else◌, ◌+◌, ◌++◌, append_assoc, append-nil, drop, length, Option, Some, None, reverse}
 use Rattle.std.specs.List.{list_any, filter, flat_map, All}
 use Rattle.std.specs.BTreeSet.{insert_key}
 use Rattle.std.specs.Ordering.{nat_cmp, match_ordering}
@@ -8,9 +8,13 @@ use Rattle.std.specs.declared.cmp.Ordering.TheVariants.{Less, Equal, Greater}
 use Rattle.std.specs.declared.ops.Bound.TheVariants.{Included, Excluded}
 use Rattle.std.specs.BTreeMap.Range.{range_contains}
 use Rattle.std.proofs.lemmas.Bool.Decides.{nat_tests}
+use Rattle.std.proofs.lemmas.List.{drop_all}
 use Rattle.std.proofs.lemmas.Map.Lookups.{exact_unsigned}
 use Rattle.hep_control.specs.Sweep.{is_within}
-use Rattle.hep_source.proofs.Tests.{or-turned}
+use Rattle.hep_source.proofs.Tests.{and-false, any-or, or-false, or-turned}
+use Rattle.std.proofs.lemmas.List.Folds.{list_any-append}
+use Rattle.hep_conditions.specs.declared.violation.Violation.{Violation}
+use Rattle.hep_conditions.specs.Words.{Violations, at_line, line_when, when}
 use Rattle.hep_machine.specs.Words.{Statement}
 use Rattle.hep_conditions.specs.Words.{IndexedStatement, indexed_from, least_line, least_line_of}
 use Rattle.std.specs.List.Sorted.{IsPermutation}
@@ -87,6 +91,10 @@ indexed-next f old new index s ss h =
     ∙ (append_assoc old (f (record { index = index; statement = s })) (flat_map f (indexed_from (index + 1) ss))
     ∙ ap (λ n. old ++ (f (record { index = index; statement = s }) ++ flat_map f (indexed_from n ss))) (omega arith))
 
+-- nothing is left
+pub at-end : {A B : Type 0} (f : List A → List B) (ys : List A) (i : ℕ) (found whole : List B) → f [] ≡ [] → length ys ≤ i → found ++ f (drop i ys) ≡ whole → found ≡ whole
+at-end f ys i found whole z le h = sym (append-nil found) ∙ (ap (λ l. found ++ l) (sym (ap f (drop_all i ys le) ∙ z)) ∙ h)
+
 -- ---- lists in another order give the same line
 
 least_line-again : (m : Option ℕ) → least_line m m ≡ m
@@ -131,3 +139,50 @@ least_line_of-reverse line xs = least_line_of-permutation line xs (reverse xs) (
 
 pub any-reverse : {A : Type 0} (test : A → Bool) (xs : List A) → list_any test (reverse xs) ≡ list_any test xs
 any-reverse test xs = any-permutation test xs (reverse xs) (IsPermutation-reverse xs)
+
+-- ---- all lines that are reported, as tests of a line see them
+
+pub and-split : (a b t : Bool) → ((a && t) || (b && t)) ≡ ((a || b) && t)
+and-split true b true = refl
+and-split true b false = and-false b
+and-split false b t = refl
+
+pub any-and : {A : Type 0} (p : A → Bool) (t : Bool) (xs : List A) → list_any (λ x. p x && t) xs ≡ (list_any p xs && t)
+any-and p t [] = refl
+any-and p t (x ∷ xs) = ap (λ b. (p x && t) || b) (any-and p t xs) ∙ and-split (p x) (list_any p xs) t
+
+pub any-turned : {A B : Type 0} (c : A → B → Bool) (xs : List A) (ys : List B) → list_any (λ x. list_any (c x) ys) xs ≡ list_any (λ y. list_any (λ x. c x y) xs) ys
+any-turned c [] ys = sym (any-none (λ y. false) (λ y. refl) ys)
+any-turned c (x ∷ xs) ys =
+    ap (λ b. list_any (c x) ys || b) (any-turned c xs ys) ∙ sym (any-or (c x) (λ y. list_any (λ z. c z y) xs) ys)
+
+pub any-line : (test : ℕ → Bool) (b : Bool) (line : ℕ) → list_any test (option_to_list (line_when b line)) ≡ (b && test line)
+any-line test true line = or-false (test line)
+any-line test false line = refl
+
+-- a test of lines, of violations
+abbrev pub line_passes : (ℕ → Bool) → Violation → Bool
+line_passes test v = test v.line
+
+module _ (test : ℕ → Bool) where
+  -- lines and violations that each test of a line finds alike
+  abbrev pub Told : List ℕ → Violations → Type 0
+  Told lines vs = list_any test lines ≡ list_any (line_passes test) vs
+
+  pub any-when : (number line : ℕ) (b : Bool) → list_any (line_passes test) (when b (at_line number line)) ≡ (b && test line)
+  any-when number line true = or-false (test line)
+  any-when number line false = refl
+
+  pub told-when : (number line : ℕ) (b : Bool) → Told (option_to_list (line_when b line)) (when b (at_line number line))
+  told-when number line b = any-line test b line ∙ sym (any-when number line b)
+
+  pub told-append : (ls ms : List ℕ) (vs ws : Violations) → Told ls vs → Told ms ws → Told (ls ++ ms) (vs ++ ws)
+  told-append ls ms vs ws h k = list_any-append test ls ms ∙ ((λ i. h i || k i) ∙ sym (list_any-append (line_passes test) vs ws))
+
+  pub told-each : {A : Type 0} (f : A → List ℕ) (g : A → Violations) → ((x : A) → Told (f x) (g x)) → (xs : List A) → Told (flat_map f xs) (flat_map g xs)
+  told-each f g h [] = refl
+  told-each f g h (x ∷ xs) = told-append (f x) (flat_map f xs) (g x) (flat_map g xs) (h x) (told-each f g h xs)
+
+  -- a list that grew by these lines
+  pub grown : (old new more : List ℕ) (vs : Violations) → new ≡ old ++ more → Told more vs → list_any test new ≡ (list_any test old || list_any (line_passes test) vs)
+  grown old new more vs e h = ap (list_any test) e ∙ (list_any-append test old more ∙ ap (λ b. list_any test old || b) h)

@@ -1,17 +1,18 @@
 -- What questions give that stand after values, in a list without order; and one pass over events in order, which gives the lines that their
 -- questions give.
-use Rattle.std.proofs.Common.{◌≡◌, ℕ, Bool, false, ◌&&◌, ◌||◌, nat_lt, List, [], ◌∷◌, ◌++◌, map, Option, None, refl, ◌∙◌, ap, suc, ◌+◌, ◌*◌, ◌<◌, ◌≤◌, true, sym, arith, append_assoc}
-use Rattle.std.specs.List.{list_any}
+use Rattle.std.proofs.Common.{◌≡◌, ℕ, Bool, false, ◌&&◌, ◌||◌, nat_lt, List, [], ◌∷◌, ◌++◌, map, length, drop, Option, None, option_to_list, refl, ◌∙◌, ap, suc, ◌+◌, ◌*◌, ◌<◌, ◌≤◌, true, sym, arith, append_assoc, append-nil}
+use Rattle.std.specs.List.{flat_map, list_any}
+use Rattle.std.proofs.lemmas.List.{drop_all}
 use Rattle.std.proofs.lemmas.List.Folds.{list_any-append}
 use Rattle.hep_conditions.specs.Words.{least_line, line_when, least_line_of}
 use Rattle.hep_conditions.proofs.Lines.{least_line_of-append, least_line-assoc, least_line_of-same}
 use Rattle.hep_control.specs.declared.sweep.Event.{Event}
 use Rattle.hep_control.specs.declared.sweep.Event.TheVariants.{Value, Question}
-use Rattle.hep_control.specs.Sweep.{is_within, comes_before, line_asked, least_met, rank, line_met, with_event, least_swept}
-use Rattle.hep_source.proofs.Tests.{or-false, or-turned}
+use Rattle.hep_control.specs.Sweep.{is_within, comes_before, line_asked, lines_asked, least_met, rank, line_met, with_event, least_swept, lines_swept}
+use Rattle.hep_source.proofs.Tests.{any-flat, or-false, or-turned}
 use Rattle.std.specs.List.Sorted.{IsNonDecreasingBy, IsPermutation}
 use Rattle.std.proofs.lemmas.Bool.Decides.{nat_tests}
-use Rattle.hep_control.proofs.Sets.{least_line_of-permutation, any-permutation}
+use Rattle.hep_control.proofs.Sets.{any-line, any-map, any-same, least_line_of-permutation, any-permutation}
 
 module _ {A B : Type 0} (vk vv : A → ℕ) (qk low high line : B → ℕ) where
   abbrev value : A → Event
@@ -56,6 +57,28 @@ module _ {A B : Type 0} (vk vv : A → ℕ) (qk low high line : B → ℕ) where
       ∙ (ap (λ o. least_line o (least_line_of (line_asked (map value xs ++ map question ys)) (map question ys))) (no_lines (map value xs ++ map question ys) xs)
       ∙ lines (map value xs ++ map question ys) (λ y. line_when (list_any (answers y) xs) (line y)) (one xs ys) ys)
 
+  -- all lines, as a test of a line sees them
+  module _ (test : ℕ → Bool) where
+    abbrev passes : List Event → Event → Bool
+    passes all e = list_any test (option_to_list (line_asked all e))
+
+    no_passes : (all : List Event) (xs : List A) → list_any (passes all) (map value xs) ≡ false
+    no_passes all [] = refl
+    no_passes all (x ∷ xs) = no_passes all xs
+
+    one_passes : (xs : List A) (ys : List B) (y : B) → passes (map value xs ++ map question ys) (question y) ≡ (list_any (answers y) xs && test (line y))
+    one_passes xs ys y = ap (λ o. list_any test (option_to_list o)) (one xs ys y) ∙ any-line test (list_any (answers y) xs) (line y)
+
+    pub lines-asked : (xs : List A) (ys : List B)
+        → list_any test (lines_asked (map value xs ++ map question ys)) ≡ list_any (λ y. list_any (answers y) xs && test (line y)) ys
+    lines-asked xs ys =
+        let all = map value xs ++ map question ys in
+        any-flat test (λ e. option_to_list (line_asked all e)) all
+        ∙ (list_any-append (passes all) (map value xs) (map question ys)
+        ∙ (ap (λ b. b || list_any (passes all) (map question ys)) (no_passes all xs)
+        ∙ (any-map (passes all) question ys
+        ∙ any-same (λ y. passes all (question y)) (λ y. list_any (answers y) xs && test (line y)) (one_passes xs ys) ys)))
+
 -- ---- what one pass over events in order keeps
 
 abbrev pub Alike : List ℕ → List ℕ → Type 0
@@ -74,6 +97,21 @@ least_swept-same vs ws h [] = refl
 least_swept-same vs ws h (e ∷ es) =
     ap (λ o. least_line o (least_swept (with_event e vs) es)) (line_met-same vs ws h e)
     ∙ ap (least_line (line_met ws e)) (least_swept-same (with_event e vs) (with_event e ws) (with_event-same vs ws h e) es)
+
+lines_swept-same : (vs ws : List ℕ) → Alike vs ws → (es : List Event) → lines_swept vs es ≡ lines_swept ws es
+lines_swept-same vs ws h [] = refl
+lines_swept-same vs ws h (e ∷ es) =
+    ap (λ o. option_to_list o ++ lines_swept (with_event e vs) es) (line_met-same vs ws h e)
+    ∙ ap (λ ls. option_to_list (line_met ws e) ++ ls) (lines_swept-same (with_event e vs) (with_event e ws) (with_event-same vs ws h e) es)
+
+-- one event more, and its line
+pub lines-next : (vs ws found next whole : List ℕ) (e : Event) (es xs : List Event) → Alike ws (with_event e vs) → xs ≡ e ∷ es
+    → found ++ lines_swept vs xs ≡ whole → next ≡ found ++ option_to_list (line_met vs e) → next ++ lines_swept ws es ≡ whole
+lines-next vs ws found next whole e es xs h d k n =
+    ap (λ ls. ls ++ lines_swept ws es) n
+    ∙ (append_assoc found (option_to_list (line_met vs e)) (lines_swept ws es)
+    ∙ (ap (λ ls. found ++ (option_to_list (line_met vs e) ++ ls)) (lines_swept-same ws (with_event e vs) h es)
+    ∙ (ap (λ ys. found ++ lines_swept vs ys) (sym d) ∙ k)))
 
 -- one event more
 pub swept-next : (best : Option ℕ) (vs ws : List ℕ) (e : Event) (es : List Event) → Alike ws (with_event e vs)
@@ -173,3 +211,31 @@ least_met-permutation xs ys p =
 
 pub sorted-met : (xs ys : List Event) → IsPermutation xs ys → IsNonDecreasingBy rank ys → least_swept [] ys ≡ least_met xs
 sorted-met xs ys p h = swept-asked 0 [] ys tt (ascending ys h) ∙ least_met-permutation xs ys p
+
+-- ---- all lines
+
+lines_swept-asked : (n : ℕ) (before es : List Event) → Below n before → Ascending n es
+    → lines_swept (values_of before) es ≡ flat_map (λ e. option_to_list (line_asked (before ++ es) e)) es
+lines_swept-asked n before [] b a = refl
+lines_swept-asked n before (e ∷ es) b a =
+    ap (λ o. option_to_list o ++ lines_swept (with_event e (values_of before)) es) (line_here before e es (below-later n (rank e) before a.0 b) a.1)
+    ∙ ap (λ ls. option_to_list (line_asked (before ++ e ∷ es) e) ++ ls)
+    (lines_swept-same (with_event e (values_of before)) (values_of (before ++ e ∷ [])) (λ test. sym (values_of-push before e test)) es
+    ∙ (lines_swept-asked (rank e) (before ++ e ∷ []) es (below-push (rank e) before e (below-later n (rank e) before a.0 b) (omega arith)) a.1
+    ∙ ap (λ all. flat_map (λ f. option_to_list (line_asked all f)) es) (append_assoc before (e ∷ []) es)))
+
+pub lines-met : (test : ℕ → Bool) (xs ys : List Event) → IsPermutation xs ys → IsNonDecreasingBy rank ys → list_any test (lines_swept [] ys) ≡ list_any test (lines_asked xs)
+lines-met test xs ys p h =
+    ap (list_any test) (lines_swept-asked 0 [] ys tt (ascending ys h))
+    ∙ (any-flat test (λ e. option_to_list (line_asked ys e)) ys
+    ∙ (any-same (λ e. list_any test (option_to_list (line_asked ys e))) (λ e. list_any test (option_to_list (line_asked xs e)))
+    (λ e. ap (λ o. list_any test (option_to_list o)) (line_asked-permutation xs ys p e)) ys
+    ∙ (any-permutation (λ e. list_any test (option_to_list (line_asked xs e))) xs ys p
+    ∙ sym (any-flat test (λ e. option_to_list (line_asked xs e)) xs))))
+
+-- no event is left
+pub lines-end : (test : ℕ → Bool) (old found vs : List ℕ) (xs ys : List Event) (i : ℕ) → length ys ≤ i → found ++ lines_swept vs (drop i ys) ≡ old ++ lines_swept [] ys
+    → list_any test (lines_swept [] ys) ≡ list_any test (lines_asked xs) → list_any test found ≡ (list_any test old || list_any test (lines_asked xs))
+lines-end test old found vs xs ys i le k m =
+    ap (list_any test) (sym (append-nil found) ∙ (ap (λ es. found ++ lines_swept vs es) (sym (drop_all i ys le)) ∙ k))
+    ∙ (list_any-append test old (lines_swept [] ys) ∙ ap (λ b. list_any test old || b) m)

@@ -1,5 +1,5 @@
 -- What isn't nested, by events and by variables (X3.9-1978, 11.10.1).
-use Rattle.std.specs.Prelude.{ℕ, suc, Bool, false, nat_le, max, if◌then◌else◌, List, [], ◌∷◌, map, Option, Some, None}
+use Rattle.std.specs.Prelude.{ℕ, suc, Bool, false, nat_le, max, if◌then◌else◌, List, [], ◌∷◌, ◌++◌, map, Option, Some, None, option_to_list}
 use Rattle.std.specs.Option.{unwrap_or}
 use Rattle.hep_machine.specs.Words.{Name, Statement, same_name, line_at}
 use Rattle.hep_conditions.specs.Nesting as nesting
@@ -68,3 +68,9 @@ abbrev pub least_shared : List Statement → (Name → Option ℕ) → List nest
 least_shared unit last [] = None
 least_shared unit last (r ∷ rs) =
     least_line (line_when (reaches (last r.variable) r.start) (line_at unit r.start)) (least_shared unit (with_range last r) rs)
+
+-- the lines of all of them
+abbrev pub lines_shared : List Statement → (Name → Option ℕ) → List nesting.DoRange → List ℕ
+lines_shared unit last [] = []
+lines_shared unit last (r ∷ rs) =
+    option_to_list (line_when (reaches (last r.variable) r.start) (line_at unit r.start)) ++ lines_shared unit (with_range last r) rs

@@ -1,5 +1,5 @@
 -- One pass over the labels of a unit (X3.9-1978, 3.4).
-use Rattle.std.specs.Prelude.{ℕ, Bool, false, ◌||◌, nat_eq, if◌then◌else◌, List, [], ◌∷◌, ◌++◌, Option, Some, None, is_none}
+use Rattle.std.specs.Prelude.{ℕ, Bool, false, ◌||◌, nat_eq, if◌then◌else◌, List, [], ◌∷◌, ◌++◌, Option, Some, None, is_none, option_to_list}
 use Rattle.std.specs.List.{list_any}
 use Rattle.hep_machine.specs.Words.{Statement, is_executable, index_labelled}
 use Rattle.hep_conditions.specs.Words.{targets_of_jump, terminal_labels, least_line, line_when, least_line_where}
@@ -40,3 +40,10 @@ with_seen seen (Some l) k = nat_eq k l || seen k
 abbrev pub least_repeated : (ℕ → Bool) → List Statement → Option ℕ
 least_repeated seen [] = None
 least_repeated seen (s ∷ ss) = least_line (line_when (is_seen seen s.label) s.line) (least_repeated (with_seen seen s.label) ss)
+
+-- the lines of statements whose label was seen, or a statement before them has, and of those that go to no statement
+abbrev pub lines_from : List Statement → (ℕ → Bool) → List Statement → List ℕ
+lines_from unit seen [] = []
+lines_from unit seen (s ∷ ss) =
+    option_to_list (line_when (is_seen seen s.label) s.line)
+    ++ (option_to_list (line_when (goes_nowhere unit s) s.line) ++ lines_from unit (with_seen seen s.label) ss)

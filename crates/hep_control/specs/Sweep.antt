@@ -1,6 +1,6 @@
 -- Values and questions: whether a value with a lesser key lies in an interval.
-use Rattle.std.specs.Prelude.{ℕ, ◌+◌, ◌*◌, Bool, false, ◌&&◌, nat_lt, nat_le, List, [], ◌∷◌, Option, None}
-use Rattle.std.specs.List.{list_any}
+use Rattle.std.specs.Prelude.{ℕ, ◌+◌, ◌*◌, Bool, false, ◌&&◌, nat_lt, nat_le, List, [], ◌∷◌, ◌++◌, Option, None, option_to_list}
+use Rattle.std.specs.List.{flat_map, list_any}
 use Rattle.hep_conditions.specs.Words.{least_line, line_when, least_line_of}
 use Rattle.hep_control.specs.declared.sweep.Event.{Event}
 use Rattle.hep_control.specs.declared.sweep.Event.TheVariants.{Value, Question}
@@ -22,6 +22,10 @@ line_asked events (Question key low high line) = line_when (list_any (comes_befo
 abbrev pub least_met : List Event → Option ℕ
 least_met events = least_line_of (line_asked events) events
 
+-- all lines that the questions give
+abbrev pub lines_asked : List Event → List ℕ
+lines_asked events = flat_map (λ e. option_to_list (line_asked events e)) events
+
 -- ---- one pass over events in order
 
 abbrev pub rank : Event → ℕ
@@ -39,3 +43,7 @@ with_event (Question k low high line) values = values
 abbrev pub least_swept : List ℕ → List Event → Option ℕ
 least_swept values [] = None
 least_swept values (e ∷ es) = least_line (line_met values e) (least_swept (with_event e values) es)
+
+abbrev pub lines_swept : List ℕ → List Event → List ℕ
+lines_swept values [] = []
+lines_swept values (e ∷ es) = option_to_list (line_met values e) ++ lines_swept (with_event e values) es

@@ -1,18 +1,20 @@
 //! DO ranges and block IFs that aren't nested (X3.9-1978, 11.10.1).
-ghost use Rattle.std.specs.Prelude.{◌≡◌, ◌++◌, IfOk, OnOk, None, map};
-ghost use Rattle.std.specs.List.{flat_map};
+ghost use Rattle.std.specs.Prelude.{◌≡◌, ◌||◌, ◌++◌, ℕ, Bool, IfOk, OnOk, None, map};
+ghost use Rattle.std.specs.List.{flat_map, list_any};
 ghost use Rattle.indexmap.specs.IndexMap.{get};
 ghost use Rattle.hep_source.specs.declared.name.Name.{Name as PureName};
 ghost use Rattle.hep_source.specs.Names as names;
 ghost use Rattle.hep_source.specs.Units as units;
 ghost use Rattle.hep_conditions.specs.Nesting as nesting;
+ghost use Rattle.hep_conditions.specs.declared.violation.Violation.{Violation as PureViolation};
 ghost use Rattle.hep_conditions.specs.Words.{reported, first_of};
 ghost use Rattle.hep_control.specs.Ranges.{do_range};
 ghost use Rattle.hep_control.specs.Crossing as spec;
 
 use crate::blocks::{BlockIf, BlockIfs};
+use crate::lines::add_line;
 use crate::region::DoRange;
-use crate::sweep::{Event, least_met, question, value};
+use crate::sweep::{Event, add_met, least_met, question, value};
 use hep_conditions::reported::{lesser, line_when};
 use hep_source::{Name, Statement};
 use indexmap::IndexMap;
@@ -42,6 +44,30 @@ pub(crate) fn least_crossing(
     let by_block = least_met(alloc, events_of_blocks(alloc, unit, ranges, closed)?)?;
     let by_range = least_met(alloc, events_in_blocks(alloc, unit, ranges, closed)?)?;
     Ok(lesser(lesser(crossed, shared), lesser(by_block, by_range)))
+}
+
+// Adds the lines of the DOs and block IFs that aren't nested in the ranges and blocks around them.
+pub(crate) fn add_crossing(
+    lines: &mut Vec<u32>,
+    alloc: Global,
+    unit: &[Statement],
+    ranges: &[DoRange],
+    blocks: &BlockIfs,
+) -> Result<(), AllocError>
+    requires ranges { map do_range ranges.now ≡ nesting.ranges_of unit.now }
+    requires blocks { blocks.now ≡ nesting.block_ifs_of unit.now }
+    ensures { OnOk result ((test : ℕ → Bool) → list_any test lines.new.items
+        ≡ (list_any test lines.old.items || list_any (λ (v : PureViolation). test v.line) (nesting.nesting_violations unit.now))) }
+{
+    let closed = blocks.closed();
+    let crossed = events_of_ranges(alloc, unit, ranges)?;
+    let by_block = events_of_blocks(alloc, unit, ranges, closed)?;
+    let by_range = events_in_blocks(alloc, unit, ranges, closed)?;
+    add_met(lines, alloc, crossed)?;
+    add_shared(lines, alloc, unit, ranges)?;
+    add_met(lines, alloc, by_block)?;
+    add_met(lines, alloc, by_range)?;
+    Ok(())
 }
 
 // The ranges, and of each whether one that begins before it goes on to its DO and ends before it does.
@@ -139,6 +165,24 @@ fn least_shared(
         least = lesser(least, line_when(is_reported, line_at(unit, range.start)));
     }
     Ok(least)
+}
+
+// Adds the lines of the DOs in the range of one with their variable.
+fn add_shared(
+    lines: &mut Vec<u32>,
+    alloc: Global,
+    unit: &[Statement],
+    ranges: &[DoRange],
+) -> Result<(), AllocError>
+    ensures { OnOk result (lines.new.items ≡ lines.old.items
+        ++ spec.lines_shared unit.now (λ x. None) (map do_range ranges.now)) }
+{
+    let mut last = IndexMap::new(alloc);
+    for range in ranges {
+        let is_reported = is_shared(&mut last, range)?;
+        add_line(lines, line_when(is_reported, line_at(unit, range.start)))?;
+    }
+    Ok(())
 }
 
 // Whether a range of this variable that was met has this DO in it; from now on this one is met too.

@@ -1,14 +1,18 @@
 //! Jumps into DO ranges and IF blocks: 308 (X3.9-1978, 11.6.3, 11.7.2, 11.8.2 and 11.10.8).
-ghost use Rattle.std.specs.Prelude.{◌≡◌, ◌<◌, ◌++◌, IfOk, OnOk, length, map};
+ghost use Rattle.std.specs.Prelude.{◌≡◌, ◌<◌, ◌++◌, ℕ, Bool, IfOk, OnOk, length, map, option_to_list};
+ghost use Rattle.std.specs.List.{flat_map, list_any};
 ghost use Rattle.hep_machine.specs.Words.{role_of, index_labelled, statement_at};
 ghost use Rattle.hep_conditions.specs.Nesting as nesting;
 ghost use Rattle.hep_conditions.specs.Words.{least_line_of, first_of};
+ghost use Rattle.hep_conditions.specs.declared.violation.Violation.{Violation as PureViolation};
+ghost use Rattle.hep_control.specs.declared.region.Jump.{Jump as PureJump};
 ghost use Rattle.hep_control.specs.Jumps as spec;
 
 use crate::labels::Labels;
+use crate::lines::add_line;
 use crate::region::{Jump, Region};
 use crate::regions::regions_of;
-use crate::sweep::{Event, least_met, question, value};
+use crate::sweep::{Event, add_met, least_met, question, value};
 use hep_conditions::Violation;
 use hep_conditions::reported::{lesser, line_when, reported};
 use hep_source::{Form, Statement};
@@ -29,6 +33,26 @@ pub fn jump_violation(alloc: Global, labels: &Labels) -> Result<Option<Violation
     let early = least_met(alloc, events_by_end(alloc, &regions, &jumps)?)?;
     let division = least_to_division(labels.unit(), &jumps);
     Ok(reported(308, lesser(lesser(late, early), division)))
+}
+
+/// The lines of all violations of 308, in whatever order.
+///
+/// # Errors
+///
+/// Only where memory was refused.
+pub fn jump_lines(alloc: Global, labels: &Labels) -> Result<Vec<u32>, AllocError>
+    ensures { IfOk result (λ lines. (test : ℕ → Bool) → list_any test lines.items
+        ≡ list_any (λ (v : PureViolation). test v.line) (nesting.jump_violations labels.now)) }
+{
+    let regions = regions_of(alloc, labels)?;
+    let jumps = jumps_of(alloc, labels)?;
+    let late = events_by_start(alloc, &regions, &jumps)?;
+    let early = events_by_end(alloc, &regions, &jumps)?;
+    let mut lines = Vec::new(alloc);
+    add_met(&mut lines, alloc, late)?;
+    add_met(&mut lines, alloc, early)?;
+    add_to_division(&mut lines, labels.unit(), &jumps)?;
+    Ok(lines)
 }
 
 // Where a statement goes with a label, if the label leads anywhere.
@@ -155,6 +179,21 @@ fn least_to_division(unit: &[Statement], jumps: &[Jump]) -> Option<u32>
         least = lesser(least, line_when(is_division(unit, jump.to), jump.line));
     }
     least
+}
+
+// Adds the lines of the jumps to an ELSE IF or ELSE.
+fn add_to_division(
+    lines: &mut Vec<u32>,
+    unit: &[Statement],
+    jumps: &[Jump],
+) -> Result<(), AllocError>
+    ensures { OnOk result (lines.new.items ≡ lines.old.items
+        ++ flat_map (λ (j : PureJump). option_to_list (spec.line_to_division unit.now j)) jumps.now) }
+{
+    for jump in jumps {
+        add_line(lines, line_when(is_division(unit, jump.to), jump.line))?;
+    }
+    Ok(())
 }
 
 fn is_division(unit: &[Statement], index: usize) -> bool

@@ -1,5 +1,5 @@
 //! The labels of a unit: where they lead, and 306 (X3.9-1978, 3.4).
-ghost use Rattle.std.specs.Prelude.{◌≡◌, ℕ, ◌<◌, nat_eq, false, length, IfOk, IfSome, OnOk, ◌++◌};
+ghost use Rattle.std.specs.Prelude.{◌≡◌, ℕ, ◌<◌, Bool, nat_eq, false, length, IfOk, IfSome, OnOk, ◌++◌};
 ghost use Rattle.std.specs.List.{list_any};
 ghost use Rattle.std.specs.Option.{is_none};
 ghost use Rattle.indexmap.specs.IndexMap.{get};
@@ -7,8 +7,10 @@ ghost use Rattle.indexmap.specs.IndexSet.{contains};
 ghost use Rattle.hep_machine.specs.Control as control;
 ghost use Rattle.hep_source.specs.Units as units;
 ghost use Rattle.hep_conditions.specs.Words.{label_violations, targets_of_jump, terminal_labels, first_of};
+ghost use Rattle.hep_conditions.specs.declared.violation.Violation.{Violation as PureViolation};
 ghost use Rattle.hep_control.specs.Labels as passes;
 
+use crate::lines::add_line;
 use hep_conditions::Violation;
 use hep_conditions::reported::{lesser, line_when, reported};
 use hep_source::{Form, Statement};
@@ -104,6 +106,26 @@ pub fn label_violation(alloc: Global, labels: &Labels) -> Result<Option<Violatio
     let unlabelled = least_unlabelled(labels);
     let repeated = least_repeated(alloc, labels.unit())?;
     Ok(reported(306, lesser(unlabelled, repeated)))
+}
+
+/// The lines of all violations of 306, in whatever order.
+///
+/// # Errors
+///
+/// Only where memory was refused.
+pub fn label_lines(alloc: Global, labels: &Labels) -> Result<Vec<u32>, AllocError>
+    ensures { IfOk result (λ lines. (test : ℕ → Bool) → list_any test lines.items
+        ≡ list_any (λ (v : PureViolation). test v.line) (label_violations labels.now)) }
+{
+    let mut seen = IndexSet::new(alloc);
+    let mut lines = Vec::new(alloc);
+    for statement in labels.unit() {
+        let is_repeated = is_repeated(&mut seen, statement.label)?;
+        let is_absent = goes_nowhere(labels, &statement.form);
+        add_line(&mut lines, line_when(is_repeated, statement.line))?;
+        add_line(&mut lines, line_when(is_absent, statement.line))?;
+    }
+    Ok(lines)
 }
 
 // The least line of a statement that goes to no statement.

@@ -1,5 +1,5 @@
-//! The structure of a program unit: its labels, DOs and block IFs (X3.9-1978, section 11), and the
-//! first violation of 306, of 307 and of 308.
+//! The structure of a program unit: its labels, DOs and block IFs (X3.9-1978, section 11), the
+//! first violation of 306, of 307 and of 308, and the lines of all.
 #![tactic(auto)]
 
 pub(crate) mod blocks;
@@ -7,6 +7,7 @@ pub mod control;
 pub(crate) mod crossing;
 pub mod jumps;
 pub mod labels;
+pub(crate) mod lines;
 pub(crate) mod loops;
 pub(crate) mod ranges;
 pub(crate) mod region;
@@ -16,6 +17,6 @@ pub(crate) mod successors;
 pub(crate) mod sweep;
 
 pub use control::Control;
-pub use jumps::jump_violation;
-pub use labels::{Labels, label_violation};
-pub use structure::structure_violation;
+pub use jumps::{jump_lines, jump_violation};
+pub use labels::{Labels, label_lines, label_violation};
+pub use structure::{structure_lines, structure_violation};

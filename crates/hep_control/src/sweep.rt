@@ -1,9 +1,10 @@
 //! One pass over values and questions by rising keys: each question asks whether a value with a lesser key
 //! lies in an interval.
-ghost use Rattle.std.specs.Prelude.{◌≡◌, ℕ, Bool, IfOk, OnOk};
+ghost use Rattle.std.specs.Prelude.{◌≡◌, ◌||◌, ℕ, Bool, IfOk, OnOk};
 ghost use Rattle.std.specs.List.{list_any};
 ghost use Rattle.hep_control.specs.Sweep as sweep;
 
+use crate::lines::add_line;
 use hep_conditions::reported::{lesser, line_when};
 use std::alloc::{AllocError, Global};
 use std::collections::BTreeSet;
@@ -63,6 +64,24 @@ pub(crate) fn least_met(alloc: Global, mut events: Vec<Event>) -> Result<Option<
         least = lesser(least, line);
     }
     Ok(least)
+}
+
+// Adds the lines that the questions give, in whatever order.
+pub(crate) fn add_met(
+    lines: &mut Vec<u32>,
+    alloc: Global,
+    mut events: Vec<Event>,
+) -> Result<(), AllocError>
+    ensures { OnOk result ((test : ℕ → Bool) → list_any test lines.new.items
+        ≡ (list_any test lines.old.items || list_any test (sweep.lines_asked events.items))) }
+{
+    events.sort_by_key(|event| rank(event))?;
+    let mut values = BTreeSet::new(alloc);
+    for event in &events {
+        let line = line_met(&mut values, event)?;
+        add_line(lines, line)?;
+    }
+    Ok(())
 }
 
 // The line that a question gives by the values before it; a value is among them from now on.

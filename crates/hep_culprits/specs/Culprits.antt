@@ -9,6 +9,7 @@ use Rattle.hep_calls.specs.Passes.{is_given, is_purgeable}
 use Rattle.hep_conditions.specs.Nesting as nesting
 use Rattle.hep_culprits.specs.declared.culprit.Culprit.{Culprit}
 use Rattle.hep_culprits.specs.declared.culprit.Culprit.TheVariants as culprit
+use Rattle.hep_culprits.specs.Faults.{ambiguous_name}
 use Rattle.hep_culprits.specs.Forms.{mistyped}
 use Rattle.hep_culprits.specs.Lone as lone
 use Rattle.hep_culprits.specs.Trees.{Found, either}
@@ -91,9 +92,10 @@ culprit_in program unit s number =
     else (if nat_eq number 306 then option_map a_label (absent_label unit s)
     else (if nat_eq number 307 then structure_culprit (function_types program) unit s
     else (if nat_eq number 308 then option_map a_label (target_label s.form)
+    else (if nat_eq number 309 then option_map a_name (ambiguous_name program unit s)
     else (if nat_eq number 311 then option_map a_name (lone.lone_target s.form)
     else (if nat_eq number 312 then option_map a_name (lone.unit_header unit)
-    else None))))))))
+    else None)))))))))
 
 abbrev pub is_at : ℕ → Statement → Bool
 is_at line s = nat_eq s.line line

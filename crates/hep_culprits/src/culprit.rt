@@ -5,11 +5,12 @@ ghost use Rattle.hep_culprits.specs.Culprits as words;
 
 use crate::arguments::misfit;
 use crate::counts::miscounted;
+use crate::faults::{Faults, ambiguous_name};
 use crate::forms::mistyped;
 use crate::labels::{absent_label, structure_culprit, target_label};
 use crate::lone::{lone_block, lone_target, unit_header};
 use hep_conditions::Violation;
-use hep_names::{ProgramSymbols, Symbols};
+use hep_names::Symbols;
 use hep_source::{Name, Occurrence, Statement};
 use std::alloc::{AllocError, Global};
 
@@ -45,13 +46,14 @@ fn labelled(found: Option<u32>) -> Option<Culprit>
 // What in a statement of a unit violates the condition with this number.
 fn culprit_in(
     alloc: Global,
-    program: &ProgramSymbols,
+    faults: &Faults,
     symbols: &Symbols,
     statement: &Statement,
     number: u16,
 ) -> Result<Option<Culprit>, AllocError>
-    ensures { IfOk result (λ culprit. culprit ≡ words.culprit_in program.now symbols.now statement.now number) }
+    ensures { IfOk result (λ culprit. culprit ≡ words.culprit_in faults.now symbols.now statement.now number) }
 {
+    let program = faults.program();
     match number {
         302 => Ok(named(mistyped(program, symbols, statement))),
         303 => Ok(named(miscounted(alloc, program, symbols, statement)?)),
@@ -60,6 +62,7 @@ fn culprit_in(
         306 => Ok(labelled(absent_label(alloc, symbols, statement)?)),
         307 => Ok(structure_culprit(program, symbols, statement)),
         308 => Ok(labelled(target_label(&statement.form))),
+        309 => Ok(named(ambiguous_name(alloc, faults, symbols, statement)?)),
         311 => Ok(named(lone_target(&statement.form))),
         312 => Ok(named(unit_header(symbols.statements()))),
         _ => Ok(None),
@@ -81,14 +84,14 @@ fn statement_at<'a>(symbols: &Symbols<'a>, line: u32) -> Option<&'a Statement>
 // What stands at the line of a violation and violates its condition.
 fn culprit_at(
     alloc: Global,
-    program: &ProgramSymbols,
+    faults: &Faults,
     violation: &Violation,
 ) -> Result<Option<Culprit>, AllocError>
-    ensures { IfOk result (λ culprit. culprit ≡ words.culprit_among program.now violation.now program.now) }
+    ensures { IfOk result (λ culprit. culprit ≡ words.culprit_among faults.now violation.now faults.now) }
 {
-    for symbols in program.units() {
+    for symbols in faults.program().units() {
         if let Some(statement) = statement_at(symbols, violation.line) {
-            return culprit_in(alloc, program, symbols, statement, violation.number);
+            return culprit_in(alloc, faults, symbols, statement, violation.number);
         }
     }
     Ok(None)
@@ -101,16 +104,16 @@ fn culprit_at(
 /// Only where memory was refused.
 pub fn culprit_of(
     alloc: Global,
-    program: &ProgramSymbols,
+    faults: &Faults,
     violation: &Violation,
 ) -> Result<Option<Culprit>, AllocError>
-    ensures { IfOk result (λ culprit. culprit ≡ words.culprit_of program.now violation.now) }
+    ensures { IfOk result (λ culprit. culprit ≡ words.culprit_of faults.now violation.now) }
 {
     match violation.name {
         Some(name) => Ok(Some(Culprit::Name(Occurrence {
             name,
             position: violation.position,
         }))),
-        None => culprit_at(alloc, program, violation),
+        None => culprit_at(alloc, faults, violation),
     }
 }

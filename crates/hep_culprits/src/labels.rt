@@ -23,7 +23,7 @@ fn first_absent(labels: &Labels, wanted: &[u32]) -> Option<u32>
 }
 
 /// The first label that a statement goes to and that is on no executable statement.
-pub fn absent_in_form(labels: &Labels, form: &Form) -> Option<u32>
+pub(crate) fn absent_in_form(labels: &Labels, form: &Form) -> Option<u32>
     ensures { result ≡ find (words.is_absent labels.now) (targets_of_jump form.now ++ terminal_labels form.now) }
 {
     match form {

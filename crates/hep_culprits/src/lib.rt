@@ -8,6 +8,7 @@
 mod arguments;
 mod counts;
 pub mod culprit;
+mod faults;
 mod forms;
 mod labels;
 mod lone;
@@ -17,5 +18,5 @@ mod trees;
 pub use arguments::misfit;
 pub use counts::miscounted;
 pub use culprit::{Culprit, culprit_of};
-pub use labels::absent_in_form;
+pub use faults::Faults;
 pub use text::{culprit_text, position_of};

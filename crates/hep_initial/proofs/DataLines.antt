@@ -1,16 +1,18 @@
 -- The line that is reported of DATA, statement by statement, and the loops that find it.
-use Rattle.std.proofs.Common.{◌≡◌, Bool, not, ◌&&◌, ◌||◌, List, [], ◌∷◌, ◌++◌, is_some, refl, ap, sym, ◌∙◌, ◌<◌, ◌≤◌, ◌+◌, ℕ, take, drop, length, get_or, Option, append-nil, subst, option_to_list}
+use Rattle.std.proofs.Common.{◌≡◌, Bool, not, ◌&&◌, ◌||◌, List, [], ◌∷◌, ◌++◌, is_some, refl, ap, sym, ◌∙◌, ◌<◌, ◌≤◌, ◌+◌, ℕ, take, drop, length, get_or, Option, true, false, append-nil, append_assoc, subst, option_to_list}
 use Rattle.std.specs.List.{flat_map, list_any}
 use Rattle.std.specs.Option.{option_map}
 use Rattle.std.proofs.lemmas.List.{take_more, drop_all}
 use Rattle.std.proofs.lemmas.Grind.{flat_map-append}
+use Rattle.std.proofs.lemmas.List.Folds.{list_any-append}
+use Rattle.hep_conditions.specs.declared.violation.Violation.{Violation}
 use Rattle.hep_machine.specs.Words.{trees_of, DataGroup, DataValue, Target, Statement, Constants, value_among, given_by, values_of, constant_shape, Stretch, groups_in, elements_named, repeat_of, value_of_constant, values_given, is_nonempty, is_array, constants_in}
 use Rattle.hep_conditions.specs.Words.{name_repeated, known_targets, known_values, has_type, is_forbidden, is_outside, is_target_outside, is_value, is_wrong_group, is_misplaced, wrong_groups_from, share_element, elements_in, is_given_twice, given_twice_from, data_violations, known_before, same_length, holds_at_each_place, reported, least_line, line_when, first_of, at_line, when}
 use Rattle.hep_conditions.proofs.Lines.{reported-when, reported-append, least_line-none, least_line-assoc, least_line-swap, least_line-or}
 use Rattle.hep_values.proofs.GivenInTurn.{given-same}
 use Rattle.hep_initial.specs.Given.{given_after, IsGiven, Gives}
-use Rattle.hep_initial.specs.Groups.{is_wrong, wrong_line, twice_line, data_line}
-use Rattle.hep_source.proofs.Tests.{or-assoc, or-turned}
+use Rattle.hep_initial.specs.Groups.{is_wrong, wrong_line, twice_line, data_line, data_lines}
+use Rattle.hep_source.proofs.Tests.{and-false, or-assoc, or-false, or-turned}
 use Rattle.hep_initial.specs.declared.given.Given.{Given}
 
 -- ---- what is reported
@@ -177,3 +179,80 @@ pub data-end : (unit : List Statement) (known : Constants) (given : List Stretch
     → least_line best (data_line unit known given (drop i ss)) ≡ whole → best ≡ whole
 data-end unit known given ss i best whole le so_far =
     sym (ap (λ us. least_line best (data_line unit known given us)) (drop_all i ss le) ∙ least_line-none best) ∙ so_far
+
+-- ---- the lines of all statements that violate 311
+
+lines-same : (unit : List Statement) (ss : List Statement) (k m : Constants) (given others : List Stretch) → value_among k ≡ value_among m → SameGiven given others
+    → data_lines unit k given ss ≡ data_lines unit m others ss
+lines-same unit [] k m given others h g = refl
+lines-same unit (s ∷ ss) k m given others h g =
+    let behind = constants_in s.form in
+    let wrong = wrong-here-same unit k m h s in
+    let same = elements-same unit k m h s in
+    let twice = twice-of-same given others (elements_in unit k s) g ∙ ap (is_given_twice others) same in
+    let more =
+    lines-same unit ss (given_by unit k behind) (given_by unit m behind) (elements_in unit k s ++ given) (elements_in unit m s ++ others) (given-same unit behind k m h)
+    (λ e. any-append-same (share_element e) (elements_in unit k s) given others (g e) ∙ ap (λ es. list_any (share_element e) (es ++ others)) same) in
+    λ i. option_to_list (line_when (wrong i || twice i) s.line) ++ more i
+
+-- a turn of the loop
+pub lines-turn : (unit : List Statement) (known : Constants) (given : List Stretch) (s : Statement) (ss more : List Statement) (after : Constants) (found next whole : List ℕ) (wrong : Bool)
+    → ss ≡ s ∷ more → found ++ data_lines unit known given ss ≡ whole → wrong ≡ (is_wrong unit known s || is_given_twice given (elements_in unit known s))
+    → next ≡ found ++ option_to_list (line_when wrong s.line) → value_among after ≡ value_among (given_by unit known (constants_in s.form))
+    → next ++ data_lines unit after (given_after given (elements_in unit known s)) more ≡ whole
+lines-turn unit known given s ss more after found next whole wrong all so_far w n e =
+    let es = elements_in unit known s in
+    let after_it = given_by unit known (constants_in s.form) in
+    let here = option_to_list (line_when (is_wrong unit known s || is_given_twice given es) s.line) in
+    let first : next ≡ found ++ here = n ∙ ap (λ b. found ++ option_to_list (line_when b s.line)) w in
+    let later = lines-same unit more after after_it (given_after given es) (es ++ given) e (λ f. any-after (share_element f) given es) in
+    (λ i. first i ++ later i)
+    ∙ (append_assoc found here (data_lines unit after_it (es ++ given) more) ∙ (ap (λ us. found ++ data_lines unit known given us) (sym all) ∙ so_far))
+
+pub lines-end : (unit : List Statement) (known : Constants) (given : List Stretch) (ss : List Statement) (i : ℕ) (found whole : List ℕ) → length ss ≤ i
+    → found ++ data_lines unit known given (drop i ss) ≡ whole → found ≡ whole
+lines-end unit known given ss i found whole le so_far =
+    sym (append-nil found) ∙ (ap (λ us. found ++ data_lines unit known given us) (sym (drop_all i ss le)) ∙ so_far)
+
+or-swapped : (a b c d : Bool) → ((a || b) || (c || d)) ≡ ((a || c) || (b || d))
+or-swapped true b c d = refl
+or-swapped false true true d = refl
+or-swapped false true false d = refl
+or-swapped false false c d = refl
+
+and-split : (a b t : Bool) → ((a && t) || (b && t)) ≡ ((a || b) && t)
+and-split true b true = refl
+and-split true b false = and-false b
+and-split false b t = refl
+
+-- these lines and the violations of 311, as each test of a line sees them
+module _ (test : ℕ → Bool) where
+  abbrev by : Violation → Bool
+  by v = test v.line
+
+  any-line : (b : Bool) (line : ℕ) → list_any test (option_to_list (line_when b line)) ≡ (b && test line)
+  any-line true line = or-false (test line)
+  any-line false line = refl
+
+  any-when : (b : Bool) (line : ℕ) → list_any by (when b (at_line 311 line)) ≡ (b && test line)
+  any-when true line = or-false (test line)
+  any-when false line = refl
+
+  lines-both : (unit : List Statement) (known : Constants) (given : List Stretch) (ss : List Statement)
+      → list_any test (data_lines unit known given ss) ≡ (list_any by (wrong_groups_from unit known ss) || list_any by (given_twice_from unit known given ss))
+  lines-both unit known given [] = refl
+  lines-both unit known given (s ∷ ss) =
+      let es = elements_in unit known s in
+      let after_it = given_by unit known (constants_in s.form) in
+      let wrong = is_wrong unit known s in
+      let twice = is_given_twice given es in
+      let groups = wrong_groups_from unit after_it ss in
+      let elements = given_twice_from unit after_it (es ++ given) ss in
+      list_any-append test (option_to_list (line_when (wrong || twice) s.line)) (data_lines unit after_it (es ++ given) ss)
+      ∙ ((λ i. (any-line (wrong || twice) s.line ∙ sym (and-split wrong twice (test s.line))) i || lines-both unit after_it (es ++ given) ss i)
+      ∙ (or-swapped (wrong && test s.line) (twice && test s.line) (list_any by groups) (list_any by elements)
+      ∙ (λ i. (ap (λ b. b || list_any by groups) (sym (any-when wrong s.line)) ∙ sym (list_any-append by (when wrong (at_line 311 s.line)) groups)) i
+      || (ap (λ b. b || list_any by elements) (sym (any-when twice s.line)) ∙ sym (list_any-append by (when twice (at_line 311 s.line)) elements)) i)))
+
+  pub lines-told : (unit : List Statement) → list_any test (data_lines unit [] [] unit) ≡ list_any by (data_violations unit)
+  lines-told unit = lines-both unit [] [] unit ∙ sym (list_any-append by (wrong_groups_from unit [] unit) (given_twice_from unit [] [] unit))

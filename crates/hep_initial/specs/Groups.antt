@@ -45,6 +45,13 @@ twice_line unit known given (s ∷ ss) =
 abbrev pub data_line : List Statement → Constants → List Stretch → List Statement → Option ℕ
 data_line unit known given ss = least_line (wrong_line unit known ss) (twice_line unit known given ss)
 
+-- the lines of all statements that violate 311
+abbrev pub data_lines : List Statement → Constants → List Stretch → List Statement → List ℕ
+data_lines unit known given [] = []
+data_lines unit known given (s ∷ ss) =
+    option_to_list (line_when (is_wrong unit known s || is_given_twice given (elements_in unit known s)) s.line)
+    ++ data_lines unit (given_by unit known (constants_in s.form)) (elements_in unit known s ++ given) ss
+
 -- ---- what is given values
 
 abbrev pub elements_of_target : List Statement → Constants → Target → List Stretch

@@ -6,4 +6,4 @@ mod given;
 mod shapes;
 mod violation;
 
-pub use violation::data_violation;
+pub use violation::{data_lines, data_violation};

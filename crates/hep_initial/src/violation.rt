@@ -1,11 +1,12 @@
 //! 311: where DATA stands, and what it gives values (X3.9-1978, section 9).
-ghost use Rattle.std.specs.Prelude.{◌≡◌, ◌&&◌, ◌||◌, [], not, IfOk, OnOk};
+ghost use Rattle.std.specs.Prelude.{◌≡◌, ◌&&◌, ◌||◌, ◌++◌, [], ℕ, Bool, not, option_to_list, IfOk, OnOk};
 ghost use Rattle.std.specs.List.{list_any};
 ghost use Rattle.indexmap.specs.IndexMap.{get};
 ghost use Rattle.hep_machine.specs.Words.{name_eq, is_nonempty};
 ghost use Rattle.hep_source.specs.Units as units;
 ghost use Rattle.hep_conditions.specs.Data as conditions;
 ghost use Rattle.hep_conditions.specs.Words.{first_of};
+ghost use Rattle.hep_conditions.specs.declared.violation.Violation.{Violation as PureViolation};
 ghost use Rattle.hep_initial.specs.Given.{Gives};
 ghost use Rattle.hep_initial.specs.Groups as passes;
 ghost use Rattle.hep_initial.specs.Shapes.{IsTable};
@@ -183,4 +184,43 @@ pub fn data_violation(alloc: Global, symbols: &Symbols) -> Result<Option<Violati
     ensures { IfOk result (λ violation. violation ≡ first_of (conditions.data_violations symbols.now)) }
 {
     Ok(reported(311, least_wrong(alloc, symbols)?))
+}
+
+// Adds a line, where there is one.
+fn add_line(lines: &mut Vec<u32>, line: Option<u32>) -> Result<(), AllocError>
+    ensures { OnOk result (lines.new.items ≡ lines.old.items ++ option_to_list line) }
+{
+    if let Some(line) = line {
+        lines.push(line)?;
+    }
+    Ok(())
+}
+
+/// The lines of all violations of 311 in a unit, in its order.
+///
+/// # Errors
+///
+/// Only where memory was refused.
+pub fn data_lines(alloc: Global, symbols: &Symbols) -> Result<Vec<u32>, AllocError>
+    ensures { IfOk result (λ lines. (test : ℕ → Bool) → list_any test lines.items
+        ≡ list_any (λ (v : PureViolation). test v.line) (conditions.data_violations symbols.now)) }
+{
+    let mut constants = Constants::new(alloc);
+    let mut shapes = ShapeTable::new(alloc, symbols)?;
+    let mut given = Given::new(alloc);
+    let mut lines = Vec::new(alloc);
+    for statement in symbols.statements() {
+        let is_wrong = give_values(
+            alloc,
+            symbols,
+            &mut shapes,
+            &constants,
+            &mut given,
+            statement,
+        )?;
+        add_line(&mut lines, line_when(is_wrong, statement.line))?;
+        let behind = constants_in(&statement.form);
+        give(alloc, symbols, &mut constants, behind)?;
+    }
+    Ok(lines)
 }

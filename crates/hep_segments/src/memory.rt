@@ -8,7 +8,7 @@ ghost use Rattle.hep_segments.specs.Bases.{values_of};
 ghost use Rattle.hep_segments.specs.Segments.{value_copied};
 
 use crate::ticket::Copied;
-use hep_machine::Slot;
+use hep_arena::Cell;
 use hep_private::Record;
 use hep_source::Value;
 
@@ -18,7 +18,7 @@ pub(crate) enum Base<'a> {
     /// Those of a ticket's copies.
     Copies(&'a [Copied]),
     /// Those in the slots of the arena, in which the frame begins at a cell.
-    Slots { slots: &'a [Slot], first: usize },
+    Slots { slots: &'a [Cell], first: usize },
 }
 
 /// The cells of an activation: those of its unit's private scalars, what they have before the first step, and the records of the steps since.
@@ -42,11 +42,11 @@ fn copied(copies: &[Copied], cell: usize) -> Option<Value>
 }
 
 // The value that a cell of a frame has in the arena, if it has one.
-fn held(slots: &[Slot], first: usize, cell: usize) -> Option<Value>
+fn held(slots: &[Cell], first: usize, cell: usize) -> Option<Value>
     ensures { result ≡ values_at slots.now first cell }
 {
     match slots.get(first.checked_add(cell)?) {
-        Some(slot) => slot.value,
+        Some(held) => held.value(),
         None => None,
     }
 }

@@ -18,8 +18,8 @@ use crate::progress::{Progress, Source, deed_behind, has_room};
 use crate::records::Records;
 use crate::segment::Segment;
 use crate::taking::{take_steps, unit_of};
+use hep_arena::Cell;
 use hep_image::Image;
-use hep_machine::Slot;
 use hep_machine::values::integer_of;
 use hep_private::Record;
 use hep_source::Value;
@@ -31,7 +31,7 @@ pub struct Place<'a> {
     pub unit: u32,
     pub index: usize,
     pub operands: &'a [Value],
-    pub slots: &'a [Slot],
+    pub slots: &'a [Cell],
     pub first: u32,
 }
 

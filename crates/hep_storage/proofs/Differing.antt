@@ -20,7 +20,7 @@ use Rattle.hep_storage.proofs.Sharing.{one-more}
 
 -- ---- two lists of a block
 
-abbrev differs : BlockName → KnownPlaces → KnownPlaces → Bool
+abbrev pub differs : BlockName → KnownPlaces → KnownPlaces → Bool
 differs b k l =
     not (agree_as_far alike k.positions l.positions)
     || (is_some b && (k.is_whole && (l.is_whole && not (nat_eq (place_count k) (place_count l)))))
@@ -46,7 +46,7 @@ count-places [] = refl
 count-places (r ∷ rs) = ap (λ n. r.count + n) (count-places rs) ∙ sym (length-repeat r.count (position_of r.item) (positions_in (map run_of rs)))
 
 -- two lists are not the same where they differ
-contents-differ : (b : BlockName) (ps qs : Items conditions.Position) → not (conditions.same_contents b ps qs) ≡ differs b (known_places ps) (known_places qs)
+pub contents-differ : (b : BlockName) (ps qs : Items conditions.Position) → not (conditions.same_contents b ps qs) ≡ differs b (known_places ps) (known_places qs)
 contents-differ None ps qs = rw (agree-places ps.items qs.items) (grind arith)
 contents-differ (Some x) ps qs = rw (agree-places ps.items qs.items, count-places ps.items, count-places qs.items) (grind arith)
 
@@ -57,7 +57,7 @@ length-more : (k l : KnownPlaces) (s : Lengths)
     → ((k.is_whole && (l.is_whole && not (nat_eq (place_count k) (place_count l)))) || is_other_length l s) ≡ is_other_length l (with_length k s)
 length-more k l s = grind (arith, nat_tests)
 
-differs-more : (b : BlockName) (k l : KnownPlaces) (s : Summed) → (differs b k l || differs_from b s l) ≡ differs_from b (with_list k s) l
+pub differs-more : (b : BlockName) (k l : KnownPlaces) (s : Summed) → (differs b k l || differs_from b s l) ≡ differs_from b (with_list k s) l
 differs-more b k l s =
     rw (sym (one-more s.is_cut s.positions k.positions l.positions), sym (length-more k l s.lengths))
     (grind arith)
@@ -90,16 +90,16 @@ module _ {U : Type 0} (line : U → U → Option ℕ) where
 
 -- ---- units
 
-abbrev pair_of_blocks : BlockName → Option Block → Option Block → Option ℕ
+abbrev pub pair_of_blocks : BlockName → Option Block → Option Block → Option ℕ
 pair_of_blocks b None d = None
 pair_of_blocks b (Some c) None = None
 pair_of_blocks b (Some c) (Some d) = line_when (differs b c.list d.list) d.line
 
-abbrev pair : BlockName → List Statement → List Statement → Option ℕ
+abbrev pub pair : BlockName → List Statement → List Statement → Option ℕ
 pair b unit later = pair_of_blocks b (block_in unit b) (block_in later b)
 
 -- what these units have in a block, the last one first
-abbrev summed_over : BlockName → Units → Summed
+abbrev pub summed_over : BlockName → Units → Summed
 summed_over b [] = nothing_summed
 summed_over b (unit ∷ units) = with_block (block_in unit b) (summed_over b units)
 
@@ -114,14 +114,14 @@ block_differs-line b unit later = by (conditions.last_line b unit) (conditions.l
         (reported-when 305 line (not (conditions.same_contents b (conditions.positions_of_block unit b) (conditions.positions_of_block later b)))
         ∙ ap (λ d. reported 305 (line_when d line)) (contents-differ b (conditions.positions_of_block unit b) (conditions.positions_of_block later b)))
 
-nothing-differs : (b : BlockName) (k : KnownPlaces) → differs_from b nothing_summed k ≡ false
+pub nothing-differs : (b : BlockName) (k : KnownPlaces) → differs_from b nothing_summed k ≡ false
 nothing-differs b k = by k.positions
   where
     by : (qs : List Position) → (departs false [] qs || (is_some b && (k.is_whole && false))) ≡ false
     by [] = grind arith
     by (q ∷ qs) = grind arith
 
-no-pair : (b : BlockName) (c : Option Block) → pair_of_blocks b c None ≡ None
+pub no-pair : (b : BlockName) (c : Option Block) → pair_of_blocks b c None ≡ None
 no-pair b None = refl
 no-pair b (Some c) = refl
 

@@ -4,3 +4,4 @@ pub mod Tables
 pub mod Turns
 pub mod Listings
 pub mod BlockTables
+mod Told

@@ -37,7 +37,7 @@ named-among b bs (c ∷ cs) h =
 
 -- ---- a unit of a program
 
-unit-among : (program : Units) (i : ℕ) (d : List Statement) → i < length program → (b : BlockName) → is_some (block_in (get_or program i d) b) ≡ true → is_block_among b (blocks_of program) ≡ true
+pub unit-among : (program : Units) (i : ℕ) (d : List Statement) → i < length program → (b : BlockName) → is_some (block_in (get_or program i d) b) ≡ true → is_block_among b (blocks_of program) ≡ true
 unit-among program i d lt b h =
     let unit = get_or program i d in
     let there = sym (some-mapped (λ (line : ℕ). record { list = known_places (conditions.positions_of_block unit b); line = line }) (conditions.last_line b unit)) ∙ h in
@@ -103,17 +103,17 @@ module _ (k : BlockName) (f g : BlockName → Option ℕ) (other : (b : BlockNam
 
 module _ (k : BlockName) (s t : BlockName → Summed) (left fewer : BlockName → Option Block) (less : (b : BlockName) → fewer b ≡ (if same_block k b then None else left b))
     (more : (b : BlockName) → t b ≡ (if same_block k b then with_block (left k) (s k) else s b)) where
-  block-joined : (b : BlockName) → with_block (fewer b) (t b) ≡ with_block (left b) (s b)
+  pub block-joined : (b : BlockName) → with_block (fewer b) (t b) ≡ with_block (left b) (s b)
   block-joined b = rw (less b, more b) (by (same_block k b) refl)
     where
       by : (e : Bool) → same_block k b ≡ e → with_block (if e then None else left b) (if e then with_block (left k) (s k) else s b) ≡ with_block (left b) (s b)
       by true e = ap (λ d. with_block (left d) (s d)) (equal_blocks k b e)
       by false e = refl
 
-  block-among : (bs : List BlockName) → AreAmong bs left → AreAmong bs fewer
+  pub block-among : (bs : List BlockName) → AreAmong bs left → AreAmong bs fewer
   block-among bs h b e = grind (arith, less b, h b)
 
-  fewer-line : (b : BlockName) → line_after b (t b) (fewer b) ≡ (if same_block k b then None else line_after b (s b) (left b))
+  pub fewer-line : (b : BlockName) → line_after b (t b) (fewer b) ≡ (if same_block k b then None else line_after b (s b) (left b))
   fewer-line b = grind (arith, less b, more b)
 
   block-turn : (bs : List BlockName) (best line : Option ℕ) → AreAmong bs left → line ≡ line_after k (s k) (left k)

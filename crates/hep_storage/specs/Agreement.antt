@@ -1,5 +1,6 @@
 -- What the units before say of a common block in a later one: X3.9-1978, 8.3.
-use Rattle.std.specs.Prelude.{◌≡◌, ℕ, Bool, true, false, not, ◌&&◌, ◌||◌, nat_eq, if◌then◌else◌, List, [], ◌∷◌, length, Option, Some, None, is_some}
+use Rattle.std.specs.Prelude.{◌≡◌, ℕ, Bool, true, false, not, ◌&&◌, ◌||◌, nat_eq, if◌then◌else◌, List, [], ◌∷◌, length, Option, Some, None, is_some, option_to_list}
+use Rattle.std.specs.List.{list_any}
 use Rattle.hep_machine.specs.Words.{Units, BlockName, is_block_among}
 use Rattle.hep_conditions.specs.Words.{least_line, line_when, least_line_of}
 use Rattle.hep_storage.specs.Blocks.{KnownPlaces, Block, block_in}
@@ -82,6 +83,24 @@ least_of_blocks bs s units = least_line_of (λ b. least_after b (s b) units) bs
 -- the least line of these blocks of one unit
 abbrev pub least_of_left : List BlockName → (BlockName → Summed) → (BlockName → Option Block) → Option ℕ
 least_of_left bs s left = least_line_of (λ b. line_after b (s b) (left b)) bs
+
+-- ---- the lines of all units that have a block otherwise than one before, as a test of a line sees them
+
+-- a line is there, and passes
+abbrev pub passes : (ℕ → Bool) → Option ℕ → Bool
+passes test line = list_any test (option_to_list line)
+
+abbrev pub passes_after : (ℕ → Bool) → BlockName → Summed → Units → Bool
+passes_after test b s [] = false
+passes_after test b s (unit ∷ units) = passes test (line_after b s (block_in unit b)) || passes_after test b (with_block (block_in unit b) s) units
+
+-- of these blocks
+abbrev pub passes_of_blocks : (ℕ → Bool) → List BlockName → (BlockName → Summed) → Units → Bool
+passes_of_blocks test bs s units = list_any (λ b. passes_after test b (s b) units) bs
+
+-- of these blocks of one unit
+abbrev pub passes_left : (ℕ → Bool) → List BlockName → (BlockName → Summed) → (BlockName → Option Block) → Bool
+passes_left test bs s left = list_any (λ b. passes test (line_after b (s b) (left b))) bs
 
 -- each block that there is, is among these
 abbrev pub AreAmong : List BlockName → (BlockName → Option Block) → Type 0

@@ -1,8 +1,10 @@
 //! Condition 305: units have a common block otherwise (X3.9-1978, 8.3.3 to 8.3.5).
-ghost use Rattle.std.specs.Prelude.{◌≡◌, List, None, IfOk};
+ghost use Rattle.std.specs.Prelude.{◌≡◌, ◌||◌, ◌++◌, ℕ, Bool, List, None, option_to_list, IfOk, OnOk};
+ghost use Rattle.std.specs.List.{list_any};
 ghost use Rattle.hep_machine.specs.Words.{BlockName, blocks_of};
 ghost use Rattle.hep_conditions.specs.Common as conditions;
 ghost use Rattle.hep_conditions.specs.Words.{first_of};
+ghost use Rattle.hep_conditions.specs.declared.violation.Violation.{Violation as PureViolation};
 ghost use Rattle.hep_storage.specs.Agreement as agreement;
 ghost use Rattle.hep_storage.specs.Table.{block_at, summed_in, entry_at};
 
@@ -61,4 +63,57 @@ pub fn common_violation(
     ensures { IfOk result (λ violation. violation ≡ first_of (conditions.common_violations program.now)) }
 {
     Ok(reported(305, least_differing(alloc, program)?))
+}
+
+// Adds a line, where there is one.
+fn add_line(lines: &mut Vec<u32>, line: Option<u32>) -> Result<(), AllocError>
+    ensures { OnOk result (lines.new.items ≡ lines.old.items ++ option_to_list line) }
+{
+    if let Some(line) = line {
+        lines.push(line)?;
+    }
+    Ok(())
+}
+
+// Adds the lines of the blocks of a unit, which all have their names here, that differ.
+fn add_in_unit(
+    lines: &mut Vec<u32>,
+    table: &mut Table,
+    named: &[Option<Name>],
+) -> Result<(), AllocError>
+    requires { agreement.AreAmong named.now (λ b. block_at (entry_at table.old b)) }
+    ensures lines { OnOk result ((all : List BlockName) → agreement.AreAmong all (λ b. block_at (entry_at table.old b)) → (test : ℕ → Bool)
+        → list_any test lines.new.items ≡ (list_any test lines.old.items
+        || agreement.passes_left test all (λ b. summed_in (entry_at table.old b)) (λ b. block_at (entry_at table.old b)))) }
+    ensures added { OnOk result ((b : BlockName) → summed_in (entry_at table.new b)
+        ≡ agreement.with_block (block_at (entry_at table.old b)) (summed_in (entry_at table.old b))) }
+    ensures none { OnOk result ((b : BlockName) → block_at (entry_at table.new b) ≡ None) }
+{
+    for block in named {
+        let line = settle(table, *block);
+        add_line(lines, line)?;
+    }
+    Ok(())
+}
+
+/// The lines of all violations of 305 in a program, in whatever order.
+///
+/// # Errors
+///
+/// Only where memory was refused.
+pub fn common_lines(alloc: Global, program: &ProgramSymbols) -> Result<Vec<u32>, AllocError>
+    ensures { IfOk result (λ lines. (test : ℕ → Bool) → list_any test lines.items
+        ≡ list_any (λ (v : PureViolation). test v.line) (conditions.common_violations program.now)) }
+{
+    let mut table = IndexMap::new(alloc);
+    let mut named = Vec::new(alloc);
+    let mut noted = IndexSet::new(alloc);
+    let mut lines = Vec::new(alloc);
+    for symbols in program.units() {
+        read_blocks(alloc, symbols, &mut table, &mut named, &mut noted)?;
+        add_in_unit(&mut lines, &mut table, &named)?;
+        named.clear();
+        noted.clear();
+    }
+    Ok(lines)
 }

@@ -8,4 +8,4 @@ mod contents;
 mod summary;
 mod table;
 
-pub use agreement::common_violation;
+pub use agreement::{common_lines, common_violation};

@@ -2,17 +2,17 @@
 use Rattle.std.proofs.Common.{◌≡◌, ℕ, true, false, List, ◌∷◌, ◌++◌, append_assoc, ap, refl, sym, ◌∙◌}
 use Rattle.hep_machine.specs.Words.{Name, Occurrence, Statement, Units}
 use Rattle.hep_conditions.specs.Words.{FunctionTypes, Parameters, Violations}
-use Rattle.hep_told.specs.Told.{is_untyped_at, names_after, parameters_after, statement_told, told_after, told_from, untold, untyped_told, with_name}
+use Rattle.hep_told.specs.Told.{Lines, is_untyped_at, names_after, parameters_after, statement_told, told_after, told_from, untold, untyped_told, with_name}
 
-pub walked : (program : Units) (unit labels : List Statement) (ps later : Parameters) (told after : List Name) (s : Statement) (ss xs : List Statement) (found next whole : Violations)
-    → labels ≡ unit → xs ≡ s ∷ ss → found ++ told_from program unit ps told xs ≡ whole → next ≡ found ++ statement_told program unit labels ps told s
+pub walked : (program : Units) (lines there : Lines) (unit : List Statement) (ps later : Parameters) (told after : List Name) (s : Statement) (ss xs : List Statement) (found next whole : Violations)
+    → there ≡ lines → xs ≡ s ∷ ss → found ++ told_from program lines unit ps told xs ≡ whole → next ≡ found ++ statement_told program there unit ps told s
     → later ≡ parameters_after unit ps s → after ≡ names_after program unit told s
-    → next ++ told_from program unit later after ss ≡ whole
-walked program unit labels ps later told after s ss xs found next whole same d h n p t =
-    (λ j. n j ++ told_from program unit (p j) (t j) ss)
-    ∙ ((λ j. (found ++ statement_told program unit (same j) ps told s) ++ told_from program unit (parameters_after unit ps s) (names_after program unit told s) ss)
-    ∙ (append_assoc found (statement_told program unit unit ps told s) (told_from program unit (parameters_after unit ps s) (names_after program unit told s) ss)
-    ∙ (ap (λ ys. found ++ told_from program unit ps told ys) (sym d) ∙ h)))
+    → next ++ told_from program lines unit later after ss ≡ whole
+walked program lines there unit ps later told after s ss xs found next whole same d h n p t =
+    (λ j. n j ++ told_from program lines unit (p j) (t j) ss)
+    ∙ ((λ j. (found ++ statement_told program (same j) unit ps told s) ++ told_from program lines unit (parameters_after unit ps s) (names_after program unit told s) ss)
+    ∙ (append_assoc found (statement_told program lines unit ps told s) (told_from program lines unit (parameters_after unit ps s) (names_after program unit told s) ss)
+    ∙ (ap (λ ys. found ++ told_from program lines unit ps told ys) (sym d) ∙ h)))
 
 -- ---- one more name
 

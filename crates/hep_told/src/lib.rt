@@ -1,12 +1,14 @@
-//! The violations of a unit as they are told where more is asked for than the first one: statement by statement, by one walk.
+//! The violations of a program as they are told where more is asked for than the first one: statement by statement, by one walk.
 //!
-//! 305, 307, 308 and 309 aren't looked for here: they are about several statements or units, and `hep_check` tells the first ones.
+//! What is violated by several statements or units together, 305 to 309 and 311, is looked for before, and told at its lines.
 #![tactic(auto)]
 
+pub mod laws;
+mod lines;
 mod names;
 mod tested;
 mod unit;
 mod unknown;
 pub mod walk;
 
-pub use walk::violations_by_statement;
+pub use walk::told;

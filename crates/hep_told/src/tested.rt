@@ -1,4 +1,4 @@
-//! Which conditions a statement violates by itself: 303, 304, 306 and 312.
+//! Which conditions a statement violates by a test: all but 301, 302 and 310.
 ghost use Rattle.std.specs.Prelude.{◌≡◌, ◌&&◌, ◌++◌, IfOk, OnOk};
 ghost use Rattle.std.specs.Option.{is_none};
 ghost use Rattle.hep_source.specs.Units.{subroutine_name};

@@ -1,5 +1,5 @@
 //! A unit as it is walked over.
-use hep_control::Labels;
+use crate::lines::{ProgramLines, UnitLines};
 use hep_names::{ProgramSymbols, Symbols};
 use std::alloc::Global;
 
@@ -12,6 +12,8 @@ pub(crate) struct UnitOf<'a> {
     pub(crate) program: &'a ProgramSymbols<'a>,
     /// The table of the unit.
     pub(crate) symbols: &'a Symbols<'a>,
-    /// Its labels.
-    pub(crate) labels: &'a Labels<'a>,
+    /// The lines at which conditions of the program are violated.
+    pub(crate) shared: &'a ProgramLines,
+    /// The lines at which conditions of the unit are violated.
+    pub(crate) own: &'a UnitLines,
 }

@@ -1,15 +1,17 @@
 //! One walk over the statements of a unit, with what it tells of each.
-ghost use Rattle.std.specs.Prelude.{◌≡◌, ◌++◌, [], false, IfOk, OnOk};
-ghost use Rattle.hep_conditions.specs.Words.{function_types, no_parameters};
+ghost use Rattle.std.specs.Prelude.{◌≡◌, ◌++◌, ℕ, IfOk, OnOk};
+ghost use Rattle.std.specs.List.{flat_map};
+ghost use Rattle.hep_conditions.specs.Words.{common_violations, name_violations};
+ghost use Rattle.hep_told.specs.Lines.{is_in, lines_at};
 ghost use Rattle.hep_told.specs.Told as words;
 
+use crate::lines::{ProgramLines, UnitLines};
 use crate::names::{add_untyped, is_any_untyped};
 use crate::tested::{add_when, is_misplaced};
 use crate::unit::UnitOf;
 use crate::unknown::{add_unknown_call, add_unknown_in_form, add_unknown_listed};
 use hep_conditions::Violation;
-use hep_control::Labels;
-use hep_culprits::{absent_in_form, miscounted, misfit};
+use hep_culprits::{miscounted, misfit};
 use hep_names::occurrences::occurrences;
 use hep_names::{ProgramSymbols, Symbols, names_with_lists};
 use hep_source::Statement;
@@ -32,25 +34,36 @@ fn add_unknown(
     add_unknown_listed(found, unit.program, unit.symbols, statement.line, &names)
 }
 
-// Adds 303, 304, 306, 310 and 312 of a statement, 304 unless a name in it has no type.
+// Adds 305 to 309 of a statement, which several statements or units have together.
+fn add_shared(found: &mut Vec<Violation>, unit: &UnitOf<'_>, line: u32) -> Result<(), AllocError>
+    ensures { OnOk result (found.new.items ≡ found.old.items ++ words.shared_told (lines_at unit.now.shared.now unit.now.own.now) line) }
+{
+    add_when(found, unit.shared.common.has(line), 305, line)?;
+    add_when(found, unit.own.labels.has(line), 306, line)?;
+    add_when(found, unit.own.structure.has(line), 307, line)?;
+    add_when(found, unit.own.jumps.has(line), 308, line)?;
+    add_when(found, unit.shared.names.has(line), 309, line)
+}
+
+// Adds 303 to 312 of a statement, 304 unless a name in it has no type.
 fn add_others(
     found: &mut Vec<Violation>,
     unit: &UnitOf<'_>,
     is_doubtful: bool,
     statement: &Statement,
 ) -> Result<(), AllocError>
-    ensures { OnOk result (found.new.items ≡ found.old.items
-        ++ words.others_told unit.now.program.now unit.now.symbols.now unit.now.labels.now is_doubtful statement.now) }
+    ensures { OnOk result (found.new.items ≡ found.old.items ++ words.others_told unit.now.program.now
+        (lines_at unit.now.shared.now unit.now.own.now) unit.now.symbols.now is_doubtful statement.now) }
 {
     let line = statement.line;
     let is_miscounted = miscounted(unit.alloc, unit.program, unit.symbols, statement)?.is_some();
     let is_misfit = misfit(unit.alloc, unit.program, unit.symbols, statement)?.is_some();
-    let is_absent = absent_in_form(unit.labels, &statement.form).is_some();
     let is_misplaced = is_misplaced(unit.symbols.statements(), &statement.form);
     add_when(found, is_miscounted, 303, line)?;
     add_when(found, is_misfit && !is_doubtful, 304, line)?;
-    add_when(found, is_absent, 306, line)?;
+    add_shared(found, unit, line)?;
     add_unknown(found, unit, statement)?;
+    add_when(found, unit.own.values.has(line), 311, line)?;
     add_when(found, is_misplaced, 312, line)
 }
 
@@ -63,7 +76,8 @@ fn add_statement(
     statement: &Statement,
 ) -> Result<(), AllocError>
     ensures found { OnOk result (found.new.items ≡ found.old.items
-        ++ words.statement_told unit.now.program.now unit.now.symbols.now unit.now.labels.now parameters.old told.old statement.now) }
+        ++ words.statement_told unit.now.program.now (lines_at unit.now.shared.now unit.now.own.now) unit.now.symbols.now
+        parameters.old told.old statement.now) }
     ensures taken { OnOk result (parameters.new ≡ words.parameters_after unit.now.symbols.now parameters.old statement.now) }
     ensures told { OnOk result (told.new ≡ words.names_after unit.now.program.now unit.now.symbols.now told.old statement.now) }
 {
@@ -81,31 +95,48 @@ fn add_statement(
     add_others(found, unit, is_doubtful, statement)
 }
 
-/// The violations of a unit of a program that statements have by themselves, statement by statement: 301 at the first appearance of a
-/// name, 302 and 304 of statements whose names have types, 303, 306 of a label that isn't there, 310 and 312.
-///
-/// # Errors
-///
-/// Only where memory was refused.
-pub fn violations_by_statement(
+// The violations of a unit of a program, statement by statement.
+fn told_in(
     alloc: Global,
     program: &ProgramSymbols,
     symbols: &Symbols,
+    shared: &ProgramLines,
 ) -> Result<Vec<Violation>, AllocError>
-    ensures { IfOk result (λ found. found.items ≡ words.violations_by_statement program.now symbols.now) }
+    requires common { (line : ℕ) → is_in shared.now.common line ≡ words.has_line (common_violations program.now) line }
+    requires names { (line : ℕ) → is_in shared.now.names line ≡ words.has_line (name_violations program.now) line }
+    ensures { IfOk result (λ found. found.items ≡ words.told_in program.now symbols.now) }
 {
-    let labels = Labels::new(alloc, symbols.statements())?;
+    let own = UnitLines::new(alloc, program, symbols)?;
     let unit = UnitOf {
         alloc,
         program,
         symbols,
-        labels: &labels,
+        shared,
+        own: &own,
     };
     let mut parameters = Parameters::new(alloc);
     let mut told = NameSet::new(alloc);
     let mut found = Vec::new(alloc);
     for statement in symbols.statements() {
         add_statement(&mut found, &unit, &mut parameters, &mut told, statement)?;
+    }
+    Ok(found)
+}
+
+/// The violations of a program as they are told, unit by unit, statement by statement and of one statement by number: 301 at the first
+/// appearance of a name in its unit, 302 and 304 of statements whose names have types, and all others at each statement that has them.
+///
+/// # Errors
+///
+/// Only where memory was refused.
+pub fn told(alloc: Global, program: &ProgramSymbols) -> Result<Vec<Violation>, AllocError>
+    ensures { IfOk result (λ found. found.items ≡ words.told program.now) }
+{
+    let shared = ProgramLines::new(alloc, program)?;
+    let mut found = Vec::new(alloc);
+    for symbols in program.units() {
+        let told = told_in(alloc, program, symbols, &shared)?;
+        found.extend_from_slice(&told)?;
     }
     Ok(found)
 }

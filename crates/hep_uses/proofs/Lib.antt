@@ -1,3 +1,4 @@
 pub mod Used
 pub mod Overlaps
 pub mod Ways
+pub mod Reported

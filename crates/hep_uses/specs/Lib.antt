@@ -1,2 +1,3 @@
 pub mod Uses
 pub mod Ambiguous
+pub mod Ambiguities

@@ -118,7 +118,7 @@ fn misnamed_line(statement: &Statement) -> Option<u32>
     }
 }
 
-fn is_of_the_language(name: &Name) -> bool
+pub(crate) fn is_of_the_language(name: &Name) -> bool
     ensures { result ≡ not (is_external (function_named name.now)) }
 {
     match function_named(name) {

@@ -3,8 +3,10 @@ ghost use Rattle.std.specs.Prelude.{◌≡◌, ◌<◌, ◌++◌, None, length, 
 ghost use Rattle.std.specs.List.{flat_map};
 ghost use Rattle.hep_source.specs.declared.declaration.ImplicitGroup.{ImplicitGroup as PureGroup};
 ghost use Rattle.hep_conditions.specs.Names as conditions;
+ghost use Rattle.hep_uses.specs.Ambiguities as spec;
 ghost use Rattle.hep_uses.specs.Ambiguous as passes;
 
+use crate::ambiguity::{Ambiguity, add_when};
 use hep_conditions::reported::{lesser, line_when};
 use hep_source::{Form, ImplicitGroup, LetterRange, Statement};
 use std::alloc::{AllocError, Global};
@@ -96,4 +98,20 @@ pub(crate) fn least_overlapping(ranges: &[(LetterRange, u32)]) -> Option<u32>
         note(&mut lasts, range);
     }
     least
+}
+
+/// Adds each range with a letter of a range before it.
+pub(crate) fn add_overlapping(
+    found: &mut Vec<Ambiguity>,
+    ranges: &[(LetterRange, u32)],
+) -> Result<(), AllocError>
+    ensures { OnOk result (found.new.items ≡ found.old.items ++ spec.repeated_letters ranges.now) }
+{
+    let mut lasts = [None; 256];
+    for (range, line) in ranges {
+        let is_overlapping = meets(&lasts, range);
+        add_when(found, is_overlapping, None, *line)?;
+        note(&mut lasts, range);
+    }
+    Ok(())
 }

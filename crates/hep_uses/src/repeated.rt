@@ -13,8 +13,8 @@ use hep_source::Name;
 use indexmap::{IndexMap, IndexSet};
 use std::alloc::{AllocError, Global};
 
-// Adds a name to those seen, and says whether it was there.
-fn add(seen: &mut IndexSet<Name>, name: Name) -> Result<bool, AllocError>
+/// Adds a name to those seen, and says whether it was there.
+pub(crate) fn add(seen: &mut IndexSet<Name>, name: Name) -> Result<bool, AllocError>
     ensures added { OnOk result ((x : PureName) → contains name_eq seen.new x ≡ (same_name x name || contains name_eq seen.old x)) }
     ensures seen { IfOk result (λ was_there. was_there ≡ contains name_eq seen.old name) }
 {

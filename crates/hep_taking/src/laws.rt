@@ -1,0 +1,31 @@
+//! Laws of tickets, of the steps of segments in a machine, and of what is put back.
+ghost use Rattle.std.specs.Prelude.{◌≡◌, ℕ, List, drop};
+ghost use Rattle.hep_machine.specs.Words.{Units, Value};
+ghost use Rattle.hep_source.specs.declared.value.Value.{Value as AValue};
+ghost use Rattle.hep_segments.specs.declared.ticket.TicketId.{TicketId as ATicketId};
+ghost use Rattle.hep_segments.specs.Segments.{IsComputed, IsMadeFrom, SegmentValue, Start};
+ghost use Rattle.hep_state.specs.Words.{HasLevels, Snapshot};
+ghost use Rattle.hep_taking.specs.Levels.{snapshot_taken, start_in, ticket_of};
+ghost use Rattle.hep_taking.specs.OwnCells.{own_cells_of};
+ghost use Rattle.hep_taking.specs.Saved.{saved_of, snapshot_restored};
+ghost use Rattle.hep_taking.specs.Taking.{HasMovedOn};
+
+/// A segment that is computed of a ticket with copies of all own cells has the steps that come next where the ticket is from.
+pub fn tickets_have_what_is_read()
+    ensures { (program : Units) (start : Start) (id : ATicketId) (s : SegmentValue)
+        → IsComputed program (ticket_of id start (own_cells_of program start.unit)) s → IsMadeFrom program start s }
+{
+    hep_private::laws::private_steps_depend_on_reads();
+    hep_private_laws::laws::private_steps_store_in_own_cells();
+}
+
+/// Where the steps of a segment were made, and constants may have become operands since, what was kept of the process before, with all its
+/// own cells, gives back the whole machine once it is put back.
+pub fn restored_machines_are_as_before()
+    ensures { (program : Units) (m new : Snapshot) (p : ℕ) (s : SegmentValue) (levels : HasLevels m p) (after : HasLevels new p)
+        → IsMadeFrom program (start_in levels) s → HasMovedOn levels s new
+        → snapshot_restored after (own_cells_of program levels.level.unit) (saved_of levels (own_cells_of program levels.level.unit)) ≡ m }
+{
+    hep_private_laws::laws::private_steps_store_in_own_cells();
+    hep_private_laws::laws::saved_cells_undo_stores();
+}

@@ -1,0 +1,35 @@
+//! Operands in vectors.
+ghost use Rattle.std.specs.Prelude.{◌≡◌, ◌≤◌, IfOk, OnOk, length, vec_capacity};
+
+use hep_source::Value;
+use std::alloc::{AllocError, Global};
+
+/// These values in a vector of their own.
+pub(crate) fn copy_of(alloc: Global, values: &[Value]) -> Result<Vec<Value>, AllocError>
+    ensures { IfOk result (λ copy. copy.items ≡ values.now) }
+{
+    let mut copy = Vec::with_capacity(alloc, values.len())?;
+    copy.extend_from_slice(values)?;
+    Ok(copy)
+}
+
+/// These values in the place of others.
+pub(crate) fn keep_operands(kept: &mut Vec<Value>, values: &[Value]) -> Result<(), AllocError>
+    ensures { OnOk result (kept.new.items ≡ values.now) }
+{
+    kept.clear();
+    kept.extend_from_slice(values)?;
+    Ok(())
+}
+
+/// These values in the place of others, for which there is room.
+pub(crate) fn refill(operands: &mut Vec<Value>, values: &[Value])
+    requires { length values.now ≤ vec_capacity operands.old }
+    ensures values { operands.new.items ≡ values.now }
+    ensures capacity { vec_capacity operands.old ≤ vec_capacity operands.new }
+{
+    operands.clear();
+    for value in values {
+        operands.push_reserved(*value);
+    }
+}

@@ -1,0 +1,174 @@
+//! The top activation of a process.
+ghost use Rattle.std.specs.Prelude.{◌≡◌, ◌≤◌, ◌<◌, ◌↔◌, IsTrue, IfOk, OnOk, length, vec_len, vec_capacity};
+ghost use Rattle.hep_proc.specs.Stacks.{IsSameProcess};
+ghost use Rattle.hep_segments.specs.Segments as segments;
+ghost use Rattle.hep_segments.specs.Segments.{IsKept, IsMadeFrom};
+ghost use Rattle.hep_taking.specs.Levels as levels;
+ghost use Rattle.hep_taking.specs.OwnCells.{own_cells_of};
+ghost use Rattle.hep_taking.specs.Saved.{saved_in};
+ghost use Rattle.hep_taking.specs.Tops.{HoldsOfStart, IsOwned, IsStanding, KeepsTop, RestoresCells, StandsWith, StoresIn};
+
+use crate::operands::{copy_of, keep_operands, refill};
+use crate::own_cells::Owned;
+use crate::saving::Saved;
+use crate::slots::{apply_over, copies_in, keep_slots, put_over};
+use hep_image::Image;
+use hep_proc::{Frames, Process};
+use hep_segments::{Place, Segment, Ticket, TicketId};
+use hep_source::Value;
+use hep_state::place;
+use std::alloc::{AllocError, Global};
+
+/// A segment begins where the activation is, and what its steps read before they stored it is there.
+pub(crate) fn is_kept(
+    process: &Process,
+    frames: &mut Frames,
+    image: &Image,
+    segment: &Segment,
+) -> bool
+    requires { IsStanding image.now process.now frames.old }
+    ensures kept { HoldsOfStart process.now frames.old (λ start. IsTrue result ↔ IsKept start segment.now) }
+    ensures same { frames.new ≡ frames.old }
+{
+    let (_, frame, index) = place(process, frames, image);
+    let place = Place {
+        unit: process.top().unit,
+        index,
+        operands: &process.operands,
+        slots: frames.arena.slots_mut(),
+        first: frame.first,
+    };
+    hep_segments::is_kept(&place, segment)
+}
+
+/// The steps of a segment are the private ones that come next of the activation, by an image.
+pub(crate) fn is_made(
+    process: &Process,
+    frames: &mut Frames,
+    image: &Image,
+    segment: &Segment,
+) -> bool
+    requires { IsStanding image.now process.now frames.old }
+    ensures made { HoldsOfStart process.now frames.old (λ start. IsTrue result ↔ IsMadeFrom image.now start segment.now) }
+    ensures same { frames.new ≡ frames.old }
+{
+    let (_, frame, index) = place(process, frames, image);
+    let place = Place {
+        unit: process.top().unit,
+        index,
+        operands: &process.operands,
+        slots: frames.arena.slots_mut(),
+        first: frame.first,
+    };
+    hep_segments::is_made(image, &place, segment)
+}
+
+/// The next step of the activation is private, by an image.
+pub(crate) fn is_next_private(process: &Process, frames: &mut Frames, image: &Image) -> bool
+    requires { IsStanding image.now process.now frames.old }
+    ensures private { HoldsOfStart process.now frames.old (λ start. result ≡ segments.is_next_private image.now start) }
+    ensures same { frames.new ≡ frames.old }
+{
+    let (_, frame, index) = place(process, frames, image);
+    let place = Place {
+        unit: process.top().unit,
+        index,
+        operands: &process.operands,
+        slots: frames.arena.slots_mut(),
+        first: frame.first,
+    };
+    hep_segments::is_next_private(image, &place)
+}
+
+/// The ticket of the activation, with copies of its own cells.
+///
+/// Fails only where memory was refused.
+pub(crate) fn ticket_of(
+    alloc: Global,
+    process: &Process,
+    frames: &mut Frames,
+    owned: &Owned<'_>,
+    id: TicketId,
+) -> Result<Ticket, AllocError>
+    requires { IsOwned owned.now process.now frames.old }
+    ensures ticket { IfOk result (λ ticket. HoldsOfStart process.now frames.old (λ start.
+        ticket ≡ levels.ticket_of id start (own_cells_of owned.now.image.now start.unit))) }
+    ensures same { frames.new ≡ frames.old }
+{
+    let (_, frame, index) = place(process, frames, owned.image);
+    let level = process.top();
+    let cells = owned.cells(level.unit as usize);
+    let operands = copy_of(alloc, &process.operands)?;
+    let copies = copies_in(alloc, frames.arena.slots_mut(), frame.first, cells)?;
+    Ok(Ticket::new(id, level.unit, index, operands, copies))
+}
+
+/// What the activation has for itself, in the place of what was kept.
+///
+/// Fails only where memory was refused.
+pub(crate) fn keep(
+    saved: &mut Saved,
+    process: &Process,
+    frames: &mut Frames,
+    owned: &Owned<'_>,
+) -> Result<(), AllocError>
+    requires { IsOwned owned.now process.now frames.old }
+    ensures kept { OnOk result (KeepsTop owned.now.image.now process.now frames.old (saved_in saved.new)) }
+    ensures same { frames.new ≡ frames.old }
+{
+    let (_, frame, index) = place(process, frames, owned.image);
+    let level = process.top();
+    let cells = owned.cells(level.unit as usize);
+    keep_slots(
+        &mut saved.slots,
+        frames.arena.slots_mut(),
+        frame.first,
+        cells,
+    )?;
+    keep_operands(&mut saved.operands, &process.operands)?;
+    saved.index = index;
+    Ok(())
+}
+
+// The activation has these operands, for which there is room, and is at an index.
+fn stand_with(process: &mut Process, operands: &[Value], index: usize)
+    requires some { 0 < vec_len process.old.levels }
+    requires room { length operands.now ≤ vec_capacity process.old.operands }
+    ensures stack { StandsWith process.old operands.now index process.new }
+    ensures same { IsSameProcess process.old process.new }
+{
+    refill(&mut process.operands, operands);
+    process.stand_at(index);
+}
+
+/// The steps of a segment are made at once: what they stored is in the cells of the frame, and the activation is where they lead.
+pub(crate) fn take(process: &mut Process, frames: &mut Frames, image: &Image, segment: &Segment)
+    requires standing { IsStanding image.now process.old frames.old }
+    requires room { length segment.now.end_operands ≤ vec_capacity process.old.operands }
+    ensures stack { StandsWith process.old segment.now.end_operands segment.now.end_index process.new }
+    ensures cells { StoresIn process.old frames.old segment.now.records frames.new }
+    ensures nodes { frames.new.nodes ≡ frames.old.nodes }
+    ensures holes { frames.new.arena.holes ≡ frames.old.arena.holes }
+    ensures same { IsSameProcess process.old process.new }
+{
+    let (_, frame, _) = place(process, frames, image);
+    apply_over(&mut frames.arena, frame.first, segment.records());
+    stand_with(process, segment.end_operands(), segment.end_index());
+}
+
+/// What the activation had for itself is put back.
+pub(crate) fn put_back(process: &mut Process, frames: &mut Frames, owned: &Owned<'_>, saved: &Saved)
+    requires owned { IsOwned owned.now process.old frames.old }
+    requires room { length saved.now.operands.items ≤ vec_capacity process.old.operands }
+    ensures stack { StandsWith process.old saved.now.operands.items saved.now.index process.new }
+    ensures cells { RestoresCells owned.now.image.now process.old frames.old saved.now.slots.items frames.new }
+    ensures nodes { frames.new.nodes ≡ frames.old.nodes }
+    ensures holes { frames.new.arena.holes ≡ frames.old.arena.holes }
+    ensures same { IsSameProcess process.old process.new }
+{
+    let (_, frame, _) = place(process, frames, owned.image);
+    let level = process.top();
+    let cells = owned.cells(level.unit as usize);
+    put_over(&mut frames.arena, frame.first, cells, &saved.slots);
+    stand_with(process, &saved.operands, saved.index);
+}

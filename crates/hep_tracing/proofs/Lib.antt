@@ -1,0 +1,2 @@
+mod PureSteps
+mod PlainSteps

@@ -1,0 +1,2 @@
+pub mod Pure
+pub mod Plain

@@ -1,0 +1,274 @@
+//! All that is ambiguous in a program: 309, line by line (X3.9-1978, 8.5, 18.1 and 18.2).
+ghost use Rattle.std.specs.Prelude.{◌≡◌, ◌++◌, ℕ, Bool, IfOk, OnOk};
+ghost use Rattle.std.specs.List.{flat_map, list_any};
+ghost use Rattle.indexmap.specs.IndexMap.{get};
+ghost use Rattle.hep_machine.specs.Words.{name_eq};
+ghost use Rattle.hep_conditions.specs.Words.{function_types, name_violations};
+ghost use Rattle.hep_conditions.specs.declared.violation.Violation.{Violation as PureViolation};
+ghost use Rattle.hep_uses.specs.declared.ambiguity.Ambiguity.{Ambiguity as PureAmbiguity};
+ghost use Rattle.hep_uses.specs.Ambiguities as spec;
+
+use crate::ambiguous::is_of_the_language;
+use crate::letters::{add_overlapping, letter_ranges};
+use crate::repeated::{add, lines_by_name};
+use crate::uses::{Use, Way, uses_in_program, uses_of};
+use hep_names::{ProgramSymbols, Symbols};
+use hep_source::{Form, Name, Statement};
+use indexmap::{IndexMap, IndexSet};
+use std::alloc::{AllocError, Global};
+
+/// What is ambiguous at a line: a name, or letters of IMPLICIT, which have none.
+#[derive(Clone, Copy, Debug, PartialEq, Eq)]
+pub struct Ambiguity {
+    /// The name.
+    pub name: Option<Name>,
+    /// The line that is reported.
+    pub line: u32,
+}
+
+/// Adds what is ambiguous at a line, where it is.
+pub(crate) fn add_when(
+    found: &mut Vec<Ambiguity>,
+    is_ambiguous: bool,
+    name: Option<Name>,
+    line: u32,
+) -> Result<(), AllocError>
+    ensures { OnOk result (found.new.items ≡ found.old.items ++ spec.ambiguous_when is_ambiguous name line) }
+{
+    if is_ambiguous {
+        found.push(Ambiguity { name, line })?;
+    }
+    Ok(())
+}
+
+// Adds each use whose name a use before it has.
+fn add_repeated(found: &mut Vec<Ambiguity>, alloc: Global, uses: &[Use]) -> Result<(), AllocError>
+    ensures { OnOk result (found.new.items ≡ found.old.items ++ spec.repeated_names uses.now) }
+{
+    let mut seen = IndexSet::new(alloc);
+    for (name, line) in uses {
+        let is_repeated = add(&mut seen, *name)?;
+        add_when(found, is_repeated, Some(*name), *line)?;
+    }
+    Ok(())
+}
+
+// A line is there, and doesn't stand behind another one.
+fn is_by(other: Option<u32>, line: u32) -> bool
+    ensures { result ≡ spec.is_by other line }
+{
+    other.is_some_and(|other| other <= line)
+}
+
+// Adds each use whose name the table has by its line.
+fn add_met(
+    found: &mut Vec<Ambiguity>,
+    lines: &IndexMap<Name, u32>,
+    uses: &[Use],
+) -> Result<(), AllocError>
+    ensures { OnOk result (found.new.items ≡ found.old.items ++ spec.met_from (get name_eq lines.now) uses.now) }
+{
+    for (name, line) in uses {
+        let is_met = is_by(lines.get(name).copied(), *line);
+        add_when(found, is_met, Some(*name), *line)?;
+    }
+    Ok(())
+}
+
+// Adds each use of one list whose name the other list has by its line.
+fn add_both_ways(
+    found: &mut Vec<Ambiguity>,
+    alloc: Global,
+    one: &[Use],
+    other: &[Use],
+) -> Result<(), AllocError>
+    ensures { OnOk result (found.new.items ≡ found.old.items ++ spec.met_both_ways one.now other.now) }
+{
+    let ones = lines_by_name(alloc, one)?;
+    let others = lines_by_name(alloc, other)?;
+    add_met(found, &ones, other)?;
+    add_met(found, &others, one)?;
+    Ok(())
+}
+
+// Adds the names that a unit uses twice in a way.
+fn add_twice(
+    found: &mut Vec<Ambiguity>,
+    alloc: Global,
+    program: &ProgramSymbols,
+    symbols: &Symbols,
+    way: Way,
+) -> Result<(), AllocError>
+    ensures { OnOk result (found.new.items ≡ found.old.items ++ spec.twice_in (function_types program.now) symbols.now way) }
+{
+    let uses = uses_of(alloc, program, symbols, way)?;
+    add_repeated(found, alloc, &uses)?;
+    Ok(())
+}
+
+fn add_given_twice(
+    found: &mut Vec<Ambiguity>,
+    alloc: Global,
+    program: &ProgramSymbols,
+    symbols: &Symbols,
+    ways: &[Way],
+) -> Result<(), AllocError>
+    ensures { OnOk result (found.new.items
+        ≡ found.old.items ++ flat_map (spec.twice_in (function_types program.now) symbols.now) ways.now) }
+{
+    for way in ways {
+        add_twice(found, alloc, program, symbols, *way)?;
+    }
+    Ok(())
+}
+
+// Adds the names that a unit uses in two ways.
+fn add_two_ways(
+    found: &mut Vec<Ambiguity>,
+    alloc: Global,
+    program: &ProgramSymbols,
+    symbols: &Symbols,
+    one: Way,
+    other: Way,
+) -> Result<(), AllocError>
+    ensures { OnOk result (found.new.items
+        ≡ found.old.items ++ spec.two_ways_in (function_types program.now) symbols.now one other) }
+{
+    let uses = uses_of(alloc, program, symbols, one)?;
+    let others = uses_of(alloc, program, symbols, other)?;
+    add_both_ways(found, alloc, &uses, &others)?;
+    Ok(())
+}
+
+fn add_misused(
+    found: &mut Vec<Ambiguity>,
+    alloc: Global,
+    program: &ProgramSymbols,
+    symbols: &Symbols,
+    one: Way,
+    ways: &[Way],
+) -> Result<(), AllocError>
+    ensures { OnOk result (found.new.items
+        ≡ found.old.items ++ flat_map (spec.two_ways_in (function_types program.now) symbols.now one) ways.now) }
+{
+    for way in ways {
+        add_two_ways(found, alloc, program, symbols, one, *way)?;
+    }
+    Ok(())
+}
+
+// Adds the header that gives a function the name of one of the language.
+fn add_misnamed(found: &mut Vec<Ambiguity>, statement: &Statement) -> Result<(), AllocError>
+    ensures { OnOk result (found.new.items ≡ found.old.items ++ spec.misnamed_in statement.now) }
+{
+    if let Form::Function(_, occurrence, _) = &statement.form {
+        let is_taken = is_of_the_language(&occurrence.name);
+        add_when(found, is_taken, Some(occurrence.name), statement.line)?;
+    }
+    Ok(())
+}
+
+fn add_all_misnamed(found: &mut Vec<Ambiguity>, unit: &[Statement]) -> Result<(), AllocError>
+    ensures { OnOk result (found.new.items ≡ found.old.items ++ flat_map spec.misnamed_in unit.now) }
+{
+    for statement in unit {
+        add_misnamed(found, statement)?;
+    }
+    Ok(())
+}
+
+// Adds the constants, results, called names and functions that a unit uses for something else too.
+fn add_misused_names(
+    found: &mut Vec<Ambiguity>,
+    alloc: Global,
+    program: &ProgramSymbols,
+    symbols: &Symbols,
+) -> Result<(), AllocError>
+    ensures { OnOk result (found.new.items
+        ≡ found.old.items ++ spec.misused_names (function_types program.now) symbols.now) }
+{
+    let no_constants = [
+        Way::Dummy,
+        Way::Bounded,
+        Way::Common,
+        Way::Data,
+        Way::Assigned,
+        Way::Called,
+    ];
+    let no_results = [Way::Dummy, Way::Bounded, Way::Common, Way::Constant];
+    add_misused(found, alloc, program, symbols, Way::Constant, &no_constants)?;
+    add_misused(found, alloc, program, symbols, Way::Result, &no_results)?;
+    add_all_misnamed(found, symbols.statements())?;
+    add_two_ways(found, alloc, program, symbols, Way::Called, Way::Variable)?;
+    add_two_ways(found, alloc, program, symbols, Way::Function, Way::Alone)?;
+    Ok(())
+}
+
+// Adds what is ambiguous in a unit.
+fn add_in_unit(
+    found: &mut Vec<Ambiguity>,
+    alloc: Global,
+    program: &ProgramSymbols,
+    symbols: &Symbols,
+) -> Result<(), AllocError>
+    ensures { OnOk result (found.new.items ≡ found.old.items ++ spec.ambiguous_in (function_types program.now) symbols.now) }
+{
+    let given_once = [
+        Way::Dummy,
+        Way::Typed,
+        Way::Bounded,
+        Way::Common,
+        Way::Constant,
+    ];
+    let ranges = letter_ranges(alloc, symbols.statements())?;
+    add_overlapping(found, &ranges)?;
+    add_given_twice(found, alloc, program, symbols, &given_once)?;
+    add_two_ways(found, alloc, program, symbols, Way::Dummy, Way::Common)?;
+    add_misused_names(found, alloc, program, symbols)?;
+    Ok(())
+}
+
+fn add_in_units(
+    found: &mut Vec<Ambiguity>,
+    alloc: Global,
+    program: &ProgramSymbols,
+) -> Result<(), AllocError>
+    ensures { OnOk result (found.new.items
+        ≡ found.old.items ++ flat_map (spec.ambiguous_in (function_types program.now)) program.now) }
+{
+    for symbols in program.units() {
+        add_in_unit(found, alloc, program, symbols)?;
+    }
+    Ok(())
+}
+
+// Adds the names that two units have, or a unit and a common block.
+fn add_units(
+    found: &mut Vec<Ambiguity>,
+    alloc: Global,
+    program: &ProgramSymbols,
+) -> Result<(), AllocError>
+    ensures { OnOk result (found.new.items ≡ found.old.items ++ spec.ambiguous_units program.now) }
+{
+    let units = uses_in_program(alloc, program, Way::Header)?;
+    let blocks = uses_in_program(alloc, program, Way::Block)?;
+    add_repeated(found, alloc, &units)?;
+    add_both_ways(found, alloc, &units, &blocks)?;
+    Ok(())
+}
+
+/// All that is ambiguous in a program, in whatever order.
+///
+/// # Errors
+///
+/// Only where memory was refused.
+pub fn ambiguities(alloc: Global, program: &ProgramSymbols) -> Result<Vec<Ambiguity>, AllocError>
+    ensures listed { IfOk result (λ found. found.items ≡ spec.ambiguities program.now) }
+    ensures lines { IfOk result (λ found. (test : ℕ → Bool) → list_any (λ (a : PureAmbiguity). test a.line) found.items
+        ≡ list_any (λ (v : PureViolation). test v.line) (name_violations program.now)) }
+{
+    let mut found = Vec::new(alloc);
+    add_units(&mut found, alloc, program)?;
+    add_in_units(&mut found, alloc, program)?;
+    Ok(found)
+}
