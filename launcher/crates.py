@@ -58,12 +58,12 @@ def chains(stands_on, took):
     return found
 
 
-def sums(stands_on, folder):
-    """By crate, a sum of all that is proved of it and of the crates that it stands on, and of the toolchain; in this folder."""
+def sums(stands_on, folder, parts=PARTS):
+    """By crate, a sum of all that is proved of it and of the crates that it stands on, and of the toolchain; in this folder, of these parts."""
     found, rows, kit = {}, lines(), toolchain()
     for name, used in stands_on.items():
         made = hashlib.sha256(repr((kit, rows[name], [found[it] for it in used])).encode())
-        for part in PARTS:
+        for part in parts:
             for path in sorted((folder / "crates" / name / part).rglob("*")):
                 if path.is_file():
                     made.update(f"{path.relative_to(folder)}\0".encode() + hashlib.sha256(path.read_bytes()).digest())

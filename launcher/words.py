@@ -14,8 +14,10 @@ from pathlib import Path
 ROOT = Path(__file__).resolve().parent.parent
 COMMAND = ROOT / "crates" / "hep_command" / "src"
 COLUMNS = 80
-# What stands for a file in the manual page.
-FILES = ("FILE", "HISTORY")
+# What stands for a file in the manual page, or for what names of files begin with.
+FILES = ("FILE", "HISTORY", "PREFIX")
+# What stands for a number.
+NUMBERS = ("N", "K")
 # What stands there for one word or more.
 WORDS = "WORD.."
 # What every command takes, before it or behind it, and what asks for help.
@@ -145,7 +147,7 @@ def meanings():
 
 def explanation(name):
     """What a name or a number means, and what to do."""
-    if not re.fullmatch(r"\+?\d+", name):
+    if not re.fullmatch(r"\+?[0-9]+", name):
         found = meanings().get(name.upper())
         if not found:
             raise Mistake(constant("explaining.rt", "NO_NAME"))
@@ -179,7 +181,7 @@ class Job:
 
 
 def checked_number(name, text, least, most):
-    if not re.fullmatch(r"\+?\d+", text) or not least <= int(text) <= most:
+    if not re.fullmatch(r"\+?[0-9]+", text) or not least <= int(text) <= most:
         raise Mistake(f"error: {name} takes a number, {least} to {most}, and not {text}\n")
 
 
@@ -192,6 +194,8 @@ def taken(command, form, words):
         if word in HELPS:
             return None
         if word in FLAGS or word in form.flags:
+            if word in job.flags:
+                raise Mistake(f"error: {command} gets {word} twice\n")
             job.flags.append(word)
             continue
         if word == "--":
@@ -201,7 +205,9 @@ def taken(command, form, words):
             job.operands.append(word)
         elif name not in form.options:
             raise Mistake(f"error: {command} has no option {name}\n")
-        elif not has_value and not left:
+        elif name in dict(job.options):
+            raise Mistake(f"error: {command} gets {name} twice\n")
+        elif not has_value and (not left or left[0].startswith("-") and left[0] != "-"):
             raise Mistake(f"error: {name} wants {form.options[name]}\n")
         else:
             job.options.append((name, value if has_value else left.pop(0)))
@@ -216,22 +222,25 @@ def judge(manual, job, form):
         wrong = f"lacks {' '.join(lacking)}" if lacking else f"doesn't take {job.operands[len(form.operands)]}"
         raise Mistake(f"error: {job.command} {wrong}\n\nUsage: {form.line}\n")
     for name, value in job.options:
-        if form.options[name] == "N":
+        if form.options[name] in NUMBERS:
             least, most = re.search(r"(\d+) to (\d+)", of_tag(manual["OPTIONS"], name)[1]).groups()
             checked_number(name, value, int(least), int(most))
     given = dict(job.options)
     choices, history = given.get("--choices"), given.get("--history")
     if history is not None and history in (choices, *job.operands):
         raise Mistake(constant("words.rt", "SAME_FILE"))
-    if choices is not None and "--workers" in given:
-        raise Mistake(constant("words.rt", "TWO_ORDERS"))
+    orders = [it for it in ("--choices", "--workers", "--seed") if it in given]
+    if len(orders) > 1:
+        raise Mistake(constant("words.rt", "LOTS_TOO" if "--seed" in orders else "TWO_ORDERS"))
 
 
 def read(manual, words, of):
     """The text that words ask for, or the job that they are."""
     found = forms(manual)
     before = [*itertools.takewhile(lambda word: word in FLAGS, words)]
-    if before == words:
+    if len(before) > 1:
+        raise Mistake(f"error: {before[0]} is there twice\n")
+    if words[len(before) :] in ([], ["--"]):
         return Job(flags=before)
     first, *rest = words[len(before) :]
     if first == "help" and (not rest or rest[0] in HELPS) or first in HELPS:

@@ -179,7 +179,7 @@ impl Arena {
         ensures contents { self.new.contents ≡ slice_set self.old.contents at slot }
         ensures holes { self.new.holes ≡ self.old.holes }
     {
-        self.region.slots_mut()[at as usize] = Cell::new(slot);
+        self.region.slots_mut()[at as usize].set(slot);
     }
 
     /// The slots of all cells, to be read and written.

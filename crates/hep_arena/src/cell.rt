@@ -1,5 +1,7 @@
 //! A cell as it stands in memory.
 ghost use Rattle.std.specs.Prelude.{◌≡◌, Some};
+ghost use Rattle.std.specs.Option.{option_map};
+ghost use Rattle.hep_machine.specs.Words.{integer_of};
 
 use hep_machine::Slot;
 use hep_source::Value;
@@ -41,6 +43,8 @@ impl Model for Cell {
 }
 
 impl Cell {
+    ghost use Rattle.hep_arena.specs.Cells.{IsHeld, value_held};
+
     /// The cell with a slot.
     #[inline(always)]
     pub fn new(slot: Slot) -> Cell
@@ -95,14 +99,50 @@ impl Cell {
         }
     }
 
+    /// The integer that its value is, if it has one: 0 of a logical value, as wherever an integer is asked for.
+    #[inline(always)]
+    pub fn integer(&self) -> Option<i64>
+        ensures { result ≡ option_map integer_of self.now.value }
+    {
+        match self.holding {
+            Holding::Nothing => None,
+            Holding::Integer => Some(self.number),
+            Holding::False => Some(self.number),
+            Holding::True => Some(self.number),
+        }
+    }
+
+    // It holds this, with this number. The fields are written one by one, for a whole cell is copied with the bytes between them.
+    #[inline(always)]
+    fn hold(&mut self, holding: Holding, number: i64)
+        requires { IsHeld holding number }
+        ensures { self.new ≡ record { value = value_held holding number; full = self.old.full } }
+    {
+        self.number = number;
+        self.holding = holding;
+    }
+
     /// Stores a value. Whether the cell is full stays.
     #[inline(always)]
     pub fn store(&mut self, value: Value)
         ensures { self.new ≡ record { value = Some value; full = self.old.full } }
     {
-        *self = Cell::new(Slot {
-            value: Some(value),
-            full: self.full,
-        });
+        match value {
+            Value::Int(integer) => self.hold(Holding::Integer, integer),
+            Value::Truth(false) => self.hold(Holding::False, 0),
+            Value::Truth(true) => self.hold(Holding::True, 0),
+        }
+    }
+
+    /// Has another slot.
+    #[inline(always)]
+    pub fn set(&mut self, slot: Slot)
+        ensures { self.new ≡ slot }
+    {
+        self.full = slot.full;
+        match slot.value {
+            None => self.hold(Holding::Nothing, 0),
+            Some(value) => self.store(value),
+        }
     }
 }

@@ -1,5 +1,5 @@
 -- What is told of a program that isn't accepted are violations of it.
-use Rattle.std.proofs.Common.{◌≡◌, Bool, true, false, not, ◌&&◌, if◌then◌else◌, List, [], ◌∷◌, Option, Some, None, refl, sym, ap, subst, ⊎_elim}
+use Rattle.std.proofs.Common.{◌≡◌, Bool, true, false, not, ◌&&◌, if◌then◌else◌, [], ◌∷◌, Option, Some, None, refl, sym, subst, ⊎_elim}
 use Rattle.std.specs.List.{Contains}
 use Rattle.std.proofs.lemmas.List.Elements.{Contains-append_cases}
 use Rattle.std.proofs.lemmas.Option.{none-some, same_Some}
@@ -8,7 +8,7 @@ use Rattle.hep_conditions.specs.declared.violation.Violation.{Violation}
 use Rattle.hep_conditions.specs.Violations.{earlier}
 use Rattle.hep_conditions.specs.Words.{Violations, first_of, first_violation, precedes, violations}
 use Rattle.hep_told.specs.Told.{told}
-use Rattle.hep_told.proofs.Members.{contains-here, contains-more, contains-one, none-contained}
+use Rattle.hep_told.proofs.Members.{contains-here, contains-more, contains-one}
 use Rattle.hep_told.proofs.Sound.{told-within}
 use Rattle.hep_check.specs.Further.{behind, further, is_same}
 

@@ -1,5 +1,5 @@
 -- What a core keeps, and what is seen of it: docs/ARCHITECTURE.md, "Forms".
-use Rattle.std.specs.Prelude.{◌≡◌, ◌≢◌, ◌≤◌, ℕ, true, List, None, length}
+use Rattle.std.specs.Prelude.{◌≡◌, ◌≢◌, ◌≤◌, ℕ, true, List, None}
 use Rattle.hep_machine.specs.declared.event.Entry.{Entry}
 use Rattle.hep_machine.specs.Words.{IsLegal, Units, living, progress_after, schedule_of, state_after}
 use Rattle.hep_blocked.specs.Listing.{AreListed}

@@ -1,5 +1,5 @@
 -- Who is ready and who waits no more after a turn that made a step: docs/MACHINE.md, "Which process comes next".
-use Rattle.std.specs.Prelude.{◌≡◌, ℕ, ◌+◌, ◌≤◌, Bool, false, List, Option, Some, length, slice_get}
+use Rattle.std.specs.Prelude.{◌≡◌, ℕ, ◌+◌, ◌≤◌, Bool, false, List, Option, Some, slice_get}
 use Rattle.std.specs.Option.{is_some}
 use Rattle.hep_machine.specs.Words.{Units, is_number_among, living, run}
 use Rattle.hep_cells.specs.declared.want.Want.{Want}

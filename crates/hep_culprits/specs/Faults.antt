@@ -1,5 +1,5 @@
 -- The names that 309 is about, by lines: docs/MACHINE.md, "Notes".
-use Rattle.std.specs.Prelude.{ℕ, Bool, find, nat_eq, if◌then◌else◌, List, [], ◌∷◌, ◌++◌, map, Option, Some, None}
+use Rattle.std.specs.Prelude.{ℕ, Bool, find, nat_eq, if◌then◌else◌, List, [], ◌∷◌, Option, Some, None}
 use Rattle.std.specs.Option.{option_map, option_or, unwrap_or}
 use Rattle.hep_source.specs.declared.statement.Form.TheVariants as form
 use Rattle.hep_machine.specs.Words.{Form, Name, Occurrence, Statement, Units, name_eq, occurrences_in_statement}

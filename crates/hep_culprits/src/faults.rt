@@ -1,8 +1,7 @@
 //! The names that 309 is about, by the lines at which it is reported (X3.9-1978, 18.1 and 18.2).
-ghost use Rattle.std.specs.Prelude.{◌≡◌, ◌++◌, ℕ, find, nat_eq, IfOk, OnOk};
-ghost use Rattle.std.specs.Option.{option_map, option_or};
+ghost use Rattle.std.specs.Prelude.{◌≡◌, ℕ, find, nat_eq, IfOk, OnOk};
+ghost use Rattle.std.specs.Option.{option_or};
 ghost use Rattle.indexmap.specs.IndexMap.{get};
-ghost use Rattle.hep_machine.specs.Words.{occurrences_in_statement};
 ghost use Rattle.hep_uses.specs.Ambiguities.{ambiguities};
 ghost use Rattle.hep_culprits.specs.Faults as words;
 

@@ -12,7 +12,7 @@ use Rattle.hep_run.proofs.Fronts.{source_left}
 use Rattle.hep_run.proofs.Outcomes.{made_left}
 
 -- the status says all of a run without a history
-alone : (o : Outcome) (run : Run) (output output' messages messages' : Option (List ℕ)) → o.history ≡ [] → Leaves o run output output' messages messages' → Leaves o (status_alone run.status) output output' messages messages'
+pub alone : (o : Outcome) (run : Run) (output output' messages messages' : Option (List ℕ)) → o.history ≡ [] → Leaves o run output output' messages messages' → Leaves o (status_alone run.status) output output' messages messages'
 alone o run output output' messages messages' none (inl all) =
     inl (record { status = all.status; history = sym none; output_taken = all.output_taken; messages_taken = all.messages_taken })
 alone o run output output' messages messages' none (inr broken) = inr (record { status = broken.status; history = sym none; taken = broken.taken })

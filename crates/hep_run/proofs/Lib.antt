@@ -2,11 +2,11 @@ mod Schedules
 mod Drawings
 mod Counts
 mod Messages
-mod Fronts
-mod Accepted
+pub mod Fronts
+pub mod Accepted
 mod Answered
-mod Outcomes
+pub mod Outcomes
+pub mod Large
 mod Noted
 mod Worked
-mod Wanted
-mod Told
+pub mod Wanted

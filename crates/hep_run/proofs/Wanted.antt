@@ -42,7 +42,7 @@ abbrev IsNoted : Bool → (Units → ℕ → ℕ → List ℕ → Type 0) → Li
 IsNoted long Is bytes fault = Tells (λ number line name notes. IsRefusedFor Is bytes number line name × AreNotes long bytes number line name notes) fault
 
 -- a source that is too large has this refusal alone
-large-alone : (Is : Units → ℕ → ℕ → List ℕ → Type 0) (bytes : List ℕ) (number line : ℕ) (name notes : List ℕ) → statements_of bytes ≡ refusal 107 0 → IsRefusedFor Is bytes number line name → notes ≡ []
+pub large-alone : (Is : Units → ℕ → ℕ → List ℕ → Type 0) (bytes : List ℕ) (number line : ℕ) (name notes : List ℕ) → statements_of bytes ≡ refusal 107 0 → IsRefusedFor Is bytes number line name → notes ≡ []
     → tells_large (Refused number line name notes) ≡ true
 unfolding number_in line_in
 large-alone Is bytes number line name notes large (inl (e, unnamed)) bare =

@@ -8,7 +8,6 @@ pub mod Replay
 pub mod Workers
 pub mod Checks
 pub mod Warned
-pub mod States
 pub mod Refusals
 pub mod Memory
 pub mod Transcripts

@@ -1,7 +1,11 @@
 -- Where memory may be asked for: docs/MACHINE.md, "The program".
-use Rattle.std.specs.Prelude.{◌≡◌, ◌⊎◌, ◌&&◌, ℕ, nat_eq, Bool, true, false, List, length, IsSome}
+use Rattle.std.specs.Prelude.{◌≡◌, ◌⊎◌, ◌&&◌, ℕ, nat_eq, Bool, true, false, List, [], length, Option, Some, None, IsSome}
+use Rattle.std.specs.Io.KnownBytes.{Keeps}
 use Rattle.hep_text.specs.Reading.{is_too_large}
 use Rattle.hep_machine.specs.Words.{Units, opening_layout}
+use Rattle.hep_run.specs.declared.options.Run.{Run}
+use Rattle.hep_run.specs.Delivery.{CannotRead, Leaves, most_source_bytes}
+use Rattle.hep_run.specs.Outcome.{refused}
 use Rattle.hep_run.specs.declared.refusal.SourceFault.{SourceFault}
 use Rattle.hep_run.specs.declared.refusal.SourceFault.TheVariants.{NoMemory, Refused}
 
@@ -21,3 +25,22 @@ IsWant long source fault = fault ≡ NoMemory → MayReadOn long source
 abbrev pub tells_large : SourceFault → Bool
 tells_large NoMemory = false
 tells_large (Refused number line name notes) = nat_eq number 107 && (nat_eq line 0 && (nat_eq (length name) 0 && nat_eq (length notes) 0))
+
+-- ---- what is left of a source that is too large
+
+-- without notes its refusal, whatever memory there is
+abbrev pub RefusesLarge : Bool → List ℕ → Run → Option (List ℕ) → Option (List ℕ) → Option (List ℕ) → Option (List ℕ) → Type 0
+RefusesLarge long source run output output' messages messages' =
+    long ≡ false → is_too_large source ≡ true → Leaves (refused 107 0 [] []) run output output' messages messages'
+
+-- a reader's bytes are known, and too large a source
+abbrev pub IsKnownLarge : Option (List ℕ) → Type 0
+IsKnownLarge None = ⊥
+IsKnownLarge (Some source) = is_too_large source ≡ true
+
+-- the same of these, where they could be read
+abbrev pub RefusesLargeSource : Bool → Option (List ℕ) → Option (List ℕ) → Run → Option (List ℕ) → Option (List ℕ) → Option (List ℕ) → Option (List ℕ) → Type 0
+RefusesLargeSource long source source' run output output' messages messages' =
+    long ≡ false → IsKnownLarge source
+    → (Keeps output output' × CannotRead most_source_bytes source source' run.status messages messages')
+    ⊎ Leaves (refused 107 0 [] []) run output output' messages messages'

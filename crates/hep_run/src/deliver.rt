@@ -104,8 +104,8 @@ pub fn deliver<W: Write, E: Write>(transcript: Transcript, output: &mut W, messa
     write_messages(messages, lines.as_slice(), status, history)
 }
 
-// Writes the transcript that was made, as `deliver` does, or that memory was refused for it.
-pub(crate) fn deliver_made<W: Write, E: Write>(
+/// Writes the transcript that was made, as `deliver` does, or that memory was refused for it.
+pub fn deliver_made<W: Write, E: Write>(
     alloc: Global,
     made: Result<Transcript, AllocError>,
     output: &mut W,

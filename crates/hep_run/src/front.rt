@@ -1,7 +1,10 @@
 //! From a source's bytes to its program, checked or as a core runs it.
-ghost use Rattle.std.specs.Prelude.{◌≡◌, ◌⊎◌, ◌++◌, true, false, IfOk, IfErr, Ok, OnErr, OnOk};
+ghost use Rattle.std.specs.Prelude.{◌≡◌, ◌<◌, ◌⊎◌, ◌++◌, ℕ, List, true, false, IfOk, IfErr, Ok, OnErr, OnOk};
 ghost use Rattle.std.specs.List.{flat_map};
 ghost use Rattle.hep_text.specs.Reading.{statements_of};
+ghost use Rattle.hep_machine.specs.Words.{Units};
+ghost use Rattle.hep_lower.specs.Parts.{HaveStatements, parts_of};
+ghost use Rattle.hep_lower.specs.Refusals.{IsCodeBeyond};
 ghost use Rattle.hep_notes.specs.Refusals.{statement_notes};
 ghost use Rattle.hep_run.specs.Notes as told;
 ghost use Rattle.hep_run.specs.Notes.{also_of, line_notes_when, no_notes};
@@ -15,6 +18,7 @@ use hep_check::{Checked, Rejected, Told, Unaccepted, fault_of, judge, judge_furt
 use hep_conditions::Violation;
 use hep_culprits::{culprit_text, position_of};
 use hep_image::Image;
+use hep_lower::laws::limits_are_wide;
 use hep_lower::lower;
 use hep_notes::{Subject, append_also, line_notes, statement_notes};
 use hep_parse::parse;
@@ -232,4 +236,14 @@ pub fn image_of_source(alloc: Global, source: &[u8], long: bool) -> Result<Image
         Ok(image) => Ok(image),
         Err(refusal) => Err(refused_at_line(alloc, source, refusal, long)),
     }
+}
+
+/// Does nothing: its clauses say of 401 that each unit of a program that was read from a source has a statement, so that there are too
+/// many instructions only where it has more than 524,288 names, constants, labels, operators and statements.
+pub fn limits_of_sources_are_wide()
+    ensures statements { (source : List ℕ) (program : Units) → IsAcceptedSource source program → HaveStatements program }
+    ensures code { (source : List ℕ) (program : Units) → IsAcceptedSource source program → IsCodeBeyond program
+        → 524288 < parts_of program }
+{
+    limits_are_wide();
 }

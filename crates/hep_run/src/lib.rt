@@ -14,7 +14,6 @@ pub mod replay;
 pub mod run;
 pub mod sample;
 pub mod source;
-pub mod state;
 pub mod status;
 pub mod texts;
 pub mod transcript;
@@ -27,7 +26,7 @@ pub use hep_workers::{Gate, NoGate, WorkOptions};
 pub use input::ReadFault;
 pub use lots::{lots_bytes, lots_noted};
 pub use options::{
-    AskedLots, AskedReplay, AskedRun, AskedSample, AskedState, AskedWork, LotOptions, Options, Run,
+    AskedLots, AskedReplay, AskedRun, AskedSample, AskedWork, LotOptions, Options, Run,
     SampleOptions,
 };
 pub use sample::{MOST_SEED, Sample, lots_history, sample_bytes};
@@ -35,6 +34,5 @@ pub use source::{
     check_noted, check_source, list_noted, list_source, replay_bytes, replay_noted, replay_source,
     run_bytes, run_noted, run_source,
 };
-pub use state::{state_noted, state_source};
 pub use warned::{warn_noted, warn_source};
 pub use workers::{work_noted, work_source};

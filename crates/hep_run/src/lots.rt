@@ -3,7 +3,7 @@ ghost use Rattle.std.specs.Prelude.{◌≡◌, [], List, ℕ, IfOk, OnErr, OnOk}
 ghost use Rattle.hep_core.specs.Value.{opening_of};
 ghost use Rattle.hep_run.specs.Delivery.{LeavesOfSource, LeavesOneOf};
 ghost use Rattle.hep_run.specs.Draws.{IsDrawing, IsDrawnOut, IsDrawnOutcome, IsLotOutcome};
-ghost use Rattle.hep_run.specs.Memory.{MayOpen, MayReadOn};
+ghost use Rattle.hep_run.specs.Memory.{MayOpen, MayReadOn, RefusesLarge, RefusesLargeSource};
 ghost use Rattle.hep_run.specs.Transcripts.{outcome_of};
 
 use crate::deliver::deliver_made;
@@ -107,9 +107,11 @@ pub fn lots_bytes<W: Write, E: Write>(
     output: &mut W,
     messages: &mut E,
 ) -> Run
-    ensures { LeavesOneOf (IsLotOutcome asked.now.long asked.now.options.now source.now) result
+    ensures left { LeavesOneOf (IsLotOutcome asked.now.long asked.now.options.now source.now) result
         (W.contents output.old) (W.contents output.new)
         (E.contents messages.old) (E.contents messages.new) }
+    ensures large { RefusesLarge asked.now.long source.now result
+        (W.contents output.old) (W.contents output.new) (E.contents messages.old) (E.contents messages.new) }
 {
     let made = lots_transcript(alloc, source, asked.options, asked.long);
     deliver_made(alloc, made, output, messages)
@@ -125,9 +127,11 @@ pub fn lots_noted<R: Read, W: Write, E: Write>(
     output: &mut W,
     messages: &mut E,
 ) -> Run
-    ensures { LeavesOfSource (IsLotOutcome asked.now.long asked.now.options.now) (R.remaining source.old) (R.remaining source.new)
+    ensures left { LeavesOfSource (IsLotOutcome asked.now.long asked.now.options.now) (R.remaining source.old) (R.remaining source.new)
         result (W.contents output.old) (W.contents output.new)
         (E.contents messages.old) (E.contents messages.new) }
+    ensures large { RefusesLargeSource asked.now.long (R.remaining source.old) (R.remaining source.new) result
+        (W.contents output.old) (W.contents output.new) (E.contents messages.old) (E.contents messages.new) }
 {
     match read_input(alloc, source, MOST_BYTES) {
         Ok(bytes) => lots_bytes(alloc, &bytes, asked, output, messages),

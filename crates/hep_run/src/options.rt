@@ -58,21 +58,6 @@ pub struct AskedReplay<'a> {
     ghost few: { arena ≤ 16777216 },
 }
 
-/// What a state after the first entries of a history is asked for.
-#[derive(Clone, Copy)]
-pub struct AskedState<'a> {
-    /// The text of the history.
-    pub history: &'a [u8],
-    /// After how many entries; after all of them where there are no more.
-    pub entries: u64,
-    /// The arena's size in cells, 1 to 16,777,216.
-    pub arena: u32,
-    /// Whether more is said than the lines that are fixed.
-    pub long: bool,
-    ghost some: { 1 ≤ arena },
-    ghost few: { arena ≤ 16777216 },
-}
-
 /// What a run by workers is asked for.
 #[derive(Drop)]
 pub struct AskedWork<'a, H, G> {

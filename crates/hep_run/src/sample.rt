@@ -1,7 +1,8 @@
 //! Many runs of a source by lots, counted.
-ghost use Rattle.std.specs.Prelude.{◌≡◌, ◌≤◌, ◌+◌, ◌++◌, map, codes, IfOk, IfErr, OnOk};
+ghost use Rattle.std.specs.Prelude.{◌≡◌, ◌≤◌, ◌+◌, ◌++◌, map, codes, IfOk, IfErr, OnErr, OnOk};
 ghost use Rattle.hep_run.specs.declared.status.Status.TheVariants.{NoMemory};
 ghost use Rattle.hep_run.specs.Delivery.{LeavesOneOf, SaysLines, status_alone};
+ghost use Rattle.hep_run.specs.Memory.{MayReadOn, RefusesLarge};
 ghost use Rattle.hep_run.specs.Tallies as spec;
 ghost use Rattle.hep_run.specs.Tallies.{HasLotHistory, IsNth, IsSampleOutcome, IsSampled, IsTallied, Tally as Counted, counted, sample_text, tally_text};
 ghost use Rattle.hep_run.specs.Transcripts.{outcome_of};
@@ -215,7 +216,8 @@ fn sample_transcript(
     options: &SampleOptions,
     long: bool,
 ) -> Result<(Transcript, Vec<u64>), AllocError>
-    ensures { IfOk result (λ made. IsSampleOutcome long options.now made.1.items source.now (outcome_of made.0)) }
+    ensures made { IfOk result (λ made. IsSampleOutcome long options.now made.1.items source.now (outcome_of made.0)) }
+    ensures unmade { OnErr result (MayReadOn long source.now) }
 {
     match image_of_source(alloc, source, long) {
         Ok(_) => counted_transcript(alloc, source, options, long),
@@ -234,9 +236,11 @@ pub fn sample_bytes<W: Write, E: Write>(
     output: &mut W,
     messages: &mut E,
 ) -> Sample
-    ensures { LeavesOneOf (IsSampleOutcome asked.now.long asked.now.options.now result.seeds.items source.now) (status_alone result.status)
+    ensures left { LeavesOneOf (IsSampleOutcome asked.now.long asked.now.options.now result.seeds.items source.now) (status_alone result.status)
         (W.contents output.old) (W.contents output.new)
         (E.contents messages.old) (E.contents messages.new) }
+    ensures large { RefusesLarge asked.now.long source.now (status_alone result.status)
+        (W.contents output.old) (W.contents output.new) (E.contents messages.old) (E.contents messages.new) }
 {
     match sample_transcript(alloc, source, asked.options, asked.long) {
         Ok((transcript, seeds)) => Sample {

@@ -2,6 +2,7 @@
 ghost use Rattle.std.specs.Prelude.{◌≤◌, false};
 ghost use Rattle.hep_run.specs.Delivery.{LeavesOneOf, LeavesOfSource, status_alone};
 ghost use Rattle.hep_run.specs.Checks.{IsCheckOutcome, IsListOutcome};
+ghost use Rattle.hep_run.specs.Memory.{RefusesLarge, RefusesLargeSource};
 ghost use Rattle.hep_run.specs.Outcome.{IsOutcome};
 ghost use Rattle.hep_run.specs.Replay.{IsReplayOutcome};
 
@@ -37,9 +38,11 @@ pub fn check_noted<R: Read, W: Write, E: Write>(
     output: &mut W,
     messages: &mut E,
 ) -> u8
-    ensures { LeavesOfSource (IsCheckOutcome long) (R.remaining source.old) (R.remaining source.new)
+    ensures left { LeavesOfSource (IsCheckOutcome long) (R.remaining source.old) (R.remaining source.new)
         (status_alone result) (W.contents output.old) (W.contents output.new)
         (E.contents messages.old) (E.contents messages.new) }
+    ensures large { RefusesLargeSource long (R.remaining source.old) (R.remaining source.new) (status_alone result)
+        (W.contents output.old) (W.contents output.new) (E.contents messages.old) (E.contents messages.new) }
 {
     match read_input(alloc, source, MOST_BYTES) {
         Ok(bytes) => {
@@ -57,9 +60,11 @@ pub fn check_source<R: Read, W: Write, E: Write>(
     output: &mut W,
     messages: &mut E,
 ) -> u8
-    ensures { LeavesOfSource (IsCheckOutcome false) (R.remaining source.old) (R.remaining source.new)
+    ensures left { LeavesOfSource (IsCheckOutcome false) (R.remaining source.old) (R.remaining source.new)
         (status_alone result) (W.contents output.old) (W.contents output.new)
         (E.contents messages.old) (E.contents messages.new) }
+    ensures large { RefusesLargeSource false (R.remaining source.old) (R.remaining source.new) (status_alone result)
+        (W.contents output.old) (W.contents output.new) (E.contents messages.old) (E.contents messages.new) }
 {
     check_noted(alloc, source, false, output, messages)
 }
@@ -75,9 +80,11 @@ pub fn list_noted<R: Read, W: Write, E: Write>(
     output: &mut W,
     messages: &mut E,
 ) -> u8
-    ensures { LeavesOfSource (IsListOutcome long) (R.remaining source.old) (R.remaining source.new)
+    ensures left { LeavesOfSource (IsListOutcome long) (R.remaining source.old) (R.remaining source.new)
         (status_alone result) (W.contents output.old) (W.contents output.new)
         (E.contents messages.old) (E.contents messages.new) }
+    ensures large { RefusesLargeSource long (R.remaining source.old) (R.remaining source.new) (status_alone result)
+        (W.contents output.old) (W.contents output.new) (E.contents messages.old) (E.contents messages.new) }
 {
     match read_input(alloc, source, MOST_BYTES) {
         Ok(bytes) => {
@@ -95,9 +102,11 @@ pub fn list_source<R: Read, W: Write, E: Write>(
     output: &mut W,
     messages: &mut E,
 ) -> u8
-    ensures { LeavesOfSource (IsListOutcome false) (R.remaining source.old) (R.remaining source.new)
+    ensures left { LeavesOfSource (IsListOutcome false) (R.remaining source.old) (R.remaining source.new)
         (status_alone result) (W.contents output.old) (W.contents output.new)
         (E.contents messages.old) (E.contents messages.new) }
+    ensures large { RefusesLargeSource false (R.remaining source.old) (R.remaining source.new) (status_alone result)
+        (W.contents output.old) (W.contents output.new) (E.contents messages.old) (E.contents messages.new) }
 {
     list_noted(alloc, source, false, output, messages)
 }
@@ -113,9 +122,11 @@ pub fn run_bytes<W: Write, E: Write>(
     output: &mut W,
     messages: &mut E,
 ) -> Run
-    ensures { LeavesOneOf (IsOutcome asked.now.long asked.now.options.now source.now) result
+    ensures left { LeavesOneOf (IsOutcome asked.now.long asked.now.options.now source.now) result
         (W.contents output.old) (W.contents output.new)
         (E.contents messages.old) (E.contents messages.new) }
+    ensures large { RefusesLarge asked.now.long source.now result
+        (W.contents output.old) (W.contents output.new) (E.contents messages.old) (E.contents messages.new) }
 {
     let made = transcript_of(alloc, source, asked.options, asked.long);
     deliver_made(alloc, made, output, messages)
@@ -132,9 +143,11 @@ pub fn run_noted<R: Read, W: Write, E: Write>(
     output: &mut W,
     messages: &mut E,
 ) -> Run
-    ensures { LeavesOfSource (IsOutcome asked.now.long asked.now.options.now) (R.remaining source.old) (R.remaining source.new)
+    ensures left { LeavesOfSource (IsOutcome asked.now.long asked.now.options.now) (R.remaining source.old) (R.remaining source.new)
         result (W.contents output.old) (W.contents output.new)
         (E.contents messages.old) (E.contents messages.new) }
+    ensures large { RefusesLargeSource asked.now.long (R.remaining source.old) (R.remaining source.new) result
+        (W.contents output.old) (W.contents output.new) (E.contents messages.old) (E.contents messages.new) }
 {
     match read_input(alloc, source, MOST_BYTES) {
         Ok(bytes) => run_bytes(alloc, &bytes, asked, output, messages),
@@ -153,9 +166,11 @@ pub fn run_source<R: Read, W: Write, E: Write>(
     output: &mut W,
     messages: &mut E,
 ) -> Run
-    ensures { LeavesOfSource (IsOutcome false options.now) (R.remaining source.old) (R.remaining source.new)
+    ensures left { LeavesOfSource (IsOutcome false options.now) (R.remaining source.old) (R.remaining source.new)
         result (W.contents output.old) (W.contents output.new)
         (E.contents messages.old) (E.contents messages.new) }
+    ensures large { RefusesLargeSource false (R.remaining source.old) (R.remaining source.new) result
+        (W.contents output.old) (W.contents output.new) (E.contents messages.old) (E.contents messages.new) }
 {
     let asked = AskedRun {
         options,
@@ -175,9 +190,11 @@ pub fn replay_bytes<W: Write, E: Write>(
     output: &mut W,
     messages: &mut E,
 ) -> Run
-    ensures { LeavesOneOf (IsReplayOutcome asked.now.long asked.now.history.now asked.now.arena source.now) result
+    ensures left { LeavesOneOf (IsReplayOutcome asked.now.long asked.now.history.now asked.now.arena source.now) result
         (W.contents output.old) (W.contents output.new)
         (E.contents messages.old) (E.contents messages.new) }
+    ensures large { RefusesLarge asked.now.long source.now result
+        (W.contents output.old) (W.contents output.new) (E.contents messages.old) (E.contents messages.new) }
 {
     let made = replay_transcript(alloc, source, asked);
     deliver_made(alloc, made, output, messages)
@@ -194,10 +211,12 @@ pub fn replay_noted<R: Read, W: Write, E: Write>(
     output: &mut W,
     messages: &mut E,
 ) -> Run
-    ensures { LeavesOfSource (IsReplayOutcome asked.now.long asked.now.history.now asked.now.arena)
+    ensures left { LeavesOfSource (IsReplayOutcome asked.now.long asked.now.history.now asked.now.arena)
         (R.remaining source.old) (R.remaining source.new)
         result (W.contents output.old) (W.contents output.new)
         (E.contents messages.old) (E.contents messages.new) }
+    ensures large { RefusesLargeSource asked.now.long (R.remaining source.old) (R.remaining source.new) result
+        (W.contents output.old) (W.contents output.new) (E.contents messages.old) (E.contents messages.new) }
 {
     match read_input(alloc, source, MOST_BYTES) {
         Ok(bytes) => replay_bytes(alloc, &bytes, asked, output, messages),
@@ -219,10 +238,12 @@ pub fn replay_source<R: Read, W: Write, E: Write>(
 ) -> Run
     requires some { 1 ≤ cells }
     requires few { cells ≤ 16777216 }
-    ensures { LeavesOfSource (IsReplayOutcome false history.now cells)
+    ensures left { LeavesOfSource (IsReplayOutcome false history.now cells)
         (R.remaining source.old) (R.remaining source.new)
         result (W.contents output.old) (W.contents output.new)
         (E.contents messages.old) (E.contents messages.new) }
+    ensures large { RefusesLargeSource false (R.remaining source.old) (R.remaining source.new) result
+        (W.contents output.old) (W.contents output.new) (E.contents messages.old) (E.contents messages.new) }
 {
     let asked = AskedReplay {
         history,

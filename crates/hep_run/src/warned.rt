@@ -1,6 +1,6 @@
 //! What `check --warn` of a source writes.
 ghost use Rattle.std.specs.Prelude.{◌≡◌, false, IfOk, OnErr};
-ghost use Rattle.hep_run.specs.Memory.{MayReadOn};
+ghost use Rattle.hep_run.specs.Memory.{MayReadOn, RefusesLargeSource};
 ghost use Rattle.hep_warnings.specs.Warnings as all;
 ghost use Rattle.hep_run.specs.Delivery.{LeavesOfSource, status_alone};
 ghost use Rattle.hep_run.specs.Transcripts.{outcome_of};
@@ -64,9 +64,11 @@ pub fn warn_noted<R: Read, W: Write, E: Write>(
     output: &mut W,
     messages: &mut E,
 ) -> u8
-    ensures { LeavesOfSource (IsWarnOutcome long) (R.remaining source.old) (R.remaining source.new)
+    ensures left { LeavesOfSource (IsWarnOutcome long) (R.remaining source.old) (R.remaining source.new)
         (status_alone result) (W.contents output.old) (W.contents output.new)
         (E.contents messages.old) (E.contents messages.new) }
+    ensures large { RefusesLargeSource long (R.remaining source.old) (R.remaining source.new) (status_alone result)
+        (W.contents output.old) (W.contents output.new) (E.contents messages.old) (E.contents messages.new) }
 {
     match read_input(alloc, source, MOST_BYTES) {
         Ok(bytes) => {
@@ -84,9 +86,11 @@ pub fn warn_source<R: Read, W: Write, E: Write>(
     output: &mut W,
     messages: &mut E,
 ) -> u8
-    ensures { LeavesOfSource (IsWarnOutcome false) (R.remaining source.old) (R.remaining source.new)
+    ensures left { LeavesOfSource (IsWarnOutcome false) (R.remaining source.old) (R.remaining source.new)
         (status_alone result) (W.contents output.old) (W.contents output.new)
         (E.contents messages.old) (E.contents messages.new) }
+    ensures large { RefusesLargeSource false (R.remaining source.old) (R.remaining source.new) (status_alone result)
+        (W.contents output.old) (W.contents output.new) (E.contents messages.old) (E.contents messages.new) }
 {
     warn_noted(alloc, source, false, output, messages)
 }

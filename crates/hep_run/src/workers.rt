@@ -1,7 +1,7 @@
 //! A source's run by workers.
 ghost use Rattle.std.specs.Prelude.{IfOk, OnErr, false};
 ghost use Rattle.hep_run.specs.Delivery.{LeavesOfSource};
-ghost use Rattle.hep_run.specs.Memory.{MayOpen, MayReadOn};
+ghost use Rattle.hep_run.specs.Memory.{MayOpen, MayReadOn, RefusesLargeSource};
 ghost use Rattle.hep_run.specs.Transcripts.{outcome_of};
 ghost use Rattle.hep_run.specs.Workers.{IsImageWorked, IsWorkOutcome};
 
@@ -75,9 +75,11 @@ pub fn work_noted<H: Threads + Wait + Sync, G: Gate + Sync, R: Read, W: Write, E
     output: &mut W,
     messages: &mut E,
 ) -> Run
-    ensures { LeavesOfSource (IsWorkOutcome asked.now.long asked.now.options.now) (R.remaining source.old) (R.remaining source.new)
+    ensures left { LeavesOfSource (IsWorkOutcome asked.now.long asked.now.options.now) (R.remaining source.old) (R.remaining source.new)
         result (W.contents output.old) (W.contents output.new)
         (E.contents messages.old) (E.contents messages.new) }
+    ensures large { RefusesLargeSource asked.now.long (R.remaining source.old) (R.remaining source.new) result
+        (W.contents output.old) (W.contents output.new) (E.contents messages.old) (E.contents messages.new) }
 {
     match read_input(alloc, source, MOST_BYTES) {
         Ok(bytes) => {
@@ -101,9 +103,11 @@ pub fn work_source<H: Threads + Wait + Sync, G: Gate + Sync, R: Read, W: Write, 
     output: &mut W,
     messages: &mut E,
 ) -> Run
-    ensures { LeavesOfSource (IsWorkOutcome false options.now) (R.remaining source.old) (R.remaining source.new)
+    ensures left { LeavesOfSource (IsWorkOutcome false options.now) (R.remaining source.old) (R.remaining source.new)
         result (W.contents output.old) (W.contents output.new)
         (E.contents messages.old) (E.contents messages.new) }
+    ensures large { RefusesLargeSource false (R.remaining source.old) (R.remaining source.new) result
+        (W.contents output.old) (W.contents output.new) (E.contents messages.old) (E.contents messages.new) }
 {
     let asked = AskedWork {
         threads: rt,

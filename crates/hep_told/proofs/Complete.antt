@@ -1,6 +1,6 @@
 -- Each violation of a program is told, but what a name without a type explains.
-use Rattle.std.proofs.Common.{◌≡◌, ℕ, Bool, true, false, not, ◌&&◌, ◌||◌, nat_eq, if◌then◌else◌, is_none, is_some, List, [], ◌∷◌, ◌++◌, Some, refl, sym, ap, subst, ◌∙◌, ⊎_elim, true≢false}
-use Rattle.std.specs.List.{Contains, flat_map, list_any}
+use Rattle.std.proofs.Common.{◌≡◌, ℕ, Bool, true, false, not, ◌&&◌, nat_eq, if◌then◌else◌, is_none, is_some, List, [], ◌∷◌, ◌++◌, Some, refl, sym, ap, subst, ◌∙◌, ⊎_elim, true≢false}
+use Rattle.std.specs.List.{Contains, flat_map}
 use Rattle.std.proofs.lemmas.List.Elements.{Contains-append_left, Contains-append_right, Contains-append_cases}
 use Rattle.hep_source.proofs.Tests.{and-true, number-self}
 use Rattle.hep_source.specs.declared.statement.Form.TheVariants as form
@@ -13,7 +13,7 @@ use Rattle.hep_calls.specs.Passes.{is_mismatched}
 use Rattle.hep_names.specs.Passes.{is_miscounted, unknown_in_form, unknown_listed}
 use Rattle.hep_names.proofs.Passes.{unknown-targets}
 use Rattle.hep_culprits.specs.Culprits.{miscounted, misfit}
-use Rattle.hep_told.specs.Told.{Lines, has_doubtful, has_line, is_doubtful, is_untyped_at, lines_in, names_after, others_told, parameters_after, shared_told, statement_told, told, told_after, told_from, told_in, unknown_call, unknown_told, untold, untyped_told, with_name}
+use Rattle.hep_told.specs.Told.{Lines, has_doubtful, has_line, is_doubtful, is_untyped_at, lines_in, names_after, others_told, parameters_after, shared_told, told, told_after, told_from, told_in, unknown_call, unknown_told, untold, untyped_told, with_name}
 use Rattle.hep_told.proofs.Members.{Within, contained-any, contains-flat, contains-here, contains-more, contains-one, flat-within, none-contained}
 use Rattle.hep_told.proofs.Plain.{Plain, plain-common, plain-data, plain-jumps, plain-labels, plain-names, plain-structure}
 use Rattle.hep_told.proofs.Sound.{counted, matched, when-there}

@@ -1,5 +1,5 @@
 -- Each violation that is told is one of the program's.
-use Rattle.std.proofs.Common.{◌≡◌, ℕ, Bool, true, false, not, ◌&&◌, ◌||◌, if◌then◌else◌, is_none, is_some, List, [], ◌∷◌, ◌++◌, Option, Some, None, refl, sym, ap, subst, ◌∙◌, find}
+use Rattle.std.proofs.Common.{◌≡◌, ℕ, Bool, true, false, not, ◌&&◌, ◌||◌, if◌then◌else◌, is_none, is_some, List, [], ◌∷◌, ◌++◌, Some, None, refl, sym, ap, subst, ◌∙◌, find}
 use Rattle.std.specs.List.{Contains, flat_map, list_all}
 use Rattle.std.specs.Option.{option_map}
 use Rattle.std.proofs.lemmas.Bool.{and_parts}
@@ -15,7 +15,7 @@ use Rattle.hep_names.specs.Passes.{is_miscounted, unknown_in_form, unknown_liste
 use Rattle.hep_names.proofs.Passes.{unknown-targets}
 use Rattle.hep_culprits.specs.Culprits.{first_call_unmet, first_target_unmet, first_unmet, is_list_counted, miscounted, misfit}
 use Rattle.hep_culprits.specs.Trees.{Found, either}
-use Rattle.hep_told.specs.Told.{Lines, has_line, is_doubtful, is_untyped_at, lines_in, names_after, others_told, parameters_after, shared_told, statement_told, told, told_from, told_in, unknown_call, unknown_told, untold, untyped_told, with_name}
+use Rattle.hep_told.specs.Told.{Lines, is_doubtful, is_untyped_at, lines_in, names_after, others_told, parameters_after, shared_told, statement_told, told, told_from, told_in, unknown_call, unknown_told, untold, untyped_told, with_name}
 use Rattle.hep_told.proofs.Members.{Within, contains-flat, contains-here, contains-more, contains-one, flat-within, none-contained, within-append}
 use Rattle.hep_told.proofs.Plain.{plain-common, plain-data, plain-jumps, plain-labels, plain-names, plain-structure, plain-there}
 

@@ -1,6 +1,5 @@
 //! One walk over the statements of a unit, with what it tells of each.
 ghost use Rattle.std.specs.Prelude.{◌≡◌, ◌++◌, ℕ, IfOk, OnOk};
-ghost use Rattle.std.specs.List.{flat_map};
 ghost use Rattle.hep_conditions.specs.Words.{common_violations, name_violations};
 ghost use Rattle.hep_told.specs.Lines.{is_in, lines_at};
 ghost use Rattle.hep_told.specs.Told as words;

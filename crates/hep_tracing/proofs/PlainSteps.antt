@@ -1,17 +1,16 @@
 -- The step whose operation names no variable and prints nothing is told by its operands and the numbers that come next.
-use Rattle.std.proofs.Common.{◌≡◌, ℕ, suc, ◌+◌, ◌-◌, Bool, true, false, true≢false, List, [], ◌∷◌, ◌++◌, drop, length, length-append, nat_eq, Option, Some, None, refl, sym, ap, ap₂, ◌∙◌, subst, arith, inl, inr}
+use Rattle.std.proofs.Common.{◌≡◌, ℕ, suc, ◌+◌, ◌-◌, true, false, true≢false, List, [], ◌∷◌, ◌++◌, drop, length, length-append, nat_eq, Option, Some, None, refl, sym, ap, ap₂, ◌∙◌, subst, arith, inl, inr}
 use Rattle.std.proofs.lemmas.Bool.{cases_Bool, eqb-true}
 use Rattle.std.specs.Option.{option_map}
 use Rattle.std.proofs.Math.Seq.{drop-append_seam}
 use Rattle.hep_code.specs.declared.instruction.Instruction.{Instruction}
 use Rattle.hep_code.specs.declared.instruction.Operation.{Operation}
-use Rattle.hep_code.specs.declared.instruction.Operation.TheVariants.{Evaluate, Refer}
 use Rattle.hep_code.specs.declared.variable.Variable.{Variable}
 use Rattle.hep_code.specs.Ahead.{IsAction, IsNext}
 use Rattle.hep_code.specs.StatementCode.{ending_of}
 use Rattle.hep_code.specs.Words.{Addresses, AddressedUnit, addressed_unit, arity, evaluation_of, operands_of_action, operands_of_redex, operation_of}
 use Rattle.hep_machine.specs.Evaluation.{reading}
-use Rattle.hep_machine.specs.Words.{Action, Level, Name, Next, Process, Redex, State, Top, Units, Value, function_name, living, next_of, step_result_of, stepped, unit_at, unit_name, unit_of, unit_on_top, wants, does, evaluating, referring}
+use Rattle.hep_machine.specs.Words.{Action, Name, Next, Process, Redex, State, Top, Units, Value, function_name, living, next_of, step_result_of, stepped, unit_of, unit_on_top, wants, does, evaluating, referring}
 use Rattle.hep_machine.specs.Words.{signing, negating, combining, applying, testing, assigning, jumping, choosing, branching, testing_condition, entering_block, entering_loop, ending_loop, calling, creating, purging, printing, continuing, leaving, resuming, stopping}
 use Rattle.hep_traces.specs.Deeds.{deed_text, fault_added, leaving_text, next_text, resuming_text, step_text}
 use Rattle.hep_traces.specs.Lines as lines

@@ -1,11 +1,11 @@
 -- The step at a redex of values alone is told by its operation and its operands.
-use Rattle.std.proofs.Common.{◌≡◌, ℕ, true, false, true≢false, Some, List, Result, Ok, Err, refl, sym, ap, ◌∙◌, subst}
+use Rattle.std.proofs.Common.{◌≡◌, ℕ, true, false, true≢false, Some, Result, Ok, Err, refl, sym, ap, ◌∙◌, subst}
 use Rattle.hep_code.specs.declared.instruction.Evaluation.{Evaluation}
 use Rattle.hep_code.specs.declared.variable.Variable.{Variable}
 use Rattle.hep_code.specs.Words.{evaluation_of, operands_of_redex}
 use Rattle.hep_machine.specs.declared.event.Kind.{Kind}
 use Rattle.hep_machine.specs.Evaluation.{reading}
-use Rattle.hep_machine.specs.Words.{Level, Name, Process, Redex, State, StepResult, Top, Units, Value, signing, negating, combining, applying, testing, answer_of, by_result, combined_value, evaluating, function_value, living, negated_value, next_of, result_after_answer, result_after_next, signed_value, step_result_of, unit_on_top, wants}
+use Rattle.hep_machine.specs.Words.{Level, Name, Process, Redex, State, Top, Units, Value, signing, negating, combining, applying, testing, answer_of, by_result, combined_value, evaluating, function_value, living, negated_value, next_of, result_after_answer, result_after_next, signed_value, step_result_of, unit_on_top, wants}
 use Rattle.hep_traces.specs.Deeds.{deed_text, own_scope, redex_text}
 use Rattle.hep_traces.proofs.Deeds.{fault_told, step_of_top, value_told}
 use Rattle.hep_tracing.specs.Pure.{is_pure, pure_text, result_text}

@@ -11,10 +11,9 @@ use Rattle.hep_conditions.specs.declared.violation.Violation.{Violation}
 use Rattle.hep_conditions.specs.Words.{FunctionTypes, Use, Violations, assigned_names, at_line, block_names, both_ways, bounded_names, called_names, common_names, constant_names, data_names, dummy_names, function_names, function_names_alone, function_types, given_twice, least_line, letter_ranges_of, letters_repeated, line_when, misnamed, misused_constants, misused_results, name_violations, overlap, repeated, repeated_after, result_names, typed_names, unit_uses, used_both_ways, uses_by, variable_names, when}
 use Rattle.hep_conditions.specs.Names as conditions
 use Rattle.hep_uses.specs.declared.ambiguity.Ambiguity.{Ambiguity}
-use Rattle.hep_uses.specs.declared.uses.Way.{Way}
-use Rattle.hep_uses.specs.declared.uses.Way.TheVariants.{Header, Block, Dummy, Common, Constant, Called, Variable, Result, Function, Alone}
+use Rattle.hep_uses.specs.declared.uses.Way.TheVariants.{Dummy, Common, Constant, Called, Variable, Result, Function, Alone}
 use Rattle.hep_uses.specs.Ambiguities.{ambiguities, ambiguous_in, ambiguous_units, ambiguous_when, is_by, its_name, met_at, met_both_ways, met_from, misnamed_by, misnamed_in, misused_names, no_name, repeated_from, repeated_letters, repeated_names, twice_in, two_ways_in}
-use Rattle.hep_uses.specs.Ambiguous.{given_once, is_use_of, least_named, meets, later_letter, no_constants, no_results, none_seen, with_seen}
+use Rattle.hep_uses.specs.Ambiguous.{given_once, least_named, meets, later_letter, no_constants, no_results, with_seen}
 use Rattle.hep_uses.specs.Uses.{uses_of}
 use Rattle.hep_uses.proofs.Overlaps.{meets-noted}
 

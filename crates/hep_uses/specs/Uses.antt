@@ -1,7 +1,7 @@
 -- The names that statements use, by what they use them for: X3.9-1978, 18.1 and 18.2.
 use Rattle.std.specs.Prelude.{ℕ, Bool, not, ◌&&◌, ◌++◌, List, map}
 use Rattle.std.specs.List.{filter}
-use Rattle.hep_machine.specs.Words.{Declarator, Name, Occurrence, Form, Statement, names_of_occurrences, is_constant_name, is_nonempty, names_declared}
+use Rattle.hep_machine.specs.Words.{Declarator, Name, Form, Statement, names_of_occurrences, is_constant_name, is_nonempty, names_declared}
 use Rattle.hep_conditions.specs.Words.{Use, uses_by, header_name, block_names, dummy_names, typed_names, bounded_names, common_names, constant_names, data_names, assigned_names, called_names, variable_names, result_names, referenced_typed, function_names, function_names_alone, FunctionTypes, is_function_in, NameWithList, Calling, calls_in}
 use Rattle.hep_conditions.specs.Names.{occurrences_of_variables}
 use Rattle.hep_uses.specs.declared.uses.Way.{Way}

@@ -1,7 +1,7 @@
 //! `hepf`: checks, lists, runs, replays and explains HEP FORTRAN.
 //!
 //! What stands here opens files, says which one can't be opened, and joins calls that do the rest: `hep_command` reads the words, and
-//! `hep_run` does the work and says what else went wrong.
+//! `hep_run` and `hep_inspection` do the work and say what else went wrong.
 #![tactic(auto)]
 
 ghost use Rattle.std.specs.Prelude.{◌≤◌};
@@ -9,11 +9,12 @@ ghost use Rattle.hep_command.specs.Jobs.{IsInRange};
 
 use hep_command::{Job, Request, SAME_FILE, explain, read_request};
 use hep_history::Choices;
+use hep_inspection::{AskedState, state_noted};
 use hep_run::{
-    AskedLots, AskedReplay, AskedRun, AskedSample, AskedState, AskedWork, LotOptions, NoGate,
-    Options, ReadFault, Run, SampleOptions, WorkOptions, answer, check_noted, choices_of,
-    history_text, list_noted, lots_history, lots_noted, put_text, read_text_file, replay_noted,
-    run_noted, sample_bytes, say_unread, say_unwritten, state_noted, warn_noted, work_noted,
+    AskedLots, AskedReplay, AskedRun, AskedSample, AskedWork, LotOptions, NoGate, Options,
+    ReadFault, Run, SampleOptions, WorkOptions, answer, check_noted, choices_of, history_text,
+    list_noted, lots_history, lots_noted, put_text, read_text_file, replay_noted, run_noted,
+    sample_bytes, say_unread, say_unwritten, warn_noted, work_noted,
 };
 use std::fs::File;
 use std::io::ErrorKind;
@@ -368,27 +369,28 @@ fn done<H: Threads + Wait + Sync>(
                 let text = SAME_FILE.as_bytes();
                 return Err(answer(2, text, &mut rt.stdout(), &mut rt.stderr()));
             }
-            if let Some(workers) = workers {
-                let options = WorkOptions {
-                    arena,
-                    steps,
-                    workers,
-                };
-                let run = work_file(rt, threads, file, &options, long)?;
-                return Ok(end_run(rt, &run, history, long));
-            }
-            if let Some(seed) = seed {
-                let options = LotOptions { arena, steps, seed };
-                let run = draw_file(rt, file, &options, long)?;
-                return Ok(end_run(rt, &run, history, long));
-            }
-            let choices = file_choices(rt, choices, long)?;
-            let options = Options {
-                arena,
-                steps,
-                choices,
+            let run = match (workers, seed) {
+                (Some(workers), _) => {
+                    let options = WorkOptions {
+                        arena,
+                        steps,
+                        workers,
+                    };
+                    work_file(rt, threads, file, &options, long)?
+                }
+                (None, Some(seed)) => {
+                    let options = LotOptions { arena, steps, seed };
+                    draw_file(rt, file, &options, long)?
+                }
+                (None, None) => {
+                    let options = Options {
+                        arena,
+                        steps,
+                        choices: file_choices(rt, choices, long)?,
+                    };
+                    run_file(rt, file, &options, long)?
+                }
             };
-            let run = run_file(rt, file, &options, long)?;
             Ok(end_run(rt, &run, history, long))
         }
         Job::Sample {

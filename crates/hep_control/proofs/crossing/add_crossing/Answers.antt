@@ -1,5 +1,5 @@
-use Rattle.std.proofs.Common.{◌≡◌, ◌||◌, ◌++◌, ◌∙◌, ap, map}
-use Rattle.std.specs.List.{flat_map, list_any}
+use Rattle.std.proofs.Common.{◌≡◌, ◌||◌, ◌++◌, ◌∙◌, ap}
+use Rattle.std.specs.List.{list_any}
 use Rattle.hep_control.specs.Sweep.{lines_asked}
 use Rattle.hep_control.proofs.Crossed.{crossing-told}
 use Rattle.hep_control.proofs.crossing.add_crossing.Goals as goal

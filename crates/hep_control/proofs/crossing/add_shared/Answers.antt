@@ -3,7 +3,7 @@ use Rattle.indexmap.specs.IndexMap.{get}
 use Rattle.hep_source.proofs.Tests.{drop_at}
 use Rattle.hep_conditions.specs.Words.{line_when}
 use Rattle.hep_control.specs.Ranges.{do_range}
-use Rattle.hep_machine.specs.Words.{line_at, name_eq}
+use Rattle.hep_machine.specs.Words.{name_eq}
 use Rattle.hep_control.proofs.Crossed.{lines-shared-next}
 use Rattle.hep_control.proofs.crossing.add_shared.Goals as goal
 

@@ -1,11 +1,13 @@
-use Rattle.std.proofs.Common.{Bool, List, inl, ℕ}
+use Rattle.std.proofs.Common.{Bool, List, inl, inr, ℕ}
 use Rattle.hep_machine.specs.Words.{Units}
 use Rattle.hep_run.specs.declared.refusal.SourceFault.{SourceFault}
 use Rattle.hep_run.specs.declared.refusal.SourceFault.TheVariants.{NoMemory, Refused}
 use Rattle.hep_run.specs.Outcome.{Outcome, RunsTo}
 use Rattle.hep_run.specs.Refusals.{IsSourceRefusal}
+use Rattle.hep_run.specs.Sources.{IsRefusedProgram, IsRunnable}
 use Rattle.hep_run.specs.Tallies.{IsSampled}
 use Rattle.hep_run.specs.Transcripts.{IsOutcomeOfFault, outcome_of}
+use Rattle.hep_run.proofs.Wanted.{may-read-on, on-err-anyway, program-small}
 use Rattle.hep_run.proofs.sample.sample_transcript.Goals as goal
 
 -- the outcome of a fault of a source
@@ -13,7 +15,14 @@ of_fault : (long : Bool) (Comes : Units → Outcome → Type 0) (source : List �
 of_fault long Comes source NoMemory o refused told = absurd told
 of_fault long Comes source (Refused number line name notes) o refused told = inl (number, line, name, notes, refused.0, refused.1, told)
 
-pub returns : goal.returns
-returns c =
+pub returns-clause-made : goal.returns-clause-made
+returns-clause-made c =
     of_fault c.args.long (λ program. IsSampled c.args.long c.args.options.now c.args.source.now c.new.result.items) c.args.source.now c.in-Err.fault
     (outcome_of c.in_ok-fault_transcript-in-Err.field-0) c.in-Err.ensures.refused c.in_ok-fault_transcript-in-Err.ensures.made
+
+pub returns-in-Ok-clause-unmade : goal.returns-in-Ok-clause-unmade
+returns-in-Ok-clause-unmade c = on-err-anyway c.counted_transcript.result (inr (program-small IsRunnable _ _ c.in-Ok.ensures.made))
+
+pub returns-in_err-fault_transcript-in-Err-clause-unmade : goal.returns-in_err-fault_transcript-in-Err-clause-unmade
+returns-in_err-fault_transcript-in-Err-clause-unmade c =
+    on-err-anyway c.from_residual.result (may-read-on c.args.long IsRefusedProgram c.args.source.now c.in-Err.fault c.in-Err.ensures.refused c.in-Err.ensures.wanted c.in_err-fault_transcript-in-Err.ensures.unmade)

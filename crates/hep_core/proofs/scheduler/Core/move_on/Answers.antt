@@ -1,7 +1,6 @@
-use Rattle.std.proofs.Common.{◌≡◌, ◌≤◌, ◌<◌, ◌+◌, ℕ, None, Some, false, true, is_some, List, [], length, rules, true≢false, refl, sym, ap, ◌∙◌, subst, arith, inl, inr}
+use Rattle.std.proofs.Common.{◌≡◌, ◌≤◌, ◌<◌, ◌+◌, None, false, true, is_some, [], length, rules, true≢false, refl, sym, ap, ◌∙◌, subst, arith, inl, inr}
 use Rattle.std.proofs.lemmas.Bool.{cases_Bool, cases_lt}
 use Rattle.hep_source.proofs.Tests.{none-from-not}
-use Rattle.hep_machine.specs.declared.event.Entry.{Entry}
 use Rattle.hep_machine.specs.Words.{last_process, living, progress_after, schedule_of, State, state_after}
 use Rattle.hep_blocked.specs.Rolls.{want_of}
 use Rattle.hep_entries.specs.Entries.{Kept}

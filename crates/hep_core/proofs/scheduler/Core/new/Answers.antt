@@ -1,4 +1,4 @@
-use Rattle.std.proofs.Common.{◌≡◌, ◌||◌, ℕ, nat_eq, ◌≤◌, ◌∙◌, ◌∷◌, ap, arith, length, sym, subst, [], true≢false}
+use Rattle.std.proofs.Common.{◌≡◌, ◌||◌, ℕ, nat_eq, ◌≤◌, ◌∙◌, ◌∷◌, ap, arith, sym, subst, [], true≢false}
 use Rattle.hep_machine.specs.Words.{IsLegal, is_held, is_number_among, schedule_of, state_after, progress_after, view_of}
 use Rattle.hep_blocked.specs.Listing.{AreListed}
 use Rattle.hep_blocked.specs.Rolls.{want_of}

@@ -1,7 +1,7 @@
 use Rattle.std.proofs.Common.{inr}
 use Rattle.hep_run.specs.Sources.{IsRefusedProgram, IsRunnable}
 use Rattle.hep_run.proofs.Wanted.{may-read-on, on-err-anyway, on-err-so, program-small}
-use Rattle.hep_run.proofs.state.state_transcript.Goals as goal
+use Rattle.hep_inspection.proofs.state.state_transcript.Goals as goal
 
 pub returns-in-Ok-clause-unmade : goal.returns-in-Ok-clause-unmade
 returns-in-Ok-clause-unmade c = on-err-anyway c.image_state.result (inr (program-small IsRunnable _ _ c.in-Ok.ensures.made))

@@ -1,9 +1,9 @@
 use Rattle.std.proofs.Common.{rules, ◌≡◌, ap, inl, inr, subst, sym, length, ◌∙◌}
 use Rattle.hep_states.specs.States.{state_text}
 use Rattle.hep_run.specs.Checks.{outcome_of_text}
-use Rattle.hep_run.specs.States.{IsStateOutcome}
-use Rattle.hep_run.proofs.Told.{first-told}
-use Rattle.hep_run.proofs.state.image_state.Goals as goal
+use Rattle.hep_inspection.specs.States.{IsStateOutcome}
+use Rattle.hep_inspection.proofs.Told.{first-told}
+use Rattle.hep_inspection.proofs.state.image_state.Goals as goal
 
 pub returns-in-Ok-replay : goal.returns-in-Ok-replay
 returns-in-Ok-replay c =

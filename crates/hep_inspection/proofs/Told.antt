@@ -16,7 +16,7 @@ use Rattle.hep_run.specs.Checks.{outcome_of_text}
 use Rattle.hep_run.specs.Delivery.{LeavesOfSource, status_alone}
 use Rattle.hep_run.specs.Outcome.{Outcome}
 use Rattle.hep_run.specs.Sources.{IsRefusedProgram, IsRunnable}
-use Rattle.hep_run.specs.States.{IsFirstOutcome, IsSourceState, IsStateOutcome}
+use Rattle.hep_inspection.specs.States.{IsFirstOutcome, IsSourceState, IsStateOutcome}
 use Rattle.hep_run.specs.Transcripts.{LeavesMade, outcome_of}
 use Rattle.hep_run.proofs.Accepted.{left_alone}
 use Rattle.hep_run.proofs.Fronts.{source_left}

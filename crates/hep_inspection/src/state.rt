@@ -1,26 +1,40 @@
 //! The bytes of a source and of a history to what everything holds after the history's first entries.
 ghost use Rattle.std.specs.Prelude.{◌≤◌, false, IfOk, OnErr};
 ghost use Rattle.hep_run.specs.Delivery.{LeavesOfSource, status_alone};
-ghost use Rattle.hep_run.specs.Memory.{MayReadOn};
-ghost use Rattle.hep_run.specs.States.{IsFirstOutcome, IsSourceState};
+ghost use Rattle.hep_run.specs.Memory.{MayReadOn, RefusesLargeSource};
+ghost use Rattle.hep_inspection.specs.States.{IsFirstOutcome, IsSourceState};
 ghost use Rattle.hep_run.specs.Transcripts.{outcome_of};
 
-use crate::deliver::deliver_made;
-use crate::files::say_unread;
-use crate::front::image_of_source;
-use crate::input::read_input;
-use crate::options::AskedState;
-use crate::source::MOST_BYTES;
-use crate::transcript::{
-    Transcript, fault_transcript, full_transcript, history_transcript, opening_notes_when,
-    text_transcript,
-};
 use hep_base::Refusal;
 use hep_history::{ReplayFault, first_entries, read_text, replay};
 use hep_image::Image;
+use hep_run::deliver::deliver_made;
+use hep_run::front::image_of_source;
+use hep_run::input::read_input;
+use hep_run::say_unread;
+use hep_run::source::MOST_BYTES;
+use hep_run::transcript::{
+    Transcript, fault_transcript, full_transcript, history_transcript, opening_notes_when,
+    text_transcript,
+};
 use hep_survey::state_text;
 use std::alloc::{AllocError, Global};
 use std::io::{Read, Write};
+
+/// What a state after the first entries of a history is asked for.
+#[derive(Clone, Copy)]
+pub struct AskedState<'a> {
+    /// The text of the history.
+    pub history: &'a [u8],
+    /// After how many entries; after all of them where there are no more.
+    pub entries: u64,
+    /// The arena's size in cells, 1 to 16,777,216.
+    pub arena: u32,
+    /// Whether more is said than the lines that are fixed.
+    pub long: bool,
+    ghost some: { 1 ≤ arena },
+    ghost few: { arena ≤ 16777216 },
+}
 
 // What is written of the state of an accepted program.
 fn image_state(
@@ -82,10 +96,12 @@ pub fn state_noted<R: Read, W: Write, E: Write>(
     output: &mut W,
     messages: &mut E,
 ) -> u8
-    ensures { LeavesOfSource (IsSourceState asked.now.long asked.now.history.now asked.now.entries asked.now.arena)
+    ensures left { LeavesOfSource (IsSourceState asked.now.long asked.now.history.now asked.now.entries asked.now.arena)
         (R.remaining source.old) (R.remaining source.new)
         (status_alone result) (W.contents output.old) (W.contents output.new)
         (E.contents messages.old) (E.contents messages.new) }
+    ensures large { RefusesLargeSource asked.now.long (R.remaining source.old) (R.remaining source.new) (status_alone result)
+        (W.contents output.old) (W.contents output.new) (E.contents messages.old) (E.contents messages.new) }
 {
     match read_input(alloc, source, MOST_BYTES) {
         Ok(bytes) => {
@@ -105,10 +121,12 @@ pub fn state_source<R: Read, W: Write, E: Write>(
     output: &mut W,
     messages: &mut E,
 ) -> u8
-    ensures { LeavesOfSource (IsSourceState false history.now entries 65536)
+    ensures left { LeavesOfSource (IsSourceState false history.now entries 65536)
         (R.remaining source.old) (R.remaining source.new)
         (status_alone result) (W.contents output.old) (W.contents output.new)
         (E.contents messages.old) (E.contents messages.new) }
+    ensures large { RefusesLargeSource false (R.remaining source.old) (R.remaining source.new) (status_alone result)
+        (W.contents output.old) (W.contents output.new) (E.contents messages.old) (E.contents messages.new) }
 {
     let asked = AskedState {
         history,

@@ -1,0 +1,6 @@
+//! What a run was, from the bytes of its source and of its history to the bytes of the two outputs.
+#![tactic(auto)]
+
+pub mod state;
+
+pub use state::{AskedState, state_noted, state_source};
