@@ -3,7 +3,7 @@ use hep_machine::Slot;
 use hep_source::Value;
 
 /// What an access to a cell comes to; it is not made yet.
-#[derive(Clone, Copy, Debug, PartialEq, Eq)]
+#[derive(Clone, Copy, PartialEq, Eq)]
 pub enum AccessOutcome {
     /// A value, and the cell stays as it is.
     Gives(Value),

@@ -2,12 +2,13 @@
 ghost use Rattle.std.specs.Prelude.{◌≡◌};
 ghost use Rattle.hep_code.specs.BoundCode as code;
 
-use hep_source::{Operator, PureFunction, Sign, Syntax, Value};
+use crate::duplicate::Duplicate;
+use hep_source::{Operator, PureFunction, Sign, Value};
 use std::alloc::{AllocError, Global};
 
 /// An operation of the code of a bound. It takes its operands, which are the last values so far, and puts a value in
 /// their place.
-#[derive(Clone, Copy, Debug, PartialEq, Eq)]
+#[derive(Clone, Copy)]
 pub enum BoundOperation {
     /// A constant, or the value of a named constant (X3.9-1978, 8.6).
     Value(Value),
@@ -47,12 +48,8 @@ impl BoundOperation {
     }
 }
 
-impl Syntax for BoundOperation {
+impl Duplicate for BoundOperation {
     fn copy(&self, _alloc: Global) -> Result<BoundOperation, AllocError> {
         Ok(*self)
-    }
-
-    fn same(&self, other: &BoundOperation) -> bool {
-        self == other
     }
 }

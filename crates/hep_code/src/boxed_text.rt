@@ -1,12 +1,13 @@
 //! The characters of a character constant in an instruction.
 ghost use Rattle.std.specs.Prelude.{◌≡◌, IfOk};
 
-use hep_source::{Syntax, Text};
+use crate::duplicate::Duplicate;
+use hep_source::Text;
 use std::alloc::{AllocError, Global};
 use std::marker::Model;
 
 /// Characters in a box, so that an instruction stays small. Contracts see their list.
-#[derive(Debug, Drop)]
+#[derive(Drop)]
 pub struct BoxedText {
     text: Box<Text>,
 }
@@ -44,12 +45,8 @@ impl BoxedText {
     }
 }
 
-impl Syntax for BoxedText {
+impl Duplicate for BoxedText {
     fn copy(&self, alloc: Global) -> Result<BoxedText, AllocError> {
         BoxedText::new(alloc, self.as_text().copy(alloc)?)
-    }
-
-    fn same(&self, other: &BoxedText) -> bool {
-        self.as_text().same(other.as_text())
     }
 }

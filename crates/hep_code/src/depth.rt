@@ -10,7 +10,7 @@ use crate::instruction::{Argument, Instruction, Operation, Printed};
 pub const MOST_OPERANDS: u128 = 256;
 
 /// The deepest stack of operands of a unit.
-#[derive(Clone, Copy, Debug, PartialEq, Eq)]
+#[derive(Clone, Copy, PartialEq, Eq)]
 pub struct Depth {
     /// How many operands there are at most.
     pub operands: u128,

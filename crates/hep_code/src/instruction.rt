@@ -4,12 +4,13 @@
 //! Indexes of instructions are counted from the first one of the unit.
 
 use crate::boxed_text::BoxedText;
+use crate::duplicate::Duplicate;
 use crate::variable::Variable;
-use hep_source::{Operator, PureFunction, Sign, StateFunction, Syntax, Value};
+use hep_source::{Operator, PureFunction, Sign, StateFunction, Value};
 use std::alloc::{AllocError, Global};
 
 /// An operation that puts a value in the place of its operands, which are the last ones of all.
-#[derive(Clone, Copy, Debug, PartialEq, Eq)]
+#[derive(Clone, Copy)]
 pub enum Evaluation {
     /// Reads a variable, or the element with these subscripts (X3.9-1978, 5.3).
     Load {
@@ -37,7 +38,7 @@ pub enum Evaluation {
 }
 
 /// One step of a statement. Where it goes on is an index of an instruction.
-#[derive(Clone, Copy, Debug)]
+#[derive(Clone, Copy)]
 pub enum Operation {
     Evaluate(Evaluation),
     /// Assigns the first operand to a variable, or to the element whose subscripts are the other ones
@@ -129,7 +130,7 @@ pub enum Operation {
 }
 
 /// How an actual argument is passed (X3.9-1978, 15.9.3), or what is purged.
-#[derive(Clone, Copy, Debug, PartialEq, Eq)]
+#[derive(Clone, Copy, PartialEq, Eq)]
 pub enum Argument {
     /// The value of an expression, which is an operand.
     Evaluated,
@@ -138,7 +139,7 @@ pub enum Argument {
 }
 
 /// An item of a record (X3.9-1978, 12.8.2).
-#[derive(Debug, Drop)]
+#[derive(Drop)]
 pub enum Printed {
     /// The value of an expression, which is an operand.
     Operand,
@@ -147,7 +148,7 @@ pub enum Printed {
 }
 
 /// What the code of a unit is made of.
-#[derive(Debug, Drop)]
+#[derive(Drop)]
 pub enum Instruction {
     /// Puts a value behind the operands; this is no step.
     Push(Value),
@@ -161,163 +162,16 @@ pub enum Instruction {
     Show(Printed),
 }
 
-impl Syntax for Printed {
+impl Duplicate for Printed {
     fn copy(&self, alloc: Global) -> Result<Printed, AllocError> {
         match self {
             Printed::Operand => Ok(Printed::Operand),
             Printed::Characters(text) => Ok(Printed::Characters(text.copy(alloc)?)),
         }
     }
-
-    fn same(&self, other: &Printed) -> bool {
-        match (self, other) {
-            (Printed::Operand, Printed::Operand) => true,
-            (Printed::Characters(a), Printed::Characters(b)) => a.same(b),
-            _ => false,
-        }
-    }
 }
 
-impl Syntax for Evaluation {
-    fn copy(&self, _alloc: Global) -> Result<Evaluation, AllocError> {
-        Ok(*self)
-    }
-
-    fn same(&self, other: &Evaluation) -> bool {
-        self == other
-    }
-}
-
-impl Syntax for Operation {
-    fn copy(&self, _alloc: Global) -> Result<Operation, AllocError> {
-        Ok(*self)
-    }
-
-    fn same(&self, other: &Operation) -> bool {
-        match (self, other) {
-            (Operation::Evaluate(a), Operation::Evaluate(b)) => a.same(b),
-            (
-                Operation::Store {
-                    variable: x,
-                    subscripts: m,
-                    next: i,
-                },
-                Operation::Store {
-                    variable: y,
-                    subscripts: n,
-                    next: j,
-                },
-            ) => x == y && m == n && i == j,
-            (Operation::Jump { next: i }, Operation::Jump { next: j }) => i == j,
-            (Operation::Choose { count: m, next: i }, Operation::Choose { count: n, next: j }) => {
-                m == n && i == j
-            }
-            (
-                Operation::BySign {
-                    negative: a,
-                    zero: b,
-                    positive: c,
-                },
-                Operation::BySign {
-                    negative: d,
-                    zero: e,
-                    positive: f,
-                },
-            ) => a == d && b == e && c == f,
-            (Operation::Condition { otherwise: i }, Operation::Condition { otherwise: j }) => {
-                i == j
-            }
-            (
-                Operation::Branch {
-                    inside: a,
-                    otherwise: i,
-                },
-                Operation::Branch {
-                    inside: b,
-                    otherwise: j,
-                },
-            ) => a == b && i == j,
-            (
-                Operation::EnterLoop {
-                    variable: x,
-                    cells: c,
-                    inside: a,
-                    behind: i,
-                },
-                Operation::EnterLoop {
-                    variable: y,
-                    cells: d,
-                    inside: b,
-                    behind: j,
-                },
-            ) => x == y && c == d && a == b && i == j,
-            (
-                Operation::EndLoop {
-                    variable: x,
-                    cells: c,
-                    inside: a,
-                    behind: i,
-                },
-                Operation::EndLoop {
-                    variable: y,
-                    cells: d,
-                    inside: b,
-                    behind: j,
-                },
-            ) => x == y && c == d && a == b && i == j,
-            (
-                Operation::Call {
-                    unit: u,
-                    count: m,
-                    next: i,
-                },
-                Operation::Call {
-                    unit: v,
-                    count: n,
-                    next: j,
-                },
-            ) => u == v && m == n && i == j,
-            (
-                Operation::Create {
-                    unit: u,
-                    count: m,
-                    next: i,
-                },
-                Operation::Create {
-                    unit: v,
-                    count: n,
-                    next: j,
-                },
-            ) => u == v && m == n && i == j,
-            (Operation::Purge { count: m, next: i }, Operation::Purge { count: n, next: j }) => {
-                m == n && i == j
-            }
-            (Operation::Print { count: m, next: i }, Operation::Print { count: n, next: j }) => {
-                m == n && i == j
-            }
-            (Operation::Refer { unit: u, count: m }, Operation::Refer { unit: v, count: n }) => {
-                u == v && m == n
-            }
-            (Operation::Return, Operation::Return) => true,
-            (Operation::Answer { variable: x }, Operation::Answer { variable: y }) => x == y,
-            (Operation::Resume { next: i }, Operation::Resume { next: j }) => i == j,
-            (Operation::Stop, Operation::Stop) => true,
-            _ => false,
-        }
-    }
-}
-
-impl Syntax for Argument {
-    fn copy(&self, _alloc: Global) -> Result<Argument, AllocError> {
-        Ok(*self)
-    }
-
-    fn same(&self, other: &Argument) -> bool {
-        self == other
-    }
-}
-
-impl Syntax for Instruction {
+impl Duplicate for Instruction {
     fn copy(&self, alloc: Global) -> Result<Instruction, AllocError> {
         match self {
             Instruction::Push(value) => Ok(Instruction::Push(*value)),
@@ -328,26 +182,6 @@ impl Syntax for Instruction {
             Instruction::To(index) => Ok(Instruction::To(*index)),
             Instruction::Pass(argument) => Ok(Instruction::Pass(*argument)),
             Instruction::Show(printed) => Ok(Instruction::Show(printed.copy(alloc)?)),
-        }
-    }
-
-    fn same(&self, other: &Instruction) -> bool {
-        match (self, other) {
-            (Instruction::Push(a), Instruction::Push(b)) => a == b,
-            (
-                Instruction::Step {
-                    line: a,
-                    operation: o,
-                },
-                Instruction::Step {
-                    line: b,
-                    operation: p,
-                },
-            ) => a == b && o.same(p),
-            (Instruction::To(a), Instruction::To(b)) => a == b,
-            (Instruction::Pass(a), Instruction::Pass(b)) => a == b,
-            (Instruction::Show(a), Instruction::Show(b)) => a.same(b),
-            _ => false,
         }
     }
 }

@@ -2,12 +2,9 @@
 ghost use Rattle.std.specs.Prelude.{◌≡◌};
 ghost use Rattle.hep_code.specs.Replies as replies;
 
-use hep_source::Syntax;
-use std::alloc::{AllocError, Global};
-
 /// Where the storage units of a variable are (X3.9-1978, 2.13, 8.3.2 and 15.9.3), as every activation of its unit
 /// finds them, and whether it is asynchronous.
-#[derive(Clone, Copy, Debug, PartialEq, Eq)]
+#[derive(Clone, Copy, PartialEq, Eq)]
 pub enum Variable {
     /// A local scalar, by its cell, counted from the first one of the frame.
     Local { asynchronous: bool, cell: u32 },
@@ -35,15 +32,5 @@ impl Variable {
             | Variable::Array { asynchronous, .. } => asynchronous,
             Variable::Absent => false,
         }
-    }
-}
-
-impl Syntax for Variable {
-    fn copy(&self, _alloc: Global) -> Result<Variable, AllocError> {
-        Ok(*self)
-    }
-
-    fn same(&self, other: &Variable) -> bool {
-        self == other
     }
 }

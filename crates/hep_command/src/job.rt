@@ -31,7 +31,7 @@ pub const RUNS: u64 = 100;
 pub const MOST_RUNS: u64 = 1_000_000;
 
 /// What a command line asks for. Files go by their paths.
-#[derive(Clone, Copy, Debug, PartialEq, Eq)]
+#[derive(Clone, Copy)]
 pub enum Job<'a> {
     /// To run the source on standard input with the defaults: there is no word.
     Standard,
@@ -100,7 +100,7 @@ pub enum Job<'a> {
 }
 
 /// A job, and how much is to be said of it.
-#[derive(Clone, Copy, Debug, PartialEq, Eq)]
+#[derive(Clone, Copy)]
 pub struct Request<'a> {
     pub job: Job<'a>,
     /// Whether more is to be said of what went wrong than the lines that are fixed.

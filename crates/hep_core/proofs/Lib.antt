@@ -4,5 +4,6 @@ pub mod Free
 pub mod Staying
 pub mod Returning
 pub mod Kept
+pub mod Coming
 pub mod Going
 pub mod Idle

@@ -5,7 +5,7 @@ ghost use Rattle.hep_machine.specs.Words.{IsLegal, common_cells, is_held, openin
 ghost use Rattle.hep_machine.specs.Words.{is_number_among, next_of_ready, progress_after, schedule_of, view_of};
 ghost use Rattle.hep_blocked.specs.Listing.{IsBlocked};
 ghost use Rattle.hep_blocked.specs.Numbers.{AreRising};
-ghost use Rattle.hep_state.specs.Words.{AreNumbered, HasLevels, IsMachineAfter, snapshot_of};
+ghost use Rattle.hep_state.specs.Words.{IsMachineAfter};
 ghost use Rattle.hep_views.specs.Standing.{whereabouts_by};
 ghost use Rattle.hep_core.specs.Value.{state_of, opening_of, IsNewFault, IsChoice, HasNoStop, IsStop, IsStoppedWhereFull};
 ghost use Rattle.hep_core.specs.Commits.{IsCancelled, IsCheckedOut, IsCommitted, IsGivenTo, core_after_return, most_tickets};
@@ -237,6 +237,9 @@ impl Core {
         let Some(p) = self.next_ready() else {
             return 0;
         };
+        if self.rests(p) {
+            return 0;
+        }
         match self.move_on(p, most.min(MOST_AT_ONCE), true) {
             Ok(made) => made,
             Err(_) => 0,
@@ -303,7 +306,7 @@ impl Core {
             if made == 0 {
                 return Ok(done);
             }
-            match other_next(&self.machine, &self.roster, &mut self.history, next) {
+            match other_next(&self.roster, &mut self.history, next) {
                 Some(other) => next = other,
                 None => return Ok(done),
             }
@@ -787,21 +790,16 @@ fn at_once(most: u64, rounds: bool) -> u64
     if rounds { 1 } else { most }
 }
 
-// The process that comes next after p, where it is another one and lives, and there is room for an entry of it.
+// The process that comes next after p, where it is another one, and there is room for an entry of it.
 #[inline(always)]
-fn other_next(machine: &Machine, roster: &Roster, history: &mut History, p: u64) -> Option<u64>
-    requires { AreNumbered machine.now }
+fn other_next(roster: &Roster, history: &mut History, p: u64) -> Option<u64>
     ensures next { IfSome result (λ q. next_of_ready p roster.now.ready ≡ Some q) }
-    ensures lives { IfSome result (λ q. HasLevels (snapshot_of machine.now) q) }
     ensures rising { AreRising 1 roster.now.last roster.now.ready }
     ensures room { IfSome result (λ _. (0 < history.new.room) × (length history.new.items < 2 ^ 63)) }
     ensures items { history.new.items ≡ history.old.items }
 {
     let other = roster.next(p)?;
     if other == p {
-        return None;
-    }
-    if !machine.lives(other) {
         return None;
     }
     match history.reserve(1) {

@@ -14,7 +14,7 @@ use hep_values::{Constants, integers};
 use std::alloc::{AllocError, Global};
 
 /// Cells of the arena, one after the other.
-#[derive(Clone, Copy, Debug, PartialEq, Eq)]
+#[derive(Clone, Copy, PartialEq, Eq)]
 pub(crate) struct Cells {
     /// The first one, counted from that of the arena.
     pub(crate) first: u32,

@@ -1,9 +1,10 @@
 -- The lists that operations count, and what stands for them behind an operation.
-use Rattle.std.specs.Prelude.{ℕ, List, [], map, length}
+use Rattle.std.specs.Prelude.{ℕ, List, [], ◌∷◌, Option, Some, None, map, length}
 use Rattle.hep_machine.specs.Words.{Form}
 use Rattle.hep_source.specs.declared.statement.Form.TheVariants as form
 use Rattle.hep_code.specs.declared.instruction.Instruction.{Instruction}
-use Rattle.hep_code.specs.declared.instruction.Instruction.TheVariants.{To, Pass, Show}
+use Rattle.hep_code.specs.declared.instruction.Instruction.TheVariants.{Step, To, Pass, Show}
+use Rattle.hep_code.specs.declared.instruction.Operation.{Operation}
 use Rattle.hep_code.specs.Words.{argument_of, argument_of_target, printed_of, NameTable, Table}
 use Rattle.hep_emit.specs.Limits.{subscripts_of_all}
 
@@ -31,3 +32,8 @@ list_subscripts names (form.Call p ts) = subscripts_of_all (argument_of names) t
 list_subscripts names (form.Create p ts) = subscripts_of_all (argument_of names) ts
 list_subscripts names (form.Purge targets) = subscripts_of_all (argument_of_target names) targets
 list_subscripts names _ = 0
+
+-- an operation with its line, if there is one
+abbrev pub step_if_any : Option (ℕ × Operation) → List Instruction
+step_if_any None = []
+step_if_any (Some x) = Step x.0 x.1 ∷ []

@@ -9,7 +9,7 @@ use hep_control::control::Control;
 use hep_source::Statement;
 
 /// Where one goes in a unit.
-#[derive(Clone, Copy, Debug, PartialEq, Eq)]
+#[derive(Clone, Copy, PartialEq, Eq)]
 pub(crate) enum Destination {
     /// To the statement at an index.
     Statement(usize),

@@ -11,9 +11,9 @@ use crate::emit::{Code, counted, emit};
 use crate::fault::EmitFault;
 use crate::names::Names;
 use crate::tables::Tables;
-use hep_code::{Argument, BoxedText, Instruction, Printed};
+use hep_code::{Argument, BoxedText, Duplicate, Instruction, Printed};
 use hep_names::Meaning;
-use hep_source::{Expr, Node, PrintItem, Syntax, Target};
+use hep_source::{Expr, Node, PrintItem, Target};
 use std::alloc::{AllocError, Global};
 
 /// What is passed to a process or purged.

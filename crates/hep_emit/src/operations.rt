@@ -117,7 +117,24 @@ pub(crate) fn emit_operation(
     emit_list(alloc, code, tables, form)
 }
 
-/// The end of a DO, with the line of its terminal statement (11.10.6 and 11.10.7).
+// The end of a DO, with the line of its terminal statement (11.10.6 and 11.10.7).
+fn loop_end(tables: &Tables, index: usize, form: &Form) -> Option<(u32, Operation)>
+    requires { index < length tables.now.control.now }
+    ensures { loop_end_code (table_in tables.now) index form.now ≡ operations.step_if_any result }
+{
+    let Form::Do(control) = form else {
+        return None;
+    };
+    let end = Operation::EndLoop {
+        variable: tables.names.variable(&control.variable.name),
+        cells: tables.cells(index),
+        inside: tables.inside(index),
+        behind: tables.behind(index),
+    };
+    Some((tables.end_line(index), end))
+}
+
+/// What stands behind a DO; nothing behind other statements.
 pub(crate) fn emit_loop_end(
     code: &mut Code,
     tables: &Tables,
@@ -127,14 +144,8 @@ pub(crate) fn emit_loop_end(
     requires { index < length tables.now.control.now }
     ensures { OnOk result (code.new.items ≡ code.old.items ++ loop_end_code (table_in tables.now) index form.now) }
 {
-    let Form::Do(control) = form else {
-        return Ok(());
-    };
-    let end = Operation::EndLoop {
-        variable: tables.names.variable(&control.variable.name),
-        cells: tables.cells(index),
-        inside: tables.inside(index),
-        behind: tables.behind(index),
-    };
-    emit_step(code, tables.end_line(index), end)
+    match loop_end(tables, index, form) {
+        Some((line, end)) => emit_step(code, line, end),
+        None => Ok(()),
+    }
 }

@@ -9,7 +9,7 @@ use crate::unread::Unread;
 use hep_source::{Name, Occurrence};
 
 /// Which integer constants are read.
-#[derive(Clone, Copy, Debug, PartialEq, Eq)]
+#[derive(Clone, Copy, PartialEq, Eq)]
 pub enum Sizes {
     /// Those up to 9223372036854775807.
     Fitting,
@@ -18,7 +18,7 @@ pub enum Sizes {
 }
 
 /// What a reader knows of the statement.
-#[derive(Clone, Copy, Debug, PartialEq, Eq)]
+#[derive(Clone, Copy, PartialEq, Eq)]
 pub struct Context {
     /// Which integer constants are read.
     pub sizes: Sizes,
@@ -27,7 +27,7 @@ pub struct Context {
 }
 
 /// A class of characters (X3.9-1978, 3.1).
-#[derive(Clone, Copy, Debug, PartialEq, Eq)]
+#[derive(Clone, Copy, PartialEq, Eq)]
 enum Class {
     /// Digits (3.1.2).
     Digits,

@@ -42,7 +42,7 @@ fn spelling(operator: Operator) -> &'static [u8]
 
 /// A level of precedence at which operators go from left to right (X3.9-1978, 6.1.2 and 6.4.2), from the
 /// loosest to the tightest.
-#[derive(Clone, Copy, Debug, PartialEq, Eq)]
+#[derive(Clone, Copy, PartialEq, Eq)]
 enum Precedence {
     /// Of `.EQV.` and `.NEQV.`
     Equivalence,

@@ -1,11 +1,11 @@
 //! Arrays without their names.
 
+use hep_code::Duplicate;
 use hep_shape::Shape;
-use hep_source::Syntax;
 use std::alloc::{AllocError, Global};
 
 /// Where the storage units of a variable begin (X3.9-1978, 2.13, 8.3.2 and 15.9.3).
-#[derive(Clone, Copy, Debug, PartialEq, Eq)]
+#[derive(Clone, Copy, PartialEq, Eq)]
 pub enum Start {
     /// A local variable, by its first cell, counted from that of the frame.
     Local(u32),
@@ -33,54 +33,23 @@ pub struct Array {
     pub extents: Extents,
 }
 
-impl Syntax for Start {
-    fn copy(&self, _alloc: Global) -> Result<Start, AllocError> {
-        Ok(*self)
-    }
-
-    fn same(&self, other: &Start) -> bool {
-        self == other
-    }
-}
-
-impl Syntax for Extents {
-    fn copy(&self, alloc: Global) -> Result<Extents, AllocError> {
+impl Duplicate for Extents {
+    fn copy(&self, _alloc: Global) -> Result<Extents, AllocError> {
         match self {
-            Extents::Constant(shape) => Ok(Extents::Constant(shape.copy(alloc)?)),
+            Extents::Constant(shape) => Ok(Extents::Constant(shape.copy())),
             Extents::Adjustable { cells, dimensions } => Ok(Extents::Adjustable {
                 cells: *cells,
                 dimensions: *dimensions,
             }),
         }
     }
-
-    fn same(&self, other: &Extents) -> bool {
-        match (self, other) {
-            (Extents::Constant(a), Extents::Constant(b)) => a.same(b),
-            (
-                Extents::Adjustable {
-                    cells: c,
-                    dimensions: m,
-                },
-                Extents::Adjustable {
-                    cells: d,
-                    dimensions: n,
-                },
-            ) => c == d && m == n,
-            _ => false,
-        }
-    }
 }
 
-impl Syntax for Array {
+impl Duplicate for Array {
     fn copy(&self, alloc: Global) -> Result<Array, AllocError> {
         Ok(Array {
             start: self.start,
             extents: self.extents.copy(alloc)?,
         })
-    }
-
-    fn same(&self, other: &Array) -> bool {
-        self.start == other.start && self.extents.same(&other.extents)
     }
 }

@@ -1,10 +1,11 @@
 //! What DATA gives.
 
-use hep_source::{Syntax, Value};
+use hep_code::Duplicate;
+use hep_source::Value;
 use std::alloc::{AllocError, Global};
 
 /// Cells of the arena, one after the other, that have a value before the first step (X3.9-1978, section 9).
-#[derive(Clone, Copy, Debug, PartialEq, Eq)]
+#[derive(Clone, Copy, PartialEq, Eq)]
 pub struct DataRow {
     /// The first cell, counted from that of the arena.
     pub first: u32,
@@ -12,12 +13,8 @@ pub struct DataRow {
     pub value: Value,
 }
 
-impl Syntax for DataRow {
+impl Duplicate for DataRow {
     fn copy(&self, _alloc: Global) -> Result<DataRow, AllocError> {
         Ok(*self)
-    }
-
-    fn same(&self, other: &DataRow) -> bool {
-        self == other
     }
 }

@@ -1,9 +1,8 @@
 //! Dummy arguments without their names.
 
 use hep_base::Sequence;
-use hep_code::BoundOperation;
+use hep_code::{BoundOperation, Duplicate};
 use hep_shape::Shape;
-use hep_source::Syntax;
 use std::alloc::{AllocError, Global};
 
 /// A dummy argument, by what must be known of it where its unit is called (X3.9-1978, 15.9.3).
@@ -17,21 +16,12 @@ pub enum DummyArgument {
     Adjustable(Sequence<BoundOperation>),
 }
 
-impl Syntax for DummyArgument {
+impl Duplicate for DummyArgument {
     fn copy(&self, alloc: Global) -> Result<DummyArgument, AllocError> {
         match self {
             DummyArgument::Scalar => Ok(DummyArgument::Scalar),
-            DummyArgument::Array(shape) => Ok(DummyArgument::Array(shape.copy(alloc)?)),
+            DummyArgument::Array(shape) => Ok(DummyArgument::Array(shape.copy())),
             DummyArgument::Adjustable(code) => Ok(DummyArgument::Adjustable(code.copy(alloc)?)),
-        }
-    }
-
-    fn same(&self, other: &DummyArgument) -> bool {
-        match (self, other) {
-            (DummyArgument::Scalar, DummyArgument::Scalar) => true,
-            (DummyArgument::Array(a), DummyArgument::Array(b)) => a.same(b),
-            (DummyArgument::Adjustable(a), DummyArgument::Adjustable(b)) => a.same(b),
-            _ => false,
         }
     }
 }

@@ -14,7 +14,9 @@ use crate::names::ProgramNames;
 use crate::owners::{BlockStart, FrameVariable};
 use crate::unit::UnitCode;
 use hep_base::Sequence;
-use hep_source::{Program, Syntax};
+use hep_code::Duplicate;
+use hep_copies::Syntax;
+use hep_source::Program;
 use std::alloc::{AllocError, Global};
 use std::marker::Model;
 

@@ -1,7 +1,8 @@
 //! The names of a program.
 
 use hep_base::Sequence;
-use hep_source::{Syntax, Text};
+use hep_code::Duplicate;
+use hep_source::Text;
 use std::alloc::{AllocError, Global};
 
 /// The names of the units, of the variables of each unit, and of the common blocks, and where those of each kind begin.
@@ -15,18 +16,12 @@ pub struct ProgramNames {
     pub blocks: u32,
 }
 
-impl Syntax for ProgramNames {
+impl Duplicate for ProgramNames {
     fn copy(&self, alloc: Global) -> Result<ProgramNames, AllocError> {
         Ok(ProgramNames {
             spelled: self.spelled.copy(alloc)?,
             variables: self.variables.copy(alloc)?,
             blocks: self.blocks,
         })
-    }
-
-    fn same(&self, other: &ProgramNames) -> bool {
-        self.spelled.same(&other.spelled)
-            && self.variables.same(&other.variables)
-            && self.blocks == other.blocks
     }
 }

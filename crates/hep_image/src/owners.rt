@@ -1,11 +1,11 @@
 //! Whose the cells of a frame and of COMMON are.
 
-use hep_source::Syntax;
+use hep_code::Duplicate;
 use std::alloc::{AllocError, Global};
 
 /// A variable whose storage units are in a frame: a dummy argument, whose first cell has the value where it stands
 /// for an expression (X3.9-1978, 15.9.3), or a local variable.
-#[derive(Clone, Copy, Debug, PartialEq, Eq)]
+#[derive(Clone, Copy, PartialEq, Eq)]
 pub struct FrameVariable {
     /// The index of its name among the names of its unit, in order of first appearance.
     pub index: usize,
@@ -15,7 +15,7 @@ pub struct FrameVariable {
 }
 
 /// A common block.
-#[derive(Clone, Copy, Debug, PartialEq, Eq)]
+#[derive(Clone, Copy, PartialEq, Eq)]
 pub struct BlockStart {
     /// Its index among the common blocks of the program, in order of first appearance.
     pub index: usize,
@@ -23,22 +23,14 @@ pub struct BlockStart {
     pub first: u32,
 }
 
-impl Syntax for FrameVariable {
+impl Duplicate for FrameVariable {
     fn copy(&self, _alloc: Global) -> Result<FrameVariable, AllocError> {
         Ok(*self)
     }
-
-    fn same(&self, other: &FrameVariable) -> bool {
-        self == other
-    }
 }
 
-impl Syntax for BlockStart {
+impl Duplicate for BlockStart {
     fn copy(&self, _alloc: Global) -> Result<BlockStart, AllocError> {
         Ok(*self)
-    }
-
-    fn same(&self, other: &BlockStart) -> bool {
-        self == other
     }
 }

@@ -6,8 +6,7 @@ use crate::array::Array;
 use crate::dummy::DummyArgument;
 use crate::owners::FrameVariable;
 use hep_base::Sequence;
-use hep_code::Instruction;
-use hep_source::Syntax;
+use hep_code::{Duplicate, Instruction};
 use std::alloc::{AllocError, Global};
 
 /// A unit as a core runs it.
@@ -48,7 +47,7 @@ impl UnitCode {
     }
 }
 
-impl Syntax for UnitCode {
+impl Duplicate for UnitCode {
     fn copy(&self, alloc: Global) -> Result<UnitCode, AllocError> {
         Ok(UnitCode {
             code: self.code.copy(alloc)?,
@@ -60,16 +59,5 @@ impl Syntax for UnitCode {
             private: self.private.copy(alloc)?,
             variables: self.variables.copy(alloc)?,
         })
-    }
-
-    fn same(&self, other: &UnitCode) -> bool {
-        self.code.same(&other.code)
-            && self.entry == other.entry
-            && self.arrays.same(&other.arrays)
-            && self.dummies.same(&other.dummies)
-            && self.operands == other.operands
-            && self.cells == other.cells
-            && self.private.same(&other.private)
-            && self.variables.same(&other.variables)
     }
 }

@@ -9,7 +9,7 @@ use hep_source::{Name, PureFunction, StateFunction};
 
 /// What a name with a list is: an element of the unit's array, a function of the language, or else one of
 /// the program, if it has such a function (docs/LANGUAGE.md, 8).
-#[derive(Clone, Copy, Debug, PartialEq, Eq)]
+#[derive(Clone, Copy, PartialEq, Eq)]
 pub enum Meaning {
     Element,
     Pure(PureFunction),

@@ -18,7 +18,7 @@ use hep_text::Stmt;
 use std::alloc::Global;
 
 /// The part of a program unit to which a statement belongs (X3.9-1978, 3.5).
-#[derive(Clone, Copy, Debug, PartialEq, Eq)]
+#[derive(Clone, Copy, PartialEq, Eq)]
 pub enum StatementClass {
     /// PROGRAM and SUBROUTINE.
     Header,
@@ -63,7 +63,7 @@ fn begins_main(form: &Form) -> bool
 }
 
 /// Which parts of a unit have been read (X3.9-1978, 3.5).
-#[derive(Clone, Copy, Debug, PartialEq, Eq)]
+#[derive(Clone, Copy, PartialEq, Eq)]
 enum Stage {
     /// None.
     Start,
@@ -110,7 +110,7 @@ impl Stage {
 }
 
 /// How far a source has been read.
-#[derive(Clone, Copy, Debug, PartialEq, Eq)]
+#[derive(Clone, Copy, PartialEq, Eq)]
 struct State {
     /// Which parts of the unit were there.
     stage: Stage,

@@ -18,7 +18,7 @@ use std::alloc::{AllocError, Global};
 use std::mem::replace;
 
 // A name in a common block; blank COMMON has no name.
-#[derive(Clone, Copy, Debug, PartialEq, Eq)]
+#[derive(Clone, Copy, PartialEq, Eq)]
 pub(crate) struct Entry {
     pub(crate) block: Option<Name>,
     pub(crate) name: Name,

@@ -49,7 +49,6 @@ pub(crate) fn tables_of(
     ensures { IfOk result (found.AreTables symbols.now) }
 {
     let sizes = Sizes { symbols, constants };
-    let offsets = offset_table(alloc, symbols, constants)?;
     let first = behind_pairs(1, symbols.dummies().len());
     let mut locals = Starts::new(alloc, first, symbols.locals().len())?;
     locals.add_all(alloc, &sizes, symbols.locals())?;
@@ -57,6 +56,7 @@ pub(crate) fn tables_of(
     loops.add_statements(symbols.statements())?;
     let mut bounds = Starts::new(alloc, loops.next, symbols.dummies().len())?;
     bounds.add_all(alloc, &sizes, symbols.dummies())?;
+    let offsets = offset_table(alloc, symbols, constants)?;
     Ok(Tables {
         offsets,
         locals: replace(&mut locals.table, IndexMap::new(alloc)),

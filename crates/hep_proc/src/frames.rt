@@ -23,7 +23,7 @@ use std::alloc::{AllocError, Global};
 
 /// An activation whose frame enters: its number, the index of the unit that it runs, how many cells its frame has, and the key of its
 /// parent's node.
-#[derive(Clone, Copy, Debug)]
+#[derive(Clone, Copy)]
 pub struct Entrant {
     pub activation: u64,
     pub unit: u32,

@@ -8,7 +8,7 @@ use std::alloc::AllocError;
 
 /// An activation on a stack: the key of its node, the index of its unit in the program, and where it is in the
 /// unit's code, both counted from 0.
-#[derive(Clone, Copy, Debug)]
+#[derive(Clone, Copy)]
 pub struct Local {
     pub key: usize,
     pub unit: u32,

@@ -1,7 +1,7 @@
 //! Cells that a PURGE empties.
 
 /// Cells of the arena that follow one another.
-#[derive(Clone, Copy, Debug, PartialEq, Eq)]
+#[derive(Clone, Copy, PartialEq, Eq)]
 pub struct ClosedRange {
     /// The first one, counted from that of the arena.
     pub first: u32,

@@ -7,7 +7,7 @@ ghost use Rattle.hep_rule.specs.ReadingRule as reading;
 use hep_expression::characters::after_text;
 
 /// The rule that applies to a statement's text (docs/LANGUAGE.md).
-#[derive(Clone, Copy, Debug, PartialEq, Eq)]
+#[derive(Clone, Copy, PartialEq, Eq)]
 pub enum Rule {
     /// It is an assignment, to an element of an array IF too.
     Assignment,
@@ -24,7 +24,7 @@ pub enum Rule {
 }
 
 /// Where a search for `=` has come to.
-#[derive(Clone, Copy, Debug, PartialEq, Eq)]
+#[derive(Clone, Copy, PartialEq, Eq)]
 pub struct Scan {
     /// How many parentheses were opened.
     pub opened: usize,

@@ -8,14 +8,14 @@ use hep_conditions::types::same_declared;
 use hep_source::ValueType;
 
 /// What a place of a list has: whether its name is asynchronous, and its type; none where it is real.
-#[derive(Clone, Copy, Debug, PartialEq, Eq)]
+#[derive(Clone, Copy, PartialEq, Eq)]
 pub struct Position {
     pub asynchronous: bool,
     pub value_type: Option<ValueType>,
 }
 
 /// What so many places of a list have, one after the other.
-#[derive(Clone, Copy, Debug, PartialEq, Eq)]
+#[derive(Clone, Copy, PartialEq, Eq)]
 pub struct Run {
     pub position: Position,
     pub count: u64,
@@ -30,14 +30,14 @@ pub struct Known {
 }
 
 /// A place in a list in runs: the index of its run, and how many places of that run are before it.
-#[derive(Clone, Copy, Debug, PartialEq, Eq)]
+#[derive(Clone, Copy, PartialEq, Eq)]
 pub struct Place {
     pub run: usize,
     pub before: u64,
 }
 
 /// How far two lists are the same: up to these places.
-#[derive(Clone, Copy, Debug, PartialEq, Eq)]
+#[derive(Clone, Copy, PartialEq, Eq)]
 pub struct Meeting {
     pub first: Place,
     pub second: Place,

@@ -6,8 +6,6 @@ ghost use Rattle.hep_machine.specs.Words.{extent, natural};
 
 use arrayvec::ArrayVec;
 use hep_machine::Bound;
-use hep_source::Syntax;
-use std::alloc::{AllocError, Global};
 use std::marker::Model;
 
 // The most dimensions that an array may have (X3.9-1978, 5.1.1).
@@ -87,15 +85,19 @@ impl Shape {
     {
         self.cells().is_none_or(|cells| cells <= rest)
     }
-}
 
-impl Syntax for Shape {
-    fn copy(&self, _alloc: Global) -> Result<Shape, AllocError> {
+    /// The same shape.
+    pub fn copy(&self) -> Shape
+        ensures { result ≡ self.now }
+    {
         let (bounds, elements) = (copied(&self.bounds), self.cells());
-        Ok(Shape { bounds, elements })
+        Shape { bounds, elements }
     }
 
-    fn same(&self, other: &Shape) -> bool {
+    /// Whether two shapes are one.
+    pub fn same(&self, other: &Shape) -> bool
+        ensures { IsTrue result ↔ (self.now ≡ other.now) }
+    {
         are_same(&self.bounds, &other.bounds)
     }
 }

@@ -1,10 +1,9 @@
 //! Expressions.
-ghost use Rattle.std.specs.Prelude.{◌≡◌, ◌↔◌, IfOk, IsTrue};
+ghost use Rattle.std.specs.Prelude.{◌≡◌, IfOk};
 ghost use Rattle.hep_source.specs.Tree as tree;
 
 use crate::name::Occurrence;
 use crate::operator::{Operator, Sign};
-use crate::syntax::Syntax;
 use crate::value::Value;
 use std::alloc::{AllocError, Global};
 use std::marker::Model;
@@ -136,83 +135,5 @@ impl Expr {
         Ok(Expr {
             node: Node::Binary(operator, left, right),
         })
-    }
-
-    /// The same expression, in memory of its own.
-    ///
-    /// # Errors
-    ///
-    /// Only where memory was refused.
-    #[cycle(copy)]
-    pub fn copy(&self, alloc: Global) -> Result<Expr, AllocError>
-        ensures { IfOk result (λ e. e ≡ self.now) }
-    {
-        match &self.node {
-            Node::Constant(value) => Ok(Expr::constant(*value)),
-            Node::Occurrence(occurrence) => Ok(Expr::occurrence(*occurrence)),
-            Node::WithList(occurrence, arguments) => {
-                Ok(Expr::with_list(*occurrence, copy_arguments(alloc, arguments)?))
-            }
-            Node::Parenthesized(inner) => Expr::parenthesized(alloc, inner.copy(alloc)?),
-            Node::Signed(sign, term) => Expr::signed(alloc, *sign, term.copy(alloc)?),
-            Node::Negated(operand) => Expr::negated(alloc, operand.copy(alloc)?),
-            Node::Binary(operator, left, right) => {
-                let left = left.copy(alloc)?;
-                let right = right.copy(alloc)?;
-                Expr::binary(alloc, *operator, left, right)
-            }
-        }
-    }
-
-    /// Whether two expressions are one tree.
-    #[cycle(same)]
-    pub fn same(&self, other: &Expr) -> bool
-        ensures { IsTrue result ↔ (self.now ≡ other.now) }
-    {
-        match (&self.node, &other.node) {
-            (Node::Constant(a), Node::Constant(b)) => a == b,
-            (Node::Occurrence(a), Node::Occurrence(b)) => a == b,
-            (Node::WithList(f, xs), Node::WithList(g, ys)) => f == g && same_arguments(xs, ys),
-            (Node::Parenthesized(a), Node::Parenthesized(b)) => a.same(b),
-            (Node::Signed(s, a), Node::Signed(t, b)) => s == t && a.same(b),
-            (Node::Negated(a), Node::Negated(b)) => a.same(b),
-            (Node::Binary(o, a, b), Node::Binary(p, c, d)) => o == p && a.same(c) && b.same(d),
-            _ => false,
-        }
-    }
-}
-
-// Copies of the arguments of a name with a list.
-#[cycle(copy)]
-#[tactic(auto, using(crate::proofs::Children::child_less))]
-fn copy_arguments(alloc: Global, arguments: &Vec<Expr>) -> Result<Vec<Expr>, AllocError>
-    ensures { IfOk result (λ copies. copies.items ≡ arguments.now.items) }
-{
-    let mut copies = Vec::new(alloc);
-    for argument in arguments {
-        copies.push(argument.copy(alloc)?)?;
-    }
-    Ok(copies)
-}
-
-// Whether two lists of arguments are the same.
-#[cycle(same)]
-fn same_arguments(a: &[Expr], b: &[Expr]) -> bool
-    ensures { IsTrue result ↔ (a.now ≡ b.now) }
-{
-    match (a, b) {
-        ([], []) => true,
-        ([x, xs @ ..], [y, ys @ ..]) => x.same(y) && same_arguments(xs, ys),
-        _ => false,
-    }
-}
-
-impl Syntax for Expr {
-    fn copy(&self, alloc: Global) -> Result<Expr, AllocError> {
-        Expr::copy(self, alloc)
-    }
-
-    fn same(&self, other: &Expr) -> bool {
-        Expr::same(self, other)
     }
 }

@@ -10,7 +10,6 @@ pub mod name;
 pub mod operator;
 pub mod program;
 pub mod statement;
-pub mod syntax;
 pub mod value;
 
 pub use declaration::{
@@ -24,5 +23,4 @@ pub use name::{Name, Occurrence};
 pub use operator::{ArithmeticOperator, LogicalOperator, Operator, RelationalOperator, Sign};
 pub use program::{MAIN_NAME, Program, Unit};
 pub use statement::{DoControl, Form, PrintItem, SignLabels, Statement};
-pub use syntax::Syntax;
 pub use value::Value;

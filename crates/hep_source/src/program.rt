@@ -1,9 +1,8 @@
 //! Program units and programs.
-ghost use Rattle.std.specs.Prelude.{◌≡◌, ◌↔◌, IfOk, IsTrue};
+ghost use Rattle.std.specs.Prelude.{◌≡◌, IfOk};
 ghost use Rattle.hep_source.specs.Units as units;
 
 use crate::statement::{Form, Statement};
-use crate::syntax::{Syntax, copy_all, same_all};
 use hep_base::Text;
 use std::alloc::{AllocError, Global};
 use std::marker::Model;
@@ -115,33 +114,5 @@ impl Program {
         ensures { result.items ≡ self }
     {
         self.units
-    }
-
-    /// The same program, in memory of its own.
-    ///
-    /// # Errors
-    ///
-    /// Only where memory was refused.
-    pub fn copy(&self, alloc: Global) -> Result<Program, AllocError>
-        ensures { IfOk result (λ program. program ≡ self.now) }
-    {
-        Ok(Program::from(copy_all(alloc, &self.units)?))
-    }
-
-    /// Whether two programs are one.
-    pub fn same(&self, other: &Program) -> bool
-        ensures { IsTrue result ↔ (self.now ≡ other.now) }
-    {
-        same_all(&self.units, &other.units)
-    }
-}
-
-impl Syntax for Unit {
-    fn copy(&self, alloc: Global) -> Result<Unit, AllocError> {
-        Ok(Unit::from(copy_all(alloc, &self.statements)?))
-    }
-
-    fn same(&self, other: &Unit) -> bool {
-        same_all(&self.statements, &other.statements)
     }
 }

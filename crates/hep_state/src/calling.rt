@@ -9,7 +9,7 @@ use hep_proc::{Entrant, Local, Process};
 
 /// A unit that is called, created or referred to: its index in the program, how many cells its frame has, and where its first executable
 /// statement is in its code.
-#[derive(Clone, Copy, Debug)]
+#[derive(Clone, Copy)]
 pub struct Called {
     pub unit: u32,
     pub cells: u32,

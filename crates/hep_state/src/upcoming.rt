@@ -13,7 +13,7 @@ use hep_proc::Local;
 use hep_step::Way;
 
 /// A CALL, CREATE or reference that stands ahead of a process.
-#[derive(Clone, Copy, Debug)]
+#[derive(Clone, Copy)]
 pub struct CallAhead {
     /// The initial line of its statement.
     pub line: u32,
@@ -28,7 +28,7 @@ pub struct CallAhead {
 }
 
 /// A PURGE that stands ahead of a process.
-#[derive(Clone, Copy, Debug)]
+#[derive(Clone, Copy)]
 pub struct PurgeAhead {
     /// The initial line of its statement.
     pub line: u32,
@@ -39,7 +39,7 @@ pub struct PurgeAhead {
 }
 
 /// What stands ahead of a process.
-#[derive(Clone, Copy, Debug)]
+#[derive(Clone, Copy)]
 pub enum StepAhead {
     /// A CALL, CREATE or reference.
     Call(CallAhead),

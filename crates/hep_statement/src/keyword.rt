@@ -5,7 +5,7 @@ ghost use Rattle.hep_statement.specs.ReadingKeyword as words;
 use hep_expression::characters::after_text;
 
 /// A word with which a form of statement begins (docs/LANGUAGE.md).
-#[derive(Clone, Copy, Debug, PartialEq, Eq)]
+#[derive(Clone, Copy, PartialEq, Eq)]
 pub enum Keyword {
     /// PROGRAM (X3.9-1978, 14.1).
     Program,

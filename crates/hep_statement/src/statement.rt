@@ -1,5 +1,5 @@
 //! Reading statements: the form that a statement's text has.
-ghost use Rattle.std.specs.Prelude.{◌≡◌, Some, length};
+ghost use Rattle.std.specs.Prelude.{◌≡◌, if◌then◌else◌, None, Some, length};
 ghost use Rattle.hep_source.specs.Units as units;
 ghost use Rattle.hep_expression.specs.Reading.{Gives};
 ghost use Rattle.hep_statement.specs.ReadingStatement as reading;
@@ -164,6 +164,17 @@ fn may_stand(conditions: &[Expr], form: &Form) -> bool
     conditions.is_empty() || is_executable(form)
 }
 
+/// What was read, where it may stand.
+fn standing<T: Drop>(is_allowed: bool, read: T) -> Result<T, Unread>
+    ensures { Gives (λ x. x) result (if is_allowed then Some read else None) }
+{
+    if is_allowed {
+        Ok(read)
+    } else {
+        Err(Unread::NoReading)
+    }
+}
+
 /// The conditions of logical IFs and the form that a text has; a logical IF holds an executable
 /// statement.
 ///
@@ -180,9 +191,5 @@ pub fn form(alloc: Global, sizes: Sizes, text: &[u8]) -> Result<(Vec<Expr>, Form
     };
     let (conditions, statement) = conditions(alloc, context, text)?;
     let form = form_by_rule(alloc, context, statement)?;
-    if may_stand(&conditions, &form) {
-        Ok((conditions, form))
-    } else {
-        Err(Unread::NoReading)
-    }
+    standing(may_stand(&conditions, &form), (conditions, form))
 }

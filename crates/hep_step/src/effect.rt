@@ -7,7 +7,7 @@ use hep_machine::{Kind, Record};
 use hep_source::Value;
 
 /// What the operation ahead of an activation came to.
-#[derive(Debug, Drop)]
+#[derive(Drop)]
 pub enum Effect {
     /// It is done, and the activation has gone on; this cell was filled or emptied, if one was.
     Moved { changed: Option<Want> },

@@ -3,7 +3,7 @@
 use hep_source::Value;
 
 /// What a dummy argument stands for, by the cells of the arena (X3.9-1978, 15.9.3).
-#[derive(Clone, Copy, Debug, PartialEq, Eq)]
+#[derive(Clone, Copy, PartialEq, Eq)]
 pub enum Given {
     /// The value of an expression. It is kept in the dummy argument's own cells.
     Value(Value),

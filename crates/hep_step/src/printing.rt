@@ -8,9 +8,9 @@ ghost use Rattle.hep_step.specs.Items.{item_ahead as item_read, items_in};
 use crate::effect::Effect;
 use crate::moving::go_on;
 use crate::standing::Standing;
-use hep_code::{Instruction, Printed};
+use hep_code::{Duplicate, Instruction, Printed};
 use hep_machine::{Item, Record};
-use hep_source::{Syntax, Value};
+use hep_source::Value;
 use std::alloc::{AllocError, Global};
 
 // The item that a value is.

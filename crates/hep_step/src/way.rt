@@ -1,7 +1,7 @@
 //! How an activation is made.
 
 /// What makes an activation.
-#[derive(Clone, Copy, Debug, PartialEq, Eq)]
+#[derive(Clone, Copy, PartialEq, Eq)]
 pub enum Way {
     /// A CALL, above whose activation it is (X3.9-1978, 15.6.2).
     Calls,

@@ -11,7 +11,8 @@ mod streams;
 mod workers;
 
 use hep_check::check;
-use hep_core::{ChooseFault, Core, Turn, Verdict};
+use hep_copies::Syntax;
+use hep_core::{ChooseFault, CommitFault, Core, Segment, Ticket, Turn, Verdict};
 use hep_entries::History;
 use hep_image::Image;
 use hep_lower::lower;
@@ -41,6 +42,14 @@ fn core_of(rt: &impl Abort, alloc: Global, source: &[u8], steps: u64) -> Core {
 
 fn chosen(core: &mut Core, process: u64) -> Result<Turn, ChooseFault> {
     core.choose(process)
+}
+
+fn checked_out(core: &mut Core, process: u64) -> Result<Ticket, ChooseFault> {
+    core.check_out(process)
+}
+
+fn committed(core: &mut Core, segment: &Segment) -> Result<Turn, CommitFault> {
+    core.commit(segment)
 }
 
 // So many entries of one step of process 1.
@@ -133,19 +142,19 @@ fn core(rt: HostRuntime) {
     let variable = core.image().name(2).expect(&rt, "no name");
     assert!(rt; variable == b"J".as_slice());
     assert!(rt; core.image().name(3).is_none());
-    assert!(rt; core.choose(2).err() == Some(ChooseFault::NoSuchProcess));
+    assert!(rt; chosen(&mut core, 2).err() == Some(ChooseFault::NoSuchProcess));
     for _step in 0..7 {
         assert!(rt; core.used() == 3);
         assert!(rt; core.verdict() == Verdict::Running);
         assert!(rt; core.next_ready() == Some(1));
-        let turn = core.choose(1).expect(&rt, "no turn");
+        let turn = chosen(&mut core, 1).expect(&rt, "no turn");
         assert!(rt; turn.steps == 1 && !turn.blocked);
     }
     // The frame was given back.
     assert!(rt; core.used() == 0);
     assert!(rt; core.verdict() == Verdict::Done);
     assert!(rt; core.next_ready().is_none());
-    assert!(rt; core.choose(1).err() == Some(ChooseFault::NoSuchProcess));
+    assert!(rt; chosen(&mut core, 1).err() == Some(ChooseFault::NoSuchProcess));
     assert!(rt; core.output().len() == 1);
     assert!(rt; core.faults().len() == 1);
     assert!(rt; is_single_steps(core.history(), 7));

@@ -289,6 +289,88 @@ pub fn append_condition(text: &mut Vec<u8>, value: Value) -> Result<(), AllocErr
     Ok(())
 }
 
+/// Appends the line at which the process goes on.
+///
+/// # Errors
+///
+/// Only where memory was refused.
+pub fn append_jump(text: &mut Vec<u8>, line: u32) -> Result<(), AllocError>
+    ensures { OnOk result (text.new.items ≡ text.old.items ++ words.jump_text line) }
+{
+    text.extend_from_slice(b"go to LINE ")?;
+    append_number(text, line)?;
+    Ok(())
+}
+
+/// Appends that a DO begins, by its variable, initial value, limit and increment.
+///
+/// # Errors
+///
+/// Only where memory was refused.
+pub fn append_loop(
+    text: &mut Vec<u8>,
+    variable: &[u8],
+    initial: Value,
+    limit: Value,
+    increment: Value,
+) -> Result<(), AllocError>
+    ensures { OnOk result (text.new.items ≡ text.old.items ++ words.loop_text variable.now initial limit increment) }
+{
+    text.extend_from_slice(b"begin DO ")?;
+    text.extend_from_slice(variable)?;
+    append_given(text, initial)?;
+    text.extend_from_slice(b", ")?;
+    append_value(text, limit)?;
+    text.extend_from_slice(b", ")?;
+    append_value(text, increment)?;
+    Ok(())
+}
+
+/// Appends that an iteration of a DO is over, by its variable, which has this value then.
+///
+/// # Errors
+///
+/// Only where memory was refused.
+pub fn append_next(text: &mut Vec<u8>, variable: &[u8], value: Value) -> Result<(), AllocError>
+    ensures { OnOk result (text.new.items ≡ text.old.items ++ words.next_text variable.now value) }
+{
+    text.extend_from_slice(b"next ")?;
+    text.extend_from_slice(variable)?;
+    append_given(text, value)?;
+    Ok(())
+}
+
+/// Appends the value with which a function of this name ends.
+///
+/// # Errors
+///
+/// Only where memory was refused.
+pub fn append_answer(text: &mut Vec<u8>, unit: &[u8], value: Value) -> Result<(), AllocError>
+    ensures { OnOk result (text.new.items ≡ text.old.items ++ words.answer_text unit.now value) }
+{
+    text.extend_from_slice(b"returns ")?;
+    text.extend_from_slice(unit)?;
+    append_given(text, value)?;
+    Ok(())
+}
+
+/// Appends a variable or an element by its name in the unit, with the values of its subscripts.
+///
+/// # Errors
+///
+/// Only where memory was refused.
+pub fn append_reference(
+    text: &mut Vec<u8>,
+    name: &[u8],
+    subscripts: &[Value],
+) -> Result<(), AllocError>
+    ensures { OnOk result (text.new.items ≡ text.old.items ++ words.reference_text name.now subscripts.now) }
+{
+    text.extend_from_slice(name)?;
+    append_list(text, subscripts)?;
+    Ok(())
+}
+
 /// Appends that an activation ends, which is alone on its process or above another one.
 ///
 /// # Errors

@@ -7,6 +7,7 @@ ghost use Rattle.hep_conditions.specs.Words.{function_types, name_violations};
 ghost use Rattle.hep_conditions.specs.declared.violation.Violation.{Violation as PureViolation};
 ghost use Rattle.hep_uses.specs.declared.ambiguity.Ambiguity.{Ambiguity as PureAmbiguity};
 ghost use Rattle.hep_uses.specs.Ambiguities as spec;
+ghost use Rattle.hep_uses.specs.Ambiguous.{least_named};
 
 use crate::ambiguous::is_of_the_language;
 use crate::letters::{add_overlapping, letter_ranges};
@@ -18,7 +19,7 @@ use indexmap::{IndexMap, IndexSet};
 use std::alloc::{AllocError, Global};
 
 /// What is ambiguous at a line: a name, or letters of IMPLICIT, which have none.
-#[derive(Clone, Copy, Debug, PartialEq, Eq)]
+#[derive(Clone, Copy, PartialEq, Eq)]
 pub struct Ambiguity {
     /// The name.
     pub name: Option<Name>,
@@ -75,6 +76,20 @@ fn add_met(
     Ok(())
 }
 
+// Adds each use of the other list whose name the one list has by its line.
+fn add_met_by(
+    found: &mut Vec<Ambiguity>,
+    alloc: Global,
+    one: &[Use],
+    other: &[Use],
+) -> Result<(), AllocError>
+    ensures { OnOk result (found.new.items ≡ found.old.items ++ spec.met_from (least_named one.now) other.now) }
+{
+    let lines = lines_by_name(alloc, one)?;
+    add_met(found, &lines, other)?;
+    Ok(())
+}
+
 // Adds each use of one list whose name the other list has by its line.
 fn add_both_ways(
     found: &mut Vec<Ambiguity>,
@@ -84,10 +99,8 @@ fn add_both_ways(
 ) -> Result<(), AllocError>
     ensures { OnOk result (found.new.items ≡ found.old.items ++ spec.met_both_ways one.now other.now) }
 {
-    let ones = lines_by_name(alloc, one)?;
-    let others = lines_by_name(alloc, other)?;
-    add_met(found, &ones, other)?;
-    add_met(found, &others, one)?;
+    add_met_by(found, alloc, one, other)?;
+    add_met_by(found, alloc, other, one)?;
     Ok(())
 }
 

@@ -1,7 +1,7 @@
 //! Processes that wait.
 
 /// A process that waits, where, and for what. `Image::name` of hep_image tells the names of these numbers.
-#[derive(Clone, Copy, Debug, PartialEq, Eq)]
+#[derive(Clone, Copy, PartialEq, Eq)]
 pub struct Listed {
     pub process: u64,
     /// The number of the unit, which is that of its name: its index in the source, counted from 0.

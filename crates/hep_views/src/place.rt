@@ -1,7 +1,7 @@
 //! Where storage units are, as a person names them.
 
 /// A variable of an activation or its element, or a position of a common block.
-#[derive(Clone, Copy, Debug, PartialEq, Eq)]
+#[derive(Clone, Copy, PartialEq, Eq)]
 pub(crate) struct Place {
     // The activation whose variable it is, counted from 1, and 0 for COMMON.
     pub(crate) owner: u64,

@@ -1,7 +1,7 @@
 //! Where processes are.
 
 /// Where a process is. `Image::name` of hep_image tells the name of this number.
-#[derive(Clone, Copy, Debug, PartialEq, Eq)]
+#[derive(Clone, Copy, PartialEq, Eq)]
 pub struct Whereabouts {
     pub process: u64,
     /// The number of the unit, which is that of its name: its index in the source, counted from 0.

@@ -3,20 +3,23 @@
 //! The allocator that refuses is put below the program by the script `tests/each-growth`. To it a demand for more bytes than any
 //! system has is a command. Elsewhere such a demand is refused as ever, no growth is, and each call is made once.
 
-use super::{image_from, program_of, source_of};
+use super::{checked_out, chosen, committed, image_from, program_of, source_of};
+use hep_base::Refusal;
 use hep_check::{Checked, check};
+use hep_copies::Syntax;
 use hep_core::{
     ChooseFault, CommitFault, Core, Entry, NewFault, Segment, Ticket, Verdict, compute,
 };
 use hep_dump::dump_text;
 use hep_entries::History;
-use hep_history::{HistFault, ReplayFault, read_text, replay, write_text};
+use hep_history::{ReplayFault, read_text, replay, write_text};
 use hep_image::Image;
-use hep_lower::{LowerFault, lower};
+use hep_lower::lower;
 use hep_output::output_text;
-use hep_parse::{ParseFault, parse};
-use hep_text::{TextFault, statements};
-use hep_workers::{CloseFault, NoGate, Report, WorkOptions, close, run_workers};
+use hep_parse::parse;
+use hep_source::Program;
+use hep_text::statements;
+use hep_workers::{CloseFault, NoGate, WorkFault, WorkOptions, close, run_workers};
 use std::alloc::{AllocError, Global};
 use std::process::Abort;
 use std::sync::Wait;
@@ -31,13 +34,77 @@ const BEHIND: usize = 1 << 61;
 
 const MOST_GROWTHS: usize = 100_000;
 
-// What is said of an answer that is neither want of memory nor what a call gives.
-const UNWANTED: &str = "no such answer is allowed";
-
 // Commands that the growth of this number is refused from here on, counted from 1, or none for 0. Whether one was refused since the
 // last command.
 fn command(alloc: Global, number: usize) -> bool {
     Vec::<u8>::with_capacity(alloc, COMMAND | number).is_ok()
+}
+
+// ---- answers
+
+// A fault that may be want of memory.
+trait Wanting: Drop {
+    fn is_want_of_memory(&self) -> bool;
+}
+
+impl Wanting for Refusal {
+    fn is_want_of_memory(&self) -> bool {
+        matches!(self, Refusal::NoMemory)
+    }
+}
+
+impl Wanting for AllocError {
+    fn is_want_of_memory(&self) -> bool {
+        true
+    }
+}
+
+impl Wanting for NewFault {
+    fn is_want_of_memory(&self) -> bool {
+        *self == NewFault::NoMemory
+    }
+}
+
+impl Wanting for ChooseFault {
+    fn is_want_of_memory(&self) -> bool {
+        *self == ChooseFault::NoMemory
+    }
+}
+
+impl Wanting for CommitFault {
+    fn is_want_of_memory(&self) -> bool {
+        *self == CommitFault::NoMemory
+    }
+}
+
+impl Wanting for ReplayFault {
+    fn is_want_of_memory(&self) -> bool {
+        matches!(self, ReplayFault::NoMemory)
+    }
+}
+
+impl Wanting for CloseFault {
+    fn is_want_of_memory(&self) -> bool {
+        *self == CloseFault::NoMemory
+    }
+}
+
+// 704 where it was a thread that couldn't be started.
+impl Wanting for WorkFault {
+    fn is_want_of_memory(&self) -> bool {
+        matches!(self.number(), None | Some(704))
+    }
+}
+
+// What a call gives; nothing where it wants memory, as it may where a growth was refused. No other answer is allowed.
+fn given<T: Drop, F: Wanting>(rt: &impl Abort, answer: Result<T, F>, refused: bool) -> Option<T> {
+    match answer {
+        Ok(made) => Some(made),
+        Err(fault) => {
+            assert!(rt; refused && fault.is_want_of_memory());
+            None
+        }
+    }
 }
 
 // ---- what is called
@@ -131,7 +198,7 @@ fn sums_done(rt: &impl Abort, alloc: Global) -> Core {
         let Some(process) = core.next_ready() else {
             break;
         };
-        let _turn = core.choose(process).expect(rt, "no turn");
+        let _turn = chosen(&mut core, process).expect(rt, "no turn");
     }
     core
 }
@@ -140,6 +207,15 @@ fn sums_done(rt: &impl Abort, alloc: Global) -> Core {
 fn sums_text(rt: &impl Abort, alloc: Global) -> Vec<u8> {
     let core = sums_done(rt, alloc);
     write_text(alloc, core.history()).expect(rt, "no text")
+}
+
+// The program is that of the sums.
+fn is_of_sums(rt: &impl Abort, alloc: Global, program: &Program) {
+    assert!(rt; program.same(&program_of(rt, alloc, &sums(rt, alloc))));
+}
+
+fn is_image_of_sums(rt: &impl Abort, alloc: Global, image: &Image) {
+    assert!(rt; image.has_same_program(&sums_image(rt, alloc)));
 }
 
 // The run is over, and has left what it leaves in each order of its processes.
@@ -156,28 +232,20 @@ fn statements_at(rt: &impl Abort, alloc: Global, number: usize) -> bool {
     command(alloc, number);
     let answer = statements(alloc, &source);
     let refused = command(alloc, 0);
-    match answer {
-        Err(TextFault::NoMemory) => assert!(rt; refused),
-        read => {
-            let program = parse(alloc, &read.expect(rt, UNWANTED)).expect(rt, "no program");
-            assert!(rt; program.same(&program_of(rt, alloc, &source)));
-        }
+    if let Some(read) = given(rt, answer, refused) {
+        let program = parse(alloc, &read).expect(rt, "no program");
+        is_of_sums(rt, alloc, &program);
     }
     refused
 }
 
 fn parse_at(rt: &impl Abort, alloc: Global, number: usize) -> bool {
-    let source = sums(rt, alloc);
-    let read = statements(alloc, &source).expect(rt, "no statements");
+    let read = statements(alloc, &sums(rt, alloc)).expect(rt, "no statements");
     command(alloc, number);
     let answer = parse(alloc, &read);
     let refused = command(alloc, 0);
-    match answer {
-        Err(ParseFault::NoMemory) => assert!(rt; refused),
-        program => {
-            let program = program.expect(rt, UNWANTED);
-            assert!(rt; program.same(&program_of(rt, alloc, &source)));
-        }
+    if let Some(program) = given(rt, answer, refused) {
+        is_of_sums(rt, alloc, &program);
     }
     refused
 }
@@ -187,12 +255,9 @@ fn check_at(rt: &impl Abort, alloc: Global, number: usize) -> bool {
     command(alloc, number);
     let answer = check(alloc, program);
     let refused = command(alloc, 0);
-    match answer {
-        Err(LowerFault::NoMemory) => assert!(rt; refused),
-        checked => {
-            let image = lower(alloc, checked.expect(rt, UNWANTED)).expect(rt, "no image");
-            assert!(rt; image.has_same_program(&sums_image(rt, alloc)));
-        }
+    if let Some(checked) = given(rt, answer, refused) {
+        let image = lower(alloc, checked).expect(rt, "no image");
+        is_image_of_sums(rt, alloc, &image);
     }
     refused
 }
@@ -202,13 +267,8 @@ fn lower_at(rt: &impl Abort, alloc: Global, number: usize) -> bool {
     command(alloc, number);
     let answer = lower(alloc, checked);
     let refused = command(alloc, 0);
-    match answer {
-        Err(LowerFault::NoMemory) => assert!(rt; refused),
-        image => assert!(rt;
-            image
-                .expect(rt, UNWANTED)
-                .has_same_program(&sums_image(rt, alloc))
-        ),
+    if let Some(image) = given(rt, answer, refused) {
+        is_image_of_sums(rt, alloc, &image);
     }
     refused
 }
@@ -218,9 +278,8 @@ fn new_at(rt: &impl Abort, alloc: Global, number: usize) -> bool {
     command(alloc, number);
     let answer = Core::new(alloc, image, ARENA, MOST_ENTRIES);
     let refused = command(alloc, 0);
-    match answer {
-        Err(NewFault::NoMemory) => assert!(rt; refused),
-        core => assert!(rt; core.expect(rt, UNWANTED).used() == FIRST_CELLS),
+    if let Some(core) = given(rt, answer, refused) {
+        assert!(rt; core.used() == FIRST_CELLS);
     }
     refused
 }
@@ -233,9 +292,8 @@ fn write_text_at(rt: &impl Abort, alloc: Global, number: usize) -> bool {
     command(alloc, number);
     let answer = write_text(alloc, &history);
     let refused = command(alloc, 0);
-    match answer {
-        Err(AllocError) => assert!(rt; refused),
-        Ok(text) => assert!(rt; text.as_slice() == TEXT),
+    if let Some(text) = given(rt, answer, refused) {
+        assert!(rt; text.as_slice() == TEXT);
     }
     refused
 }
@@ -246,14 +304,9 @@ fn read_text_at(rt: &impl Abort, alloc: Global, number: usize) -> bool {
     command(alloc, number);
     let answer = read_text(alloc, &text);
     let refused = command(alloc, 0);
-    match answer {
-        Err(HistFault::NoMemory) => assert!(rt; refused),
-        entries => {
-            let image = sums_image(rt, alloc);
-            let entries = entries.expect(rt, UNWANTED);
-            let core = replay(alloc, image, ARENA, &entries).expect(rt, "no core");
-            is_over(rt, alloc, &core);
-        }
+    if let Some(entries) = given(rt, answer, refused) {
+        let core = replay(alloc, sums_image(rt, alloc), ARENA, &entries).expect(rt, "no core");
+        is_over(rt, alloc, &core);
     }
     refused
 }
@@ -264,9 +317,8 @@ fn replay_at(rt: &impl Abort, alloc: Global, number: usize) -> bool {
     command(alloc, number);
     let answer = replay(alloc, image, ARENA, &entries);
     let refused = command(alloc, 0);
-    match answer {
-        Err(ReplayFault::NoMemory) => assert!(rt; refused),
-        core => is_over(rt, alloc, &core.expect(rt, UNWANTED)),
+    if let Some(core) = given(rt, answer, refused) {
+        is_over(rt, alloc, &core);
     }
     refused
 }
@@ -276,9 +328,8 @@ fn output_text_at(rt: &impl Abort, alloc: Global, number: usize) -> bool {
     command(alloc, number);
     let answer = output_text(alloc, core.output());
     let refused = command(alloc, 0);
-    match answer {
-        Err(AllocError) => assert!(rt; refused),
-        Ok(text) => assert!(rt; text.as_slice() == OUTPUT),
+    if let Some(text) = given(rt, answer, refused) {
+        assert!(rt; text.as_slice() == OUTPUT);
     }
     refused
 }
@@ -286,13 +337,12 @@ fn output_text_at(rt: &impl Abort, alloc: Global, number: usize) -> bool {
 fn dump_text_at(rt: &impl Abort, alloc: Global, number: usize) -> bool {
     let image = image_from(rt, alloc, &source_of(rt, alloc, &WAITS));
     let mut core = Core::new(alloc, image, ARENA, MOST_ENTRIES).expect(rt, "no core");
-    let _turn = core.choose(1).expect(rt, "no turn");
+    let _turn = chosen(&mut core, 1).expect(rt, "no turn");
     command(alloc, number);
     let answer = dump_text(alloc, &core);
     let refused = command(alloc, 0);
-    match answer {
-        Err(AllocError) => assert!(rt; refused),
-        Ok(text) => assert!(rt; text.as_slice() == WAITING),
+    if let Some(text) = given(rt, answer, refused) {
+        assert!(rt; text.as_slice() == WAITING);
     }
     refused
 }
@@ -313,14 +363,12 @@ fn seen(core: &Core) -> ((u64, u32, usize, usize), (Verdict, Option<u64>)) {
 fn chosen_at(rt: &impl Abort, alloc: Global, core: &mut Core, process: u64, number: usize) -> bool {
     let before = seen(core);
     command(alloc, number);
-    let answer = core.choose(process);
+    let answer = chosen(core, process);
     let refused = command(alloc, 0);
-    if answer == Err(ChooseFault::NoMemory) {
-        assert!(rt; refused && seen(core) == before);
-        let _turn = core.choose(process).expect(rt, "no turn");
-        return true;
+    if given(rt, answer, refused).is_none() {
+        assert!(rt; seen(core) == before);
+        let _turn = chosen(core, process).expect(rt, "no turn");
     }
-    let _turn = answer.expect(rt, UNWANTED);
     refused
 }
 
@@ -346,14 +394,14 @@ fn checked_out_at(
 ) -> (Ticket, bool) {
     let before = seen(core);
     command(alloc, number);
-    let answer = core.check_out(process);
+    let answer = checked_out(core, process);
     let refused = command(alloc, 0);
-    match answer {
-        Err(ChooseFault::NoMemory) => {
-            assert!(rt; refused && seen(core) == before);
-            (core.check_out(process).expect(rt, "no ticket"), true)
+    match given(rt, answer, refused) {
+        Some(ticket) => (ticket, refused),
+        None => {
+            assert!(rt; seen(core) == before);
+            (checked_out(core, process).expect(rt, "no ticket"), refused)
         }
-        ticket => (ticket.expect(rt, UNWANTED), refused),
     }
 }
 
@@ -367,14 +415,12 @@ fn committed_at(
 ) -> bool {
     let before = seen(core);
     command(alloc, number);
-    let answer = core.commit(segment);
+    let answer = committed(core, segment);
     let refused = command(alloc, 0);
-    if answer == Err(CommitFault::NoMemory) {
-        assert!(rt; refused && seen(core) == before);
-        let _turn = core.commit(segment).expect(rt, "not committed");
-        return true;
+    if given(rt, answer, refused).is_none() {
+        assert!(rt; seen(core) == before);
+        let _turn = committed(core, segment).expect(rt, "not committed");
     }
-    let _turn = answer.expect(rt, UNWANTED);
     refused
 }
 
@@ -463,15 +509,13 @@ fn options() -> WorkOptions {
     }
 }
 
-// Want of memory, or 704 where it was a thread that couldn't be started.
 fn run_workers_at<R: Abort + Threads + Wait + Sync>(rt: &R, alloc: Global, number: usize) -> bool {
     let image = sums_image(rt, alloc);
     command(alloc, number);
     let answer = run_workers(rt, alloc, image, &options(), &NoGate);
     let refused = command(alloc, 0);
-    match answer {
-        Err(fault) => assert!(rt; refused && matches!(fault.number(), None | Some(704))),
-        Ok(report) => is_over(rt, alloc, report.core()),
+    if let Some(report) = given(rt, answer, refused) {
+        is_over(rt, alloc, report.core());
     }
     refused
 }
@@ -483,9 +527,8 @@ fn close_at<R: Abort + Threads + Wait + Sync>(rt: &R, alloc: Global, number: usi
     command(alloc, number);
     let answer = close(alloc, core, &image, &options(), logs);
     let refused = command(alloc, 0);
-    match answer {
-        Err(CloseFault::NoMemory) => assert!(rt; refused),
-        report => is_over(rt, alloc, report.expect(rt, UNWANTED).core()),
+    if let Some(report) = given(rt, answer, refused) {
+        is_over(rt, alloc, report.core());
     }
     refused
 }

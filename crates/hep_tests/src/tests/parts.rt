@@ -4,7 +4,7 @@ use super::{UNDEFINED, chosen, core_of, image_from, is_single_steps, source_of};
 use hep_arena::Arena;
 use hep_arena::laws::{giving, taking};
 use hep_core::{ChoiceStop, ChooseFault, Core, NewFault, Verdict};
-use hep_text::{Span, statements};
+use hep_text::{Span, Stmt, statements};
 use std::alloc::Global;
 use std::process::Abort;
 
@@ -13,22 +13,26 @@ use std::process::Abort;
 #[test]
 fn labels_and_blanks(rt: HostRuntime) {
     let source = b"C a comment\r\n 1 0  go to 2 0\r\n      END";
-    let mut read = statements(rt.alloc(), source).expect(&rt, "no statements");
+    let read = statements(rt.alloc(), source).expect(&rt, "no statements");
     assert!(rt; read.len() == 2);
-    if let Some(end) = read.pop() {
-        assert!(rt; end.line == 3 && end.label.is_none());
-        assert!(rt; end.text.into_vec().as_slice() == b"END".as_slice());
-        assert!(rt; end.spans.into_vec().len() == 3);
-    }
-    if let Some(jump) = read.pop() {
-        assert!(rt; jump.line == 2 && jump.label == Some(10));
-        assert!(rt; jump.text.as_slice() == b"GOTO20".as_slice());
-        let last = Span {
-            line: 2,
-            column: 15,
-        };
-        assert!(rt; jump.spans.as_slice().last().copied() == Some(last));
-    }
+    is_labelled_jump(&rt, &read[0]);
+    is_bare_end(&rt, &read[1]);
+}
+
+fn is_labelled_jump(rt: &impl Abort, jump: &Stmt) {
+    assert!(rt; jump.line == 2 && jump.label == Some(10));
+    assert!(rt; jump.text.as_slice() == b"GOTO20".as_slice());
+    let last = Span {
+        line: 2,
+        column: 15,
+    };
+    assert!(rt; jump.spans.as_slice().last().copied() == Some(last));
+}
+
+fn is_bare_end(rt: &impl Abort, end: &Stmt) {
+    assert!(rt; end.line == 3 && end.label.is_none());
+    assert!(rt; end.text.as_slice() == b"END".as_slice());
+    assert!(rt; end.spans.as_slice().len() == 3);
 }
 
 // ---- the core

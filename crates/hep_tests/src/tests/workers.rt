@@ -1,7 +1,7 @@
 //! Tickets, and workers that take turns.
 ghost use Rattle.std.specs.Prelude.{◌≤◌};
 
-use super::{core_of, image_from, source_of};
+use super::{checked_out, chosen, committed, core_of, image_from, source_of};
 use hep_core::{ChoiceStop, ChooseFault, CommitFault, Core, Segment, Ticket, Verdict, compute};
 use hep_image::Image;
 use hep_source::Value;
@@ -27,28 +27,55 @@ fn options_of(steps: u64, workers: u32) -> WorkOptions
     }
 }
 
+// ---- calls of a core, without what their contracts say of them
+
+fn ticket_of(rt: &impl Abort, core: &mut Core, process: u64) -> Ticket {
+    checked_out(core, process).expect(rt, "no ticket")
+}
+
+// A ticket that was given and cancelled.
+fn cancelled_of(rt: &impl Abort, core: &mut Core, process: u64) -> Ticket {
+    let ticket = ticket_of(rt, core, process);
+    core.cancel(&ticket).expect(rt, "not cancelled");
+    ticket
+}
+
+// Why a process isn't checked out.
+fn unticketed(core: &mut Core, process: u64) -> Option<ChooseFault> {
+    checked_out(core, process).err()
+}
+
+fn is_stale(core: &mut Core, segment: &Segment) -> bool {
+    committed(core, segment).err() == Some(CommitFault::Stale)
+}
+
+// Why there is no report of a core without logs.
+fn unclosed(alloc: Global, core: Core, image: &Image, options: &WorkOptions) -> Option<CloseFault> {
+    close(alloc, core, image, options, Vec::new(alloc)).err()
+}
+
 // A process that is out is neither chosen nor checked out, and comes next no more; of two segments of a ticket one is committed.
 #[test]
 fn tickets(rt: HostRuntime) {
     let image = image_from(&rt, rt.alloc(), WAITING);
     let mut core = core_of(&rt, rt.alloc(), WAITING, 3);
-    assert!(rt; core.check_out(2).err() == Some(ChooseFault::NoSuchProcess));
+    assert!(rt; unticketed(&mut core, 2) == Some(ChooseFault::NoSuchProcess));
     assert!(rt; core.next_ready() == Some(1));
-    let cancelled = core.check_out(1).expect(&rt, "no ticket");
+    let cancelled = ticket_of(&rt, &mut core, 1);
     assert!(rt; core.next_ready().is_none());
     assert!(rt; core.verdict() == Verdict::Running);
     core.cancel(&cancelled).expect(&rt, "not cancelled");
     assert!(rt; core.cancel(&cancelled).err() == Some(CommitFault::Stale));
-    assert!(rt; core.commit(&compute(&image, &cancelled)).err() == Some(CommitFault::Stale));
-    let ticket = core.check_out(1).expect(&rt, "no ticket");
+    assert!(rt; is_stale(&mut core, &compute(&image, &cancelled)));
+    let ticket = ticket_of(&rt, &mut core, 1);
     assert!(rt; ticket.id().number == 2);
-    assert!(rt; core.choose(1).err() == Some(ChooseFault::IsOut));
-    assert!(rt; core.check_out(1).err() == Some(ChooseFault::IsOut));
+    assert!(rt; chosen(&mut core, 1).err() == Some(ChooseFault::IsOut));
+    assert!(rt; unticketed(&mut core, 1) == Some(ChooseFault::IsOut));
     let first = compute(&image, &ticket);
     let second = compute(&image, &ticket);
-    let turn = core.commit(&first).expect(&rt, "not committed");
+    let turn = committed(&mut core, &first).expect(&rt, "not committed");
     assert!(rt; turn.steps == 0 && turn.blocked);
-    assert!(rt; core.commit(&second).err() == Some(CommitFault::Stale));
+    assert!(rt; is_stale(&mut core, &second));
     assert!(rt; core.history().len() == 1);
     assert!(rt; core.verdict() == Verdict::Waiting);
 }
@@ -72,16 +99,16 @@ fn at_the_opening(rt: HostRuntime) {
     let image = image_from(&rt, alloc, &source);
     let mut core = core_of(&rt, alloc, &source, 7);
     for process in [99, 2] {
-        assert!(rt; core.choose(process).err() == Some(ChooseFault::NoSuchProcess));
+        assert!(rt; chosen(&mut core, process).err() == Some(ChooseFault::NoSuchProcess));
         assert!(rt; core.history().len() == 0);
     }
-    let ticket = core.check_out(1).expect(&rt, "no ticket");
-    assert!(rt; core.choose(1).err() == Some(ChooseFault::IsOut));
+    let ticket = ticket_of(&rt, &mut core, 1);
+    assert!(rt; chosen(&mut core, 1).err() == Some(ChooseFault::IsOut));
     let first = compute(&image, &ticket);
     let second = compute(&image, &ticket);
-    let turn = core.commit(&first).expect(&rt, "not committed");
+    let turn = committed(&mut core, &first).expect(&rt, "not committed");
     assert!(rt; turn.steps == 1 && !turn.blocked);
-    assert!(rt; core.commit(&second).err() == Some(CommitFault::Stale));
+    assert!(rt; is_stale(&mut core, &second));
     assert!(rt; core.history().len() == 1);
     let options = WorkOptions {
         arena: 3,
@@ -89,10 +116,7 @@ fn at_the_opening(rt: HostRuntime) {
         workers: 1,
     };
     let opening = core_of(&rt, alloc, &source, 7);
-    assert!(rt;
-        close(alloc, opening, &image, &options, Vec::new(alloc)).err()
-            == Some(CloseFault::StillRunning)
-    );
+    assert!(rt; unclosed(alloc, opening, &image, &options) == Some(CloseFault::StillRunning));
 }
 
 // A segment of process 1 at the opening of another core, which has given so many tickets before and cancelled them.
@@ -100,10 +124,9 @@ fn segment_after(rt: &impl Abort, alloc: Global, image: &Image, cancelled: u32) 
     let copy = image.copy(alloc).expect(rt, "no copy");
     let mut core = Core::new(alloc, copy, 3, 7).expect(rt, "no core");
     for _ticket in 0..cancelled {
-        let ticket = core.check_out(1).expect(rt, "no ticket");
-        core.cancel(&ticket).expect(rt, "not cancelled");
+        let _ticket = cancelled_of(rt, &mut core, 1);
     }
-    let ticket = core.check_out(1).expect(rt, "no ticket");
+    let ticket = ticket_of(rt, &mut core, 1);
     compute(image, &ticket)
 }
 
@@ -118,17 +141,16 @@ fn foreign_segments(rt: HostRuntime) {
     let later = segment_after(&rt, alloc, &image, 2);
     let alike = segment_after(&rt, alloc, &image, 1);
     let mut core = core_of(&rt, alloc, &source, 7);
-    assert!(rt; core.commit(&alike).err() == Some(CommitFault::Stale));
-    let cancelled = core.check_out(1).expect(&rt, "no ticket");
-    core.cancel(&cancelled).expect(&rt, "not cancelled");
-    let ticket = core.check_out(1).expect(&rt, "no ticket");
+    assert!(rt; is_stale(&mut core, &alike));
+    let _cancelled = cancelled_of(&rt, &mut core, 1);
+    let ticket = ticket_of(&rt, &mut core, 1);
     for segment in [&of_another_source, &earlier, &later] {
-        assert!(rt; core.commit(segment).err() == Some(CommitFault::Stale));
+        assert!(rt; is_stale(&mut core, segment));
         assert!(rt; core.history().len() == 0 && core.used() == 1 && core.next_ready().is_none());
     }
-    let turn = core.commit(&alike).expect(&rt, "not committed");
+    let turn = committed(&mut core, &alike).expect(&rt, "not committed");
     assert!(rt; turn.steps == 1);
-    assert!(rt; core.commit(&compute(&image, &ticket)).err() == Some(CommitFault::Stale));
+    assert!(rt; is_stale(&mut core, &compute(&image, &ticket)));
     assert!(rt; core.history().len() == 1);
 }
 
@@ -136,10 +158,10 @@ fn foreign_segments(rt: HostRuntime) {
 #[test]
 fn full_histories(rt: HostRuntime) {
     let mut core = core_of(&rt, rt.alloc(), WAITING, 1);
-    core.choose(1).expect(&rt, "no turn");
-    assert!(rt; core.check_out(1).err() == Some(ChooseFault::Stopped(ChoiceStop::StepLimit)));
-    assert!(rt; core.check_out(7).err() == Some(ChooseFault::Stopped(ChoiceStop::StepLimit)));
-    assert!(rt; core.choose(7).err() == Some(ChooseFault::Stopped(ChoiceStop::StepLimit)));
+    chosen(&mut core, 1).expect(&rt, "no turn");
+    assert!(rt; unticketed(&mut core, 1) == Some(ChooseFault::Stopped(ChoiceStop::StepLimit)));
+    assert!(rt; unticketed(&mut core, 7) == Some(ChooseFault::Stopped(ChoiceStop::StepLimit)));
+    assert!(rt; chosen(&mut core, 7).err() == Some(ChooseFault::Stopped(ChoiceStop::StepLimit)));
 }
 
 // Why there is no report, each by itself.
@@ -153,34 +175,16 @@ fn closing(rt: HostRuntime) {
     };
     let source = b"      I=1\n      END\n";
     let image = image_from(&rt, alloc, source);
-    let opening = close(
-        alloc,
-        core_of(&rt, alloc, source, 7),
-        &image,
-        &options,
-        Vec::new(alloc),
-    );
-    assert!(rt; opening.err() == Some(CloseFault::StillRunning));
+    let opening = core_of(&rt, alloc, source, 7);
+    assert!(rt; unclosed(alloc, opening, &image, &options) == Some(CloseFault::StillRunning));
+    let opening = core_of(&rt, alloc, source, 7);
     let other = image_from(&rt, alloc, WAITING);
-    let other = close(
-        alloc,
-        core_of(&rt, alloc, source, 7),
-        &other,
-        &options,
-        Vec::new(alloc),
-    );
-    assert!(rt; other.err() == Some(CloseFault::NotTheRun));
-    let shorter = close(
-        alloc,
-        core_of(&rt, alloc, source, 6),
-        &image,
-        &options,
-        Vec::new(alloc),
-    );
-    assert!(rt; shorter.err() == Some(CloseFault::NotTheRun));
+    assert!(rt; unclosed(alloc, opening, &other, &options) == Some(CloseFault::NotTheRun));
+    let shorter = core_of(&rt, alloc, source, 6);
+    assert!(rt; unclosed(alloc, shorter, &image, &options) == Some(CloseFault::NotTheRun));
 
     let mut core = core_of(&rt, alloc, source, 7);
-    let ticket = core.check_out(1).expect(&rt, "no ticket");
+    let ticket = ticket_of(&rt, &mut core, 1);
     let segment = compute(&image, &ticket);
     let receipt = worker_turn(&mut core, 1, &segment).expect(&rt, "no receipt");
     assert!(rt;
@@ -192,10 +196,7 @@ fn closing(rt: HostRuntime) {
                 steps: 1,
             }
     );
-    assert!(rt;
-        close(alloc, core, &image, &options, Vec::new(alloc)).err()
-            == Some(CloseFault::NotTheEntries)
-    );
+    assert!(rt; unclosed(alloc, core, &image, &options) == Some(CloseFault::NotTheEntries));
 }
 
 // Holds the first worker that calls it after 20 calls, until the other one has called it twice more.
@@ -281,6 +282,28 @@ fn is_log_of(log: &Log, worker: u32, calls: u64) -> bool {
             .all(|receipt| receipt.worker == worker)
 }
 
+// The run is over, in so many steps, and has left what was stored.
+fn has_stored(rt: &impl Abort, core: &Core) {
+    assert!(rt; core.verdict() == Verdict::Done);
+    assert!(rt; core.output().len() == 0);
+    assert!(rt; core.faults().len() == 0);
+    assert!(rt; core.used() == 1);
+    assert!(rt; core.history().len() == 6_007);
+    let stored = core.common(0).and_then(|slot| slot.value);
+    assert!(rt; stored == Some(Value::Int(1_000)));
+    assert!(rt; core.common(1).is_none());
+}
+
+// Two workers have a log each, with the calls of the first one and those of the other.
+fn are_logs_of(rt: &impl Abort, logs: &[Log], calls: u64, of_first: u64) {
+    let [first, second] = logs else {
+        assert!(rt; false, "there are other than two logs");
+        return;
+    };
+    assert!(rt; is_log_of(first, 1, of_first));
+    assert!(rt; is_log_of(second, 2, calls.saturating_sub(of_first)));
+}
+
 #[test]
 fn two_workers_take_turns(rt: HostRuntime) {
     let alloc = rt.alloc();
@@ -291,21 +314,13 @@ fn two_workers_take_turns(rt: HostRuntime) {
     let (core, logs) = report.into_parts();
     assert!(rt; gate.polls.load(Ordering::SeqCst) < MOST_POLLS);
     assert!(rt; 2 <= gate.calls_of_other.load(Ordering::SeqCst));
-    assert!(rt; core.verdict() == Verdict::Done);
-    assert!(rt; core.output().len() == 0);
-    assert!(rt; core.faults().len() == 0);
-    assert!(rt; core.used() == 1);
-    assert!(rt; core.history().len() == 6_007);
-    let stored = core.common(0).and_then(|slot| slot.value);
-    assert!(rt; stored == Some(Value::Int(1_000)));
-    assert!(rt; core.common(1).is_none());
+    has_stored(&rt, &core);
     let calls = gate.calls.load(Ordering::SeqCst);
-    let of_first = gate.calls_of_first.load(Ordering::SeqCst);
     assert!(rt; calls == 6_007);
-    let [first, second] = logs.as_slice() else {
-        assert!(rt; false, "there are other than two logs");
-        return;
-    };
-    assert!(rt; is_log_of(first, 1, of_first));
-    assert!(rt; is_log_of(second, 2, calls.saturating_sub(of_first)));
+    are_logs_of(
+        &rt,
+        &logs,
+        calls,
+        gate.calls_of_first.load(Ordering::SeqCst),
+    );
 }

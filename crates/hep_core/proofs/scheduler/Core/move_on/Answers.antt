@@ -12,6 +12,7 @@ use Rattle.hep_core.specs.declared.scheduler.Core.TheInside.{Inside}
 use Rattle.hep_core.specs.Going.{AreMoves, IsAtRest, entries_along}
 use Rattle.hep_core.specs.Tickets.{is_out}
 use Rattle.hep_core.specs.Value.{CoreValue, IsStop}
+use Rattle.hep_core.proofs.Coming.{next-levels}
 use Rattle.hep_core.proofs.Going.{IsNext, chosen-so, core-goes-on, core_along, entries-more, home-so, last-along, moves-begun, moves-on, next-alone, next-begun, next-round, next-so, nobody-out}
 use Rattle.hep_core.proofs.Histories.{state-is}
 use Rattle.hep_core.proofs.Kept.{AreSeen, halted-is, some-of}
@@ -192,9 +193,6 @@ returns-then-made-eq0-clause-few c = omega (arith, few-made (goal.at.returns-the
 pub returns-then-made-eq0-clause-all : goal.returns-then-made-eq0-clause-all
 returns-then-made-eq0-clause-all c alone fewer = at-rest (goal.at.returns-then-made-eq0-clause-all c).After-note_all alone fewer
 
-pub other_next-requires : goal.other_next-requires
-other_next-requires c = (kept (goal.at.other_next-requires c).After-note_all c.note_all.new.history c.note_all.ensures).after.numbers
-
 -- the entries, once there is room for one more
 noted : (c : After-other_next) → c.other_next.new.history.items ≡ entries_along c.loop-done.self-inside.history.items c.loop-done.next c.go_on-made.result
 noted c = c.other_next.ensures.items ∙ c.note_all.ensures
@@ -235,7 +233,7 @@ loop-done-preserved c =
       out = inv.out;
       moves = moved at.After-note_all history items;
       next = next-round c.args.rounds c.args.p c.in-Some.other (core_value now) round (next-so now c.loop-done.next c.in-Some.other nobody last same found.next);
-      living = found.lives;
+      living = next-levels now.image now.cells history.items (want_of i.roster.waiting) i.roster.ready keeps.listed (snapshot_of machine) c.loop-done.next c.in-Some.other keeps.after.after found.next;
       entries = omega (arith, many, inv.entries);
       few = few-made at.After-note_all;
       alone = λ alone. absurd (true≢false (sym round ∙ alone));

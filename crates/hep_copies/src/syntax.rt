@@ -1,8 +1,7 @@
 //! Copies of trees, and whether two trees are one.
 ghost use Rattle.std.specs.Prelude.{◌≡◌, ◌↔◌, IfOk, IsTrue};
 
-use crate::name::Occurrence;
-use hep_base::Sequence;
+use hep_source::{Occurrence, Sequence};
 use std::alloc::{AllocError, Global};
 
 /// A part of a program's tree.

@@ -1,9 +1,9 @@
 use Rattle.std.proofs.Common.{◌≡◌, take}
 use Rattle.hep_source.specs.Tree.{nodes, nodes_of_all, trees_of}
-use Rattle.hep_source.proofs.expression.+copy.Given as goal
+use Rattle.hep_copies.proofs.expression.+copy.Given as goal
 
-abbrev pub decreases-Expr::copy : goal.decreases-Expr::copy
-decreases-Expr::copy l = nodes l.self.now
+abbrev pub decreases-copy_expression : goal.decreases-copy_expression
+decreases-copy_expression l = nodes l.expression.now
 
 abbrev pub decreases-copy_arguments : goal.decreases-copy_arguments
 decreases-copy_arguments l = nodes_of_all (trees_of l.arguments.now.items)

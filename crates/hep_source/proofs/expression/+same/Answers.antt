@@ -1,8 +1,0 @@
-use Rattle.std.proofs.Common.{rules, sym, ◌∙◌, ap}
-use Rattle.hep_source.specs.NodeTree.{node_tree}
-use Rattle.hep_source.proofs.Children.{same_listed}
-use Rattle.hep_source.proofs.expression.+same.Goals as goal
-
-pub Expr::same-returns-then-eq : goal.Expr::same-returns-then-eq
-Expr::same-returns-then-eq t c =
-    same_listed c.in-WithList-WithList.f c.in-WithList-WithList.g c.in-WithList-WithList.xs.items c.in-WithList-WithList.ys.items c.args.self.now c.args.other.now c.same_arguments.result (sym c.self.view_is ∙ ap node_tree c.in-WithList-WithList.is-0) (sym c.other.view_is ∙ ap node_tree c.in-WithList-WithList.is-1) (search rules) (rw (← c.deref.ensures.value, ← c.deref-then-eq.ensures.value) c.same_arguments.ensures)
