@@ -1,11 +1,13 @@
 //! Whether the arrays among the dummy arguments of a unit that is called fit what is given to them.
 ghost use Rattle.std.specs.Prelude.{◌≡◌, ◌<◌, ◌≤◌, ◌+◌, ◌++◌, ◌∷◌, [], true, length, slice_get, vec_len, vec_capacity};
+ghost use Rattle.hep_image.specs.declared.dummy.DummyArgument.TheVariants.{Adjustable};
 ghost use Rattle.hep_step.specs.Shapes as passing;
 ghost use Rattle.hep_binding.specs.Fitting as definitions;
 ghost use Rattle.hep_binding.specs.Fitting.{AreShapable, IsShapable, are_fitting, shapes_of};
 
 use crate::shape::shape_given;
 use hep_arena::Arena;
+use hep_code::BoundOperation;
 use hep_image::DummyArgument;
 use hep_shape::Shape;
 use hep_source::Value;
@@ -32,6 +34,31 @@ fn has_room(count: u32, shape: &Option<Shape>) -> bool
     }
 }
 
+// Puts the shape of an adjustable array with this code behind those in front of it, and answers whether it fits what is given.
+//
+// A function of its own, so that other dummy arguments move no shape.
+#[inline(never)]
+fn find_adjustable(
+    code: &[BoundOperation],
+    arena: &Arena,
+    given: &[Given],
+    stack: &mut Vec<Value>,
+    shapes: &mut Vec<Option<Shape>>,
+) -> bool
+    requires readable { IsShapable arena.now given.now (vec_capacity stack.old) (Adjustable code.now) }
+    requires room { vec_len shapes.old < vec_capacity shapes.old }
+    ensures fits { result ≡ definitions.is_fitting_at arena.now.contents given.now (vec_len shapes.old) (Adjustable code.now) }
+    ensures items { shapes.new.items ≡ shapes.old.items ++ definitions.shape_of_dummy arena.now.contents given.now (Adjustable code.now) ∷ [] }
+    ensures length { vec_len shapes.new ≡ vec_len shapes.old + 1 }
+    ensures rooms { (vec_capacity stack.old ≤ vec_capacity stack.new) × (vec_capacity shapes.old ≤ vec_capacity shapes.new) }
+{
+    let count = count_given(given, shapes.len());
+    let shape = shape_given(code, arena, given, stack);
+    let fits = has_room(count, &shape);
+    shapes.push_reserved(shape);
+    fits
+}
+
 // Puts the shape of the next dummy argument behind those in front of it, and answers whether this one fits what is given.
 fn find_shape(
     dummy: &DummyArgument,
@@ -47,21 +74,18 @@ fn find_shape(
     ensures length { vec_len shapes.new ≡ vec_len shapes.old + 1 }
     ensures rooms { (vec_capacity stack.old ≤ vec_capacity stack.new) × (vec_capacity shapes.old ≤ vec_capacity shapes.new) }
 {
-    let count = count_given(given, shapes.len());
     match dummy {
         DummyArgument::Scalar => {
             shapes.push_reserved(None);
             true
         }
         DummyArgument::Array(constant) => {
+            let count = count_given(given, shapes.len());
             shapes.push_reserved(None);
             constant.fits(count)
         }
         DummyArgument::Adjustable(code) => {
-            let shape = shape_given(code.as_slice(), arena, given, stack);
-            let fits = has_room(count, &shape);
-            shapes.push_reserved(shape);
-            fits
+            find_adjustable(code.as_slice(), arena, given, stack, shapes)
         }
     }
 }

@@ -236,3 +236,23 @@ AreFilled-append (run ∷ runs) others filled more = (filled.0, AreFilled-append
 pub shorts_filled : (from : ℕ) (shorts : List Short) → AreRising from shorts → AreFilled (runs_of_shorts from shorts)
 shorts_filled from [] rising = tt
 shorts_filled from (short ∷ shorts) rising = (omega (arith, rising.0), shorts_filled short.end shorts rising.1)
+
+-- ---- the last one of the runs is taken
+
+pub AreRising-left : (from : ℕ) (shorts : List Short) (s : Short) → AreRising from (shorts ++ s ∷ []) → AreRising from shorts × (end_of_shorts from shorts < s.end)
+AreRising-left from [] s rising = (tt, rising.0)
+AreRising-left from (short ∷ shorts) s rising = let rest = AreRising-left short.end shorts s rising.1 in ((rising.0, rest.0), rest.1)
+
+pub AreFilled-left : (runs : List Run) (r : Run) → AreFilled (runs ++ r ∷ []) → AreFilled runs × (0 < r.count)
+AreFilled-left [] r filled = (tt, filled.0)
+AreFilled-left (run ∷ runs) r filled = let rest = AreFilled-left runs r filled.1 in ((filled.0, rest.0), rest.1)
+
+-- one in eight bytes, where there are no longer ones
+pub open_short : (shorts left : List Short) (longs : List Run) (s : Short) → shorts ≡ left ++ s ∷ [] → longs ≡ []
+    → runs_in shorts longs ≡ runs_in left longs ++ run_of_short (end_of_shorts 0 left) s ∷ []
+open_short shorts left longs s all none =
+    let alone : (ss : List Short) → runs_in ss longs ≡ runs_of_shorts 0 ss = λ ss. ap (λ ls. runs_of_shorts 0 ss ++ ls) none ∙ append-nil (runs_of_shorts 0 ss) in
+    alone shorts
+    ∙ ap (λ ss. runs_of_shorts 0 ss) all
+    ∙ runs_of_shorts-push 0 left s
+    ∙ ap (λ rs. rs ++ run_of_short (end_of_shorts 0 left) s ∷ []) (sym (alone left))

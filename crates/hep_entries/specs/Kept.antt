@@ -1,5 +1,5 @@
 -- The parts of a history.
-use Rattle.std.specs.Prelude.{◌≡◌, ◌+◌, ◌-◌, ◌^◌, ◌<◌, ◌≤◌, ◌++◌, [], ◌∷◌, List, length, min, vec_len, vec_capacity}
+use Rattle.std.specs.Prelude.{◌≡◌, ◌+◌, ◌-◌, ◌^◌, ◌≤◌, ◌++◌, [], ◌∷◌, List, length, min, vec_len, vec_capacity}
 use Rattle.hep_entries.specs.Entries.{Kept}
 use Rattle.hep_entries.specs.Runs.{AreFilled, AreRising, entries_of, runs_in}
 use Rattle.hep_entries.specs.declared.run.Run.{Run}

@@ -1,6 +1,6 @@
 //! The history of a run.
-ghost use Rattle.std.specs.Prelude.{◌≡◌, ◌+◌, ◌-◌, ◌≤◌, ◌<◌, ◌^◌, ◌↔◌, ◌++◌, [], ◌∷◌, IfOk, IsOk, IsTrue, OnOk, OnErr, length, replicate, slice_get, vec_len, vec_capacity};
-ghost use Rattle.hep_entries.specs.Runs.{AreFilled, AreRising, entries_of, runs_in};
+ghost use Rattle.std.specs.Prelude.{◌≡◌, ◌+◌, ◌-◌, ◌≤◌, ◌<◌, ◌^◌, ◌↔◌, ◌++◌, [], ◌∷◌, IfOk, IsOk, IsTrue, MatchOption, OnOk, OnErr, length, replicate, slice_get, vec_len, vec_capacity};
+ghost use Rattle.hep_entries.specs.Runs.{AreFilled, AreRising, entries_of, last_run, runs_in};
 
 use crate::entries::Entries;
 use crate::finding::{end_of, long_at, short_at};
@@ -97,6 +97,24 @@ fn close(shorts: &mut Vec<Short>, longs: &mut Vec<Run>, closed: u64, run: Run)
         }
     }
     put_long(longs, run);
+}
+
+// Takes the last one of the runs, if there is one, which has an entry.
+fn open(shorts: &mut Vec<Short>, longs: &mut Vec<Run>) -> Option<Run>
+    requires rising { AreRising 0 shorts.old.items }
+    requires filled { AreFilled longs.old.items }
+    ensures runs { MatchOption result (runs_in shorts.new.items longs.new.items ≡ []) (λ run. 0 < run.count) }
+    ensures taken { runs_in shorts.old.items longs.old.items ≡ runs_in shorts.new.items longs.new.items ++ last_run result }
+    ensures rising { AreRising 0 shorts.new.items }
+    ensures filled { AreFilled longs.new.items }
+    ensures shorts_room { (vec_capacity shorts.old ≤ vec_capacity shorts.new) × (vec_len shorts.new ≤ vec_len shorts.old) }
+    ensures longs_room { (vec_capacity longs.old ≤ vec_capacity longs.new) × (vec_len longs.new ≤ vec_len longs.old) }
+{
+    if let Some(run) = longs.pop() {
+        return Some(run);
+    }
+    let short = shorts.pop()?;
+    Some(short.run(end_of(shorts)))
 }
 
 impl History {
@@ -197,6 +215,29 @@ impl History {
         ensures room { self.old.room ≤ self.new.room + 1 }
     {
         self.push_many(entry, 1);
+    }
+
+    /// Takes the last entry off, if there is one. It takes a constant time, and no memory.
+    pub fn pop(&mut self) -> Option<Entry>
+        ensures items { MatchOption result ((self.old.items ≡ []) × (self.new.items ≡ [])) (λ entry. self.old.items ≡ self.new.items ++ entry ∷ []) }
+        ensures room { self.old.room ≤ self.new.room }
+    {
+        if self.last.count == 0 {
+            return None;
+        }
+        let entry = self.last.entry();
+        if self.last.count > 1 {
+            self.last.count -= 1;
+            return Some(entry);
+        }
+        match open(&mut self.shorts, &mut self.longs) {
+            Some(run) => {
+                self.closed -= run.count as u64;
+                self.last = run;
+            }
+            None => self.last.count = 0,
+        }
+        Some(entry)
     }
 
     /// Adds an entry so many times, and makes room for them.

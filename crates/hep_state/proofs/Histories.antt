@@ -18,5 +18,5 @@ module _ (program : Units) (cells : ℕ) (history : List Entry) (old : Machine) 
   pub unturned-at : (p : ℕ) (fault : TurnFault) → IsUntaken program history p old fault → IsUnturned fault program cells (schedule_of history) p
   unturned-at p fault k = subst (λ n. IsUnturned fault program n (schedule_of history) p) h.after.size k
 
-  pub still-after : (new : Machine) → LeavesAlone program history old new → IsMachineAfter program cells (schedule_of history) new
-  still-after new k = subst (λ n. IsMachineAfter program n (schedule_of history) new) h.after.size k.after
+  pub still-after : (p : ℕ) (new : Machine) → LeavesAlone program history p old new → IsMachineAfter program cells (schedule_of history) new
+  still-after p new k = subst (λ n. IsMachineAfter program n (schedule_of history) new) h.after.size k.after

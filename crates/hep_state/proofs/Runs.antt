@@ -165,6 +165,12 @@ set-same {A} xs (suc i) x e = let same : suc i - 1 ≡ i = omega arith in rw sam
   at (y ∷ ys) zero e = ap (λ z. z ∷ ys) (same_Some y x e)
   at (y ∷ ys) (suc j) e = ap (λ zs. y ∷ zs) (at ys j e)
 
+-- and one in the place of another
+pub set-again : {A : Type 0} (xs : List A) (i : ℕ) (x y : A) → slice_set (slice_set xs i x) i y ≡ slice_set xs i y
+set-again [] i x y = refl
+set-again (z ∷ zs) zero x y = refl
+set-again (z ∷ zs) (suc i) x y = ap (λ ws. z ∷ ws) (set-again zs i x y)
+
 pub from-one : {A : Type 0} (xs : List A) (p : ℕ) (x : A) → numbered xs p ≡ Some x → 1 ≤ p
 from-one xs zero x e = absurd (none-some x e)
 from-one xs (suc i) x e = omega arith

@@ -1,21 +1,25 @@
 -- A machine that keeps what it kept: where only room was made, or what a CALL gives was written.
-use Rattle.std.proofs.Common.{◌≡◌, ◌⊎◌, inl, inr, ℕ, ◌+◌, ◌∷◌, ◌++◌, [], Some, None, arith, List, Result, Ok, Err, sym, ap, ◌∙◌, subst, IfErr, OnErr, slice_get, slice_set, length}
+use Rattle.std.proofs.Common.{◌≡◌, ◌⊎◌, inl, inr, ℕ, ◌+◌, ◌-◌, ◌∷◌, ◌++◌, [], Some, None, arith, List, Result, Ok, Err, drop, sym, ap, ◌∙◌, subst, IfErr, OnErr, slice_get, slice_set, length}
 use Rattle.std.specs.List.{filter}
 use Rattle.std.specs.Result.{IsErr, IsErrAnd}
+use Rattle.std.proofs.lemmas.Option.{same_Some}
 use Rattle.std.proofs.lemmas.Result.{err_from_is_err_and}
 use Rattle.hep_machine.specs.declared.event.Entry.{Entry}
-use Rattle.hep_machine.specs.Words.{Units, schedule_of}
+use Rattle.hep_machine.specs.Words.{Units, Value, numbered, schedule_of}
 use Rattle.hep_arena.specs.Space.{Space}
+use Rattle.hep_binding.proofs.Calls.{set-numbered}
 use Rattle.hep_blocked.specs.Numbers.{AreRising}
 use Rattle.hep_state.specs.declared.machine.Machine.{Machine}
+use Rattle.hep_proc.specs.declared.process.Local.{Local}
 use Rattle.hep_proc.specs.declared.process.Process.{Process}
-use Rattle.hep_proc.specs.Stacks.{Stack, is_left}
+use Rattle.hep_proc.specs.Stacks.{Stack, is_left, stack_with}
 use Rattle.hep_state.specs.declared.turn.Turned.TheVariants.{Stepped}
 use Rattle.hep_state.specs.declared.turn.TurnFault.{TurnFault}
 use Rattle.hep_state.specs.declared.turn.TurnFault.TheVariants.{NoMemory}
-use Rattle.hep_state.specs.Words.{AreNumbered, Changes, HasStepped, HasTurned, HasRoom, HasRoomToPass, HaveRoom, IsMachineAfter, ShowsSame, Snapshot, numbers_of, snapshot_of, stacks_of, IsAfter, IsAfterHistory, IsSeenSame, LeavesAlone, cells_of}
+use Rattle.hep_state.specs.Words.{AreNumbered, Changes, HasStepped, HasLevels, HasSettledTop, HasTurned, HasRoom, HasRoomToPass, HaveRoom, IsMachineAfter, ShowsSame, Snapshot, numbers_of, snapshot_of, stacks_of, IsAfter, IsAfterHistory, IsSameButTop, IsSeenSame, IsSettled, LeavesAlone, cells_of, with_stack}
 use Rattle.hep_state.proofs.Numbered.{got-left, left-stacks, length-stacks, numbers-left, numbers-more}
 use Rattle.hep_state.proofs.Processes.{IsAt, all-more, all-set, numbered-set, numbers-still}
+use Rattle.hep_state.proofs.Runs.{set-again, set-same}
 
 -- ---- answers
 
@@ -147,6 +151,61 @@ seen-again old mid new h k =
       halted = k.halted ∙ h.halted;
     }
 
+front-of : Local → List Local → Local
+front-of l [] = l
+front-of l (k ∷ ks) = k
+
+-- whichever levels it has, they are the same
+pub levels-same : {m : Snapshot} {p : ℕ} (h k : HasLevels m p) → (h.level ≡ k.level) × (h.below ≡ k.below) × (h.operands ≡ k.operands) × (h.pending ≡ k.pending)
+unfolding front-of
+levels-same h k =
+    let same = same_Some (stack_with h.level h.below h.operands h.pending) (stack_with k.level k.below k.operands k.pending) (sym h.kept ∙ k.kept) in
+    (ap (λ (s : Stack). front-of h.level s.levels) same, ap (λ (s : Stack). drop 1 s.levels) same, ap (λ (s : Stack). s.operands) same, ap (λ (s : Stack). s.pending) same)
+
+-- the same, but for the operands and the index of the top activation of a process
+module _ (p : ℕ) where
+  pub top-settled : (program : Units) (old new : Snapshot) (levels : HasLevels old p) (operands : List Value) (index : ℕ)
+      → new ≡ with_stack old p (record levels.level { index = index } ∷ levels.below) operands levels.pending → IsSettled program levels.level.unit levels.operands levels.level.index operands index → HasSettledTop program p old new
+  top-settled program old new levels operands index shown settled before =
+      let same = levels-same levels before in (
+        operands,
+        index,
+        shown ∙ (λ i. with_stack old p (record (same.0 i) { index = index } ∷ same.1 i) operands (same.3 i)),
+        carry (λ i. IsSettled program (same.0 i).unit (same.2 i) (same.0 i).index operands index) settled,
+      )
+
+  -- where only values were settled
+  pub settled-same : (program : Units) (old new : Snapshot) → HasSettledTop program p old new → IsSameButTop p old new
+  settled-same program old new h levels = let s = h levels in (s.0, s.1, s.2)
+
+  pub top-shown : (old new : Snapshot) → new ≡ old → IsSameButTop p old new
+  top-shown old new shown levels =
+      let whole = set-same old.processes p (stack_with levels.level levels.below levels.operands levels.pending) levels.kept in
+      (levels.operands, levels.level.index, shown ∙ (λ i. record old { processes = whole i }))
+
+  -- of three, one after the other
+  pub top-again : (old mid new : Snapshot) → IsSameButTop p old mid → IsSameButTop p mid new → IsSameButTop p old new
+  top-again old mid new h k levels =
+      let first = h levels in
+      let before = stack_with levels.level levels.below levels.operands levels.pending in
+      let between = stack_with (record levels.level { index = first.1 }) levels.below first.0 levels.pending in
+      let later : HasLevels mid p =
+      record {
+        level = record levels.level { index = first.1 };
+        below = levels.below;
+        operands = first.0;
+        pending = levels.pending;
+        kept = ap (λ (m : Snapshot). numbered m.processes p) first.2 ∙ set-numbered old.processes p before between levels.kept;
+      } in
+      let last = k later in
+      let after = stack_with (record levels.level { index = last.1 }) levels.below last.0 levels.pending in (
+        last.0,
+        last.1,
+        last.2
+            ∙ ap (λ (m : Snapshot). with_stack m p (record levels.level { index = last.1 } ∷ levels.below) last.0 levels.pending) first.2
+            ∙ (λ i. record old { processes = set-again old.processes (p - 1) between after i }),
+      )
+
 -- as many processes
 pub as-many : (old new : Machine) → IsSeenSame (snapshot_of old) (snapshot_of new) → new.made ≡ old.made
 as-many old new h = sym (length-stacks new.processes.items 1 new.made) ∙ (h.processes ∙ length-stacks old.processes.items 1 old.made)
@@ -156,17 +215,24 @@ pub as-large : (old new : Machine) → IsSeenSame (snapshot_of old) (snapshot_of
 as-large old new h = ap (λ (a : Space). length a.contents) h.arena
 
 -- one that shows the same, with the room that there was
-pub alone : (program : Units) (history : List Entry) (old new : Machine) → snapshot_of new ≡ snapshot_of old → (HaveRoom program (cells_of old) old → HaveRoom program (cells_of old) new) → IsAfterHistory program history old → LeavesAlone program history old new
-alone program history old new shown rooms h =
+pub alone : (program : Units) (history : List Entry) (p : ℕ) (old new : Machine) → snapshot_of new ≡ snapshot_of old → (HaveRoom program (cells_of old) old → HaveRoom program (cells_of old) new) → IsAfterHistory program history old → LeavesAlone program history p old new
+alone program history p old new shown rooms h =
     let same = seen-shown (snapshot_of old) (snapshot_of new) shown in
-    record { after = machine-reserved program (cells_of old) (schedule_of history) old new shown rooms h; same = same; made = as-many old new same }
+    record {
+      after = machine-reserved program (cells_of old) (schedule_of history) old new shown rooms h;
+      same = same;
+      top = top-shown p (snapshot_of old) (snapshot_of new) shown;
+      made = as-many old new same;
+    }
 
--- one that is left alone after it was seen the same
-pub alone-after : (program : Units) (history : List Entry) (old mid new : Machine) → IsSeenSame (snapshot_of old) (snapshot_of mid) → LeavesAlone program history mid new → LeavesAlone program history old new
-alone-after program history old mid new same h =
+-- one that is left alone after it was seen the same, but for the top of a process
+pub alone-after : (program : Units) (history : List Entry) (p : ℕ) (old mid new : Machine) → IsSeenSame (snapshot_of old) (snapshot_of mid) → IsSameButTop p (snapshot_of old) (snapshot_of mid)
+    → LeavesAlone program history p mid new → LeavesAlone program history p old new
+alone-after program history p old mid new same top h =
     record {
       after = subst (λ n. IsMachineAfter program n (schedule_of history) new) (as-large old mid same) h.after;
       same = seen-again (snapshot_of old) (snapshot_of mid) (snapshot_of new) same h.same;
+      top = top-again p (snapshot_of old) (snapshot_of mid) (snapshot_of new) top h.top;
       made = h.made ∙ as-many old mid same;
     }
 

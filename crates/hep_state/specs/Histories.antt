@@ -11,7 +11,7 @@ use Rattle.hep_state.specs.CallsAhead.{HasCallAhead, HasResumeAhead, IsWithoutCa
 use Rattle.hep_state.specs.Outcomes.{HasTurned}
 use Rattle.hep_state.specs.Rooms.{IsMachineAfter}
 use Rattle.hep_state.specs.Snapshots.{snapshot_of}
-use Rattle.hep_state.specs.Taking.{IsSeenSame}
+use Rattle.hep_state.specs.Taking.{IsSameButTop, IsSeenSame}
 use Rattle.hep_state.specs.Tops.{HasLevels}
 use Rattle.hep_state.specs.Unturned.{IsUnturned}
 
@@ -65,8 +65,9 @@ IsTurn program history p old turned new = HasTurned program (cells_of old) (sche
 abbrev pub IsUntaken : Units → List Entry → ℕ → Machine → TurnFault → Type 0
 IsUntaken program history p m fault = IsUnturned fault program (cells_of m) (schedule_of history) p
 
--- the state after the history is kept still, and seen as before
-pub record LeavesAlone (program : Units) (history : List Entry) (old new : Machine) : Type 0 where
+-- the state after the history is kept still, and seen as before; values that stood ahead of process p may be operands
+pub record LeavesAlone (program : Units) (history : List Entry) (p : ℕ) (old new : Machine) : Type 0 where
   pub after : IsMachineAfter program (cells_of old) (schedule_of history) new
   pub same : IsSeenSame (snapshot_of old) (snapshot_of new)
+  pub top : IsSameButTop p (snapshot_of old) (snapshot_of new)
   pub made : new.made ≡ old.made

@@ -37,7 +37,7 @@ use Rattle.hep_state.specs.CallsAhead.{HasCallAhead, HasPurgeAhead, IsWithoutCal
 use Rattle.hep_state.specs.Outcomes.{Changes, HasTurned}
 use Rattle.hep_state.specs.Rooms.{HasRoomAt, HaveRoom, HoldsOfProcess, IsMachineAfter}
 use Rattle.hep_state.specs.Snapshots.{AreNumbered, snapshot_of}
-use Rattle.hep_state.specs.Taking.{IsLeft, IsSeenSame, IsToEnd}
+use Rattle.hep_state.specs.Taking.{IsLeft, IsToEnd}
 use Rattle.hep_state.specs.Tops.{HasLevels, HoldsInTurn, snapshot_parted, turn_of, with_contents, with_stack}
 use Rattle.hep_state.specs.Turns.{HasStepped, HasWaited, IsAfter}
 
@@ -105,12 +105,6 @@ LeavesBy program p old new effect =
 abbrev pub ChangesNext : Units → ℕ → Machine → Option Want → Type 0
 ChangesNext program p old changed =
     AfterTurns program old (λ cells choices. Changes program cells choices p changed)
-
--- a state that a machine shows is shown still, and it is seen as before
-pub record IsSeenAlike (program : Units) (old new : Machine) : Type 0 where
-  pub shown : (cells : ℕ) (choices : List ℕ) → IsAfter program cells choices (snapshot_of old)
-      → IsAfter program cells choices (snapshot_of new)
-  pub same : IsSeenSame (snapshot_of old) (snapshot_of new)
 
 -- what was written, how many processes were made, and the room that there was
 pub record KeepsWritten (program : Units) (old new : Machine) : Type 0 where

@@ -20,7 +20,7 @@ use Rattle.hep_proc.specs.declared.process.Local.{Local}
 use Rattle.hep_proc.specs.Stacks.{Stack, stack_with}
 use Rattle.hep_state.specs.Showing.{node_under}
 use Rattle.hep_state.specs.Snapshots.{Snapshot}
-use Rattle.hep_state.specs.Tops.{HoldsInTurn, IsEffectOf, IsTurning, TurnOf, frame_under, snapshot_stopped}
+use Rattle.hep_state.specs.Tops.{HasLevels, HoldsInTurn, IsEffectOf, IsTurning, TurnOf, frame_under, snapshot_stopped, with_stack}
 use Rattle.hep_state.specs.Turns.{HasStepped, HasWaited}
 
 -- ---- where the top activation of a process is
@@ -87,6 +87,19 @@ IsLeft program cells choices p m Returned = IsToEnd program cells choices p m ef
 IsLeft program cells choices p m (Answered v) = IsToEnd program cells choices p m (effects.answers v)
 IsLeft program cells choices p m Stopped = HasStepped program cells choices p (snapshot_stopped m)
 IsLeft program cells choices p m LeftOut = ⊥
+
+-- all is the same, but for the operands and the index of the top activation of process p
+abbrev pub IsSameButTop : ℕ → Snapshot → Snapshot → Type 0
+IsSameButTop p old new =
+    (levels : HasLevels old p) → (operands : List Value) × (index : ℕ)
+    × (new ≡ with_stack old p (record levels.level { index = index } ∷ levels.below) operands levels.pending)
+
+-- and the values that stood ahead of it were put behind the operands
+abbrev pub HasSettledTop : Units → ℕ → Snapshot → Snapshot → Type 0
+HasSettledTop program p old new =
+    (levels : HasLevels old p) → (operands : List Value) × (index : ℕ)
+    × (new ≡ with_stack old p (record levels.level { index = index } ∷ levels.below) operands levels.pending)
+    × IsSettled program levels.level.unit levels.operands levels.level.index operands index
 
 -- what is seen of two machines is the same, but for where processes stand
 pub record IsSeenSame (old new : Snapshot) : Type 0 where

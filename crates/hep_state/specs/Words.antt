@@ -18,7 +18,7 @@ pub use Rattle.hep_state.specs.Openings.{IsEntered, IsGiven, IsQuiet}
 unfoldable pub use Rattle.hep_state.specs.Rooms.{HasRoom, HasRoomAt, HoldsOfProcess}
 pub use Rattle.hep_state.specs.Rooms.{HasRoomToPass, HaveRoom, IsMachineAfter}
 unfoldable pub use Rattle.hep_state.specs.Taking.{IsLeft, IsToEnd}
-pub use Rattle.hep_state.specs.Taking.{CanAdvance, IsAdvanced, IsBehind, IsEnding, IsPlace, IsSeenSame, IsSettled}
+pub use Rattle.hep_state.specs.Taking.{CanAdvance, HasSettledTop, IsAdvanced, IsBehind, IsEnding, IsPlace, IsSameButTop, IsSeenSame, IsSettled}
 unfoldable pub use Rattle.hep_state.specs.Givings.{AreOut}
 unfoldable pub use Rattle.hep_state.specs.CallsAhead.{given_of, HasCallAhead, HasNone, HasPurgeAhead, HasResumeAhead, IsAhead, IsAtPurge, IsAtResume, IsInFront}
 unfoldable pub use Rattle.hep_state.specs.CallsAhead.{operation_of, ranges_ahead}
@@ -34,7 +34,7 @@ unfoldable pub use Rattle.hep_state.specs.Parts.{HaveFramesLeft, IsAtCallAhead, 
 unfoldable pub use Rattle.hep_state.specs.Parts.{IsLeftWithRoom, IsReached, IsWhetherLives, KeepsRoomAt, KeepsRoomOf, KeepsRoomParting}
 unfoldable pub use Rattle.hep_state.specs.Parts.{KeepsRoomWith, KeepsState, LeavesBy, NamesRanges, PartsAt, StepsAfter, StepsByCall}
 unfoldable pub use Rattle.hep_state.specs.Parts.{StepsByCreation, TurnsByPurge, WaitsAfter}
-pub use Rattle.hep_state.specs.Parts.{CanBegin, CanCall, CanCreate, CanEmpty, CanPart, IsAtOperation, IsItsTurn, IsSeenAlike, KeepsWritten}
+pub use Rattle.hep_state.specs.Parts.{CanBegin, CanCall, CanCreate, CanEmpty, CanPart, IsAtOperation, IsItsTurn, KeepsWritten}
 unfoldable pub use Rattle.hep_state.specs.Reserving.{KeepsRoom}
 pub use Rattle.hep_state.specs.Reserving.{CanBeMore, HasRoomForCreation, HasRoomForEntry, HasRoomForLevel, HasRoomForProcess, IsEmptyProcess, KeepsRollFor}
 pub use Rattle.hep_state.specs.Reserving.{ShowsSame}

@@ -37,7 +37,7 @@ impl Machine {
     ) -> Result<(), AllocError>
         requires { CanTakeResume image.now history.old.items p self.old next roster.old }
         ensures turned { OnOk result (IsTurn image.now history.old.items p self.old (Stepped None) self.new) }
-        ensures refused { OnErr result (LeavesAlone image.now history.old.items self.old self.new) }
+        ensures refused { OnErr result (LeavesAlone image.now history.old.items p self.old self.new) }
         ensures entry { HasRoomForEntry history.old result history.new }
         ensures roster { KeepsRollFor self.new roster.old roster.new }
     {

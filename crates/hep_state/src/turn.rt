@@ -3,7 +3,7 @@ ghost use Rattle.std.specs.Prelude.{◌≡◌, ◌<◌, ◌≤◌, ◌+◌, IfOk
 ghost use Rattle.hep_step.specs.Performed.{changed_in};
 ghost use Rattle.hep_blocked.specs.Rolls.{KeepsRoll};
 ghost use Rattle.hep_state.specs.Words.{AreNumbered, CanBeMore, CanTakeCall, CanTakeOperation, CanTurn, ChangesNext, HasLevels};
-ghost use Rattle.hep_state.specs.Words.{HasRoomForCreation, HasRoomForEntry, HasRoomForLevel, HasRoomForProcess, IsAtOperation, IsEmptyProcess, IsSeenAlike};
+ghost use Rattle.hep_state.specs.Words.{HasRoomForCreation, HasRoomForEntry, HasRoomForLevel, HasRoomForProcess, IsAtOperation, IsEmptyProcess};
 ghost use Rattle.hep_state.specs.Words.{IsTurn, IsUntaken, KeepsRollFor, KeepsWritten, LeavesAlone, LeavesBy, ShowsSame, snapshot_of};
 
 use crate::advancing::advance;
@@ -142,7 +142,7 @@ impl Machine {
         requires { IsAtOperation image.now p self.old }
         ensures left { IfOk result (LeavesBy image.now p self.old self.new) }
         ensures changed { IfOk result (λ effect. ChangesNext image.now p self.old (changed_in effect)) }
-        ensures refused { OnErr result (IsSeenAlike image.now self.old self.new) }
+        ensures refused { OnErr result (snapshot_of self.new ≡ snapshot_of self.old) }
         ensures kept { KeepsWritten image.now self.old self.new }
     {
         image.is_runnable();
@@ -162,7 +162,7 @@ impl Machine {
     ) -> Result<Turned, AllocError>
         requires { CanTakeOperation image.now history.old.items p self.old }
         ensures turned { IfOk result (λ turned. IsTurn image.now history.old.items p self.old turned self.new) }
-        ensures refused { OnErr result (LeavesAlone image.now history.old.items self.old self.new) }
+        ensures refused { OnErr result (LeavesAlone image.now history.old.items p self.old self.new) }
         ensures made { self.new.made ≡ self.old.made }
         ensures entry { HasRoomForEntry history.old result history.new }
     {
@@ -190,7 +190,7 @@ impl Machine {
         requires { CanTakeCall image.now history.old.items p self.old call roster.old }
         ensures turned { IfOk result (λ turned. IsTurn image.now history.old.items p self.old turned self.new) }
         ensures unturned { IfErr result (IsUntaken image.now history.old.items p self.old) }
-        ensures refused { OnErr result (LeavesAlone image.now history.old.items self.old self.new) }
+        ensures refused { OnErr result (LeavesAlone image.now history.old.items p self.old self.new) }
         ensures entry { HasRoomForEntry history.old result history.new }
         ensures roster { KeepsRollFor self.new roster.old roster.new }
     {
@@ -250,7 +250,7 @@ impl Machine {
         requires { CanTurn image.now history.old.items p self.old roster.old }
         ensures turned { IfOk result (λ turned. IsTurn image.now history.old.items p self.old turned self.new) }
         ensures unturned { IfErr result (IsUntaken image.now history.old.items p self.old) }
-        ensures refused { OnErr result (LeavesAlone image.now history.old.items self.old self.new) }
+        ensures refused { OnErr result (LeavesAlone image.now history.old.items p self.old self.new) }
         ensures entry { HasRoomForEntry history.old result history.new }
         ensures roster { KeepsRollFor self.new roster.old roster.new }
     {

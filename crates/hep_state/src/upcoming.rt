@@ -1,9 +1,9 @@
 //! What stands ahead of a process: a CALL, CREATE or reference, a PURGE, RESUME, or another operation (X3.9-1978, 15.5.2 and 15.6.2, and
 //! docs/LANGUAGE.md, 9).
-ghost use Rattle.std.specs.Prelude.{◌<◌, ◌^◌, ◌∷◌, List, drop, length};
+ghost use Rattle.std.specs.Prelude.{◌≡◌, ◌<◌, ◌^◌, ◌∷◌, List, drop, length};
 ghost use Rattle.hep_code.specs.declared.instruction.Instruction.{Instruction as AnInstruction};
 ghost use Rattle.hep_code.specs.declared.instruction.Instruction.TheVariants.{Step};
-ghost use Rattle.hep_state.specs.Words.{IsItsTurn, HasLevels, IsAhead, IsInFront, IsSeenSame, KeepsState, snapshot_of};
+ghost use Rattle.hep_state.specs.Words.{IsItsTurn, HasLevels, HasSettledTop, IsAhead, IsInFront, IsSeenSame, KeepsState, snapshot_of};
 
 use crate::advancing::settle_top;
 use crate::machine::Machine;
@@ -102,6 +102,7 @@ impl Machine {
         ensures ahead { IsAhead image.now p self.old (snapshot_of self.new) result }
         ensures after { KeepsState image.now self.old self.new }
         ensures same { IsSeenSame (snapshot_of self.old) (snapshot_of self.new) }
+        ensures top { HasSettledTop image.now p (snapshot_of self.old) (snapshot_of self.new) }
         ensures living { HasLevels (snapshot_of self.new) p }
     {
         image.is_runnable();
@@ -111,5 +112,18 @@ impl Machine {
         let code = image.unit(unit as usize).code.as_slice();
         settle_top(process, code);
         ahead_at(code, process.top().index)
+    }
+
+    /// The values that stand ahead of process p, which has its turn, are operands from now on. The same state is kept, and seen.
+    ///
+    /// A turn of process p that is refused changes nothing then.
+    pub fn settle(&mut self, image: &Image, p: u64)
+        requires { IsItsTurn image.now p self.old }
+        ensures after { KeepsState image.now self.old self.new }
+        ensures top { HasSettledTop image.now p (snapshot_of self.old) (snapshot_of self.new) }
+        ensures made { self.new.made ≡ self.old.made }
+        ensures living { HasLevels (snapshot_of self.new) p }
+    {
+        self.step_ahead(image, p);
     }
 }

@@ -123,14 +123,14 @@ pub invariant_of-self-in-Err-NoMemory : goal.invariant_of-self-in-Err-NoMemory
 invariant_of-self-in-Err-NoMemory c =
     let i = c.self.inside in
     let k = c.self.invariant in
-    unturned (goal.at.invariant_of-self-in-Err-NoMemory c).After-turn (still-after i.image i.cells i.history.items i.machine k.after c.turn.new.self c.in-Err-NoMemory.ensures.refused) i.stop k.named
+    unturned (goal.at.invariant_of-self-in-Err-NoMemory c).After-turn (still-after i.image i.cells i.history.items i.machine k.after c.args.p c.turn.new.self c.in-Err-NoMemory.ensures.refused) i.stop k.named
 
 pub returns-in-Err-NoMemory : goal.returns-in-Err-NoMemory
 returns-in-Err-NoMemory c =
     let at = goal.at.returns-in-Err-NoMemory c in
     let i = c.self.inside in
     let h = i.history.items in
-    let after = still-after i.image i.cells h i.machine c.self.invariant.after c.turn.new.self c.in-Err-NoMemory.ensures.refused in
+    let after = still-after i.image i.cells h i.machine c.self.invariant.after c.args.p c.turn.new.self c.in-Err-NoMemory.ensures.refused in
     let gapped = subst (λ e. IsUnturned e i.image i.cells (schedule_of h) c.args.p) c.in-Err-NoMemory.field-0-is (unturned-at i.image i.cells h i.machine c.self.invariant.after c.args.p c.in-Err-NoMemory.field-0 c.in-Err-NoMemory.ensures.unturned) in
     rw (← c.self.view_is) ((going-on at.After-lives, is-alive at.After-len, at-home at.After-lives), is-asked at.After-turn, (λ gap. gapped gap.full), unturned-value at.After-turn after i.stop)
 
@@ -141,14 +141,14 @@ invariant_of-self-in-Err-ArenaFull c =
     let h = i.history.items in
     let k = c.self.invariant in
     let gap = subst (λ e. IsUnturned e i.image i.cells (schedule_of h) c.args.p) c.in-Err-ArenaFull.field-0-is (unturned-at i.image i.cells h i.machine k.after c.args.p c.in-Err-ArenaFull.field-0 c.in-Err-ArenaFull.ensures.unturned) in
-    unturned at.After-turn (still-after i.image i.cells h i.machine k.after c.turn.new.self c.in-Err-ArenaFull.ensures.refused) (Some ArenaFull) ((going-on at.After-lives).1, (c.args.p, gap))
+    unturned at.After-turn (still-after i.image i.cells h i.machine k.after c.args.p c.turn.new.self c.in-Err-ArenaFull.ensures.refused) (Some ArenaFull) ((going-on at.After-lives).1, (c.args.p, gap))
 
 pub returns-in-Err-ArenaFull : goal.returns-in-Err-ArenaFull
 returns-in-Err-ArenaFull c =
     let at = goal.at.returns-in-Err-ArenaFull c in
     let i = c.self.inside in
     let h = i.history.items in
-    let after = still-after i.image i.cells h i.machine c.self.invariant.after c.turn.new.self c.in-Err-ArenaFull.ensures.refused in
+    let after = still-after i.image i.cells h i.machine c.self.invariant.after c.args.p c.turn.new.self c.in-Err-ArenaFull.ensures.refused in
     let gap = subst (λ e. IsUnturned e i.image i.cells (schedule_of h) c.args.p) c.in-Err-ArenaFull.field-0-is (unturned-at i.image i.cells h i.machine c.self.invariant.after c.args.p c.in-Err-ArenaFull.field-0 c.in-Err-ArenaFull.ensures.unturned) in
     rw (← c.self.view_is) (inr (inr ((going-on at.After-lives, is-alive at.After-len, at-home at.After-lives), is-asked at.After-turn, gap, refl, unturned-value at.After-turn after (Some ArenaFull))))
 

@@ -1,4 +1,4 @@
-use Rattle.std.proofs.Common.{◌≡◌, ℕ, ◌∷◌, drop, length}
+use Rattle.std.proofs.Common.{◌≡◌, ◌∷◌, drop, length}
 use Rattle.hep_entries.specs.Runs.{entries_of}
 use Rattle.hep_entries.proofs.entries.Entries.pass.Given as goal
 

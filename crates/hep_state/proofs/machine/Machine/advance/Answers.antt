@@ -1,4 +1,4 @@
-use Rattle.std.proofs.Common.{◌≡◌, ℕ, ◌-◌, List, ◌∷◌, length, refl, sym, ap, ◌∙◌, subst, vec_capacity, length-set}
+use Rattle.std.proofs.Common.{◌≡◌, ℕ, List, ◌∷◌, refl, sym, ap, ◌∙◌, subst, vec_capacity}
 use Rattle.std.proofs.lemmas.Result.{IfOk-weaker, on_err_weaker}
 use Rattle.hep_machine.specs.Words.{Value}
 use Rattle.hep_proc.specs.Nodes.{nodes_of}
@@ -15,7 +15,7 @@ use Rattle.hep_state.specs.declared.machine.Machine.{Machine}
 use Rattle.hep_proc.specs.declared.process.Process.{Process}
 use Rattle.hep_proc.specs.Stacks.{Stack, stack_of, stack_with}
 use Rattle.hep_proc.proofs.Levels.{last-there}
-use Rattle.hep_state.specs.Words.{AreNumbered, Changes, node_under, Snapshot, snapshot_of, IsLeft, turn_with, with_contents, with_stack, IsAfter}
+use Rattle.hep_state.specs.Words.{AreNumbered, Changes, node_under, Snapshot, snapshot_of, IsLeft, turn_with, with_contents, with_stack}
 use Rattle.hep_state.proofs.Moved.{top-node}
 use Rattle.hep_state.proofs.Processes.{IsAt, process-at, room-moved, stacks-set}
 use Rattle.hep_state.proofs.Tops.{turning}
@@ -85,7 +85,6 @@ returns c =
     let main = c.is_runnable.ensures.main in
     let it = process-at old p c.requires.after.2.numbers c.place-at.ensures e.levels.kept c.index_mut-process.ensures.value in
     let a = done.advanced l ls vs ws it.stack in
-    let k = stack_with (record l { index = a.next }) ls a.left ws in
     let after = performed.snapshot c.advance.new.frames.arena.contents a.left a.next in
     let ahead = effect_at (unit_code program l.unit) (unit_arrays program l.unit) (node_under m.nodes l.key).first m.arena.contents vs l.index in
     let changed = changed_at (unit_code program l.unit) (unit_arrays program l.unit) (node_under m.nodes l.key).first m.arena.contents vs l.index in
@@ -99,21 +98,9 @@ returns c =
           let turn = turning p h.after e.levels c.requires.running in
           let told = changes-only turn.1 (law (turn_with program cells choices e.levels turn.0) accepted main turn.1) e.past e.plain in
           subst (Changes program cells choices p) (sym (ap (λ (x : Effect × performed.Snapshot). changed_in x.0) is)) told) a.performed;
-      refused = on_err_weaker c.advance.result (λ is. record {
-        shown = λ cells choices h.
-            let turn = turning p h e.levels c.requires.running in
-            let same = shown ∙ (ap (with_performed turn.1) is ∙ unperformed turn.1) in
-            subst (IsAfter program cells choices) (sym same) h;
-        same = record {
-          arena = λ i. record { contents = (is i).contents; holes = done.holes i };
-          nodes = ap nodes_of done.nodes;
-          processes = ap length (stacks-set old p r k c.requires.after.2.numbers it done.same.number a.stack) ∙ length-set m.processes (p - 1) k;
-          activations = refl;
-          records = refl;
-          faults = refl;
-          halted = refl;
-        };
-      }) a.refused;
+      refused = on_err_weaker c.advance.result (λ is.
+          let turn = turning p c.requires.after.2.after e.levels c.requires.running in
+          shown ∙ (ap (with_performed turn.1) is ∙ unperformed turn.1)) a.refused;
       kept = record {
         rooms = λ cells h. rooms-set program cells old _ r it done.same.number refl refl refl (room-moved program q r l a.next ls vs a.left ws it.stack a.stack done.same.room (h.room c.place-at.result q it.there)) h;
         records = refl;

@@ -18,7 +18,7 @@ use Rattle.hep_state.specs.Words.{HasLevels, HasNone, IsAhead, IsInFront, IsMach
 use Rattle.hep_state.proofs.Processes.{process-at, room-moved, stacks-set, some-levels-at}
 use Rattle.hep_state.proofs.Tops.{settled, turning}
 use Rattle.hep_state.proofs.Taken.{inside, room-ahead}
-use Rattle.hep_state.proofs.Unchanged.{carry, machine-of, rooms-of, rooms-set}
+use Rattle.hep_state.proofs.Unchanged.{carry, machine-of, rooms-of, rooms-set, top-settled}
 use Rattle.hep_state.proofs.machine.Machine.step_ahead.Goals as goal
 use Rattle.hep_binding.proofs.Calls.{set-numbered}
 
@@ -122,5 +122,6 @@ returns c =
           machine-of program cells choices _ (subst (IsAfter program cells choices) (sym shown) (settled turn.1 s.1 s.0 s.3.stands).after) (
           rooms-set program cells old _ r it c.settle_top.ensures.same.number refl refl refl (room-moved program q r l s.0 ls vs s.1 ws it.stack s.2 c.settle_top.ensures.same.room (h.room c.place-at.result q it.there)) (rooms-of program cells choices old h));
       same = record { arena = refl; nodes = refl; processes = ap length stacks ∙ length-set m.processes (p - 1) k; activations = refl; records = refl; faults = refl; halted = refl };
+      top = top-settled p program m _ e s.1 s.0 shown s.3;
       living = subst (λ (n : Snapshot). HasLevels n p) (sym shown) levels;
     }

@@ -36,7 +36,7 @@ pub returns-in_err-reserve-in-Err-clause-refused : goal.returns-in_err-reserve-i
 returns-in_err-reserve-in-Err-clause-refused c =
     let before = (goal.at.returns-in_err-reserve-in-Err-clause-refused c).After-reserve in
     on-err c.from_residual.result c.from_residual.ensures.0 (
-    alone c.args.image.now c.args.history.now.items c.args.self.now c.reserve.new.self (reserved-shown before) (reserved-rooms before (cells_of c.args.self.now)) c.requires.after)
+    alone c.args.image.now c.args.history.now.items c.args.p c.args.self.now c.reserve.new.self (reserved-shown before) (reserved-rooms before (cells_of c.args.self.now)) c.requires.after)
 
 pub returns-in-Err-clause-turned : goal.returns-in-Err-clause-turned
 returns-in-Err-clause-turned c =
@@ -121,8 +121,8 @@ module _ (c : After-fits) where
     shown : snapshot_of new ≡ snapshot_of c.args.self.now
     shown = same.shown ∙ given-shown
 
-    left-alone : LeavesAlone program c.args.history.now.items c.args.self.now new
-    left-alone = alone program c.args.history.now.items c.args.self.now new shown (λ h. same.rooms program cells (c.give.ensures.rooms cells h)) c.requires.after
+    left-alone : LeavesAlone program c.args.history.now.items c.args.p c.args.self.now new
+    left-alone = alone program c.args.history.now.items c.args.p c.args.self.now new shown (λ h. same.rooms program cells (c.give.ensures.rooms cells h)) c.requires.after
 
     rooms : HaveRoom program cells new
     rooms = same.rooms program cells (c.give.ensures.rooms cells (rooms-of program cells choices c.args.self.now c.requires.after))
@@ -157,7 +157,7 @@ returns-then-not-fits-clause-unturned c =
 pub returns-then-not-fits-clause-refused : goal.returns-then-not-fits-clause-refused
 returns-then-not-fits-clause-refused c =
     let before = (goal.at.returns-then-not-fits-clause-refused c).After-fits in
-    alone c.args.image.now c.args.history.now.items c.args.self.now c.give.new.self (given-shown before) (c.give.ensures.rooms (cells_of c.args.self.now)) c.requires.after
+    alone c.args.image.now c.args.history.now.items c.args.p c.args.self.now c.give.new.self (given-shown before) (c.give.ensures.rooms (cells_of c.args.self.now)) c.requires.after
 
 -- ---- CALL
 

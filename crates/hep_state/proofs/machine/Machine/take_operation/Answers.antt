@@ -1,7 +1,7 @@
-use Rattle.std.proofs.Common.{ℕ, List, [], ◌∷◌, ◌++◌, ◌∙◌, subst, sym}
+use Rattle.std.proofs.Common.{◌≡◌, ℕ, List, [], ◌∷◌, ◌++◌, ◌∙◌, ap, subst, sym}
 use Rattle.hep_machine.specs.Words.{schedule_of}
-use Rattle.hep_state.specs.Words.{Changes, HaveRoom, IsSeenSame, IsWithoutCall, IsMachineAfter, cells_of, snapshot_of}
-use Rattle.hep_state.proofs.Unchanged.{as-many, machine-of, machine-written, on-err, rooms-of, seen-again, seen-shown, shown-written}
+use Rattle.hep_state.specs.Words.{Changes, HaveRoom, IsWithoutCall, IsMachineAfter, Snapshot, cells_of, snapshot_of}
+use Rattle.hep_state.proofs.Unchanged.{alone, machine-of, machine-written, on-err, rooms-of, shown-written}
 use Rattle.hep_state.proofs.machine.Machine.take_operation.Goals.{After-reserve}
 use Rattle.hep_state.proofs.machine.Machine.take_operation.Goals as goal
 
@@ -19,36 +19,28 @@ module _ (c : After-reserve) where
   reserved-rooms : HaveRoom c.args.image.now cells c.reserve.new.self
   reserved-rooms = rooms-of c.args.image.now cells choices c.reserve.new.self reserved
 
-  reserved-same : IsSeenSame (snapshot_of c.args.self.now) (snapshot_of c.reserve.new.self)
-  reserved-same = seen-shown (snapshot_of c.args.self.now) (snapshot_of c.reserve.new.self) (shown-written c.args.self.now c.reserve.new.self c.reserve.ensures.others c.reserve.ensures.written.0 c.reserve.ensures.written.1)
+  reserved-shown : snapshot_of c.reserve.new.self ≡ snapshot_of c.args.self.now
+  reserved-shown = shown-written c.args.self.now c.reserve.new.self c.reserve.ensures.others c.reserve.ensures.written.0 c.reserve.ensures.written.1
 
 pub returns-in_err-reserve-clause-refused : goal.returns-in_err-reserve-clause-refused
 returns-in_err-reserve-clause-refused c =
     let before = (goal.at.returns-in_err-reserve-clause-refused c).After-reserve in
-    on-err c.from_residual.result c.from_residual.ensures.0 (record {
-      after = reserved before;
-      same = reserved-same before;
-      made = as-many c.args.self.now c.reserve.new.self (reserved-same before);
-    })
+    on-err c.from_residual.result c.from_residual.ensures.0 (
+    alone c.args.image.now c.args.history.now.items c.args.p c.args.self.now c.reserve.new.self (reserved-shown before) (λ h. reserved-rooms before) c.requires.after)
 
 pub returns-in_err-effect-clause-refused : goal.returns-in_err-effect-clause-refused
 returns-in_err-effect-clause-refused c =
     let before = (goal.at.returns-in_err-effect-clause-refused c).After-reserve in
-    let same = seen-again (snapshot_of c.args.self.now) (snapshot_of c.reserve.new.self) (snapshot_of c.advance.new.self) (reserved-same before) c.in_err-effect.ensures.refused.same in
-    on-err c.from_residual-in_err-effect.result c.from_residual-in_err-effect.ensures.0 (record {
-      after = machine-of c.args.image.now (cells before) (choices before) c.advance.new.self (c.in_err-effect.ensures.refused.shown (cells before) (choices before) (reserved before).after) (c.advance.ensures.kept.rooms (cells before) (reserved-rooms before));
-      same = same;
-      made = as-many c.args.self.now c.advance.new.self same;
-    })
+    on-err c.from_residual-in_err-effect.result c.from_residual-in_err-effect.ensures.0 (
+    alone c.args.image.now c.args.history.now.items c.args.p c.args.self.now c.advance.new.self (c.in_err-effect.ensures.refused ∙ reserved-shown before) (λ h. c.advance.ensures.kept.rooms (cells before) (reserved-rooms before)) c.requires.after)
 
 pub advance-requires : goal.advance-requires
 advance-requires c =
     let before = (goal.at.advance-requires c).After-reserve in
-    let shown = shown-written c.args.self.now c.reserve.new.self c.reserve.ensures.others c.reserve.ensures.written.0 c.reserve.ensures.written.1 in
     record {
       after = (cells before, choices before, reserved before);
-      running = (reserved-same before).halted ∙ c.requires.running;
-      plain = subst (IsWithoutCall c.args.image.now c.args.p) (sym shown) c.requires.plain;
+      running = ap (λ (m : Snapshot). m.halted) (reserved-shown before) ∙ c.requires.running;
+      plain = subst (IsWithoutCall c.args.image.now c.args.p) (sym (reserved-shown before)) c.requires.plain;
     }
 
 pub end_turn-requires-clause-left : goal.end_turn-requires-clause-left

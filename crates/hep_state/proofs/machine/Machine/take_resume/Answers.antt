@@ -65,13 +65,17 @@ returns-then-len-eq1-clause-turned c =
     (subst (HasStepped program cells choices p) (sym shown) made)
     (rooms-set program cells old _ c.stand_at.new.self it c.stand_at.ensures.number refl refl refl (room-moved program q c.stand_at.new.self t.level c.args.next t.below t.operands t.operands t.pending it.stack moved (omega (arith, ap vec_capacity c.stand_at.ensures.operands)) (h.room c.place-at.result q it.there)) (rooms-of program cells choices old h))
 
+pub returns-in_err-reserve-clause-refused : goal.returns-in_err-reserve-clause-refused
+returns-in_err-reserve-clause-refused c =
+    on-err c.from_residual.result c.from_residual.ensures.0 (alone c.args.image.now c.args.history.now.items c.args.p c.args.self.now c.args.self.now refl (λ h. h) c.requires.after)
+
 -- ---- another one is a process of its own
 
 pub returns-in_err-process-clause-refused : goal.returns-in_err-process-clause-refused
 returns-in_err-process-clause-refused c =
     let r = c.from_residual-in_err-process in
     let same = c.reserve_process.ensures.same in
-    on-err r.result r.ensures.0 (alone c.args.image.now c.args.history.now.items c.args.self.now c.reserve_process.new.self same.shown (same.rooms c.args.image.now (cells_of c.args.self.now)) c.requires.after)
+    on-err r.result r.ensures.0 (alone c.args.image.now c.args.history.now.items c.args.p c.args.self.now c.reserve_process.new.self same.shown (same.rooms c.args.image.now (cells_of c.args.self.now)) c.requires.after)
 
 pub reserve_process-requires : goal.reserve_process-requires
 reserve_process-requires c = record { numbers = c.requires.after.numbers; few = c.requires.numerable }

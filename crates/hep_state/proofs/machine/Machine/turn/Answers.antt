@@ -6,7 +6,7 @@ use Rattle.hep_state.specs.declared.machine.Machine.{Machine}
 use Rattle.hep_state.specs.declared.turn.Turned.{Turned}
 use Rattle.hep_state.specs.declared.turn.Turned.TheVariants.{Stepped}
 use Rattle.hep_state.specs.Words.{HasCallAhead, HasPurgeAhead, HasResumeAhead, HasTurned, IsMachineAfter, IsSeenSame, IsTurn, IsUntaken, IsUnturned, KeepsRollFor, Snapshot, cells_of, snapshot_of, turn_of}
-use Rattle.hep_state.proofs.Unchanged.{alone-after, as-large, machine-written, on-err, own-size, seen-again, seen-shown, shown-written, without-memory, as-many}
+use Rattle.hep_state.proofs.Unchanged.{alone-after, as-large, machine-written, on-err, own-size, seen-again, seen-shown, settled-same, shown-written, top-again, top-shown, without-memory, as-many}
 use Rattle.hep_state.proofs.machine.Machine.turn.Goals.{After-reserve, After-step_ahead}
 use Rattle.hep_state.proofs.machine.Machine.turn.Goals as goal
 
@@ -65,7 +65,7 @@ returns-in-Call-clause-unturned c =
 
 pub returns-in-Call-clause-refused : goal.returns-in-Call-clause-refused
 returns-in-Call-clause-refused c =
-    on_err_weaker c.take_call.result (alone-after c.args.image.now c.args.history.now.items c.args.self.now c.step_ahead.new.self c.take_call.new.self c.in-Call.ensures.same) c.take_call.ensures.refused
+    on_err_weaker c.take_call.result (alone-after c.args.image.now c.args.history.now.items c.args.p c.args.self.now c.step_ahead.new.self c.take_call.new.self c.in-Call.ensures.same (settled-same c.args.p c.args.image.now (snapshot_of c.args.self.now) (snapshot_of c.step_ahead.new.self) c.in-Call.ensures.top)) c.take_call.ensures.refused
 
 -- ---- an operation
 
@@ -88,7 +88,7 @@ returns-in_err-take_operation-in-Other-clause-unturned c =
 pub returns-in_err-take_operation-in-Other-clause-refused : goal.returns-in_err-take_operation-in-Other-clause-refused
 returns-in_err-take_operation-in-Other-clause-refused c =
     let r = c.from_residual-in_err-take_operation-in-Other in
-    on-err r.result r.ensures.0 (alone-after c.args.image.now c.args.history.now.items c.args.self.now c.step_ahead.new.self c.take_operation.new.self c.in-Other.ensures.same c.in_err-take_operation-in-Other.ensures.refused)
+    on-err r.result r.ensures.0 (alone-after c.args.image.now c.args.history.now.items c.args.p c.args.self.now c.step_ahead.new.self c.take_operation.new.self c.in-Other.ensures.same (settled-same c.args.p c.args.image.now (snapshot_of c.args.self.now) (snapshot_of c.step_ahead.new.self) c.in-Other.ensures.top) c.in_err-take_operation-in-Other.ensures.refused)
 
 pub returns-in_ok-take_operation-in-Other-clause-turned : goal.returns-in_ok-take_operation-in-Other-clause-turned
 returns-in_ok-take_operation-in-Other-clause-turned c =
@@ -128,7 +128,14 @@ returns-in_err-reserve-in-Purge-clause-unturned c =
 pub returns-in_err-reserve-in-Purge-clause-refused : goal.returns-in_err-reserve-in-Purge-clause-refused
 returns-in_err-reserve-in-Purge-clause-refused c =
     let before = (goal.at.returns-in_err-reserve-in-Purge-clause-refused c).After-reserve in
-    on-err c.from_residual.result c.from_residual.ensures.0 (record { after = reserved before; same = reserved-same before; made = as-many c.args.self.now c.reserve.new.self (reserved-same before) })
+    let mid = snapshot_of c.step_ahead.new.self in
+    let top = top-again c.args.p (snapshot_of c.args.self.now) mid (snapshot_of c.reserve.new.self) (settled-same c.args.p c.args.image.now (snapshot_of c.args.self.now) mid c.in-Purge.ensures.top) (top-shown c.args.p mid (snapshot_of c.reserve.new.self) (reserved-shown before)) in
+    on-err c.from_residual.result c.from_residual.ensures.0 (record {
+      after = reserved before;
+      same = reserved-same before;
+      top = top;
+      made = as-many c.args.self.now c.reserve.new.self (reserved-same before);
+    })
 
 pub returns-in_ok-reserve-in-Purge-clause-turned : goal.returns-in_ok-reserve-in-Purge-clause-turned
 returns-in_ok-reserve-in-Purge-clause-turned c =
@@ -157,7 +164,7 @@ returns-in_err-take_resume-in-Resume-clause-unturned c =
 pub returns-in_err-take_resume-in-Resume-clause-refused : goal.returns-in_err-take_resume-in-Resume-clause-refused
 returns-in_err-take_resume-in-Resume-clause-refused c =
     let r = c.from_residual-in_err-take_resume-in-Resume in
-    on-err r.result r.ensures.0 (alone-after c.args.image.now c.args.history.now.items c.args.self.now c.step_ahead.new.self c.take_resume.new.self c.in-Resume.ensures.same c.in_err-take_resume-in-Resume.ensures.refused)
+    on-err r.result r.ensures.0 (alone-after c.args.image.now c.args.history.now.items c.args.p c.args.self.now c.step_ahead.new.self c.take_resume.new.self c.in-Resume.ensures.same (settled-same c.args.p c.args.image.now (snapshot_of c.args.self.now) (snapshot_of c.step_ahead.new.self) c.in-Resume.ensures.top) c.in_err-take_resume-in-Resume.ensures.refused)
 
 pub returns-in_ok-take_resume-in-Resume-clause-turned : goal.returns-in_ok-take_resume-in-Resume-clause-turned
 returns-in_ok-take_resume-in-Resume-clause-turned c =
