@@ -1,7 +1,7 @@
 -- Lists of a statement are no longer than its code.
 use Rattle.std.proofs.Common.{◌≡◌, ℕ, ◌+◌, ◌≤◌, List, [], ◌∷◌, length, arith, length-append, Option, Some, None}
 use Rattle.std.proofs.lemmas.List.{length-map}
-use Rattle.hep_machine.specs.Words.{Tree, Trees, constant, occurrence, with_list, parenthesized, signed, negated, binary, trees_of, Target, Name, Occurrence, Form, Value, Meaning, element, pure, state, external}
+use Rattle.hep_machine.specs.Words.{Tree, Trees, constant, occurrence, with_list, parenthesized, signed, negated, binary, trees_of, Target, Name, Form, Value, Meaning, element, pure, state, external}
 use Rattle.hep_source.specs.declared.statement.Form.TheVariants as form
 use Rattle.hep_code.specs.declared.instruction.Instruction.TheVariants.{To, Pass, Show}
 use Rattle.hep_code.specs.declared.instruction.Instruction.{Instruction}

@@ -4,3 +4,4 @@ pub mod Indexes
 pub mod Asked
 pub mod Refusals
 pub mod Forms
+pub mod Uses

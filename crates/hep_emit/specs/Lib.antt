@@ -4,3 +4,4 @@ pub mod Tables
 pub mod Limits
 pub mod Starts
 pub mod Asked
+pub mod Uses

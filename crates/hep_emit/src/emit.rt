@@ -1,10 +1,12 @@
 //! Instructions behind those that are there.
 ghost use Rattle.std.specs.Prelude.{◌≡◌, ◌++◌, ◌∷◌, [], ◌<◌, IfOk, OnOk, IfErr};
 ghost use Rattle.hep_code.specs.Words.{evaluating};
+ghost use Rattle.hep_emit.specs.declared.fault.EmitFault.TheVariants.{NoMemory};
 ghost use Rattle.hep_emit.specs.Tables.{greatest};
 
 use crate::fault::EmitFault;
 use hep_code::{Evaluation, Instruction, Operation};
+use hep_source::Value;
 use std::alloc::AllocError;
 
 /// The code so far.
@@ -29,10 +31,21 @@ pub(crate) fn emit_evaluation(
     code: &mut Code,
     line: u32,
     evaluation: Evaluation,
-) -> Result<(), AllocError>
-    ensures { OnOk result (code.new.items ≡ code.old.items ++ evaluating line evaluation) }
+) -> Result<(), EmitFault>
+    ensures code { OnOk result (code.new.items ≡ code.old.items ++ evaluating line evaluation) }
+    ensures refused { IfErr result (λ fault. fault ≡ NoMemory) }
 {
-    emit_step(code, line, Operation::Evaluate(evaluation))
+    emit_step(code, line, Operation::Evaluate(evaluation))?;
+    Ok(())
+}
+
+/// A value.
+pub(crate) fn emit_value(code: &mut Code, value: Value) -> Result<(), EmitFault>
+    ensures code { OnOk result (code.new.items ≡ code.old.items ++ Instruction.Push value ∷ []) }
+    ensures refused { IfErr result (λ fault. fault ≡ NoMemory) }
+{
+    emit(code, Instruction::Push(value))?;
+    Ok(())
 }
 
 /// How many items a list of this length has.

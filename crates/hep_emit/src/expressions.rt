@@ -1,21 +1,22 @@
 //! The code of expressions: operands from left to right, and then what is done with them (X3.9-1978, 6.6). An actual
 //! argument that is a variable, an element or an array isn't read (15.9.2 and 15.9.3).
-ghost use Rattle.std.specs.Prelude.{◌≡◌, ◌++◌, length, OnOk, IfErr};
+ghost use Rattle.std.specs.Prelude.{◌≡◌, ◌<◌, ◌+◌, ◌++◌, length, option_map, IfErr, IfOk, IfSome, OnOk};
 ghost use Rattle.hep_machine.specs.Words.{trees, no_trees, trees_of};
 ghost use Rattle.hep_names.specs.Meanings.{meaning};
 ghost use Rattle.hep_code.specs.ExpressionCode as code_words;
 ghost use Rattle.hep_emit.specs.Asked.{subscripts_asked, subscripts_asked_listed};
-ghost use Rattle.hep_emit.specs.Limits.{IsTooLong};
-ghost use Rattle.hep_emit.specs.Tables.{names_in};
+ghost use Rattle.hep_emit.specs.declared.fault.EmitFault.TheVariants.{NoMemory};
+ghost use Rattle.hep_emit.specs.Limits.{IsTooLong, subscripts_of_all};
+ghost use Rattle.hep_emit.specs.Tables.{greatest, names_in};
+ghost use Rattle.hep_emit.specs.Uses.{evaluation_listed, operands_listed, reference_code, subscripts_referred};
 
-use crate::emit::{Code, counted, emit, emit_evaluation, emit_step};
+use crate::emit::{Code, counted, emit_evaluation, emit_step, emit_value};
 use crate::fault::EmitFault;
 use crate::lists::emit_passed;
 use crate::names::Names;
-use hep_code::{Evaluation, Instruction, Operation};
+use hep_code::{Evaluation, Operation};
 use hep_names::Meaning;
 use hep_source::{Expr, Name, Node, Occurrence};
-use std::alloc::AllocError;
 
 // The name that no variable has.
 const NO_NAME: Name = Name {
@@ -24,20 +25,21 @@ const NO_NAME: Name = Name {
 };
 
 // A constant or a variable.
-fn emit_name(code: &mut Code, names: &Names, line: u32, name: &Name) -> Result<(), AllocError>
-    ensures { OnOk result (code.new.items ≡ code.old.items
+fn emit_name(code: &mut Code, names: &Names, line: u32, name: &Name) -> Result<(), EmitFault>
+    ensures code { OnOk result (code.new.items ≡ code.old.items
         ++ code_words.name_code (names_in names.now) line ((names_in names.now).constants name.now) name.now) }
+    ensures refused { IfErr result (λ fault. fault ≡ NoMemory) }
 {
     match names.constant(name) {
-        Some(value) => emit(code, Instruction::Push(value)),
-        None => emit_evaluation(
-            code,
-            line,
-            Evaluation::Load {
-                variable: names.variable(name),
+        Some(value) => emit_value(code, value),
+        None => {
+            let variable = names.variable(name);
+            let load = Evaluation::Load {
+                variable,
                 subscripts: 0,
-            },
-        ),
+            };
+            emit_evaluation(code, line, load)
+        }
     }
 }
 
@@ -85,6 +87,92 @@ fn asked<'a>(names: &Names, list: &'a [Expr]) -> (Name, &'a [Expr])
     }
 }
 
+// What is done with the values of a list, by what its name is, and the expressions that they are of: those of the list, or the
+// subscripts of what FULL, EMPTY, VALUE, SETE or WAITF is asked of. Nothing for a function of the program.
+#[tactic(auto, using(crate::proofs::Lengths::count_length, crate::proofs::Asked::asked_count))]
+fn listed_use<'a>(
+    names: &Names,
+    listed: Meaning,
+    name: &Name,
+    list: &'a [Expr],
+) -> Result<Option<(Evaluation, &'a [Expr])>, EmitFault>
+    ensures evaluation { IfOk result (λ used. option_map (λ x. x.0) used
+        ≡ evaluation_listed (names_in names.now) (meaning listed) name.now (trees_of list.now)) }
+    ensures operands { IfOk result (λ used. IfSome used (λ x. trees_of x.1.now
+        ≡ operands_listed (names_in names.now) (meaning listed) (trees_of list.now))) }
+    ensures refused { IfErr result (λ fault. greatest
+        < code_words.count (operands_listed (names_in names.now) (meaning listed) (trees_of list.now))) }
+{
+    match listed {
+        Meaning::Element => {
+            let variable = names.variable(name);
+            let subscripts = counted(list.len())?;
+            let load = Evaluation::Load {
+                variable,
+                subscripts,
+            };
+            Ok(Some((load, list)))
+        }
+        Meaning::Pure(function) => {
+            let arguments = counted(list.len())?;
+            let apply = Evaluation::Apply {
+                function,
+                arguments,
+            };
+            Ok(Some((apply, list)))
+        }
+        Meaning::State(function) => {
+            let (name, list) = asked(names, list);
+            let variable = names.variable(&name);
+            let subscripts = counted(list.len())?;
+            let test = Evaluation::Test {
+                function,
+                variable,
+                subscripts,
+            };
+            Ok(Some((test, list)))
+        }
+        Meaning::External => Ok(None),
+    }
+}
+
+// A reference of a function of the program, behind its actual arguments, and how these are passed.
+#[tactic(auto, using(crate::proofs::Lengths::count_length, crate::proofs::Lengths::passes_map))]
+fn emit_reference(
+    code: &mut Code,
+    names: &Names,
+    line: u32,
+    name: &Name,
+    list: &[Expr],
+) -> Result<(), EmitFault>
+    ensures code { OnOk result (code.new.items
+        ≡ code.old.items ++ reference_code (names_in names.now) line name.now (trees_of list.now)) }
+    ensures refused { IfErr result (IsTooLong
+        (length list.now + subscripts_of_all (code_words.argument_of (names_in names.now)) list.now)) }
+{
+    let unit = names.function(name);
+    let count = counted(list.len())?;
+    emit_step(code, line, Operation::Refer { unit, count })?;
+    emit_passed(code, names, list)
+}
+
+// The subscripts of an actual argument that is referred to: a variable, an element or an array.
+fn referred<'a>(names: &Names, actual: &'a Expr) -> Option<&'a [Expr]>
+    ensures { option_map (λ subscripts. trees_of subscripts.now) result ≡ subscripts_referred (names_in names.now) actual.now }
+{
+    match &actual.node {
+        Node::Occurrence(occurrence) => match names.constant(&occurrence.name) {
+            Some(_) => None,
+            None => Some(&[]),
+        },
+        Node::WithList(occurrence, list) => match names.meaning(&occurrence.name) {
+            Meaning::Element => Some(list),
+            _ => None,
+        },
+        _ => None,
+    }
+}
+
 /// The code of an expression.
 #[cycle(emit_expression)]
 pub(crate) fn emit_expression(
@@ -97,8 +185,8 @@ pub(crate) fn emit_expression(
     ensures refused { IfErr result (IsTooLong (length (code_words.tree_code (names_in names.now) line expression.now))) }
 {
     match &expression.node {
-        Node::Constant(value) => Ok(emit(code, Instruction::Push(*value))?),
-        Node::Occurrence(occurrence) => Ok(emit_name(code, names, line, &occurrence.name)?),
+        Node::Constant(value) => emit_value(code, *value),
+        Node::Occurrence(occurrence) => emit_name(code, names, line, &occurrence.name),
         Node::WithList(occurrence, list) => {
             let listed = names.meaning(&occurrence.name);
             emit_listed(code, names, line, listed, &occurrence.name, list)
@@ -106,23 +194,23 @@ pub(crate) fn emit_expression(
         Node::Parenthesized(inner) => emit_expression(code, names, line, inner),
         Node::Signed(sign, term) => {
             emit_expression(code, names, line, term)?;
-            Ok(emit_evaluation(code, line, Evaluation::Sign(*sign))?)
+            emit_evaluation(code, line, Evaluation::Sign(*sign))
         }
         Node::Negated(operand) => {
             emit_expression(code, names, line, operand)?;
-            Ok(emit_evaluation(code, line, Evaluation::Not)?)
+            emit_evaluation(code, line, Evaluation::Not)
         }
         Node::Binary(operator, left, right) => {
             emit_expression(code, names, line, left)?;
             emit_expression(code, names, line, right)?;
-            Ok(emit_evaluation(code, line, Evaluation::Combine(*operator))?)
+            emit_evaluation(code, line, Evaluation::Combine(*operator))
         }
     }
 }
 
 // The code of a name with a list, by what it is.
 #[cycle(emit_expression)]
-#[tactic(auto, using(std::proofs::lemmas::Grind::common_steps, crate::proofs::Lengths::count_length, crate::proofs::Lengths::trees_long, crate::proofs::Asked::asked_is, crate::proofs::Asked::asked_count, crate::proofs::Asked::asked_nodes))]
+#[tactic(auto, using(crate::proofs::Uses::operands_nodes))]
 fn emit_listed(
     code: &mut Code,
     names: &Names,
@@ -142,50 +230,15 @@ fn emit_listed(
         (code_words.asked_code (names_in names.now) line (trees_of list.now))
         (code_words.actuals_code_in (names_in names.now) line (trees_of list.now))))) }
 {
-    match listed {
-        Meaning::Element => {
-            emit_all(code, names, line, list)?;
-            let variable = names.variable(name);
-            let subscripts = counted(list.len())?;
-            Ok(emit_evaluation(
-                code,
-                line,
-                Evaluation::Load {
-                    variable,
-                    subscripts,
-                },
-            )?)
+    let used = listed_use(names, listed, name, list)?;
+    match used {
+        Some((evaluation, operands)) => {
+            emit_all(code, names, line, operands)?;
+            emit_evaluation(code, line, evaluation)
         }
-        Meaning::Pure(function) => {
-            emit_all(code, names, line, list)?;
-            let arguments = counted(list.len())?;
-            Ok(emit_evaluation(
-                code,
-                line,
-                Evaluation::Apply {
-                    function,
-                    arguments,
-                },
-            )?)
-        }
-        Meaning::State(function) => {
-            let (name, list) = asked(names, list);
-            emit_all(code, names, line, list)?;
-            let variable = names.variable(&name);
-            let subscripts = counted(list.len())?;
-            let test = Evaluation::Test {
-                function,
-                variable,
-                subscripts,
-            };
-            Ok(emit_evaluation(code, line, test)?)
-        }
-        Meaning::External => {
+        None => {
             emit_actuals(code, names, line, list)?;
-            let unit = names.function(name);
-            let count = counted(list.len())?;
-            emit_step(code, line, Operation::Refer { unit, count })?;
-            emit_passed(code, names, list)
+            emit_reference(code, names, line, name, list)
         }
     }
 }
@@ -212,6 +265,7 @@ pub(crate) fn emit_all(
 
 /// The value of an actual argument, or its subscripts.
 #[cycle(emit_expression)]
+#[tactic(auto, using(crate::proofs::Uses::actual_referred, crate::proofs::Uses::actual_evaluated, crate::proofs::Uses::referred_nodes))]
 pub(crate) fn emit_actual(
     code: &mut Code,
     names: &Names,
@@ -221,16 +275,9 @@ pub(crate) fn emit_actual(
     ensures code { OnOk result (code.new.items ≡ code.old.items ++ code_words.actual_code (names_in names.now) line actual.now) }
     ensures refused { IfErr result (IsTooLong (length (code_words.actual_code (names_in names.now) line actual.now))) }
 {
-    match &actual.node {
-        Node::Occurrence(occurrence) => match names.constant(&occurrence.name) {
-            Some(value) => Ok(emit(code, Instruction::Push(value))?),
-            None => Ok(()),
-        },
-        Node::WithList(occurrence, list) => match names.meaning(&occurrence.name) {
-            Meaning::Element => emit_all(code, names, line, list),
-            _ => emit_expression(code, names, line, actual),
-        },
-        _ => emit_expression(code, names, line, actual),
+    match referred(names, actual) {
+        Some(subscripts) => emit_all(code, names, line, subscripts),
+        None => emit_expression(code, names, line, actual),
     }
 }
 

@@ -7,11 +7,10 @@ ghost use Rattle.hep_code.specs.Words.{NameTable};
 ghost use Rattle.hep_emit.specs.Limits.{IsTooLong};
 ghost use Rattle.hep_emit.specs.Tables.{names_in};
 
-use crate::emit::{Code, emit};
+use crate::emit::{Code, emit_value};
 use crate::expressions::{emit_actual, emit_all, emit_expression};
 use crate::fault::EmitFault;
 use crate::names::Names;
-use hep_code::Instruction;
 use hep_source::{DoControl, Expr, PrintItem, Target, Value};
 
 /// What has operands.
@@ -31,7 +30,7 @@ impl Operands for DoControl {
         emit_expression(code, names, line, &self.limit)?;
         match &self.increment {
             Some(increment) => emit_expression(code, names, line, increment),
-            None => Ok(emit(code, Instruction::Push(Value::Int(1)))?),
+            None => emit_value(code, Value::Int(1)),
         }
     }
 }

@@ -11,13 +11,14 @@ use Rattle.hep_machine.specs.Words.{Progress, Units, opening_layout, progress_af
 use Rattle.hep_states.specs.Lines as lines
 use Rattle.hep_states.specs.States.{contents_text, state_text}
 use Rattle.hep_run.specs.declared.options.Run.{Run}
-use Rattle.hep_run.specs.declared.transcript.Transcript.{Transcript}
+use Rattle.hep_outcome.specs.declared.transcript.Transcript.{Transcript}
 use Rattle.hep_run.specs.Checks.{outcome_of_text}
 use Rattle.hep_run.specs.Delivery.{LeavesOfSource, status_alone}
-use Rattle.hep_run.specs.Outcome.{Outcome}
+use Rattle.hep_outcome.specs.Outcome.{Outcome}
 use Rattle.hep_run.specs.Sources.{IsRefusedProgram, IsRunnable}
 use Rattle.hep_inspection.specs.States.{IsFirstOutcome, IsSourceState, IsStateOutcome}
-use Rattle.hep_run.specs.Transcripts.{LeavesMade, outcome_of}
+use Rattle.hep_outcome.specs.Transcripts.{outcome_of}
+use Rattle.hep_run.specs.Transcripts.{LeavesMade}
 use Rattle.hep_run.proofs.Accepted.{left_alone}
 use Rattle.hep_run.proofs.Fronts.{source_left}
 use Rattle.hep_run.proofs.Outcomes.{made_left}

@@ -7,8 +7,9 @@ use Rattle.hep_history.specs.Histories.{entry_text, IsAllowed}
 use Rattle.hep_history.specs.Replays.{ArePossible, IsFirstImpossible}
 use Rattle.hep_states.specs.States.{state_text}
 use Rattle.hep_run.specs.Checks.{outcome_of_text}
-use Rattle.hep_run.specs.Outcome.{Outcome, RunsTo, outcome_of_full_arena}
-use Rattle.hep_run.specs.Replay.{outcome_of_refused_history}
+use Rattle.hep_outcome.specs.Outcome.{Outcome, outcome_of_full_arena}
+use Rattle.hep_run.specs.Outcome.{RunsTo}
+use Rattle.hep_outcome.specs.Replay.{outcome_of_refused_history}
 
 -- what is written of the state after these entries: what everything holds in the source machine's state; or that COMMON and the main program's frame
 -- don't fit the arena, or the first entry that isn't possible

@@ -3,7 +3,7 @@ ghost use Rattle.std.specs.Prelude.{◌≤◌, false, IfOk, OnErr};
 ghost use Rattle.hep_run.specs.Delivery.{LeavesOfSource, status_alone};
 ghost use Rattle.hep_run.specs.Memory.{MayReadOn, RefusesLargeSource};
 ghost use Rattle.hep_inspection.specs.States.{IsFirstOutcome, IsSourceState};
-ghost use Rattle.hep_run.specs.Transcripts.{outcome_of};
+ghost use Rattle.hep_outcome.specs.Transcripts.{outcome_of};
 
 use hep_base::Refusal;
 use hep_history::{ReplayFault, first_entries, read_text, replay};

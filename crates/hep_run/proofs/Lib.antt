@@ -1,5 +1,3 @@
-mod Schedules
-mod Drawings
 mod Counts
 mod Messages
 pub mod Fronts

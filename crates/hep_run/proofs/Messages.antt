@@ -5,7 +5,7 @@ use Rattle.std.proofs.Math.Seq.{take-length, take-append-add}
 use Rattle.std.specs.Io.KnownBytes.{Appends}
 use Rattle.std.proofs.KnownBytes.{Appends-trans}
 use Rattle.hep_run.specs.declared.options.Run.{Run}
-use Rattle.hep_run.specs.Outcome.{Outcome}
+use Rattle.hep_outcome.specs.Outcome.{Outcome}
 use Rattle.hep_run.specs.Delivery.{SomeOf, WritesMessages, Leaves}
 
 pub of_first : (a b : Option (List ℕ)) (xs ys : List ℕ) (n : ℕ) → n ≤ length xs → Appends a b (take n xs) → SomeOf a b (xs ++ ys)

@@ -1,5 +1,5 @@
 -- Where memory may have been asked for.
-use Rattle.std.proofs.Common.{◌≡◌, ◌≢◌, ℕ, Bool, true, false, true≢false, List, [], ◌∷◌, ◌++◌, codes, Ok, Result, Err, IfErr, OnErr, length, nat_eq, refl, sym, ap, ◌∙◌, inl, inr, arith}
+use Rattle.std.proofs.Common.{◌≡◌, ℕ, Bool, true, false, true≢false, List, [], ◌++◌, codes, Ok, Result, Err, IfErr, length, nat_eq, refl, sym, ap, ◌∙◌, inl, inr}
 use Rattle.std.proofs.lemmas.Bool.{and_parts, eqb-true}
 use Rattle.std.specs.Fmt.{digits}
 use Rattle.hep_text.specs.Reading.{Refusal, is_too_large, refusal, statements_of}
@@ -8,14 +8,15 @@ use Rattle.hep_text.proofs.Joining as text
 use Rattle.hep_base.specs.declared.refusal.Refusal.{Refusal as Told}
 use Rattle.hep_base.specs.declared.refusal.Refusal.TheVariants as told
 use Rattle.hep_machine.specs.Words.{Units}
-use Rattle.hep_run.specs.Memory.{IsWant, MayOpen, MayReadOn, tells_large}
-use Rattle.hep_run.specs.Notes.{AreNotes, line_notes_when, opening_notes_when}
-use Rattle.hep_run.specs.Outcome.{full_with, refused}
+use Rattle.hep_run.specs.Memory.{IsWant, MayReadOn, tells_large}
+use Rattle.hep_run.specs.Notes.{AreNotes, line_notes_when}
+use Rattle.hep_outcome.proofs.Wanted.{none-there}
+use Rattle.hep_run.specs.Outcome.{refused}
 use Rattle.hep_run.specs.Refusals.{Tells, noted}
 use Rattle.hep_run.specs.Sources.{IsRefusedFor, IsSourceOf}
 use Rattle.hep_run.specs.declared.refusal.SourceFault.{SourceFault}
 use Rattle.hep_run.specs.declared.refusal.SourceFault.TheVariants.{NoMemory, Refused}
-use Rattle.hep_run.specs.Texts.{refusal_text}
+use Rattle.hep_outcome.specs.Texts.{refusal_text}
 use Rattle.hep_run.proofs.Fronts.{unread}
 
 number_in : Result (List Stmt) Refusal → ℕ
@@ -85,14 +86,6 @@ wanted-anyway long bytes (Err fault) small = want-anyway long bytes fault small
 
 -- ---- texts that need no memory
 
-none-there : {A : Type 0} (xs : List A) → nat_eq (length xs) 0 ≡ true → xs ≡ []
-none-there [] e = refl
-none-there (x ∷ xs) e = absurd (omega (arith, eqb-true (length (x ∷ xs)) 0 e))
-
-pub some-there : {A : Type 0} (xs : List A) → nat_eq (length xs) 0 ≡ false → xs ≢ []
-some-there [] e same = absurd (true≢false e)
-some-there (x ∷ xs) e same = absurd cc
-
 -- the refusal of a source that is too large is this one
 pub large-refused : (number line : ℕ) (name notes : List ℕ) → tells_large (Refused number line name notes) ≡ true → refused 107 0 [] [] ≡ refused number line name notes
 large-refused number line name notes e =
@@ -108,23 +101,3 @@ large-refused number line name notes e =
 pub large-text : refusal_text 107 0 [] ++ [] ≡ codes "REFUSED 107 LINE 0\n"
 unfolding digits
 large-text = refl
-
-pub full-bare : (notes : List ℕ) → nat_eq (length notes) 0 ≡ true → full_with [] ≡ full_with notes
-full-bare notes e = ap full_with (sym (none-there notes e))
-
--- ---- a full arena
-
--- there are notes only where they are asked for
-pub noted-full : (long : Bool) (program : Units) (cells : ℕ) (notes : List ℕ) → notes ≡ opening_notes_when long program cells → notes ≢ [] → MayOpen long program cells
-noted-full true program cells notes is some = inl refl
-noted-full false program cells notes is some = absurd (some is)
-
--- ---- answers
-
-pub on-err-anyway : {A E P : Type 0} (r : Result A E) → P → OnErr r P
-on-err-anyway (Ok x) p = tt
-on-err-anyway (Err e) p = p
-
-pub on-err-so : {A E P Q : Type 0} (r : Result A E) → (P → Q) → OnErr r P → OnErr r Q
-on-err-so (Ok x) so p = tt
-on-err-so (Err e) so p = so p

@@ -10,7 +10,7 @@ use Rattle.hep_workers.specs.declared.options.WorkOptions.{WorkOptions}
 use Rattle.hep_workers.specs.declared.receipt.Receipt.{Receipt}
 use Rattle.hep_workers.specs.Faults.{number_of}
 use Rattle.hep_workers.specs.Reports.{IsReport, IsWorkFault}
-use Rattle.hep_run.specs.Outcome.{Outcome, outcome_of_end, verdict_after}
+use Rattle.hep_outcome.specs.Outcome.{Outcome, outcome_of_end, verdict_after}
 use Rattle.hep_run.specs.Workers.{IsImageWorked, is_refusal_of_workers}
 
 pub outcome-worked : (long : Bool) (program : Units) (options : WorkOptions) (core : CoreValue) (logs : List (List Receipt)) (o : Outcome)

@@ -1,16 +1,16 @@
 -- What a run leaves at its two outputs: docs/MACHINE.md, "The program".
 use Rattle.std.specs.Prelude.{◌≡◌, ◌⊎◌, ℕ, ◌<◌, ◌≤◌, List, [], ◌++◌, codes, length, take, Option, Some, None}
+use Rattle.std.specs.Fmt.{decimal}
 use Rattle.std.specs.Io.KnownBytes.{Appends, Keeps, Consumes, IsAtEnd}
 use Rattle.hep_machine.specs.declared.event.Entry.{Entry}
 use Rattle.hep_run.specs.declared.input.ReadFault.{ReadFault}
 use Rattle.hep_run.specs.declared.input.ReadFault.TheVariants as unread
 use Rattle.hep_run.specs.declared.options.Run.{Run}
-use Rattle.hep_run.specs.declared.status.Status.{Status}
-use Rattle.hep_run.specs.declared.status.Status.TheVariants.{NoMemory, DeviceFailed}
-use Rattle.hep_run.specs.Statuses.{status_code}
-use Rattle.hep_run.specs.Texts.{write_fault_text}
+use Rattle.hep_outcome.specs.declared.status.Status.{Status}
+use Rattle.hep_outcome.specs.declared.status.Status.TheVariants.{NoMemory, DeviceFailed}
+use Rattle.hep_outcome.specs.Statuses.{status_code}
 use Rattle.hep_run.specs.Inputs.{HasLost}
-use Rattle.hep_run.specs.Outcome.{Outcome}
+use Rattle.hep_outcome.specs.Outcome.{Outcome}
 
 -- the run has this outcome, and both outputs took all of it
 pub record IsDelivered (o : Outcome) (run : Run) (output output' messages messages' : Option (List ℕ)) : Type 0 where
@@ -18,6 +18,10 @@ pub record IsDelivered (o : Outcome) (run : Run) (output output' messages messag
   pub history : run.history.items ≡ o.history
   pub output_taken : Appends output output' o.output
   pub messages_taken : Appends messages messages' o.messages
+
+-- the line of a writer that failed after so many bytes
+abbrev pub write_fault_text : ℕ → List ℕ
+write_fault_text n = codes "WRITE FAULT AFTER " ++ decimal n ++ codes "\n"
 
 -- a writer took some first bytes of a text
 abbrev pub SomeOf : Option (List ℕ) → Option (List ℕ) → List ℕ → Type 0

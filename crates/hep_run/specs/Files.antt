@@ -5,10 +5,10 @@ use Rattle.hep_history.specs.Lines.{most_bytes}
 use Rattle.hep_history.specs.Given.{AreGiven, IsRefusedGiven}
 use Rattle.hep_history.specs.Histories.{history_text}
 use Rattle.hep_run.specs.declared.options.Run.{Run}
-use Rattle.hep_run.specs.declared.status.Status.TheVariants.{Usage, NoMemory, DeviceFailed}
-use Rattle.hep_run.specs.Statuses.{status_code}
-use Rattle.hep_run.specs.Texts.{refusal_text, write_fault_text}
-use Rattle.hep_run.specs.Delivery.{SaysLines, WritesStartOf}
+use Rattle.hep_outcome.specs.declared.status.Status.TheVariants.{Usage, NoMemory, DeviceFailed}
+use Rattle.hep_outcome.specs.Statuses.{status_code}
+use Rattle.hep_outcome.specs.Texts.{refusal_text}
+use Rattle.hep_run.specs.Delivery.{write_fault_text, SaysLines, WritesStartOf}
 
 -- ---- what is read
 

@@ -1,10 +1,6 @@
-pub mod Texts
-pub mod Lines
-pub mod Statuses
 pub mod Sources
 pub mod Notes
 pub mod Outcome
-pub mod Replay
 pub mod Workers
 pub mod Checks
 pub mod Warned
@@ -14,6 +10,4 @@ pub mod Transcripts
 pub mod Inputs
 pub mod Delivery
 pub mod Files
-pub mod Progress
-pub mod Draws
-pub mod Tallies
+pub mod Samples

@@ -5,8 +5,7 @@ use Rattle.std.specs.Option.{option_map_or}
 use Rattle.hep_text.specs.declared.statement.Stmt.{Stmt}
 use Rattle.hep_text.specs.Reading.{statements_of}
 use Rattle.hep_parse.specs.Program.{IsProgram}
-use Rattle.hep_machine.specs.declared.event.Entry.{Entry}
-use Rattle.hep_machine.specs.Words.{is_held, spelling, state_after, Units, used_cells}
+use Rattle.hep_machine.specs.Words.{spelling, Units}
 use Rattle.hep_conditions.specs.declared.violation.Violation.{Violation}
 use Rattle.hep_conditions.specs.Words.{first_violation}
 use Rattle.hep_check.specs.declared.further.Told.{Told}
@@ -14,10 +13,6 @@ use Rattle.hep_check.specs.Further.{as_told, further}
 use Rattle.hep_culprits.specs.declared.culprit.Culprit.{Culprit}
 use Rattle.hep_culprits.specs.Culprits.{culprit_of}
 use Rattle.hep_culprits.specs.Texts.{position_of, text_of}
-use Rattle.hep_core.specs.declared.stop.ChoiceStop.{ChoiceStop}
-use Rattle.hep_core.specs.declared.stop.ChoiceStop.TheVariants.{ArenaFull, Halted, StepLimit}
-use Rattle.hep_dump.specs.Stops.{all_places_notes, opening_notes, used_notes}
-use Rattle.hep_dump.specs.Wants.{all_wants_notes}
 use Rattle.hep_notes.specs.Refusals.{also_notes, line_notes, statement_notes}
 use Rattle.hep_run.specs.Sources.{IsRefusedFor, IsUnrunnableProgram}
 
@@ -52,23 +47,3 @@ AreNotes false source number line name notes = notes ≡ []
 AreNotes true source number line name notes =
     (IsRefusedFor IsUnrunnableProgram source number line name × (notes ≡ line_notes source number line name))
     ⊎ AreViolationNotes source number line name notes
-
--- ---- of stops
-
--- where COMMON and the frame of the main program don't fit an arena of so many cells
-abbrev pub opening_notes_when : Bool → Units → ℕ → List ℕ
-opening_notes_when false program cells = []
-opening_notes_when true program cells = opening_notes program cells
-
--- after a history in an arena of so many cells: where a frame has no gap, how many are taken, and what the frames take that processes are
--- to make; where each process is, where the history is full
-abbrev pub notes_of_stop : Units → ℕ → List Entry → Option ChoiceStop → List ℕ
-notes_of_stop program cells history (Some ArenaFull) =
-    used_notes (used_cells program is_held (state_after program history)) cells ++ all_wants_notes program cells history
-notes_of_stop program cells history (Some StepLimit) = all_places_notes program history
-notes_of_stop program cells history (Some Halted) = []
-notes_of_stop program cells history None = []
-
-abbrev pub stop_notes : Bool → Units → ℕ → List Entry → Option ChoiceStop → List ℕ
-stop_notes false program cells history stop = []
-stop_notes true program cells history stop = notes_of_stop program cells history stop

@@ -1,15 +1,13 @@
--- What a transcript says, as an outcome, and what is left where one was to be made: docs/ARCHITECTURE.md, "Forms".
+-- What is left where a transcript was to be made: docs/ARCHITECTURE.md, "Forms".
 use Rattle.std.specs.Prelude.{◌≡◌, ℕ, List, Option, Result, Ok, Err}
 use Rattle.hep_run.specs.declared.options.Run.{Run}
-use Rattle.hep_run.specs.declared.transcript.Transcript.{Transcript}
+use Rattle.hep_outcome.specs.declared.transcript.Transcript.{Transcript}
 use Rattle.hep_run.specs.Delivery.{Leaves, WantsMemory}
-use Rattle.hep_run.specs.Lines.{lines_text}
-use Rattle.hep_run.specs.Outcome.{Outcome, refused}
+use Rattle.hep_outcome.specs.Transcripts.{outcome_of}
+use Rattle.hep_outcome.specs.Outcome.{Outcome}
+use Rattle.hep_run.specs.Outcome.{refused}
 use Rattle.hep_run.specs.declared.refusal.SourceFault.{SourceFault}
 use Rattle.hep_run.specs.declared.refusal.SourceFault.TheVariants as source
-
-abbrev pub outcome_of : Transcript → Outcome
-outcome_of r = record { output = r.output.items; messages = lines_text r.messages; status = r.status; history = r.history.items }
 
 -- the outcome of a source that isn't run for this reason; want of memory has none
 abbrev pub IsOutcomeOfFault : SourceFault → Outcome → Type 0

@@ -1,5 +1,6 @@
 -- What a run by workers comes to, from the bytes of a source to the bytes that it writes: docs/MACHINE.md, "Workers".
-use Rattle.std.specs.Prelude.{◌≡◌, ◌≢◌, ◌⊎◌, ℕ, true, Bool, nat_eq, List, [], ◌∷◌, Option, None, IsSome}
+use Rattle.std.specs.Prelude.{◌≡◌, ◌≢◌, ◌⊎◌, ℕ, true, Bool, nat_eq, List, [], ◌∷◌, ◌++◌, codes, Option, None, IsSome}
+use Rattle.std.specs.Fmt.{decimal}
 use Rattle.std.specs.List.{list_any}
 use Rattle.hep_machine.specs.declared.event.Entry.{Entry}
 use Rattle.hep_machine.specs.Words.{IsLegal, opening_layout, Units}
@@ -7,9 +8,9 @@ use Rattle.hep_core.specs.declared.stop.ChoiceStop.{ChoiceStop}
 use Rattle.hep_core.specs.declared.stop.Verdict.TheVariants.{Running}
 use Rattle.hep_core.specs.Value.{AreSingle, IsStop}
 use Rattle.hep_workers.specs.declared.options.WorkOptions.{WorkOptions}
-use Rattle.hep_run.specs.declared.status.Status.TheVariants as statuses
-use Rattle.hep_run.specs.Outcome.{Outcome, RunsTo, outcome_of_end, outcome_of_full_arena, verdict_after}
-use Rattle.hep_run.specs.Texts.{workers_text}
+use Rattle.hep_outcome.specs.declared.status.Status.TheVariants as statuses
+use Rattle.hep_outcome.specs.Outcome.{Outcome, outcome_of_end, outcome_of_full_arena, verdict_after}
+use Rattle.hep_run.specs.Outcome.{RunsTo}
 
 -- the workers' history is a legal one of the program by these options, each entry of which has one step or none, with the stop that it says,
 -- after which the run is over
@@ -22,6 +23,10 @@ pub record IsWorked (program : Units) (options : WorkOptions) (history : List En
 -- the numbers by which workers give up, or leave no report
 abbrev pub is_refusal_of_workers : ℕ → Bool
 is_refusal_of_workers number = list_any (nat_eq number) (506 ∷ 701 ∷ 702 ∷ 703 ∷ 704 ∷ 705 ∷ [])
+
+-- the workers gave up, or left no report, for this reason
+abbrev pub workers_text : ℕ → List ℕ
+workers_text number = codes "WORKERS REFUSED " ++ decimal number ++ codes "\n"
 
 abbrev pub outcome_of_refused_workers : ℕ → Outcome
 outcome_of_refused_workers number = record { output = []; messages = workers_text number; status = statuses.NoMemory; history = [] }

@@ -1,16 +1,16 @@
 //! Writing what a run comes to.
 ghost use Rattle.std.specs.Prelude.{OnOk, IfErr};
 ghost use Rattle.std.specs.Io.KnownBytes.{Appends};
-ghost use Rattle.hep_run.specs.Texts.{write_fault_text};
-ghost use Rattle.hep_run.specs.Transcripts.{LeavesMade, outcome_of};
-ghost use Rattle.hep_run.specs.Delivery.{Leaves, SaysLines, WritesMessages, SomeOf};
+ghost use Rattle.hep_run.specs.Delivery.{write_fault_text, Leaves, SaysLines, WritesMessages, SomeOf};
+ghost use Rattle.hep_outcome.specs.Transcripts.{outcome_of};
+ghost use Rattle.hep_run.specs.Transcripts.{LeavesMade};
 ghost use Rattle.hep_run.specs.Files.{PutsText};
 
 use crate::options::Run;
 use crate::source::NO_MEMORY;
-use crate::status::Status;
 use crate::transcript::Transcript;
 use hep_entries::History;
+use hep_outcome::Status;
 use hep_output::{PutFault, put_all};
 use itoa::Buffer;
 use std::alloc::{AllocError, Global};

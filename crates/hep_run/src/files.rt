@@ -5,20 +5,19 @@
 ghost use Rattle.std.specs.Prelude.{◌≡◌, codes, IfOk, IfErr, Ok, Err};
 ghost use Rattle.std.specs.Io.KnownBytes.{Keeps};
 ghost use Rattle.hep_history.specs.Lines.{most_bytes};
-ghost use Rattle.hep_run.specs.Delivery.{CannotRead, SaysLines, SaysUnread, SomeOf};
+ghost use Rattle.hep_run.specs.Delivery.{CannotRead, SaysLines, SaysUnread, SomeOf, write_fault_text};
 ghost use Rattle.hep_run.specs.Files.{HasReadText, KeepsHistory, PutsText, ReadsChoices, SaysRefusal};
-ghost use Rattle.hep_run.specs.Texts.{write_fault_text};
-ghost use Rattle.hep_run.specs.declared.status.Status.TheVariants.{DeviceFailed, NoMemory, Usage};
+ghost use Rattle.hep_outcome.specs.declared.status.Status.TheVariants.{DeviceFailed, NoMemory, Usage};
 
 use crate::deliver::{put_text, put_write_fault, say};
 use crate::input::{ReadFault, read_input};
 use crate::options::Run;
 use crate::source::NO_MEMORY;
-use crate::status::Status;
-use crate::texts::put_refusal;
 use hep_base::Refusal;
 use hep_history::history::MOST_BYTES;
 use hep_history::{Choices, read_given, write_text};
+use hep_outcome::Status;
+use hep_outcome::texts::put_refusal;
 use std::alloc::Global;
 use std::io::{Read, Write};
 

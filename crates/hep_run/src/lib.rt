@@ -6,7 +6,6 @@ pub mod deliver;
 pub mod files;
 pub mod front;
 pub mod input;
-pub mod lines;
 pub mod lots;
 pub mod options;
 pub mod refusal;
@@ -14,14 +13,13 @@ pub mod replay;
 pub mod run;
 pub mod sample;
 pub mod source;
-pub mod status;
-pub mod texts;
 pub mod transcript;
 pub mod warned;
 pub mod workers;
 
 pub use deliver::put_text;
 pub use files::{answer, choices_of, history_text, read_text_file, say_unread, say_unwritten};
+pub use hep_outcome::tally::MOST_SEED;
 pub use hep_workers::{Gate, NoGate, WorkOptions};
 pub use input::ReadFault;
 pub use lots::{lots_bytes, lots_noted};
@@ -29,7 +27,7 @@ pub use options::{
     AskedLots, AskedReplay, AskedRun, AskedSample, AskedWork, LotOptions, Options, Run,
     SampleOptions,
 };
-pub use sample::{MOST_SEED, Sample, lots_history, sample_bytes};
+pub use sample::{Sample, lots_history, sample_bytes};
 pub use source::{
     check_noted, check_source, list_noted, list_source, replay_bytes, replay_noted, replay_source,
     run_bytes, run_noted, run_source,

@@ -1,10 +1,9 @@
 //! A source's run by lots.
-ghost use Rattle.std.specs.Prelude.{◌≡◌, [], List, ℕ, IfOk, OnErr, OnOk};
-ghost use Rattle.hep_core.specs.Value.{opening_of};
+ghost use Rattle.std.specs.Prelude.{IfOk, OnErr};
+ghost use Rattle.hep_outcome.specs.Transcripts.{outcome_of};
 ghost use Rattle.hep_run.specs.Delivery.{LeavesOfSource, LeavesOneOf};
-ghost use Rattle.hep_run.specs.Draws.{IsDrawing, IsDrawnOut, IsDrawnOutcome, IsLotOutcome};
-ghost use Rattle.hep_run.specs.Memory.{MayOpen, MayReadOn, RefusesLarge, RefusesLargeSource};
-ghost use Rattle.hep_run.specs.Transcripts.{outcome_of};
+ghost use Rattle.hep_run.specs.Memory.{MayReadOn, RefusesLarge, RefusesLargeSource};
+ghost use Rattle.hep_run.specs.Outcome.{IsLotOutcome};
 
 use crate::deliver::deliver_made;
 use crate::files::say_unread;
@@ -12,70 +11,11 @@ use crate::front::image_of_source;
 use crate::input::read_input;
 use crate::options::{AskedLots, LotOptions, Run};
 use crate::source::MOST_BYTES;
-use crate::transcript::{
-    Transcript, ended_transcript, fault_transcript, full_transcript, opening_notes_when,
-};
-use hep_core::{ChooseFault, Core, NewFault};
+use crate::transcript::{Transcript, fault_transcript};
 use hep_entries::History;
-use hep_image::Image;
-use hep_lots::Lots;
+use hep_outcome::lots::image_transcript;
 use std::alloc::{AllocError, Global};
 use std::io::{Read, Write};
-
-// Chooses what is drawn, until nothing is ready or the run stops.
-fn draw_on(core: &mut Core, options: &LotOptions) -> Result<(), AllocError>
-    requires opening { core.old.history ≡ [] }
-    requires drawing { IsDrawing options.now core.old }
-    requires out { core.old.out ≡ [] }
-    ensures program { core.new.program ≡ core.old.program }
-    ensures drawn { OnOk result ((choices : List ℕ) × IsDrawnOut options.now core.new choices) }
-{
-    let mut lots = Lots::new(options.seed);
-    while let Some(process) = lots.next(core) {
-        match core.choose(process) {
-            Ok(_) => {}
-            Err(ChooseFault::Stopped(_)) => return Ok(()),
-            Err(ChooseFault::NoMemory) => return Err(AllocError),
-            Err(ChooseFault::NoSuchProcess) => unreachable!(),
-            Err(ChooseFault::IsOut | ChooseFault::NoTicket) => unreachable!(),
-        }
-    }
-    Ok(())
-}
-
-// What a run by lots writes from a program's opening on, with notes where `long` is true.
-fn drawn_transcript(
-    alloc: Global,
-    core: Core,
-    options: &LotOptions,
-    long: bool,
-) -> Result<Transcript, AllocError>
-    requires { core ≡ opening_of core.program options.now.arena options.now.steps }
-    ensures { IfOk result (λ r. IsDrawnOutcome long core.program options.now (outcome_of r)) }
-{
-    let mut core = core;
-    draw_on(&mut core, options)?;
-    core.headline();
-    ended_transcript(alloc, core, long)
-}
-
-// What the run of an accepted program by lots comes to, with notes where `long` is true.
-fn image_transcript(
-    alloc: Global,
-    image: Image,
-    options: &LotOptions,
-    long: bool,
-) -> Result<Transcript, AllocError>
-    ensures made { IfOk result (λ r. IsDrawnOutcome long image options.now (outcome_of r)) }
-    ensures unmade { OnErr result (MayOpen long image options.now.arena) }
-{
-    let notes = opening_notes_when(alloc, &image, options.arena, long)?;
-    match Core::new(alloc, image, options.arena, options.steps) {
-        Ok(core) => drawn_transcript(alloc, core, options, long),
-        Err(NewFault::ArenaFull) => full_transcript(alloc, &notes),
-        Err(NewFault::NoMemory) => Err(AllocError),
-    }
-}
 
 /// All that a run of a source by lots comes to, before a byte of it is written, with notes where `long` is true.
 ///

@@ -3,8 +3,7 @@ ghost use Rattle.std.specs.Prelude.{◌≤◌, false};
 ghost use Rattle.hep_run.specs.Delivery.{LeavesOneOf, LeavesOfSource, status_alone};
 ghost use Rattle.hep_run.specs.Checks.{IsCheckOutcome, IsListOutcome};
 ghost use Rattle.hep_run.specs.Memory.{RefusesLarge, RefusesLargeSource};
-ghost use Rattle.hep_run.specs.Outcome.{IsOutcome};
-ghost use Rattle.hep_run.specs.Replay.{IsReplayOutcome};
+ghost use Rattle.hep_run.specs.Outcome.{IsOutcome, IsReplayOutcome};
 
 use crate::checks::{check_transcript, list_transcript};
 use crate::deliver::deliver_made;

@@ -1,9 +1,10 @@
 //! A source's run by workers.
-ghost use Rattle.std.specs.Prelude.{IfOk, OnErr, false};
+ghost use Rattle.std.specs.Prelude.{◌≡◌, IfOk, OnErr, false};
 ghost use Rattle.hep_run.specs.Delivery.{LeavesOfSource};
-ghost use Rattle.hep_run.specs.Memory.{MayOpen, MayReadOn, RefusesLargeSource};
-ghost use Rattle.hep_run.specs.Transcripts.{outcome_of};
-ghost use Rattle.hep_run.specs.Workers.{IsImageWorked, IsWorkOutcome};
+ghost use Rattle.hep_outcome.specs.Memory.{MayOpen};
+ghost use Rattle.hep_run.specs.Memory.{MayReadOn, RefusesLargeSource};
+ghost use Rattle.hep_outcome.specs.Transcripts.{outcome_of};
+ghost use Rattle.hep_run.specs.Workers.{IsImageWorked, IsWorkOutcome, outcome_of_refused_workers};
 
 use crate::deliver::deliver_made;
 use crate::files::say_unread;
@@ -11,17 +12,29 @@ use crate::front::image_of_source;
 use crate::input::read_input;
 use crate::options::{AskedWork, Run};
 use crate::source::MOST_BYTES;
-use crate::transcript::{
-    Transcript, ended_transcript, fault_transcript, full_transcript, opening_notes_when,
-    workers_transcript,
-};
+use crate::transcript::{Transcript, fault_transcript, full_transcript, opening_notes_when};
 use hep_entries::History;
 use hep_image::Image;
+use hep_outcome::transcript::ended_transcript;
+use hep_outcome::{Lines, Status};
+use hep_output::append_number;
 use hep_workers::{Gate, WorkFault, WorkOptions, run_workers};
 use std::alloc::{AllocError, Global};
 use std::io::{Read, Write};
 use std::sync::Wait;
 use std::thread::Threads;
+
+// What workers leave that gave up, or left no report, for the reason with this number.
+fn workers_transcript(alloc: Global, number: u16) -> Result<Transcript, AllocError>
+    ensures { IfOk result (λ r. outcome_of r ≡ outcome_of_refused_workers number) }
+{
+    let mut messages = Vec::new(alloc);
+    messages.extend_from_slice(b"WORKERS REFUSED ")?;
+    append_number(&mut messages, number)?;
+    messages.extend_from_slice(b"\n")?;
+    let history = History::new(alloc);
+    Ok(Transcript::silent(alloc, Lines::Made(messages), Status::NoMemory, history))
+}
 
 // What the run of an accepted program by workers comes to.
 fn image_transcript<H: Threads + Wait + Sync, G: Gate + Sync>(

@@ -22,7 +22,7 @@ pub use Rattle.hep_state.specs.Taking.{CanAdvance, HasSettledTop, IsAdvanced, Is
 unfoldable pub use Rattle.hep_state.specs.Givings.{AreOut}
 unfoldable pub use Rattle.hep_state.specs.CallsAhead.{given_of, HasCallAhead, HasNone, HasPurgeAhead, HasResumeAhead, IsAhead, IsAtPurge, IsAtResume, IsInFront}
 unfoldable pub use Rattle.hep_state.specs.CallsAhead.{operation_of, ranges_ahead}
-pub use Rattle.hep_state.specs.CallsAhead.{IsAtCall, IsAtStep, IsWithoutCall}
+pub use Rattle.hep_state.specs.CallsAhead.{IsAtCall, IsAtReturn, IsAtStep, IsWithoutCall}
 unfoldable pub use Rattle.hep_state.specs.Unturned.{IsUnturned}
 unfoldable pub use Rattle.hep_state.specs.Outcomes.{HasTurned}
 pub use Rattle.hep_state.specs.Outcomes.{Changes, HasPurged}

@@ -28,7 +28,7 @@ fn leave_all(frames: &mut Frames, levels: &mut Vec<Local>)
 
 impl Machine {
     // The top activation of process p has ended, by RETURN or END of its unit.
-    fn finish(&mut self, p: u64)
+    pub(crate) fn finish(&mut self, p: u64)
         requires { IsEndingBy returns p self.old }
         ensures stepped { EndsBy returns p self.old self.new }
         ensures rooms { KeepsRoom self.old self.new }

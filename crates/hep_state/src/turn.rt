@@ -258,6 +258,7 @@ impl Machine {
         laws::other_steps_find_gaps();
         laws::purges_are_shown();
         laws::resumes_are_shown();
+        laws::tops_are_running();
         match self.step_ahead(image, p) {
             StepAhead::Call(call) => self.take_call(image, p, call, history, roster),
             StepAhead::Purge(purge) => {
@@ -267,6 +268,12 @@ impl Machine {
             }
             StepAhead::Resume { next } => {
                 self.take_resume(image, p, next, history, roster)?;
+                Ok(Turned::Stepped { changed: None })
+            }
+            // The same as by `take_operation`, without a look at operands and cells.
+            StepAhead::Return => {
+                history.reserve(1)?;
+                self.finish(p);
                 Ok(Turned::Stepped { changed: None })
             }
             StepAhead::Other => Ok(self.take_operation(alloc, image, p, history)?),

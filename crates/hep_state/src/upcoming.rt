@@ -1,5 +1,5 @@
-//! What stands ahead of a process: a CALL, CREATE or reference, a PURGE, RESUME, or another operation (X3.9-1978, 15.5.2 and 15.6.2, and
-//! docs/LANGUAGE.md, 9).
+//! What stands ahead of a process: a CALL, CREATE or reference, a PURGE, RESUME, RETURN, or another operation (X3.9-1978, 15.5.2, 15.6.2
+//! and 15.8, and docs/LANGUAGE.md, 9).
 ghost use Rattle.std.specs.Prelude.{◌≡◌, ◌<◌, ◌^◌, ◌∷◌, List, drop, length};
 ghost use Rattle.hep_code.specs.declared.instruction.Instruction.{Instruction as AnInstruction};
 ghost use Rattle.hep_code.specs.declared.instruction.Instruction.TheVariants.{Step};
@@ -47,6 +47,8 @@ pub enum StepAhead {
     Purge(PurgeAhead),
     /// RESUME, and the index in the code at which its activation goes on.
     Resume { next: u32 },
+    /// RETURN, or the END of a subroutine.
+    Return,
     /// None of them.
     Other,
 }
@@ -80,6 +82,7 @@ fn as_ahead(line: u32, index: usize, operation: Operation) -> StepAhead
         }),
         Operation::Purge { count, next } => StepAhead::Purge(PurgeAhead { line, count, next }),
         Operation::Resume { next } => StepAhead::Resume { next },
+        Operation::Return => StepAhead::Return,
         _ => StepAhead::Other,
     }
 }

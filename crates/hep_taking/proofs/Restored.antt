@@ -1,6 +1,5 @@
 -- What was kept of a process, put back, gives back the whole machine.
-use Rattle.std.proofs.Common.{◌≡◌, ℕ, zero, suc, ◌+◌, ◌-◌, List, [], ◌∷◌, drop, refl, sym, ap, ◌∙◌, subst, slice_set}
-use Rattle.std.proofs.lemmas.Option.{same_Some}
+use Rattle.std.proofs.Common.{◌≡◌, ℕ, ◌+◌, ◌-◌, List, [], ◌∷◌, refl, sym, ap, ◌∙◌, subst, slice_set}
 use Rattle.hep_machine.specs.Words.{with_numbered}
 use Rattle.hep_machine.specs.declared.slot.Slot.{Slot}
 use Rattle.hep_image.specs.Finding.{cells_in}
@@ -8,19 +7,13 @@ use Rattle.hep_binding.proofs.Calls.{set-numbered}
 use Rattle.hep_private.specs.declared.record.Record.{Record}
 use Rattle.hep_private_laws.specs.Gone.{contents_with}
 use Rattle.hep_private_laws.specs.Saved.{AreOf, put_back}
-use Rattle.hep_proc.specs.declared.process.Local.{Local}
 use Rattle.hep_proc.specs.Stacks.{Stack, stack_with}
 use Rattle.hep_segments.specs.Segments.{SegmentValue}
-use Rattle.hep_state.specs.Words.{HasLevels, Snapshot, frame_under}
-use Rattle.hep_state.proofs.Runs.{set-same}
+use Rattle.hep_state.specs.Words.{HasLevels, IsSameButTop, Snapshot, frame_under}
+use Rattle.hep_state.proofs.Runs.{set-again, set-same}
+use Rattle.hep_state.proofs.Unchanged.{levels-same}
 use Rattle.hep_taking.specs.Levels.{first_of, snapshot_taken}
 use Rattle.hep_taking.specs.Saved.{saved_of, slots_of, snapshot_restored, with_slots}
-use Rattle.hep_taking.specs.Taking.{HasMovedOn}
-
-set-again : {A : Type 0} (xs : List A) (i : ℕ) (x y : A) → slice_set (slice_set xs i x) i y ≡ slice_set xs i y
-set-again [] i x y = refl
-set-again (z ∷ xs) zero x y = refl
-set-again (z ∷ xs) (suc i) x y = ap (λ ys. z ∷ ys) (set-again xs i x y)
 
 -- ---- cells
 
@@ -34,10 +27,6 @@ IsUndone = (first : ℕ) (contents : List Slot) (cells : List ℕ) (records : Li
 
 -- ---- a machine
 
-front-of : Local → List Local → Local
-front-of l [] = l
-front-of l (k ∷ ks) = k
-
 module _ (undone : IsUndone) {m : Snapshot} {p : ℕ} (levels : HasLevels m p) (s : SegmentValue) (cells : List ℕ) (of : AreOf cells s.records) where
   abbrev before-it : Stack
   before-it = stack_with levels.level levels.below levels.operands levels.pending
@@ -45,21 +34,29 @@ module _ (undone : IsUndone) {m : Snapshot} {p : ℕ} (levels : HasLevels m p) (
   abbrev moved : Stack
   moved = stack_with (record levels.level { index = s.end_index }) levels.below s.end_operands levels.pending
 
-  module _ (after : HasLevels (snapshot_taken levels s) p) where
-    same : stack_with after.level after.below after.operands after.pending ≡ moved
-    same =
-        same_Some (stack_with after.level after.below after.operands after.pending) moved (
-        sym after.kept ∙ set-numbered m.processes p before-it moved levels.kept)
+  -- where it has come to
+  pub taken : HasLevels (snapshot_taken levels s) p
+  taken =
+      record {
+        level = record levels.level { index = s.end_index };
+        below = levels.below;
+        operands = s.end_operands;
+        pending = levels.pending;
+        kept = set-numbered m.processes p before-it moved levels.kept;
+      }
 
+  module _ (after : HasLevels (snapshot_taken levels s) p) where
     level : after.level ≡ record levels.level { index = s.end_index }
-    unfolding front-of
-    level = ap (λ (k : Stack). front-of levels.level k.levels) same
+    unfolding taken
+    level = (levels-same after taken).0
 
     below : after.below ≡ levels.below
-    below = ap (λ (k : Stack). drop 1 k.levels) same
+    unfolding taken
+    below = (levels-same after taken).1
 
     pending : after.pending ≡ levels.pending
-    pending = ap (λ (k : Stack). k.pending) same
+    unfolding taken
+    pending = (levels-same after taken).3
 
     abbrev there : ℕ → List Slot
     there first = with_slots first cells (slots_of (first_of levels) cells m.arena.contents) (contents_with (first_of levels) m.arena.contents s.records)
@@ -79,9 +76,15 @@ module _ (undone : IsUndone) {m : Snapshot} {p : ℕ} (levels : HasLevels m p) (
         ∙ (λ i. record m { arena = record { contents = cells-back i; holes = m.arena.holes }; processes = stacks-back i })
 
 -- whatever operands it has since
-pub restored-moved : IsUndone → {m new : Snapshot} {p : ℕ} (levels : HasLevels m p) (after : HasLevels new p) (s : SegmentValue) (cells : List ℕ) → AreOf cells s.records → HasMovedOn levels s new → snapshot_restored after cells (saved_of levels cells) ≡ m
-restored-moved undone {m} {new} {p} levels after s cells of moved =
-    let later : SegmentValue = record s { end_operands = moved.0; end_index = moved.1 } in
+pub restored-moved : IsUndone → {m new : Snapshot} {p : ℕ} (levels : HasLevels m p) (after : HasLevels new p) (s : SegmentValue) (cells : List ℕ) → AreOf cells s.records → IsSameButTop p (snapshot_taken levels s) new
+    → snapshot_restored after cells (saved_of levels cells) ≡ m
+unfolding taken
+restored-moved undone {m} {new} {p} levels after s cells of but-top =
+    let came = but-top (taken undone levels s cells of) in
+    let later : SegmentValue = record s { end_operands = came.0; end_index = came.1 } in
+    let gone = stack_with (record levels.level { index = s.end_index }) levels.below s.end_operands levels.pending in
+    let on = stack_with (record levels.level { index = came.1 }) levels.below came.0 levels.pending in
+    let is : new ≡ snapshot_taken levels later = came.2 ∙ (λ i. record (snapshot_taken levels s) { processes = set-again m.processes (p - 1) gone on i }) in
     let all : (n : Snapshot) → snapshot_taken levels later ≡ n → (here : HasLevels n p) → snapshot_restored here cells (saved_of levels cells) ≡ m =
     λ n is. subst (λ n. (here : HasLevels n p) → snapshot_restored here cells (saved_of levels cells) ≡ m) is (λ here. restored-taken undone levels later cells of here) in
-    all new (sym moved.2) after
+    all new (sym is) after

@@ -16,6 +16,9 @@ pub record SavedValue : Type 0 where
 abbrev pub saved_value : List Slot → List Value → ℕ → SavedValue
 saved_value slots operands index = record { slots = slots; operands = operands; index = index }
 
+abbrev pub nothing_saved : SavedValue
+nothing_saved = saved_value [] [] 0
+
 abbrev pub saved_in : Saved → SavedValue
 saved_in s = saved_value s.slots.items s.operands.items s.index
 

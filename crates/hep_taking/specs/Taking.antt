@@ -1,12 +1,12 @@
 -- What is asked for and done where a segment's steps are made in a machine: docs/MACHINE.md, "Private steps" and "Workers".
-use Rattle.std.specs.Prelude.{◌≡◌, ◌≤◌, ◌↔◌, IsTrue, ℕ, Bool, List, length}
-use Rattle.hep_machine.specs.Words.{Units, Value}
+use Rattle.std.specs.Prelude.{◌≡◌, ◌≤◌, ◌↔◌, IsTrue, ℕ, Bool, length}
+use Rattle.hep_machine.specs.Words.{Units}
 use Rattle.hep_code.specs.Words.{deepest}
 use Rattle.hep_step.specs.Simulation.{unit_code}
 use Rattle.hep_segments.specs.declared.ticket.TicketId.{TicketId}
 use Rattle.hep_segments.specs.Segments.{IsKept, IsMadeFrom, SegmentValue, TicketValue, is_next_private}
 use Rattle.hep_state.specs.declared.machine.Machine.{Machine}
-use Rattle.hep_state.specs.Words.{HasLevels, IsItsTurn, Snapshot, snapshot_of}
+use Rattle.hep_state.specs.Words.{HasLevels, IsItsTurn, snapshot_of}
 use Rattle.hep_taking.specs.Levels.{snapshot_taken, start_in, ticket_of}
 use Rattle.hep_taking.specs.OwnCells.{AreOwnCells, own_cells_of}
 use Rattle.hep_taking.specs.Saved.{SavedValue, saved_of, snapshot_restored}
@@ -62,8 +62,3 @@ pub record CanRestore (owned : Owned) (p : ℕ) (saved : SavedValue) (m : Machin
 abbrev pub HasRestored : Units → ℕ → SavedValue → Machine → Machine → Type 0
 HasRestored program p saved old new =
     (levels : HasLevels (snapshot_of old) p) → snapshot_of new ≡ snapshot_restored levels (own_cells_of program levels.level.unit) saved
-
--- the steps of a segment were made, and the process may have other operands since, at another index
-abbrev pub HasMovedOn : {m : Snapshot} {p : ℕ} → HasLevels m p → SegmentValue → Snapshot → Type 0
-HasMovedOn levels s new =
-    (operands : List Value) × (index : ℕ) × (new ≡ snapshot_taken levels (record s { end_operands = operands; end_index = index }))

@@ -4,11 +4,10 @@ ghost use Rattle.hep_machine.specs.Words.{Units, Value};
 ghost use Rattle.hep_source.specs.declared.value.Value.{Value as AValue};
 ghost use Rattle.hep_segments.specs.declared.ticket.TicketId.{TicketId as ATicketId};
 ghost use Rattle.hep_segments.specs.Segments.{IsComputed, IsMadeFrom, SegmentValue, Start};
-ghost use Rattle.hep_state.specs.Words.{HasLevels, Snapshot};
+ghost use Rattle.hep_state.specs.Words.{HasLevels, IsSameButTop, Snapshot};
 ghost use Rattle.hep_taking.specs.Levels.{snapshot_taken, start_in, ticket_of};
 ghost use Rattle.hep_taking.specs.OwnCells.{own_cells_of};
 ghost use Rattle.hep_taking.specs.Saved.{saved_of, snapshot_restored};
-ghost use Rattle.hep_taking.specs.Taking.{HasMovedOn};
 
 /// A segment that is computed of a ticket with copies of all own cells has the steps that come next where the ticket is from.
 pub fn tickets_have_what_is_read()
@@ -19,11 +18,11 @@ pub fn tickets_have_what_is_read()
     hep_private_laws::laws::private_steps_store_in_own_cells();
 }
 
-/// Where the steps of a segment were made, and constants may have become operands since, what was kept of the process before, with all its
-/// own cells, gives back the whole machine once it is put back.
+/// Where the steps of a segment were made, and nothing else has changed since but the operands and the index of the process, what was kept of
+/// the process before, with all its own cells, gives back the whole machine once it is put back.
 pub fn restored_machines_are_as_before()
     ensures { (program : Units) (m new : Snapshot) (p : ℕ) (s : SegmentValue) (levels : HasLevels m p) (after : HasLevels new p)
-        → IsMadeFrom program (start_in levels) s → HasMovedOn levels s new
+        → IsMadeFrom program (start_in levels) s → IsSameButTop p (snapshot_taken levels s) new
         → snapshot_restored after (own_cells_of program levels.level.unit) (saved_of levels (own_cells_of program levels.level.unit)) ≡ m }
 {
     hep_private_laws::laws::private_steps_store_in_own_cells();

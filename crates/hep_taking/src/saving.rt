@@ -1,7 +1,7 @@
 //! What a process has for itself, kept while private steps are made.
 ghost use Rattle.std.specs.Prelude.{◌≡◌, OnOk};
 ghost use Rattle.hep_state.specs.Words.{KeepsRoom};
-ghost use Rattle.hep_taking.specs.Saved.{saved_in};
+ghost use Rattle.hep_taking.specs.Saved.{nothing_saved, saved_in};
 ghost use Rattle.hep_taking.specs.Taking.{CanRestore, CanStart, HasRestored, IsSavedOf};
 
 use crate::own_cells::Owned;
@@ -21,7 +21,9 @@ pub struct Saved {
 
 impl Saved {
     /// Room in which nothing is kept so far.
-    pub fn new(alloc: Global) -> Saved {
+    pub fn new(alloc: Global) -> Saved
+        ensures { saved_in result ≡ nothing_saved }
+    {
         Saved {
             slots: Vec::new(alloc),
             operands: Vec::new(alloc),

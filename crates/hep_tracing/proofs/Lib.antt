@@ -1,2 +1,4 @@
 mod PureSteps
 mod PlainSteps
+mod ToldSteps
+mod Printed

@@ -19,10 +19,10 @@ use Rattle.hep_tracing.specs.Plain.{IsNameOfCalled, is_plain, plain_text, resume
 use Rattle.hep_tracing.specs.Pure.{pure_text}
 use Rattle.hep_tracing.proofs.PureSteps.{pure-step}
 
-none-zero : (n : ℕ) → nat_eq (suc n) 0 ≡ false
+pub none-zero : (n : ℕ) → nat_eq (suc n) 0 ≡ false
 none-zero n = elim (cases_Bool (nat_eq (suc n) 0)) [ inl e ↦ absurd (omega (arith, eqb-true (suc n) 0 e)) | inr d ↦ d ]
 
-arity-is : (variables : Name → Variable) (r : Redex) → arity (evaluation_of variables r) ≡ length (operands_of_redex r)
+pub arity-is : (variables : Name → Variable) (r : Redex) → arity (evaluation_of variables r) ≡ length (operands_of_redex r)
 arity-is variables (reading r) = refl
 arity-is variables (signing s v) = refl
 arity-is variables (negating v) = refl
@@ -31,7 +31,7 @@ arity-is variables (applying f vs) = refl
 arity-is variables (testing f r) = refl
 
 -- the last operands are those of the redex
-last-are : (before vs operands : List Value) (n : ℕ) → operands ≡ before ++ vs → n ≡ length vs → drop (length operands - n) operands ≡ vs
+pub last-are : (before vs operands : List Value) (n : ℕ) → operands ≡ before ++ vs → n ≡ length vs → drop (length operands - n) operands ≡ vs
 last-are before vs operands n are many =
     let here : length operands - n ≡ length before = omega (arith, ap length are, length-append before vs, many) in
     ap₂ drop here are ∙ drop-append_seam before vs

@@ -1,5 +1,5 @@
 -- The step at a redex of values alone is told by its operation and its operands.
-use Rattle.std.proofs.Common.{◌≡◌, ℕ, true, false, true≢false, Some, Result, Ok, Err, refl, sym, ap, ◌∙◌, subst}
+use Rattle.std.proofs.Common.{◌≡◌, ℕ, true, true≢false, Some, Result, Ok, Err, refl, sym, ap, ◌∙◌, subst}
 use Rattle.hep_code.specs.declared.instruction.Evaluation.{Evaluation}
 use Rattle.hep_code.specs.declared.variable.Variable.{Variable}
 use Rattle.hep_code.specs.Words.{evaluation_of, operands_of_redex}

@@ -1,2 +1,4 @@
 pub mod Pure
 pub mod Plain
+pub mod Told
+pub mod Seen

@@ -1,14 +1,18 @@
 //! Laws of what is told.
-ghost use Rattle.std.specs.Prelude.{◌≡◌, ℕ, ◌+◌, List, None, Some, true, length, nat_eq};
+ghost use Rattle.std.specs.Prelude.{◌≡◌, ℕ, ◌+◌, ◌++◌, ◌∷◌, [], List, None, Some, true, length, nat_eq};
 ghost use Rattle.hep_code.specs.declared.instruction.Evaluation.{Evaluation};
 ghost use Rattle.hep_code.specs.declared.instruction.Instruction.{Instruction};
 ghost use Rattle.hep_code.specs.declared.instruction.Operation.{Operation};
 ghost use Rattle.hep_code.specs.declared.variable.Variable.{Variable};
 ghost use Rattle.hep_code.specs.Words.{Addresses, IsNext, addressed_unit, evaluation_of, operands_of_redex};
-ghost use Rattle.hep_machine.specs.Words.{Level, Name, Process, Redex, State, Top, Units, Value, evaluating, living, next_of, step_result_of, stepped, unit_at, unit_of, unit_on_top, wants};
+ghost use Rattle.hep_machine.specs.declared.record.Item.{Item};
+ghost use Rattle.hep_machine.specs.Words.{Level, Name, Process, Redex, State, Top, Units, Value, does, evaluating, living, next_of, printing, step_result_of, stepped, unit_at, unit_of, unit_on_top, wants};
 ghost use Rattle.hep_traces.specs.Deeds.{deed_text, fault_added};
 ghost use Rattle.hep_tracing.specs.Plain.{IsNameOfCalled, is_plain, plain_text};
 ghost use Rattle.hep_tracing.specs.Pure.{is_pure, pure_text};
+ghost use Rattle.hep_tracing.specs.Seen.{IsSeen};
+ghost use Rattle.hep_tracing.specs.Told.{told_text};
+ghost use Rattle.hep_tracing.specs.declared.told.Seen.{Seen};
 
 /// The step of a process at a redex of values alone does what is told of the redex's operation and operands.
 pub fn pure_steps_are_told()
@@ -32,4 +36,24 @@ pub fn plain_steps_are_told()
         → deed_text program t (step_result_of program t.process t.state)
         ≡ plain_text called (record { activation = length t.state.activations + 1; process = length t.state.processes + 1; alone = nat_eq (length t.below) 0 })
         o operands }
+{}
+
+/// The step of a process that is no fault does what is told of its operation and operands by what was seen of it.
+pub fn steps_are_told()
+    ensures { (program : Units) (t : Top) (addresses : Addresses) (after : State) (seen : Seen) (operands : List Value) (index : ℕ)
+        (o : Operation) (behind : List Instruction)
+        → living t.state t.process ≡ Some (t.level, t.below) → step_result_of program t.process t.state ≡ stepped after
+        → fault_added t.state.faults after.faults ≡ None
+        → IsSeen program t (addresses.variables (unit_of t.state t.level.activation)) after seen (next_of (unit_on_top program t) t.level.work)
+        → IsNext (addressed_unit program addresses (unit_of t.state t.level.activation)) t.level.statement t.level.work operands index
+        (next_of (unit_on_top program t) t.level.work) o behind
+        → deed_text program t (step_result_of program t.process t.state) ≡ told_text seen o operands }
+{}
+
+/// What a step printed is the last record after it.
+pub fn prints_are_last_records()
+    ensures { (program : Units) (t : Top) (after : State) (items : List Item)
+        → living t.state t.process ≡ Some (t.level, t.below) → step_result_of program t.process t.state ≡ stepped after
+        → next_of (unit_on_top program t) t.level.work ≡ does (printing items)
+        → after.records ≡ t.state.records ++ items ∷ [] }
 {}

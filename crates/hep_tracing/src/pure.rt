@@ -23,7 +23,7 @@ pub(crate) fn first(operands: &[Value]) -> Value
     }
 }
 
-fn second(operands: &[Value]) -> Value
+pub(crate) fn second(operands: &[Value]) -> Value
     ensures { result ≡ second_operand operands.now }
 {
     match operands {

@@ -2,7 +2,7 @@ use Rattle.std.proofs.Common.{ℕ, ◌<◌, List, ap, length, take, subst, inl, 
 use Rattle.std.specs.Io.KnownBytes.{Appends}
 use Rattle.hep_entries.specs.Entries.{Kept}
 use Rattle.hep_run.specs.Delivery.{WritesMessages}
-use Rattle.hep_run.specs.Transcripts.{outcome_of}
+use Rattle.hep_outcome.specs.Transcripts.{outcome_of}
 use Rattle.hep_run.proofs.Messages.{of_either, left_by}
 use Rattle.hep_run.proofs.deliver.deliver.Goals as goal
 

@@ -1,4 +1,5 @@
-use Rattle.hep_run.specs.Draws.{IsDrawnOutcome, IsLotOutcome}
+use Rattle.hep_outcome.specs.Draws.{IsDrawnOutcome}
+use Rattle.hep_run.specs.Outcome.{IsLotOutcome}
 use Rattle.hep_run.specs.Sources.{IsRefusedProgram, IsRunnable}
 use Rattle.hep_run.proofs.Large.{large-left}
 use Rattle.hep_run.proofs.Outcomes.{made_left}

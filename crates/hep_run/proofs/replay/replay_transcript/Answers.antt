@@ -1,6 +1,7 @@
 use Rattle.std.proofs.Common.{inr}
 use Rattle.hep_run.specs.Sources.{IsRefusedProgram, IsRunnable}
-use Rattle.hep_run.proofs.Wanted.{may-read-on, on-err-anyway, on-err-so, program-small}
+use Rattle.hep_outcome.proofs.Wanted.{on-err-anyway, on-err-so}
+use Rattle.hep_run.proofs.Wanted.{may-read-on, program-small}
 use Rattle.hep_run.proofs.replay.replay_transcript.Goals as goal
 
 pub returns-in-Ok-clause-unmade : goal.returns-in-Ok-clause-unmade

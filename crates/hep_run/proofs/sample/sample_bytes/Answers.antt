@@ -1,9 +1,9 @@
 use Rattle.std.proofs.Common.{◌≡◌, Bool, List, [], ap, inl, inr, ℕ}
-use Rattle.hep_run.specs.declared.options.SampleOptions.{SampleOptions}
-use Rattle.hep_run.specs.Outcome.{Outcome}
+use Rattle.hep_outcome.specs.declared.options.SampleOptions.{SampleOptions}
+use Rattle.hep_outcome.specs.Outcome.{Outcome}
 use Rattle.hep_run.specs.Sources.{IsRefusedProgram, IsRunnable}
-use Rattle.hep_run.specs.Tallies.{IsSampleOutcome, IsSampled}
-use Rattle.hep_run.specs.Transcripts.{outcome_of}
+use Rattle.hep_run.specs.Samples.{IsSampleOutcome, IsSampled}
+use Rattle.hep_outcome.specs.Transcripts.{outcome_of}
 use Rattle.hep_run.proofs.Accepted.{left_alone}
 use Rattle.hep_run.proofs.Large.{large-delivered, large-status, wanted-small}
 use Rattle.hep_run.proofs.sample.sample_bytes.Goals as goal

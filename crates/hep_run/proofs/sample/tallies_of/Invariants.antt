@@ -1,4 +1,4 @@
-use Rattle.hep_run.specs.Tallies.{IsTallied}
+use Rattle.hep_run.specs.Samples.{IsTallied}
 use Rattle.hep_run.proofs.sample.tallies_of.Given as goal
 
 abbrev pub invariant-loop-run : goal.invariant-loop-run

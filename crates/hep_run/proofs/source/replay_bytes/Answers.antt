@@ -1,4 +1,5 @@
-use Rattle.hep_run.specs.Replay.{IsReplayOutcome, IsTextOutcome}
+use Rattle.hep_outcome.specs.Replay.{IsTextOutcome}
+use Rattle.hep_run.specs.Outcome.{IsReplayOutcome}
 use Rattle.hep_run.specs.Sources.{IsRefusedProgram, IsRunnable}
 use Rattle.hep_run.proofs.Large.{large-left}
 use Rattle.hep_run.proofs.Outcomes.{made_left}

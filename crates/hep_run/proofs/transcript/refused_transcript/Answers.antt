@@ -1,5 +1,6 @@
 use Rattle.std.proofs.Common.{sym, ◌∙◌}
-use Rattle.hep_run.proofs.Wanted.{large-refused, on-err-anyway}
+use Rattle.hep_outcome.proofs.Wanted.{on-err-anyway}
+use Rattle.hep_run.proofs.Wanted.{large-refused}
 use Rattle.hep_run.proofs.transcript.refused_transcript.Goals as goal
 
 pub returns-then-is_too_large-clause-made : goal.returns-then-is_too_large-clause-made

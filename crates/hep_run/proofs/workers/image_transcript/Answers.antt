@@ -1,8 +1,8 @@
 use Rattle.std.proofs.Common.{rules, ap, inl, inr, subst, sym, ◌∙◌}
 use Rattle.hep_workers.specs.Reports.{IsReport, IsWorkFault}
-use Rattle.hep_run.specs.Outcome.{full_with}
-use Rattle.hep_run.specs.Transcripts.{outcome_of}
-use Rattle.hep_run.proofs.Wanted.{noted-full, on-err-anyway, on-err-so}
+use Rattle.hep_outcome.specs.Outcome.{full_with}
+use Rattle.hep_outcome.specs.Transcripts.{outcome_of}
+use Rattle.hep_outcome.proofs.Wanted.{noted-full, on-err-anyway, on-err-so}
 use Rattle.hep_run.proofs.Worked.{fits-by-number, fits-else, is-refusal, outcome-worked}
 use Rattle.hep_run.proofs.workers.image_transcript.Goals as goal
 use Rattle.std.proofs.lemmas.Result.{IfOk-weaker}

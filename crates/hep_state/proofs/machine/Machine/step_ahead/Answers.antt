@@ -1,11 +1,11 @@
-use Rattle.std.proofs.Common.{◌≡◌, ℕ, ◌-◌, ◌<◌, ◌≤◌, false, List, ◌∷◌, drop, length, refl, sym, ap, ◌∙◌, subst, arith, vec_capacity, length-set}
+use Rattle.std.proofs.Common.{◌≡◌, ℕ, ◌-◌, ◌<◌, ◌≤◌, Bool, false, List, ◌∷◌, drop, length, refl, sym, ap, ◌∙◌, subst, arith, vec_capacity, length-set}
 use Rattle.std.specs.Vec.{with_item}
 use Rattle.hep_machine.specs.Words.{Units}
 use Rattle.hep_machine.specs.State.{Level as SourceLevel, Process as SourceProcess}
 use Rattle.hep_code.specs.declared.instruction.Instruction.{Instruction}
 use Rattle.hep_code.specs.declared.instruction.Instruction.TheVariants.{Step}
 use Rattle.hep_code.specs.declared.instruction.Operation.{Operation}
-use Rattle.hep_code.specs.declared.instruction.Operation.TheVariants.{Call, Create, Refer, Purge, Resume}
+use Rattle.hep_code.specs.declared.instruction.Operation.TheVariants.{Call, Create, Refer, Purge, Resume, Return}
 use Rattle.hep_code.specs.Words.{IsPastPushes, values_ahead, deepest}
 use Rattle.hep_step.specs.Simulation.{IsNotLeftOut, is_left_out, unit_code}
 use Rattle.hep_proc.specs.declared.process.Local.{Local}
@@ -35,6 +35,15 @@ none-left-out code index none line o behind ahead = by_operation o (subst HasNon
   by_operation (Purge count next) h = absurd h
   by_operation (Resume next) h = absurd h
   by_operation _ h = refl
+
+-- where RETURN stands
+is-left-there : List Instruction → Bool
+is-left-there (Step line o ∷ behind) = is_left_out o
+is-left-there _ = false
+
+return-left-out : (code : List Instruction) (index line : ℕ) (behind : List Instruction) → drop index code ≡ Step line Return ∷ behind → IsNotLeftOut code index
+unfolding is-left-there
+return-left-out code index line behind found other o rest ahead = sym (ap is-left-there (sym found ∙ ahead))
 
 pub top-unit-requires : goal.top-unit-requires
 top-unit-requires c = some-levels-at (process-at c.args.self.now c.args.p c.requires.after.2.numbers c.place-at.ensures c.requires.living.kept c.index_mut-process.ensures.value)
@@ -83,6 +92,13 @@ found-ahead program old levels turns past (ahead.Purge purge) found = λ cells c
 found-ahead program old levels turns past (ahead.Resume next) found = λ cells choices after.
     let turn = turns cells choices after in
     record { levels = levels; top = turn.0; holds = (found.0, record { turning = turn.1; behind = found.1; ahead = found.2 }) }
+found-ahead program old levels turns past ahead.Return found =
+    record {
+      operation = record { levels = levels; past = past; plain = return-left-out (unit_code program levels.level.unit) levels.level.index found.0 found.1 found.2 };
+      line = found.0;
+      behind = found.1;
+      ahead = found.2;
+    }
 found-ahead program old levels turns past ahead.Other none =
     record { levels = levels; past = past; plain = none-left-out (unit_code program levels.level.unit) levels.level.index none }
 

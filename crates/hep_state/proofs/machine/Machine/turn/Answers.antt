@@ -1,12 +1,22 @@
 use Rattle.std.proofs.Common.{◌≡◌, ◌≤◌, ℕ, List, None, arith, refl, sym, ap, ◌∙◌, subst}
 use Rattle.std.proofs.lemmas.Result.{IfErr-weaker, IfOk-weaker, on_err_weaker}
 use Rattle.hep_machine.specs.Words.{schedule_of}
+use Rattle.hep_code.specs.declared.instruction.Instruction.{Instruction}
+use Rattle.hep_machine.specs.State.{Level as SourceLevel, Process as SourceProcess}
 use Rattle.hep_blocked.specs.Rolls.{Roll}
+use Rattle.hep_step.specs.Changes.{changed_ahead}
+use Rattle.hep_step.specs.Effects.{effect_ahead, returns}
+use Rattle.hep_step.specs.Performed.{changed_in, performed, snapshot}
+use Rattle.hep_step.specs.Simulation.{unit_arrays, unit_code}
 use Rattle.hep_state.specs.declared.machine.Machine.{Machine}
 use Rattle.hep_state.specs.declared.turn.Turned.{Turned}
 use Rattle.hep_state.specs.declared.turn.Turned.TheVariants.{Stepped}
-use Rattle.hep_state.specs.Words.{HasCallAhead, HasPurgeAhead, HasResumeAhead, HasTurned, IsMachineAfter, IsSeenSame, IsTurn, IsUntaken, IsUnturned, KeepsRollFor, Snapshot, cells_of, snapshot_of, turn_of}
-use Rattle.hep_state.proofs.Unchanged.{alone-after, as-large, machine-written, on-err, own-size, seen-again, seen-shown, settled-same, shown-written, top-again, top-shown, without-memory, as-many}
+use Rattle.hep_state.specs.Words.{Changes, HasCallAhead, HasPurgeAhead, HasResumeAhead, HasTurned, IsAtReturn, IsEffectOf, IsEnding, IsMachineAfter, IsSeenSame, IsToEnd, IsTopRunning, IsTurn, IsTurning, IsUntaken, IsUnturned, KeepsRollFor, Snapshot, cells_of, snapshot_of, top_frame, turn_of, turn_with}
+use Rattle.hep_state.proofs.Changes.{changes-only}
+use Rattle.hep_state.proofs.Runs.{in-turn}
+use Rattle.hep_state.proofs.Taken.{ahead-simulated}
+use Rattle.hep_state.proofs.Tops.{turning}
+use Rattle.hep_state.proofs.Unchanged.{alone-after, as-large, machine-written, on-err, own-size, rooms-of, seen-again, seen-shown, settled-same, shown-written, top-again, top-shown, without-memory, as-many, turned-so}
 use Rattle.hep_state.proofs.machine.Machine.turn.Goals.{After-reserve, After-step_ahead}
 use Rattle.hep_state.proofs.machine.Machine.turn.Goals as goal
 
@@ -170,6 +180,63 @@ pub returns-in_ok-take_resume-in-Resume-clause-turned : goal.returns-in_ok-take_
 returns-in_ok-take_resume-in-Resume-clause-turned c =
     turned (goal.at.returns-in_ok-take_resume-in-Resume-clause-turned c).After-step_ahead (Stepped None) c.take_resume.new.self c.in_ok-take_resume-in-Resume.ensures.turned
 
+-- ---- RETURN
+
+-- the activation ends, and no cell is filled or emptied
+module _ (c : After-step_ahead) (at : IsAtReturn c.args.image.now c.args.p (snapshot_of c.step_ahead.new.self)) where
+  turn-there : (top : SourceLevel × SourceProcess) × IsTurning (turn_with c.args.image.now (cells c) (choices c) at.operation.levels top)
+  turn-there = turning c.args.p (looked c).after at.operation.levels (c.step_ahead.ensures.same.halted ∙ c.requires.running)
+
+  runs : IsTopRunning (turn_with c.args.image.now (cells c) (choices c) at.operation.levels turn-there.0) turn-there.1
+  runs = c.tops_are_running.ensures.running (turn_with c.args.image.now (cells c) (choices c) at.operation.levels turn-there.0) c.is_runnable.ensures.accepted c.is_runnable.ensures.main turn-there.1
+
+  ends : IsToEnd c.args.image.now (cells c) (choices c) c.args.p (snapshot_of c.step_ahead.new.self) returns
+  ends =
+      let t = turn_with c.args.image.now (cells c) (choices c) at.operation.levels turn-there.0 in
+      let simulated = ahead-simulated turn-there.1 runs at.operation.past at.operation.plain in
+      let is = ap (λ rows. effect_ahead (unit_code t.program t.level.unit) (unit_arrays t.program t.level.unit) (top_frame t).first rows t.machine.arena.contents t.operands t.level.index) at.ahead in
+      in-turn turn-there.1 (λ t. IsEnding t returns) (record { turning = turn-there.1; simulated = subst (IsEffectOf t turn-there.1) is simulated })
+
+  untouched : Changes c.args.image.now (cells c) (choices c) c.args.p None
+  untouched =
+      let t = turn_with c.args.image.now (cells c) (choices c) at.operation.levels turn-there.0 in
+      let told = changes-only turn-there.1 runs at.operation.past at.operation.plain in
+      let effect = λ (rows : List Instruction). effect_ahead (unit_code t.program t.level.unit) (unit_arrays t.program t.level.unit) (top_frame t).first rows t.machine.arena.contents t.operands t.level.index in
+      let changed = λ (rows : List Instruction). changed_ahead (unit_arrays t.program t.level.unit) (top_frame t).first rows t.machine.arena.contents t.operands in
+      let is = ap (λ (rows : List Instruction). changed_in (performed (effect rows) (changed rows) (snapshot t.machine.arena.contents t.operands t.level.index)).0) at.ahead in
+      subst (Changes c.args.image.now (cells c) (choices c) c.args.p) is told
+
+pub finish-requires : goal.finish-requires
+finish-requires c =
+    let before = (goal.at.finish-requires c).After-step_ahead in
+    (c.args.image.now, cells before, choices before, ends before c.in-Return.ensures.ahead, (looked before).numbers)
+
+pub returns-in_err-reserve-in-Return-clause-unturned : goal.returns-in_err-reserve-in-Return-clause-unturned
+returns-in_err-reserve-in-Return-clause-unturned c =
+    let before = (goal.at.returns-in_err-reserve-in-Return-clause-unturned c).After-step_ahead in
+    let r = c.from_residual-in_err-reserve-in-Return in
+    without-memory (IsUntaken c.args.image.now c.args.history.now.items c.args.p c.args.self.now) r.result r.ensures.1 (
+    c.other_steps_find_gaps.ensures c.args.image.now (cells before) (choices before) (snapshot_of c.step_ahead.new.self) c.args.p c.is_runnable.ensures.accepted c.is_runnable.ensures.main (looked before).after (c.in-Return.ensures.same.halted ∙ c.requires.running) c.in-Return.ensures.ahead.operation)
+
+pub returns-in_err-reserve-in-Return-clause-refused : goal.returns-in_err-reserve-in-Return-clause-refused
+returns-in_err-reserve-in-Return-clause-refused c =
+    let before = (goal.at.returns-in_err-reserve-in-Return-clause-refused c).After-step_ahead in
+    let r = c.from_residual-in_err-reserve-in-Return in
+    on-err r.result r.ensures.0 (record {
+      after = looked before;
+      same = c.in-Return.ensures.same;
+      top = settled-same c.args.p c.args.image.now (snapshot_of c.args.self.now) (snapshot_of c.step_ahead.new.self) c.in-Return.ensures.top;
+      made = as-many c.args.self.now c.step_ahead.new.self c.in-Return.ensures.same;
+    })
+
+pub returns-in_ok-reserve-in-Return-clause-turned : goal.returns-in_ok-reserve-in-Return-clause-turned
+returns-in_ok-reserve-in-Return-clause-turned c =
+    let program = c.args.image.now in
+    let before = (goal.at.returns-in_ok-reserve-in-Return-clause-turned c).After-step_ahead in
+    let at = c.in-Return.ensures.ahead in
+    turned-so program (cells before) (choices before) c.args.p c.finish.new.self (untouched before at) (c.finish.ensures.stepped program (cells before) (choices before) (ends before at))
+    (c.finish.ensures.rooms program (cells before) (rooms-of program (cells before) (choices before) (between before) (looked before)))
+
 -- ---- who is ready and who waits stays, where no process is made
 
 kept-for : (m : Machine) (roster : Roll) → m.made ≤ roster.room → KeepsRollFor m roster roster
@@ -190,3 +257,11 @@ returns-in_err-take_operation-in-Other-clause-roster c =
 pub returns-in_ok-take_operation-in-Other-clause-roster : goal.returns-in_ok-take_operation-in-Other-clause-roster
 returns-in_ok-take_operation-in-Other-clause-roster c =
     kept-for c.take_operation.new.self c.args.roster.now (omega (arith, c.requires.numbers, as-many c.args.self.now c.step_ahead.new.self c.in-Other.ensures.same, c.take_operation.ensures.made))
+
+pub returns-in_err-reserve-in-Return-clause-roster : goal.returns-in_err-reserve-in-Return-clause-roster
+returns-in_err-reserve-in-Return-clause-roster c =
+    kept-for c.step_ahead.new.self c.args.roster.now (omega (arith, c.requires.numbers, as-many c.args.self.now c.step_ahead.new.self c.in-Return.ensures.same))
+
+pub returns-in_ok-reserve-in-Return-clause-roster : goal.returns-in_ok-reserve-in-Return-clause-roster
+returns-in_ok-reserve-in-Return-clause-roster c =
+    kept-for c.finish.new.self c.args.roster.now (omega (arith, c.requires.numbers, as-many c.args.self.now c.step_ahead.new.self c.in-Return.ensures.same, c.finish.ensures.made))

@@ -1,0 +1,6 @@
+mod Kept
+mod Along
+mod Looks
+mod Watched
+mod Found
+mod Beginning

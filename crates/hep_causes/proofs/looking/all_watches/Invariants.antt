@@ -1,0 +1,14 @@
+use Rattle.std.proofs.Common.{◌≡◌, ◌++◌, ◌-◌, suc, length, map}
+use Rattle.hep_core.specs.Value.{state_of}
+use Rattle.hep_machine.specs.Words.{schedule_of}
+use Rattle.hep_causes.specs.declared.watch.Watch.{Watch}
+use Rattle.hep_causes.specs.Watches.{AreNewWatches, listed_from}
+use Rattle.hep_causes.proofs.looking.all_watches.Given as goal
+
+abbrev pub invariant-loop-index : goal.invariant-loop-index
+invariant-loop-index l =
+    record {
+      listed : map (λ (w : Watch). w.listed) l.watches.items ++ listed_from l.core.program l.core.history (suc l.index) (length (state_of l.core).processes - l.index)
+          ≡ listed_from l.core.program l.core.history 1 (length (state_of l.core).processes);
+      each : AreNewWatches l.core.program l.core.cells (schedule_of l.core.history) l.watches.items;
+    }

@@ -1,0 +1,8 @@
+use Rattle.std.proofs.Common.{◌≡◌, ◌++◌, drop}
+use Rattle.hep_core.specs.Value.{state_of}
+use Rattle.hep_causes.specs.Watches.{reasons_for}
+use Rattle.hep_causes.proofs.reading.reasons_for.Given as goal
+
+abbrev pub invariant-loop-watch : goal.invariant-loop-watch
+invariant-loop-watch l =
+    l.reasons.items ++ reasons_for (state_of l.core) (drop l.watch-index l.watches) ≡ reasons_for (state_of l.core) l.watches

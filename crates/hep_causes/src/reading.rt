@@ -1,0 +1,104 @@
+//! Why processes wait after a history.
+ghost use Rattle.std.specs.Prelude.{◌≡◌, [], IfOk, OnOk};
+ghost use Rattle.hep_core.specs.Value.{state_of};
+ghost use Rattle.hep_history.specs.Replays.{standing};
+ghost use Rattle.hep_machine.specs.Words.{schedule_of};
+ghost use Rattle.hep_reasons.specs.Reasons as words;
+ghost use Rattle.hep_causes.specs.Watches.{AreFound, AreNewWatches, IsReplayed, WaitTheSame, reasons_for as all_reasons};
+
+use crate::looking::{all_watches, look};
+use crate::making::make_entries;
+use crate::watch::Watch;
+use hep_core::{Core, NewFault};
+use hep_history::History;
+use hep_history::replays::MOST_ENTRIES;
+use hep_reasons::{Reason, append_reasons};
+use hep_states::append_head;
+use std::alloc::{AllocError, Global};
+
+// A core of the same image and arena that has made no turn.
+fn begin_again(alloc: Global, core: &Core, entries: &History) -> Result<Core, AllocError>
+    requires { IsReplayed core.now entries.now.items }
+    ensures { IfOk result (λ again. again ≡ standing core.now.program core.now.cells []) }
+{
+    let image = core.image().copy(alloc)?;
+    match Core::new(alloc, image, core.cells(), MOST_ENTRIES) {
+        Ok(again) => Ok(again),
+        Err(NewFault::NoMemory) => Err(AllocError),
+        Err(NewFault::ArenaFull) => unreachable!(),
+    }
+}
+
+// Finds the latest changes of what the processes of these watches wait for.
+fn find_changes(
+    alloc: Global,
+    core: &Core,
+    watches: &mut Vec<Watch>,
+    entries: &History,
+) -> Result<(), AllocError>
+    requires replayed { IsReplayed core.now entries.now.items }
+    requires watches { AreNewWatches core.now.program core.now.cells (schedule_of core.now.history) watches.old.items }
+    ensures found { OnOk result (AreFound core.now entries.now.items watches.new.items) }
+    ensures same { OnOk result (WaitTheSame watches.old.items watches.new.items) }
+{
+    if watches.is_empty() {
+        return Ok(());
+    }
+    core.headline();
+    let mut again = begin_again(alloc, core, entries)?;
+    look(&again, watches, 0, None);
+    make_entries(&mut again, watches, entries)?;
+    Ok(())
+}
+
+// Why the process of a watch waits.
+fn reason_for(core: &Core, watch: &Watch) -> Reason
+    ensures { result ≡ words.reason_with (state_of core.now) watch.now.listed watch.now.latest }
+{
+    let lives = match watch.latest {
+        Some(change) => core.lives(change.place.process),
+        None => false,
+    };
+    Reason {
+        listed: watch.listed,
+        latest: watch.latest,
+        lives,
+    }
+}
+
+fn reasons_for(alloc: Global, core: &Core, watches: &[Watch]) -> Result<Vec<Reason>, AllocError>
+    ensures { IfOk result (λ reasons. reasons.items ≡ all_reasons (state_of core.now) watches.now) }
+{
+    let mut reasons = Vec::new(alloc);
+    for watch in watches {
+        reasons.push(reason_for(core, watch))?;
+    }
+    Ok(reasons)
+}
+
+// Why processes wait after the history of a core that has made these entries.
+fn find_reasons(alloc: Global, core: &Core, entries: &History) -> Result<Vec<Reason>, AllocError>
+    requires { IsReplayed core.now entries.now.items }
+    ensures { IfOk result (λ reasons. reasons.items ≡ words.reasons_of core.now.program entries.now.items) }
+{
+    let mut watches = all_watches(alloc, core)?;
+    find_changes(alloc, core, &mut watches, entries)?;
+    reasons_for(alloc, core, &watches)
+}
+
+/// Why processes wait after the history of a core that has made these entries, as a text. The entries are made once more for it, unless
+/// nobody waits.
+///
+/// # Errors
+///
+/// Only where memory was refused.
+pub fn why_text(alloc: Global, core: &Core, entries: &History) -> Result<Vec<u8>, AllocError>
+    requires { IsReplayed core.now entries.now.items }
+    ensures { IfOk result (λ text. text.items ≡ words.why_text core.now.program entries.now.items) }
+{
+    let reasons = find_reasons(alloc, core, entries)?;
+    let mut text = Vec::new(alloc);
+    append_head(&mut text, entries.len())?;
+    append_reasons(alloc, &mut text, core.image(), &reasons)?;
+    Ok(text)
+}

@@ -1,0 +1,5 @@
+mod Schedules
+mod Outcomes
+mod Drawings
+pub mod Counts
+pub mod Wanted

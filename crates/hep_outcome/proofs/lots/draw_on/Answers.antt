@@ -1,0 +1,83 @@
+use Rattle.std.proofs.Common.{◌≡◌, ◌∙◌, ℕ, [], Some, ap, arith, length, sym}
+use Rattle.hep_core.specs.declared.fault.ChooseFault.TheVariants.{NoSuchProcess, Stopped}
+use Rattle.hep_core.specs.Value.{CoreValue}
+use Rattle.hep_lots.specs.Drawing.{next_drawn}
+use Rattle.hep_lots.specs.Kept.{LotsValue, lots_after, lots_next, next_in}
+use Rattle.hep_lots.proofs.Draws.{lots-step}
+use Rattle.hep_outcome.specs.declared.options.LotOptions.{LotOptions}
+use Rattle.hep_outcome.specs.Draws.{IsDrawing}
+use Rattle.hep_outcome.proofs.Drawings.{drawing-more, drawn-in, drawn-lives, drawn-out-ended, drawn-out-stopped, one-more, room, same-limit, same-program, same-program-stopped}
+use Rattle.hep_outcome.proofs.Schedules.{is_none, refused_for}
+use Rattle.hep_outcome.proofs.lots.draw_on.Goals as goal
+
+-- what the lots gave is what the seed draws
+given : (options : LotOptions) (core : CoreValue) (lots : LotsValue) → IsDrawing options core → lots ≡ lots_after options.seed (length core.history) → (p : ℕ) → Some p ≡ next_in lots core → next_drawn options.seed core.program core.history ≡ Some p
+given options core lots drawing is p found = sym (found ∙ drawn-in options core lots drawing is)
+
+pub loop-process-preserved : goal.loop-process-preserved
+loop-process-preserved c =
+    let old = c.loop-process.core in
+    let inv = c.loop-process.invariant in
+    let options = c.args.options.now in
+    let p = c.in-Some.process in
+    let new = c.choose.new.self in
+    let next = given options old c.loop-process.lots inv.drawing inv.lots p c.in-Some.ensures.process in
+    record {
+      program = same-program options old p inv.drawing next new c.in-Ok.field-0 c.in-Ok.ensures ∙ inv.program;
+      drawing = drawing-more options old p inv.drawing next new c.in-Ok.field-0 c.in-Ok.ensures;
+      out = ((drawing-more options old p inv.drawing next new c.in-Ok.field-0 c.in-Ok.ensures).running []).out;
+      lots = c.in-Some.ensures.lots ∙ ap lots_next inv.lots ∙ lots-step options.seed (length old.history)
+          ∙ ap (lots_after options.seed) (sym (one-more options old p inv.drawing next new c.in-Ok.field-0 c.in-Ok.ensures));
+    }
+
+pub loop-process-smaller : goal.loop-process-smaller
+loop-process-smaller c =
+    let old = c.loop-process.core in
+    let inv = c.loop-process.invariant in
+    let options = c.args.options.now in
+    let p = c.in-Some.process in
+    let new = c.choose.new.self in
+    let next = given options old c.loop-process.lots inv.drawing inv.lots p c.in-Some.ensures.process in
+    omega (
+      arith,
+      one-more options old p inv.drawing next new c.in-Ok.field-0 c.in-Ok.ensures,
+      same-limit options old p inv.drawing next new c.in-Ok.field-0 c.in-Ok.ensures,
+      room options old p inv.drawing next new c.in-Ok.field-0 c.in-Ok.ensures,
+    )
+
+pub returns-in-Err-Stopped-clause-drawn : goal.returns-in-Err-Stopped-clause-drawn
+returns-in-Err-Stopped-clause-drawn c =
+    let old = c.loop-process.core in
+    let inv = c.loop-process.invariant in
+    let options = c.args.options.now in
+    let p = c.in-Some.process in
+    let next = given options old c.loop-process.lots inv.drawing inv.lots p c.in-Some.ensures.process in
+    let met = refused_for old c.choose.new.self p _ (Stopped c.in-Err-Stopped.field-0-0) c.in-Err-Stopped.field-0-is c.in-Err-Stopped.ensures in
+    (_, drawn-out-stopped options old p inv.drawing next c.choose.new.self c.in-Err-Stopped.field-0-0 met)
+
+pub returns-in-Err-Stopped-clause-program : goal.returns-in-Err-Stopped-clause-program
+returns-in-Err-Stopped-clause-program c =
+    let old = c.loop-process.core in
+    let inv = c.loop-process.invariant in
+    let options = c.args.options.now in
+    let p = c.in-Some.process in
+    let next = given options old c.loop-process.lots inv.drawing inv.lots p c.in-Some.ensures.process in
+    let met = refused_for old c.choose.new.self p _ (Stopped c.in-Err-Stopped.field-0-0) c.in-Err-Stopped.field-0-is c.in-Err-Stopped.ensures in
+    same-program-stopped options old p inv.drawing next c.choose.new.self c.in-Err-Stopped.field-0-0 met ∙ inv.program
+
+pub unreachable-requires : goal.unreachable-requires
+unreachable-requires c =
+    let old = c.loop-process.core in
+    let inv = c.loop-process.invariant in
+    let options = c.args.options.now in
+    let p = c.in-Some.process in
+    let next = given options old c.loop-process.lots inv.drawing inv.lots p c.in-Some.ensures.process in
+    drawn-lives options old p next (refused_for old c.choose.new.self p _ NoSuchProcess c.in-Err-NoSuchProcess.field-0-is c.in-Err-NoSuchProcess.ensures).1
+
+pub returns-clause-drawn : goal.returns-clause-drawn
+returns-clause-drawn c =
+    let old = c.loop-process.core in
+    let inv = c.loop-process.invariant in
+    let options = c.args.options.now in
+    let none = is_none c.next.result c.in_default.not-Some in
+    (_, drawn-out-ended options old inv.drawing (sym (sym none ∙ c.next.ensures.process ∙ drawn-in options old c.loop-process.lots inv.drawing inv.lots)))

@@ -1,0 +1,15 @@
+use Rattle.std.proofs.Common.{◌≡◌, ◌-◌, [], length}
+use Rattle.hep_lots.specs.Kept.{lots_after}
+use Rattle.hep_outcome.specs.Draws.{IsDrawing}
+use Rattle.hep_outcome.proofs.lots.draw_on.Given as goal
+
+abbrev pub invariant-loop-process : goal.invariant-loop-process
+invariant-loop-process l = record {
+  program : l.core.program ≡ l.fn.core.program;
+  drawing : IsDrawing l.fn.options l.core;
+  lots : l.lots ≡ lots_after l.fn.options.seed (length l.core.history);
+  out : l.core.out ≡ [];
+}
+
+abbrev pub decreases-loop-process : goal.decreases-loop-process
+decreases-loop-process l = l.core.limit - length l.core.history

@@ -1,0 +1,11 @@
+pub mod Texts
+pub mod Lines
+pub mod Statuses
+pub mod Notes
+pub mod Outcome
+pub mod Replay
+pub mod Memory
+pub mod Transcripts
+pub mod Progress
+pub mod Draws
+pub mod Tallies

@@ -1,0 +1,45 @@
+//! The exit statuses of the program.
+ghost use Rattle.std.specs.Prelude.{◌≡◌};
+ghost use Rattle.hep_outcome.specs.Statuses.{status_code};
+
+/// What a run comes to, in a word (docs/MACHINE.md, "The program").
+#[derive(Clone, Copy, Debug, PartialEq, Eq)]
+pub enum Status {
+    /// The run is done, and no process ended by a fault.
+    Done,
+    /// The source is refused.
+    Refused,
+    /// What was handed in beside the source can't be used: the words, the choices or a history.
+    Usage,
+    /// The run is over, and a process ended by a fault.
+    Faulted,
+    /// All processes that live wait, and none ended by a fault.
+    Waiting,
+    /// A frame doesn't fit the arena.
+    ArenaFull,
+    /// The history is full.
+    StepLimit,
+    /// Memory was refused.
+    NoMemory,
+    /// A read or a write failed.
+    DeviceFailed,
+}
+
+impl Status {
+    /// The exit status of the program.
+    pub fn code(self) -> u8
+        ensures { result ≡ status_code self }
+    {
+        match self {
+            Status::Done => 0,
+            Status::Refused => 1,
+            Status::Usage => 2,
+            Status::Faulted => 3,
+            Status::Waiting => 4,
+            Status::ArenaFull => 5,
+            Status::StepLimit => 6,
+            Status::NoMemory => 7,
+            Status::DeviceFailed => 8,
+        }
+    }
+}

@@ -1,0 +1,174 @@
+//! Many runs by lots, counted.
+ghost use Rattle.std.specs.Prelude.{◌≡◌, ◌≤◌, ◌+◌, ◌++◌, map, IfOk, OnOk};
+ghost use Rattle.hep_outcome.specs.Tallies as spec;
+ghost use Rattle.hep_outcome.specs.Tallies.{IsNth, Tally as Counted, counted, sample_text, tally_text};
+ghost use Rattle.hep_outcome.specs.Transcripts.{outcome_of};
+
+use crate::options::{LotOptions, SampleOptions};
+use crate::transcript::Transcript;
+use hep_output::append_number;
+use std::alloc::{AllocError, Global};
+use std::marker::Model;
+
+/// The most seeds, which are 1 to this number.
+pub const MOST_SEED: u64 = 4_294_967_296;
+
+/// How many runs came to a status and these lines, and the seed of the first one.
+#[derive(Drop)]
+pub struct Tally {
+    count: u64,
+    seed: u64,
+    status: u8,
+    lines: Vec<u8>,
+}
+
+impl Model for Tally {
+    ghost use Rattle.hep_outcome.specs.Tallies.{Tally as PureTally};
+
+    ghost Value = { PureTally };
+
+    ghost view = { λ t. record { count = t.count; seed = t.seed; status = t.status; lines = t.lines.items } };
+}
+
+// Appends the end of a line, with the seed of the first run.
+fn append_seed(text: &mut Vec<u8>, seed: u64) -> Result<(), AllocError>
+    ensures { OnOk result (text.new.items ≡ text.old.items ++ spec.seed_text seed) }
+{
+    text.extend_from_slice(b" FIRST BY SEED ")?;
+    append_number(text, seed)?;
+    text.extend_from_slice(b"\n")?;
+    Ok(())
+}
+
+impl Tally {
+    /// The tally of one run, by a seed.
+    ///
+    /// # Errors
+    ///
+    /// Only where memory was refused.
+    pub fn new(seed: u64, transcript: Transcript) -> Result<Tally, AllocError>
+        ensures { IfOk result (λ t. t ≡ spec.tally_of seed (outcome_of transcript)) }
+    {
+        let Transcript {
+            output,
+            messages,
+            status,
+            history,
+        } = transcript;
+        let mut lines = output;
+        lines.extend_from_slice(messages.as_slice())?;
+        Ok(Tally {
+            count: 1,
+            seed,
+            status: status.code(),
+            lines,
+        })
+    }
+
+    fn is_like(&self, other: &Tally) -> bool
+        ensures { result ≡ spec.is_like self.now other.now }
+    {
+        self.status == other.status && self.lines.as_slice() == other.lines.as_slice()
+    }
+
+    // Counts one run more, unless there are more than a `u64` counts.
+    fn raise(&mut self) -> Result<(), AllocError>
+        ensures { OnOk result (self.new ≡ record self.old { count = self.old.count + 1 }) }
+    {
+        let Some(count) = self.count.checked_add(1) else {
+            return Err(AllocError);
+        };
+        self.count = count;
+        Ok(())
+    }
+
+    // Appends how many of the runs came to it, and the status.
+    fn append_count(&self, text: &mut Vec<u8>, runs: u32) -> Result<(), AllocError>
+        ensures { OnOk result (text.new.items ≡ text.old.items ++ spec.count_text runs self.now) }
+    {
+        append_number(text, self.count)?;
+        text.extend_from_slice(b" OF ")?;
+        append_number(text, runs)?;
+        text.extend_from_slice(b" STATUS ")?;
+        append_number(text, self.status)?;
+        Ok(())
+    }
+
+    // Appends its line and the lines of the outcome.
+    fn append(&self, text: &mut Vec<u8>, runs: u32) -> Result<(), AllocError>
+        ensures { OnOk result (text.new.items ≡ text.old.items ++ tally_text runs self.now) }
+    {
+        self.append_count(text, runs)?;
+        append_seed(text, self.seed)?;
+        text.extend_from_slice(&self.lines)?;
+        Ok(())
+    }
+}
+
+/// Counts a run.
+///
+/// # Errors
+///
+/// Where memory was refused, or there are more runs than a `u64` counts.
+pub fn count(tallies: &mut Vec<Tally>, one: Tally) -> Result<(), AllocError>
+    ensures { OnOk result (tallies.new.items ≡ counted one tallies.old.items) }
+{
+    for place in 0..tallies.len() {
+        if one.is_like(&tallies[place]) {
+            return tallies[place].raise();
+        }
+    }
+    tallies.push(one)?;
+    Ok(())
+}
+
+// The seed of a run, counted from 0.
+fn nth_seed(seed: u64, run: u32) -> u64
+    requires one { 1 ≤ seed }
+    requires seeds { seed ≤ 4294967296 }
+    ensures { result ≡ spec.nth_seed seed run }
+{
+    (seed - 1 + u64::from(run)) % MOST_SEED + 1
+}
+
+/// How the run with a number is made, counted from 0.
+pub fn nth_options(options: &SampleOptions, run: u32) -> LotOptions
+    ensures { IsNth options.now run result }
+{
+    LotOptions {
+        arena: options.arena,
+        steps: options.steps,
+        seed: nth_seed(options.seed, run),
+    }
+}
+
+/// The text of tallies of so many runs.
+///
+/// # Errors
+///
+/// Only where memory was refused.
+pub fn text_of(alloc: Global, runs: u32, tallies: &[Tally]) -> Result<Vec<u8>, AllocError>
+    ensures { IfOk result (λ text. text.items ≡ sample_text runs tallies.now) }
+{
+    let mut text = Vec::new(alloc);
+    for tally in tallies {
+        tally.append(&mut text, runs)?;
+    }
+    text.extend_from_slice(b"OTHER OUTCOMES MAY BE POSSIBLE\n")?;
+    Ok(text)
+}
+
+/// The seeds of the first runs.
+///
+/// # Errors
+///
+/// Only where memory was refused.
+pub fn seeds_of(alloc: Global, tallies: &[Tally]) -> Result<Vec<u64>, AllocError>
+    ensures { IfOk result (λ seeds. seeds.items ≡ map (λ (t : Counted). t.seed) tallies.now) }
+{
+    let mut seeds = Vec::new(alloc);
+    for tally in tallies {
+        seeds.push(tally.seed)?;
+    }
+    Ok(seeds)
+}

@@ -1,0 +1,3 @@
+mod Leading
+mod Telling
+mod Worked

@@ -1,0 +1,4 @@
+pub mod Changes
+pub mod Circles
+pub mod Lines
+pub mod Reasons

@@ -1,0 +1,318 @@
+//! The lines of processes that wait and why.
+ghost use Rattle.std.specs.Prelude.{◌≡◌, ◌++◌, IfOk, OnOk, codes, length, option_map, slice_get};
+ghost use Rattle.std.specs.List.{flat_map};
+ghost use Rattle.hep_dump.specs.Names.{name_found};
+ghost use Rattle.hep_image.specs.Names.{names_in_order};
+ghost use Rattle.hep_machine.specs.Words as machine;
+ghost use Rattle.hep_reasons.specs.Circles as circles;
+ghost use Rattle.hep_reasons.specs.Lines as words;
+
+use crate::circles::{circle_from, nexts_of};
+use crate::reason::Reason;
+use hep_dump::append_waiting;
+use hep_image::Image;
+use hep_naming::own_name;
+use hep_notes::append_words;
+use hep_output::append_number;
+use hep_source::{MAIN_NAME, Statement};
+use hep_views::Listed;
+use std::alloc::{AllocError, Global};
+
+// Process p is one of those that wait.
+fn waits_among(p: u64, reasons: &[Reason]) -> bool
+    ensures { result ≡ words.waits_among p reasons.now }
+{
+    reasons.iter().any(|reason| reason.listed.process == p)
+}
+
+fn fate_text(waits: bool, lives: bool) -> &'static [u8]
+    ensures { result.now ≡ words.fate_text waits lives }
+{
+    match (waits, lives) {
+        (true, _) => b"waits",
+        (false, true) => b"lives",
+        (false, false) => b"has ended",
+    }
+}
+
+fn deed_text(full: bool) -> &'static [u8]
+    ensures { result.now ≡ words.deed_text full }
+{
+    if full { b"emptied" } else { b"filled" }
+}
+
+// The name with this number.
+fn name_of(image: &Image, number: u32) -> &[u8]
+    ensures { result.now ≡ name_found (slice_get (names_in_order image.now) number) }
+{
+    match image.name(number) {
+        Some(name) => name,
+        None => MAIN_NAME,
+    }
+}
+
+// The statements of a unit by its number.
+fn unit_at(image: &Image, unit: u32) -> &[Statement]
+    ensures { result.now ≡ machine.unit_at image.now unit }
+{
+    match image.program().as_slice().get(unit as usize) {
+        Some(unit) => unit.as_slice(),
+        None => &[],
+    }
+}
+
+fn it(alloc: Global) -> Result<Vec<u8>, AllocError>
+    ensures { IfOk result (λ word. word.items ≡ codes "it") }
+{
+    let mut word = Vec::new(alloc);
+    word.extend_from_slice(b"it")?;
+    Ok(word)
+}
+
+// What the unit of a process calls the position of COMMON for which it waits, or else `it`.
+fn position_word(alloc: Global, image: &Image, listed: &Listed) -> Result<Vec<u8>, AllocError>
+    ensures { IfOk result (λ word. word.items ≡ words.position_word image.now listed.now) }
+{
+    let unit = unit_at(image, listed.unit);
+    let block = name_of(image, listed.name);
+    match own_name(alloc, unit, block, listed.element)? {
+        Some(name) => Ok(name.into_vec()),
+        None => it(alloc),
+    }
+}
+
+// What is said for what a process waits for.
+fn own_word(alloc: Global, image: &Image, listed: &Listed) -> Result<Vec<u8>, AllocError>
+    ensures { IfOk result (λ word. word.items ≡ words.own_word image.now listed.now listed.now.owner) }
+{
+    if listed.owner == 0 {
+        position_word(alloc, image, listed)
+    } else {
+        it(alloc)
+    }
+}
+
+// What was changed, where, in a unit of this name, and by which entry it is told.
+fn append_step(
+    text: &mut Vec<u8>,
+    it: &[u8],
+    unit: &[u8],
+    line: u32,
+    entry: u64,
+) -> Result<(), AllocError>
+    ensures { OnOk result (text.new.items ≡ text.old.items ++ words.step_words it.now unit.now line entry) }
+{
+    text.extend_from_slice(b" ")?;
+    text.extend_from_slice(it)?;
+    text.extend_from_slice(b" at ")?;
+    text.extend_from_slice(unit)?;
+    text.extend_from_slice(b" LINE ")?;
+    append_number(text, line)?;
+    text.extend_from_slice(b" in entry ")?;
+    append_number(text, entry)?;
+    Ok(())
+}
+
+// Who made a change, what has come of that process, and what it did.
+fn append_maker(text: &mut Vec<u8>, process: u64, fate: &[u8], full: bool) -> Result<(), AllocError>
+    ensures { OnOk result (text.new.items ≡ text.old.items ++ words.maker_words process fate.now full) }
+{
+    text.extend_from_slice(b"process ")?;
+    append_number(text, process)?;
+    text.extend_from_slice(b", which ")?;
+    text.extend_from_slice(fate)?;
+    text.extend_from_slice(b", ")?;
+    text.extend_from_slice(deed_text(full))?;
+    Ok(())
+}
+
+// The latest change of what one of those that wait waits for, which is called so.
+fn append_latest(
+    text: &mut Vec<u8>,
+    image: &Image,
+    reasons: &[Reason],
+    reason: &Reason,
+    it: &[u8],
+) -> Result<(), AllocError>
+    ensures { OnOk result (text.new.items
+        ≡ text.old.items ++ words.latest_words (names_in_order image.now) reasons.now reason.now.listed.full it.now reason.now.lives reason.now.latest) }
+{
+    let Some(change) = reason.latest else {
+        text.extend_from_slice(b"nobody has filled or emptied ")?;
+        text.extend_from_slice(it)?;
+        return Ok(());
+    };
+    let place = change.place;
+    let waits = waits_among(place.process, reasons);
+    let fate = fate_text(waits, reason.lives);
+    append_maker(text, place.process, fate, reason.listed.full)?;
+    append_step(
+        text,
+        it,
+        name_of(image, place.unit),
+        place.line,
+        change.entry,
+    )
+}
+
+// The lines of one of those that wait.
+fn append_reason(
+    alloc: Global,
+    text: &mut Vec<u8>,
+    image: &Image,
+    reasons: &[Reason],
+    reason: &Reason,
+) -> Result<(), AllocError>
+    ensures { OnOk result (text.new.items ≡ text.old.items ++ words.reason_text image.now reasons.now reason.now) }
+{
+    let it = own_word(alloc, image, &reason.listed)?;
+    let mut line = Vec::new(alloc);
+    append_latest(&mut line, image, reasons, reason, &it)?;
+    append_waiting(text, image, &reason.listed)?;
+    append_words(text, &line)
+}
+
+// The process at an index.
+fn process_at(reasons: &[Reason], index: usize) -> u64
+    ensures { result ≡ words.process_at reasons.now index }
+{
+    match reasons.get(index) {
+        Some(reason) => reason.listed.process,
+        None => 0,
+    }
+}
+
+fn append_member(text: &mut Vec<u8>, process: u64) -> Result<(), AllocError>
+    ensures { OnOk result (text.new.items ≡ text.old.items ++ words.member_text process) }
+{
+    text.extend_from_slice(b" ")?;
+    append_number(text, process)?;
+    text.extend_from_slice(b",")?;
+    Ok(())
+}
+
+// The members of a circle behind the first one.
+fn append_members(
+    text: &mut Vec<u8>,
+    reasons: &[Reason],
+    indexes: &[usize],
+) -> Result<(), AllocError>
+    ensures { OnOk result (text.new.items ≡ text.old.items ++ words.members_text reasons.now indexes.now) }
+{
+    for index in indexes {
+        append_member(text, process_at(reasons, *index))?;
+    }
+    Ok(())
+}
+
+fn append_front(text: &mut Vec<u8>, process: u64) -> Result<(), AllocError>
+    ensures { OnOk result (text.new.items ≡ text.old.items ++ words.front_text process) }
+{
+    text.extend_from_slice(b"CIRCLE ")?;
+    append_number(text, process)?;
+    text.extend_from_slice(b" WAITS FOR WHAT WAS CHANGED BY")?;
+    Ok(())
+}
+
+fn append_end(text: &mut Vec<u8>, process: u64) -> Result<(), AllocError>
+    ensures { OnOk result (text.new.items ≡ text.old.items ++ words.end_text process) }
+{
+    text.extend_from_slice(b" ")?;
+    append_number(text, process)?;
+    text.extend_from_slice(b"\n")?;
+    Ok(())
+}
+
+// The line of a circle.
+fn append_circle(
+    text: &mut Vec<u8>,
+    reasons: &[Reason],
+    indexes: &[usize],
+) -> Result<(), AllocError>
+    ensures { OnOk result (text.new.items ≡ text.old.items ++ words.members_line reasons.now indexes.now) }
+{
+    let [first, behind @ ..] = indexes else {
+        return Ok(());
+    };
+    let process = process_at(reasons, *first);
+    append_front(text, process)?;
+    append_members(text, reasons, behind)?;
+    append_end(text, process)?;
+    Ok(())
+}
+
+// The line of a circle, if one was found.
+fn append_found(
+    text: &mut Vec<u8>,
+    reasons: &[Reason],
+    found: Option<Vec<usize>>,
+) -> Result<(), AllocError>
+    ensures { OnOk result (text.new.items
+        ≡ text.old.items ++ words.circle_line reasons.now (option_map (λ indexes. indexes.items) found)) }
+{
+    match found {
+        Some(indexes) => append_circle(text, reasons, &indexes),
+        None => Ok(()),
+    }
+}
+
+// The circle of the process at an index, if it has one and is the least in it.
+fn append_circle_of(
+    alloc: Global,
+    text: &mut Vec<u8>,
+    reasons: &[Reason],
+    nexts: &[Option<usize>],
+    index: usize,
+) -> Result<(), AllocError>
+    ensures { OnOk result (text.new.items
+        ≡ text.old.items ++ words.circle_line reasons.now (circles.circle_from nexts.now index (length nexts.now) index)) }
+{
+    let found = circle_from(alloc, nexts, index)?;
+    append_found(text, reasons, found)?;
+    Ok(())
+}
+
+// The lines of all circles.
+fn append_circles(alloc: Global, text: &mut Vec<u8>, reasons: &[Reason]) -> Result<(), AllocError>
+    ensures { OnOk result (text.new.items ≡ text.old.items ++ words.circles_text reasons.now 0 (length reasons.now)) }
+{
+    let nexts = nexts_of(alloc, reasons)?;
+    for index in 0..reasons.len() {
+        append_circle_of(alloc, text, reasons, &nexts, index)?;
+    }
+    Ok(())
+}
+
+// The lines of each one that waits.
+fn append_each(
+    alloc: Global,
+    text: &mut Vec<u8>,
+    image: &Image,
+    reasons: &[Reason],
+) -> Result<(), AllocError>
+    ensures { OnOk result (text.new.items ≡ text.old.items ++ flat_map (words.reason_text image.now reasons.now) reasons.now) }
+{
+    for reason in reasons {
+        append_reason(alloc, text, image, reasons, reason)?;
+    }
+    Ok(())
+}
+
+/// Appends why processes wait: for each of these its line, what its unit calls what it waits for, and who changed that last; and then the
+/// circles of those each of which waits for what the next one changed.
+///
+/// # Errors
+///
+/// Only where memory was refused.
+pub fn append_reasons(
+    alloc: Global,
+    text: &mut Vec<u8>,
+    image: &Image,
+    reasons: &[Reason],
+) -> Result<(), AllocError>
+    ensures { OnOk result (text.new.items ≡ text.old.items ++ words.reasons_text image.now reasons.now) }
+{
+    append_each(alloc, text, image, reasons)?;
+    append_circles(alloc, text, reasons)?;
+    Ok(())
+}

@@ -1,0 +1,112 @@
+"""Why processes wait after a history: who filled or emptied last what they wait for, and circles (docs/RUNS.md, "Why processes
+wait")."""
+import machine
+from states import subscripts
+
+
+class Process(machine.Process):
+    """A process that keeps the places that its steps have accessed."""
+
+    # The latest one, for which it may still wait.
+    pending = None
+
+    def place(self, node, values):
+        self.pending = super().place(node, values)
+        self.run.accessed.append(self.pending)
+        return self.pending
+
+
+class Run(machine.Run):
+    """A run that keeps for each cell the step that filled or emptied it last."""
+
+    def __init__(self, program, cells):
+        super().__init__(program, cells, machine.MOST_ENTRIES)
+        self.accessed = []
+        # By the cells' identities: the cell, whether it was full when it was looked at last, and where its latest change was.
+        self.known = {}
+
+    def create(self, activation, is_behind=False):
+        self.processes += 1
+        self.living[self.processes] = Process(self, self.processes, activation, is_behind)
+
+    def look(self, change):
+        for place in self.accessed:
+            for cell in place.cells():
+                _, full, latest = self.known.get(id(cell), (cell, False, None))
+                self.known[id(cell)] = cell, cell.full, change if cell.full != full else latest
+
+    def turn(self, entry, number):
+        process = self.living.get(number)
+        if process is None:
+            return None
+        change = entry, number, process.top.unit.name, process.line
+        self.accessed = [process.pending] if process.pending else []
+        made = self.choose(number)
+        self.look(change)
+        return made
+
+    def makes_entry(self, entry, number, steps):
+        if steps == 0:
+            return self.turn(entry, number) == 0
+        return all(self.turn(entry, number) == 1 for _ in range(steps))
+
+    def latest(self, process):
+        """The latest change of what a process waits for."""
+        cell = process.wait.place.cell()
+        return self.known.get(id(cell), (cell, False, None))[2]
+
+
+def own_name(process):
+    """What the unit of a process calls the position of COMMON for which it waits, or else `it`."""
+    block, found, position = process.wait.place.shown().rpartition("/#")
+    unit = process.top.unit
+    if not found or block[1:] not in unit.blocks:
+        return "it"
+    left = int(position) - 1
+    for variable in (unit.variables[name] for name in unit.blocks[block[1:]]):
+        if left < variable.size():
+            return f"{variable.name}({subscripts(variable.dimensions, left)})" if variable.bounds else variable.name
+        left -= variable.size()
+    return "it"
+
+
+def words_of(run, waiting, process):
+    change, name = run.latest(process), own_name(process)
+    if change is None:
+        return f"nobody has filled or emptied {name}"
+    entry, number, unit, line = change
+    fate = "waits" if number in waiting else "lives" if number in run.living else "has ended"
+    deed = "emptied" if process.wait.full else "filled"
+    return f"process {number}, which {fate}, {deed} {name} at {unit} LINE {line} in entry {entry}"
+
+
+def circle_of(run, waiting, first):
+    """The circle of a process, if it has one and is the least in it: from each one to the next, who changed last what it waits for."""
+    found, number = [], first
+    while number not in found:
+        found.append(number)
+        change = run.latest(waiting[number])
+        if change is None or change[1] not in waiting or change[1] < first:
+            return None
+        number = change[1]
+    return found if number == first else None
+
+
+def text_of(program, arena, entries):
+    """What is written of a history."""
+    run = Run(program, arena)
+    run.open()
+    if run.stop:
+        return run.outcome()
+    for at, (number, steps) in enumerate(entries, 1):
+        if not run.makes_entry(at, number, steps):
+            return machine.refused(603, at)
+    waiting = {number: run.living[number] for number in sorted(run.living) if run.living[number].wait}
+    lines = [f"AFTER {len(entries)} ENTRIES\n"]
+    for process in waiting.values():
+        lines += [f"WAITING {process.shown()} {process.wait.shown()}\n", f"      | {words_of(run, waiting, process)}\n"]
+    for first in waiting:
+        circle = circle_of(run, waiting, first)
+        if circle:
+            lines.append(f"CIRCLE {first} WAITS FOR WHAT WAS CHANGED BY {', '.join(map(str, [*circle[1:], first]))}\n")
+    return machine.Outcome("".join(lines).encode("latin-1"), b"", 0, b"")
