@@ -10,6 +10,7 @@ _hepf() {
         'sample:run a source by lots many times and count what comes'
         'replay:make the steps of a history again'
         'state:show what everything holds'
+        'why:say why processes wait'
         'list:show the units and common blocks of a source'
         'explain:say what a line or a status means'
         'help:show help'
@@ -43,7 +44,7 @@ _hepf_words() {
                 '--steps=[entries of the history]:entries:' '--keep=[how the files of histories begin]:prefix:_files' \
                 '--long[say more of what went wrong]' '--help[show help]' '1:source:_files'
             ;;
-        replay)
+        replay | why)
             _arguments '--arena=[cells of storage]:cells:' '--long[say more of what went wrong]' '--help[show help]' '1:source:_files' \
                 '2:history:_files'
             ;;
@@ -56,7 +57,7 @@ _hepf_words() {
                 '*:its next word:(ARENA STEP FULL LIMIT MEMORY REFUSED FAULT RUNNING 0 1 2 3 4 5 6 7 8 70)'
             ;;
         help)
-            _arguments '1:command:(check run sample replay state list explain)'
+            _arguments '1:command:(check run sample replay state why list explain)'
             ;;
     esac
 }

@@ -2,5 +2,5 @@ mod Kept
 mod Along
 mod Looks
 mod Watched
-mod Found
+pub mod Found
 mod Beginning

@@ -1,7 +1,7 @@
 -- What the words for numbers, jobs and names say, row by row.
 use Rattle.std.proofs.Common.{◌≡◌, ◌∷◌, [], Some, None, false, refl, true, codes}
 use Rattle.clap.proofs.OnLiterals.{clap_on_literals}
-use Rattle.hep_command.specs.Asked.{check, explain, heard, replay, run, sample, standard, state}
+use Rattle.hep_command.specs.Asked.{check, explain, heard, replay, run, sample, standard, state, why}
 use Rattle.hep_command.specs.Explanations.{is_explained, name_of}
 use Rattle.hep_command.specs.Numbers.{number_within}
 use Rattle.hep_command.specs.Program.{asked, is_long}
@@ -78,6 +78,11 @@ state_of_all : asked (codes "hepf" ∷ codes "state" ∷ codes "a.f" ∷ codes "
     ≡ Some (state (codes "a.f") (codes "h") None 9)
 unfolding asked clap_on_literals
 state_of_all = refl
+
+why_with_arena : asked (codes "hepf" ∷ codes "why" ∷ codes "a.f" ∷ codes "h" ∷ codes "--arena=9" ∷ [])
+    ≡ Some (why (codes "a.f") (codes "h") 9)
+unfolding asked clap_on_literals
+why_with_arena = refl
 
 replay_with_defaults : asked (codes "hepf" ∷ codes "replay" ∷ codes "a.f" ∷ codes "h" ∷ [])
     ≡ Some (replay (codes "a.f") (codes "h") 65536)

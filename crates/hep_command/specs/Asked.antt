@@ -8,7 +8,7 @@ use Rattle.clap.specs.Words.{Row, Text, first_of, found_of, rows_of}
 use Rattle.clap.specs.declared.parser.matches.ArgMatches.{ArgMatches}
 use Rattle.hep_command.specs.Numbers.{number_within, option_number}
 use Rattle.hep_command.specs.declared.job.Job.{Job}
-use Rattle.hep_command.specs.declared.job.Job.TheVariants.{Standard, Check, Run, Sample, Replay, State, List, Explain}
+use Rattle.hep_command.specs.declared.job.Job.TheVariants.{Standard, Check, Run, Sample, Replay, State, Why, List, Explain}
 
 -- a job with the texts of its paths
 pub data Asked : Type 0 where
@@ -18,6 +18,7 @@ pub data Asked : Type 0 where
   sample : Text → ℕ → ℕ → ℕ → ℕ → Option Text → Asked
   replay : Text → Text → ℕ → Asked
   state : Text → Text → Option ℕ → ℕ → Asked
+  why : Text → Text → ℕ → Asked
   list : Text → Asked
   explain : Text → Option Text → Option Text → Asked
 
@@ -31,6 +32,7 @@ asked_by (Run file arena steps workers seed choices history) = run file.now aren
 asked_by (Sample file runs seed arena steps keep) = sample file.now runs seed arena steps (texts keep)
 asked_by (Replay file history arena) = replay file.now history.now arena
 asked_by (State file history at arena) = state file.now history.now at arena
+asked_by (Why file history arena) = why file.now history.now arena
 asked_by (List file) = list file.now
 asked_by (Explain first second third) = explain first.now (texts second) (texts third)
 
@@ -122,6 +124,11 @@ state_in rows =
     option_and_then (λ file. option_and_then (λ history. option_and_then (λ entries. option_map (state file history entries)
     (arena_in rows)) (entries_in rows)) (first_of (codes "history") rows)) (first_of (codes "file") rows)
 
+abbrev pub why_in : ListOf Row → Option Asked
+why_in rows =
+    option_and_then (λ file. option_and_then (λ history. option_map (why file history)
+    (arena_in rows)) (first_of (codes "history") rows)) (first_of (codes "file") rows)
+
 abbrev pub list_in : ListOf Row → Option Asked
 list_in rows = option_map list (first_of (codes "file") rows)
 
@@ -138,8 +145,9 @@ command_in command rows =
     else (if bytes_eq command (codes "sample") then sample_in rows
     else (if bytes_eq command (codes "replay") then replay_in rows
     else (if bytes_eq command (codes "state") then state_in rows
+    else (if bytes_eq command (codes "why") then why_in rows
     else (if bytes_eq command (codes "list") then list_in rows
-    else (if bytes_eq command (codes "explain") then explain_in rows else None))))))
+    else (if bytes_eq command (codes "explain") then explain_in rows else None)))))))
 
 -- with no command the source on standard input is run
 abbrev pub job_in : Option (Text × ListOf Row) → Option Asked

@@ -94,6 +94,11 @@ state_command =
     with_rule (with_rule (with_rule (with_rule (with_rule (new_app (codes "state")) source_word) history_word) entries_option) arena_option)
     long_flag
 
+abbrev pub why_command : App
+why_command =
+    with_rule (with_rule (with_rule (with_rule (new_app (codes "why")) source_word) history_word) arena_option)
+    long_flag
+
 abbrev pub list_command : App
 list_command = with_rule (with_rule (new_app (codes "list")) source_word) long_flag
 
@@ -111,8 +116,9 @@ bare_program = with_rule named_program long_flag
 
 abbrev pub hepf : App
 hepf =
-    with_subcommand (with_subcommand (with_subcommand (with_subcommand (with_subcommand (with_subcommand (with_subcommand bare_program
-    check_command.top) run_command.top) sample_command.top) replay_command.top) state_command.top) list_command.top) explain_command.top
+    with_subcommand (with_subcommand (with_subcommand (with_subcommand (with_subcommand (with_subcommand (with_subcommand (with_subcommand
+    bare_program check_command.top) run_command.top) sample_command.top) replay_command.top) state_command.top) why_command.top)
+    list_command.top) explain_command.top
 
 -- a parse sees this of the argument, and of the command
 abbrev pub IsArgument : Rule → Arg → Type 0

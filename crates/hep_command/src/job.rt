@@ -87,6 +87,13 @@ pub enum Job<'a> {
         /// The cells of the arena, 1 to 16,777,216.
         arena: u32,
     },
+    /// To say why processes wait after a history.
+    Why {
+        file: &'a str,
+        history: &'a str,
+        /// The cells of the arena, 1 to 16,777,216.
+        arena: u32,
+    },
     /// To list the units and common blocks of a source with their cells.
     List {
         file: &'a str,

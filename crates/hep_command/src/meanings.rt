@@ -152,6 +152,7 @@ each with a line. This one waits until the variable is full, or FOR EMPTY until
 it is empty. OF a says that it is of activation a; name#k is an element of it,
 and /block/#k a place in COMMON. Status 4, or 3 where a process had a fault.
 Fill or empty it in a process that goes on: each read needs a value of its own.
+`hepf why FILE HISTORY` says who changed it last, and where.
 
 Wrong: WAITING 1 MAIN LINE 4 FOR FULL $X OF 1
 

@@ -32,6 +32,9 @@ const REPLAY_EXAMPLE: &str = "Example: hepf replay examples/powers.f powers.hist
 
 const STATE_EXAMPLE: &str = "Example: hepf state examples/powers.f powers.history --at 100";
 
+const WHY_EXAMPLE: &str = "Example: hepf run examples/deadlock.f --history deadlock.history
+         hepf why examples/deadlock.f deadlock.history";
+
 const LIST_EXAMPLE: &str = "Example: hepf list examples/sort.f";
 
 const EXPLAIN_EXAMPLES: &str =
@@ -264,6 +267,18 @@ fn state_command<'a>(alloc: Global) -> Result<Command<'a>, AllocError>
     with_arg(state, long_flag(alloc))
 }
 
+fn why_command<'a>(alloc: Global) -> Result<Command<'a>, AllocError>
+    ensures { IfOk result (IsCommand spec.why_command) }
+{
+    let why = Command::new(alloc, "why")
+        .about("Say why processes wait after a history, and who waits in a circle")
+        .after_help(WHY_EXAMPLE)
+        .arg(source_argument(alloc));
+    let why = with_arg(why, history_argument(alloc));
+    let why = with_arg(why, arena_option(alloc));
+    with_arg(why, long_flag(alloc))
+}
+
 fn list_command<'a>(alloc: Global) -> Result<Command<'a>, AllocError>
     ensures { IfOk result (IsCommand spec.list_command) }
 {
@@ -314,6 +329,7 @@ pub(crate) fn program<'a>(alloc: Global) -> Result<Command<'a>, AllocError>
     let whole = with_command(whole, sample_command(alloc));
     let whole = with_command(whole, replay_command(alloc));
     let whole = with_command(whole, state_command(alloc));
+    let whole = with_command(whole, why_command(alloc));
     let whole = with_command(whole, list_command(alloc));
     with_command(whole, explain_command(alloc))
 }

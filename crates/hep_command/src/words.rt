@@ -4,7 +4,7 @@ ghost use Rattle.clap.specs.Words.{kind_of, subcommand_rows_of};
 ghost use Rattle.hep_command.specs.Program.{IsAskedBy, IsStatusFor, asked};
 ghost use Rattle.hep_command.specs.Numbers.{number_within, option_number};
 ghost use Rattle.hep_command.specs.Asked.{asked_by, arena_in, asks_from, check_in, command_in, explain_in, heard, is_given, is_help_of_help};
-ghost use Rattle.hep_command.specs.Asked.{entries_in, is_long_in, is_word, job_in, list_in, replay_in, run_in, state_in, steps_in, word_of, words_found};
+ghost use Rattle.hep_command.specs.Asked.{entries_in, is_long_in, is_word, job_in, list_in, replay_in, run_in, state_in, steps_in, why_in, word_of, words_found};
 ghost use Rattle.hep_command.specs.Asked.{first_seed_in, runs_in, sample_in, seed_in, workers_in};
 ghost use Rattle.hep_command.specs.Jobs.{IsInRange, IsNoPath, IsOneOrder, IsUsageStatus, IsWrittenApart, usage_status};
 
@@ -188,6 +188,17 @@ fn state_job<'a>(found: &ArgMatches<'a>) -> Option<Job<'a>>
     })
 }
 
+fn why_job<'a>(found: &ArgMatches<'a>) -> Option<Job<'a>>
+    ensures range { IfSome result IsInRange }
+    ensures job { option_map asked_by result ≡ why_in (words_found found.now) }
+{
+    Some(Job::Why {
+        file: word_of(found, "file")?,
+        history: word_of(found, "history")?,
+        arena: arena_of(found)?,
+    })
+}
+
 fn list_job<'a>(found: &ArgMatches<'a>) -> Option<Job<'a>>
     ensures range { IfSome result IsInRange }
     ensures job { option_map asked_by result ≡ list_in (words_found found.now) }
@@ -227,6 +238,9 @@ fn command_job<'a>(command: &str, found: &ArgMatches<'a>) -> Option<Job<'a>>
     }
     if command == "state" {
         return state_job(found);
+    }
+    if command == "why" {
+        return why_job(found);
     }
     if command == "list" {
         return list_job(found);

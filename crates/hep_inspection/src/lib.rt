@@ -3,4 +3,4 @@
 
 pub mod state;
 
-pub use state::{AskedState, state_noted, state_source};
+pub use state::{AskedState, Telling, state_noted, state_source};

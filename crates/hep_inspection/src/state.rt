@@ -1,12 +1,16 @@
 //! The bytes of a source and of a history to what everything holds after the history's first entries.
-ghost use Rattle.std.specs.Prelude.{◌≤◌, false, IfOk, OnErr};
+ghost use Rattle.std.specs.Prelude.{◌≡◌, ◌≤◌, false, IfOk, OnErr};
+ghost use Rattle.hep_causes.specs.Watches.{IsReplayed};
+ghost use Rattle.hep_inspection.specs.declared.state.Telling.TheVariants.{State};
 ghost use Rattle.hep_run.specs.Delivery.{LeavesOfSource, status_alone};
 ghost use Rattle.hep_run.specs.Memory.{MayReadOn, RefusesLargeSource};
-ghost use Rattle.hep_inspection.specs.States.{IsFirstOutcome, IsSourceState};
+ghost use Rattle.hep_inspection.specs.States.{IsFirstOutcome, IsSourceTold, told};
 ghost use Rattle.hep_outcome.specs.Transcripts.{outcome_of};
 
 use hep_base::Refusal;
-use hep_history::{ReplayFault, first_entries, read_text, replay};
+use hep_causes::why_text;
+use hep_core::Core;
+use hep_history::{History, ReplayFault, first_entries, read_text, replay};
 use hep_image::Image;
 use hep_run::deliver::deliver_made;
 use hep_run::front::image_of_source;
@@ -21,9 +25,19 @@ use hep_survey::state_text;
 use std::alloc::{AllocError, Global};
 use std::io::{Read, Write};
 
-/// What a state after the first entries of a history is asked for.
+/// What is told of the first entries of a history.
+#[derive(Clone, Copy, Debug, PartialEq, Eq)]
+pub enum Telling {
+    /// What everything holds after them.
+    State,
+    /// Why processes wait after them.
+    Why,
+}
+
+/// What is asked of the first entries of a history.
 #[derive(Clone, Copy)]
 pub struct AskedState<'a> {
+    pub telling: Telling,
     /// The text of the history.
     pub history: &'a [u8],
     /// After how many entries; after all of them where there are no more.
@@ -36,14 +50,30 @@ pub struct AskedState<'a> {
     ghost few: { arena ≤ 16777216 },
 }
 
-// What is written of the state of an accepted program.
+// What is told of the entries that a core has made.
+fn told_text(
+    alloc: Global,
+    core: &Core,
+    entries: &History,
+    telling: Telling,
+) -> Result<Vec<u8>, AllocError>
+    requires { IsReplayed core.now entries.now.items }
+    ensures { IfOk result (λ text. text.items ≡ told telling core.now.program entries.now.items) }
+{
+    match telling {
+        Telling::State => state_text(alloc, core, entries.len()),
+        Telling::Why => why_text(alloc, core, entries),
+    }
+}
+
+// What is written of the first entries of a history of an accepted program.
 fn image_state(
     alloc: Global,
     image: Image,
     asked: &AskedState<'_>,
 ) -> Result<Transcript, AllocError>
     ensures { IfOk result (λ r.
-        IsFirstOutcome asked.now.long asked.now.history.now asked.now.entries asked.now.arena image (outcome_of r)) }
+        IsFirstOutcome asked.now.telling asked.now.long asked.now.history.now asked.now.entries asked.now.arena image (outcome_of r)) }
 {
     let entries = match read_text(alloc, asked.history) {
         Ok(entries) => entries,
@@ -56,7 +86,7 @@ fn image_state(
     let notes = opening_notes_when(alloc, &image, asked.arena, asked.long)?;
     match replay(alloc, image, asked.arena, &first) {
         Ok(core) => {
-            let text = state_text(alloc, &core, first.len())?;
+            let text = told_text(alloc, &core, &first, asked.telling)?;
             Ok(text_transcript(alloc, text))
         }
         Err(ReplayFault::NoMemory) => Err(AllocError),
@@ -76,7 +106,7 @@ pub fn state_transcript(
     asked: &AskedState<'_>,
 ) -> Result<Transcript, AllocError>
     ensures made { IfOk result (λ r.
-        IsSourceState asked.now.long asked.now.history.now asked.now.entries asked.now.arena source.now (outcome_of r)) }
+        IsSourceTold asked.now.telling asked.now.long asked.now.history.now asked.now.entries asked.now.arena source.now (outcome_of r)) }
     ensures unmade { OnErr result (MayReadOn asked.now.long source.now) }
 {
     match image_of_source(alloc, source, asked.long) {
@@ -96,7 +126,7 @@ pub fn state_noted<R: Read, W: Write, E: Write>(
     output: &mut W,
     messages: &mut E,
 ) -> u8
-    ensures left { LeavesOfSource (IsSourceState asked.now.long asked.now.history.now asked.now.entries asked.now.arena)
+    ensures left { LeavesOfSource (IsSourceTold asked.now.telling asked.now.long asked.now.history.now asked.now.entries asked.now.arena)
         (R.remaining source.old) (R.remaining source.new)
         (status_alone result) (W.contents output.old) (W.contents output.new)
         (E.contents messages.old) (E.contents messages.new) }
@@ -121,7 +151,7 @@ pub fn state_source<R: Read, W: Write, E: Write>(
     output: &mut W,
     messages: &mut E,
 ) -> u8
-    ensures left { LeavesOfSource (IsSourceState false history.now entries 65536)
+    ensures left { LeavesOfSource (IsSourceTold State false history.now entries 65536)
         (R.remaining source.old) (R.remaining source.new)
         (status_alone result) (W.contents output.old) (W.contents output.new)
         (E.contents messages.old) (E.contents messages.new) }
@@ -129,6 +159,7 @@ pub fn state_source<R: Read, W: Write, E: Write>(
         (W.contents output.old) (W.contents output.new) (E.contents messages.old) (E.contents messages.new) }
 {
     let asked = AskedState {
+        telling: Telling::State,
         history,
         entries,
         arena: 65_536,

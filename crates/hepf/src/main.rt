@@ -9,7 +9,7 @@ ghost use Rattle.hep_command.specs.Jobs.{IsInRange};
 
 use hep_command::{Job, Request, SAME_FILE, explain, read_request};
 use hep_history::Choices;
-use hep_inspection::{AskedState, state_noted};
+use hep_inspection::{AskedState, Telling, state_noted};
 use hep_run::{
     AskedLots, AskedReplay, AskedRun, AskedSample, AskedWork, LotOptions, NoGate, Options,
     ReadFault, Run, SampleOptions, WorkOptions, answer, check_noted, choices_of, history_text,
@@ -332,7 +332,7 @@ fn replay_file(
     Ok(run.status)
 }
 
-// Says what everything holds after the first entries of a history, all of them where none are said.
+// Says what is asked of the first entries of a history.
 fn state_file(rt: &HostRuntime, file: &str, asked: &AskedState<'_>) -> Result<u8, u8> {
     let mut source = opened(rt, file, asked.long)?;
     Ok(state_noted(
@@ -422,8 +422,24 @@ fn done<H: Threads + Wait + Sync>(
         } => {
             let history = file_bytes(rt, history, long)?;
             let asked = AskedState {
+                telling: Telling::State,
                 history: &history,
                 entries: at.unwrap_or(u64::MAX),
+                arena,
+                long,
+            };
+            state_file(rt, file, &asked)
+        }
+        Job::Why {
+            file,
+            history,
+            arena,
+        } => {
+            let history = file_bytes(rt, history, long)?;
+            let asked = AskedState {
+                telling: Telling::Why,
+                history: &history,
+                entries: u64::MAX,
                 arena,
                 long,
             };

@@ -20,8 +20,11 @@ to_replay = with_subcommand to_sample spec.replay_command.top
 abbrev to_state : App
 to_state = with_subcommand to_replay spec.state_command.top
 
+abbrev to_why : App
+to_why = with_subcommand to_state spec.why_command.top
+
 abbrev to_list : App
-to_list = with_subcommand to_state spec.list_command.top
+to_list = with_subcommand to_why spec.list_command.top
 
 pub returns : goal.returns
 returns c =
@@ -34,5 +37,6 @@ returns c =
     let with_sample = c.with_command-whole-3.ensures to_run spec.sample_command refl with_run c.sample_command.ensures in
     let with_replay = c.with_command-whole-4.ensures to_sample spec.replay_command refl with_sample c.replay_command.ensures in
     let with_state = c.with_command-whole-5.ensures to_replay spec.state_command refl with_replay c.state_command.ensures in
-    let with_list = c.with_command-whole-6.ensures to_state spec.list_command refl with_state c.list_command.ensures in
+    let with_why = c.with_command-whole-6.ensures to_state spec.why_command refl with_state c.why_command.ensures in
+    let with_list = c.with_command-whole-7.ensures to_why spec.list_command refl with_why c.list_command.ensures in
     c.with_command.ensures to_list spec.explain_command refl with_list c.explain_command.ensures

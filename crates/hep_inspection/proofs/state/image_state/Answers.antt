@@ -1,11 +1,19 @@
-use Rattle.std.proofs.Common.{rules, ◌≡◌, ap, inl, inr, subst, sym, length, ◌∙◌}
-use Rattle.hep_states.specs.States.{state_text}
-use Rattle.hep_run.specs.Checks.{outcome_of_text}
-use Rattle.hep_inspection.specs.States.{IsStateOutcome}
+use Rattle.std.proofs.Common.{rules, ◌≡◌, ap, inl, inr, subst, sym, length, ◌∙◌, ◌≤◌, IsSome}
+use Rattle.hep_core.specs.Value.{CoreValue}
+use Rattle.hep_history.specs.Replays.{replayed}
+use Rattle.hep_machine.specs.Words.{opening_layout}
 use Rattle.hep_inspection.proofs.Told.{first-told}
 use Rattle.hep_inspection.proofs.state.image_state.Goals as goal
 
 pub returns-in-Ok-replay : goal.returns-in-Ok-replay
 returns-in-Ok-replay c =
-    first-told c.args.asked.now.long c.args.asked.now.history.now c.args.asked.now.entries c.args.asked.now.arena c.args.image c.in-Ok.entries.items c.in_ok-first.first.items c.in-Ok-replay.core _
+    first-told c.args.asked.now.telling c.args.asked.now.long c.args.asked.now.history.now c.args.asked.now.entries c.args.asked.now.arena c.args.image c.in-Ok.entries.items c.in_ok-first.first.items c.in-Ok-replay.core _
     c.in-Ok.ensures.read c.in_ok-first.ensures c.in-Ok-replay.ensures.made c.in-Ok-replay.ensures.fits c.in-Ok-replay.ensures.possible (search rules)
+
+pub told_text-requires : goal.told_text-requires
+told_text-requires c = record {
+  made = c.in-Ok-replay.ensures.made ∙ ap (λ (x : CoreValue). replayed x.program x.cells c.in_ok-first.first.items) (sym c.in-Ok-replay.ensures.made);
+  fits = subst (λ (x : CoreValue). IsSome (opening_layout x.program x.cells)) (sym c.in-Ok-replay.ensures.made) c.in-Ok-replay.ensures.fits;
+  some = subst (λ (x : CoreValue). 1 ≤ x.cells) (sym c.in-Ok-replay.ensures.made) c.args.asked.now.some;
+  few = subst (λ (x : CoreValue). x.cells ≤ 16777216) (sym c.in-Ok-replay.ensures.made) c.args.asked.now.few;
+}

@@ -8,7 +8,7 @@ use Rattle.hep_inspection.proofs.state.state_noted.Goals as goal
 
 pub returns-in-Ok-clause-left : goal.returns-in-Ok-clause-left
 returns-in-Ok-clause-left g c =
-    state_left c.args.asked.now.long c.args.asked.now.history.now c.args.asked.now.entries c.args.asked.now.arena _ _ c.in-Ok.bytes.items _ c.state_transcript-made.result _ _ _ _ _ c.deref.ensures.value c.in-Ok.ensures.first c.in-Ok.ensures.all c.state_transcript-made.ensures.made c.deliver_made.ensures
+    state_left c.args.asked.now.telling c.args.asked.now.long c.args.asked.now.history.now c.args.asked.now.entries c.args.asked.now.arena _ _ c.in-Ok.bytes.items _ c.state_transcript-made.result _ _ _ _ _ c.deref.ensures.value c.in-Ok.ensures.first c.in-Ok.ensures.all c.state_transcript-made.ensures.made c.deliver_made.ensures
 
 pub returns-in-Err-clause-left : goal.returns-in-Err-clause-left
 returns-in-Err-clause-left g c = inl (Keeps-refl _, refl, (c.in-Err.ensures.lost, _, c.say_unread.ensures))
@@ -17,7 +17,7 @@ pub returns-in-Ok-clause-large : goal.returns-in-Ok-clause-large
 returns-in-Ok-clause-large g c =
     large-source c.args.asked.now.long _ _ c.in-Ok.bytes.items c.deref.result.now _ _ _ _ _ c.deref.ensures.value c.in-Ok.ensures.first c.in-Ok.ensures.all (
     large-status c.args.asked.now.long c.deref.result.now c.deliver_made.result _ _ _ _ (
-    large-left c.args.asked.now.long IsRefusedProgram IsRunnable (IsFirstOutcome c.args.asked.now.long c.args.asked.now.history.now c.args.asked.now.entries c.args.asked.now.arena) c.deref.result.now c.state_transcript-made.result _ _ _ _ _ c.state_transcript-made.ensures.made c.state_transcript-made.ensures.unmade c.deliver_made.ensures))
+    large-left c.args.asked.now.long IsRefusedProgram IsRunnable (IsFirstOutcome c.args.asked.now.telling c.args.asked.now.long c.args.asked.now.history.now c.args.asked.now.entries c.args.asked.now.arena) c.deref.result.now c.state_transcript-made.result _ _ _ _ _ c.state_transcript-made.ensures.made c.state_transcript-made.ensures.unmade c.deliver_made.ensures))
 
 pub returns-in-Err-clause-large : goal.returns-in-Err-clause-large
 returns-in-Err-clause-large g c = λ short large. inl (Keeps-refl _, (c.in-Err.ensures.lost, _, c.say_unread.ensures))
