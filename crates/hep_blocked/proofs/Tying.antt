@@ -1,42 +1,17 @@
 -- The lists and what the processes wait for, kept together: where nobody waits, where one more process waits, and where those
 -- that wait for the same wait no more.
-use Rattle.std.proofs.Common.{◌≡◌, ◌≢◌, ℕ, zero, suc, ◌-◌, ◌<◌, ◌≤◌, ◌||◌, Bool, true, false, true≢false, List, [], ◌∷◌, ◌++◌, length, length-append, length-set, get_or, get_or-set_same, get_or-set_other, replicate, set, map, max, Option, Some, None, refl, sym, ap, ◌∙◌, inl, inr, arith, nat_eq, if◌then◌else◌, OnErr, Result, Ok, Err}
-use Rattle.std.specs.Global.{Vec}
+use Rattle.std.proofs.Common.{◌≡◌, ◌≢◌, ℕ, zero, suc, ◌-◌, ◌<◌, ◌≤◌, ◌||◌, Bool, true, false, true≢false, List, [], ◌∷◌, ◌++◌, length, length-append, length-set, get_or, get_or-set_same, get_or-set_other, replicate, set, map, max, Option, Some, None, refl, sym, ap, ◌∙◌, inl, inr, arith, nat_eq, if◌then◌else◌}
 use Rattle.std.proofs.lemmas.Bool.{cases_lt, cases_eq, cases_Bool, or_parts, eqb-false, ne_eqb, eq-eqb}
 use Rattle.std.proofs.lemmas.List.{ext_get_or, length-map, length-replicate}
 use Rattle.std.proofs.Math.ListN.{get_or-eq_default}
 use Rattle.hep_machine.specs.Words.{is_number_among}
 use Rattle.hep_cells.specs.declared.want.Want.{Want}
-use Rattle.hep_blocked.specs.Lists.{AreApart, IsTied, cleared, items_of, with_process, without_list}
-use Rattle.hep_blocked.specs.Waiting.{awake, numbers_waiting, waiting_at, want_eq, wants, with_numbers, with_want}
+use Rattle.hep_wants.specs.Lists.{with_process, without_list, want_eq}
+use Rattle.hep_blocked.specs.Lists.{AreApart, IsTied, cleared}
+use Rattle.hep_blocked.specs.Waiting.{awake, numbers_waiting, waiting_at, wants, with_numbers, with_want}
 use Rattle.hep_blocked.proofs.Adding.{among-behind, among-many, numbers-same}
-use Rattle.hep_blocked.proofs.Wanting.{among-waiting, at-awake, at-grown, awake-keeps, awake-wants, waiting-awake, want-apart, want-is, want-same}
-
--- ---- the lists
-
--- a list is written as it was, of those that a table has
-pub list-kept : (f g : Want → Option (Vec ℕ)) (want : Want) (old new : Vec ℕ) → f want ≡ Some old → new.items ≡ old.items → ((w : Want) → g w ≡ (if want_eq want w then Some new else f w)) → (w : Want) → items_of (g w) ≡ items_of (f w)
-list-kept f g want old new was is after w = elim (cases_Bool (want_eq want w)) [
-  | inl e ↦
-      let here : f w ≡ Some old = ap f (sym (want-is want w e)) ∙ was in
-      let there : g w ≡ Some new = rw e at (after w) in
-      rw (there, here) is
-  | inr e ↦ let there : g w ≡ f w = rw e at (after w) in rw there refl
-]
-
-pub on-err : {T E P : Type 0} (r : Result T E) → P → OnErr r P
-on-err (Ok x) p = tt
-on-err (Err e) p = p
-
--- an empty list is made where there was none
-pub list-opened : (f g : Want → Option (Vec ℕ)) (want : Want) (new : Vec ℕ) → f want ≡ None → new.items ≡ [] → ((w : Want) → g w ≡ (if want_eq want w then Some new else f w)) → (w : Want) → items_of (g w) ≡ items_of (f w)
-list-opened f g want new was is after w = elim (cases_Bool (want_eq want w)) [
-  | inl e ↦
-      let here : f w ≡ None = ap f (sym (want-is want w e)) ∙ was in
-      let there : g w ≡ Some new = rw e at (after w) in
-      rw (there, here) is
-  | inr e ↦ let there : g w ≡ f w = rw e at (after w) in rw there refl
-]
+use Rattle.hep_blocked.proofs.Wanting.{among-waiting, at-awake, at-grown, awake-keeps, awake-wants, waiting-awake}
+use Rattle.hep_wants.proofs.Wants.{want-apart, want-is, want-same}
 
 -- ---- the processes in a list wait no more
 

@@ -1,39 +1,11 @@
--- What is wanted: whether two wants are the same, what is still waited for once there is one of them, and the numbers of
--- those that wait for it.
-use Rattle.std.proofs.Common.{◌≡◌, ℕ, zero, suc, ◌+◌, ◌<◌, Bool, true, false, true≢false, List, [], ◌∷◌, ◌++◌, get_or, replicate, map, Option, Some, None, refl, sym, ap, ◌∙◌, inl, inr, arith, if◌then◌else◌, nat_eq}
-use Rattle.std.specs.Global.{Vec}
-use Rattle.std.proofs.lemmas.Bool.{cases_Bool, and_parts, and_from, eqb-true, ne_eqb, eq-eqb}
-use mathlib.Core.Bool.{beq}
+-- What is wanted: what is still waited for once it is there, and the numbers of those that wait for it.
+use Rattle.std.proofs.Common.{◌≡◌, ℕ, zero, suc, ◌+◌, ◌<◌, true, false, List, [], ◌∷◌, ◌++◌, get_or, replicate, map, Option, Some, None, refl, sym, ap, ◌∙◌, inl, inr, arith}
+use Rattle.std.proofs.lemmas.Bool.{cases_Bool, ne_eqb, eq-eqb}
 use Rattle.hep_machine.specs.Words.{is_number_among}
 use Rattle.hep_cells.specs.declared.want.Want.{Want}
-use Rattle.hep_blocked.specs.Lists.{items_of}
-use Rattle.hep_blocked.specs.Waiting.{awake, waiting_from, numbers_waiting, waiting_at, want_eq, wants}
-
-beq-is : (a b : Bool) → beq a b ≡ true → a ≡ b
-beq-is true true h = refl
-beq-is true false h = cc
-beq-is false true h = cc
-beq-is false false h = refl
-
-beq-same : (a : Bool) → beq a a ≡ true
-beq-same true = refl
-beq-same false = refl
-
-pub want-is : (v w : Want) → want_eq v w ≡ true → v ≡ w
-want-is v w h =
-    let parts = and_parts (nat_eq v.cell w.cell) (beq v.full w.full) h in
-    let cell : v.cell ≡ w.cell = eqb-true v.cell w.cell parts.0 in
-    let full : v.full ≡ w.full = beq-is v.full w.full parts.1 in
-    λ i. record { cell = cell i; full = full i }
-
-pub want-same : (w : Want) → want_eq w w ≡ true
-want-same w = and_from (nat_eq w.cell w.cell) (beq w.full w.full) (eq-eqb w.cell w.cell refl) (beq-same w.full)
-
-pub want-apart : (v w : Want) → want_eq v w ≡ false → want_eq w v ≡ false
-want-apart v w h = elim (cases_Bool (want_eq w v)) [
-  | inl e ↦ absurd (true≢false (sym (want-same v) ∙ ap (want_eq v) (sym (want-is w v e)) ∙ h))
-  | inr e ↦ e
-]
+use Rattle.hep_wants.specs.Lists.{want_eq}
+use Rattle.hep_wants.proofs.Wants.{want-apart, want-is}
+use Rattle.hep_blocked.specs.Waiting.{awake, waiting_from, numbers_waiting, waiting_at, wants}
 
 -- ---- what one process waits for
 
@@ -92,16 +64,3 @@ numbers-at n (suc k) q want (w ∷ ws) h = elim (cases_Bool (wants want w)) [
 pub among-waiting : (want : Want) (ws : List (Option Want)) (p : ℕ) → is_number_among p (numbers_waiting want ws) ≡ wants want (waiting_at ws p)
 among-waiting want ws zero = numbers-before 1 0 want ws (omega arith)
 among-waiting want ws (suc k) = numbers-at 1 k (suc k) want ws (omega arith)
-
--- ---- the lists
-
--- one list is written, of those that a table has
-pub list-written : (f g : Want → Option (Vec ℕ)) (want : Want) (change : List ℕ → List ℕ) (old new : Vec ℕ) → f want ≡ Some old → new.items ≡ change old.items → ((w : Want) → g w ≡ (if want_eq want w then Some new else f w))
-    → (w : Want) → items_of (g w) ≡ (if want_eq want w then change (items_of (f w)) else items_of (f w))
-list-written f g want change old new was is after w = elim (cases_Bool (want_eq want w)) [
-  | inl e ↦
-      let here : f w ≡ Some old = ap f (sym (want-is want w e)) ∙ was in
-      let there : g w ≡ Some new = rw e at (after w) in
-      rw (e, there, here) is
-  | inr e ↦ let there : g w ≡ f w = rw e at (after w) in rw (e, there) refl
-]

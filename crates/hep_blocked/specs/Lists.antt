@@ -1,32 +1,9 @@
--- The processes that wait, in a list under each want, and the numbers of all of them.
-use Rattle.std.specs.Prelude.{◌≡◌, ℕ, ◌-◌, ◌≤◌, false, if◌then◌else◌, List, [], ◌∷◌, ◌++◌, length, slice_set, Option, Some, None, is_some}
-use Rattle.std.specs.Global.{Vec}
-use Rattle.indexmap.specs.IndexMap.{IndexMap, get}
+-- The lists of those that wait, and the numbers of all of them, are those of what processes wait for.
+use Rattle.std.specs.Prelude.{◌≡◌, ℕ, ◌-◌, ◌≤◌, false, List, [], ◌∷◌, length, slice_set, Option, None, is_some}
 use Rattle.hep_machine.specs.Words.{is_number_among, without}
 use Rattle.hep_blocked.specs.Numbers.{Numbers}
 use Rattle.hep_cells.specs.declared.want.Want.{Want}
-use Rattle.hep_blocked.specs.Waiting.{waiting_at, waits_for, want_eq}
-
--- the processes in a list; none where there is no list
-abbrev pub items_of : Option (Vec ℕ) → List ℕ
-items_of None = []
-items_of (Some list) = list.items
-
--- the processes in the list under a want
-abbrev pub list_of : {S : Type 0} → IndexMap Want (Vec ℕ) S → Want → List ℕ
-list_of lists want = items_of (get want_eq lists want)
-
--- the lists, with a process more at the end of the one under a want
-abbrev pub with_process : Want → ℕ → (Want → List ℕ) → Want → List ℕ
-with_process want p lists w = if want_eq want w then lists w ++ p ∷ [] else lists w
-
--- the lists, but for the one under a want
-abbrev pub without_list : Want → (Want → List ℕ) → Want → List ℕ
-without_list want lists w = if want_eq want w then [] else lists w
-
--- the lists, with a process less in the one under a want
-abbrev pub without_process : Want → ℕ → (Want → List ℕ) → Want → List ℕ
-without_process want p lists w = if want_eq want w then without p (lists w) else lists w
+use Rattle.hep_blocked.specs.Waiting.{waiting_at, waits_for}
 
 -- no number is there twice
 abbrev pub AreApart : List ℕ → Type 0

@@ -1,12 +1,8 @@
 -- What processes wait for: docs/MACHINE.md, "Steps", and "Which process comes next".
-use Rattle.std.specs.Prelude.{ℕ, zero, suc, ◌-◌, ◌&&◌, Bool, false, if◌then◌else◌, nat_eq, nat_lt, List, [], ◌∷◌, ◌++◌, length, replicate, slice_index_or, slice_set, Option, Some, None, is_some}
-use mathlib.Core.Bool.{beq}
+use Rattle.std.specs.Prelude.{ℕ, zero, suc, ◌-◌, ◌&&◌, Bool, false, if◌then◌else◌, nat_lt, List, [], ◌∷◌, ◌++◌, length, replicate, slice_index_or, slice_set, Option, Some, None, is_some}
 use Rattle.hep_blocked.specs.Numbers.{with_number}
 use Rattle.hep_cells.specs.declared.want.Want.{Want}
-
--- the same test as `==` makes it, by which the lists are looked up
-abbrev pub want_eq : Want → Want → Bool
-want_eq v w = nat_eq v.cell w.cell && beq v.full w.full
+use Rattle.hep_wants.specs.Lists.{want_eq}
 
 -- what is waited for, if anything is, is this
 abbrev pub wants : Want → Option Want → Bool

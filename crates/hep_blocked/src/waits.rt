@@ -6,8 +6,9 @@ ghost use Rattle.hep_blocked.specs.Waiting.{awake, next_waiting, numbers_waiting
 ghost use Rattle.hep_blocked.specs.Waiting.{with_numbers, with_want, without_want};
 
 use crate::Ready;
-use crate::lists::{Lists, add, grow, take, take_out, wake_each};
+use crate::lists::{grow, wake_each};
 use hep_cells::Want;
+use hep_wants::lists::{Lists, add, take, take_out};
 use indexmap::IndexMap;
 use std::alloc::{AllocError, Global};
 use std::marker::Model;
@@ -42,8 +43,8 @@ impl Model for Waits {
     ghost use Rattle.hep_cells.specs.declared.want.Want.{Want as PureWant};
     ghost use Rattle.hep_cells.specs.contracts.want.Want as want;
     ghost use Rattle.indexmap.specs.IndexMap.{IsUnique};
-    ghost use Rattle.hep_blocked.specs.Lists.{AreNumbers, IsTied, list_of};
-    ghost use Rattle.hep_blocked.specs.Waiting.{want_eq};
+    ghost use Rattle.hep_wants.specs.Lists.{list_of, want_eq};
+    ghost use Rattle.hep_blocked.specs.Lists.{AreNumbers, IsTied};
 
     ghost Value = { List (Option PureWant) };
 

@@ -1,5 +1,2 @@
-pub mod Gathering
-mod Behind
-pub mod Sums
+mod Units
 mod Worked
-mod Judged

@@ -1,5 +1,2 @@
-pub mod Found
-pub mod Further
 pub mod Faults
 pub mod Listing
-pub mod Resuming

@@ -5,17 +5,11 @@
 #![tactic(auto)]
 
 pub mod checked;
-mod frames;
-pub mod further;
-pub mod laws;
 mod listing;
-mod program;
-mod resuming;
-mod unit;
 
 pub use checked::{Rejected, Unaccepted, check, fault_of, judge, judge_further};
 /// Why a program isn't accepted: refusals 301 to 312, of which 301 and 310 are about a name.
-pub use further::{Told, told_violations};
 pub use hep_base::Refusal as CheckFault;
 pub use hep_conditions::Checked;
+pub use hep_judging::further::{Told, told_violations};
 pub use listing::list_text;

@@ -1,5 +1,5 @@
 -- What a parse of the program's words gives.
-use Rattle.std.proofs.Common.{◌≡◌, ◌⊎◌, ◌∙◌, [], ℕ, List, true}
+use Rattle.std.proofs.Common.{◌≡◌, ◌⊎◌, ◌∙◌, [], ℕ, List, Option, true}
 use Rattle.std.proofs.Common.{ap, ap₂, sym, subst, refl, inl, inr}
 use Rattle.clap.specs.Words.{App, HasKind, HasMatchesOf, IsAmong, Text, app_of}
 use Rattle.clap.specs.Words.{fault_of, is_simple, is_simple_and_free, kind_of, matches_of, subcommand_of, subcommand_rows_of}
@@ -7,8 +7,8 @@ use Rattle.clap.specs.declared.builder.command.Command.{Command}
 use Rattle.clap.specs.declared.parser.matches.ArgMatches.{ArgMatches}
 use Rattle.clap.specs.declared.error.Error.{Error}
 use Rattle.clap.proofs.OnLiterals.{clap_on_literals}
-use Rattle.hep_command.specs.Asked.{heard, is_long_in, job_in, words_found}
-use Rattle.hep_command.specs.Program.{IsCommand, IsStatusFor, asked, hepf, is_long}
+use Rattle.hep_command.specs.Asked.{Asked, heard, is_long_in, job_in, words_found}
+use Rattle.hep_command.specs.Program.{IsCommand, IsMistaken, IsStatusFor, asked, hepf, is_long}
 use Rattle.hep_command.specs.Jobs.{usage_status}
 
 hepf_is_simple : is_simple hepf ≡ true
@@ -39,13 +39,14 @@ firsts (inl both) = inl both.0
 firsts (inr both) = inr both.0
 
 -- the status for words that `clap` took
-pub taken_status : (command : Command) (words : List Text) (status : ℕ) → IsCommand hepf command
+pub taken_status : (command : Command) (words : List Text) (found : Option Asked) (status : ℕ) → IsCommand hepf command → found ≡ asked words
     → (is_simple_and_free (app_of command) ≡ true → fault_of (app_of command) (heard words) ≡ [])
-    → (status ≡ 2) ⊎ (status ≡ 7) → (status ≡ 7) ⊎ IsStatusFor words status
+    → (status ≡ 7) ⊎ ((status ≡ 2) × IsMistaken found) → (status ≡ 7) ⊎ IsStatusFor words status
 unfolding IsStatusFor
-taken_status command words status is none (inl two) =
-    inr (inl (sym (ap (λ (app : App). fault_of app (heard words)) is) ∙ none (ap is_simple_and_free is ∙ hepf_is_free), two))
-taken_status command words status is none (inr seven) = inl seven
+taken_status command words found status is found_is none (inl seven) = inl seven
+taken_status command words found status is found_is none (inr two) =
+    let free = sym (ap (λ (app : App). fault_of app (heard words)) is) ∙ none (ap is_simple_and_free is ∙ hepf_is_free) in
+    inr (inl (free, two.0, subst IsMistaken found_is two.1))
 
 -- the status for those that it refused
 pub refused_status : (command : Command) (words : List Text) (error : Error) (status : ℕ) → IsCommand hepf command

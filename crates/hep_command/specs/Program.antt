@@ -1,5 +1,5 @@
 -- The commands and options of the program, as a parse sees them: docs/MACHINE.md, "The program".
-use Rattle.std.specs.Prelude.{◌≡◌, ◌⊎◌, [], Bool, false, ℕ, List, Option, Some, true, codes}
+use Rattle.std.specs.Prelude.{◌≡◌, ◌⊎◌, [], Bool, false, ℕ, List, None, Option, Some, true, codes}
 use Rattle.clap.specs.Words.{App, Rule, Text, app_of, matches_of, new_app, new_rule, rule_of, subcommand_of}
 use Rattle.clap.specs.Words.{IsAmong, fault_of, with_rule, with_subcommand}
 use Rattle.clap.specs.declared.builder.action.ArgAction.TheVariants.{SetTrue}
@@ -8,7 +8,8 @@ use Rattle.clap.specs.declared.builder.command.Command.{Command}
 use Rattle.clap.specs.declared.error.kind.ErrorKind.{ErrorKind}
 use Rattle.clap.specs.declared.builder.value_parser.ValueParser.TheVariants.{Unsigned}
 use Rattle.hep_command.specs.Asked.{Asked, asked_by, heard, is_long_in, job_in}
-use Rattle.hep_command.specs.Jobs.{usage_status}
+use Rattle.hep_command.specs.Jobs.{IsOneOrder, IsWrittenApart, usage_status}
+use Rattle.hep_command.specs.declared.job.Job.{Job}
 use Rattle.hep_command.specs.declared.job.Request.{Request}
 
 -- a word that has to be there
@@ -139,8 +140,13 @@ is_long words = is_long_in (matches_of hepf (heard words)) (subcommand_of hepf (
 abbrev pub IsAskedBy : List Text → Request → Type 0
 IsAskedBy words request = (asked words ≡ Some (asked_by request.job)) × (request.long ≡ is_long words)
 
--- the status where the words get no job: that of a fault which they have, and 2 where they have none, as where the
--- history would be written to a file that is read, or two of choices, workers and a seed are given
+-- nothing is asked for that has a meaning, or a job whose history would be written to a file that is read, or one with two of choices,
+-- workers and a seed
+abbrev pub IsMistaken : Option Asked → Type 0
+IsMistaken asked =
+    (asked ≡ None) ⊎ ((job : Job) × (asked ≡ Some (asked_by job)) × ((IsWrittenApart job → ⊥) ⊎ (IsOneOrder job → ⊥)))
+
+-- the status where the words get no job: that of a fault which they have, and 2 where they have none, and what they ask for is mistaken
 unfoldable pub IsStatusFor : List Text → ℕ → Type 0
-IsStatusFor words status = ((fault_of hepf (heard words) ≡ []) × (status ≡ 2))
+IsStatusFor words status = ((fault_of hepf (heard words) ≡ []) × (status ≡ 2) × IsMistaken (asked words))
     ⊎ ((kind : ErrorKind) × IsAmong kind (fault_of hepf (heard words)) × (status ≡ usage_status kind))

@@ -1,7 +1,7 @@
 //! The words of a command line.
 ghost use Rattle.std.specs.Prelude.{◌≡◌, ◌⊎◌, ◌≤◌, false, true, IfOk, IfErr, IfNone, IfSome, Some, map, option_map};
 ghost use Rattle.clap.specs.Words.{kind_of, subcommand_rows_of};
-ghost use Rattle.hep_command.specs.Program.{IsAskedBy, IsStatusFor, asked};
+ghost use Rattle.hep_command.specs.Program.{IsAskedBy, IsMistaken, IsStatusFor, asked};
 ghost use Rattle.hep_command.specs.Numbers.{number_within, option_number};
 ghost use Rattle.hep_command.specs.Asked.{asked_by, arena_in, asks_from, check_in, command_in, explain_in, heard, is_given, is_help_of_help};
 ghost use Rattle.hep_command.specs.Asked.{entries_in, is_long_in, is_word, job_in, list_in, replay_in, run_in, state_in, steps_in, why_in, word_of, words_found};
@@ -395,7 +395,8 @@ fn request_of<'a>(alloc: Global, matches: &ArgMatches<'a>) -> Result<Request<'a>
     ensures asked { IfOk result (λ request. job_in (subcommand_rows_of matches.now) ≡ Some (asked_by request.job)) }
     ensures long { IfOk result (λ request. request.long ≡ is_long_in (words_found matches.now) (subcommand_rows_of matches.now)) }
     ensures sound { IfOk result (λ request. IsWrittenApart request.job × IsOneOrder request.job) }
-    ensures mistake { IfErr result (λ usage. (usage.status ≡ 2) ⊎ (usage.status ≡ 7)) }
+    ensures mistake { IfErr result (λ usage. (usage.status ≡ 7)
+        ⊎ ((usage.status ≡ 2) × IsMistaken (job_in (subcommand_rows_of matches.now)))) }
 {
     let Some(job) = job_of(matches) else {
         return Err(Usage::of_text(alloc, 2, MISTAKE));

@@ -184,6 +184,7 @@ module _ (law : GoAlong) (i : Inside) (p : ℕ) (k : CoreInvariant i) (running :
           omega (arith, room, entries-more h p n),
           (s, steps, λ j. record (core_gone (core_value i) p (suc n)) { stop = stop j; view = view_of program is_held (same j) }),
         );
+        unchanged = turn.unchanged;
         going = running;
         ready = rising-same 1 (length (progress_after program es').state.processes) (length (progress_after program es).state.processes) (ready_in (progress_after program es')) (ready_in (progress_after program es))
             (ready-rise (progress_after program es')) (ready-rise (progress_after program es)) (λ q. sym (c'.far.listed.are_ready q) ∙ c.far.listed.are_ready q);

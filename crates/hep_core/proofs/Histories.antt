@@ -4,7 +4,7 @@ use Rattle.std.proofs.lemmas.List.{length-replicate}
 use Rattle.std.proofs.lemmas.Option.{none-some, same_Some}
 use Rattle.std.specs.Option.{unwrap_or, option_or}
 use Rattle.hep_machine.specs.declared.event.Entry.{Entry}
-use Rattle.hep_machine.specs.Words.{Units, IsEntry, AreEntries, IsLegal, is_held, layout_of, opening, run, run_from, schedule_of_entry, schedule_of, state_after, state_after_turn, Progress, progress_after_entry, progress_after_step, progress_from, progress_after, last_process, State, Level, Process, is_waiting, step, Wanted, wanted_by, is_number_among, living}
+use Rattle.hep_machine.specs.Words.{Units, IsEntry, AreEntries, IsLegal, is_held, layout_of, opening, run, run_from, schedule_of_entry, schedule_of, state_after, state_after_turn, Progress, progress_after_entry, progress_after_step, progress_after_steps, progress_from, progress_after, last_process, State, Level, Process, is_waiting, step, Wanted, wanted_by, is_number_among, living}
 use Rattle.hep_layout.proofs.HeldFrames.{run-last}
 use Rattle.hep_machine.proofs.Replays.{run_after}
 use Rattle.std.proofs.lemmas.Bool.{cases_lt}
@@ -73,6 +73,29 @@ progress-none program = refl
 pub progress-last : (program : Units) (es : List Entry) (e : Entry) → progress_after program (es ++ e ∷ []) ≡ progress_after_entry program (progress_after program es) e e.steps
 unfolding progress_from
 progress-last program es e = progress_from-append program (record { state = opening program; listed = [] }) es (e ∷ [])
+
+-- the state that the listing goes by is the one after the history
+steps-state : (program : Units) (x : Progress) (p n : ℕ) → (progress_after_steps program x p n).state ≡ run_from program x.state (replicate n p)
+unfolding run_from
+steps-state program x p zero = refl
+steps-state program x p (suc n) = steps-state program (progress_after_step program x p (state_after_turn program p x.state)) p n
+
+entry-state : (program : Units) (x : Progress) (e : Entry) (n : ℕ) → (progress_after_entry program x e n).state ≡ run_from program x.state (replicate n e.process)
+unfolding run_from
+entry-state program x e zero = refl
+entry-state program x e (suc n) = steps-state program x e.process (suc n)
+
+from-state : (program : Units) (x : Progress) (es : List Entry) → (progress_from program x es).state ≡ run_from program x.state (schedule_of es)
+unfolding progress_from run_from schedule_of
+from-state program x [] = refl
+from-state program x (e ∷ es) =
+    from-state program (progress_after_entry program x e e.steps) es
+    ∙ ap (λ s. run_from program s (schedule_of es)) (entry-state program x e e.steps)
+    ∙ sym (run_after program x.state (replicate e.steps e.process) (schedule_of es))
+
+pub progress-state : (program : Units) (history : List Entry) → (progress_after program history).state ≡ state_after program history
+unfolding state_after run
+progress-state program history = from-state program (record { state = opening program; listed = [] }) history
 
 -- an entry of one step, which leads from the state after the others to the next one
 pub progress-stepped : (program : Units) (es : List Entry) (p : ℕ) → (progress_after program es).state ≡ run program (schedule_of es)

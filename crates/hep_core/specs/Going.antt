@@ -2,16 +2,17 @@
 use Rattle.std.specs.Prelude.{◌≡◌, ◌≢◌, ◌⊎◌, ℕ, zero, suc, Bool, true, false, List, [], ◌∷◌, ◌++◌, length, Ok, Some, None}
 use Rattle.hep_machine.specs.declared.event.Entry.{Entry}
 use Rattle.hep_machine.specs.Words.{living, schedule_of}
-use Rattle.hep_state.specs.Words.{IsAfter, Snapshot}
+use Rattle.hep_state.specs.Words.{Changes, IsAfter, Snapshot}
 use Rattle.hep_going.specs.Gone.{HasNoMoveAhead}
 use Rattle.hep_core.specs.declared.stop.Turn.{Turn}
 use Rattle.hep_core.specs.declared.stop.Turns.{Turns}
 use Rattle.hep_core.specs.Tickets.{is_out}
 use Rattle.hep_core.specs.Value.{CoreValue, IsChoice, next_ready_of, ready_of, state_of}
 
--- p was chosen and made a step, after which the core isn't at a stop, and the same processes are ready
+-- p was chosen and made a step, which filled and emptied no storage unit; the core isn't at a stop then, and the same processes are ready
 pub record IsPlainChoice (old : CoreValue) (p : ℕ) (new : CoreValue) : Type 0 where
   pub chosen : IsChoice old p (Ok (record { steps = 1; blocked = false })) new
+  pub unchanged : Changes old.program old.cells (schedule_of old.history) p None
   pub going : new.stop ≡ None
   pub ready : ready_of new ≡ ready_of old
 

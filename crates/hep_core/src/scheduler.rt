@@ -174,8 +174,8 @@ impl Core {
     }
 
     /// Chooses process p again and again, up to so many times, which are 1 at least: as long as each choice makes a step that only moves
-    /// the process, and else once. A step only moves its process if it fills and empties no cell, prints nothing, is no fault, and begins and ends no
-    /// activation; such steps cost less together than one by one.
+    /// the process, and else once. A step only moves its process if it fills and empties no cell, prints nothing, is no fault, makes no process, and
+    /// doesn't end its own; such steps cost less together than one by one. One that begins or ends an activation may be among them.
     ///
     /// # Errors
     ///
@@ -285,6 +285,7 @@ impl Core {
         }
         self.image.is_runnable();
         views_are_of_states();
+        activations_are_few();
         lists_go_along_with_steps();
         lists_are_those_of_definitions();
         let room = most.min(self.limit - self.history.len());

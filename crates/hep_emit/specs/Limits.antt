@@ -1,26 +1,9 @@
 -- How long code may be, and what refuses it.
-use Rattle.std.specs.Prelude.{◌≡◌, ℕ, ◌+◌, ◌<◌, List, [], ◌∷◌}
-use Rattle.hep_code.specs.declared.instruction.Argument.{Argument}
-use Rattle.hep_code.specs.declared.instruction.Argument.TheVariants.{Evaluated, Referred}
+use Rattle.std.specs.Prelude.{◌≡◌, ℕ, ◌<◌}
 use Rattle.hep_code.specs.Words.{most_instructions}
-use Rattle.hep_emit.specs.declared.fault.EmitFault.{EmitFault}
-use Rattle.hep_emit.specs.declared.fault.EmitFault.TheVariants.{TooLong}
-use Rattle.hep_emit.specs.Tables.{greatest}
+use Rattle.hep_arguments.specs.declared.fault.EmitFault.{EmitFault}
+use Rattle.hep_arguments.specs.declared.fault.EmitFault.TheVariants.{TooLong}
 
--- a fault other than want of memory is there only for code of more instructions than a number of 32 bits can count
-abbrev pub IsTooLong : ℕ → EmitFault → Type 0
-IsTooLong n fault = fault ≡ TooLong → greatest < n
-
--- the same, for more instructions than a unit may have
+-- a fault other than want of memory is there only for code of more instructions than a unit may have
 abbrev pub IsOverLimit : ℕ → EmitFault → Type 0
 IsOverLimit n fault = fault ≡ TooLong → most_instructions < n
-
--- ---- subscripts of actual arguments and of what is purged
-
-abbrev pub subscripts_of : Argument → ℕ
-subscripts_of Evaluated = 0
-subscripts_of (Referred x n) = n
-
-abbrev pub subscripts_of_all : {A : Type 0} → (A → Argument) → List A → ℕ
-subscripts_of_all f [] = 0
-subscripts_of_all f (x ∷ xs) = subscripts_of (f x) + subscripts_of_all f xs

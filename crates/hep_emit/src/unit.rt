@@ -5,16 +5,17 @@ ghost use Rattle.hep_source.specs.Units as units;
 ghost use Rattle.hep_code.specs.Words.{most_instructions, entry_index, statements_code, code_of};
 ghost use Rattle.hep_emit.specs.Limits.{IsOverLimit};
 ghost use Rattle.hep_emit.specs.Starts.{starts_from, end_from};
-ghost use Rattle.hep_emit.specs.Tables.{greatest, table_in, addressed_in};
+ghost use Rattle.hep_arguments.specs.Names.{greatest};
+ghost use Rattle.hep_operations.specs.Tables.{table_in, addressed_in};
 
-use crate::emit::{Code, emit_step};
-use crate::fault::EmitFault;
-use crate::names::Names;
 use crate::statements::emit_statement;
-use crate::tables::{Starts, Tables};
+use hep_arguments::emit::{Code, emit_step};
+use hep_arguments::fault::EmitFault;
+use hep_arguments::names::Names;
 use hep_code::Instruction;
 use hep_control::control::Control;
 use hep_control::labels::is_executable;
+use hep_operations::tables::{Starts, Tables};
 use hep_source::Statement;
 use std::alloc::Global;
 

@@ -1,4 +1,4 @@
--- Turns of one process, one after the other, which only move it: docs/MACHINE.md, "Steps" and "The opening and runs".
+-- Turns of one process, one after the other, by which it lives on and which fill and empty no cell: docs/MACHINE.md, "Steps" and "The opening and runs".
 use Rattle.std.specs.Prelude.{◌≡◌, ◌≢◌, ℕ, suc, ◌<◌, ◌≤◌, false, List, [], ◌∷◌, ◌++◌, length, Some, None, vec_capacity}
 use Rattle.hep_machine.specs.declared.slot.Slot.{Slot}
 use Rattle.hep_machine.specs.Words.{Value, Units, Layout, common_cells, frame_cells, is_held, layout_of, living, run, step, unit_at}
@@ -90,8 +90,8 @@ pub record CanTakeTurns (tabled : Tabled) (p : ℕ) (m : Machine) : Type 0 where
   pub turn : IsItsTurn tabled.image.now p m
   pub tables : AreTables tabled.image.now tabled.tables.now
 
--- the turn of p after those of these processes is a step, which fills and empties no storage unit, makes and ends no process, is no STOP,
--- and leaves each frame where it is
+-- the turn of p after those of these processes is a step, which fills and empties no storage unit, makes and ends no process, and is no STOP;
+-- and each frame has a gap
 pub record IsPlainTurn (program : Units) (cells : ℕ) (choices : List ℕ) (p : ℕ) : Type 0 where
   pub stepped : step program p (run program choices) ≢ None
   pub unchanged : Changes program cells choices p None

@@ -1,29 +1,55 @@
-//! Turns of a process, one after the other, which only move it.
-ghost use Rattle.std.specs.Prelude.{◌≡◌, ◌≤◌, ◌<◌, false, true};
-ghost use Rattle.hep_state.specs.Words.{snapshot_of};
+//! Turns of a process, one after the other, by which it lives on and which fill and empty no cell.
+ghost use Rattle.std.specs.Prelude.{◌≡◌, ◌+◌, ◌^◌, ◌≤◌, ◌<◌, false, true};
+ghost use Rattle.hep_state.specs.Words.{LivesOn, snapshot_of};
 ghost use Rattle.hep_going.specs.Gone.{CanTakeTurns, HasNoMoveAhead, MakesMoves};
 
 use crate::top::{go_top, top_rests};
 use hep_quick::Tabled;
 use hep_state::{Machine, laws};
 
-/// So many turns of process p at most, which lives, and how many they were: each is a step of a plain operation, which fills and empties no
-/// cell, makes no process and no activation, and ends none. No memory is taken.
-///
-/// It makes fewer only where no plain operation stands ahead of p any more, or one that is a fault.
-pub fn go_on(machine: &mut Machine, tabled: &Tabled<'_>, p: u64, most: u64) -> u64
+// So many turns of process p at most, which lives, each of which is a step of a plain operation that moves it, and how many they were. No memory
+// is taken.
+//
+// It makes fewer only where no plain operation stands ahead of p any more, or one that is a fault.
+fn move_on(machine: &mut Machine, tabled: &Tabled<'_>, p: u64, most: u64) -> u64
     requires { CanTakeTurns tabled.now p machine.old }
     ensures gone { MakesMoves tabled.now.image.now p machine.old result machine.new }
     ensures few { result ≤ most }
     ensures all { result < most → HasNoMoveAhead tabled.now.image.now p (snapshot_of machine.new) }
-    ensures made { machine.new.made ≡ machine.old.made }
-    ensures halted { machine.new.halted ≡ false }
+    ensures lives { LivesOn p 0 machine.old machine.new }
 {
     tabled.image.is_runnable();
     laws::tops_are_running();
     let at = machine.place(p);
     let process = &mut machine.processes[at];
     go_top(process, &mut machine.frames, tabled, most)
+}
+
+/// So many turns of process p at most, which lives, and how many they were: each is a step of a plain operation, or begins or ends an
+/// activation. None fills or empties a cell, or makes or ends a process.
+///
+/// It makes fewer only where no plain operation stands ahead of p any more, or one that is a fault.
+pub fn go_on(machine: &mut Machine, tabled: &Tabled<'_>, p: u64, most: u64) -> u64
+    requires turn { CanTakeTurns tabled.now p machine.old }
+    requires countable { machine.old.activations + most < 2 ^ 64 }
+    ensures gone { MakesMoves tabled.now.image.now p machine.old result machine.new }
+    ensures few { result ≤ most }
+    ensures all { result < most → HasNoMoveAhead tabled.now.image.now p (snapshot_of machine.new) }
+    ensures made { machine.new.made ≡ machine.old.made }
+    ensures halted { machine.new.halted ≡ false }
+{
+    let mut made = 0;
+    while made < most {
+        made += move_on(machine, tabled, p, most - made);
+        if made == most {
+            return made;
+        }
+        if !machine.turn_plainly(tabled.image, p) {
+            return made;
+        }
+        made += 1;
+    }
+    made
 }
 
 /// Where process p is, which lives, its table has an operation that isn't plain, so no plain operation stands ahead of it. Behind values that

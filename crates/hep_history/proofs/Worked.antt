@@ -10,7 +10,8 @@ use Rattle.hep_history.specs.Choices.{choice_text, IsProcess}
 use Rattle.hep_history.specs.Histories.{entry_text, IsAllowed, history_text}
 use Rattle.std.proofs.lemmas.Bool.{and_parts}
 use Rattle.hep_history.specs.Lines.{IsRefusedText, most_bytes, AreLines}
-use Rattle.hep_history.proofs.Digits.{cut, decimal_value, choice_is, entry_is, marked}
+use Rattle.hep_numbers.proofs.Digits.{cut, decimal_value, marked}
+use Rattle.hep_history.proofs.Digits.{choice_is, entry_is}
 
 abbrev same : List ℕ → List ℕ → Bool
 same [] [] = true

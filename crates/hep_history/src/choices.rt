@@ -6,8 +6,8 @@ ghost use Rattle.hep_history.specs.Choices.{choice_text, IsProcess};
 
 use crate::history::MOST_PROCESS;
 use crate::lines::{FromLine, Row, read_lines};
-use crate::number::number_before;
 use hep_base::{Refusal as HistFault, Sequence};
+use hep_numbers::number_before;
 use std::alloc::{AllocError, Global};
 
 /// Process numbers, in the order in which they are to be chosen.

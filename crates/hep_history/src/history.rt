@@ -7,10 +7,10 @@ ghost use Rattle.hep_history.specs.Lines.{AreLines, IsRefusedText, ReportsLine};
 ghost use Rattle.hep_history.specs.Histories.{entry_text, history_text, IsAllowed};
 
 use crate::lines::{FromLine, Row, read_lines};
-use crate::number::number_before;
 use hep_base::Refusal as HistFault;
 use hep_entries::{History, Run};
 use hep_machine::Entry;
+use hep_numbers::number_before;
 use hep_output::append_number;
 use std::alloc::{AllocError, Global};
 

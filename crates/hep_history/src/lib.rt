@@ -12,7 +12,6 @@ pub mod given;
 pub mod history;
 pub mod laws;
 mod lines;
-mod number;
 pub mod replays;
 
 pub use choices::{Choices, read_choices};

@@ -6,7 +6,7 @@ ghost use Rattle.hep_code.specs.Words.{most_instructions};
 ghost use Rattle.hep_image.specs.Image.{most_cells};
 ghost use Rattle.hep_common.specs.Starts.{AreStarts};
 ghost use Rattle.hep_lower.specs.Refusals.{RefusesCode, fault_by};
-ghost use Rattle.hep_emit.specs.Tables.{greatest};
+ghost use Rattle.hep_arguments.specs.Names.{greatest};
 ghost use Rattle.hep_lower.specs.Units.{AreRows, AreUnits, IsUnit};
 ghost use Rattle.hep_places.specs.Unit.{ArePlaces};
 

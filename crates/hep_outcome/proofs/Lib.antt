@@ -1,5 +1,5 @@
-mod Schedules
-mod Outcomes
+pub mod Schedules
+pub mod Outcomes
 mod Drawings
 pub mod Counts
 pub mod Wanted

@@ -6,7 +6,7 @@ use Rattle.hep_core.specs.declared.stop.ChoiceStop.TheVariants.{Halted, ArenaFul
 use Rattle.hep_core.specs.Value as core
 use Rattle.hep_core.specs.Value.{CoreValue}
 use Rattle.hep_outcome.specs.declared.options.Options.{Options}
-use Rattle.hep_outcome.specs.declared.run.Halt.TheVariants.{NoSuchProcess}
+use Rattle.hep_outcome.specs.declared.halt.Halt.TheVariants.{NoSuchProcess}
 use Rattle.hep_outcome.specs.Outcome.{Outcome, IsHistory, IsOver, IsRunOutcome, next_process, outcome_of_refused_choice, outcome_of_end}
 use Rattle.hep_outcome.specs.Progress.{IsStopOfRun, IsRunning, IsHaltedBy}
 

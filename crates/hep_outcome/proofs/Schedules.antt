@@ -11,18 +11,18 @@ use Rattle.std.proofs.lemmas.List.{take-append-le}
 use Rattle.std.proofs.Math.Seq.{take-append_seam}
 use Rattle.std.proofs.lemmas.Option.{slice_get_within, slice_get_past}
 use Rattle.hep_machine.specs.declared.event.Entry.{Entry}
-use Rattle.hep_machine.specs.Words.{Units, State, Process, opening, run, run_from, schedule_of, state_after, state_after_turn, Progress, progress_after_step, progress_after_steps, progress_after_entry, progress_from, progress_after, living_from, ready_in, last_process, first_above, next_of_ready, next_ready, living, top_of, is_number_among}
+use Rattle.hep_machine.specs.Words.{Units, State, Process, schedule_of, state_after, progress_after, living_from, ready_in, last_process, first_above, next_of_ready, next_ready, living, top_of, is_number_among}
 use Rattle.hep_core.specs.declared.stop.Turn.{Turn}
 use Rattle.hep_core.specs.declared.stop.Turns.{Turns}
 use Rattle.hep_core.specs.Going.{AreChoices, AreRounds, AreTurns, again, begun, goes_round, started}
+use Rattle.hep_core.proofs.Histories.{progress-state}
 use Rattle.hep_core.proofs.Going.{choices-began, rounds-going, rounds-none, unmoved}
 use Rattle.hep_core.proofs.Outs.{all_free}
 use Rattle.hep_core.specs.Value.{CoreValue, state_of, core_after_choice, free_of, next_ready_of, ready_of, stop_after, HasNoStop, IsFree, IsTurn, IsChoice}
 use Rattle.hep_outcome.specs.declared.options.Options.{Options}
-use Rattle.hep_outcome.specs.declared.run.Halt.TheVariants as halts
+use Rattle.hep_outcome.specs.declared.halt.Halt.TheVariants as halts
 use Rattle.hep_outcome.specs.Outcome.{first_choice, next_process, IsNextEntry, IsScheduled}
 use Rattle.hep_outcome.specs.Progress.{IsHaltedBy, IsStopOfRun, IsRunning}
-use Rattle.hep_machine.proofs.Replays.{run_after}
 
 -- without a STOP the choice comes next, or what is ready
 pub next_is_chosen : (program : Units) (choices : List ℕ) (history : List Entry) → (state_after program history).halted ≡ false → next_process program choices history ≡ first_choice (slice_get choices (length history)) (next_ready program history)
@@ -207,29 +207,6 @@ unfolding AllOf
 all_kept P test [] all = tt
 all_kept P test (x ∷ xs) all = kept_by P (test x) x (filter test xs) all.0 (all_kept P test xs all.1)
 
--- the state that the listing goes by is the one after the history
-steps_state : (program : Units) (x : Progress) (p n : ℕ) → (progress_after_steps program x p n).state ≡ run_from program x.state (replicate n p)
-unfolding run_from
-steps_state program x p zero = refl
-steps_state program x p (suc n) = steps_state program (progress_after_step program x p (state_after_turn program p x.state)) p n
-
-entry_state : (program : Units) (x : Progress) (e : Entry) (n : ℕ) → (progress_after_entry program x e n).state ≡ run_from program x.state (replicate n e.process)
-unfolding run_from
-entry_state program x e zero = refl
-entry_state program x e (suc n) = steps_state program x e.process (suc n)
-
-from_state : (program : Units) (x : Progress) (es : List Entry) → (progress_from program x es).state ≡ run_from program x.state (schedule_of es)
-unfolding progress_from run_from schedule_of
-from_state program x [] = refl
-from_state program x (e ∷ es) =
-    from_state program (progress_after_entry program x e e.steps) es
-    ∙ ap (λ s. run_from program s (schedule_of es)) (entry_state program x e e.steps)
-    ∙ sym (run_after program x.state (replicate e.steps e.process) (schedule_of es))
-
-progress_state : (program : Units) (history : List Entry) → (progress_after program history).state ≡ state_after program history
-unfolding state_after run
-progress_state program history = from_state program (record { state = opening program; listed = [] }) history
-
 -- one that comes next after any number lives
 pub comes_lives : (program : Units) (history : List Entry) (n p : ℕ) → next_of_ready n (ready_in (progress_after program history)) ≡ Some p → living (state_after program history) p ≢ None
 comes_lives program history n p e =
@@ -237,7 +214,7 @@ comes_lives program history n p e =
     let s = x.state in
     let ready = ready_in x in
     let all = all_kept (LivesFrom 0 s.processes) (λ q. not (is_number_among q x.listed)) (living_from 1 s.processes) (all_live 0 s.processes) in
-    subst (λ (t : State). living t p ≢ None) (progress_state program history)
+    subst (λ (t : State). living t p ≢ None) (progress-state program history)
     (lives s p (first_of (LivesFrom 0 s.processes) n ready (slice_get ready 0) all (least_of (LivesFrom 0 s.processes) ready all) p e))
 
 pub ready_lives : (program : Units) (history : List Entry) (p : ℕ) → next_ready program history ≡ Some p → living (state_after program history) p ≢ None

@@ -4,8 +4,8 @@ use Rattle.hep_core.specs.declared.stop.ChoiceStop.{ChoiceStop}
 use Rattle.hep_core.specs.declared.stop.ChoiceStop.TheVariants.{Halted, ArenaFull, StepLimit}
 use Rattle.hep_core.specs.Value.{CoreValue}
 use Rattle.hep_outcome.specs.declared.options.Options.{Options}
-use Rattle.hep_outcome.specs.declared.run.Halt.{Halt}
-use Rattle.hep_outcome.specs.declared.run.Halt.TheVariants.{NoMemory, NoSuchProcess}
+use Rattle.hep_outcome.specs.declared.halt.Halt.{Halt}
+use Rattle.hep_outcome.specs.declared.halt.Halt.TheVariants.{NoMemory, NoSuchProcess}
 use Rattle.hep_outcome.specs.Outcome.{IsScheduled, IsCutShort, IsFull, IsChoiceRefused}
 
 abbrev pub IsStopOfRun : Options → CoreValue → Option ChoiceStop → Type 0

@@ -1,11 +1,11 @@
-//! What a run of an image comes to: its choices and its end, and the texts of its transcript.
+//! What a run of an image comes to: the texts of its transcript, and runs by lots and by a history.
 #![tactic(auto)]
 
+pub mod halt;
 pub mod lines;
 pub mod lots;
 pub mod options;
 pub mod replay;
-pub mod run;
 pub mod status;
 pub mod tally;
 pub mod texts;

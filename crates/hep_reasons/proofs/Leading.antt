@@ -1,10 +1,11 @@
 -- Circles, from one to the next.
-use Rattle.std.proofs.Common.{◌≡◌, inl, inr, ℕ, zero, suc, ◌+◌, ◌-◌, ◌<◌, ◌≤◌, Bool, true, false, List, [], ◌∷◌, ◌++◌, length, map, Option, Some, None, refl, sym, ap, ◌∙◌, subst, arith, append_assoc, append-nil, if◌then◌else◌, nat_eq, nat_lt, slice_get}
+use Rattle.std.proofs.Common.{◌≡◌, ℕ, zero, suc, ◌+◌, ◌<◌, Bool, true, false, List, [], ◌∷◌, ◌++◌, length, map, drop, drop-cons, add-one, get_or, Option, Some, None, refl, sym, ap, ◌∙◌, subst, arith, append_assoc, if◌then◌else◌, nat_eq, nat_lt, slice_get}
 use Rattle.std.specs.Option.{option_flatten, option_map}
 use Rattle.std.proofs.lemmas.Bool.{eqb-true, ne_eqb}
 use Rattle.std.proofs.lemmas.Bool.Decides.{nat_tests}
 use Rattle.std.proofs.lemmas.Option.{none-some, same_Some, slice_get-map}
-use Rattle.hep_reasons.specs.Circles.{LeadBack, circle_by, circle_from, index_from, index_of, next_at, next_of, next_of_change, nexts_of}
+use Rattle.hep_reasons.specs.Circles.{circle_by, circle_from, index_from, next_at, next_of, next_of_change, nexts_of}
+use Rattle.hep_reasons.specs.Rounds.{LeadBack, LeadsTo}
 use Rattle.hep_reasons.specs.declared.reason.Change.{Change}
 use Rattle.hep_reasons.specs.declared.reason.Reason.{Reason}
 
@@ -12,7 +13,7 @@ use Rattle.hep_reasons.specs.declared.reason.Reason.{Reason}
 
 module _ (nexts : List (Option ℕ)) (first : ℕ) where
   abbrev Leads : ℕ → List ℕ → Type 0
-  Leads i is = (slice_get is 0 ≡ Some i) × LeadBack nexts first is
+  Leads i is = (slice_get is 0 ≡ Some i) × LeadBack (LeadsTo nexts) first is
 
   longer : (i j : ℕ) (js : List ℕ) → next_at nexts i ≡ Some j → Leads j js → Leads i (i ∷ js)
   longer i j [] e h = absurd (none-some j h.0)
@@ -44,7 +45,7 @@ module _ (nexts : List (Option ℕ)) (first : ℕ) where
 
   -- ---- one turn of the loop that looks for it
 
-  abbrev behind : List ℕ → Option (List ℕ) → Option (List ℕ)
+  abbrev pub behind : List ℕ → Option (List ℕ) → Option (List ℕ)
   behind before o = option_map (λ (js : List ℕ). before ++ js) o
 
   pub ends : (before : List ℕ) (m i : ℕ) → next_at nexts i ≡ None → behind before (circle_from nexts first (suc m) i) ≡ None
@@ -92,7 +93,7 @@ module _ (nexts : List (Option ℕ)) (first : ℕ) where
   unfolding circle_from
   no-more before i = refl
 
-  behind-none : (o : Option (List ℕ)) → behind [] o ≡ o
+  pub behind-none : (o : Option (List ℕ)) → behind [] o ≡ o
   behind-none None = refl
   behind-none (Some is) = refl
 
@@ -137,3 +138,22 @@ next-changed reasons i j e =
     by : (o : Option Reason) → slice_get reasons i ≡ o → option_flatten (option_map (next_of reasons) o) ≡ Some j → Changed reasons i j
     by None there f = absurd (none-some j f)
     by (Some r) there f = by_change r r.latest there refl f
+
+pub next-at-reason : (reasons : List Reason) (i : ℕ) (r : Reason) → slice_get reasons i ≡ Some r → next_at (nexts_of reasons) i ≡ next_of reasons r
+next-at-reason reasons i r there =
+    ap option_flatten (slice_get-map (next_of reasons) reasons i) ∙ ap (λ (o : Option Reason). option_flatten (option_map (next_of reasons) o)) there
+
+pub nobody : (o : Option ℕ) → ((j : ℕ) → o ≡ Some j → ⊥) → o ≡ None
+nobody None not = refl
+nobody (Some j) not = absurd (not j refl)
+
+-- one more of a list that is mapped
+pub mapped : {A B : Type 0} (f : A → B) (xs : List A) (i : ℕ) (x : A) (y : B) (found next whole : List B) → i < length xs → x ≡ get_or xs i x → y ≡ f x
+    → found ++ map f (drop i xs) ≡ whole → next ≡ found ++ y ∷ [] → next ++ map f (drop (i + 1) xs) ≡ whole
+mapped f xs i x y found next whole less there is h e =
+    let cut : drop i xs ≡ x ∷ drop (i + 1) xs =
+    drop-cons xs i x less ∙ ap (λ z. z ∷ drop (suc i) xs) (sym there) ∙ ap (λ n. x ∷ drop n xs) (sym (add-one i)) in
+    ap (λ ys. ys ++ map f (drop (i + 1) xs)) (e ∙ ap (λ z. found ++ z ∷ []) is)
+    ∙ append_assoc found (f x ∷ []) (map f (drop (i + 1) xs))
+    ∙ ap (λ zs. found ++ map f zs) (sym cut)
+    ∙ h

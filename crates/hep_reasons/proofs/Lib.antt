@@ -1,3 +1,8 @@
 mod Leading
+mod Listing
+mod Processes
+mod Rising
 mod Telling
+mod Turning
+mod Walking
 mod Worked

@@ -1,12 +1,13 @@
 -- Worked reasons of sources.
-use Rattle.std.specs.Prelude.{◌≡◌, ℕ, List, [], ◌∷◌, ◌++◌, codes, None, Some, Option, Result, Ok, Err, refl}
+use Rattle.std.specs.Prelude.{◌≡◌, ℕ, List, [], ◌∷◌, None, Some, Option, Result, Ok, Err, refl}
 use Rattle.std.specs.Fmt.{digits}
 use Prim.Native.String.{String}
 use Rattle.hep_machine.specs.declared.event.Entry.{Entry}
 use Rattle.hep_machine.specs.Words.{Units, opening, progress_from, run, run_from, schedule_of, state_after, step_result_of}
 use Rattle.hep_parse.specs.ReadingProgram.{Refusal}
 use Rattle.hep_reasons.specs.Changes.{latest_along}
-use Rattle.hep_reasons.specs.Circles.{circle_from}
+use Rattle.hep_reasons.specs.Circles.{circle_from, circles_of}
+use Rattle.hep_reasons.specs.Lines.{circles_text}
 use Rattle.hep_reasons.specs.Reasons.{why_text}
 use Rattle.hep_worked.proofs.Sources.{text_of, units_of}
 
@@ -29,6 +30,14 @@ leads_there : circle_from nexts 3 5 3 ≡ None
 unfolding circle_from nexts
 leads_there = refl
 
+-- 0 leads to the circle of 3 and 4, and 1 and 2 are another one
+two : List (Option ℕ)
+two = Some 3 ∷ Some 2 ∷ Some 1 ∷ Some 4 ∷ Some 3 ∷ []
+
+in_order : circles_of two ≡ (1 ∷ 2 ∷ []) ∷ (3 ∷ 4 ∷ []) ∷ []
+unfolding circle_from two
+in_order = refl
+
 alone : circle_from (Some 0 ∷ []) 0 1 0 ≡ Some (0 ∷ [])
 unfolding circle_from
 alone = refl
@@ -39,7 +48,7 @@ abbrev steps : ℕ → ℕ → Entry
 steps p n = record { process = p; steps = n }
 
 why_of : Result Units Refusal → List Entry → List ℕ
-unfolding latest_along circle_from opening progress_from run run_from schedule_of state_after step_result_of
+unfolding latest_along circle_from circles_text opening progress_from run run_from schedule_of state_after step_result_of
 why_of (Err e) history = []
 why_of (Ok program) history = why_text program history
 

@@ -1,5 +1,5 @@
 -- Circles of those that wait, each of which waits for what the next one changed last: docs/RUNS.md, "Why processes wait".
-use Rattle.std.specs.Prelude.{◌≡◌, ℕ, zero, suc, nat_eq, nat_lt, if◌then◌else◌, List, [], ◌∷◌, map, Option, Some, None, slice_get}
+use Rattle.std.specs.Prelude.{ℕ, zero, suc, nat_eq, nat_lt, if◌then◌else◌, List, [], ◌∷◌, ◌++◌, length, map, Option, Some, None, option_to_list, slice_get}
 use Rattle.std.specs.Option.{option_flatten, option_map, option_map_or}
 use Rattle.hep_reasons.specs.declared.reason.Change.{Change}
 use Rattle.hep_reasons.specs.declared.reason.Reason.{Reason}
@@ -42,8 +42,22 @@ unfoldable pub circle_from : List (Option ℕ) → ℕ → ℕ → ℕ → Optio
 circle_from nexts first zero i = None
 circle_from nexts first (suc n) i = circle_by first i (circle_from nexts first n) (next_at nexts i)
 
--- each of these leads to the one behind it, and the last one back to the first one
-abbrev pub LeadBack : List (Option ℕ) → ℕ → List ℕ → Type 0
-LeadBack nexts first [] = ⊥
-LeadBack nexts first (i ∷ []) = next_at nexts i ≡ Some first
-LeadBack nexts first (i ∷ j ∷ js) = (next_at nexts i ≡ Some j) × LeadBack nexts first (j ∷ js)
+-- that of the one at an index, if it is the least in one
+abbrev pub circle_at : List (Option ℕ) → ℕ → Option (List ℕ)
+circle_at nexts i = circle_from nexts i (length nexts) i
+
+-- those of so many, of which the first one has this index
+abbrev pub circles_from : List (Option ℕ) → ℕ → ℕ → List (List ℕ)
+circles_from nexts i zero = []
+circles_from nexts i (suc n) = option_to_list (circle_at nexts i) ++ circles_from nexts (suc i) n
+
+abbrev pub circles_of : List (Option ℕ) → List (List ℕ)
+circles_of nexts = circles_from nexts 0 (length nexts)
+
+-- the process at an index
+abbrev pub process_at : List Reason → ℕ → ℕ
+process_at reasons i = option_map_or (λ (r : Reason). r.listed.process) (slice_get reasons i) 0
+
+-- all circles, by processes
+abbrev pub circles_among : List Reason → List (List ℕ)
+circles_among reasons = map (map (process_at reasons)) (circles_of (nexts_of reasons))

@@ -1,4 +1,6 @@
 pub mod Changes
 pub mod Circles
 pub mod Lines
+pub mod Notes
 pub mod Reasons
+pub mod Rounds

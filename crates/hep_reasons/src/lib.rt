@@ -1,9 +1,10 @@
 //! Why processes wait: who changed last what they wait for, and circles of those that wait for each other.
 #![tactic(auto)]
 
-pub mod circles;
+mod circles;
 pub mod laws;
 pub mod lines;
+mod nexts;
 pub mod reason;
 
 pub use lines::append_reasons;

@@ -1,5 +1,5 @@
 //! The lines of processes that wait and why.
-ghost use Rattle.std.specs.Prelude.{◌≡◌, ◌++◌, IfOk, OnOk, codes, length, option_map, slice_get};
+ghost use Rattle.std.specs.Prelude.{◌≡◌, ◌++◌, IfOk, OnOk, codes, map, slice_get};
 ghost use Rattle.std.specs.List.{flat_map};
 ghost use Rattle.hep_dump.specs.Names.{name_found};
 ghost use Rattle.hep_image.specs.Names.{names_in_order};
@@ -7,7 +7,8 @@ ghost use Rattle.hep_machine.specs.Words as machine;
 ghost use Rattle.hep_reasons.specs.Circles as circles;
 ghost use Rattle.hep_reasons.specs.Lines as words;
 
-use crate::circles::{circle_from, nexts_of};
+use crate::circles::{circles_of, next_at};
+use crate::nexts::nexts_of;
 use crate::reason::Reason;
 use hep_dump::append_waiting;
 use hep_image::Image;
@@ -17,13 +18,6 @@ use hep_output::append_number;
 use hep_source::{MAIN_NAME, Statement};
 use hep_views::Listed;
 use std::alloc::{AllocError, Global};
-
-// Process p is one of those that wait.
-fn waits_among(p: u64, reasons: &[Reason]) -> bool
-    ensures { result ≡ words.waits_among p reasons.now }
-{
-    reasons.iter().any(|reason| reason.listed.process == p)
-}
 
 fn fate_text(waits: bool, lives: bool) -> &'static [u8]
     ensures { result.now ≡ words.fate_text waits lives }
@@ -126,16 +120,16 @@ fn append_maker(text: &mut Vec<u8>, process: u64, fate: &[u8], full: bool) -> Re
     Ok(())
 }
 
-// The latest change of what one of those that wait waits for, which is called so.
+// The latest change of what one that waits waits for, which is called so, and what has come of the process that made it.
 fn append_latest(
     text: &mut Vec<u8>,
     image: &Image,
-    reasons: &[Reason],
     reason: &Reason,
     it: &[u8],
+    fate: &[u8],
 ) -> Result<(), AllocError>
     ensures { OnOk result (text.new.items
-        ≡ text.old.items ++ words.latest_words (names_in_order image.now) reasons.now reason.now.listed.full it.now reason.now.lives reason.now.latest) }
+        ≡ text.old.items ++ words.latest_words (names_in_order image.now) reason.now.listed.full it.now fate.now reason.now.latest) }
 {
     let Some(change) = reason.latest else {
         text.extend_from_slice(b"nobody has filled or emptied ")?;
@@ -143,8 +137,6 @@ fn append_latest(
         return Ok(());
     };
     let place = change.place;
-    let waits = waits_among(place.process, reasons);
-    let fate = fate_text(waits, reason.lives);
     append_maker(text, place.process, fate, reason.listed.full)?;
     append_step(
         text,
@@ -155,26 +147,32 @@ fn append_latest(
     )
 }
 
-// The lines of one of those that wait.
+// The lines of one that waits, where the process that made the change waits or doesn't.
 fn append_reason(
     alloc: Global,
     text: &mut Vec<u8>,
     image: &Image,
-    reasons: &[Reason],
     reason: &Reason,
+    waits: bool,
 ) -> Result<(), AllocError>
-    ensures { OnOk result (text.new.items ≡ text.old.items ++ words.reason_text image.now reasons.now reason.now) }
+    ensures { OnOk result (text.new.items ≡ text.old.items ++ words.reason_lines image.now reason.now waits) }
 {
     let it = own_word(alloc, image, &reason.listed)?;
     let mut line = Vec::new(alloc);
-    append_latest(&mut line, image, reasons, reason, &it)?;
+    append_latest(
+        &mut line,
+        image,
+        reason,
+        &it,
+        fate_text(waits, reason.lives),
+    )?;
     append_waiting(text, image, &reason.listed)?;
     append_words(text, &line)
 }
 
 // The process at an index.
 fn process_at(reasons: &[Reason], index: usize) -> u64
-    ensures { result ≡ words.process_at reasons.now index }
+    ensures { result ≡ circles.process_at reasons.now index }
 {
     match reasons.get(index) {
         Some(reason) => reason.listed.process,
@@ -197,7 +195,7 @@ fn append_members(
     reasons: &[Reason],
     indexes: &[usize],
 ) -> Result<(), AllocError>
-    ensures { OnOk result (text.new.items ≡ text.old.items ++ words.members_text reasons.now indexes.now) }
+    ensures { OnOk result (text.new.items ≡ text.old.items ++ flat_map words.member_text (map (circles.process_at reasons.now) indexes.now)) }
 {
     for index in indexes {
         append_member(text, process_at(reasons, *index))?;
@@ -229,7 +227,7 @@ fn append_circle(
     reasons: &[Reason],
     indexes: &[usize],
 ) -> Result<(), AllocError>
-    ensures { OnOk result (text.new.items ≡ text.old.items ++ words.members_line reasons.now indexes.now) }
+    ensures { OnOk result (text.new.items ≡ text.old.items ++ words.circle_text (map (circles.process_at reasons.now) indexes.now)) }
 {
     let [first, behind @ ..] = indexes else {
         return Ok(());
@@ -241,44 +239,17 @@ fn append_circle(
     Ok(())
 }
 
-// The line of a circle, if one was found.
-fn append_found(
-    text: &mut Vec<u8>,
-    reasons: &[Reason],
-    found: Option<Vec<usize>>,
-) -> Result<(), AllocError>
-    ensures { OnOk result (text.new.items
-        ≡ text.old.items ++ words.circle_line reasons.now (option_map (λ indexes. indexes.items) found)) }
-{
-    match found {
-        Some(indexes) => append_circle(text, reasons, &indexes),
-        None => Ok(()),
-    }
-}
-
-// The circle of the process at an index, if it has one and is the least in it.
-fn append_circle_of(
-    alloc: Global,
-    text: &mut Vec<u8>,
-    reasons: &[Reason],
-    nexts: &[Option<usize>],
-    index: usize,
-) -> Result<(), AllocError>
-    ensures { OnOk result (text.new.items
-        ≡ text.old.items ++ words.circle_line reasons.now (circles.circle_from nexts.now index (length nexts.now) index)) }
-{
-    let found = circle_from(alloc, nexts, index)?;
-    append_found(text, reasons, found)?;
-    Ok(())
-}
-
 // The lines of all circles.
-fn append_circles(alloc: Global, text: &mut Vec<u8>, reasons: &[Reason]) -> Result<(), AllocError>
-    ensures { OnOk result (text.new.items ≡ text.old.items ++ words.circles_text reasons.now 0 (length reasons.now)) }
+fn append_circles(
+    text: &mut Vec<u8>,
+    reasons: &[Reason],
+    found: &[Vec<usize>],
+) -> Result<(), AllocError>
+    ensures { OnOk result (text.new.items
+        ≡ text.old.items ++ flat_map words.circle_text (map (map (circles.process_at reasons.now)) (map (λ circle. circle.items) found.now))) }
 {
-    let nexts = nexts_of(alloc, reasons)?;
-    for index in 0..reasons.len() {
-        append_circle_of(alloc, text, reasons, &nexts, index)?;
+    for circle in found {
+        append_circle(text, reasons, circle)?;
     }
     Ok(())
 }
@@ -289,21 +260,25 @@ fn append_each(
     text: &mut Vec<u8>,
     image: &Image,
     reasons: &[Reason],
+    nexts: &[Option<usize>],
 ) -> Result<(), AllocError>
+    requires { nexts.now ≡ circles.nexts_of reasons.now }
     ensures { OnOk result (text.new.items ≡ text.old.items ++ flat_map (words.reason_text image.now reasons.now) reasons.now) }
 {
-    for reason in reasons {
-        append_reason(alloc, text, image, reasons, reason)?;
+    for index in 0..reasons.len() {
+        let waits = next_at(nexts, index).is_some();
+        append_reason(alloc, text, image, &reasons[index], waits)?;
     }
     Ok(())
 }
 
 /// Appends why processes wait: for each of these its line, what its unit calls what it waits for, and who changed that last; and then the
-/// circles of those each of which waits for what the next one changed.
+/// circles of those each of which waits for what the next one changed. It takes a time that grows as their number does.
 ///
 /// # Errors
 ///
 /// Only where memory was refused.
+#[tactic(auto, unfolding(crate::specs::Lines::circles_text))]
 pub fn append_reasons(
     alloc: Global,
     text: &mut Vec<u8>,
@@ -312,7 +287,9 @@ pub fn append_reasons(
 ) -> Result<(), AllocError>
     ensures { OnOk result (text.new.items ≡ text.old.items ++ words.reasons_text image.now reasons.now) }
 {
-    append_each(alloc, text, image, reasons)?;
-    append_circles(alloc, text, reasons)?;
+    let nexts = nexts_of(alloc, reasons)?;
+    append_each(alloc, text, image, reasons, &nexts)?;
+    let circles = circles_of(alloc, &nexts)?;
+    append_circles(text, reasons, &circles)?;
     Ok(())
 }

@@ -8,8 +8,8 @@ use Rattle.hep_parse.specs.Program.{IsProgram}
 use Rattle.hep_machine.specs.Words.{spelling, Units}
 use Rattle.hep_conditions.specs.declared.violation.Violation.{Violation}
 use Rattle.hep_conditions.specs.Words.{first_violation}
-use Rattle.hep_check.specs.declared.further.Told.{Told}
-use Rattle.hep_check.specs.Further.{as_told, further}
+use Rattle.hep_judging.specs.declared.further.Told.{Told}
+use Rattle.hep_judging.specs.Further.{as_told, further}
 use Rattle.hep_culprits.specs.declared.culprit.Culprit.{Culprit}
 use Rattle.hep_culprits.specs.Culprits.{culprit_of}
 use Rattle.hep_culprits.specs.Texts.{position_of, text_of}

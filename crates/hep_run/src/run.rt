@@ -7,7 +7,7 @@ ghost use Rattle.hep_run.specs.Outcome.{IsOutcome};
 use crate::front::image_of_source;
 use crate::options::Options;
 use crate::transcript::{Transcript, fault_transcript};
-use hep_outcome::run::image_transcript;
+use hep_choosing::run::image_transcript;
 use std::alloc::{AllocError, Global};
 
 /// All that a run of a source comes to, before a byte of it is written, with notes where `long` is true.

@@ -10,6 +10,9 @@ pub mod Numbered
 pub mod Searching
 pub mod Processes
 pub mod Taken
+pub mod Ahead
+pub mod Given
+pub mod Returning
 pub mod Changes
 pub mod Callers
 pub mod Unchanged

@@ -1,17 +1,18 @@
 -- A process of a machine: its stack, what the machine shows once it has another one, and that there is still room for operands.
-use Rattle.std.proofs.Common.{◌≡◌, ◌⊎◌, inl, inr, ℕ, zero, suc, ◌<◌, ◌≤◌, true, false, true≢false, List, [], ◌∷◌, ◌++◌, length, get_or, reverse, Some, None, refl, sym, ap, ◌∙◌, subst, arith, slice_get, slice_set, vec_capacity, vec_len}
+use Rattle.std.proofs.Common.{◌≡◌, ◌⊎◌, inl, inr, ℕ, zero, suc, ◌+◌, ◌<◌, ◌≤◌, true, false, true≢false, List, [], ◌∷◌, ◌++◌, length, length-append, get_or, reverse, Some, None, refl, sym, ap, ◌∙◌, subst, arith, slice_get, slice_set, vec_capacity, vec_len}
 use Rattle.std.proofs.lemmas.Bool.{cases_Bool, cases_lt}
 use Rattle.std.proofs.lemmas.List.{reverse-append}
 use Rattle.std.proofs.lemmas.Option.{same_Some, none-some, slice_get-get_or, slice_get-map}
 use Rattle.std.specs.Option.{option_map}
 use Rattle.hep_machine.specs.Words.{Value, Units, is_number_among, numbered, with_numbered}
+use Rattle.hep_binding.proofs.Calls.{set-numbered}
 use Rattle.hep_blocked.specs.Numbers.{AreRising}
 use Rattle.hep_code.specs.Words.{deepest}
 use Rattle.hep_step.specs.Simulation.{unit_code}
 use Rattle.hep_proc.specs.declared.process.Local.{Local}
 use Rattle.hep_proc.specs.declared.process.Process.{Process}
 use Rattle.hep_proc.specs.Stacks.{Stack, no_stack, stack_of, stack_with}
-use Rattle.hep_proc.proofs.Levels.{has-levels, last-there, levels-are, some-levels}
+use Rattle.hep_proc.proofs.Levels.{has-levels, last-index, last-there, levels-are, some-levels}
 use Rattle.hep_state.specs.declared.machine.Machine.{Machine}
 use Rattle.hep_state.specs.Words.{AreNumbered, HasLevels, HasRoom, IsPlaceOf, numbers_of, snapshot_of, stacks_of}
 use Rattle.hep_state.proofs.Numbered.{number-within, numbered-past, numbered-stack, numbered-there, numbers-set, one-place, set-stacks, stack-absent, stack-found}
@@ -57,6 +58,11 @@ pub stacks-set : (m : Machine) (p : ℕ) {at : ℕ} {before : Stack} {q : Proces
     → stacks_of (slice_set m.processes.items at r) m.made ≡ with_numbered (snapshot_of m).processes p k
 stacks-set m p {at} {before} {q} r k numbers it same is = set-stacks m.processes.items m.made p at q r k numbers it.there it.number (same ∙ it.number) is
 
+-- and so it has that one
+pub kept-set : (m : Machine) (p : ℕ) {at : ℕ} {before : Stack} {q : Process} (r : Process) (k : Stack) → AreNumbered m → IsAt m.processes.items p at before q → numbered (snapshot_of m).processes p ≡ Some before → r.number ≡ q.number → stack_of r ≡ k
+    → numbered (stacks_of (slice_set m.processes.items at r) m.made) p ≡ Some k
+kept-set m p {at} {before} r k numbers it kept same is = ap (λ ks. numbered ks p) (stacks-set m p r k numbers it same is) ∙ set-numbered (snapshot_of m).processes p before k kept
+
 pub numbered-set : (m : Machine) (p : ℕ) {at : ℕ} {before : Stack} {q : Process} (r : Process) → AreNumbered m → IsAt m.processes.items p at before q → r.number ≡ q.number → AreRising 1 m.made (numbers_of (slice_set m.processes.items at r))
 numbered-set m p {at} {before} {q} r numbers it same = subst (AreRising 1 m.made) (sym (numbers-set m.processes.items at q r it.there same)) numbers
 
@@ -100,6 +106,21 @@ levels-kept m p levels = elim (cases_Bool (is_number_among p (numbers_of m.proce
 ] where
   no-levels : (l : Local) (ls : List Local) → [] ≡ l ∷ ls → ⊥
   no-levels l ls e = true≢false (sym (ap has-levels e))
+
+-- ---- how many levels a process has
+
+-- those of its stack
+pub counted : (q : Process) (l : Local) (ls : List Local) (operands pending : List Value) → stack_of q ≡ stack_with l ls operands pending → (n : ℕ) → n ≡ vec_len q.levels → n ≡ length (reverse ls) + 1
+counted q l ls operands pending is n e = omega (arith, e, last-index q l ls operands pending is, some-levels q l ls operands pending is)
+
+-- levels that are none, and others
+pub none-by : (ls : List Local) (n : ℕ) → n ≡ length (reverse ls) + 1 → n ≡ 1 → ls ≡ []
+none-by [] n e one = refl
+none-by (l ∷ ls) n e one = absurd (omega (arith, e, one, ap length (reverse-append {A = Local} (l ∷ []) ls), length-append (reverse ls) (l ∷ [])))
+
+pub some-by : (ls : List Local) (n : ℕ) → n ≡ length (reverse ls) + 1 → (n ≡ 1 → ⊥) → (l : Local) × (ks : List Local) × (ls ≡ l ∷ ks)
+some-by [] n e other = absurd (other (omega (arith, e)))
+some-by (l ∷ ls) n e other = (l, ls, refl)
 
 -- ---- room for operands
 

@@ -16,4 +16,5 @@ pub mod Stacks
 pub mod Parts
 pub mod Reserving
 pub mod Histories
+pub mod LivingOn
 pub mod Words

@@ -40,3 +40,5 @@ pub use Rattle.hep_state.specs.Reserving.{CanBeMore, HasRoomForCreation, HasRoom
 pub use Rattle.hep_state.specs.Reserving.{ShowsSame}
 unfoldable pub use Rattle.hep_state.specs.Histories.{IsAfterHistory, IsTurn, IsUntaken, cells_of}
 pub use Rattle.hep_state.specs.Histories.{CanTakeCall, CanTakeOperation, CanTakeResume, CanTurn, LeavesAlone}
+unfoldable pub use Rattle.hep_state.specs.LivingOn.{HasLivedOn, LivesOnBelow}
+pub use Rattle.hep_state.specs.LivingOn.{CanBeginCall, CanLiveOn, CanMakeCall, CanReturn, IsSettledTurn, LivesOn, StaysShown, StepsOn}

@@ -1,6 +1,6 @@
 //! CALL, CREATE and references: an activation that begins, with its frame (X3.9-1978, 15.5.2 and 15.6.2).
 ghost use Rattle.std.specs.Prelude.{◌≡◌, ◌+◌};
-ghost use Rattle.hep_state.specs.Words.{Begins, CanBegin, CanCall, CanCreate, KeepsRoomAt, KeepsRoomWith, StepsByCall};
+ghost use Rattle.hep_state.specs.Words.{Begins, CanBegin, CanCall, CanCreate, KeepsRoomAt, KeepsRoomWith, LivesOn, StepsByCall};
 ghost use Rattle.hep_state.specs.Words.{StepsByCreation};
 
 use crate::machine::{Machine, append};
@@ -60,7 +60,7 @@ impl Machine {
         requires { CanCall p self.old called kept index }
         ensures stepped { StepsByCall p called kept index self.old self.new }
         ensures rooms { KeepsRoomAt p called.unit self.old self.new }
-        ensures made { self.new.made ≡ self.old.made }
+        ensures lives { LivesOn p 1 self.old self.new }
     {
         let at = self.place(p);
         let level = self.begin_activation(p, called);

@@ -5,7 +5,7 @@ ghost use Rattle.hep_proc.specs.Nodes.{nodes_of};
 ghost use Rattle.hep_proc.specs.Stacks.{keys_of};
 ghost use Rattle.hep_step.specs.Effects.{answers, fails, returns};
 ghost use Rattle.hep_state.specs.Words.{EndsBy, HaveFramesLeft, IsEndingBy, IsEndingWithRoom, IsLeftWithRoom};
-ghost use Rattle.hep_state.specs.Words.{KeepsRoom, StepsAfter, WaitsAfter};
+ghost use Rattle.hep_state.specs.Words.{KeepsRoom, LivesOnBelow, StepsAfter, WaitsAfter};
 
 use crate::machine::{Machine, append};
 use hep_cells::Want;
@@ -33,6 +33,7 @@ impl Machine {
         ensures stepped { EndsBy returns p self.old self.new }
         ensures rooms { KeepsRoom self.old self.new }
         ensures made { self.new.made ≡ self.old.made }
+        ensures lives { LivesOnBelow p self.old self.new }
     {
         let at = self.place(p);
         let ended = self.processes[at].end_top();

@@ -10,6 +10,7 @@ mod emptying;
 mod ending;
 pub mod laws;
 mod machine;
+mod onward;
 mod opening;
 mod passing;
 mod places;

@@ -10,6 +10,7 @@ use crate::advancing::advance;
 use crate::calling::Called;
 use crate::laws;
 use crate::machine::Machine;
+use crate::onward::creates;
 use crate::places::make_room;
 use crate::upcoming::{CallAhead, StepAhead};
 use hep_blocked::Roster;
@@ -17,7 +18,7 @@ use hep_cells::Want;
 use hep_entries::History;
 use hep_image::Image;
 use hep_proc::Process;
-use hep_step::{Effect, Way};
+use hep_step::Effect;
 use std::alloc::{AllocError, Global};
 use thiserror::Error;
 
@@ -69,22 +70,18 @@ impl Machine {
         history.reserve(1)
     }
 
-    // Room for an activation more of process p, with so many operands at once, for so many of the one below it, and for the entry of its
-    // turn.
-    fn reserve_activation(
+    // Room for an activation more of process p, with so many operands at once, and for so many of the one below it.
+    pub(crate) fn reserve_level(
         &mut self,
         p: u64,
         operands: u32,
         kept: u32,
-        history: &mut History,
     ) -> Result<(), AllocError>
         requires living { HasLevels (snapshot_of self.old) p }
         requires numbers { AreNumbered self.old }
         ensures level { OnOk result (HasRoomForLevel self.new p operands kept) }
-        ensures entry { HasRoomForEntry history.old result history.new }
         ensures same { ShowsSame self.old self.new }
     {
-        history.reserve(1)?;
         self.frames.reserve()?;
         let at = self.place(p);
         self.processes[at].reserve(operands, kept)
@@ -210,24 +207,17 @@ impl Machine {
         if !self.frames.fits(unit.cells) {
             return Err(TurnFault::ArenaFull);
         }
-        let called = Called {
-            unit: call.unit,
-            cells: unit.cells,
-            entry: unit.entry as usize,
-        };
-        match call.way {
-            Way::Calls => {
-                self.reserve_activation(p, unit.operands, kept, history)?;
-                self.call(p, called, kept, call.next);
-            }
-            Way::Refers => {
-                self.reserve_activation(p, unit.operands, kept, history)?;
-                self.call(p, called, kept, call.next);
-            }
-            Way::Creates => {
-                let process = self.reserve_creation(unit.operands, history, roster)?;
-                self.create(p, called, call.next, process);
-            }
+        if creates(call.way) {
+            let called = Called {
+                unit: call.unit,
+                cells: unit.cells,
+                entry: unit.entry as usize,
+            };
+            let process = self.reserve_creation(unit.operands, history, roster)?;
+            self.create(p, called, call.next, process);
+        } else {
+            history.reserve(1)?;
+            self.begin_call(image, p, call, kept)?;
         }
         Ok(Turned::Stepped { changed: None })
     }

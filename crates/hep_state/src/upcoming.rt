@@ -3,7 +3,8 @@
 ghost use Rattle.std.specs.Prelude.{◌≡◌, ◌<◌, ◌^◌, ◌∷◌, List, drop, length};
 ghost use Rattle.hep_code.specs.declared.instruction.Instruction.{Instruction as AnInstruction};
 ghost use Rattle.hep_code.specs.declared.instruction.Instruction.TheVariants.{Step};
-ghost use Rattle.hep_state.specs.Words.{IsItsTurn, HasLevels, HasSettledTop, IsAhead, IsInFront, IsSeenSame, KeepsState, snapshot_of};
+ghost use Rattle.hep_state.specs.Words.{IsItsTurn, HasLevels, HasSettledTop, IsAhead, IsInFront, IsSeenSame, IsSettledTurn, KeepsState};
+ghost use Rattle.hep_state.specs.Words.{snapshot_of};
 
 use crate::advancing::settle_top;
 use crate::machine::Machine;
@@ -115,6 +116,16 @@ impl Machine {
         let code = image.unit(unit as usize).code.as_slice();
         settle_top(process, code);
         ahead_at(code, process.top().index)
+    }
+
+    // What stands ahead of process p, in front of whose next operation no value stands.
+    pub(crate) fn ahead_now(&self, image: &Image, p: u64) -> StepAhead
+        requires { IsSettledTurn image.now p self.now }
+        ensures { IsAhead image.now p self.now (snapshot_of self.now) result }
+    {
+        let at = self.place(p);
+        let Local { unit, index, .. } = self.processes[at].top();
+        ahead_at(image.unit(unit as usize).code.as_slice(), index)
     }
 
     /// The values that stand ahead of process p, which has its turn, are operands from now on. The same state is kept, and seen.

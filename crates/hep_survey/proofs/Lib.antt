@@ -13,4 +13,4 @@ mod Slots
 mod Stacks
 mod Surveyed
 mod Valued
-mod Waited
+pub mod Waited

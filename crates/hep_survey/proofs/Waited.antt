@@ -21,7 +21,7 @@ use Rattle.hep_views.specs.Listed.{listed_at, listed_by, listed_with, place_of}
 use Rattle.hep_views.specs.Sought.{IsSought}
 use Rattle.hep_views.proofs.Places.{in-common, in-frame, variable-told}
 use Rattle.hep_views.proofs.Waiting.{Waits}
-use Rattle.hep_survey.specs.Waits.{element_seen, name_seen, owned_seen, place_seen}
+use Rattle.hep_survey.specs.Waits.{element_seen, name_seen, owned_seen, place_listed, place_seen}
 
 -- ---- places
 
@@ -31,10 +31,10 @@ block-spelled (Some x) = refl
 
 module _ (program : Units) (s : State) where
   -- what is read of a place by these numbers
-  abbrev seen : ℕ → ℕ → ℕ → List ℕ
+  abbrev pub seen : ℕ → ℕ → ℕ → List ℕ
   seen name element owner = owned_seen (name_seen (slice_get (names_in_order program) name)) element owner
 
-  abbrev place-seen : Location → List ℕ
+  abbrev pub place-seen : Location → List ℕ
   place-seen at = seen (place_of program s at).name (place_of program s at).element (place_of program s at).owner
 
   common-seen : (b : BlockName) (k : ℕ) → is_block_among b (blocks_of program) ≡ true → place-seen (common b (suc k)) ≡ words.place_text program s (common b (suc k))
@@ -55,7 +55,7 @@ module _ (program : Units) (cells : ℕ) (choices : List ℕ) (m : Machine) (acc
   abbrev s : State
   s = run program choices
 
-  place-told : (key cell : ℕ) (at : Location) → IsSought program cells choices m key cell at → place-seen program s at ≡ words.place_text program s at
+  pub place-told : (key cell : ℕ) (at : Location) → IsSought program cells choices m key cell at → place-seen program s at ≡ words.place_text program s at
   place-told key cell at h = elim (cases_Bool (nat_lt cell (common_cells program))) [
     | inl t ↦
         let less : cell < common_cells program = grind (arith, nat_tests) in
@@ -79,9 +79,9 @@ module _ (program : Units) (cells : ℕ) (choices : List ℕ) (m : Machine) (acc
   -- ---- words
 
   pub text-is : (after : IsMachineAfter program cells choices m) (p : ℕ) (want : Want) (w : Waits program cells choices m after p want) (l : Listed) → listed_by program p s ≡ Some l
-      → lines.waiting_text l.full (place_seen (names_in_order program) l) ≡ words.waiting_text program s (wanted_by program p s)
+      → lines.waiting_text l.full (place_seen (names_in_order program) (place_listed l)) ≡ words.waiting_text program s (wanted_by program p s)
   text-is after p want w l e =
       let same : l ≡ listed_at program s p w.top.0 w.wanted = same_Some l (listed_at program s p w.top.0 w.wanted) (sym e ∙ (λ i. listed_with program s p (w.lives i) (w.waits i))) in
-      ap (λ (z : Listed). lines.waiting_text z.full (place_seen (names_in_order program) z)) same
+      ap (λ (z : Listed). lines.waiting_text z.full (place_seen (names_in_order program) (place_listed z))) same
       ∙ ap (lines.waiting_text w.wanted.full) (place-told w.is_top.levels.level.key want.cell w.wanted.at w.sought)
       ∙ sym (ap (words.waiting_text program s) w.waits)

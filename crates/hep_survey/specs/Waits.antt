@@ -8,6 +8,7 @@ use Rattle.hep_state.specs.Words.{IsMachineAfter}
 use Rattle.hep_states.specs.Lines as lines
 use Rattle.hep_states.specs.States.{waiting_text}
 use Rattle.hep_views.specs.declared.listed.Listed.{Listed}
+use Rattle.hep_views.specs.declared.place.Place.{Place}
 
 abbrev pub name_seen : Option (List ℕ) → List ℕ
 name_seen None = []
@@ -24,8 +25,12 @@ owned_seen name element zero = lines.element_text (lines.block_name name) elemen
 owned_seen name element (suc a) = lines.owned_text (element_seen name element) (suc a)
 
 -- where variables and blocks have these names by number
-abbrev pub place_seen : List (List ℕ) → Listed → List ℕ
-place_seen names l = owned_seen (name_seen (slice_get names l.name)) l.element l.owner
+abbrev pub place_seen : List (List ℕ) → Place → List ℕ
+place_seen names p = owned_seen (name_seen (slice_get names p.name)) p.element p.owner
+
+-- the place of what a process waits for
+abbrev pub place_listed : Listed → Place
+place_listed l = record { owner = l.owner; name = l.name; element = l.element }
 
 -- after whichever turns process p waits for the cell to be so, these are the words for it
 abbrev pub IsTextOfWait : Units → Machine → ℕ → Want → List ℕ → Type 0

@@ -14,4 +14,4 @@ pub mod waits;
 
 pub use levels::append_process;
 pub use survey::state_text;
-pub use waits::waiting_text;
+pub use waits::{place_listed, place_text, waiting_text};

@@ -1,6 +1,7 @@
 //! What processes wait for.
 ghost use Rattle.std.specs.Prelude.{◌≡◌, IfOk, slice_get};
 ghost use Rattle.hep_image.specs.Names.{names_in_order};
+ghost use Rattle.hep_survey.specs.Waits as words;
 ghost use Rattle.hep_survey.specs.Waits.{IsTextOfWait, name_seen, place_seen};
 ghost use Rattle.hep_views.specs.Sought.{CanBeListed};
 
@@ -8,8 +9,8 @@ use hep_blocked::Want;
 use hep_image::Image;
 use hep_state::Machine;
 use hep_states::{append_block_name, append_element, append_owner, append_waiting};
-use hep_views::Listed;
 use hep_views::finding::listed;
+use hep_views::{Listed, Place};
 use std::alloc::{AllocError, Global};
 
 fn name_of(image: &Image, number: u32) -> &[u8]
@@ -21,23 +22,38 @@ fn name_of(image: &Image, number: u32) -> &[u8]
     }
 }
 
-// The place that a process waits for: `/block/#k`, `name OF a` or `name#k OF a`.
-fn place_text(alloc: Global, image: &Image, listed: &Listed) -> Result<Vec<u8>, AllocError>
-    ensures { IfOk result (λ text. text.items ≡ place_seen (names_in_order image.now) listed.now) }
+/// A place, as a person names it: `/block/#k`, `name OF a` or `name#k OF a`.
+///
+/// # Errors
+///
+/// Only where memory was refused.
+pub fn place_text(alloc: Global, image: &Image, place: Place) -> Result<Vec<u8>, AllocError>
+    ensures { IfOk result (λ text. text.items ≡ place_seen (names_in_order image.now) place) }
 {
-    let name = name_of(image, listed.name);
+    let name = name_of(image, place.name);
     let mut text = Vec::new(alloc);
-    if listed.owner == 0 {
+    if place.owner == 0 {
         append_block_name(&mut text, name)?;
-        append_element(&mut text, listed.element)?;
+        append_element(&mut text, place.element)?;
         return Ok(text);
     }
     text.extend_from_slice(name)?;
-    if listed.element != 0 {
-        append_element(&mut text, listed.element)?;
+    if place.element != 0 {
+        append_element(&mut text, place.element)?;
     }
-    append_owner(&mut text, listed.owner)?;
+    append_owner(&mut text, place.owner)?;
     Ok(text)
+}
+
+/// The place of what a process waits for.
+pub fn place_listed(listed: &Listed) -> Place
+    ensures { result ≡ words.place_listed listed.now }
+{
+    Place {
+        owner: listed.owner,
+        name: listed.name,
+        element: listed.element,
+    }
 }
 
 /// Words for what process p waits for, which waits for a cell to be so.
@@ -57,7 +73,7 @@ pub fn waiting_text(
 {
     image.is_runnable();
     let listed = listed(machine, image, p, want);
-    let place = place_text(alloc, image, &listed)?;
+    let place = place_text(alloc, image, place_listed(&listed))?;
     let mut text = Vec::new(alloc);
     append_waiting(&mut text, listed.full, &place)?;
     Ok(text)

@@ -60,7 +60,7 @@ module _ (program : Units) (s : State) (a : ℕ)
     by_index None = own-above x (common_block scope.unit x)
     by_index (Some k) = references k
 
-  named-above : (x : Name) (vs : List Value) (at : Location) → location_of_name scope x vs ≡ Ok at → IsOwnedAbove s a at
+  pub named-above : (x : Name) (vs : List Value) (at : Location) → location_of_name scope x vs ≡ Ok at → IsOwnedAbove s a at
   named-above x vs at e = by_number (element_of (storage_of scope x) vs) e where
     by_number : (r : Result ℕ Kind) → location_in (storage_of scope x) r ≡ Ok at → IsOwnedAbove s a at
     by_number (Err k) e = absurd cc

@@ -106,8 +106,10 @@ fn in_frame(image: &Image, unit: usize, cell: u32, owner: u64) -> Place
     }
 }
 
-// The storage unit that is kept in a cell: of COMMON, or of the activation whose node is under a key or of one above it.
-fn place_at(machine: &Machine, image: &Image, key: usize, cell: u32) -> Place
+/// The storage unit that is kept in a cell: of COMMON, or of the activation whose node is under a key or of one above it.
+///
+/// This costs the logarithm of the variables of a unit, and a step for each activation from that one up to the one whose variable it is.
+pub fn place_at(machine: &Machine, image: &Image, key: usize, cell: u32) -> Place
     requires { CanBeSought image.now machine.now key cell }
     ensures { IsPlaceSought image.now machine.now key cell result }
 {

@@ -13,4 +13,5 @@ mod place;
 mod whereabouts;
 
 pub use listed::Listed;
+pub use place::Place;
 pub use whereabouts::Whereabouts;

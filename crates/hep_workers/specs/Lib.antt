@@ -1,5 +1,1 @@
 pub mod Faults
-pub mod Receipts
-pub mod Marks
-pub mod Turns
-pub mod Reports

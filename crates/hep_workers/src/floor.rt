@@ -1,17 +1,15 @@
 //! The workers at their work: threads that share a core under a lock.
 ghost use Rattle.std.specs.Prelude.{◌≤◌, IfErr, IfOk, IsSome, OnOk};
 ghost use Rattle.hep_machine.specs.Words.{opening_layout};
-ghost use Rattle.hep_workers.specs.Reports.{IsReport, IsWorkFault};
+ghost use Rattle.hep_reports.specs.Reports.{IsReport};
+ghost use Rattle.hep_workers.specs.Faults.{IsWorkFault};
 
 use crate::crossing::{cores_cross, images_cross};
 use crate::fault::{CrewFault, WorkFault};
 use crate::gate::Gate;
-use crate::options::WorkOptions;
-use crate::receipt::Log;
-use crate::report::{Report, close};
-use crate::turn::worker_turn;
 use hep_core::{ChooseFault, CommitFault, Core, Ticket, Verdict};
 use hep_image::Image;
+use hep_reports::{Log, Report, WorkOptions, close, worker_turn};
 use std::alloc::Global;
 use std::sync::atomic::{AtomicBool, Ordering};
 use std::sync::{Condvar, Mutex, Wait};

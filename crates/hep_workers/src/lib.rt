@@ -5,16 +5,9 @@ mod crossing;
 mod fault;
 mod floor;
 mod gate;
-mod options;
-mod receipt;
-mod report;
-mod turn;
 
-pub use fault::{CloseFault, WorkFault};
+pub use fault::WorkFault;
 pub use floor::run_workers;
 pub use gate::{Gate, NoGate};
 pub use hep_core::{Segment, Ticket, compute};
-pub use options::WorkOptions;
-pub use receipt::{Log, Receipt};
-pub use report::{Report, close};
-pub use turn::worker_turn;
+pub use hep_reports::{CloseFault, Log, Receipt, Report, WorkOptions, close, worker_turn};

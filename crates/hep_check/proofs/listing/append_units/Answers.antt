@@ -2,7 +2,7 @@ use Rattle.std.proofs.Common.{◌≡◌, ◌<◌, ◌+◌, ◌++◌, ◌∙◌, 
 use Rattle.hep_names.proofs.Firsts.{grow}
 use Rattle.hep_machine.specs.Words.{unit_name, unit_at, frame_cells}
 use Rattle.hep_check.specs.Listing.{unit_text, unit_line}
-use Rattle.hep_check.proofs.Sums.{unit-read}
+use Rattle.hep_check.proofs.Units.{unit-read}
 use Rattle.hep_check.proofs.listing.append_units.Goals as goal
 use Rattle.hep_source.proofs.Tests.{drop_at}
 

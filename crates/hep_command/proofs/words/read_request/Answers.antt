@@ -1,7 +1,7 @@
 use Rattle.std.proofs.Common.{◌≡◌, ◌⊎◌, ◌∙◌, ℕ, Bool, List, [], Option, Some, Result, Ok, Err, IfOk, IfErr, map, subst, sym, true}
 use Rattle.clap.specs.Words.{HasKind, HasMatchesOf, Text, app_of, fault_of, is_simple_and_free, subcommand_rows_of}
 use Rattle.hep_command.specs.Asked.{Asked, asked_by, is_long_in, job_in, words_found}
-use Rattle.hep_command.specs.Program.{IsAskedBy, IsStatusFor, asked, is_long}
+use Rattle.hep_command.specs.Program.{IsAskedBy, IsMistaken, IsStatusFor, asked, is_long}
 use Rattle.hep_command.specs.declared.job.Request.{Request}
 use Rattle.hep_command.specs.declared.job.Usage.{Usage}
 use Rattle.hep_command.proofs.ProgramLemmas.{is_long_in-is_long, job_in-asked, refused_status, taken_status}
@@ -13,10 +13,10 @@ asked_by_words : (r : Result Request Usage) (words : List Text) (job : Option As
 asked_by_words (Ok q) words job long job_is long_is by_job by_long = (sym job_is ∙ by_job, by_long ∙ long_is)
 asked_by_words (Err e) words job long job_is long_is by_job by_long = tt
 
-status_of_mistake : (r : Result Request Usage) (P : ℕ → Type 0) → ((n : ℕ) → (n ≡ 2) ⊎ (n ≡ 7) → P n)
-    → IfErr r (λ usage. (usage.status ≡ 2) ⊎ (usage.status ≡ 7)) → IfErr r (λ usage. P usage.status)
-status_of_mistake (Ok q) P by h = tt
-status_of_mistake (Err usage) P by h = by usage.status h
+status_of_mistake : (r : Result Request Usage) (found : Option Asked) (P : ℕ → Type 0) → ((n : ℕ) → (n ≡ 7) ⊎ ((n ≡ 2) × IsMistaken found) → P n)
+    → IfErr r (λ usage. (usage.status ≡ 7) ⊎ ((usage.status ≡ 2) × IsMistaken found)) → IfErr r (λ usage. P usage.status)
+status_of_mistake (Ok q) found P by h = tt
+status_of_mistake (Err usage) found P by h = by usage.status h
 
 pub returns-in-Ok-try_get_matches_from-clause-asked : goal.returns-in-Ok-try_get_matches_from-clause-asked
 returns-in-Ok-try_get_matches_from-clause-asked g c =
@@ -33,10 +33,14 @@ pub returns-in-Ok-try_get_matches_from-clause-status : goal.returns-in-Ok-try_ge
 returns-in-Ok-try_get_matches_from-clause-status g c =
     let words = map g.S.AsStr.text c.args.words.now in
     let program = c.in-Ok.program in
+    let matches = c.in-Ok-try_get_matches_from.matches in
+    let job = job_in (subcommand_rows_of matches) in
+    let found = subst (λ (ws : List Text). HasMatchesOf (app_of program) ws matches) c.heard-words.ensures
+    c.in-Ok-try_get_matches_from.ensures.matches in
     let none = subst (λ (ws : List Text). is_simple_and_free (app_of program) ≡ true → fault_of (app_of program) ws ≡ []) c.heard-words.ensures
     c.in-Ok-try_get_matches_from.ensures.kinds in
-    status_of_mistake c.request_of.result (λ n. (n ≡ 7) ⊎ IsStatusFor words n)
-    (λ n. taken_status program words n c.in-Ok.ensures none) c.request_of.ensures.mistake
+    status_of_mistake c.request_of.result job (λ n. (n ≡ 7) ⊎ IsStatusFor words n)
+    (λ n. taken_status program words job n c.in-Ok.ensures (job_in-asked program matches words c.in-Ok.ensures found) none) c.request_of.ensures.mistake
 
 pub returns-in-Err-try_get_matches_from-clause-status : goal.returns-in-Err-try_get_matches_from-clause-status
 returns-in-Err-try_get_matches_from-clause-status g c =

@@ -1,4 +1,4 @@
-use Rattle.hep_emit.specs.Tables.{names_in}
+use Rattle.hep_arguments.specs.Names.{names_in}
 use Rattle.hep_emit.proofs.Refusals.{of_item}
 use Rattle.hep_emit.proofs.operands.emit_each.Goals as goal
 

@@ -1,120 +1,116 @@
-use Rattle.std.proofs.Common.{◌≡◌, ℕ, ◌-◌, ◌≤◌, List, ◌∷◌, refl, sym, ap, ◌∙◌, subst, is_some, vec_capacity}
-use Rattle.std.specs.Vec.{with_item}
-use Rattle.hep_machine.specs.Words.{Value, main_among, numbered}
-use Rattle.hep_conditions.specs.Words.{IsAccepted}
-use Rattle.hep_binding.proofs.Calls.{set-numbered}
-use Rattle.hep_proc.specs.Nodes.{nodes_of}
-use Rattle.hep_proc.specs.declared.frames.Frames.{Frames}
-use Rattle.hep_image.specs.Image.{most_cells}
-use Rattle.hep_step.specs.Performed as step
-use Rattle.hep_proc.specs.declared.process.Local.{Local}
-use Rattle.hep_state.specs.declared.machine.Machine.{Machine}
-use Rattle.hep_proc.specs.declared.process.Process.{Process}
-use Rattle.hep_proc.specs.Stacks.{Stack, stack_of, stack_with}
-use Rattle.hep_proc.proofs.Levels.{last-there}
-use Rattle.hep_state.specs.Words.{AreNumbered, IsAfter, TurnOf, snapshot_of, turn_with, with_contents, with_stack}
-use Rattle.hep_state.proofs.Moved.{top-node}
-use Rattle.hep_state.proofs.Processes.{IsAt, process-at, room-moved, stacks-set}
-use Rattle.hep_state.proofs.Taken.{inside}
-use Rattle.hep_state.proofs.Tops.{turning}
-use Rattle.hep_state.proofs.Unchanged.{carry, machine-of, rooms-of, rooms-set}
-use Rattle.hep_going.specs.Gone.{HasNoMoveAt}
-use Rattle.hep_going.proofs.Turns.{HasLaws, can-go, come-so, frame-there}
-use Rattle.hep_going.proofs.going.go_on.Goals.{After-tops_are_running}
+use Rattle.std.proofs.Common.{◌≡◌, ◌+◌, ◌-◌, ◌<◌, true, false, refl, sym, ap, ◌∙◌, subst, arith}
+use Rattle.hep_state.specs.Words.{HasLivedOn, Snapshot, StaysShown, StepsOn}
+use Rattle.hep_state.proofs.Unchanged.{machine-reserved}
+use Rattle.hep_going.specs.Gone.{HasNoMoveAhead, MakesMoves}
+use Rattle.hep_going.proofs.Onward.{more-made, none-made, one-made}
+use Rattle.hep_going.proofs.going.go_on.Goals.{After-move_on-made, After-turn_plainly}
 use Rattle.hep_going.proofs.going.go_on.Goals as goal
 
-pub place-at-requires : goal.place-at-requires
-place-at-requires c = record { numbers = c.requires.turn.after.2.numbers; living = c.requires.turn.living }
-
--- what the laws called say of the program
-known : (c : After-tops_are_running) (t : TurnOf) → t.program ≡ c.args.tabled.now.image.now → t.cells ≤ most_cells → HasLaws t
-known c t is few =
+pub loop-made-init : goal.loop-made-init
+loop-made-init c =
     record {
-      running = λ r same turns. c.tops_are_running.ensures.running r (subst IsAccepted (sym (same ∙ is)) c.is_runnable.ensures.accepted) (ap (λ program. is_some (main_among program)) (same ∙ is) ∙ c.is_runnable.ensures.main) turns;
-      arrays = λ r same turns. c.tops_are_running.ensures.arrays r (subst IsAccepted (sym (same ∙ is)) c.is_runnable.ensures.accepted) (ap (λ program. is_some (main_among program)) (same ∙ is) ∙ c.is_runnable.ensures.main) turns;
-      few = few;
+      gone = none-made c.args.tabled.now.image.now c.args.p c.args.machine.now;
+      living = c.requires.turn.turn.living;
+      running = c.requires.turn.turn.running;
+      same = refl;
+      counted = omega arith;
+      few = omega arith;
     }
 
-pub go_top-requires : goal.go_top-requires
-go_top-requires c =
+pub move_on-made-requires : goal.move_on-made-requires
+move_on-made-requires c =
+    let inv = c.loop-made.invariant in
+    let h = c.requires.turn.turn.after in
+    let there = inv.gone h.0 h.1 h.2 in
+    record { turn = record { after = (h.0, there.0, there.2); running = inv.running; living = inv.living }; tables = c.requires.turn.tables }
+
+-- so many turns, with those that only moved it
+moved : (c : After-move_on-made) → MakesMoves c.args.tabled.now.image.now c.args.p c.args.machine.now (c.loop-made.made + c.move_on-made.result) c.move_on-made.new.machine
+moved c = more-made c.args.tabled.now.image.now c.args.p c.args.machine.now c.loop-made.machine c.move_on-made.new.machine c.loop-made.made c.move_on-made.result c.loop-made.invariant.gone c.move_on-made.ensures.gone
+
+-- the turn that comes next, in front of which no value stands
+pub turn_plainly-requires : goal.turn_plainly-requires
+turn_plainly-requires c =
+    let before = (goal.at.turn_plainly-requires c).After-move_on-made in
+    let inv = c.loop-made.invariant in
+    let h = c.requires.turn.turn.after in
+    let there = moved before h.0 h.1 h.2 in
+    let fewer : c.move_on-made.result < c.args.most - c.loop-made.made = omega (arith, c.move_on-made.ensures.few, c.loop-made-test.true, c.if-made-most.false) in
+    let none = c.move_on-made.ensures.all fewer in
+    let lives = c.move_on-made.ensures.lives in
+    record {
+      settled = record { turn = record { after = (h.0, there.0, there.2); running = lives.running ∙ inv.running; living = none.living }; past = none.none.past };
+      countable = omega (arith, c.requires.countable, inv.counted, lives.counted, fewer);
+    }
+
+-- by whether that was made
+stayed : (c : After-turn_plainly) → c.turn_plainly.result ≡ false → StaysShown c.args.tabled.now.image.now c.move_on-made.new.machine c.turn_plainly.new.self
+stayed c e = subst (λ b. HasLivedOn c.args.tabled.now.image.now c.args.p c.move_on-made.new.machine b c.turn_plainly.new.self) e c.turn_plainly.ensures
+
+stepped : (c : After-turn_plainly) → c.turn_plainly.result ≡ true → StepsOn c.args.tabled.now.image.now c.args.p c.move_on-made.new.machine c.turn_plainly.new.self
+stepped c e = subst (λ b. HasLivedOn c.args.tabled.now.image.now c.args.p c.move_on-made.new.machine b c.turn_plainly.new.self) e c.turn_plainly.ensures
+
+-- ---- where it ends
+
+pub returns-then-made-most-clause-gone : goal.returns-then-made-most-clause-gone
+returns-then-made-most-clause-gone c = moved (goal.at.returns-then-made-most-clause-gone c).After-move_on-made
+
+pub returns-then-made-most-clause-made : goal.returns-then-made-most-clause-made
+returns-then-made-most-clause-made c = c.move_on-made.ensures.lives.made ∙ c.loop-made.invariant.same
+
+pub returns-then-made-most-clause-halted : goal.returns-then-made-most-clause-halted
+returns-then-made-most-clause-halted c = c.move_on-made.ensures.lives.running ∙ c.loop-made.invariant.running
+
+pub returns-then-not-turn_plainly-clause-gone : goal.returns-then-not-turn_plainly-clause-gone
+returns-then-not-turn_plainly-clause-gone c cells choices h =
+    let turned = (goal.at.returns-then-not-turn_plainly-clause-gone c).After-turn_plainly in
+    let stays = stayed turned c.if-not-turn_plainly.true in
+    let there = moved (goal.at.After-turn_plainly turned).After-move_on-made cells choices h in
+    (there.0, there.1, machine-reserved c.args.tabled.now.image.now cells there.0 c.move_on-made.new.machine c.turn_plainly.new.self stays.shown (stays.rooms cells) there.2)
+
+pub returns-then-not-turn_plainly-clause-all : goal.returns-then-not-turn_plainly-clause-all
+returns-then-not-turn_plainly-clause-all c fewer =
+    let stays = stayed (goal.at.returns-then-not-turn_plainly-clause-all c).After-turn_plainly c.if-not-turn_plainly.true in
+    subst (HasNoMoveAhead c.args.tabled.now.image.now c.args.p) (sym stays.shown) (c.move_on-made.ensures.all (omega (arith, fewer)))
+
+pub returns-then-not-turn_plainly-clause-made : goal.returns-then-not-turn_plainly-clause-made
+returns-then-not-turn_plainly-clause-made c = (stayed (goal.at.returns-then-not-turn_plainly-clause-made c).After-turn_plainly c.if-not-turn_plainly.true).made ∙ (c.move_on-made.ensures.lives.made ∙ c.loop-made.invariant.same)
+
+pub returns-then-not-turn_plainly-clause-halted : goal.returns-then-not-turn_plainly-clause-halted
+returns-then-not-turn_plainly-clause-halted c =
+    let stays = stayed (goal.at.returns-then-not-turn_plainly-clause-halted c).After-turn_plainly c.if-not-turn_plainly.true in
+    ap (λ (m : Snapshot). m.halted) stays.shown ∙ (c.move_on-made.ensures.lives.running ∙ c.loop-made.invariant.running)
+
+-- ---- one turn more
+
+pub loop-made-preserved : goal.loop-made-preserved
+loop-made-preserved c =
+    let turned = (goal.at.loop-made-preserved c).After-turn_plainly in
+    let before = (goal.at.After-turn_plainly turned).After-move_on-made in
+    let inv = c.loop-made.invariant in
     let program = c.args.tabled.now.image.now in
-    let p = c.args.p in
-    let q = c.index_mut-process.result.now in
-    let e = c.requires.turn.living in
-    let h = c.requires.turn.after.2 in
-    let it = process-at c.args.machine.now p c.requires.turn.after.2.numbers c.place-at.ensures e.kept c.index_mut-process.ensures.value in
-    let turn = turning p h.after e c.requires.turn.running in
-    let t = turn_with program c.requires.turn.after.0 c.requires.turn.after.1 e turn.0 in
-    let runs = known (goal.at.go_top-requires c).After-tops_are_running t refl h.few in
-    let framed = frame-there t runs turn.1 in (
-      c.requires.tables,
-      record {
-        l = e.level;
-        ls = e.below;
-        operands = e.operands;
-        pending = e.pending;
-        stack = it.stack;
-        inside = inside turn.1;
-        there = top-node turn.1;
-        sized = framed.0;
-        common = framed.1;
-        ready = can-go t runs turn.1 (vec_capacity q.operands) (h.room c.place-at.result q it.there _ e.level (last-there q e.level e.below e.operands e.pending it.stack));
-      },
-    )
-
--- what the machine shows, where a process has another stack and cells of the arena have changed
-shown-now : (m : Machine) (p : ℕ) {at : ℕ} {before : Stack} {q : Process} (r : Process) (frames : Frames) (l : Local) (ls : List Local) (left pending : List Value) (next : ℕ) → AreNumbered m → IsAt m.processes.items p at before q → r.number ≡ q.number
-    → stack_of r ≡ stack_with (record l { index = next }) ls left pending → frames.arena.holes ≡ m.frames.arena.holes → frames.nodes ≡ m.frames.nodes
-    → snapshot_of (record m { frames = frames; processes = with_item m.processes at r }) ≡ with_stack (with_contents (snapshot_of m) frames.arena.contents) p (record l { index = next } ∷ ls) left pending
-shown-now m p r frames l ls left pending next numbers it same stack holes nodes =
-    let stacks = stacks-set m p r (stack_with (record l { index = next }) ls left pending) numbers it same stack in
-    λ i. record (with_stack (with_contents (snapshot_of m) frames.arena.contents) p (record l { index = next } ∷ ls) left pending) {
-      arena = record { contents = frames.arena.contents; holes = holes i };
-      nodes = nodes_of (nodes i);
-      processes = stacks i;
+    let lives = c.move_on-made.ensures.lives in
+    let steps = stepped turned c.if-not-turn_plainly.false in
+    let running = lives.running ∙ inv.running in
+    record {
+      gone = more-made program c.args.p c.args.machine.now c.move_on-made.new.machine c.turn_plainly.new.self (c.loop-made.made + c.move_on-made.result) 1 (moved before) (one-made program c.args.p c.move_on-made.new.machine c.turn_plainly.new.self running steps);
+      living = steps.lives.living;
+      running = steps.lives.running ∙ running;
+      same = steps.lives.made ∙ (lives.made ∙ inv.same);
+      counted = omega (arith, steps.lives.counted, lives.counted, inv.counted);
+      few = omega (arith, c.move_on-made.ensures.few, c.loop-made-test.true, c.if-made-most.false);
     }
+
+-- ---- as many as were asked for
 
 pub returns-clause-gone : goal.returns-clause-gone
-returns-clause-gone c cells choices h =
-    let program = c.args.tabled.now.image.now in
-    let old = c.args.machine.now in
-    let p = c.args.p in
-    let q = c.index_mut-process.result.now in
-    let r = c.go_top.new.process in
-    let done = c.go_top.ensures in
-    let e = c.requires.turn.living in
-    let l = e.level in
-    let ls = e.below in
-    let vs = e.operands in
-    let ws = e.pending in
-    let it = process-at old p c.requires.turn.after.2.numbers c.place-at.ensures e.kept c.index_mut-process.ensures.value in
-    let turn = turning p h.after e c.requires.turn.running in
-    let t = turn_with program cells choices e turn.0 in
-    let a = done.gone l ls vs ws it.stack in
-    let come = come-so t (known (goal.at.returns-clause-gone c).After-tops_are_running t refl h.few) turn.1 c.go_top.result (step.snapshot c.go_top.new.frames.arena.contents a.left a.next) a.gone in
-    let shown = shown-now old p r c.go_top.new.frames l ls a.left ws a.next c.requires.turn.after.2.numbers it done.same.number a.stack done.holes done.nodes in (
-      come.after,
-      come.gone,
-      machine-of program cells come.after _ (subst (IsAfter program cells come.after) (sym shown) come.turns.after) (
-          rooms-set program cells old _ r it done.same.number refl refl refl (room-moved program q r l a.next ls vs a.left ws it.stack a.stack done.same.room (h.room c.place-at.result q it.there)) (rooms-of program cells choices old h)),
-    )
+returns-clause-gone c = c.loop-made.invariant.gone
 
-pub returns-clause-all : goal.returns-clause-all
-returns-clause-all c fewer =
-    let old = c.args.machine.now in
-    let p = c.args.p in
-    let r = c.go_top.new.process in
-    let e = c.requires.turn.living in
-    let it = process-at old p c.requires.turn.after.2.numbers c.place-at.ensures e.kept c.index_mut-process.ensures.value in
-    let a = c.go_top.ensures.gone e.level e.below e.operands e.pending it.stack in
-    let k = stack_with (record e.level { index = a.next }) e.below a.left e.pending in
-    record {
-      living = record {
-        level = record e.level { index = a.next };
-        below = e.below;
-        operands = a.left;
-        pending = e.pending;
-        kept = ap (λ ks. numbered ks p) (stacks-set old p r k c.requires.turn.after.2.numbers it c.go_top.ensures.same.number a.stack) ∙ set-numbered (snapshot_of old).processes p (stack_with e.level e.below e.operands e.pending) k e.kept;
-      };
-      none = carry (λ i. HasNoMoveAt c.args.tabled.now.image.now (nodes_of (sym c.go_top.ensures.nodes i)) e.level (step.snapshot c.go_top.new.frames.arena.contents a.left a.next)) (a.all fewer);
-    }
+pub returns-clause-few : goal.returns-clause-few
+returns-clause-few c = c.loop-made.invariant.few
+
+pub returns-clause-made : goal.returns-clause-made
+returns-clause-made c = c.loop-made.invariant.same
+
+pub returns-clause-halted : goal.returns-clause-halted
+returns-clause-halted c = c.loop-made.invariant.running

@@ -1,4 +1,3 @@
-use Rattle.std.proofs.Common.{◌∙◌}
 use Rattle.hep_state.proofs.Processes.{process-at}
 use Rattle.hep_state.proofs.Taken.{inside}
 use Rattle.hep_state.proofs.Tops.{turning}

@@ -1,12 +1,8 @@
-use Rattle.std.proofs.Common.{◌≡◌, ℕ, List, Option, Some, None, length, ◌+◌, ◌-◌, ◌<◌, suc, ◌∷◌, ◌++◌, refl, sym, ap, ◌∙◌, arith}
+use Rattle.std.proofs.Common.{◌≡◌, ℕ, List, Option, Some, length, ◌+◌, ◌-◌, ◌<◌, suc, ◌++◌, sym, ap, ◌∙◌, arith}
 use Rattle.std.specs.Option.{option_map}
-use Rattle.hep_reasons.specs.Circles.{circle_from, next_at}
-use Rattle.hep_reasons.proofs.Leading.{closes, ends, goes_on, leaves, no-more}
+use Rattle.hep_reasons.specs.Circles.{circle_from}
+use Rattle.hep_reasons.proofs.Leading.{closes, ends, goes_on, leaves, no-more, nobody}
 use Rattle.hep_reasons.proofs.circles.circle_from.Goals as goal
-
-nobody : (o : Option ℕ) → ((j : ℕ) → o ≡ Some j → ⊥) → o ≡ None
-nobody None not = refl
-nobody (Some j) not = absurd (not j refl)
 
 left : (n i : ℕ) → i < n → suc (n - (i + 1)) ≡ n - i
 left n i less = omega (arith, less)

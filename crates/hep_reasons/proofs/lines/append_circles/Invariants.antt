@@ -1,7 +1,10 @@
-use Rattle.std.proofs.Common.{◌≡◌, ◌++◌, ◌-◌, length}
-use Rattle.hep_reasons.specs.Lines.{circles_text}
+use Rattle.std.proofs.Common.{◌≡◌, ◌++◌, drop, map}
+use Rattle.std.specs.List.{flat_map}
+use Rattle.hep_reasons.specs.Circles.{process_at}
+use Rattle.hep_reasons.specs.Lines.{circle_text}
 use Rattle.hep_reasons.proofs.lines.append_circles.Given as goal
 
-abbrev pub invariant-loop-index : goal.invariant-loop-index
-invariant-loop-index l =
-    l.text.items ++ circles_text l.reasons l.index (length l.reasons - l.index) ≡ l.initial.text.items ++ circles_text l.reasons 0 (length l.reasons)
+abbrev pub invariant-loop-circle : goal.invariant-loop-circle
+invariant-loop-circle l =
+    l.text.items ++ flat_map circle_text (map (map (process_at l.reasons)) (map (λ c. c.items) (drop l.circle-index l.found)))
+    ≡ l.initial.text.items ++ flat_map circle_text (map (map (process_at l.reasons)) (map (λ c. c.items) l.found))

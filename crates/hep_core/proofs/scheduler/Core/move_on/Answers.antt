@@ -14,7 +14,7 @@ use Rattle.hep_core.specs.Tickets.{is_out}
 use Rattle.hep_core.specs.Value.{CoreValue, IsStop}
 use Rattle.hep_core.proofs.Coming.{next-levels}
 use Rattle.hep_core.proofs.Going.{IsNext, chosen-so, core-goes-on, core_along, entries-more, home-so, last-along, moves-begun, moves-on, next-alone, next-begun, next-round, next-so, nobody-out}
-use Rattle.hep_core.proofs.Histories.{state-is}
+use Rattle.hep_core.proofs.Histories.{few-steps, state-is}
 use Rattle.hep_core.proofs.Kept.{AreSeen, halted-is, some-of}
 use Rattle.hep_core.proofs.scheduler.Core.move_on.Goals.{After-lives, After-note_all, After-other_next}
 use Rattle.hep_core.proofs.scheduler.Core.move_on.Goals as goal
@@ -80,14 +80,22 @@ loop-done-init c =
       short = omega (arith, is.few, ap length items);
     }
 
-pub go_on-made-requires : goal.go_on-made-requires
-go_on-made-requires c =
+pub go_on-made-requires-clause-turn : goal.go_on-made-requires-clause-turn
+go_on-made-requires-clause-turn c =
     let i = c.loop-done.self-inside in
     let k = c.loop-done.invariant.kept in
     record {
       turn = record { after = (i.cells, schedule_of i.history.items, k.after); running = goes i k c.loop-done.invariant.going; living = c.loop-done.invariant.living };
       tables = subst (AreTables i.image) (sym c.deref.ensures.value) k.tabled;
     }
+
+-- each activation was made by an entry of its own, of which there are less than 2^63
+pub go_on-made-requires-clause-countable : goal.go_on-made-requires-clause-countable
+go_on-made-requires-clause-countable c =
+    let i = c.loop-done.self-inside in
+    let k = c.loop-done.invariant.kept in
+    let h = i.history.items in
+    omega (arith, c.activations_are_few.ensures.activations i.image i.cells (schedule_of h) (snapshot_of i.machine) k.after.after, few-steps h k.single, c.loop-done.invariant.short, c.at_once-each.ensures.few)
 
 -- no more than there is room for
 few-made : (c : After-note_all) → c.loop-done.done + c.go_on-made.result ≤ c.min-room.result

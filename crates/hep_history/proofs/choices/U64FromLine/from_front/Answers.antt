@@ -1,5 +1,6 @@
 use Rattle.std.proofs.Common.{sym, ◌∙◌, arith}
-use Rattle.hep_history.proofs.Digits.{choice_is, same_numbers}
+use Rattle.hep_numbers.proofs.Digits.{same_numbers}
+use Rattle.hep_history.proofs.Digits.{choice_is}
 use Rattle.hep_history.proofs.choices.U64FromLine.from_front.Goals as goal
 
 pub returns-then-process-eq0-clause-none : goal.returns-then-process-eq0-clause-none

@@ -1,5 +1,6 @@
 use Rattle.std.proofs.Common.{sym, ◌∙◌, arith}
-use Rattle.hep_history.proofs.Digits.{if_none, entry_is, marked, same_numbers}
+use Rattle.hep_numbers.proofs.Digits.{if_none, marked, same_numbers}
+use Rattle.hep_history.proofs.Digits.{entry_is}
 use Rattle.hep_history.proofs.history.EntryFromLine.from_front.Goals as goal
 
 pub returns-in_err-steps-clause-none : goal.returns-in_err-steps-clause-none

@@ -1,16 +1,16 @@
-use Rattle.std.proofs.Common.{◌≡◌, ◌≤◌, Bool, false, [], ◌∷◌, ◌++◌, length, take, refl, sym, ap, ◌∙◌, subst, arith, slice_get, slice_set, vec_capacity}
+use Rattle.std.proofs.Common.{◌≡◌, ◌≤◌, Bool, false, Some, [], ◌∷◌, ◌++◌, length, take, refl, sym, ap, ◌∙◌, subst, arith, slice_get, slice_set, vec_capacity}
 use Rattle.std.specs.Vec.{with_item}
-use Rattle.hep_machine.specs.Words.{with_numbered}
+use Rattle.hep_machine.specs.Words.{numbered, with_numbered}
 use Rattle.hep_code.specs.Words.{deepest}
 use Rattle.hep_proc.specs.Nodes.{nodes_of}
 use Rattle.hep_step.specs.Simulation.{unit_code}
 use Rattle.hep_proc.specs.declared.process.Local.{Local}
-use Rattle.hep_proc.specs.Stacks.{Stack}
+use Rattle.hep_proc.specs.Stacks.{Stack, stack_with}
 use Rattle.hep_proc.proofs.Levels.{operands-are}
 use Rattle.hep_state.specs.declared.machine.Machine.{Machine}
 use Rattle.hep_state.specs.Words.{HasMadeTurn, entered_level, snapshot_made_by, snapshot_of, stacks_of, turn_of}
 use Rattle.hep_state.proofs.Begun.{made-shown}
-use Rattle.hep_state.proofs.Processes.{numbers-still, process-still, room-more, stacks-set, some-levels-at}
+use Rattle.hep_state.proofs.Processes.{kept-set, numbers-still, process-still, room-more, stacks-set, some-levels-at}
 use Rattle.hep_state.proofs.Unchanged.{rooms-begun, rooms-set}
 use Rattle.hep_state.proofs.machine.Machine.call.Goals as goal
 
@@ -82,5 +82,18 @@ returns c =
           let enough : deepest (unit_code program level.unit) ≤ vec_capacity r.operands = omega (arith, unit, capacity, deep c.place-at.result q (ap (λ qs. slice_get qs c.place-at.result) (sym same) ∙ it.there) it.number) in
           rooms-set program cells new _ r it number refl refl refl (
           room-more program q r e.level (record e.level { kept = c.args.kept; index = c.args.index }) level e.below e.operands [] e.pending (e.pending ++ take c.args.kept e.operands) refl it.stack (c.put_above.ensures.stack e.level e.below e.operands e.pending it.stack) (omega (arith, capacity)) enough (had.room c.place-at.result q it.there)) had;
-      made = count;
+      lives =
+          let e = c.requires.calling.5.making.levels in
+          let it = process-still old new p same count c.requires.numbers c.place-at.ensures e.kept c.index_mut.ensures.value in
+          let before = stack_with e.level e.below e.operands e.pending in
+          let later : Local = record e.level { kept = c.args.kept; index = c.args.index } in
+          let pending = e.pending ++ take c.args.kept e.operands in
+          let k : Stack = record { levels = level ∷ (later ∷ e.below); operands = []; pending = pending } in
+          let kept : numbered (snapshot_of new).processes p ≡ Some before = (λ i. numbered (stacks_of (same i) (count i)) p) ∙ e.kept in
+          record {
+            living = record { level = level; below = later ∷ e.below; operands = []; pending = pending; kept = kept-set new p r k numbers it kept number (c.put_above.ensures.stack e.level e.below e.operands e.pending it.stack) };
+            running = ap (λ (n : Machine). n.halted) begun.others;
+            made = count;
+            counted = omega (arith, ap (λ (n : Machine). n.activations) begun.others);
+          };
     }

@@ -1,12 +1,13 @@
-use Rattle.std.proofs.Common.{[], refl, sym, ap, ◌∙◌, subst, arith}
+use Rattle.std.proofs.Common.{[], ◌∷◌, refl, sym, ap, ◌∙◌, subst, arith}
 use Rattle.slab.specs.Slab.{ContainsKey}
 use Rattle.hep_machine.specs.Words.{is_held}
 use Rattle.hep_proc.specs.Nodes.{nodes_of}
 use Rattle.hep_proc.proofs.Slabs.{some-value}
 use Rattle.hep_proc.specs.declared.process.Local.{Local}
+use Rattle.hep_proc.specs.Stacks.{Stack}
 use Rattle.hep_state.specs.Words.{HasMadeTurn, node_under, snapshot_of, snapshot_returned, state_before, state_returned, turn_of}
 use Rattle.hep_state.proofs.Moved.{kept-now, lead-upwards, returned-ended, returned-shown, top-node}
-use Rattle.hep_state.proofs.Processes.{process-at, room-fewer, stacks-set, some-levels-at}
+use Rattle.hep_state.proofs.Processes.{kept-set, process-at, room-fewer, stacks-set, some-levels-at}
 use Rattle.hep_state.proofs.Unchanged.{rooms-set}
 use Rattle.hep_state.proofs.machine.Machine.finish.Goals as goal
 
@@ -52,3 +53,17 @@ returns-clause-rooms c program cells h =
     let it = process-at c.args.self.now p c.requires.4 c.place-at.ensures c.requires.3.levels.kept c.index_mut.ensures.value in
     rooms-set program cells c.args.self.now _ r it c.end_top-ended.ensures.number refl refl refl (
     room-fewer program q r c.end_top-ended.result c.end_top-ended.ensures.fewer (omega (arith, c.end_top-ended.ensures.capacity)) (h.room c.place-at.result q it.there)) h
+
+pub returns-clause-lives : goal.returns-clause-lives
+returns-clause-lives c levels l ls below =
+    let m = c.args.self.now in
+    let p = c.args.p in
+    let it = process-at m p c.requires.4 c.place-at.ensures levels.kept c.index_mut.ensures.value in
+    let k : Stack = record { levels = l ∷ ls; operands = []; pending = levels.pending } in
+    let left = c.end_top-ended.ensures.stack levels.level levels.below levels.operands levels.pending it.stack ∙ (λ i. record { levels = below i; operands = []; pending = levels.pending }) in
+    record {
+      living = record { level = l; below = ls; operands = []; pending = levels.pending; kept = kept-set m p c.end_top-ended.new.self k c.requires.4 it levels.kept c.end_top-ended.ensures.number left };
+      running = refl;
+      made = refl;
+      counted = omega arith;
+    }

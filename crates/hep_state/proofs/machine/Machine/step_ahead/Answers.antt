@@ -1,20 +1,12 @@
-use Rattle.std.proofs.Common.{◌≡◌, ℕ, ◌-◌, ◌<◌, ◌≤◌, Bool, false, List, ◌∷◌, drop, length, refl, sym, ap, ◌∙◌, subst, arith, vec_capacity, length-set}
+use Rattle.std.proofs.Common.{◌≡◌, ◌-◌, ◌<◌, ◌≤◌, ◌∷◌, drop, length, refl, sym, ap, ◌∙◌, subst, arith, vec_capacity, length-set}
 use Rattle.std.specs.Vec.{with_item}
-use Rattle.hep_machine.specs.Words.{Units}
-use Rattle.hep_machine.specs.State.{Level as SourceLevel, Process as SourceProcess}
-use Rattle.hep_code.specs.declared.instruction.Instruction.{Instruction}
-use Rattle.hep_code.specs.declared.instruction.Instruction.TheVariants.{Step}
-use Rattle.hep_code.specs.declared.instruction.Operation.{Operation}
-use Rattle.hep_code.specs.declared.instruction.Operation.TheVariants.{Call, Create, Refer, Purge, Resume, Return}
-use Rattle.hep_code.specs.Words.{IsPastPushes, values_ahead, deepest}
-use Rattle.hep_step.specs.Simulation.{IsNotLeftOut, is_left_out, unit_code}
+use Rattle.hep_code.specs.Words.{values_ahead, deepest}
+use Rattle.hep_step.specs.Simulation.{unit_code}
 use Rattle.hep_proc.specs.declared.process.Local.{Local}
 use Rattle.hep_proc.specs.Stacks.{stack_with}
 use Rattle.hep_proc.proofs.Levels.{last-there, some-levels}
-use Rattle.hep_state.specs.declared.upcoming.StepAhead.{StepAhead}
-use Rattle.hep_state.specs.declared.upcoming.StepAhead.TheVariants as ahead
-use Rattle.hep_state.specs.declared.machine.Machine.{Machine}
-use Rattle.hep_state.specs.Words.{HasLevels, HasNone, IsAhead, IsInFront, IsMachineAfter, Snapshot, snapshot_of, IsTurning, turn_with, with_stack, IsAfter}
+use Rattle.hep_state.specs.Words.{HasLevels, IsAhead, IsInFront, Snapshot, snapshot_of, with_stack, IsAfter}
+use Rattle.hep_state.proofs.Ahead.{found-ahead}
 use Rattle.hep_state.proofs.Processes.{process-at, room-moved, stacks-set, some-levels-at}
 use Rattle.hep_state.proofs.Tops.{settled, turning}
 use Rattle.hep_state.proofs.Taken.{inside, room-ahead}
@@ -24,26 +16,6 @@ use Rattle.hep_binding.proofs.Calls.{set-numbered}
 
 pub place-at-requires : goal.place-at-requires
 place-at-requires c = record { numbers = c.requires.after.2.numbers; living = c.requires.living }
-
--- where none of them stands
-none-left-out : (code : List Instruction) (index : ℕ) → HasNone (drop index code) → IsNotLeftOut code index
-none-left-out code index none line o behind ahead = by_operation o (subst HasNone ahead none) where
-  by_operation : (o : Operation) → HasNone (Step line o ∷ behind) → is_left_out o ≡ false
-  by_operation (Call u count next) h = absurd h
-  by_operation (Create u count next) h = absurd h
-  by_operation (Refer u count) h = absurd h
-  by_operation (Purge count next) h = absurd h
-  by_operation (Resume next) h = absurd h
-  by_operation _ h = refl
-
--- where RETURN stands
-is-left-there : List Instruction → Bool
-is-left-there (Step line o ∷ behind) = is_left_out o
-is-left-there _ = false
-
-return-left-out : (code : List Instruction) (index line : ℕ) (behind : List Instruction) → drop index code ≡ Step line Return ∷ behind → IsNotLeftOut code index
-unfolding is-left-there
-return-left-out code index line behind found other o rest ahead = sym (ap is-left-there (sym found ∙ ahead))
 
 pub top-unit-requires : goal.top-unit-requires
 top-unit-requires c = some-levels-at (process-at c.args.self.now c.args.p c.requires.after.2.numbers c.place-at.ensures c.requires.living.kept c.index_mut-process.ensures.value)
@@ -77,30 +49,6 @@ top-requires c =
     let code : c.as_slice-code.result.now ≡ unit_code program e.level.unit = c.as_slice-code.ensures ∙ (c.unit.ensures.code ∙ ap (λ (k : Local). unit_code program k.unit) (c.top-unit.ensures e.level e.below e.operands e.pending it.stack)) in
     let s = c.settle_top.ensures.settled program e.level e.below e.operands e.pending code it.stack in
     some-levels c.settle_top.new.process (record e.level { index = s.0 }) e.below s.1 e.pending s.2
-
--- what stands in front of the instructions that are ahead, once the values in front of it are operands
-found-ahead : (program : Units) (old : Machine) {m : Snapshot} {p : ℕ} (levels : HasLevels m p)
-    → ((cells : ℕ) (choices : List ℕ) → IsMachineAfter program cells choices old → (top : SourceLevel × SourceProcess) × IsTurning (turn_with program cells choices levels top))
-    → IsPastPushes (unit_code program levels.level.unit) levels.level.index
-    → (ahead : StepAhead) → IsInFront levels.level.index (drop levels.level.index (unit_code program levels.level.unit)) ahead → IsAhead program p old m ahead
-found-ahead program old levels turns past (ahead.Call call) found = λ cells choices after.
-    let turn = turns cells choices after in
-    record { levels = levels; top = turn.0; holds = record { step = record { turning = turn.1; behind = found.0; ahead = found.1 }; onward = found.2 } }
-found-ahead program old levels turns past (ahead.Purge purge) found = λ cells choices after.
-    let turn = turns cells choices after in
-    record { levels = levels; top = turn.0; holds = record { turning = turn.1; behind = found.0; ahead = found.1 } }
-found-ahead program old levels turns past (ahead.Resume next) found = λ cells choices after.
-    let turn = turns cells choices after in
-    record { levels = levels; top = turn.0; holds = (found.0, record { turning = turn.1; behind = found.1; ahead = found.2 }) }
-found-ahead program old levels turns past ahead.Return found =
-    record {
-      operation = record { levels = levels; past = past; plain = return-left-out (unit_code program levels.level.unit) levels.level.index found.0 found.1 found.2 };
-      line = found.0;
-      behind = found.1;
-      ahead = found.2;
-    }
-found-ahead program old levels turns past ahead.Other none =
-    record { levels = levels; past = past; plain = none-left-out (unit_code program levels.level.unit) levels.level.index none }
 
 pub returns : goal.returns
 returns c =

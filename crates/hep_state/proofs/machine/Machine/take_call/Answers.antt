@@ -1,16 +1,18 @@
 use Rattle.std.proofs.Common.{refl, ◌≡◌, ◌≤◌, ◌<◌, ◌+◌, ◌^◌, ℕ, true, List, None, IsSome, length, arith, sym, ap, ◌∙◌, subst, is_some, vec_capacity}
-use Rattle.hep_machine.specs.Words.{Units, numbered, schedule_of}
+use Rattle.hep_machine.specs.Words.{Units, schedule_of}
 use Rattle.hep_arena.specs.Holes.{first_fit}
 use Rattle.hep_code.specs.Words.{deepest}
 use Rattle.hep_image.specs.Image.{most_cells}
 use Rattle.hep_step.specs.declared.way.Way.{Way}
 use Rattle.hep_step.specs.declared.way.Way.TheVariants.{Calls, Creates, Refers}
+use Rattle.hep_step.specs.Calls.{is_creation}
 use Rattle.hep_step.specs.Effects.{fails}
 use Rattle.hep_step.specs.Simulation.{unit_code}
 use Rattle.hep_state.specs.declared.calling.Called.{Called}
 use Rattle.hep_state.specs.declared.machine.Machine.{Machine}
-use Rattle.hep_state.specs.Words.{AreNumbered, HasLevels, HasStepped, HoldsInTurn, IsMaking, IsTurn, IsUnit, IsUntaken, LeavesAlone, Makes, ShowsSame, Changes, HaveRoom, Snapshot, snapshot_of, IsToEnd, HasGaps, cells_of, turn_of}
+use Rattle.hep_state.specs.Words.{AreNumbered, HasStepped, HoldsInTurn, IsAtCallAhead, IsMaking, IsTurn, IsUnit, IsUntaken, LeavesAlone, Makes, ShowsSame, Changes, HaveRoom, Snapshot, snapshot_of, IsToEnd, HasGaps, cells_of, turn_of}
 use Rattle.hep_state.specs.declared.turn.Turned.TheVariants.{Stepped}
+use Rattle.hep_state.proofs.Given.{can-begin, stepped-given}
 use Rattle.hep_state.proofs.Unchanged.{alone, carry, on-err, rooms-of, rooms-written, shown-written, turned-so, without-memory}
 use Rattle.hep_state.proofs.machine.Machine.take_call.Goals.{After-fits, After-reserve}
 use Rattle.hep_state.proofs.machine.Machine.take_call.Goals as goal
@@ -159,114 +161,67 @@ returns-then-not-fits-clause-refused c =
     let before = (goal.at.returns-then-not-fits-clause-refused c).After-fits in
     alone c.args.image.now c.args.history.now.items c.args.p c.args.self.now c.give.new.self (given-shown before) (c.give.ensures.rooms (cells_of c.args.self.now)) c.requires.after
 
--- ---- CALL
+-- ---- CALL, or a reference
 
-pub returns-in_err-reserve_activation-in-Calls-clause-unturned : goal.returns-in_err-reserve_activation-in-Calls-clause-unturned
-returns-in_err-reserve_activation-in-Calls-clause-unturned c =
-    let r = c.from_residual-in_err-reserve_activation-in-Calls in
+numbers-given : (c : After-fits) → AreNumbered c.give.new.self
+numbers-given c = (c.give.ensures.rooms (cells c) (rooms-of (program c) (cells c) (choices c) c.args.self.now c.requires.after)).numbers
+
+at-call : (c : After-fits) → IsAtCallAhead c.args.image.now c.args.p c.args.self.now c.args.call
+at-call c = (cells c, choices c, c.requires.after, c.requires.at)
+
+pub begin_call-requires : goal.begin_call-requires
+begin_call-requires c =
+    let before = (goal.at.begin_call-requires c).After-fits in
+    let gap = carry (λ i. IsSome (first_fit (c.unit-unit.ensures.cells i) c.give.new.self.frames.arena.holes)) (sym c.fits.ensures.fit ∙ c.if-not-fits.false) in
+    can-begin (at-call before) c.give.ensures.others c.give.ensures.rooms c.in-Ok.kept (sym c.creates.ensures ∙ c.if-creates.false) c.requires.countable c.in-Ok.ensures.given gap
+
+pub returns-in_err-reserve-clause-unturned : goal.returns-in_err-reserve-clause-unturned
+returns-in_err-reserve-clause-unturned c =
+    let r = c.from_residual-in_err-reserve in
     without-memory (IsUntaken c.args.image.now c.args.history.now.items c.args.p c.args.self.now) r.result r.ensures.1 (
-    gaps-there (goal.at.returns-in_err-reserve_activation-in-Calls-clause-unturned c).After-fits c.if-not-fits.false)
+    gaps-there (goal.at.returns-in_err-reserve-clause-unturned c).After-fits c.if-not-fits.false)
 
-pub returns-in_err-reserve_activation-in-Calls-clause-refused : goal.returns-in_err-reserve_activation-in-Calls-clause-refused
-returns-in_err-reserve_activation-in-Calls-clause-refused c =
-    let r = c.from_residual-in_err-reserve_activation-in-Calls in
-    on-err r.result r.ensures.0 (left-alone (goal.at.returns-in_err-reserve_activation-in-Calls-clause-refused c).After-fits c.reserve_activation.new.self c.reserve_activation.ensures.same)
+pub returns-in_err-reserve-clause-refused : goal.returns-in_err-reserve-clause-refused
+returns-in_err-reserve-clause-refused c =
+    let before = (goal.at.returns-in_err-reserve-clause-refused c).After-fits in
+    let r = c.from_residual-in_err-reserve in
+    on-err r.result r.ensures.0 (
+    alone c.args.image.now c.args.history.now.items c.args.p c.args.self.now c.give.new.self (given-shown before) (c.give.ensures.rooms (cells_of c.args.self.now)) c.requires.after)
 
--- what room is made for lives, and processes have their numbers
-module _ (c : After-fits) where
-  living-given : HasLevels (snapshot_of c.give.new.self) c.args.p
-  living-given =
-      let levels = c.requires.at.levels in
-      record { level = levels.level; below = levels.below; operands = levels.operands; pending = levels.pending; kept = ap (λ (s : Snapshot). numbered s.processes c.args.p) (given-shown c) ∙ levels.kept }
-
-  numbers-given : AreNumbered c.give.new.self
-  numbers-given = (c.give.ensures.rooms (cells c) (rooms-of (program c) (cells c) (choices c) c.args.self.now c.requires.after)).numbers
-
-pub reserve_activation-requires : goal.reserve_activation-requires
-reserve_activation-requires c =
-    let before = (goal.at.reserve_activation-requires c).After-fits in
-    record { living = living-given before; numbers = numbers-given before }
-
-pub call-requires : goal.call-requires
-call-requires c =
-    let before = (goal.at.call-requires c).After-fits in
-    let new = c.reserve_activation.new.self in
-    let same = c.reserve_activation.ensures.same in
-    let room = c.in_ok-reserve_activation-in-Calls.ensures.level in
-    record {
-      calling = (Calls, program before, cells before, choices before, refl, making before new same Calls c.in-Calls.is);
-      few = few before new same;
-      countable = countable before new same;
-      gap = gap before new same c.if-not-fits.false;
-      node = room.node;
-      level = room.level;
-      pending = room.pending;
-      numbers = (rooms before new same).numbers;
-    }
-
-pub returns-in_ok-reserve_activation-in-Calls-clause-turned : goal.returns-in_ok-reserve_activation-in-Calls-clause-turned
-returns-in_ok-reserve_activation-in-Calls-clause-turned c =
-    let before = (goal.at.returns-in_ok-reserve_activation-in-Calls-clause-turned c).After-fits in
-    let new = c.reserve_activation.new.self in
-    let same = c.reserve_activation.ensures.same in
-    taken before new same c.call.new.self (c.call.ensures.stepped Calls (program before) (cells before) (choices before) refl (making before new same Calls c.in-Calls.is))
-    (c.call.ensures.rooms (program before) (cells before) (rooms before new same) (λ i q e own. subst (λ n. n ≤ vec_capacity q.operands) (deep before) (c.in_ok-reserve_activation-in-Calls.ensures.level.operands i q e own)))
-
--- ---- a reference
-
-pub returns-in_err-reserve_activation-in-Refers-clause-unturned : goal.returns-in_err-reserve_activation-in-Refers-clause-unturned
-returns-in_err-reserve_activation-in-Refers-clause-unturned c =
-    let r = c.from_residual-in_err-reserve_activation-in-Refers in
+pub returns-in_err-begin_call-clause-unturned : goal.returns-in_err-begin_call-clause-unturned
+returns-in_err-begin_call-clause-unturned c =
+    let r = c.from_residual-in_err-begin_call in
     without-memory (IsUntaken c.args.image.now c.args.history.now.items c.args.p c.args.self.now) r.result r.ensures.1 (
-    gaps-there (goal.at.returns-in_err-reserve_activation-in-Refers-clause-unturned c).After-fits c.if-not-fits.false)
+    gaps-there (goal.at.returns-in_err-begin_call-clause-unturned c).After-fits c.if-not-fits.false)
 
-pub returns-in_err-reserve_activation-in-Refers-clause-refused : goal.returns-in_err-reserve_activation-in-Refers-clause-refused
-returns-in_err-reserve_activation-in-Refers-clause-refused c =
-    let r = c.from_residual-in_err-reserve_activation-in-Refers in
-    on-err r.result r.ensures.0 (left-alone (goal.at.returns-in_err-reserve_activation-in-Refers-clause-refused c).After-fits c.reserve_activation-in-Refers.new.self c.reserve_activation-in-Refers.ensures.same)
+pub returns-in_err-begin_call-clause-refused : goal.returns-in_err-begin_call-clause-refused
+returns-in_err-begin_call-clause-refused c =
+    let r = c.from_residual-in_err-begin_call in
+    on-err r.result r.ensures.0 (left-alone (goal.at.returns-in_err-begin_call-clause-refused c).After-fits c.begin_call.new.self c.in_err-begin_call.ensures.refused)
 
-pub reserve_activation-requires-in-Refers : goal.reserve_activation-requires-in-Refers
-reserve_activation-requires-in-Refers c =
-    let before = (goal.at.reserve_activation-requires-in-Refers c).After-fits in
-    record { living = living-given before; numbers = numbers-given before }
-
-pub call-requires-in-Refers : goal.call-requires-in-Refers
-call-requires-in-Refers c =
-    let before = (goal.at.call-requires-in-Refers c).After-fits in
-    let new = c.reserve_activation-in-Refers.new.self in
-    let same = c.reserve_activation-in-Refers.ensures.same in
-    let room = c.in_ok-reserve_activation-in-Refers.ensures.level in
-    record {
-      calling = (Refers, program before, cells before, choices before, refl, making before new same Refers c.in-Refers.is);
-      few = few before new same;
-      countable = countable before new same;
-      gap = gap before new same c.if-not-fits.false;
-      node = room.node;
-      level = room.level;
-      pending = room.pending;
-      numbers = (rooms before new same).numbers;
-    }
-
-pub returns-in_ok-reserve_activation-in-Refers-clause-turned : goal.returns-in_ok-reserve_activation-in-Refers-clause-turned
-returns-in_ok-reserve_activation-in-Refers-clause-turned c =
-    let before = (goal.at.returns-in_ok-reserve_activation-in-Refers-clause-turned c).After-fits in
-    let new = c.reserve_activation-in-Refers.new.self in
-    let same = c.reserve_activation-in-Refers.ensures.same in
-    taken before new same c.call-in-Refers.new.self (c.call-in-Refers.ensures.stepped Refers (program before) (cells before) (choices before) refl (making before new same Refers c.in-Refers.is))
-    (c.call-in-Refers.ensures.rooms (program before) (cells before) (rooms before new same) (λ i q e own. subst (λ n. n ≤ vec_capacity q.operands) (deep before) (c.in_ok-reserve_activation-in-Refers.ensures.level.operands i q e own)))
+pub returns-in_ok-begin_call-clause-turned : goal.returns-in_ok-begin_call-clause-turned
+returns-in_ok-begin_call-clause-turned c =
+    let before = (goal.at.returns-in_ok-begin_call-clause-turned c).After-fits in
+    let steps = stepped-given (at-call before) c.give.ensures.others c.give.ensures.rooms c.begin_call.new.self c.in_ok-begin_call.ensures.made in
+    steps.turned (cells before) (choices before) c.requires.after
 
 -- ---- CREATE
 
-pub returns-in_err-process-in-Creates-clause-unturned : goal.returns-in_err-process-in-Creates-clause-unturned
-returns-in_err-process-in-Creates-clause-unturned c =
-    let r = c.from_residual-in_err-process-in-Creates in
-    without-memory (IsUntaken c.args.image.now c.args.history.now.items c.args.p c.args.self.now) r.result r.ensures.1 (
-    gaps-there (goal.at.returns-in_err-process-in-Creates-clause-unturned c).After-fits c.if-not-fits.false)
+creation : (way : Way) → is_creation way ≡ true → way ≡ Creates
+creation Calls e = absurd cc
+creation Creates e = refl
+creation Refers e = absurd cc
 
-pub returns-in_err-process-in-Creates-clause-refused : goal.returns-in_err-process-in-Creates-clause-refused
-returns-in_err-process-in-Creates-clause-refused c =
-    let r = c.from_residual-in_err-process-in-Creates in
-    on-err r.result r.ensures.0 (left-alone (goal.at.returns-in_err-process-in-Creates-clause-refused c).After-fits c.reserve_creation.new.self c.reserve_creation.ensures.same)
+pub returns-in_err-process-clause-unturned : goal.returns-in_err-process-clause-unturned
+returns-in_err-process-clause-unturned c =
+    let r = c.from_residual-in_err-process in
+    without-memory (IsUntaken c.args.image.now c.args.history.now.items c.args.p c.args.self.now) r.result r.ensures.1 (
+    gaps-there (goal.at.returns-in_err-process-clause-unturned c).After-fits c.if-not-fits.false)
+
+pub returns-in_err-process-clause-refused : goal.returns-in_err-process-clause-refused
+returns-in_err-process-clause-refused c =
+    let r = c.from_residual-in_err-process in
+    on-err r.result r.ensures.0 (left-alone (goal.at.returns-in_err-process-clause-refused c).After-fits c.reserve_creation.new.self c.reserve_creation.ensures.same)
 
 pub reserve_creation-requires : goal.reserve_creation-requires
 reserve_creation-requires c =
@@ -278,9 +233,9 @@ create-requires c =
     let before = (goal.at.create-requires c).After-fits in
     let new = c.reserve_creation.new.self in
     let same = c.reserve_creation.ensures.same in
-    let room = c.in_ok-process-in-Creates.ensures in
+    let room = c.in_ok-process.ensures in
     record {
-      creating = (program before, cells before, choices before, c.in-Ok.kept, making before new same Creates c.in-Creates.is);
+      creating = (program before, cells before, choices before, c.in-Ok.kept, making before new same Creates (creation c.args.call.way (sym c.creates.ensures ∙ c.if-creates.true)));
       few = few before new same;
       countable = countable before new same;
       gap = gap before new same c.if-not-fits.false;
@@ -292,10 +247,10 @@ create-requires c =
       numbers = (rooms before new same).numbers;
     }
 
-pub returns-in_ok-process-in-Creates-clause-turned : goal.returns-in_ok-process-in-Creates-clause-turned
-returns-in_ok-process-in-Creates-clause-turned c =
-    let before = (goal.at.returns-in_ok-process-in-Creates-clause-turned c).After-fits in
+pub returns-in_ok-process-clause-turned : goal.returns-in_ok-process-clause-turned
+returns-in_ok-process-clause-turned c =
+    let before = (goal.at.returns-in_ok-process-clause-turned c).After-fits in
     let new = c.reserve_creation.new.self in
     let same = c.reserve_creation.ensures.same in
-    taken before new same c.create.new.self (c.create.ensures.stepped (program before) (cells before) (choices before) c.in-Ok.kept (making before new same Creates c.in-Creates.is))
-    (c.create.ensures.rooms (program before) (cells before) (rooms before new same) (subst (λ n. n ≤ vec_capacity c.in_ok-process-in-Creates.process.operands) (deep before) c.in_ok-process-in-Creates.ensures.made.operands))
+    taken before new same c.create.new.self (c.create.ensures.stepped (program before) (cells before) (choices before) c.in-Ok.kept (making before new same Creates (creation c.args.call.way (sym c.creates.ensures ∙ c.if-creates.true))))
+    (c.create.ensures.rooms (program before) (cells before) (rooms before new same) (subst (λ n. n ≤ vec_capacity c.in_ok-process.process.operands) (deep before) c.in_ok-process.ensures.made.operands))

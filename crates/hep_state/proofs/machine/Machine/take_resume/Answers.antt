@@ -1,15 +1,12 @@
-use Rattle.std.proofs.Common.{◌≡◌, ℕ, ◌+◌, ◌<◌, ◌≤◌, List, [], ◌∷◌, ◌++◌, length, length-append, reverse, refl, sym, ap, ◌∙◌, subst, arith, vec_capacity, vec_len}
+use Rattle.std.proofs.Common.{◌≡◌, ◌+◌, ◌<◌, ◌≤◌, [], ◌∷◌, ◌++◌, length, reverse, refl, sym, ap, ◌∙◌, subst, arith, vec_capacity}
 use Rattle.std.specs.Vec.{with_item}
-use Rattle.std.proofs.lemmas.List.{reverse-append}
-use Rattle.hep_machine.specs.Words.{Value, numbered, schedule_of, with_numbered}
+use Rattle.hep_machine.specs.Words.{numbered, schedule_of, with_numbered}
 use Rattle.hep_code.specs.Words.{deepest}
 use Rattle.hep_step.specs.Simulation.{unit_code}
 use Rattle.hep_proc.specs.declared.process.Local.{Local}
-use Rattle.hep_proc.specs.declared.process.Process.{Process}
-use Rattle.hep_proc.specs.Stacks.{stack_of, stack_with}
-use Rattle.hep_proc.proofs.Levels.{last-index, some-levels}
+use Rattle.hep_proc.specs.Stacks.{stack_with}
 use Rattle.hep_state.specs.Words.{cells_of, HasLevels, HasStepped, Snapshot, snapshot_moved, snapshot_of, snapshot_parted, turn_of}
-use Rattle.hep_state.proofs.Processes.{process-at, room-moved, some-levels-at, stacks-set}
+use Rattle.hep_state.proofs.Processes.{counted, none-by, process-at, room-moved, some-by, some-levels-at, stacks-set}
 use Rattle.hep_state.proofs.Taken.{inside}
 use Rattle.hep_state.proofs.Unchanged.{alone, on-err, rooms-of, rooms-set, turned-so}
 use Rattle.hep_state.proofs.machine.Machine.take_resume.Goals.{After-reserve_process}
@@ -17,19 +14,6 @@ use Rattle.hep_state.proofs.machine.Machine.take_resume.Goals as goal
 
 pub place-at-requires : goal.place-at-requires
 place-at-requires c = record { numbers = c.requires.after.numbers; living = c.requires.at.levels }
-
--- how many levels a process has
-counted : (q : Process) (l : Local) (ls : List Local) (operands pending : List Value) → stack_of q ≡ stack_with l ls operands pending → (n : ℕ) → n ≡ vec_len q.levels → n ≡ length (reverse ls) + 1
-counted q l ls operands pending is n e = omega (arith, e, last-index q l ls operands pending is, some-levels q l ls operands pending is)
-
--- levels that are none, and others
-none-by : (ls : List Local) (n : ℕ) → n ≡ length (reverse ls) + 1 → n ≡ 1 → ls ≡ []
-none-by [] n e one = refl
-none-by (l ∷ ls) n e one = absurd (omega (arith, e, one, ap length (reverse-append {A = Local} (l ∷ []) ls), length-append (reverse ls) (l ∷ [])))
-
-some-by : (ls : List Local) (n : ℕ) → n ≡ length (reverse ls) + 1 → (n ≡ 1 → ⊥) → (l : Local) × (ks : List Local) × (ls ≡ l ∷ ks)
-some-by [] n e other = absurd (other (omega (arith, e)))
-some-by (l ∷ ls) n e other = (l, ls, refl)
 
 pub top-requires : goal.top-requires
 top-requires c = some-levels-at (process-at c.args.self.now c.args.p c.requires.after.numbers c.place-at.ensures c.requires.at.levels.kept c.index-2.ensures)

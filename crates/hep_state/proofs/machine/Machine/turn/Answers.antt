@@ -1,21 +1,14 @@
-use Rattle.std.proofs.Common.{◌≡◌, ◌≤◌, ℕ, List, None, arith, refl, sym, ap, ◌∙◌, subst}
+use Rattle.std.proofs.Common.{◌≡◌, ◌≤◌, ℕ, List, None, is_some, arith, refl, sym, ap, ◌∙◌, subst}
 use Rattle.std.proofs.lemmas.Result.{IfErr-weaker, IfOk-weaker, on_err_weaker}
-use Rattle.hep_machine.specs.Words.{schedule_of}
-use Rattle.hep_code.specs.declared.instruction.Instruction.{Instruction}
-use Rattle.hep_machine.specs.State.{Level as SourceLevel, Process as SourceProcess}
+use Rattle.hep_machine.specs.Words.{main_among, schedule_of}
+use Rattle.hep_conditions.specs.Words.{IsAccepted}
 use Rattle.hep_blocked.specs.Rolls.{Roll}
-use Rattle.hep_step.specs.Changes.{changed_ahead}
-use Rattle.hep_step.specs.Effects.{effect_ahead, returns}
-use Rattle.hep_step.specs.Performed.{changed_in, performed, snapshot}
-use Rattle.hep_step.specs.Simulation.{unit_arrays, unit_code}
+use Rattle.hep_step.specs.Effects.{returns}
 use Rattle.hep_state.specs.declared.machine.Machine.{Machine}
 use Rattle.hep_state.specs.declared.turn.Turned.{Turned}
 use Rattle.hep_state.specs.declared.turn.Turned.TheVariants.{Stepped}
-use Rattle.hep_state.specs.Words.{Changes, HasCallAhead, HasPurgeAhead, HasResumeAhead, HasTurned, IsAtReturn, IsEffectOf, IsEnding, IsMachineAfter, IsSeenSame, IsToEnd, IsTopRunning, IsTurn, IsTurning, IsUntaken, IsUnturned, KeepsRollFor, Snapshot, cells_of, snapshot_of, top_frame, turn_of, turn_with}
-use Rattle.hep_state.proofs.Changes.{changes-only}
-use Rattle.hep_state.proofs.Runs.{in-turn}
-use Rattle.hep_state.proofs.Taken.{ahead-simulated}
-use Rattle.hep_state.proofs.Tops.{turning}
+use Rattle.hep_state.specs.Words.{Changes, HasCallAhead, HasPurgeAhead, HasResumeAhead, HasTurned, IsAtReturn, IsMachineAfter, IsSeenSame, IsToEnd, IsTurn, IsUntaken, IsUnturned, KeepsRollFor, Snapshot, cells_of, snapshot_of, turn_of}
+use Rattle.hep_state.proofs.Returning.{IsRunningAlways, ends-there, untouched-there}
 use Rattle.hep_state.proofs.Unchanged.{alone-after, as-large, machine-written, on-err, own-size, rooms-of, seen-again, seen-shown, settled-same, shown-written, top-again, top-shown, without-memory, as-many, turned-so}
 use Rattle.hep_state.proofs.machine.Machine.turn.Goals.{After-reserve, After-step_ahead}
 use Rattle.hep_state.proofs.machine.Machine.turn.Goals as goal
@@ -184,27 +177,14 @@ returns-in_ok-take_resume-in-Resume-clause-turned c =
 
 -- the activation ends, and no cell is filled or emptied
 module _ (c : After-step_ahead) (at : IsAtReturn c.args.image.now c.args.p (snapshot_of c.step_ahead.new.self)) where
-  turn-there : (top : SourceLevel × SourceProcess) × IsTurning (turn_with c.args.image.now (cells c) (choices c) at.operation.levels top)
-  turn-there = turning c.args.p (looked c).after at.operation.levels (c.step_ahead.ensures.same.halted ∙ c.requires.running)
-
-  runs : IsTopRunning (turn_with c.args.image.now (cells c) (choices c) at.operation.levels turn-there.0) turn-there.1
-  runs = c.tops_are_running.ensures.running (turn_with c.args.image.now (cells c) (choices c) at.operation.levels turn-there.0) c.is_runnable.ensures.accepted c.is_runnable.ensures.main turn-there.1
+  known : IsRunningAlways c.args.image.now
+  known t is turns = c.tops_are_running.ensures.running t (subst IsAccepted (sym is) c.is_runnable.ensures.accepted) (ap (λ program. is_some (main_among program)) is ∙ c.is_runnable.ensures.main) turns
 
   ends : IsToEnd c.args.image.now (cells c) (choices c) c.args.p (snapshot_of c.step_ahead.new.self) returns
-  ends =
-      let t = turn_with c.args.image.now (cells c) (choices c) at.operation.levels turn-there.0 in
-      let simulated = ahead-simulated turn-there.1 runs at.operation.past at.operation.plain in
-      let is = ap (λ rows. effect_ahead (unit_code t.program t.level.unit) (unit_arrays t.program t.level.unit) (top_frame t).first rows t.machine.arena.contents t.operands t.level.index) at.ahead in
-      in-turn turn-there.1 (λ t. IsEnding t returns) (record { turning = turn-there.1; simulated = subst (IsEffectOf t turn-there.1) is simulated })
+  ends = ends-there known (looked c).after at (c.step_ahead.ensures.same.halted ∙ c.requires.running)
 
   untouched : Changes c.args.image.now (cells c) (choices c) c.args.p None
-  untouched =
-      let t = turn_with c.args.image.now (cells c) (choices c) at.operation.levels turn-there.0 in
-      let told = changes-only turn-there.1 runs at.operation.past at.operation.plain in
-      let effect = λ (rows : List Instruction). effect_ahead (unit_code t.program t.level.unit) (unit_arrays t.program t.level.unit) (top_frame t).first rows t.machine.arena.contents t.operands t.level.index in
-      let changed = λ (rows : List Instruction). changed_ahead (unit_arrays t.program t.level.unit) (top_frame t).first rows t.machine.arena.contents t.operands in
-      let is = ap (λ (rows : List Instruction). changed_in (performed (effect rows) (changed rows) (snapshot t.machine.arena.contents t.operands t.level.index)).0) at.ahead in
-      subst (Changes c.args.image.now (cells c) (choices c) c.args.p) is told
+  untouched = untouched-there known (looked c).after at (c.step_ahead.ensures.same.halted ∙ c.requires.running)
 
 pub finish-requires : goal.finish-requires
 finish-requires c =

@@ -1,0 +1,4 @@
+pub mod Gathering
+mod Behind
+pub mod Sums
+mod Judged

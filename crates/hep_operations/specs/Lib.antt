@@ -1,0 +1,3 @@
+pub mod Destinations
+pub mod Operations
+pub mod Tables

@@ -1,0 +1,4 @@
+pub mod Receipts
+pub mod Marks
+pub mod Turns
+pub mod Reports

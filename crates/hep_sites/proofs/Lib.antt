@@ -1,0 +1,4 @@
+pub mod NamedAhead
+pub mod Placed
+pub mod Declared
+pub mod Numbered

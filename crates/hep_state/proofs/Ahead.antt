@@ -1,0 +1,58 @@
+-- What stands ahead of a process, by what stands in front of its instructions.
+use Rattle.std.proofs.Common.{◌≡◌, ℕ, Bool, false, List, ◌∷◌, drop, refl, sym, ap, ◌∙◌, subst}
+use Rattle.hep_machine.specs.Words.{Units}
+use Rattle.hep_machine.specs.State.{Level as SourceLevel, Process as SourceProcess}
+use Rattle.hep_code.specs.declared.instruction.Instruction.{Instruction}
+use Rattle.hep_code.specs.declared.instruction.Instruction.TheVariants.{Step}
+use Rattle.hep_code.specs.declared.instruction.Operation.{Operation}
+use Rattle.hep_code.specs.declared.instruction.Operation.TheVariants.{Call, Create, Refer, Purge, Resume, Return}
+use Rattle.hep_code.specs.Words.{IsPastPushes}
+use Rattle.hep_step.specs.Simulation.{IsNotLeftOut, is_left_out, unit_code}
+use Rattle.hep_state.specs.declared.machine.Machine.{Machine}
+use Rattle.hep_state.specs.declared.upcoming.StepAhead.{StepAhead}
+use Rattle.hep_state.specs.declared.upcoming.StepAhead.TheVariants as ahead
+use Rattle.hep_state.specs.Words.{HasLevels, HasNone, IsAhead, IsInFront, IsMachineAfter, IsTurning, Snapshot, turn_with}
+
+-- where none of them stands
+none-left-out : (code : List Instruction) (index : ℕ) → HasNone (drop index code) → IsNotLeftOut code index
+none-left-out code index none line o behind ahead = by_operation o (subst HasNone ahead none) where
+  by_operation : (o : Operation) → HasNone (Step line o ∷ behind) → is_left_out o ≡ false
+  by_operation (Call u count next) h = absurd h
+  by_operation (Create u count next) h = absurd h
+  by_operation (Refer u count) h = absurd h
+  by_operation (Purge count next) h = absurd h
+  by_operation (Resume next) h = absurd h
+  by_operation _ h = refl
+
+-- where RETURN stands
+is-left-there : List Instruction → Bool
+is-left-there (Step line o ∷ behind) = is_left_out o
+is-left-there _ = false
+
+return-left-out : (code : List Instruction) (index line : ℕ) (behind : List Instruction) → drop index code ≡ Step line Return ∷ behind → IsNotLeftOut code index
+unfolding is-left-there
+return-left-out code index line behind found other o rest ahead = sym (ap is-left-there (sym found ∙ ahead))
+
+-- what stands in front of the instructions that are ahead, once the values in front of it are operands
+pub found-ahead : (program : Units) (old : Machine) {m : Snapshot} {p : ℕ} (levels : HasLevels m p)
+    → ((cells : ℕ) (choices : List ℕ) → IsMachineAfter program cells choices old → (top : SourceLevel × SourceProcess) × IsTurning (turn_with program cells choices levels top))
+    → IsPastPushes (unit_code program levels.level.unit) levels.level.index
+    → (ahead : StepAhead) → IsInFront levels.level.index (drop levels.level.index (unit_code program levels.level.unit)) ahead → IsAhead program p old m ahead
+found-ahead program old levels turns past (ahead.Call call) found = λ cells choices after.
+    let turn = turns cells choices after in
+    record { levels = levels; top = turn.0; holds = record { step = record { turning = turn.1; behind = found.0; ahead = found.1 }; onward = found.2 } }
+found-ahead program old levels turns past (ahead.Purge purge) found = λ cells choices after.
+    let turn = turns cells choices after in
+    record { levels = levels; top = turn.0; holds = record { turning = turn.1; behind = found.0; ahead = found.1 } }
+found-ahead program old levels turns past (ahead.Resume next) found = λ cells choices after.
+    let turn = turns cells choices after in
+    record { levels = levels; top = turn.0; holds = (found.0, record { turning = turn.1; behind = found.1; ahead = found.2 }) }
+found-ahead program old levels turns past ahead.Return found =
+    record {
+      operation = record { levels = levels; past = past; plain = return-left-out (unit_code program levels.level.unit) levels.level.index found.0 found.1 found.2 };
+      line = found.0;
+      behind = found.1;
+      ahead = found.2;
+    }
+found-ahead program old levels turns past ahead.Other none =
+    record { levels = levels; past = past; plain = none-left-out (unit_code program levels.level.unit) levels.level.index none }

@@ -1,0 +1,75 @@
+-- A turn that begins or ends an activation of a process, which lives on, and does nothing else: docs/MACHINE.md, "Steps".
+use Rattle.std.specs.Prelude.{◌≡◌, ◌<◌, ◌≤◌, ◌+◌, ◌^◌, ℕ, Bool, true, false, List, ◌∷◌, IsSome, None}
+use Rattle.hep_machine.specs.Words.{Units, frame_cells, unit_at}
+use Rattle.hep_arena.specs.Holes.{first_fit}
+use Rattle.hep_code.specs.Words.{IsPastPushes}
+use Rattle.hep_step.specs.Calls.{is_creation}
+use Rattle.hep_step.specs.Simulation.{unit_code}
+use Rattle.hep_proc.specs.declared.process.Local.{Local}
+use Rattle.hep_state.specs.declared.machine.Machine.{Machine}
+use Rattle.hep_state.specs.declared.turn.Turned.TheVariants.{Stepped}
+use Rattle.hep_state.specs.declared.upcoming.CallAhead.{CallAhead}
+use Rattle.hep_state.specs.Calls.{IsMaking}
+use Rattle.hep_state.specs.CallsAhead.{IsAtReturn}
+use Rattle.hep_state.specs.Outcomes.{HasTurned}
+use Rattle.hep_state.specs.Parts.{AfterTurns, IsAtCallAhead, IsItsTurn, KeepsRoomOf}
+use Rattle.hep_state.specs.Snapshots.{snapshot_of}
+use Rattle.hep_state.specs.Tops.{HasLevels, HoldsInTurn}
+
+-- ---- what it asks for
+
+-- it is the turn of process p, and no value stands in front of the operation ahead of it
+pub record IsSettledTurn (program : Units) (p : ℕ) (m : Machine) : Type 0 where
+  pub turn : IsItsTurn program p m
+  pub past : IsPastPushes (unit_code program turn.living.level.unit) turn.living.level.index
+
+-- and an activation more has a number
+pub record CanLiveOn (program : Units) (p : ℕ) (m : Machine) : Type 0 where
+  pub settled : IsSettledTurn program p m
+  pub countable : m.activations + 1 < 2 ^ 64
+
+-- process p is at a CALL or reference
+pub record CanMakeCall (program : Units) (p : ℕ) (m : Machine) (call : CallAhead) : Type 0 where
+  pub at : IsAtCallAhead program p m call
+  pub above : is_creation call.way ≡ false
+  pub countable : m.activations + 1 < 2 ^ 64
+
+-- this is given to its dummy arguments, so many operands are kept, and there is a gap for the frame of its activation
+pub record CanBeginCall (program : Units) (p : ℕ) (m : Machine) (call : CallAhead) (kept : ℕ) : Type 0 where
+  pub calling : CanMakeCall program p m call
+  pub making : AfterTurns program m (λ cells choices. HoldsInTurn program cells choices p (snapshot_of m) (λ t. IsMaking call.way t call.unit kept call.next m.passing.given.items m.passing.shapes.items))
+  pub gap : IsSome (first_fit (frame_cells (unit_at program call.unit)) m.frames.arena.holes)
+
+-- at RETURN or the END of a subroutine
+pub record CanReturn (program : Units) (p : ℕ) (m : Machine) : Type 0 where
+  pub turn : IsItsTurn program p m
+  pub at : IsAtReturn program p (snapshot_of m)
+
+-- ---- what comes of it
+
+-- process p, which has activations still, can go on, no process was made, and no more activations than so many
+pub record LivesOn (p more : ℕ) (old new : Machine) : Type 0 where
+  pub living : HasLevels (snapshot_of new) p
+  pub running : new.halted ≡ old.halted
+  pub made : new.made ≡ old.made
+  pub counted : new.activations ≤ old.activations + more
+
+-- this is so where an activation was below its top one
+abbrev pub LivesOnBelow : ℕ → Machine → Machine → Type 0
+LivesOnBelow p old new = (levels : HasLevels (snapshot_of old) p) (l : Local) (ls : List Local) → levels.below ≡ l ∷ ls → LivesOn p 0 old new
+
+-- a turn of process p was a step, which filled and emptied no storage unit, and the process lives on
+pub record StepsOn (program : Units) (p : ℕ) (old new : Machine) : Type 0 where
+  pub turned : AfterTurns program old (λ cells choices. HasTurned program cells choices p (Stepped None) new)
+  pub lives : LivesOn p 1 old new
+
+-- the same is shown, with the room that there was
+pub record StaysShown (program : Units) (old new : Machine) : Type 0 where
+  pub shown : snapshot_of new ≡ snapshot_of old
+  pub made : new.made ≡ old.made
+  pub rooms : KeepsRoomOf program old new
+
+-- such a turn was made, or nothing has changed that is shown
+abbrev pub HasLivedOn : Units → ℕ → Machine → Bool → Machine → Type 0
+HasLivedOn program p old true new = StepsOn program p old new
+HasLivedOn program p old false new = StaysShown program old new

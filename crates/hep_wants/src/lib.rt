@@ -1,0 +1,4 @@
+//! The processes that wait, in a list for each thing that they wait for.
+#![tactic(auto)]
+
+pub mod lists;
