@@ -22,7 +22,7 @@ _hepf() {
     local at=1
     [[ ${COMP_WORDS[1]} != --long ]] || at=2
     if ((COMP_CWORD <= at)); then
-        _hepf_offer -W "check run sample replay state why list explain help --long --help --version"
+        _hepf_offer -W "check run sample replay state why cover list explain help --long --help --version"
         return
     fi
     case ${COMP_WORDS[at]} in
@@ -30,7 +30,7 @@ _hepf() {
         list) options="--long --help" ;;
         run) options="--arena --steps --workers --seed --choices --history --long --help" ;;
         sample) options="--runs --seed --arena --steps --keep --long --help" ;;
-        replay | why) options="--arena --long --help" ;;
+        replay | why | cover) options="--arena --long --help" ;;
         state) options="--at --arena --long --help" ;;
         explain)
             if ((COMP_CWORD == at + 1)); then
@@ -41,7 +41,7 @@ _hepf() {
             return
             ;;
         help)
-            _hepf_offer -W "check run sample replay state why list explain"
+            _hepf_offer -W "check run sample replay state why cover list explain"
             return
             ;;
         *) return ;;

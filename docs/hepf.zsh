@@ -11,6 +11,7 @@ _hepf() {
         'replay:make the steps of a history again'
         'state:show what everything holds'
         'why:say why processes wait'
+        'cover:say how often the statement of each line began'
         'list:show the units and common blocks of a source'
         'explain:say what a line or a status means'
         'help:show help'
@@ -48,6 +49,10 @@ _hepf_words() {
             _arguments '--arena=[cells of storage]:cells:' '--long[say more of what went wrong]' '--help[show help]' '1:source:_files' \
                 '2:history:_files'
             ;;
+        cover)
+            _arguments '--arena=[cells of storage]:cells:' '--long[say more of what went wrong]' '--help[show help]' '1:source:_files' \
+                '*:history:_files'
+            ;;
         state)
             _arguments '--at=[after how many entries]:entries:' '--arena=[cells of storage]:cells:' '--long[say more of what went wrong]' \
                 '--help[show help]' '1:source:_files' '2:history:_files'
@@ -57,7 +62,7 @@ _hepf_words() {
                 '*:its next word:(ARENA STEP FULL LIMIT MEMORY REFUSED FAULT RUNNING 0 1 2 3 4 5 6 7 8 70)'
             ;;
         help)
-            _arguments '1:command:(check run sample replay state why list explain)'
+            _arguments '1:command:(check run sample replay state why cover list explain)'
             ;;
     esac
 }

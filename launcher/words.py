@@ -18,8 +18,8 @@ COLUMNS = 80
 FILES = ("FILE", "HISTORY", "PREFIX")
 # What stands for a number.
 NUMBERS = ("N", "K")
-# What stands there for one word or more.
-WORDS = "WORD.."
+# Behind what stands there for one word or more.
+MORE = ".."
 # What every command takes, before it or behind it, and what asks for help.
 FLAGS = ("--long",)
 HELPS = ("-h", "--help")
@@ -74,6 +74,15 @@ class Form:
     operands: list
     options: dict
     flags: list
+
+    def takes_more(self):
+        """Whether the last operand may be given more than once."""
+        return self.operands[-1:] != [] and self.operands[-1].endswith(MORE)
+
+    def kinds(self, count):
+        """What each of so many operands is."""
+        named = [it.removesuffix(MORE) for it in self.operands]
+        return named + named[-1:] * (count - len(named))
 
 
 def forms(manual):
@@ -174,7 +183,7 @@ class Job:
 
     def words_from(self, folder, form):
         """The words with each path as it is from the root."""
-        words = [str(folder / it) if kind in FILES else it for it, kind in zip(self.operands, form.operands)]
+        words = [str(folder / it) if kind in FILES else it for it, kind in zip(self.operands, form.kinds(len(self.operands)))]
         for name, value in self.options:
             words.append(f"{name}={folder / value if form.options[name] in FILES else value}")
         return [self.command, *self.flags, *words]
@@ -217,8 +226,7 @@ def taken(command, form, words):
 def judge(manual, job, form):
     """Raises the mistake that a job has, if it has one."""
     lacking = form.operands[len(job.operands) :]
-    takes_more = form.operands[-1:] == [WORDS]
-    if lacking or len(job.operands) > len(form.operands) and not takes_more:
+    if lacking or len(job.operands) > len(form.operands) and not form.takes_more():
         wrong = f"lacks {' '.join(lacking)}" if lacking else f"doesn't take {job.operands[len(form.operands)]}"
         raise Mistake(f"error: {job.command} {wrong}\n\nUsage: {form.line}\n")
     for name, value in job.options:

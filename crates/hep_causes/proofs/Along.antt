@@ -18,17 +18,17 @@ use Rattle.hep_causes.proofs.Kept.{kept-then, there-next}
 
 -- ---- the state
 
-abbrev next : List Entry → ℕ → List Entry
+abbrev pub next : List Entry → ℕ → List Entry
 next history p = history ++ turn_entry p false ∷ []
 
-state-next : (program : Units) (history : List Entry) (p : ℕ) → state_after program (next history p) ≡ state_after_turn program p (state_after program history)
+pub state-next : (program : Units) (history : List Entry) (p : ℕ) → state_after program (next history p) ≡ state_after_turn program p (state_after program history)
 state-next program history p =
     state-is program (next history p)
     ∙ ap (run program) (schedule-stepped history p)
     ∙ run-last program (schedule_of history) p
     ∙ ap (state_after_turn program p) (sym (state-is program history))
 
-there-later : (program : Units) (history : List Entry) (p : ℕ) (at : Location) → is_there (state_after program history) at ≡ true → is_there (state_after program (next history p)) at ≡ true
+pub there-later : (program : Units) (history : List Entry) (p : ℕ) (at : Location) → is_there (state_after program history) at ≡ true → is_there (state_after program (next history p)) at ≡ true
 there-later program history p at there =
     ap (λ (s : State). is_there s at) (state-is program (next history p) ∙ ap (run program) (schedule-stepped history p))
     ∙ there-next program (schedule_of history) p at (ap (λ (s : State). is_there s at) (sym (state-is program history)) ∙ there)

@@ -57,7 +57,7 @@ processes-alike : (n k p : ℕ) → processes (replicate n (k, p)) ≡ replicate
 processes-alike zero k p = refl
 processes-alike (suc n) k p = ap (λ ps. p ∷ ps) (processes-alike n k p)
 
-processes-all : (k : ℕ) (es : List Entry) → processes (turns_from k es) ≡ schedule_of es
+pub processes-all : (k : ℕ) (es : List Entry) → processes (turns_from k es) ≡ schedule_of es
 unfolding schedule_of
 processes-all k [] = refl
 processes-all k (e ∷ es) =

@@ -1,6 +1,8 @@
 mod Kept
-mod Along
+pub mod Along
 mod Looks
 mod Watched
 pub mod Found
-mod Beginning
+pub mod Beginning
+mod Quiet
+mod Moved

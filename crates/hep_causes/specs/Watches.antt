@@ -1,7 +1,8 @@
 -- Processes for whose waits reasons are looked for, while a history is made again: docs/ARCHITECTURE.md, "Forms".
-use Rattle.std.specs.Prelude.{◌≡◌, ◌≢◌, ◌+◌, ◌<◌, ◌≤◌, ℕ, zero, suc, true, false, ◌&&◌, not, nat_le, if◌then◌else◌, List, [], ◌∷◌, ◌++◌, length, map, Option, Some, None, IsSome, slice_get}
+use Rattle.std.specs.Prelude.{◌≡◌, ◌≢◌, ◌+◌, ◌⊎◌, ◌<◌, ◌≤◌, ℕ, zero, suc, true, false, ◌&&◌, not, nat_le, if◌then◌else◌, List, [], ◌∷◌, ◌++◌, length, map, Option, Some, None, IsSome, slice_get}
 use Rattle.std.specs.Option.{option_map, option_to_list}
 use Rattle.hep_core.specs.Value.{CoreValue, listed_after, state_of}
+use Rattle.hep_core.specs.Going.{entries_along}
 use Rattle.hep_history.specs.Progress.{IsStanding, turn_entry}
 use Rattle.hep_history.specs.Replays.{HaveGaps, most_entries, replayed, standing}
 use Rattle.hep_layout.specs.Words.{address}
@@ -11,6 +12,7 @@ use Rattle.hep_reasons.specs.Changes.{is_there, latest_along, latest_change, own
 use Rattle.hep_reasons.specs.Reasons.{reason_with}
 use Rattle.hep_reasons.specs.declared.reason.Change.{Change}
 use Rattle.hep_reasons.specs.declared.reason.Reason.{Reason}
+use Rattle.hep_state.specs.Words.{Changes}
 use Rattle.hep_views.specs.declared.listed.Listed.{Listed}
 use Rattle.hep_causes.specs.declared.watch.Watch.{Watch}
 
@@ -115,6 +117,30 @@ pub record AreAlong (whole : Whole) (core : CoreValue) (left : List (ℕ × ℕ)
   pub laid : IsSome (layout_of whole.program whole.cells is_held (processes whole.turns))
   pub few : length core.history + length left ≤ most_entries
   pub each : (i : ℕ) (w : Watch) → slice_get ws i ≡ Some w → (at : Location) × IsAlong whole core.history left w at
+
+-- ---- turns of one process in a row
+
+-- each of these turns is of process p
+abbrev pub AreOf : ℕ → List (ℕ × ℕ) → Type 0
+AreOf p [] = Unit {0}
+AreOf p (t ∷ ts) = (t.1 ≡ p) × AreOf p ts
+
+-- so many turns of process p, of which the first one is told by an entry
+pub record AreTurnsOf (p entry most : ℕ) (ts : List (ℕ × ℕ)) : Type 0 where
+  pub each : AreOf p ts
+  pub many : length ts ≡ most
+  pub others : List (ℕ × ℕ)
+  pub begin : ts ≡ (entry, p) ∷ others
+
+-- p has made so many turns: one, or more that fill and empty nothing
+pub record HasMoved (old : CoreValue) (p made : ℕ) (new : CoreValue) : Type 0 where
+  pub is : new ≡ standing old.program old.cells (entries_along old.history p made)
+  pub so : (made ≡ 1) ⊎ ((k : ℕ) → k < made → Changes old.program old.cells (schedule_of (entries_along old.history p k)) p None)
+
+-- the turns of so many entries of one step of process p, of which the first one has this number
+abbrev pub turns_in_row : ℕ → ℕ → ℕ → List (ℕ × ℕ)
+turns_in_row number p zero = []
+turns_in_row number p (suc n) = (number, p) ∷ turns_in_row (suc number) p n
 
 -- ---- reasons
 

@@ -2,8 +2,9 @@
 #![tactic(auto)]
 
 mod looking;
-mod making;
+pub mod making;
 pub mod reading;
 mod watch;
 
-pub use reading::why_text;
+pub use making::step;
+pub use reading::{begin_again, why_text};

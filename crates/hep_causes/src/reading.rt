@@ -16,8 +16,12 @@ use hep_reasons::{Reason, append_reasons};
 use hep_states::append_head;
 use std::alloc::{AllocError, Global};
 
-// A core of the same image and arena that has made no turn.
-fn begin_again(alloc: Global, core: &Core, entries: &History) -> Result<Core, AllocError>
+/// A core of the same image and arena that has made no turn.
+///
+/// # Errors
+///
+/// Only where memory was refused.
+pub fn begin_again(alloc: Global, core: &Core, entries: &History) -> Result<Core, AllocError>
     requires { IsReplayed core.now entries.now.items }
     ensures { IfOk result (λ again. again ≡ standing core.now.program core.now.cells []) }
 {

@@ -1,10 +1,10 @@
 -- What the words for numbers, jobs and names say, row by row.
 use Rattle.std.proofs.Common.{◌≡◌, ◌∷◌, [], Some, None, false, refl, true, codes}
 use Rattle.clap.proofs.OnLiterals.{clap_on_literals}
-use Rattle.hep_command.specs.Asked.{check, explain, heard, replay, run, sample, standard, state, why}
+use Rattle.hep_command.specs.Asked.{check, cover, explain, heard, replay, run, sample, standard, state, why}
 use Rattle.hep_command.specs.Explanations.{is_explained, name_of}
 use Rattle.hep_command.specs.Numbers.{number_within}
-use Rattle.hep_command.specs.Program.{asked, is_long}
+use Rattle.hep_command.specs.Program.{asked, histories, is_long}
 
 least : number_within 1 16777216 (codes "1") ≡ Some 1
 least = refl
@@ -83,6 +83,18 @@ why_with_arena : asked (codes "hepf" ∷ codes "why" ∷ codes "a.f" ∷ codes "
     ≡ Some (why (codes "a.f") (codes "h") 9)
 unfolding asked clap_on_literals
 why_with_arena = refl
+
+cover_two : asked (codes "hepf" ∷ codes "cover" ∷ codes "a.f" ∷ codes "g" ∷ codes "--arena=9" ∷ codes "h" ∷ []) ≡ Some (cover (codes "a.f") 9)
+unfolding asked clap_on_literals
+cover_two = refl
+
+histories_of_two : histories (codes "hepf" ∷ codes "cover" ∷ codes "a.f" ∷ codes "g" ∷ codes "--arena=9" ∷ codes "h" ∷ []) ≡ codes "g" ∷ codes "h" ∷ []
+unfolding histories clap_on_literals
+histories_of_two = refl
+
+no_histories : histories (codes "hepf" ∷ codes "replay" ∷ codes "a.f" ∷ codes "h" ∷ []) ≡ []
+unfolding histories clap_on_literals
+no_histories = refl
 
 replay_with_defaults : asked (codes "hepf" ∷ codes "replay" ∷ codes "a.f" ∷ codes "h" ∷ [])
     ≡ Some (replay (codes "a.f") (codes "h") 65536)

@@ -1,14 +1,14 @@
 -- Which job a command and its words ask for: docs/MACHINE.md, "The program".
-use Rattle.std.specs.Prelude.{◌&&◌, ◌||◌, ◌+◌, ◌-◌, ℕ, Bool, false, List as ListOf, Option, Some, None, codes, if◌then◌else◌, length}
+use Rattle.std.specs.Prelude.{◌&&◌, ◌||◌, ◌+◌, ◌-◌, ℕ, Bool, false, List as ListOf, [], Option, Some, None, codes, if◌then◌else◌, length}
 use Rattle.std.specs.Prelude.{nat_eq, option_and_then, option_map, slice_get, take}
-use Rattle.std.specs.Option.{option_map_or}
+use Rattle.std.specs.Option.{option_map_or, unwrap_or}
 use Rattle.std.specs.Str.{bytes_eq}
 use Rattle.std.specs.Borrow.{Bor}
-use Rattle.clap.specs.Words.{Row, Text, first_of, found_of, rows_of}
+use Rattle.clap.specs.Words.{Row, Text, all_of, first_of, found_of, rows_of}
 use Rattle.clap.specs.declared.parser.matches.ArgMatches.{ArgMatches}
 use Rattle.hep_command.specs.Numbers.{number_within, option_number}
 use Rattle.hep_command.specs.declared.job.Job.{Job}
-use Rattle.hep_command.specs.declared.job.Job.TheVariants.{Standard, Check, Run, Sample, Replay, State, Why, List, Explain}
+use Rattle.hep_command.specs.declared.job.Job.TheVariants.{Standard, Check, Run, Sample, Replay, State, Why, Cover, List, Explain}
 
 -- a job with the texts of its paths
 pub data Asked : Type 0 where
@@ -19,6 +19,7 @@ pub data Asked : Type 0 where
   replay : Text → Text → ℕ → Asked
   state : Text → Text → Option ℕ → ℕ → Asked
   why : Text → Text → ℕ → Asked
+  cover : Text → ℕ → Asked
   list : Text → Asked
   explain : Text → Option Text → Option Text → Asked
 
@@ -33,6 +34,7 @@ asked_by (Sample file runs seed arena steps keep) = sample file.now runs seed ar
 asked_by (Replay file history arena) = replay file.now history.now arena
 asked_by (State file history at arena) = state file.now history.now at arena
 asked_by (Why file history arena) = why file.now history.now arena
+asked_by (Cover file arena) = cover file.now arena
 asked_by (List file) = list file.now
 asked_by (Explain first second third) = explain first.now (texts second) (texts third)
 
@@ -129,6 +131,9 @@ why_in rows =
     option_and_then (λ file. option_and_then (λ history. option_map (why file history)
     (arena_in rows)) (first_of (codes "history") rows)) (first_of (codes "file") rows)
 
+abbrev pub cover_in : ListOf Row → Option Asked
+cover_in rows = option_and_then (λ file. option_map (cover file) (arena_in rows)) (first_of (codes "file") rows)
+
 abbrev pub list_in : ListOf Row → Option Asked
 list_in rows = option_map list (first_of (codes "file") rows)
 
@@ -146,8 +151,9 @@ command_in command rows =
     else (if bytes_eq command (codes "replay") then replay_in rows
     else (if bytes_eq command (codes "state") then state_in rows
     else (if bytes_eq command (codes "why") then why_in rows
+    else (if bytes_eq command (codes "cover") then cover_in rows
     else (if bytes_eq command (codes "list") then list_in rows
-    else (if bytes_eq command (codes "explain") then explain_in rows else None)))))))
+    else (if bytes_eq command (codes "explain") then explain_in rows else None))))))))
 
 -- with no command the source on standard input is run
 abbrev pub job_in : Option (Text × ListOf Row) → Option Asked
@@ -158,3 +164,8 @@ job_in (Some found) = command_in found.0 found.1
 abbrev pub is_long_in : ListOf Row → Option (Text × ListOf Row) → Bool
 is_long_in rows None = is_given (codes "long") rows
 is_long_in rows (Some found) = is_given (codes "long") rows || is_given (codes "long") found.1
+
+-- the histories of `cover`, in order
+abbrev pub histories_in : Option (Text × ListOf Row) → ListOf Text
+histories_in None = []
+histories_in (Some found) = unwrap_or (all_of (codes "histories") found.1) []

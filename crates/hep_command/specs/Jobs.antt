@@ -4,7 +4,7 @@ use Rattle.std.specs.Borrow.{Bor}
 use Rattle.clap.specs.declared.error.kind.ErrorKind.{ErrorKind}
 use Rattle.clap.specs.declared.error.kind.ErrorKind.TheVariants.{DisplayHelp, DisplayVersion, OutOfMemory}
 use Rattle.hep_command.specs.declared.job.Job.{Job}
-use Rattle.hep_command.specs.declared.job.Job.TheVariants.{Standard, Check, Run, Sample, Replay, State, Why, List, Explain}
+use Rattle.hep_command.specs.declared.job.Job.TheVariants.{Standard, Check, Run, Sample, Replay, State, Why, Cover, List, Explain}
 
 abbrev pub IsArena : ℕ → Type 0
 IsArena cells = (1 ≤ cells) × (cells ≤ 16777216)
@@ -35,6 +35,7 @@ IsInRange (Sample file runs seed arena steps keep) = AreSampled runs × IsSeed s
 IsInRange (Replay file history arena) = IsArena arena
 IsInRange (State file history at arena) = IsArena arena
 IsInRange (Why file history arena) = IsArena arena
+IsInRange (Cover file arena) = IsArena arena
 IsInRange (List file) = Unit {0}
 IsInRange (Explain first second third) = Unit {0}
 

@@ -1,5 +1,5 @@
 -- The commands and options of the program, as a parse sees them: docs/MACHINE.md, "The program".
-use Rattle.std.specs.Prelude.{◌≡◌, ◌⊎◌, [], Bool, false, ℕ, List, None, Option, Some, true, codes}
+use Rattle.std.specs.Prelude.{◌≡◌, ◌⊎◌, [], Bool, false, ℕ, List, None, Option, Some, true, codes, map}
 use Rattle.clap.specs.Words.{App, Rule, Text, app_of, matches_of, new_app, new_rule, rule_of, subcommand_of}
 use Rattle.clap.specs.Words.{IsAmong, fault_of, with_rule, with_subcommand}
 use Rattle.clap.specs.declared.builder.action.ArgAction.TheVariants.{SetTrue}
@@ -7,7 +7,7 @@ use Rattle.clap.specs.declared.builder.arg.Arg.{Arg}
 use Rattle.clap.specs.declared.builder.command.Command.{Command}
 use Rattle.clap.specs.declared.error.kind.ErrorKind.{ErrorKind}
 use Rattle.clap.specs.declared.builder.value_parser.ValueParser.TheVariants.{Unsigned}
-use Rattle.hep_command.specs.Asked.{Asked, asked_by, heard, is_long_in, job_in}
+use Rattle.hep_command.specs.Asked.{Asked, asked_by, heard, is_long_in, job_in, histories_in}
 use Rattle.hep_command.specs.Jobs.{IsOneOrder, IsWrittenApart, usage_status}
 use Rattle.hep_command.specs.declared.job.Job.{Job}
 use Rattle.hep_command.specs.declared.job.Request.{Request}
@@ -100,6 +100,15 @@ why_command =
     with_rule (with_rule (with_rule (with_rule (new_app (codes "why")) source_word) history_word) arena_option)
     long_flag
 
+-- one word at least, and as many more as there are
+abbrev pub histories_word : Rule
+histories_word = record (required_word (codes "histories")) { range = Some (record { start_inclusive = 1; end_inclusive = 18446744073709551615 }) }
+
+abbrev pub cover_command : App
+cover_command =
+    with_rule (with_rule (with_rule (with_rule (new_app (codes "cover")) source_word) histories_word) arena_option)
+    long_flag
+
 abbrev pub list_command : App
 list_command = with_rule (with_rule (new_app (codes "list")) source_word) long_flag
 
@@ -118,8 +127,8 @@ bare_program = with_rule named_program long_flag
 abbrev pub hepf : App
 hepf =
     with_subcommand (with_subcommand (with_subcommand (with_subcommand (with_subcommand (with_subcommand (with_subcommand (with_subcommand
-    bare_program check_command.top) run_command.top) sample_command.top) replay_command.top) state_command.top) why_command.top)
-    list_command.top) explain_command.top
+    (with_subcommand bare_program check_command.top) run_command.top) sample_command.top) replay_command.top) state_command.top) why_command.top)
+    cover_command.top) list_command.top) explain_command.top
 
 -- a parse sees this of the argument, and of the command
 abbrev pub IsArgument : Rule → Arg → Type 0
@@ -136,9 +145,14 @@ asked words = job_in (subcommand_of hepf (heard words))
 unfoldable pub is_long : List Text → Bool
 is_long words = is_long_in (matches_of hepf (heard words)) (subcommand_of hepf (heard words))
 
+-- the files of the histories of `cover`, in order
+unfoldable pub histories : List Text → List Text
+histories words = histories_in (subcommand_of hepf (heard words))
+
 -- what the words ask for
 abbrev pub IsAskedBy : List Text → Request → Type 0
-IsAskedBy words request = (asked words ≡ Some (asked_by request.job)) × (request.long ≡ is_long words)
+IsAskedBy words request =
+    (asked words ≡ Some (asked_by request.job)) × (request.long ≡ is_long words) × (map (λ h. h.now) request.histories.items ≡ histories words)
 
 -- nothing is asked for that has a meaning, or a job whose history would be written to a file that is read, or one with two of choices,
 -- workers and a seed

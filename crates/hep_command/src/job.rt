@@ -94,6 +94,12 @@ pub enum Job<'a> {
         /// The cells of the arena, 1 to 16,777,216.
         arena: u32,
     },
+    /// To say how often the statement of each line began in histories, which the request has.
+    Cover {
+        file: &'a str,
+        /// The cells of the arena, 1 to 16,777,216.
+        arena: u32,
+    },
     /// To list the units and common blocks of a source with their cells.
     List {
         file: &'a str,
@@ -107,9 +113,11 @@ pub enum Job<'a> {
 }
 
 /// A job, and how much is to be said of it.
-#[derive(Clone, Copy)]
+#[derive(Drop)]
 pub struct Request<'a> {
     pub job: Job<'a>,
+    /// The files of the histories of `cover`, in order; none of another job.
+    pub histories: Vec<&'a str>,
     /// Whether more is to be said of what went wrong than the lines that are fixed.
     pub long: bool,
 }

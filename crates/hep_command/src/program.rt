@@ -35,6 +35,9 @@ const STATE_EXAMPLE: &str = "Example: hepf state examples/powers.f powers.histor
 const WHY_EXAMPLE: &str = "Example: hepf run examples/deadlock.f --history deadlock.history
          hepf why examples/deadlock.f deadlock.history";
 
+const COVER_EXAMPLE: &str = "Example: hepf sample examples/race.f --keep race
+         hepf cover examples/race.f race.*";
+
 const LIST_EXAMPLE: &str = "Example: hepf list examples/sort.f";
 
 const EXPLAIN_EXAMPLES: &str =
@@ -279,6 +282,27 @@ fn why_command<'a>(alloc: Global) -> Result<Command<'a>, AllocError>
     with_arg(why, long_flag(alloc))
 }
 
+// First parts of histories that are there.
+fn histories_argument<'a>(alloc: Global) -> Arg<'a>
+    ensures { IsArgument spec.histories_word result }
+{
+    argument(alloc, "histories", "HISTORY").num_args(1..).help(
+        "Histories that `run` or `sample` wrote, or first lines of them",
+    )
+}
+
+fn cover_command<'a>(alloc: Global) -> Result<Command<'a>, AllocError>
+    ensures { IfOk result (IsCommand spec.cover_command) }
+{
+    let cover = Command::new(alloc, "cover")
+        .about("Say how often the statement of each line began in histories")
+        .after_help(COVER_EXAMPLE)
+        .arg(source_argument(alloc));
+    let cover = with_arg(cover, histories_argument(alloc));
+    let cover = with_arg(cover, arena_option(alloc));
+    with_arg(cover, long_flag(alloc))
+}
+
 fn list_command<'a>(alloc: Global) -> Result<Command<'a>, AllocError>
     ensures { IfOk result (IsCommand spec.list_command) }
 {
@@ -330,6 +354,7 @@ pub(crate) fn program<'a>(alloc: Global) -> Result<Command<'a>, AllocError>
     let whole = with_command(whole, replay_command(alloc));
     let whole = with_command(whole, state_command(alloc));
     let whole = with_command(whole, why_command(alloc));
+    let whole = with_command(whole, cover_command(alloc));
     let whole = with_command(whole, list_command(alloc));
     with_command(whole, explain_command(alloc))
 }

@@ -1,10 +1,11 @@
 //! The words of a command line.
-ghost use Rattle.std.specs.Prelude.{◌≡◌, ◌⊎◌, ◌≤◌, false, true, IfOk, IfErr, IfNone, IfSome, Some, map, option_map};
-ghost use Rattle.clap.specs.Words.{kind_of, subcommand_rows_of};
+ghost use Rattle.std.specs.Prelude.{◌≡◌, ◌⊎◌, ◌≤◌, false, true, IfOk, IfErr, IfNone, IfSome, Some, map, option_map, [], codes};
+ghost use Rattle.clap.specs.Words.{kind_of, subcommand_rows_of, all_of};
 ghost use Rattle.hep_command.specs.Program.{IsAskedBy, IsMistaken, IsStatusFor, asked};
+ghost use Rattle.std.specs.Option.{unwrap_or};
 ghost use Rattle.hep_command.specs.Numbers.{number_within, option_number};
 ghost use Rattle.hep_command.specs.Asked.{asked_by, arena_in, asks_from, check_in, command_in, explain_in, heard, is_given, is_help_of_help};
-ghost use Rattle.hep_command.specs.Asked.{entries_in, is_long_in, is_word, job_in, list_in, replay_in, run_in, state_in, steps_in, why_in, word_of, words_found};
+ghost use Rattle.hep_command.specs.Asked.{entries_in, is_long_in, is_word, job_in, cover_in, histories_in, list_in, replay_in, run_in, state_in, steps_in, why_in, word_of, words_found};
 ghost use Rattle.hep_command.specs.Asked.{first_seed_in, runs_in, sample_in, seed_in, workers_in};
 ghost use Rattle.hep_command.specs.Jobs.{IsInRange, IsNoPath, IsOneOrder, IsUsageStatus, IsWrittenApart, usage_status};
 
@@ -16,7 +17,7 @@ use crate::mistakes::said;
 use crate::program::program;
 use clap::error::ErrorKind;
 use clap::{ArgMatches, Error};
-use std::alloc::Global;
+use std::alloc::{AllocError, Global};
 use std::convert::AsStr;
 
 // What is said of words that `clap` took and that have no meaning here. None are known: `clap` has
@@ -199,6 +200,16 @@ fn why_job<'a>(found: &ArgMatches<'a>) -> Option<Job<'a>>
     })
 }
 
+fn cover_job<'a>(found: &ArgMatches<'a>) -> Option<Job<'a>>
+    ensures range { IfSome result IsInRange }
+    ensures job { option_map asked_by result ≡ cover_in (words_found found.now) }
+{
+    Some(Job::Cover {
+        file: word_of(found, "file")?,
+        arena: arena_of(found)?,
+    })
+}
+
 fn list_job<'a>(found: &ArgMatches<'a>) -> Option<Job<'a>>
     ensures range { IfSome result IsInRange }
     ensures job { option_map asked_by result ≡ list_in (words_found found.now) }
@@ -241,6 +252,9 @@ fn command_job<'a>(command: &str, found: &ArgMatches<'a>) -> Option<Job<'a>>
     }
     if command == "why" {
         return why_job(found);
+    }
+    if command == "cover" {
+        return cover_job(found);
     }
     if command == "list" {
         return list_job(found);
@@ -389,11 +403,43 @@ fn heard<'a, S: AsStr>(words: &'a [S]) -> &'a [S]
     }
 }
 
+// A copy of a list of words.
+fn copied<'a>(alloc: Global, words: &[&'a str]) -> Result<Vec<&'a str>, AllocError>
+    ensures { IfOk result (λ copy. map (λ word. word.now) copy.items ≡ map (λ word. word.now) words.now) }
+{
+    let mut copy = Vec::new(alloc);
+    for word in words {
+        copy.push(*word)?;
+    }
+    Ok(copy)
+}
+
+// All words that were found for the histories of a command.
+fn words_of<'a>(alloc: Global, found: &ArgMatches<'a>) -> Result<Vec<&'a str>, AllocError>
+    ensures { IfOk result (λ words. map (λ word. word.now) words.items ≡ unwrap_or (all_of (codes "histories") (words_found found.now)) []) }
+{
+    match found.get_strs("histories") {
+        Some(words) => copied(alloc, words),
+        None => Ok(Vec::new(alloc)),
+    }
+}
+
+// The files of the histories of `cover`.
+fn histories_of<'a>(alloc: Global, matches: &ArgMatches<'a>) -> Result<Vec<&'a str>, AllocError>
+    ensures { IfOk result (λ histories. map (λ history. history.now) histories.items ≡ histories_in (subcommand_rows_of matches.now)) }
+{
+    match matches.subcommand() {
+        Some((_, found)) => words_of(alloc, found),
+        None => Ok(Vec::new(alloc)),
+    }
+}
+
 // The request of words that `clap` took, or what is wrong with them.
 fn request_of<'a>(alloc: Global, matches: &ArgMatches<'a>) -> Result<Request<'a>, Usage>
     ensures job { IfOk result (λ request. IsInRange request.job) }
     ensures asked { IfOk result (λ request. job_in (subcommand_rows_of matches.now) ≡ Some (asked_by request.job)) }
     ensures long { IfOk result (λ request. request.long ≡ is_long_in (words_found matches.now) (subcommand_rows_of matches.now)) }
+    ensures histories { IfOk result (λ request. map (λ history. history.now) request.histories.items ≡ histories_in (subcommand_rows_of matches.now)) }
     ensures sound { IfOk result (λ request. IsWrittenApart request.job × IsOneOrder request.job) }
     ensures mistake { IfErr result (λ usage. (usage.status ≡ 7)
         ⊎ ((usage.status ≡ 2) × IsMistaken (job_in (subcommand_rows_of matches.now)))) }
@@ -408,7 +454,14 @@ fn request_of<'a>(alloc: Global, matches: &ArgMatches<'a>) -> Result<Request<'a>
         return Err(Usage::of_text(alloc, 2, text));
     }
     let long = is_long(matches);
-    Ok(Request { job, long })
+    let Ok(histories) = histories_of(alloc, matches) else {
+        return Err(Usage::no_memory(alloc));
+    };
+    Ok(Request {
+        job,
+        histories,
+        long,
+    })
 }
 
 /// What these words ask for, and how much is to be said of it; the first one is the program's name.
@@ -453,7 +506,7 @@ pub fn read_words<'a, S: AsStr>(alloc: Global, words: &'a [S]) -> Result<Job<'a>
         (usage.status ≡ 7) ⊎ IsStatusFor (map S.text words.entry.now) usage.status) }
 {
     match read_request(alloc, words) {
-        Ok(request) => Ok(request.job),
+        Ok(Request { job, .. }) => Ok(job),
         Err(usage) => Err(usage),
     }
 }

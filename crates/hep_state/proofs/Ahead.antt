@@ -5,7 +5,7 @@ use Rattle.hep_machine.specs.State.{Level as SourceLevel, Process as SourceProce
 use Rattle.hep_code.specs.declared.instruction.Instruction.{Instruction}
 use Rattle.hep_code.specs.declared.instruction.Instruction.TheVariants.{Step}
 use Rattle.hep_code.specs.declared.instruction.Operation.{Operation}
-use Rattle.hep_code.specs.declared.instruction.Operation.TheVariants.{Call, Create, Refer, Purge, Resume, Return}
+use Rattle.hep_code.specs.declared.instruction.Operation.TheVariants.{Call, Create, Refer, Purge, Resume, Return, Answer}
 use Rattle.hep_code.specs.Words.{IsPastPushes}
 use Rattle.hep_step.specs.Simulation.{IsNotLeftOut, is_left_out, unit_code}
 use Rattle.hep_state.specs.declared.machine.Machine.{Machine}
@@ -24,14 +24,14 @@ none-left-out code index none line o behind ahead = by_operation o (subst HasNon
   by_operation (Resume next) h = absurd h
   by_operation _ h = refl
 
--- where RETURN stands
+-- where another operation stands
 is-left-there : List Instruction → Bool
 is-left-there (Step line o ∷ behind) = is_left_out o
 is-left-there _ = false
 
-return-left-out : (code : List Instruction) (index line : ℕ) (behind : List Instruction) → drop index code ≡ Step line Return ∷ behind → IsNotLeftOut code index
+other-left-out : (code : List Instruction) (index line : ℕ) (o : Operation) (behind : List Instruction) → is_left_out o ≡ false → drop index code ≡ Step line o ∷ behind → IsNotLeftOut code index
 unfolding is-left-there
-return-left-out code index line behind found other o rest ahead = sym (ap is-left-there (sym found ∙ ahead))
+other-left-out code index line o behind other found rest p more ahead = sym (ap is-left-there (sym found ∙ ahead)) ∙ other
 
 -- what stands in front of the instructions that are ahead, once the values in front of it are operands
 pub found-ahead : (program : Units) (old : Machine) {m : Snapshot} {p : ℕ} (levels : HasLevels m p)
@@ -47,12 +47,19 @@ found-ahead program old levels turns past (ahead.Purge purge) found = λ cells c
 found-ahead program old levels turns past (ahead.Resume next) found = λ cells choices after.
     let turn = turns cells choices after in
     record { levels = levels; top = turn.0; holds = (found.0, record { turning = turn.1; behind = found.1; ahead = found.2 }) }
-found-ahead program old levels turns past ahead.Return found =
+found-ahead program old levels turns past ahead.Return found = (
+  found.0,
+  record {
+    operation = record { levels = levels; past = past; plain = other-left-out (unit_code program levels.level.unit) levels.level.index found.0 Return found.1 refl found.2 };
+    behind = found.1;
+    ahead = found.2;
+  },
+)
+found-ahead program old levels turns past (ahead.Answer answer) found =
     record {
-      operation = record { levels = levels; past = past; plain = return-left-out (unit_code program levels.level.unit) levels.level.index found.0 found.1 found.2 };
-      line = found.0;
-      behind = found.1;
-      ahead = found.2;
+      operation = record { levels = levels; past = past; plain = other-left-out (unit_code program levels.level.unit) levels.level.index answer.line (Answer answer.variable) found.0 refl found.1 };
+      behind = found.0;
+      ahead = found.1;
     }
 found-ahead program old levels turns past ahead.Other none =
     record { levels = levels; past = past; plain = none-left-out (unit_code program levels.level.unit) levels.level.index none }

@@ -5,7 +5,7 @@ use Rattle.hep_machine.specs.declared.event.Kind.{Kind}
 use Rattle.hep_code.specs.declared.instruction.Instruction.{Instruction}
 use Rattle.hep_code.specs.declared.instruction.Instruction.TheVariants.{Step}
 use Rattle.hep_code.specs.declared.instruction.Operation.{Operation}
-use Rattle.hep_code.specs.declared.instruction.Operation.TheVariants.{Call, Create, Refer, Purge, Resume, Return}
+use Rattle.hep_code.specs.declared.instruction.Operation.TheVariants.{Call, Create, Refer, Purge, Resume, Return, Answer}
 use Rattle.hep_code.specs.Words.{IsPastPushes, passed_from}
 use Rattle.hep_image.specs.Finding.{cells_in}
 use Rattle.hep_step.specs.declared.given.Given.{Given}
@@ -17,6 +17,7 @@ use Rattle.hep_step.specs.Simulation.{IsNotLeftOut, unit_arrays, unit_code}
 use Rattle.hep_state.specs.declared.machine.Machine.{Machine}
 use Rattle.hep_state.specs.declared.upcoming.StepAhead.{StepAhead}
 use Rattle.hep_state.specs.declared.upcoming.StepAhead.TheVariants as ahead
+use Rattle.hep_state.specs.declared.upcoming.AnswerAhead.{AnswerAhead}
 use Rattle.hep_state.specs.declared.upcoming.CallAhead.{CallAhead}
 use Rattle.hep_state.specs.declared.upcoming.PurgeAhead.{PurgeAhead}
 use Rattle.hep_state.specs.Rooms.{IsMachineAfter}
@@ -45,6 +46,7 @@ IsInFront index instructions (ahead.Call call) =
 IsInFront index instructions (ahead.Purge purge) = (behind : List Instruction) × (instructions ≡ Step purge.line (Purge purge.count purge.next) ∷ behind)
 IsInFront index instructions (ahead.Resume next) = (line : ℕ) × (behind : List Instruction) × (instructions ≡ Step line (Resume next) ∷ behind)
 IsInFront index instructions ahead.Return = (line : ℕ) × (behind : List Instruction) × (instructions ≡ Step line Return ∷ behind)
+IsInFront index instructions (ahead.Answer answer) = (behind : List Instruction) × (instructions ≡ Step answer.line (Answer answer.variable) ∷ behind)
 IsInFront index instructions ahead.Other = HasNone instructions
 
 -- ---- ahead of a process
@@ -84,12 +86,19 @@ pub record IsWithoutCall (program : Units) (p : ℕ) (m : Snapshot) : Type 0 whe
   pub past : IsPastPushes (unit_code program levels.level.unit) levels.level.index
   pub plain : IsNotLeftOut (unit_code program levels.level.unit) levels.level.index
 
--- and that is RETURN, or the END of a subroutine
-pub record IsAtReturn (program : Units) (p : ℕ) (m : Snapshot) : Type 0 where
+-- and that is this operation
+pub record IsAtOther (program : Units) (p : ℕ) (m : Snapshot) (line : ℕ) (o : Operation) : Type 0 where
   pub operation : IsWithoutCall program p m
-  pub line : ℕ
   pub behind : List Instruction
-  pub ahead : drop operation.levels.level.index (unit_code program operation.levels.level.unit) ≡ Step line Return ∷ behind
+  pub ahead : drop operation.levels.level.index (unit_code program operation.levels.level.unit) ≡ Step line o ∷ behind
+
+-- RETURN, or the END of a subroutine
+abbrev pub IsAtReturn : Units → ℕ → Snapshot → Type 0
+IsAtReturn program p m = (line : ℕ) × IsAtOther program p m line Return
+
+-- the END of a function
+abbrev pub IsAtAnswer : Units → ℕ → Snapshot → AnswerAhead → Type 0
+IsAtAnswer program p m answer = IsAtOther program p m answer.line (Answer answer.variable)
 
 -- what was found ahead of process p, of what a machine kept, once the values in front of it are operands
 abbrev pub IsAhead : Units → ℕ → Machine → Snapshot → StepAhead → Type 0
@@ -97,6 +106,7 @@ IsAhead program p old m (ahead.Call call) = (cells : ℕ) (choices : List ℕ) �
 IsAhead program p old m (ahead.Purge purge) = (cells : ℕ) (choices : List ℕ) → IsMachineAfter program cells choices old → HasPurgeAhead program cells choices p m purge
 IsAhead program p old m (ahead.Resume next) = (cells : ℕ) (choices : List ℕ) → IsMachineAfter program cells choices old → HasResumeAhead program cells choices p m next
 IsAhead program p old m ahead.Return = IsAtReturn program p m
+IsAhead program p old m (ahead.Answer answer) = IsAtAnswer program p m answer
 IsAhead program p old m ahead.Other = IsWithoutCall program p m
 
 -- ---- what it is given

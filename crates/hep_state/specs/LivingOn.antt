@@ -4,16 +4,19 @@ use Rattle.hep_machine.specs.Words.{Units, frame_cells, unit_at}
 use Rattle.hep_arena.specs.Holes.{first_fit}
 use Rattle.hep_code.specs.Words.{IsPastPushes}
 use Rattle.hep_step.specs.Calls.{is_creation}
+use Rattle.hep_step.specs.Effects.{Effect}
 use Rattle.hep_step.specs.Simulation.{unit_code}
 use Rattle.hep_proc.specs.declared.process.Local.{Local}
 use Rattle.hep_state.specs.declared.machine.Machine.{Machine}
 use Rattle.hep_state.specs.declared.turn.Turned.TheVariants.{Stepped}
+use Rattle.hep_state.specs.declared.upcoming.AnswerAhead.{AnswerAhead}
 use Rattle.hep_state.specs.declared.upcoming.CallAhead.{CallAhead}
 use Rattle.hep_state.specs.Calls.{IsMaking}
-use Rattle.hep_state.specs.CallsAhead.{IsAtReturn}
+use Rattle.hep_state.specs.CallsAhead.{IsAtAnswer, IsAtReturn}
 use Rattle.hep_state.specs.Outcomes.{HasTurned}
 use Rattle.hep_state.specs.Parts.{AfterTurns, IsAtCallAhead, IsItsTurn, KeepsRoomOf}
 use Rattle.hep_state.specs.Snapshots.{snapshot_of}
+use Rattle.hep_state.specs.Taking.{IsToEnd}
 use Rattle.hep_state.specs.Tops.{HasLevels, HoldsInTurn}
 
 -- ---- what it asks for
@@ -45,7 +48,20 @@ pub record CanReturn (program : Units) (p : ℕ) (m : Machine) : Type 0 where
   pub turn : IsItsTurn program p m
   pub at : IsAtReturn program p (snapshot_of m)
 
+-- at the END of a function
+pub record CanAnswer (program : Units) (p : ℕ) (m : Machine) (answer : AnswerAhead) : Type 0 where
+  pub turn : IsItsTurn program p m
+  pub at : IsAtAnswer program p (snapshot_of m) answer
+
+-- the top activation of process p is to end with this effect
+abbrev pub IsToEndBy : Units → ℕ → Machine → Effect → Type 0
+IsToEndBy program p m effect = AfterTurns program m (λ cells choices. IsToEnd program cells choices p (snapshot_of m) effect)
+
 -- ---- what comes of it
+
+-- a turn of process p was a step, which filled and emptied no storage unit
+abbrev pub StepsBy : Units → ℕ → Machine → Machine → Type 0
+StepsBy program p old new = AfterTurns program old (λ cells choices. HasTurned program cells choices p (Stepped None) new)
 
 -- process p, which has activations still, can go on, no process was made, and no more activations than so many
 pub record LivesOn (p more : ℕ) (old new : Machine) : Type 0 where
@@ -58,9 +74,9 @@ pub record LivesOn (p more : ℕ) (old new : Machine) : Type 0 where
 abbrev pub LivesOnBelow : ℕ → Machine → Machine → Type 0
 LivesOnBelow p old new = (levels : HasLevels (snapshot_of old) p) (l : Local) (ls : List Local) → levels.below ≡ l ∷ ls → LivesOn p 0 old new
 
--- a turn of process p was a step, which filled and emptied no storage unit, and the process lives on
+-- and the process lives on
 pub record StepsOn (program : Units) (p : ℕ) (old new : Machine) : Type 0 where
-  pub turned : AfterTurns program old (λ cells choices. HasTurned program cells choices p (Stepped None) new)
+  pub turned : StepsBy program p old new
   pub lives : LivesOn p 1 old new
 
 -- the same is shown, with the room that there was

@@ -54,9 +54,9 @@ pub record HasRoomForCreation (m : Machine) (roster : Roll) : Type 0 where
   pub numbers : m.made + 1 ≤ roster.room
   pub node : HasRoomFor m.frames.nodes 1
 
--- a process with this number and without activations, with room for a level and for so many operands at once
+-- a process with this number and without activations, with room for just one level and for just so many operands at once
 pub record IsEmptyProcess (number deep : ℕ) (q : Process) : Type 0 where
   pub number_is : q.number ≡ number
   pub empty : (q.levels.items ≡ []) × (q.operands.items ≡ []) × (q.pending.items ≡ [])
-  pub level : vec_len q.levels < vec_capacity q.levels
-  pub operands : deep ≤ vec_capacity q.operands
+  pub level : (vec_len q.levels ≡ 0) × (vec_capacity q.levels ≡ 1)
+  pub operands : vec_capacity q.operands ≡ deep

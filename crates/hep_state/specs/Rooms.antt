@@ -7,6 +7,7 @@ use Rattle.hep_code.specs.Words.{deepest}
 use Rattle.hep_image.specs.Dummies.{dummy_arguments}
 use Rattle.hep_image.specs.Image.{most_cells}
 use Rattle.hep_binding.specs.Fitting.{longest_code}
+use Rattle.hep_purging.specs.Room.{most_of, most_targets}
 use Rattle.hep_step.specs.Simulation.{unit_code}
 use Rattle.hep_proc.specs.declared.process.Local.{Local}
 use Rattle.hep_state.specs.declared.machine.Machine.{Machine}
@@ -26,6 +27,14 @@ pub record HasRoomToPass (program : Units) (r : Passing) : Type 0 where
   pub shapes : (u : ℕ) → length (dummies_of (unit_at program u)) ≤ vec_capacity r.shapes
   pub values : (u : ℕ) → u < length program → longest_code (dummy_arguments program (unit_at program u)) ≤ vec_capacity r.values
   pub ranges : (u index line count next : ℕ) → u < length program → slice_get (unit_code program u) index ≡ Some (Step line (Purge count next)) → count ≤ vec_capacity r.ranges
+
+-- just the room that a core asks for: for as many dummy arguments as a unit has at most, for the longest code of the shape of one, and for
+-- as many targets as a PURGE has at most
+pub record IsRoomToPass (program : Units) (r : Passing) : Type 0 where
+  pub given : vec_capacity r.given ≡ most_of (λ u. length (dummies_of (unit_at program u))) (length program)
+  pub shapes : vec_capacity r.shapes ≡ most_of (λ u. length (dummies_of (unit_at program u))) (length program)
+  pub values : vec_capacity r.values ≡ most_of (λ u. longest_code (dummy_arguments program (unit_at program u))) (length program)
+  pub ranges : vec_capacity r.ranges ≡ most_of (λ u. most_targets (unit_code program u)) (length program)
 
 -- this is so of process p, if it is kept
 abbrev pub HoldsOfProcess : Machine → ℕ → (Process → Type 0) → Type 0

@@ -16,13 +16,14 @@ pub use Rattle.hep_state.specs.Calls.{HasEntered, IsAfterCall, IsMaking, IsUnit,
 unfoldable pub use Rattle.hep_state.specs.Openings.{snapshot_opened, unset_opening}
 pub use Rattle.hep_state.specs.Openings.{IsEntered, IsGiven, IsQuiet}
 unfoldable pub use Rattle.hep_state.specs.Rooms.{HasRoom, HasRoomAt, HoldsOfProcess}
-pub use Rattle.hep_state.specs.Rooms.{HasRoomToPass, HaveRoom, IsMachineAfter}
+pub use Rattle.hep_state.specs.Rooms.{HasRoomToPass, HaveRoom, IsMachineAfter, IsRoomToPass}
 unfoldable pub use Rattle.hep_state.specs.Taking.{IsLeft, IsToEnd}
 pub use Rattle.hep_state.specs.Taking.{CanAdvance, HasSettledTop, IsAdvanced, IsBehind, IsEnding, IsPlace, IsSameButTop, IsSeenSame, IsSettled}
 unfoldable pub use Rattle.hep_state.specs.Givings.{AreOut}
-unfoldable pub use Rattle.hep_state.specs.CallsAhead.{given_of, HasCallAhead, HasNone, HasPurgeAhead, HasResumeAhead, IsAhead, IsAtPurge, IsAtResume, IsInFront}
+unfoldable pub use Rattle.hep_state.specs.CallsAhead.{given_of, HasCallAhead, HasNone, HasPurgeAhead, HasResumeAhead, IsAhead, IsAtAnswer, IsAtPurge, IsAtResume}
+unfoldable pub use Rattle.hep_state.specs.CallsAhead.{IsAtReturn, IsInFront}
 unfoldable pub use Rattle.hep_state.specs.CallsAhead.{operation_of, ranges_ahead}
-pub use Rattle.hep_state.specs.CallsAhead.{IsAtCall, IsAtReturn, IsAtStep, IsWithoutCall}
+pub use Rattle.hep_state.specs.CallsAhead.{IsAtCall, IsAtOther, IsAtStep, IsWithoutCall}
 unfoldable pub use Rattle.hep_state.specs.Unturned.{IsUnturned}
 unfoldable pub use Rattle.hep_state.specs.Outcomes.{HasTurned}
 pub use Rattle.hep_state.specs.Outcomes.{Changes, HasPurged}
@@ -40,5 +41,5 @@ pub use Rattle.hep_state.specs.Reserving.{CanBeMore, HasRoomForCreation, HasRoom
 pub use Rattle.hep_state.specs.Reserving.{ShowsSame}
 unfoldable pub use Rattle.hep_state.specs.Histories.{IsAfterHistory, IsTurn, IsUntaken, cells_of}
 pub use Rattle.hep_state.specs.Histories.{CanTakeCall, CanTakeOperation, CanTakeResume, CanTurn, LeavesAlone}
-unfoldable pub use Rattle.hep_state.specs.LivingOn.{HasLivedOn, LivesOnBelow}
-pub use Rattle.hep_state.specs.LivingOn.{CanBeginCall, CanLiveOn, CanMakeCall, CanReturn, IsSettledTurn, LivesOn, StaysShown, StepsOn}
+unfoldable pub use Rattle.hep_state.specs.LivingOn.{HasLivedOn, IsToEndBy, LivesOnBelow, StepsBy}
+pub use Rattle.hep_state.specs.LivingOn.{CanAnswer, CanBeginCall, CanLiveOn, CanMakeCall, CanReturn, IsSettledTurn, LivesOn, StaysShown, StepsOn}

@@ -42,11 +42,12 @@ impl Machine {
 
     // The activation of a function on top of process p has ended with this value, which stands in the place of its reference: behind the
     // operands that the one below it keeps, which it has again. There is room for them.
-    fn hand_down(&mut self, p: u64, value: Value)
+    pub(crate) fn hand_down(&mut self, p: u64, value: Value)
         requires { IsEndingWithRoom (answers value) p self.old }
         ensures stepped { EndsBy (answers value) p self.old self.new }
         ensures rooms { KeepsRoom self.old self.new }
         ensures made { self.new.made ≡ self.old.made }
+        ensures lives { LivesOnBelow p self.old self.new }
     {
         let at = self.place(p);
         let process = &mut self.processes[at];

@@ -5,6 +5,7 @@
 #![tactic(auto)]
 
 mod advancing;
+mod answering;
 mod calling;
 mod emptying;
 mod ending;
@@ -23,4 +24,4 @@ pub use calling::Called;
 pub use machine::{Machine, Passing};
 pub use opening::fits;
 pub use turn::{TurnFault, Turned};
-pub use upcoming::{CallAhead, PurgeAhead, StepAhead};
+pub use upcoming::{AnswerAhead, CallAhead, PurgeAhead, StepAhead};

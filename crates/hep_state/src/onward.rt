@@ -1,12 +1,12 @@
-//! Turns that begin or end an activation of a process, which lives on, and do nothing else: CALL, references and RETURN.
+//! Turns that begin or end an activation of a process, which lives on, and do nothing else: CALL, references, RETURN and END.
 ghost use Rattle.std.specs.Prelude.{◌≡◌, OnErr, OnOk};
 ghost use Rattle.hep_step.specs.Calls.{is_creation};
-ghost use Rattle.hep_state.specs.Words.{CanBeginCall, CanLiveOn, CanMakeCall, CanReturn, HasLivedOn, ShowsSame, StepsOn};
+ghost use Rattle.hep_state.specs.Words.{CanAnswer, CanBeginCall, CanLiveOn, CanMakeCall, CanReturn, HasLivedOn, ShowsSame, StepsOn};
 
 use crate::calling::Called;
 use crate::laws;
 use crate::machine::Machine;
-use crate::upcoming::{CallAhead, StepAhead};
+use crate::upcoming::{AnswerAhead, CallAhead, StepAhead};
 use hep_image::Image;
 use hep_step::Way;
 use std::alloc::AllocError;
@@ -82,9 +82,27 @@ impl Machine {
         true
     }
 
+    // Ends the function on top of process p, whose END is ahead, unless none is below it or its variable has no value.
+    fn make_answer(&mut self, image: &Image, p: u64, answer: AnswerAhead) -> bool
+        requires { CanAnswer image.now p self.old answer }
+        ensures { HasLivedOn image.now p self.old result self.new }
+    {
+        image.is_runnable();
+        laws::tops_are_running();
+        let at = self.place(p);
+        if self.processes[at].levels.len() == 1 {
+            return false;
+        }
+        let Ok(value) = self.answer(image, p, answer) else {
+            return false;
+        };
+        self.hand_down(p, value);
+        true
+    }
+
     /// A turn of process p, which lives, where it only begins or ends an activation and p lives on: of a CALL or reference that isn't a
-    /// fault, and of RETURN or the END of a subroutine above another activation. Else nothing that is shown changes, and so where the frame
-    /// has no gap or memory is refused.
+    /// fault, and of RETURN or END above another activation, which in a function needs a result. Else nothing that is shown changes, and so
+    /// where the frame has no gap or memory is refused.
     ///
     /// No value stands in front of the operation ahead of it. This costs less than a `turn`, since neither a record nor a fault, an entry or a
     /// process gets room.
@@ -100,6 +118,7 @@ impl Machine {
                 self.make_call(image, p, call)
             }
             StepAhead::Return => self.make_return(image, p),
+            StepAhead::Answer(answer) => self.make_answer(image, p, answer),
             _ => false,
         }
     }

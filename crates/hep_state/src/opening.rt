@@ -13,7 +13,7 @@ ghost use Rattle.hep_purging.specs.Room as room;
 ghost use Rattle.hep_purging.specs.Room.{most_of};
 ghost use Rattle.hep_binding.specs.Fitting as shaping;
 ghost use Rattle.hep_step.specs.Simulation.{unit_code};
-ghost use Rattle.hep_state.specs.Words.{AreOut, HasRoomToPass, IsEntered, IsGiven, IsMachineAfter, IsQuiet};
+ghost use Rattle.hep_state.specs.Words.{AreOut, IsEntered, IsGiven, IsMachineAfter, IsQuiet, IsRoomToPass};
 
 use crate::laws;
 use crate::machine::{Machine, Passing};
@@ -147,9 +147,9 @@ fn most_targets_of_all(image: &Image) -> usize
 }
 
 // Room for what is given to the dummy arguments of each unit, for their shapes, and for the values of bounds, and for the targets of
-// each PURGE.
+// each PURGE, and no more than that.
 fn room_to_pass(alloc: Global, image: &Image) -> Result<Passing, AllocError>
-    ensures { IfOk result (λ passing. HasRoomToPass image.now passing) }
+    ensures { IfOk result (λ passing. IsRoomToPass image.now passing) }
 {
     let most = most_dummies(image.program().as_slice());
     Ok(Passing {
@@ -191,6 +191,7 @@ impl Machine {
         ensures opened { IfOk result (λ machine. IsMachineAfter image.now cells [] machine) }
         ensures alone { IfOk result (λ machine. machine.made ≡ 1) }
         ensures quiet { IfOk result (λ machine. IsQuiet machine) }
+        ensures room { IfOk result (λ machine. IsRoomToPass image.now machine.passing) }
     {
         hep_image::laws::openings_fit_by_numbers();
         laws::openings_are_shown();

@@ -260,10 +260,15 @@ impl Machine {
                 self.take_resume(image, p, next, history, roster)?;
                 Ok(Turned::Stepped { changed: None })
             }
-            // The same as by `take_operation`, without a look at operands and cells.
+            // RETURN and END are the same as by `take_operation`, without a look at operands and other cells.
             StepAhead::Return => {
                 history.reserve(1)?;
                 self.finish(p);
+                Ok(Turned::Stepped { changed: None })
+            }
+            StepAhead::Answer(answer) => {
+                self.reserve(history)?;
+                self.take_answer(image, p, answer);
                 Ok(Turned::Stepped { changed: None })
             }
             StepAhead::Other => Ok(self.take_operation(alloc, image, p, history)?),

@@ -1,5 +1,5 @@
-//! What stands ahead of a process: a CALL, CREATE or reference, a PURGE, RESUME, RETURN, or another operation (X3.9-1978, 15.5.2, 15.6.2
-//! and 15.8, and docs/LANGUAGE.md, 9).
+//! What stands ahead of a process: a CALL, CREATE or reference, a PURGE, RESUME, RETURN, END, or another operation (X3.9-1978, 15.5.2,
+//! 15.6.2 and 15.8, and docs/LANGUAGE.md, 9).
 ghost use Rattle.std.specs.Prelude.{◌≡◌, ◌<◌, ◌^◌, ◌∷◌, List, drop, length};
 ghost use Rattle.hep_code.specs.declared.instruction.Instruction.{Instruction as AnInstruction};
 ghost use Rattle.hep_code.specs.declared.instruction.Instruction.TheVariants.{Step};
@@ -8,7 +8,7 @@ ghost use Rattle.hep_state.specs.Words.{snapshot_of};
 
 use crate::advancing::settle_top;
 use crate::machine::Machine;
-use hep_code::{Instruction, Operation};
+use hep_code::{Instruction, Operation, Variable};
 use hep_image::Image;
 use hep_proc::Local;
 use hep_step::Way;
@@ -39,6 +39,15 @@ pub struct PurgeAhead {
     pub next: u32,
 }
 
+/// The END of a function that stands ahead of a process.
+#[derive(Clone, Copy)]
+pub struct AnswerAhead {
+    /// The initial line of its statement.
+    pub line: u32,
+    /// The variable whose value is the result.
+    pub variable: Variable,
+}
+
 /// What stands ahead of a process.
 #[derive(Clone, Copy)]
 pub enum StepAhead {
@@ -50,6 +59,8 @@ pub enum StepAhead {
     Resume { next: u32 },
     /// RETURN, or the END of a subroutine.
     Return,
+    /// The END of a function, or RETURN in one.
+    Answer(AnswerAhead),
     /// None of them.
     Other,
 }
@@ -84,6 +95,7 @@ fn as_ahead(line: u32, index: usize, operation: Operation) -> StepAhead
         Operation::Purge { count, next } => StepAhead::Purge(PurgeAhead { line, count, next }),
         Operation::Resume { next } => StepAhead::Resume { next },
         Operation::Return => StepAhead::Return,
+        Operation::Answer { variable } => StepAhead::Answer(AnswerAhead { line, variable }),
         _ => StepAhead::Other,
     }
 }

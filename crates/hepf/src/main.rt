@@ -9,7 +9,7 @@ ghost use Rattle.hep_command.specs.Jobs.{IsInRange};
 
 use hep_command::{Job, Request, SAME_FILE, explain, read_request};
 use hep_history::Choices;
-use hep_inspection::{AskedState, Telling, state_noted};
+use hep_inspection::{AskedCover, AskedState, Telling, cover_noted, state_noted};
 use hep_run::{
     AskedLots, AskedReplay, AskedRun, AskedSample, AskedWork, LotOptions, NoGate, Options,
     ReadFault, Run, SampleOptions, WorkOptions, answer, check_noted, choices_of, history_text,
@@ -344,6 +344,30 @@ fn state_file(rt: &HostRuntime, file: &str, asked: &AskedState<'_>) -> Result<u8
     ))
 }
 
+// The bytes of files of histories, in order.
+fn all_bytes(rt: &HostRuntime, paths: &[&str], long: bool) -> Result<Vec<Vec<u8>>, u8> {
+    let mut texts = Vec::new(rt.alloc());
+    for path in paths {
+        let text = file_bytes(rt, *path, long)?;
+        if texts.push(text).is_err() {
+            return Err(answer(7, b"", &mut rt.stdout(), &mut rt.stderr()));
+        }
+    }
+    Ok(texts)
+}
+
+// Says how often the statement of each line began in histories.
+fn cover_file(rt: &HostRuntime, file: &str, asked: &AskedCover<'_>) -> Result<u8, u8> {
+    let mut source = opened(rt, file, asked.long)?;
+    Ok(cover_noted(
+        rt.alloc(),
+        &mut source,
+        asked,
+        &mut rt.stdout(),
+        &mut rt.stderr(),
+    ))
+}
+
 fn done<H: Threads + Wait + Sync>(
     rt: &HostRuntime,
     threads: &H,
@@ -351,7 +375,11 @@ fn done<H: Threads + Wait + Sync>(
 ) -> Result<u8, u8>
     requires { IsInRange request.job }
 {
-    let Request { job, long } = request;
+    let Request {
+        job,
+        histories,
+        long,
+    } = request;
     match job {
         Job::Standard => Ok(run_standard(rt, long)),
         Job::Check { file, warn: false } => check_file(rt, file, long),
@@ -444,6 +472,15 @@ fn done<H: Threads + Wait + Sync>(
                 long,
             };
             state_file(rt, file, &asked)
+        }
+        Job::Cover { file, arena } => {
+            let texts = all_bytes(rt, &histories, long)?;
+            let asked = AskedCover {
+                histories: &texts,
+                arena,
+                long,
+            };
+            cover_file(rt, file, &asked)
         }
         Job::List { file } => list_file(rt, file, long),
         Job::Explain {

@@ -1,17 +1,17 @@
 use Rattle.std.proofs.Common.{◌≡◌, ◌⊎◌, ◌∙◌, ℕ, Bool, List, [], Option, Some, Result, Ok, Err, IfOk, IfErr, map, subst, sym, true}
 use Rattle.clap.specs.Words.{HasKind, HasMatchesOf, Text, app_of, fault_of, is_simple_and_free, subcommand_rows_of}
-use Rattle.hep_command.specs.Asked.{Asked, asked_by, is_long_in, job_in, words_found}
-use Rattle.hep_command.specs.Program.{IsAskedBy, IsMistaken, IsStatusFor, asked, is_long}
+use Rattle.hep_command.specs.Asked.{Asked, asked_by, is_long_in, job_in, words_found, histories_in}
+use Rattle.hep_command.specs.Program.{IsAskedBy, IsMistaken, IsStatusFor, asked, is_long, histories}
 use Rattle.hep_command.specs.declared.job.Request.{Request}
 use Rattle.hep_command.specs.declared.job.Usage.{Usage}
-use Rattle.hep_command.proofs.ProgramLemmas.{is_long_in-is_long, job_in-asked, refused_status, taken_status}
+use Rattle.hep_command.proofs.ProgramLemmas.{histories_in-histories, is_long_in-is_long, job_in-asked, refused_status, taken_status}
 use Rattle.hep_command.proofs.words.read_request.Goals as goal
 
 -- a request has the job and the length that the words ask for
-asked_by_words : (r : Result Request Usage) (words : List Text) (job : Option Asked) (long : Bool) → job ≡ asked words → long ≡ is_long words
-    → IfOk r (λ q. job ≡ Some (asked_by q.job)) → IfOk r (λ q. q.long ≡ long) → IfOk r (IsAskedBy words)
-asked_by_words (Ok q) words job long job_is long_is by_job by_long = (sym job_is ∙ by_job, by_long ∙ long_is)
-asked_by_words (Err e) words job long job_is long_is by_job by_long = tt
+asked_by_words : (r : Result Request Usage) (words : List Text) (job : Option Asked) (long : Bool) (kept : List Text) → job ≡ asked words → long ≡ is_long words → kept ≡ histories words
+    → IfOk r (λ q. job ≡ Some (asked_by q.job)) → IfOk r (λ q. q.long ≡ long) → IfOk r (λ q. map (λ h. h.now) q.histories.items ≡ kept) → IfOk r (IsAskedBy words)
+asked_by_words (Ok q) words job long kept job_is long_is kept_are by_job by_long by_kept = (sym job_is ∙ by_job, by_long ∙ long_is, by_kept ∙ kept_are)
+asked_by_words (Err e) words job long kept job_is long_is kept_are by_job by_long by_kept = tt
 
 status_of_mistake : (r : Result Request Usage) (found : Option Asked) (P : ℕ → Type 0) → ((n : ℕ) → (n ≡ 7) ⊎ ((n ≡ 2) × IsMistaken found) → P n)
     → IfErr r (λ usage. (usage.status ≡ 7) ⊎ ((usage.status ≡ 2) × IsMistaken found)) → IfErr r (λ usage. P usage.status)
@@ -26,8 +26,10 @@ returns-in-Ok-try_get_matches_from-clause-asked g c =
     let found = subst (λ (ws : List Text). HasMatchesOf (app_of program) ws matches) c.heard-words.ensures
     c.in-Ok-try_get_matches_from.ensures.matches in
     asked_by_words c.request_of.result words (job_in (subcommand_rows_of matches)) (is_long_in (words_found matches) (subcommand_rows_of matches))
+    (histories_in (subcommand_rows_of matches))
     (job_in-asked program matches words c.in-Ok.ensures found) (is_long_in-is_long program matches words c.in-Ok.ensures found)
-    c.request_of.ensures.asked c.request_of.ensures.long
+    (histories_in-histories program matches words c.in-Ok.ensures found)
+    c.request_of.ensures.asked c.request_of.ensures.long c.request_of.ensures.histories
 
 pub returns-in-Ok-try_get_matches_from-clause-status : goal.returns-in-Ok-try_get_matches_from-clause-status
 returns-in-Ok-try_get_matches_from-clause-status g c =

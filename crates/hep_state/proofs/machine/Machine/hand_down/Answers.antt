@@ -8,7 +8,7 @@ use Rattle.hep_proc.specs.Stacks.{operands_answered, pending_answered, Stack, st
 use Rattle.hep_proc.proofs.Levels.{last-there}
 use Rattle.hep_state.specs.Words.{HasMadeTurn, HasRoom, node_under, snapshot_answered, snapshot_of, state_answered, state_before, turn_of}
 use Rattle.hep_state.proofs.Moved.{answer-room, answered-ended, answered-shown, kept-now, lead-upwards, top-node}
-use Rattle.hep_state.proofs.Processes.{process-at, room-fewer, room-reserved, stacks-set, some-levels-at}
+use Rattle.hep_state.proofs.Processes.{kept-set, process-at, room-fewer, room-reserved, stacks-set, some-levels-at}
 use Rattle.hep_state.proofs.Unchanged.{rooms-set}
 use Rattle.hep_state.proofs.machine.Machine.hand_down.Goals.{After-end_top-ended}
 use Rattle.hep_state.proofs.machine.Machine.hand_down.Goals as goal
@@ -81,3 +81,25 @@ returns-clause-rooms c program cells h =
     let it = process-at c.args.self.now p c.requires.4.numbers c.place-at.ensures c.requires.3.levels.kept c.index_mut-process.ensures.value in
     let fewer = room-fewer program q r c.end_top-ended.result c.end_top-ended.ensures.fewer (omega (arith, c.end_top-ended.ensures.capacity)) (h.room c.place-at.result q it.there) in
     rooms-set program cells c.args.self.now _ z it (c.take_value.ensures.number ∙ c.end_top-ended.ensures.number) refl refl refl (room-reserved program r z (λ i. (c.take_value.ensures.levels i).items) c.take_value.ensures.capacity fewer) h
+
+pub returns-clause-lives : goal.returns-clause-lives
+returns-clause-lives c levels l ls below =
+    let m = c.args.self.now in
+    let p = c.args.p in
+    let v = c.args.value in
+    let it = process-at m p c.requires.4.numbers c.place-at.ensures levels.kept c.index_mut-process.ensures.value in
+    let ended = c.end_top-ended.ensures.stack levels.level levels.below levels.operands levels.pending it.stack in
+    let k : Stack = record { levels = l ∷ ls; operands = operands_answered levels.pending levels.below v; pending = pending_answered levels.pending levels.below } in
+    let left = c.take_value.ensures.stack levels.below levels.pending ended ∙ (λ i. record { levels = below i; operands = operands_answered levels.pending levels.below v; pending = pending_answered levels.pending levels.below }) in
+    record {
+      living = record {
+        level = l;
+        below = ls;
+        operands = operands_answered levels.pending levels.below v;
+        pending = pending_answered levels.pending levels.below;
+        kept = kept-set m p c.take_value.new.self k c.requires.4.numbers it levels.kept (c.take_value.ensures.number ∙ c.end_top-ended.ensures.number) left;
+      };
+      running = refl;
+      made = refl;
+      counted = omega arith;
+    }

@@ -9,6 +9,7 @@ use Rattle.hep_proc.specs.Nodes.{nodes_of}
 use Rattle.hep_step.specs.Simulation.{unit_code}
 use Rattle.hep_state.specs.Words.{AreNumbered, IsEntered, snapshot_opened, IsAfter, HasRoom, HasRoomToPass, IsMachineAfter, numbers_of, snapshot_of, stack_numbered, stacks_of}
 use Rattle.hep_state.proofs.Opened.{entered-out}
+use Rattle.hep_state.proofs.RoomToPass.{room-enough}
 use Rattle.hep_state.proofs.machine.Machine.open.Goals as goal
 use Rattle.hep_image.specs.Image.{most_cells}
 use Rattle.hep_proc.specs.declared.process.Local.{Local}
@@ -95,4 +96,4 @@ returns-clause-opened c =
     subst (λ n. n ≤ vec_capacity process.operands) (main.operands ∙ ap deepest (main.code ∙ ap (unit_code program) found)) (omega (arith, c.in_ok-process.ensures.room)) in
     machine-opened program c.args.cells key unit.entry _ process index found (
     record { alone = c.in_ok-vec.ensures.items; made = refl; number = c.in_ok-process.ensures.number; levels = c.in_ok-process.ensures.levels; operands = c.in_ok-process.ensures.operands; pending = c.in_ok-process.ensures.pending; activations = refl; records = c.new-2.ensures.items; faults = c.new-3.ensures.items; running = refl })
-    enough c.requires.few c.in_ok-room_to_pass.ensures (subst (λ (nodes : Nodes). IsAfter program c.args.cells [] (snapshot_opened program key unit.entry given.arena nodes)) (sym c.give_rows.ensures.nodes) after)
+    enough c.requires.few (room-enough program _ c.in_ok-room_to_pass.ensures) (subst (λ (nodes : Nodes). IsAfter program c.args.cells [] (snapshot_opened program key unit.entry given.arena nodes)) (sym c.give_rows.ensures.nodes) after)

@@ -1,4 +1,4 @@
-use Rattle.std.proofs.Common.{refl, ◌≡◌, ◌≤◌, ◌<◌, ◌+◌, ◌^◌, ℕ, true, List, None, IsSome, length, arith, sym, ap, ◌∙◌, subst, is_some, vec_capacity}
+use Rattle.std.proofs.Common.{refl, ◌≡◌, ◌≤◌, ◌<◌, ◌+◌, ◌^◌, ℕ, true, List, None, IsSome, length, arith, sym, ap, ◌∙◌, subst, is_some}
 use Rattle.hep_machine.specs.Words.{Units, schedule_of}
 use Rattle.hep_arena.specs.Holes.{first_fit}
 use Rattle.hep_code.specs.Words.{deepest}
@@ -241,7 +241,7 @@ create-requires c =
       gap = gap before new same c.if-not-fits.false;
       node = room.process.node;
       empty = room.made.empty;
-      level = room.made.level;
+      level = omega (arith, room.made.level.0, room.made.level.1);
       process = room.process.process;
       next = room.made.number_is ∙ sym (ap (λ n. n + 1) same.made);
       numbers = (rooms before new same).numbers;
@@ -253,4 +253,4 @@ returns-in_ok-process-clause-turned c =
     let new = c.reserve_creation.new.self in
     let same = c.reserve_creation.ensures.same in
     taken before new same c.create.new.self (c.create.ensures.stepped (program before) (cells before) (choices before) c.in-Ok.kept (making before new same Creates (creation c.args.call.way (sym c.creates.ensures ∙ c.if-creates.true))))
-    (c.create.ensures.rooms (program before) (cells before) (rooms before new same) (subst (λ n. n ≤ vec_capacity c.in_ok-process.process.operands) (deep before) c.in_ok-process.ensures.made.operands))
+    (c.create.ensures.rooms (program before) (cells before) (rooms before new same) (omega (arith, deep before, c.in_ok-process.ensures.made.operands)))

@@ -72,7 +72,7 @@ part-requires c =
     record {
       levels = record { level = levels.level; below = levels.below; operands = levels.operands; pending = levels.pending; kept = ap (λ (s : Snapshot). numbered s.processes c.args.p) same.shown ∙ levels.kept };
       empty = made.empty;
-      level = made.level;
+      level = omega (arith, made.level.0, made.level.1);
       process = c.in_ok-process.ensures.process.process;
       next = made.number_is ∙ sym (ap (λ n. n + 1) same.made);
       numbers = (same.rooms c.args.image.now (cells_of c.args.self.now) (rooms-of c.args.image.now (cells_of c.args.self.now) (schedule_of c.args.history.now.items) c.args.self.now c.requires.after)).numbers;

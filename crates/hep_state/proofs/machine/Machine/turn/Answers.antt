@@ -1,14 +1,13 @@
-use Rattle.std.proofs.Common.{◌≡◌, ◌≤◌, ℕ, List, None, is_some, arith, refl, sym, ap, ◌∙◌, subst}
+use Rattle.std.proofs.Common.{◌≡◌, ◌≤◌, ℕ, List, None, arith, refl, sym, ap, ◌∙◌, subst}
 use Rattle.std.proofs.lemmas.Result.{IfErr-weaker, IfOk-weaker, on_err_weaker}
-use Rattle.hep_machine.specs.Words.{main_among, schedule_of}
-use Rattle.hep_conditions.specs.Words.{IsAccepted}
+use Rattle.hep_machine.specs.Words.{schedule_of}
 use Rattle.hep_blocked.specs.Rolls.{Roll}
 use Rattle.hep_step.specs.Effects.{returns}
 use Rattle.hep_state.specs.declared.machine.Machine.{Machine}
 use Rattle.hep_state.specs.declared.turn.Turned.{Turned}
 use Rattle.hep_state.specs.declared.turn.Turned.TheVariants.{Stepped}
-use Rattle.hep_state.specs.Words.{Changes, HasCallAhead, HasPurgeAhead, HasResumeAhead, HasTurned, IsAtReturn, IsMachineAfter, IsSeenSame, IsToEnd, IsTurn, IsUntaken, IsUnturned, KeepsRollFor, Snapshot, cells_of, snapshot_of, turn_of}
-use Rattle.hep_state.proofs.Returning.{IsRunningAlways, ends-there, untouched-there}
+use Rattle.hep_state.specs.Words.{Changes, HasCallAhead, HasLevels, HasPurgeAhead, HasResumeAhead, HasTurned, IsAtAnswer, IsAtReturn, IsMachineAfter, IsSeenSame, IsToEnd, IsTurn, IsUntaken, IsUnturned, KeepsRollFor, LeavesAlone, Snapshot, cells_of, snapshot_of, turn_of}
+use Rattle.hep_state.proofs.Returning.{IsRunningAlways, ends-there, running-always, untouched-there}
 use Rattle.hep_state.proofs.Unchanged.{alone-after, as-large, machine-written, on-err, own-size, rooms-of, seen-again, seen-shown, settled-same, shown-written, top-again, top-shown, without-memory, as-many, turned-so}
 use Rattle.hep_state.proofs.machine.Machine.turn.Goals.{After-reserve, After-step_ahead}
 use Rattle.hep_state.proofs.machine.Machine.turn.Goals as goal
@@ -97,30 +96,42 @@ pub returns-in_ok-take_operation-in-Other-clause-turned : goal.returns-in_ok-tak
 returns-in_ok-take_operation-in-Other-clause-turned c =
     turned (goal.at.returns-in_ok-take_operation-in-Other-clause-turned c).After-step_ahead _ c.take_operation.new.self c.in_ok-take_operation-in-Other.ensures.turned
 
--- ---- PURGE
+-- ---- PURGE, and the END of a function
 
--- it is at a PURGE still where room was made
-module _ (c : After-reserve) where
-  reserved-shown : snapshot_of c.reserve.new.self ≡ snapshot_of c.step_ahead.new.self
-  reserved-shown = shown-written c.step_ahead.new.self c.reserve.new.self c.reserve.ensures.others c.reserve.ensures.written.0 c.reserve.ensures.written.1
+-- where room was made for what may be written
+module _ (c : After-step_ahead) (new : Machine) (others : new ≡ record c.step_ahead.new.self { records = new.records; faults = new.faults })
+    (written : (new.records.items ≡ c.step_ahead.new.self.records.items) × (new.faults.items ≡ c.step_ahead.new.self.faults.items)) where
+  reserved-shown : snapshot_of new ≡ snapshot_of (between c)
+  reserved-shown = shown-written (between c) new others written.0 written.1
 
-  reserved-same : IsSeenSame (snapshot_of c.args.self.now) (snapshot_of c.reserve.new.self)
-  reserved-same = seen-again (snapshot_of c.args.self.now) (snapshot_of c.step_ahead.new.self) (snapshot_of c.reserve.new.self) c.in-Purge.ensures.same (seen-shown (snapshot_of c.step_ahead.new.self) (snapshot_of c.reserve.new.self) reserved-shown)
+  reserved-same : IsSeenSame (snapshot_of c.args.self.now) (snapshot_of new)
+  reserved-same = seen-again (snapshot_of c.args.self.now) (snapshot_of (between c)) (snapshot_of new) c.step_ahead.ensures.same (seen-shown (snapshot_of (between c)) (snapshot_of new) reserved-shown)
 
-  reserved : IsMachineAfter c.args.image.now (cells_of c.args.self.now) (schedule_of c.args.history.now.items) c.reserve.new.self
-  reserved =
-      machine-written c.args.image.now (cells_of c.args.self.now) (schedule_of c.args.history.now.items) c.step_ahead.new.self c.reserve.new.self c.reserve.ensures.others c.reserve.ensures.written.0 c.reserve.ensures.written.1 (
-      c.in-Purge.ensures.after (cells_of c.args.self.now) (schedule_of c.args.history.now.items) c.requires.after)
+  reserved : IsMachineAfter c.args.image.now (cells c) (choices c) new
+  reserved = machine-written c.args.image.now (cells c) (choices c) (between c) new others written.0 written.1 (looked c)
 
-  at-purge : HasPurgeAhead c.args.image.now (cells_of c.args.self.now) (schedule_of c.args.history.now.items) c.args.p (snapshot_of c.reserve.new.self) c.in-Purge.purge
-  at-purge =
-      subst (λ (n : Snapshot). HasPurgeAhead c.args.image.now (cells_of c.args.self.now) (schedule_of c.args.history.now.items) c.args.p n c.in-Purge.purge) (sym reserved-shown) (
-      c.in-Purge.ensures.ahead (cells_of c.args.self.now) (schedule_of c.args.history.now.items) c.requires.after)
+  reserved-alone : LeavesAlone c.args.image.now c.args.history.now.items c.args.p c.args.self.now new
+  reserved-alone =
+      let mid = snapshot_of (between c) in
+      record {
+        after = reserved;
+        same = reserved-same;
+        top = top-again c.args.p (snapshot_of c.args.self.now) mid (snapshot_of new) (settled-same c.args.p c.args.image.now (snapshot_of c.args.self.now) mid c.step_ahead.ensures.top) (top-shown c.args.p mid (snapshot_of new) reserved-shown);
+        made = as-many c.args.self.now new reserved-same;
+      }
+
+-- it is at a PURGE still
+at-purge : (c : After-reserve) → HasPurgeAhead c.args.image.now (cells_of c.args.self.now) (schedule_of c.args.history.now.items) c.args.p (snapshot_of c.reserve.new.self) c.in-Purge.purge
+at-purge c =
+    let before = (goal.at.After-reserve c).After-step_ahead in
+    let shown = reserved-shown before c.reserve.new.self c.reserve.ensures.others c.reserve.ensures.written in
+    subst (λ (n : Snapshot). HasPurgeAhead c.args.image.now (cells before) (choices before) c.args.p n c.in-Purge.purge) (sym shown) (c.in-Purge.ensures.ahead (cells before) (choices before) c.requires.after)
 
 pub purge-requires-clause-at : goal.purge-requires-clause-at
 purge-requires-clause-at c =
-    let before = (goal.at.purge-requires-clause-at c).After-reserve in
-    (cells_of c.args.self.now, schedule_of c.args.history.now.items, reserved before, at-purge before)
+    let at = goal.at.purge-requires-clause-at c in
+    let before = at.After-step_ahead in
+    (cells before, choices before, reserved before c.reserve.new.self c.reserve.ensures.others c.reserve.ensures.written, at-purge at.After-reserve)
 
 pub returns-in_err-reserve-in-Purge-clause-unturned : goal.returns-in_err-reserve-in-Purge-clause-unturned
 returns-in_err-reserve-in-Purge-clause-unturned c =
@@ -130,20 +141,46 @@ returns-in_err-reserve-in-Purge-clause-unturned c =
 
 pub returns-in_err-reserve-in-Purge-clause-refused : goal.returns-in_err-reserve-in-Purge-clause-refused
 returns-in_err-reserve-in-Purge-clause-refused c =
-    let before = (goal.at.returns-in_err-reserve-in-Purge-clause-refused c).After-reserve in
-    let mid = snapshot_of c.step_ahead.new.self in
-    let top = top-again c.args.p (snapshot_of c.args.self.now) mid (snapshot_of c.reserve.new.self) (settled-same c.args.p c.args.image.now (snapshot_of c.args.self.now) mid c.in-Purge.ensures.top) (top-shown c.args.p mid (snapshot_of c.reserve.new.self) (reserved-shown before)) in
-    on-err c.from_residual.result c.from_residual.ensures.0 (record {
-      after = reserved before;
-      same = reserved-same before;
-      top = top;
-      made = as-many c.args.self.now c.reserve.new.self (reserved-same before);
-    })
+    on-err c.from_residual.result c.from_residual.ensures.0 (reserved-alone (goal.at.returns-in_err-reserve-in-Purge-clause-refused c).After-step_ahead c.reserve.new.self c.reserve.ensures.others c.reserve.ensures.written)
 
 pub returns-in_ok-reserve-in-Purge-clause-turned : goal.returns-in_ok-reserve-in-Purge-clause-turned
 returns-in_ok-reserve-in-Purge-clause-turned c =
-    let before = (goal.at.returns-in_ok-reserve-in-Purge-clause-turned c).After-reserve in
-    c.purge.ensures.purged (cells_of c.args.self.now) (schedule_of c.args.history.now.items) (reserved before) (at-purge before)
+    let at = goal.at.returns-in_ok-reserve-in-Purge-clause-turned c in
+    let before = at.After-step_ahead in
+    c.purge.ensures.purged (cells before) (choices before) (reserved before c.reserve.new.self c.reserve.ensures.others c.reserve.ensures.written) (at-purge at.After-reserve)
+
+pub take_answer-requires-clause-at : goal.take_answer-requires-clause-at
+take_answer-requires-clause-at c =
+    let before = (goal.at.take_answer-requires-clause-at c).After-step_ahead in
+    let r = c.reserve-in-Answer in
+    let shown = reserved-shown before r.new.self r.ensures.others r.ensures.written in
+    record {
+      turn = record {
+        after = (cells before, choices before, reserved before r.new.self r.ensures.others r.ensures.written);
+        running = ap (λ (m : Snapshot). m.halted) shown ∙ (c.in-Answer.ensures.same.halted ∙ c.requires.running);
+        living = subst (λ (m : Snapshot). HasLevels m c.args.p) (sym shown) c.in-Answer.ensures.living;
+      };
+      at = subst (λ (m : Snapshot). IsAtAnswer c.args.image.now c.args.p m c.in-Answer.answer) (sym shown) c.in-Answer.ensures.ahead;
+    }
+
+pub returns-in_err-reserve-in-Answer-clause-unturned : goal.returns-in_err-reserve-in-Answer-clause-unturned
+returns-in_err-reserve-in-Answer-clause-unturned c =
+    let before = (goal.at.returns-in_err-reserve-in-Answer-clause-unturned c).After-step_ahead in
+    let r = c.from_residual-in_err-reserve-in-Answer in
+    without-memory (IsUntaken c.args.image.now c.args.history.now.items c.args.p c.args.self.now) r.result r.ensures.1 (
+    c.other_steps_find_gaps.ensures c.args.image.now (cells before) (choices before) (snapshot_of c.step_ahead.new.self) c.args.p c.is_runnable.ensures.accepted c.is_runnable.ensures.main (looked before).after (c.in-Answer.ensures.same.halted ∙ c.requires.running) c.in-Answer.ensures.ahead.operation)
+
+pub returns-in_err-reserve-in-Answer-clause-refused : goal.returns-in_err-reserve-in-Answer-clause-refused
+returns-in_err-reserve-in-Answer-clause-refused c =
+    let before = (goal.at.returns-in_err-reserve-in-Answer-clause-refused c).After-step_ahead in
+    let r = c.from_residual-in_err-reserve-in-Answer in
+    on-err r.result r.ensures.0 (reserved-alone before c.reserve-in-Answer.new.self c.reserve-in-Answer.ensures.others c.reserve-in-Answer.ensures.written)
+
+pub returns-in_ok-reserve-in-Answer-clause-turned : goal.returns-in_ok-reserve-in-Answer-clause-turned
+returns-in_ok-reserve-in-Answer-clause-turned c =
+    let before = (goal.at.returns-in_ok-reserve-in-Answer-clause-turned c).After-step_ahead in
+    let r = c.reserve-in-Answer in
+    c.take_answer.ensures.stepped (cells before) (choices before) (reserved before r.new.self r.ensures.others r.ensures.written)
 
 -- ---- RESUME
 
@@ -178,13 +215,13 @@ returns-in_ok-take_resume-in-Resume-clause-turned c =
 -- the activation ends, and no cell is filled or emptied
 module _ (c : After-step_ahead) (at : IsAtReturn c.args.image.now c.args.p (snapshot_of c.step_ahead.new.self)) where
   known : IsRunningAlways c.args.image.now
-  known t is turns = c.tops_are_running.ensures.running t (subst IsAccepted (sym is) c.is_runnable.ensures.accepted) (ap (λ program. is_some (main_among program)) is ∙ c.is_runnable.ensures.main) turns
+  known = running-always c.tops_are_running.ensures.running c.args.image.now c.is_runnable.ensures.accepted c.is_runnable.ensures.main
 
   ends : IsToEnd c.args.image.now (cells c) (choices c) c.args.p (snapshot_of c.step_ahead.new.self) returns
-  ends = ends-there known (looked c).after at (c.step_ahead.ensures.same.halted ∙ c.requires.running)
+  ends = ends-there at.1 known (looked c).after (c.step_ahead.ensures.same.halted ∙ c.requires.running)
 
   untouched : Changes c.args.image.now (cells c) (choices c) c.args.p None
-  untouched = untouched-there known (looked c).after at (c.step_ahead.ensures.same.halted ∙ c.requires.running)
+  untouched = untouched-there at.1 known (looked c).after (c.step_ahead.ensures.same.halted ∙ c.requires.running)
 
 pub finish-requires : goal.finish-requires
 finish-requires c =
@@ -196,7 +233,7 @@ returns-in_err-reserve-in-Return-clause-unturned c =
     let before = (goal.at.returns-in_err-reserve-in-Return-clause-unturned c).After-step_ahead in
     let r = c.from_residual-in_err-reserve-in-Return in
     without-memory (IsUntaken c.args.image.now c.args.history.now.items c.args.p c.args.self.now) r.result r.ensures.1 (
-    c.other_steps_find_gaps.ensures c.args.image.now (cells before) (choices before) (snapshot_of c.step_ahead.new.self) c.args.p c.is_runnable.ensures.accepted c.is_runnable.ensures.main (looked before).after (c.in-Return.ensures.same.halted ∙ c.requires.running) c.in-Return.ensures.ahead.operation)
+    c.other_steps_find_gaps.ensures c.args.image.now (cells before) (choices before) (snapshot_of c.step_ahead.new.self) c.args.p c.is_runnable.ensures.accepted c.is_runnable.ensures.main (looked before).after (c.in-Return.ensures.same.halted ∙ c.requires.running) c.in-Return.ensures.ahead.1.operation)
 
 pub returns-in_err-reserve-in-Return-clause-refused : goal.returns-in_err-reserve-in-Return-clause-refused
 returns-in_err-reserve-in-Return-clause-refused c =
@@ -245,3 +282,11 @@ returns-in_err-reserve-in-Return-clause-roster c =
 pub returns-in_ok-reserve-in-Return-clause-roster : goal.returns-in_ok-reserve-in-Return-clause-roster
 returns-in_ok-reserve-in-Return-clause-roster c =
     kept-for c.finish.new.self c.args.roster.now (omega (arith, c.requires.numbers, as-many c.args.self.now c.step_ahead.new.self c.in-Return.ensures.same, c.finish.ensures.made))
+
+pub returns-in_err-reserve-in-Answer-clause-roster : goal.returns-in_err-reserve-in-Answer-clause-roster
+returns-in_err-reserve-in-Answer-clause-roster c =
+    kept-for c.reserve-in-Answer.new.self c.args.roster.now (omega (arith, c.requires.numbers, as-many c.args.self.now c.step_ahead.new.self c.in-Answer.ensures.same, ap (λ (m : Machine). m.made) c.reserve-in-Answer.ensures.others))
+
+pub returns-in_ok-reserve-in-Answer-clause-roster : goal.returns-in_ok-reserve-in-Answer-clause-roster
+returns-in_ok-reserve-in-Answer-clause-roster c =
+    kept-for c.take_answer.new.self c.args.roster.now (omega (arith, c.requires.numbers, as-many c.args.self.now c.step_ahead.new.self c.in-Answer.ensures.same, ap (λ (m : Machine). m.made) c.reserve-in-Answer.ensures.others, c.take_answer.ensures.made))

@@ -1,0 +1,2 @@
+pub mod InCode
+mod Taken

@@ -1,0 +1,28 @@
+use Rattle.std.proofs.Common.{◌<◌, drop, length, sym, ap, ◌∙◌, subst}
+use Rattle.hep_begins.specs.Ahead.{operations_ahead}
+use Rattle.hep_code.specs.Words.{line_ahead}
+use Rattle.hep_proc.specs.declared.process.Local.{Local}
+use Rattle.hep_views.proofs.Waiting.{living-top}
+use Rattle.hep_coverage.proofs.Standing.{begun-is}
+use Rattle.hep_coverage.proofs.begun.begun_by.Goals as goal
+
+pub top-level-requires : goal.top-level-requires
+top-level-requires c = record {
+  numbers = c.requires.2.numbers;
+  living = (living-top c.args.image.now c.requires.0 c.requires.1 c.args.machine.now c.requires.2 c.args.p c.requires.3).is_top.levels;
+}
+
+pub unit-unit-requires : goal.unit-unit-requires
+unit-unit-requires c =
+    let w = living-top c.args.image.now c.requires.0 c.requires.1 c.args.machine.now c.requires.2 c.args.p c.requires.3 in
+    subst (λ (l : Local). l.unit < length c.args.image.now) (sym (c.top-level.ensures w.is_top.levels)) w.is_top.inside
+
+pub returns : goal.returns
+returns c cells choices h lives =
+    let program = c.args.image.now in
+    let w = living-top program cells choices c.args.machine.now h c.args.p lives in
+    let code = c.as_slice-code.ensures ∙ c.unit-unit.ensures.code in
+    let line = c.line_from-line.ensures ∙ ap (λ is. line_ahead (drop c.top-level.result.index is)) code in
+    let ahead = c.operations_ahead.ensures ∙ ap (λ is. operations_ahead (drop c.top-level.result.index is)) code in
+    c.begun_line.ensures
+    ∙ begun-is program cells choices c.args.machine.now h c.args.p w c.args.operations.now c.top-level.result c.line_from-line.result c.operations_ahead.result (c.top-level.ensures w.is_top.levels) line ahead

@@ -1,0 +1,11 @@
+//! How often the statement of each line of a source began in histories, as a text.
+#![tactic(auto)]
+
+mod begun;
+pub mod counts;
+pub mod covering;
+pub mod text;
+
+pub use counts::unbegun;
+pub use covering::count_history;
+pub use text::{append_lines, line_count};

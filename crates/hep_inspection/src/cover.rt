@@ -1,0 +1,164 @@
+//! The bytes of a source and of histories to how often the statement of each line began in them.
+ghost use Rattle.std.specs.Prelude.{◌≡◌, ◌≤◌, [], IfOk, OnErr, map};
+ghost use Rattle.hep_begins.specs.Begins.{operations_by_line};
+ghost use Rattle.hep_coverage.specs.Coverage.{unbegun};
+ghost use Rattle.hep_inspection.specs.Covers.{IsCovered, IsSourceCovered};
+ghost use Rattle.hep_inspection.specs.Counted.{IsCountedOrRefused};
+ghost use Rattle.hep_outcome.specs.Transcripts.{outcome_of};
+ghost use Rattle.hep_run.specs.Delivery.{LeavesOfSource, status_alone};
+ghost use Rattle.hep_run.specs.Memory.{MayReadOn, RefusesLargeSource};
+
+use hep_base::Refusal;
+use hep_begins::operations_by_line;
+use hep_coverage::{append_lines, count_history, line_count, unbegun};
+use hep_history::{ReplayFault, read_text, replay};
+use hep_image::Image;
+use hep_run::deliver::deliver_made;
+use hep_run::front::image_of_source;
+use hep_run::input::read_input;
+use hep_run::say_unread;
+use hep_run::source::MOST_BYTES;
+use hep_run::transcript::{
+    Transcript, fault_transcript, full_transcript, history_transcript, opening_notes_when,
+    text_transcript,
+};
+use std::alloc::{AllocError, Global};
+use std::io::{Read, Write};
+
+/// What is asked of histories.
+#[derive(Clone, Copy)]
+pub struct AskedCover<'a> {
+    /// The texts of the histories.
+    pub histories: &'a [Vec<u8>],
+    /// The arena's size in cells, 1 to 16,777,216.
+    pub arena: u32,
+    /// Whether more is said than the lines that are fixed.
+    pub long: bool,
+    ghost some: { 1 ≤ arena },
+    ghost few: { arena ≤ 16777216 },
+}
+
+/// How many operations the statement of each line has, and how often it began so far.
+#[derive(Drop)]
+struct Counting {
+    operations: Vec<usize>,
+    counts: Vec<Option<u64>>,
+}
+
+// Before the first history, of so many lines.
+fn uncounted(alloc: Global, image: &Image, lines: usize) -> Result<Counting, AllocError>
+    ensures operations { IfOk result (λ c. c.operations.items ≡ operations_by_line image.now lines) }
+    ensures counts { IfOk result (λ c. c.counts.items ≡ unbegun image.now lines) }
+{
+    Ok(Counting {
+        operations: operations_by_line(alloc, image, lines)?,
+        counts: unbegun(alloc, image, lines)?,
+    })
+}
+
+// Counts the statements that the steps of a history begin; or says what is written where the text is refused.
+fn count_text(
+    alloc: Global,
+    image: &Image,
+    asked: &AskedCover<'_>,
+    counting: &mut Counting,
+    text: &[u8],
+) -> Result<Option<Transcript>, AllocError>
+    ensures { IfOk result (IsCountedOrRefused asked.now.long asked.now.arena image.now text.now counting.old counting.new) }
+{
+    let entries = match read_text(alloc, text) {
+        Ok(entries) => entries,
+        Err(Refusal::NoMemory) => return Err(AllocError),
+        Err(Refusal::Refused { number, line, .. }) => {
+            return Ok(Some(history_transcript(alloc, number, u64::from(line))?));
+        }
+    };
+    let notes = opening_notes_when(alloc, image, asked.arena, asked.long)?;
+    match replay(alloc, image.copy(alloc)?, asked.arena, &entries) {
+        Ok(core) => {
+            count_history(
+                alloc,
+                &core,
+                &counting.operations,
+                &entries,
+                &mut counting.counts,
+            )?;
+            Ok(None)
+        }
+        Err(ReplayFault::NoMemory) => Err(AllocError),
+        Err(ReplayFault::ArenaFull) => Ok(Some(full_transcript(alloc, &notes)?)),
+        Err(ReplayFault::Refused { number, entry }) => {
+            Ok(Some(history_transcript(alloc, number, entry)?))
+        }
+    }
+}
+
+// What is written of the histories of an accepted program.
+fn image_cover(
+    alloc: Global,
+    image: &Image,
+    source: &[u8],
+    asked: &AskedCover<'_>,
+) -> Result<Transcript, AllocError>
+    ensures { IfOk result (λ r.
+        IsCovered asked.now.long asked.now.arena (map (λ text. text.items) asked.now.histories.now) source.now image.now (outcome_of r)) }
+{
+    let mut counting = uncounted(alloc, image, line_count(source))?;
+    for index in 0..asked.histories.len() {
+        let text = &asked.histories[index];
+        match count_text(alloc, image, asked, &mut counting, text)? {
+            Some(refused) => return Ok(refused),
+            None => {}
+        }
+    }
+    let mut text = Vec::new(alloc);
+    append_lines(alloc, &mut text, source, &counting.counts)?;
+    Ok(text_transcript(alloc, text))
+}
+
+/// All that is written of histories, before a byte of it is.
+///
+/// # Errors
+///
+/// Only where memory was refused, which without notes is asked for only where the source isn't too large.
+pub fn cover_transcript(
+    alloc: Global,
+    source: &[u8],
+    asked: &AskedCover<'_>,
+) -> Result<Transcript, AllocError>
+    ensures made { IfOk result (λ r.
+        IsSourceCovered asked.now.long asked.now.arena (map (λ text. text.items) asked.now.histories.now) source.now (outcome_of r)) }
+    ensures unmade { OnErr result (MayReadOn asked.now.long source.now) }
+{
+    match image_of_source(alloc, source, asked.long) {
+        Ok(image) => image_cover(alloc, &image, source, asked),
+        Err(fault) => fault_transcript(alloc, fault),
+    }
+}
+
+/// Reads a source, makes histories of it again, and writes to `output` the lines of the source, each with how often its statement began in
+/// them; or to `messages` what is refused.
+///
+/// The histories' bytes were read before, as those of `replay_noted` are. The answer is the code of a `Status`.
+pub fn cover_noted<R: Read, W: Write, E: Write>(
+    alloc: Global,
+    source: &mut R,
+    asked: &AskedCover<'_>,
+    output: &mut W,
+    messages: &mut E,
+) -> u8
+    ensures left { LeavesOfSource (IsSourceCovered asked.now.long asked.now.arena (map (λ text. text.items) asked.now.histories.now))
+        (R.remaining source.old) (R.remaining source.new)
+        (status_alone result) (W.contents output.old) (W.contents output.new)
+        (E.contents messages.old) (E.contents messages.new) }
+    ensures large { RefusesLargeSource asked.now.long (R.remaining source.old) (R.remaining source.new) (status_alone result)
+        (W.contents output.old) (W.contents output.new) (E.contents messages.old) (E.contents messages.new) }
+{
+    match read_input(alloc, source, MOST_BYTES) {
+        Ok(bytes) => {
+            let made = cover_transcript(alloc, &bytes, asked);
+            deliver_made(alloc, made, output, messages).status
+        }
+        Err(fault) => say_unread(messages, fault),
+    }
+}

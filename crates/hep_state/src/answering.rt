@@ -1,0 +1,72 @@
+//! The END of a function: the value of the variable of its name is that of its reference (X3.9-1978, 15.5.3).
+ghost use Rattle.std.specs.Prelude.{◌≡◌, ◌<◌, [], IfErr, IfOk, vec_capacity, vec_len};
+ghost use Rattle.hep_image.specs.Finding.{address_of, cells_in};
+ghost use Rattle.hep_step.specs.Cells.{HasFrame};
+ghost use Rattle.hep_step.specs.Effects.{answers, fails, value_found};
+ghost use Rattle.hep_step.specs.Ready.{IsVariableReady};
+ghost use Rattle.hep_state.specs.Words.{CanAnswer, IsToEndBy, StepsBy};
+
+use crate::advancing::place;
+use crate::laws;
+use crate::machine::Machine;
+use crate::upcoming::AnswerAhead;
+use hep_arena::Arena;
+use hep_code::Variable;
+use hep_image::{Array, Image};
+use hep_machine::Kind;
+use hep_source::Value;
+use hep_step::{Frame, address};
+
+// The value of a variable in a frame, in a unit with these arrays.
+#[inline(always)]
+fn value_of(
+    arena: &Arena,
+    frame: Frame,
+    arrays: &[Array],
+    variable: Variable,
+) -> Result<Value, Kind>
+    requires frame { HasFrame arena.now frame }
+    requires ready { IsVariableReady arena.now arrays.now frame [] variable }
+    ensures { result ≡ value_found arena.now.contents
+        (address_of (cells_in arena.now.contents) frame.first arrays.now variable []) }
+{
+    let at = address(arena, frame, arrays, variable, &[])?;
+    match arena.get(at).value {
+        Some(value) => Ok(value),
+        None => Err(Kind::Undefined),
+    }
+}
+
+impl Machine {
+    // The value with which the function on top of process p ends, whose END is ahead.
+    //
+    // Fails with Undefined where its variable has none.
+    pub(crate) fn answer(&self, image: &Image, p: u64, answer: AnswerAhead) -> Result<Value, Kind>
+        requires { CanAnswer image.now p self.now answer }
+        ensures value { IfOk result (λ value. IsToEndBy image.now p self.now (answers value)) }
+        ensures fault { IfErr result (λ kind. IsToEndBy image.now p self.now (fails answer.line kind)) }
+    {
+        image.is_runnable();
+        laws::tops_are_running();
+        let at = self.place(p);
+        let process = &self.processes[at];
+        let (unit, frame, _index) = place(process, &self.frames, image);
+        let arrays = unit.arrays.as_slice();
+        value_of(&self.frames.arena, frame, arrays, answer.variable)
+    }
+
+    // The function on top of process p ends with its value, or a fault ends the process.
+    pub(crate) fn take_answer(&mut self, image: &Image, p: u64, answer: AnswerAhead)
+        requires at { CanAnswer image.now p self.old answer }
+        requires room { vec_len self.old.faults < vec_capacity self.old.faults }
+        ensures stepped { StepsBy image.now p self.old self.new }
+        ensures made { self.new.made ≡ self.old.made }
+    {
+        image.is_runnable();
+        laws::tops_are_running();
+        match self.answer(image, p, answer) {
+            Ok(value) => self.hand_down(p, value),
+            Err(kind) => self.fail(p, answer.line, kind),
+        }
+    }
+}
