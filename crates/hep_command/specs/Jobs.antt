@@ -1,9 +1,10 @@
 -- What a command line may ask for: docs/MACHINE.md, "The program".
-use Rattle.std.specs.Prelude.{◌≡◌, ◌≢◌, ◌⊎◌, ℕ, ◌≤◌, List as ListOf, Option, Some, None}
+use Rattle.std.specs.Prelude.{◌≡◌, ◌≢◌, ◌⊎◌, ℕ, ◌≤◌, List as ListOf, [], Option, Some, None}
 use Rattle.std.specs.Borrow.{Bor}
 use Rattle.clap.specs.declared.error.kind.ErrorKind.{ErrorKind}
 use Rattle.clap.specs.declared.error.kind.ErrorKind.TheVariants.{DisplayHelp, DisplayVersion, OutOfMemory}
 use Rattle.hep_command.specs.declared.job.Job.{Job}
+use Rattle.hep_command.specs.declared.job.Usage.{Usage}
 use Rattle.hep_command.specs.declared.job.Job.TheVariants.{Standard, Check, Run, Sample, Replay, State, Why, Cover, List, Explain}
 
 abbrev pub IsArena : ℕ → Type 0
@@ -55,9 +56,13 @@ IsOneOrder (Run file arena steps (Some workers) None (Some choices) history) = �
 IsOneOrder (Run file arena steps None (Some seed) (Some choices) history) = ⊥
 IsOneOrder _ = Unit {0}
 
--- a text was asked for, the words are wrong, or memory was refused
-abbrev pub IsUsageStatus : ℕ → Type 0
-IsUsageStatus status = (status ≡ 0) ⊎ (status ≡ 2) ⊎ (status ≡ 7)
+-- memory was refused, and there is no text
+abbrev pub IsWant : Usage → Type 0
+IsWant usage = (usage.status ≡ 7) × (usage.text.items ≡ [])
+
+-- a text was asked for, or the words are wrong, or memory was refused
+abbrev pub IsUsage : Usage → Type 0
+IsUsage usage = (usage.status ≡ 0) ⊎ (usage.status ≡ 2) ⊎ IsWant usage
 
 -- 0 for what was asked for, 2 for a mistake in the words
 abbrev pub usage_status : ErrorKind → ℕ

@@ -2,6 +2,7 @@
 ghost use Rattle.std.specs.Prelude.{◌≡◌, ◌⊎◌, IfOk, false, is_some, string_bytes, true};
 ghost use Rattle.hep_command.specs.Asked.{texts};
 ghost use Rattle.hep_command.specs.Explanations.{is_explained, is_number_of_refusal, name_of, with_word};
+ghost use Rattle.hep_command.specs.Jobs.{IsWant};
 
 use crate::job::Usage;
 use crate::meanings::meaning;
@@ -65,7 +66,7 @@ fn text_of(name: &str) -> Option<&'static str>
 // What is said of a name that nothing explained has, and in the words of `clap` of a number that is
 // too large for any refusal.
 fn unexplained(alloc: Global, name: &str) -> Usage
-    ensures { (result.status ≡ 7) ⊎ (result.status ≡ 2) }
+    ensures { IsWant result ⊎ (result.status ≡ 2) }
 {
     let reason = match name.parse::<u64>() {
         Ok(number) if number <= u64::from(u16::MAX) => {
@@ -82,7 +83,7 @@ fn unexplained(alloc: Global, name: &str) -> Usage
 }
 
 fn out_of_range(alloc: Global, name: &str, reason: &str) -> Usage
-    ensures { (result.status ≡ 7) ⊎ (result.status ≡ 2) }
+    ensures { IsWant result ⊎ (result.status ≡ 2) }
 {
     let text = format!(in alloc;
         "error: invalid value '{name}' for '<NUMBER>': {reason}\n\nFor more information, try '--help'.\n"
@@ -98,7 +99,7 @@ fn out_of_range(alloc: Global, name: &str, reason: &str) -> Usage
 /// was refused.
 pub fn explain(alloc: Global, first: &str, second: Option<&str>, third: Option<&str>) -> Usage
     ensures { let explained = is_explained (name_of first.entry.now (texts second.entry) (texts third.entry)) in
-        (result.status ≡ 7) ⊎ ((explained ≡ true) × (result.status ≡ 0)) ⊎ ((explained ≡ false) × (result.status ≡ 2)) }
+        IsWant result ⊎ ((explained ≡ true) × (result.status ≡ 0)) ⊎ ((explained ≡ false) × (result.status ≡ 2)) }
 {
     let Ok(name) = name_of(alloc, first, second, third) else {
         return Usage::no_memory(alloc);

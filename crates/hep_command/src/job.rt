@@ -1,5 +1,6 @@
 //! What a command line asks for.
-ghost use Rattle.std.specs.Prelude.{◌≡◌, ◌⊎◌, []};
+ghost use Rattle.std.specs.Prelude.{◌≡◌, ◌⊎◌};
+ghost use Rattle.hep_command.specs.Jobs.{IsWant};
 
 use std::alloc::Global;
 
@@ -133,8 +134,7 @@ pub struct Usage {
 
 impl Usage {
     pub(crate) fn no_memory(alloc: Global) -> Usage
-        ensures status { result.status ≡ 7 }
-        ensures text { result.text.items ≡ [] }
+        ensures { IsWant result }
     {
         Usage {
             status: 7,
@@ -144,8 +144,7 @@ impl Usage {
 
     /// This text, unless memory is refused for it.
     pub(crate) fn of_text(alloc: Global, status: u8, text: &str) -> Usage
-        ensures { ((result.status ≡ status) × (result.text.items ≡ text.now))
-            ⊎ ((result.status ≡ 7) × (result.text.items ≡ [])) }
+        ensures { ((result.status ≡ status) × (result.text.items ≡ text.now)) ⊎ IsWant result }
     {
         match Vec::from_slice(alloc, text.as_bytes()) {
             Ok(text) => Usage { status, text },

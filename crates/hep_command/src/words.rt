@@ -7,7 +7,7 @@ ghost use Rattle.hep_command.specs.Numbers.{number_within, option_number};
 ghost use Rattle.hep_command.specs.Asked.{asked_by, arena_in, asks_from, check_in, command_in, explain_in, heard, is_given, is_help_of_help};
 ghost use Rattle.hep_command.specs.Asked.{entries_in, is_long_in, is_word, job_in, cover_in, histories_in, list_in, replay_in, run_in, state_in, steps_in, why_in, word_of, words_found};
 ghost use Rattle.hep_command.specs.Asked.{first_seed_in, runs_in, sample_in, seed_in, workers_in};
-ghost use Rattle.hep_command.specs.Jobs.{IsInRange, IsNoPath, IsOneOrder, IsUsageStatus, IsWrittenApart, usage_status};
+ghost use Rattle.hep_command.specs.Jobs.{IsInRange, IsNoPath, IsOneOrder, IsUsage, IsWant, IsWrittenApart, usage_status};
 
 use crate::job::{
     ARENA, FIRST_SEED, Job, MOST_ARENA, MOST_RUNS, MOST_SEED, MOST_STEPS, MOST_WORKERS, RUNS,
@@ -352,7 +352,7 @@ fn two_orders(job: &Job<'_>) -> Option<&'static str>
 
 // What is said where `clap` gave no matches: its own text, and more where that says too little.
 fn usage_of<S: AsStr>(alloc: Global, error: &Error, words: &[S]) -> Usage
-    ensures range { IsUsageStatus result.status }
+    ensures range { IsUsage result }
     ensures status { (result.status ≡ 7) ⊎ (result.status ≡ usage_status (kind_of error.now)) }
 {
     let status = match error.kind() {
@@ -441,7 +441,7 @@ fn request_of<'a>(alloc: Global, matches: &ArgMatches<'a>) -> Result<Request<'a>
     ensures long { IfOk result (λ request. request.long ≡ is_long_in (words_found matches.now) (subcommand_rows_of matches.now)) }
     ensures histories { IfOk result (λ request. map (λ history. history.now) request.histories.items ≡ histories_in (subcommand_rows_of matches.now)) }
     ensures sound { IfOk result (λ request. IsWrittenApart request.job × IsOneOrder request.job) }
-    ensures mistake { IfErr result (λ usage. (usage.status ≡ 7)
+    ensures mistake { IfErr result (λ usage. IsWant usage
         ⊎ ((usage.status ≡ 2) × IsMistaken (job_in (subcommand_rows_of matches.now)))) }
 {
     let Some(job) = job_of(matches) else {
@@ -473,7 +473,7 @@ pub fn read_request<'a, S: AsStr>(alloc: Global, words: &'a [S]) -> Result<Reque
     ensures asked { IfOk result (IsAskedBy (map S.text words.entry.now)) }
     ensures job { IfOk result (λ request. IsInRange request.job) }
     ensures sound { IfOk result (λ request. IsWrittenApart request.job × IsOneOrder request.job) }
-    ensures usage { IfErr result (λ usage. IsUsageStatus usage.status) }
+    ensures usage { IfErr result IsUsage }
     ensures status { IfErr result (λ usage.
         (usage.status ≡ 7) ⊎ IsStatusFor (map S.text words.entry.now) usage.status) }
 {
@@ -501,7 +501,7 @@ pub fn read_words<'a, S: AsStr>(alloc: Global, words: &'a [S]) -> Result<Job<'a>
     ensures asked { IfOk result (λ job. asked (map S.text words.entry.now) ≡ Some (asked_by job)) }
     ensures apart { IfOk result IsWrittenApart }
     ensures order { IfOk result IsOneOrder }
-    ensures usage { IfErr result (λ usage. IsUsageStatus usage.status) }
+    ensures usage { IfErr result IsUsage }
     ensures status { IfErr result (λ usage.
         (usage.status ≡ 7) ⊎ IsStatusFor (map S.text words.entry.now) usage.status) }
 {

@@ -2,7 +2,7 @@
 //!
 //! Opening them is the program's; all else stands here. Each call that answers an exit status has said
 //! why, so that nothing more is to be written.
-ghost use Rattle.std.specs.Prelude.{◌≡◌, codes, IfOk, IfErr, Ok, Err};
+ghost use Rattle.std.specs.Prelude.{◌≡◌, ◌≢◌, codes, IfOk, IfErr, Ok, Err};
 ghost use Rattle.std.specs.Io.KnownBytes.{Keeps};
 ghost use Rattle.hep_history.specs.Lines.{most_bytes};
 ghost use Rattle.hep_run.specs.Delivery.{CannotRead, SaysLines, SaysUnread, SomeOf, write_fault_text};
@@ -116,8 +116,8 @@ pub fn say_unwritten<E: Write>(messages: &mut E) -> u8
 }
 
 /// Writes a text for the one who gave the words: to `output` where it was asked for, which is status
-/// 0, and to `messages` where the words are wrong, 2, or a file can't be opened, 8. At 7 memory was refused for it. It
-/// gives the exit status.
+/// 0, and to `messages` where the words are wrong, 2, or a file can't be opened, 8. At 7, and at any other status, memory was refused
+/// for it, which is said. It gives the exit status.
 pub fn answer<W: Write, E: Write>(status: u8, text: &[u8], output: &mut W, messages: &mut E) -> u8
     ensures asked { status ≡ 0 → PutsText text.now 0 result (W.contents output.old)
         (W.contents output.new) (E.contents messages.old) (E.contents messages.new) }
@@ -125,7 +125,7 @@ pub fn answer<W: Write, E: Write>(status: u8, text: &[u8], output: &mut W, messa
         × SaysLines text.now Usage result (E.contents messages.old) (E.contents messages.new) }
     ensures unopened { status ≡ 8 → Keeps (W.contents output.old) (W.contents output.new)
         × SaysLines text.now DeviceFailed result (E.contents messages.old) (E.contents messages.new) }
-    ensures unmade { status ≡ 7 → Keeps (W.contents output.old) (W.contents output.new)
+    ensures unmade { status ≢ 0 → status ≢ 2 → status ≢ 8 → Keeps (W.contents output.old) (W.contents output.new)
         × SaysLines (codes "NO MEMORY\n") NoMemory result
         (E.contents messages.old) (E.contents messages.new) }
 {

@@ -1,5 +1,6 @@
 //! Many runs of a source by lots, counted.
-ghost use Rattle.std.specs.Prelude.{codes, IfOk, IfErr, OnErr};
+ghost use Rattle.std.specs.Io.KnownBytes.{Keeps};
+ghost use Rattle.std.specs.Prelude.{◌≡◌, [], codes, IfOk, IfErr, OnErr};
 ghost use Rattle.hep_outcome.specs.declared.status.Status.TheVariants.{NoMemory};
 ghost use Rattle.hep_run.specs.Delivery.{LeavesOneOf, SaysLines, status_alone};
 ghost use Rattle.hep_run.specs.Memory.{MayReadOn, RefusesLarge};
@@ -23,7 +24,7 @@ use std::io::Write;
 pub struct Sample {
     /// The exit status of the program: the code of a `Status`.
     pub status: u8,
-    /// The seed of the first run of each outcome; none where there was no run.
+    /// The seed of the first run of each outcome; none where there was no run, or memory was refused.
     pub seeds: Vec<u64>,
 }
 
@@ -94,6 +95,7 @@ pub fn sample_bytes<W: Write, E: Write>(
     ensures large { RefusesLarge asked.now.long source.now (status_alone result.status)
         (W.contents output.old) (W.contents output.new) (E.contents messages.old) (E.contents messages.new) }
     ensures seeds { AreFirstSeeds asked.now.long asked.now.options.now source.now result.seeds.items }
+    ensures none { result.status ≡ 7 → result.seeds.items ≡ [] }
 {
     match sample_transcript(alloc, source, asked.options, asked.long) {
         Ok((transcript, seeds)) => Sample {
@@ -107,7 +109,7 @@ pub fn sample_bytes<W: Write, E: Write>(
     }
 }
 
-/// The text of the history of a source's run by lots.
+/// The text of the history of a source's run by lots. Nothing is written to `messages` then.
 ///
 /// # Errors
 ///
@@ -119,6 +121,7 @@ pub fn lots_history<E: Write>(
     messages: &mut E,
 ) -> Result<Vec<u8>, u8>
     ensures made { IfOk result (λ text. HasLotHistory options.now source.now text.items) }
+    ensures silent { IfOk result (λ _. Keeps (E.contents messages.old) (E.contents messages.new)) }
     ensures unmade { IfErr result (λ code. SaysLines (codes "NO MEMORY\n") NoMemory code (E.contents messages.old) (E.contents messages.new)) }
 {
     match lots_transcript(alloc, source, options, false) {

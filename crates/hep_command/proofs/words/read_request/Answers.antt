@@ -1,6 +1,7 @@
-use Rattle.std.proofs.Common.{◌≡◌, ◌⊎◌, ◌∙◌, ℕ, Bool, List, [], Option, Some, Result, Ok, Err, IfOk, IfErr, map, subst, sym, true}
+use Rattle.std.proofs.Common.{◌≡◌, ◌⊎◌, ◌∙◌, ℕ, Bool, List, [], Option, Some, Result, Ok, Err, IfOk, IfErr, map, inl, inr, subst, sym, true}
 use Rattle.clap.specs.Words.{HasKind, HasMatchesOf, Text, app_of, fault_of, is_simple_and_free, subcommand_rows_of}
 use Rattle.hep_command.specs.Asked.{Asked, asked_by, is_long_in, job_in, words_found, histories_in}
+use Rattle.hep_command.specs.Jobs.{IsWant}
 use Rattle.hep_command.specs.Program.{IsAskedBy, IsMistaken, IsStatusFor, asked, is_long, histories}
 use Rattle.hep_command.specs.declared.job.Request.{Request}
 use Rattle.hep_command.specs.declared.job.Usage.{Usage}
@@ -14,9 +15,10 @@ asked_by_words (Ok q) words job long kept job_is long_is kept_are by_job by_long
 asked_by_words (Err e) words job long kept job_is long_is kept_are by_job by_long by_kept = tt
 
 status_of_mistake : (r : Result Request Usage) (found : Option Asked) (P : ℕ → Type 0) → ((n : ℕ) → (n ≡ 7) ⊎ ((n ≡ 2) × IsMistaken found) → P n)
-    → IfErr r (λ usage. (usage.status ≡ 7) ⊎ ((usage.status ≡ 2) × IsMistaken found)) → IfErr r (λ usage. P usage.status)
+    → IfErr r (λ usage. IsWant usage ⊎ ((usage.status ≡ 2) × IsMistaken found)) → IfErr r (λ usage. P usage.status)
 status_of_mistake (Ok q) found P by h = tt
-status_of_mistake (Err usage) found P by h = by usage.status h
+status_of_mistake (Err usage) found P by (inl want) = by usage.status (inl want.0)
+status_of_mistake (Err usage) found P by (inr mistake) = by usage.status (inr mistake)
 
 pub returns-in-Ok-try_get_matches_from-clause-asked : goal.returns-in-Ok-try_get_matches_from-clause-asked
 returns-in-Ok-try_get_matches_from-clause-asked g c =
