@@ -17,12 +17,13 @@ use Rattle.hep_states.specs.Lines as lines
 use Rattle.hep_states.specs.States as words
 use Rattle.hep_views.specs.Reading.{HasDummies}
 use Rattle.hep_views.proofs.Nodes.{unheld}
-use Rattle.hep_survey.specs.Frames.{IsFrameAt, IsFrameUnder, IsTextOfHeld, IsUnderEach}
-use Rattle.hep_survey.specs.Keys.{AreHeldKeys}
-use Rattle.hep_survey.specs.Kept.{IsFrameOf}
-use Rattle.hep_survey.specs.Storage.{IsStorageOf}
-use Rattle.hep_survey.specs.declared.frames.Unit.{Unit}
-use Rattle.hep_survey.specs.declared.storage.Storage.{Storage}
+use Rattle.hep_contents.specs.Activations.{IsFrameAt}
+use Rattle.hep_survey.specs.Frames.{IsFrameUnder, IsTextOfHeld, IsUnderEach}
+use Rattle.hep_contents.specs.Keys.{AreHeldKeys}
+use Rattle.hep_contents.specs.Kept.{IsFrameOf}
+use Rattle.hep_contents.specs.Storage.{IsStorageOf}
+use Rattle.hep_contents.specs.declared.activations.Unit.{Unit}
+use Rattle.hep_contents.specs.declared.storage.Storage.{Storage}
 
 -- the names of a unit by its number
 pub symbols-are : (program units : Units) (number u : ℕ) (symbols : List Statement) → symbols ≡ get_or units number symbols → units ≡ program → number ≡ u → u < length program → symbols ≡ unit_at program u

@@ -1,16 +1,2 @@
-mod Bounded
-mod Commons
-mod Doubles
-mod Extents
 mod Framed
-mod HeldKeys
-mod Keyed
-mod Locals
-mod Named
-mod Owned
-mod Running
-mod Slots
-mod Stacks
 mod Surveyed
-mod Valued
-pub mod Waited

@@ -9,7 +9,7 @@ use Rattle.hep_machine.specs.Words.{Process, State, Units, is_number_among, livi
 use Rattle.hep_state.specs.declared.machine.Machine.{Machine}
 use Rattle.hep_state.specs.Words.{HasLevels, IsMachineAfter, snapshot_of}
 use Rattle.hep_views.proofs.Waiting.{living-top}
-use Rattle.hep_survey.specs.Waits.{IsTextOfWait}
+use Rattle.hep_contents.specs.Waits.{IsTextOfWait}
 use Rattle.hep_states.specs.States as words
 
 -- a process that has ended has no lines

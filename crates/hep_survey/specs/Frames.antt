@@ -1,24 +1,11 @@
--- The frames of activations, by their units: docs/MACHINE.md, "Layout".
+-- The frames of activations, by the keys of their nodes: docs/MACHINE.md, "Layout".
 use Rattle.std.specs.Prelude.{◌≡◌, ◌<◌, ◌++◌, ℕ, List, length, Option, Some, None}
-use Rattle.hep_machine.specs.Words.{Units, Layout, State, constant_value, unit_at, unit_of, value_among}
-use Rattle.hep_arena.specs.Space.{Space}
-use Rattle.hep_image.specs.Image.{IsUnitCode}
+use Rattle.hep_machine.specs.Words.{Layout, State, unit_of}
 use Rattle.hep_layout.specs.Words.{FrameNode}
 use Rattle.hep_proc.specs.Nodes.{nodes_of}
 use Rattle.hep_states.specs.States.{activation_text}
-use Rattle.hep_survey.specs.Kept.{IsFrameOf}
-use Rattle.hep_survey.specs.declared.frames.Unit.{Unit}
-use Rattle.hep_survey.specs.declared.storage.Storage.{Storage}
-
--- the frame of an activation of a unit begins at a cell
-pub record IsFrameAt (program : Units) (s : State) (layout : Layout) (a : ℕ) (unit : Unit) (first : ℕ) (arena : Space) : Type 0 where
-  pub is_of : IsFrameOf program s layout a first arena
-  pub symbols : unit.names.symbols.now ≡ unit_at program (unit_of s a)
-  pub constants : value_among unit.names.constants.now ≡ constant_value unit.names.symbols.now
-  pub code : IsUnitCode program (unit_of s a) unit.code.now
-
-abbrev pub IsFrameSomewhere : Unit → ℕ → Space → Type 0
-IsFrameSomewhere unit first arena = (program : Units) × (s : State) × (layout : Layout) × (a : ℕ) × IsFrameAt program s layout a unit first arena
+use Rattle.hep_contents.specs.Kept.{IsFrameOf}
+use Rattle.hep_contents.specs.declared.storage.Storage.{Storage}
 
 -- the node of an activation is under a key, and its frame is where that says
 pub record IsFrameUnder (storage : Storage) (s : State) (layout : Layout) (a key : ℕ) : Type 0 where

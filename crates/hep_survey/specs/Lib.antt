@@ -1,8 +1,1 @@
-pub mod Kept
-pub mod Variables
-pub mod Levels
-pub mod Waits
-pub mod Keys
-pub mod Storage
 pub mod Frames
-pub mod Blocks

@@ -1,117 +1,18 @@
-//! The variables of activations.
-ghost use Rattle.std.specs.Prelude.{◌≡◌, ◌++◌, ◌<◌, ℕ, List, IfOk, OnOk, length};
-ghost use Rattle.std.specs.List.{flat_map};
-ghost use Rattle.hep_machine.specs.Words.{Layout, State, Units, dummies_of, locals_of, run, scope_of, spelling};
-ghost use Rattle.hep_machine.specs.Words as names;
+//! The variables of activations, by the keys of their nodes.
+ghost use Rattle.std.specs.Prelude.{◌≡◌, ◌++◌, ℕ, List, OnOk};
+ghost use Rattle.hep_contents.specs.Storage.{IsStorageOf};
+ghost use Rattle.hep_machine.specs.Words.{Layout, State, run};
 ghost use Rattle.hep_state.specs.Words.{IsMachineAfter};
 ghost use Rattle.hep_states.specs.States as words;
-ghost use Rattle.hep_survey.specs.Frames.{IsFrameAt, IsFrameSomewhere, IsFrameUnder, IsTextOfHeld, IsUnderEach, IsUnderSomewhere};
-ghost use Rattle.hep_survey.specs.Kept.{AreOut};
-ghost use Rattle.hep_survey.specs.Storage.{IsStorageOf};
-ghost use Rattle.hep_survey.specs.Variables.{value_line, value_seen};
+ghost use Rattle.hep_survey.specs.Frames.{IsFrameUnder, IsTextOfHeld, IsUnderEach, IsUnderSomewhere};
 
-use crate::cells::slots;
-use crate::held::held_keys;
-use crate::laws::dummies_are_those_of_units;
-use crate::storage::Storage;
-use crate::variables::{Names, own_variable, scalar_variable};
-use hep_image::{Image, UnitCode};
-use hep_machine::Slot;
-use hep_proc::Frames;
-use hep_source::Name;
+use hep_blocks::Names;
+use hep_contents::laws::dummies_are_those_of_units;
+use hep_contents::{Storage, Unit, append_locals, append_values, held_keys, unit_name};
 use hep_state::Machine;
-use hep_states::{append_activation, append_variable};
-use hep_values::cells_of;
+use hep_states::append_activation;
 use hep_values::given::constants;
 use std::alloc::{AllocError, Global};
-
-/// A unit: its names, and its code.
-#[derive(Clone, Copy)]
-pub(crate) struct Unit<'a> {
-    pub(crate) names: Names<'a>,
-    pub(crate) code: &'a UnitCode,
-}
-
-// The lines of the local variables of an activation whose frame begins at a cell.
-fn append_locals(
-    alloc: Global,
-    text: &mut Vec<u8>,
-    frames: &Frames,
-    unit: &Unit,
-    first: u32,
-) -> Result<(), AllocError>
-    requires { IsFrameSomewhere unit.now first frames.now.arena }
-    ensures { OnOk result ((program : Units) (s : State) (layout : Layout) (a : ℕ)
-        → IsFrameAt program s layout a unit.now first frames.now.arena
-        → text.new.items ≡ text.old.items ++ flat_map (words.own_text program s (scope_of program s a)) (locals_of unit.now.names.symbols.now)) }
-{
-    let names = unit.names;
-    let dummies = names.symbols.dummies().len();
-    for (index, name) in names.symbols.locals().iter().enumerate() {
-        let variable = own_variable(alloc, &names, name)?;
-        let cells = cells_of(alloc, names.symbols, names.constants, name)?;
-        let at = first + unit.code.variables.as_slice()[dummies + index].first;
-        let slots = slots(alloc, frames, at, cells)?;
-        append_variable(text, &variable, &slots)?;
-    }
-    Ok(())
-}
-
-// What a dummy argument has of its own, from the first of its two cells on: the value of an expression, for which it stands where the second
-// cell has none.
-fn value_at(frames: &Frames, at: u32) -> Option<Slot>
-    requires { AreOut at 2 frames.now.arena }
-    ensures { result ≡ value_seen frames.now.arena.contents at }
-{
-    if frames.get(at + 1).value.is_some() {
-        return None;
-    }
-    Some(frames.get(at))
-}
-
-// The lines of a dummy argument that has this of its own.
-fn append_value(
-    alloc: Global,
-    text: &mut Vec<u8>,
-    name: &Name,
-    value: Option<Slot>,
-) -> Result<(), AllocError>
-    ensures { OnOk result (text.new.items ≡ text.old.items ++ value_line (spelling name.now) name.now.asynchronous value) }
-{
-    let Some(slot) = value else {
-        return Ok(());
-    };
-    let variable = scalar_variable(alloc, name)?;
-    append_variable(text, &variable, &[slot])
-}
-
-// The lines of the dummy arguments that stand for expressions, of an activation whose frame begins at a cell.
-fn append_values(
-    alloc: Global,
-    text: &mut Vec<u8>,
-    frames: &Frames,
-    unit: &Unit,
-    first: u32,
-) -> Result<(), AllocError>
-    requires { IsFrameSomewhere unit.now first frames.now.arena }
-    ensures { OnOk result ((program : Units) (s : State) (layout : Layout) (a : ℕ)
-        → IsFrameAt program s layout a unit.now first frames.now.arena
-        → text.new.items
-        ≡ text.old.items ++ flat_map (words.value_text program s (scope_of program s a)) (dummies_of unit.now.names.symbols.now)) }
-{
-    for (index, dummy) in unit.names.symbols.dummies().iter().enumerate() {
-        let at = first + unit.code.variables.as_slice()[index].first;
-        append_value(alloc, text, &dummy.name, value_at(frames, at))?;
-    }
-    Ok(())
-}
-
-fn unit_name(image: &Image, number: u32) -> &[u8]
-    requires { number < length image.now }
-    ensures { result.now ≡ names.unit_name (names.unit_at image.now number) }
-{
-    image.name(number).unwrap()
-}
 
 // The lines of the activation whose node is under a key.
 fn append_frame(

@@ -4,11 +4,8 @@ ghost use Rattle.hep_core.specs.Value.{state_of};
 ghost use Rattle.hep_machine.specs.Words.{Process, is_number_among, numbered, progress_after};
 ghost use Rattle.hep_states.specs.States as words;
 
-use crate::common::append_common;
 use crate::frames::append_activations;
-use crate::levels::append_process;
-use crate::storage::Storage;
-use crate::waits::waiting_text;
+use hep_contents::{Storage, append_common, append_process, waiting_text};
 use hep_core::Core;
 use hep_names::ProgramSymbols;
 use hep_states::append_head;

@@ -116,30 +116,27 @@ fn source_of(rt: &impl Abort, alloc: Global, lines: &[&[u8]]) -> Vec<u8> {
     source
 }
 
-#[test]
-fn forms(rt: HostRuntime) {
-    let alloc = rt.alloc();
-    let source = source_of(&rt, alloc, &FORMS);
-    let program = program_of(&rt, alloc, &source);
+// Each form is read, and a copy of a program is the same program.
+fn forms(rt: &impl Abort, alloc: Global) {
+    let source = source_of(rt, alloc, &FORMS);
+    let program = program_of(rt, alloc, &source);
     assert!(rt; program.as_slice().len() == 3);
-    let copy = program.copy(alloc).expect(&rt, "no copy");
+    let copy = program.copy(alloc).expect(rt, "no copy");
     assert!(rt; program.same(&copy));
-    let other = program_of(&rt, alloc, UNDEFINED);
+    let other = program_of(rt, alloc, UNDEFINED);
     assert!(rt; !program.same(&other));
 }
 
 // The core by itself: its cells, its refusals, and what they leave.
-#[test]
-fn core(rt: HostRuntime) {
-    let alloc = rt.alloc();
-    let checked = check(alloc, program_of(&rt, alloc, UNDEFINED)).expect(&rt, "not accepted");
+fn core(rt: &impl Abort, alloc: Global) {
+    let checked = check(alloc, program_of(rt, alloc, UNDEFINED)).expect(rt, "not accepted");
     checked.is_accepted();
     assert!(rt; checked.program().as_slice().len() == 1);
-    let image = lower(alloc, checked).expect(&rt, "no image");
-    let mut core = Core::new(alloc, image, 3, 7).expect(&rt, "no core");
-    let unit = core.image().name(0).expect(&rt, "no name");
+    let image = lower(alloc, checked).expect(rt, "no image");
+    let mut core = Core::new(alloc, image, 3, 7).expect(rt, "no core");
+    let unit = core.image().name(0).expect(rt, "no name");
     assert!(rt; unit == b"MAIN".as_slice());
-    let variable = core.image().name(2).expect(&rt, "no name");
+    let variable = core.image().name(2).expect(rt, "no name");
     assert!(rt; variable == b"J".as_slice());
     assert!(rt; core.image().name(3).is_none());
     assert!(rt; chosen(&mut core, 2).err() == Some(ChooseFault::NoSuchProcess));
@@ -147,7 +144,7 @@ fn core(rt: HostRuntime) {
         assert!(rt; core.used() == 3);
         assert!(rt; core.verdict() == Verdict::Running);
         assert!(rt; core.next_ready() == Some(1));
-        let turn = chosen(&mut core, 1).expect(&rt, "no turn");
+        let turn = chosen(&mut core, 1).expect(rt, "no turn");
         assert!(rt; turn.steps == 1 && !turn.blocked);
     }
     // The frame was given back.
@@ -158,4 +155,38 @@ fn core(rt: HostRuntime) {
     assert!(rt; core.output().len() == 1);
     assert!(rt; core.faults().len() == 1);
     assert!(rt; is_single_steps(core.history(), 7));
+}
+
+// All but those that start threads or count growths, which are tests of their own: each test has all that is below it read once more.
+#[test]
+fn calls(rt: HostRuntime) {
+    let alloc = rt.alloc();
+    forms(&rt, alloc);
+    core(&rt, alloc);
+    cells::after_a_stop(&rt, alloc);
+    cells::endless_recursion(&rt, alloc);
+    cells::arenas(&rt, alloc);
+    cells::gaps(&rt, alloc);
+    histories::same_bytes(&rt, alloc);
+    lowering::image(&rt, alloc);
+    lowering::names(&rt, alloc);
+    lowering::sizes(&rt);
+    parts::labels_and_blanks(&rt, alloc);
+    parts::full_history(&rt, alloc);
+    parts::held_frames(&rt, alloc);
+    parts::held_by_the_resumed(&rt, alloc);
+    parts::waiting_processes(&rt, alloc);
+    parts::three_blocks(&rt, alloc);
+    parts::all_given_back(&rt, alloc);
+    segments::steps_of_a_loop(&rt, alloc);
+    segments::first_reads(&rt, alloc);
+    segments::longest_segment(&rt, alloc);
+    streams::sources(&rt, alloc);
+    streams::failed_reads(&rt, alloc);
+    streams::outputs(&rt, alloc);
+    workers::tickets(&rt, alloc);
+    workers::at_the_opening(&rt, alloc);
+    workers::foreign_segments(&rt, alloc);
+    workers::full_histories(&rt, alloc);
+    workers::closing(&rt, alloc);
 }

@@ -29,10 +29,10 @@ fn stays_stopped(rt: &impl Abort, core: &mut Core, stop: ChoiceStop, used: u32) 
 
 const STOPPED: [&[u8]; 3] = [b"      PRINT *,1", b"      STOP", b"      END"];
 
-#[test]
-fn after_a_stop(rt: HostRuntime) {
-    let mut core = core_after(&rt, rt.alloc(), &STOPPED, 8, &[1, 1]);
-    stays_stopped(&rt, &mut core, ChoiceStop::Halted, 1);
+/// After a STOP the cells of the frame stay out.
+pub fn after_a_stop(rt: &impl Abort, alloc: Global) {
+    let mut core = core_after(rt, alloc, &STOPPED, 8, &[1, 1]);
+    stays_stopped(rt, &mut core, ChoiceStop::Halted, 1);
     assert!(rt; core.output().len() == 1);
 }
 
@@ -44,10 +44,10 @@ const RECURSION: [&[u8]; 5] = [
     b"      END",
 ];
 
-#[test]
-fn endless_recursion(rt: HostRuntime) {
-    let mut core = core_after(&rt, rt.alloc(), &RECURSION, 4, &[1, 1, 1]);
-    stays_stopped(&rt, &mut core, ChoiceStop::ArenaFull, 4);
+/// A recursion without an end stops where no gap is left.
+pub fn endless_recursion(rt: &impl Abort, alloc: Global) {
+    let mut core = core_after(rt, alloc, &RECURSION, 4, &[1, 1, 1]);
+    stays_stopped(rt, &mut core, ChoiceStop::ArenaFull, 4);
 }
 
 // Two processes add to a variable, and the main program waits for both.
@@ -68,18 +68,17 @@ pub const ADDED: [&[u8]; 14] = [
     b"      END",
 ];
 
-#[test]
-fn arenas(rt: HostRuntime) {
-    let alloc = rt.alloc();
+/// In arenas of 4 to 13 cells a frame finds no gap, the second one or the third; in one of 14 all have theirs.
+pub fn arenas(rt: &impl Abort, alloc: Global) {
     for cells in 4..9 {
-        let mut core = core_after(&rt, alloc, &ADDED, cells, &[1]);
-        stays_stopped(&rt, &mut core, ChoiceStop::ArenaFull, 4);
+        let mut core = core_after(rt, alloc, &ADDED, cells, &[1]);
+        stays_stopped(rt, &mut core, ChoiceStop::ArenaFull, 4);
     }
     for cells in 9..14 {
-        let mut core = core_after(&rt, alloc, &ADDED, cells, &[1, 1]);
-        stays_stopped(&rt, &mut core, ChoiceStop::ArenaFull, 9);
+        let mut core = core_after(rt, alloc, &ADDED, cells, &[1, 1]);
+        stays_stopped(rt, &mut core, ChoiceStop::ArenaFull, 9);
     }
-    let core = core_after(&rt, alloc, &ADDED, 14, &[1, 1, 1]);
+    let core = core_after(rt, alloc, &ADDED, 14, &[1, 1, 1]);
     assert!(rt; core.used() == 14);
 }
 
@@ -99,10 +98,10 @@ const GAPS: [&[u8]; 12] = [
     b"      END",
 ];
 
-#[test]
-fn gaps(rt: HostRuntime) {
-    let mut core = core_after(&rt, rt.alloc(), &GAPS, 7, &[1, 1, 2, 2]);
-    stays_stopped(&rt, &mut core, ChoiceStop::ArenaFull, 3);
-    let core = core_after(&rt, rt.alloc(), &GAPS, 8, &[1, 1, 2, 2, 1]);
+/// A gap that is too short stops the run, and one that is long enough is taken.
+pub fn gaps(rt: &impl Abort, alloc: Global) {
+    let mut core = core_after(rt, alloc, &GAPS, 7, &[1, 1, 2, 2]);
+    stays_stopped(rt, &mut core, ChoiceStop::ArenaFull, 3);
+    let core = core_after(rt, alloc, &GAPS, 8, &[1, 1, 2, 2, 1]);
     assert!(rt; core.used() == 6);
 }

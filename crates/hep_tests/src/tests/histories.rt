@@ -4,6 +4,8 @@ use super::cells::ADDED;
 use super::{image_from, source_of};
 use hep_history::{read_text, replay, write_text};
 use hep_output::output_text;
+use std::alloc::Global;
+use std::process::Abort;
 
 // The first entries are those of five choices.
 const TEXT: &[u8] = b"1 1
@@ -30,14 +32,13 @@ const TEXT: &[u8] = b"1 1
 1 1
 ";
 
-#[test]
-fn same_bytes(rt: HostRuntime) {
-    let alloc = rt.alloc();
-    let image = image_from(&rt, alloc, &source_of(&rt, alloc, &ADDED));
-    let entries = read_text(alloc, TEXT).expect(&rt, "no history");
-    let core = replay(alloc, image, 14, &entries).expect(&rt, "no core");
-    let output = output_text(alloc, core.output()).expect(&rt, "no memory");
+/// A history that is read, made again and written has the same bytes.
+pub fn same_bytes(rt: &impl Abort, alloc: Global) {
+    let image = image_from(rt, alloc, &source_of(rt, alloc, &ADDED));
+    let entries = read_text(alloc, TEXT).expect(rt, "no history");
+    let core = replay(alloc, image, 14, &entries).expect(rt, "no core");
+    let output = output_text(alloc, core.output()).expect(rt, "no memory");
     assert!(rt; output.as_slice() == b" 2\n".as_slice());
-    let text = write_text(alloc, core.history()).expect(&rt, "no memory");
+    let text = write_text(alloc, core.history()).expect(rt, "no memory");
     assert!(rt; text.as_slice() == TEXT);
 }

@@ -10,13 +10,13 @@ use std::process::Abort;
 
 // ---- the text
 
-#[test]
-fn labels_and_blanks(rt: HostRuntime) {
+/// Labels, texts without blanks, and where the characters of a statement stand.
+pub fn labels_and_blanks(rt: &impl Abort, alloc: Global) {
     let source = b"C a comment\r\n 1 0  go to 2 0\r\n      END";
-    let read = statements(rt.alloc(), source).expect(&rt, "no statements");
+    let read = statements(alloc, source).expect(rt, "no statements");
     assert!(rt; read.len() == 2);
-    is_labelled_jump(&rt, &read[0]);
-    is_bare_end(&rt, &read[1]);
+    is_labelled_jump(rt, &read[0]);
+    is_bare_end(rt, &read[1]);
 }
 
 fn is_labelled_jump(rt: &impl Abort, jump: &Stmt) {
@@ -37,14 +37,13 @@ fn is_bare_end(rt: &impl Abort, end: &Stmt) {
 
 // ---- the core
 
-#[test]
-fn full_history(rt: HostRuntime) {
-    let alloc = rt.alloc();
-    let refused = Core::new(alloc, image_from(&rt, alloc, UNDEFINED), 2, 100);
+/// An arena without room for the main program, and a history that is full.
+pub fn full_history(rt: &impl Abort, alloc: Global) {
+    let refused = Core::new(alloc, image_from(rt, alloc, UNDEFINED), 2, 100);
     assert!(rt; refused.err() == Some(NewFault::ArenaFull));
-    let mut core = core_of(&rt, alloc, UNDEFINED, 3);
+    let mut core = core_of(rt, alloc, UNDEFINED, 3);
     for _step in 0..3 {
-        let _turn = chosen(&mut core, 1).expect(&rt, "no turn");
+        let _turn = chosen(&mut core, 1).expect(rt, "no turn");
     }
     // That a process doesn't live is reported before that the history is full, and a stop before both.
     assert!(rt; chosen(&mut core, 2).err() == Some(ChooseFault::NoSuchProcess));
@@ -121,55 +120,51 @@ fn follow(rt: &impl Abort, alloc: Global, lines: &[&[u8]], first: u32, choices: 
     assert!(rt; core.verdict() == Verdict::Done);
 }
 
-// Frames are given back in the step that ends them; A's stays until B has ended, whose dummy argument is a variable of A.
-#[test]
-fn held_frames(rt: HostRuntime) {
+/// Frames are given back in the step that ends them; A's stays until B has ended, whose dummy argument is a variable of A.
+pub fn held_frames(rt: &impl Abort, alloc: Global) {
     let outlived = [(1, 3), (1, 6), (1, 6), (1, 8), (2, 8), (1, 6), (2, 0)];
-    follow(&rt, rt.alloc(), &OUTLIVED, 1, &outlived);
+    follow(rt, alloc, &OUTLIVED, 1, &outlived);
     let shaped = [(1, 7), (1, 16), (1, 16), (1, 16), (1, 16), (1, 7), (1, 0)];
-    follow(&rt, rt.alloc(), &SHAPED, 7, &shaped);
+    follow(rt, alloc, &SHAPED, 7, &shaped);
 }
 
-// The frame of a resumed activation, and that of its caller, which ends first, stay until it has ended.
-#[test]
-fn held_by_the_resumed(rt: HostRuntime) {
+/// The frame of a resumed activation, and that of its caller, which ends first, stay until it has ended.
+pub fn held_by_the_resumed(rt: &impl Abort, alloc: Global) {
     let caller = [(1, 3), (1, 9), (1, 9), (2, 9), (1, 9), (1, 9), (1, 9)];
     let resumed = [(2, 9), (2, 9), (2, 9), (2, 9), (2, 9), (2, 9), (2, 0)];
-    let mut choices = Vec::new(rt.alloc());
-    choices.extend_from_slice(&caller).expect(&rt, "no memory");
-    choices.extend_from_slice(&resumed).expect(&rt, "no memory");
-    follow(&rt, rt.alloc(), &RESUMED, 3, &choices);
+    let mut choices = Vec::new(alloc);
+    choices.extend_from_slice(&caller).expect(rt, "no memory");
+    choices.extend_from_slice(&resumed).expect(rt, "no memory");
+    follow(rt, alloc, &RESUMED, 3, &choices);
 }
 
-// Who was found waiting, for what, and who comes after it.
-#[test]
-fn waiting_processes(rt: HostRuntime) {
+/// Who was found waiting, for what, and who comes after it.
+pub fn waiting_processes(rt: &impl Abort, alloc: Global) {
     let source = b"      INTEGER $Q\n      I=$Q\n      END\n";
-    let mut core = core_of(&rt, rt.alloc(), source, 100);
+    let mut core = core_of(rt, alloc, source, 100);
     assert!(rt; core.waiting_after(0).is_none());
-    let turn = chosen(&mut core, 1).expect(&rt, "no turn");
+    let turn = chosen(&mut core, 1).expect(rt, "no turn");
     assert!(rt; turn.blocked);
     assert!(rt; core.verdict() == Verdict::Waiting);
     assert!(rt; core.next_ready().is_none());
-    let found = core.waiting_after(0).expect(&rt, "nobody waits");
+    let found = core.waiting_after(0).expect(rt, "nobody waits");
     assert!(rt; found.process == 1 && found.unit == 0 && found.line == 2 && found.full);
     assert!(rt; found.owner == 1 && found.element == 0);
-    let name = core.image().name(found.name).expect(&rt, "no name");
+    let name = core.image().name(found.name).expect(rt, "no name");
     assert!(rt; name == b"$Q".as_slice());
     assert!(rt; core.waiting_after(1).is_none());
 }
 
 // ---- the arena
 
-// Three blocks in an arena of ten cells leave a hole of one. A block of five fits where two neighbours have come back.
-#[test]
-fn three_blocks(rt: HostRuntime) {
+/// Three blocks in an arena of ten cells leave a hole of one. A block of five fits where two neighbours have come back.
+pub fn three_blocks(rt: &impl Abort, alloc: Global) {
     taking();
     giving();
-    let mut arena = Arena::new(rt.alloc(), 10).expect(&rt, "no memory").sent();
-    let first = arena.take(3).expect(&rt, "no block");
-    let second = arena.take(4).expect(&rt, "no block");
-    let third = arena.take(2).expect(&rt, "no block");
+    let mut arena = Arena::new(alloc, 10).expect(rt, "no memory").sent();
+    let first = arena.take(3).expect(rt, "no block");
+    let second = arena.take(4).expect(rt, "no block");
+    let third = arena.take(2).expect(rt, "no block");
     assert!(rt; first.at() == 0 && second.at() == 3 && third.at() == 7);
     assert!(rt; arena.used() == 9);
     arena.give(second);
@@ -178,20 +173,19 @@ fn three_blocks(rt: HostRuntime) {
     assert!(rt; arena.used() == 5);
     arena.give(first);
     assert!(rt; arena.used() == 2);
-    let fourth = arena.take(5).expect(&rt, "no block");
+    let fourth = arena.take(5).expect(rt, "no block");
     assert!(rt; fourth.at() == 0 && arena.used() == 7);
     assert!(rt; arena.fits(2) && !arena.fits(3));
 }
 
-// The same holes as at the end of those, of two cells and of one. Once the blocks beside them are back, all cells are one hole.
-#[test]
-fn all_given_back(rt: HostRuntime) {
+/// The same holes as at the end of those, of two cells and of one. Once the blocks beside them are back, all cells are one hole.
+pub fn all_given_back(rt: &impl Abort, alloc: Global) {
     taking();
     giving();
-    let mut arena = Arena::new(rt.alloc(), 10).expect(&rt, "no memory").sent();
-    let first = arena.take(5).expect(&rt, "no block");
-    let second = arena.take(2).expect(&rt, "no block");
-    let third = arena.take(2).expect(&rt, "no block");
+    let mut arena = Arena::new(alloc, 10).expect(rt, "no memory").sent();
+    let first = arena.take(5).expect(rt, "no block");
+    let second = arena.take(2).expect(rt, "no block");
+    let third = arena.take(2).expect(rt, "no block");
     arena.give(second);
     assert!(rt; first.at() == 0 && third.at() == 7 && arena.used() == 7);
     arena.give(third);

@@ -48,10 +48,9 @@ fn segment_of(rt: &impl Abort, alloc: Global, source: &[u8], copies: &[Copied]) 
     compute(&image, &ticket)
 }
 
-// All steps but the store in COMMON, in front of which its value is an operand.
-#[test]
-fn steps_of_a_loop(rt: HostRuntime) {
-    let segment = segment_of(&rt, rt.alloc(), LOOP, &[]);
+/// All steps but the store in COMMON, in front of which its value is an operand.
+pub fn steps_of_a_loop(rt: &impl Abort, alloc: Global) {
+    let segment = segment_of(rt, alloc, LOOP, &[]);
     assert!(rt; segment.records().len() == 21);
     assert!(rt; segment.end_operands() == [Value::Int(7)].as_slice());
     let ends = segment.records()[7];
@@ -72,17 +71,15 @@ fn steps_of_a_loop(rt: HostRuntime) {
     assert!(rt; raised == 2 && count == 3 && increment == 1);
 }
 
-// What is read first is that of the copies; without a value there is no step.
-#[test]
-fn first_reads(rt: HostRuntime) {
-    let alloc = rt.alloc();
-    let none = segment_of(&rt, alloc, RAISE, &[]);
+/// What is read first is that of the copies; without a value there is no step.
+pub fn first_reads(rt: &impl Abort, alloc: Global) {
+    let none = segment_of(rt, alloc, RAISE, &[]);
     assert!(rt; none.records().is_empty());
     let copy = Copied {
         cell: 1,
         value: Some(Value::Int(5)),
     };
-    let segment = segment_of(&rt, alloc, RAISE, &[copy]);
+    let segment = segment_of(rt, alloc, RAISE, &[copy]);
     assert!(rt; segment.records().len() == 6);
     let Record::Reads { first, value, .. } = segment.records()[0] else {
         assert!(rt; false);
@@ -97,14 +94,12 @@ fn first_reads(rt: HostRuntime) {
     assert!(rt; cell == 1 && value == Value::Int(-6));
 }
 
-// There is an end to a segment, and another one can be made in its place.
-#[test]
-fn longest_segment(rt: HostRuntime) {
-    let alloc = rt.alloc();
-    let mut segment = segment_of(&rt, alloc, b"   10 GO TO 10\n      END\n", &[]);
+/// There is an end to a segment, and another one can be made in its place.
+pub fn longest_segment(rt: &impl Abort, alloc: Global) {
+    let mut segment = segment_of(rt, alloc, b"   10 GO TO 10\n      END\n", &[]);
     assert!(rt; segment.records().len() == 1023);
-    let image = image_from(&rt, alloc, PASSED);
-    let ticket = ticket_of(&rt, alloc, &image, 2, &[]);
+    let image = image_from(rt, alloc, PASSED);
+    let ticket = ticket_of(rt, alloc, &image, 2, &[]);
     compute_into(&image, &ticket, &mut segment);
     // J is passed, so that it isn't private.
     assert!(rt; segment.records().len() == 1);

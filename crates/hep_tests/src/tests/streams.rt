@@ -85,8 +85,8 @@ const SOURCES: [(usize, bool, usize, usize, ErrorKind, Ends); 7] = [
     (1, false, 9, FOR_EVER, ErrorKind::Interrupted, READ_FAULT),
 ];
 
-#[test]
-fn sources(rt: HostRuntime) {
+/// Sources that come in parts, are interrupted, fail or have no end.
+pub fn sources(rt: &impl Abort, alloc: Global) {
     for (step, is_endless, before, failing, kind, ends) in SOURCES {
         let mut reader = Fickle {
             text: FIRST,
@@ -97,7 +97,7 @@ fn sources(rt: HostRuntime) {
             failing,
             kind,
         };
-        read_from(&rt, rt.alloc(), &mut reader, ends);
+        read_from(rt, alloc, &mut reader, ends);
         // Where it didn't fail for ever, the calls that fail were made.
         let is_given_up = failing == FOR_EVER;
         assert!(rt; is_given_up || reader.failing == 0);
@@ -105,9 +105,8 @@ fn sources(rt: HostRuntime) {
     }
 }
 
-// One call fails, whichever it is: nothing of the run is written.
-#[test]
-fn failed_reads(rt: HostRuntime) {
+/// One call fails, whichever it is: nothing of the run is written.
+pub fn failed_reads(rt: &impl Abort, alloc: Global) {
     for before in 0..FIRST.len() + 1 {
         let mut reader = Fickle {
             text: FIRST,
@@ -118,7 +117,7 @@ fn failed_reads(rt: HostRuntime) {
             failing: 1,
             kind: ErrorKind::Other,
         };
-        read_from(&rt, rt.alloc(), &mut reader, READ_FAULT);
+        read_from(rt, alloc, &mut reader, READ_FAULT);
     }
 }
 
@@ -181,9 +180,8 @@ const OUTPUTS: [((usize, usize, usize), (usize, usize, usize), &[u8], Ends); 7] 
     (ALL, (2, 5, 1), b"", (b"", b"REFUSWRITE FAULT AFTER 5\n", 8)),
 ];
 
-#[test]
-fn outputs(rt: HostRuntime) {
-    let alloc = rt.alloc();
+/// Outputs that take few bytes a call, fail, or take nothing.
+pub fn outputs(rt: &impl Abort, alloc: Global) {
     for (of_output, of_messages, source, ends) in OUTPUTS {
         let mut reader = source;
         let mut output = Slow::new(alloc, of_output);

@@ -54,26 +54,25 @@ fn unclosed(alloc: Global, core: Core, image: &Image, options: &WorkOptions) -> 
     close(alloc, core, image, options, Vec::new(alloc)).err()
 }
 
-// A process that is out is neither chosen nor checked out, and comes next no more; of two segments of a ticket one is committed.
-#[test]
-fn tickets(rt: HostRuntime) {
-    let image = image_from(&rt, rt.alloc(), WAITING);
-    let mut core = core_of(&rt, rt.alloc(), WAITING, 3);
+/// A process that is out is neither chosen nor checked out, and comes next no more; of two segments of a ticket one is committed.
+pub fn tickets(rt: &impl Abort, alloc: Global) {
+    let image = image_from(rt, alloc, WAITING);
+    let mut core = core_of(rt, alloc, WAITING, 3);
     assert!(rt; unticketed(&mut core, 2) == Some(ChooseFault::NoSuchProcess));
     assert!(rt; core.next_ready() == Some(1));
-    let cancelled = ticket_of(&rt, &mut core, 1);
+    let cancelled = ticket_of(rt, &mut core, 1);
     assert!(rt; core.next_ready().is_none());
     assert!(rt; core.verdict() == Verdict::Running);
-    core.cancel(&cancelled).expect(&rt, "not cancelled");
+    core.cancel(&cancelled).expect(rt, "not cancelled");
     assert!(rt; core.cancel(&cancelled).err() == Some(CommitFault::Stale));
     assert!(rt; is_stale(&mut core, &compute(&image, &cancelled)));
-    let ticket = ticket_of(&rt, &mut core, 1);
+    let ticket = ticket_of(rt, &mut core, 1);
     assert!(rt; ticket.id().number == 2);
     assert!(rt; chosen(&mut core, 1).err() == Some(ChooseFault::IsOut));
     assert!(rt; unticketed(&mut core, 1) == Some(ChooseFault::IsOut));
     let first = compute(&image, &ticket);
     let second = compute(&image, &ticket);
-    let turn = committed(&mut core, &first).expect(&rt, "not committed");
+    let turn = committed(&mut core, &first).expect(rt, "not committed");
     assert!(rt; turn.steps == 0 && turn.blocked);
     assert!(rt; is_stale(&mut core, &second));
     assert!(rt; core.history().len() == 1);
@@ -91,22 +90,20 @@ const OVERFLOW: [&[u8]; 8] = [
     b"      END",
 ];
 
-// At the opening there is process 1 alone; while it is out it isn't chosen, and of two segments of its ticket one is committed.
-#[test]
-fn at_the_opening(rt: HostRuntime) {
-    let alloc = rt.alloc();
-    let source = source_of(&rt, alloc, &OVERFLOW);
-    let image = image_from(&rt, alloc, &source);
-    let mut core = core_of(&rt, alloc, &source, 7);
+/// At the opening there is process 1 alone; while it is out it isn't chosen, and of two segments of its ticket one is committed.
+pub fn at_the_opening(rt: &impl Abort, alloc: Global) {
+    let source = source_of(rt, alloc, &OVERFLOW);
+    let image = image_from(rt, alloc, &source);
+    let mut core = core_of(rt, alloc, &source, 7);
     for process in [99, 2] {
         assert!(rt; chosen(&mut core, process).err() == Some(ChooseFault::NoSuchProcess));
         assert!(rt; core.history().len() == 0);
     }
-    let ticket = ticket_of(&rt, &mut core, 1);
+    let ticket = ticket_of(rt, &mut core, 1);
     assert!(rt; chosen(&mut core, 1).err() == Some(ChooseFault::IsOut));
     let first = compute(&image, &ticket);
     let second = compute(&image, &ticket);
-    let turn = committed(&mut core, &first).expect(&rt, "not committed");
+    let turn = committed(&mut core, &first).expect(rt, "not committed");
     assert!(rt; turn.steps == 1 && !turn.blocked);
     assert!(rt; is_stale(&mut core, &second));
     assert!(rt; core.history().len() == 1);
@@ -115,7 +112,7 @@ fn at_the_opening(rt: HostRuntime) {
         steps: 7,
         workers: 1,
     };
-    let opening = core_of(&rt, alloc, &source, 7);
+    let opening = core_of(rt, alloc, &source, 7);
     assert!(rt; unclosed(alloc, opening, &image, &options) == Some(CloseFault::StillRunning));
 }
 
@@ -130,63 +127,58 @@ fn segment_after(rt: &impl Abort, alloc: Global, image: &Image, cancelled: u32) 
     compute(image, &ticket)
 }
 
-// A segment of another core is stale unless it agrees with the ticket that is out. A stale one changes nothing.
-#[test]
-fn foreign_segments(rt: HostRuntime) {
-    let alloc = rt.alloc();
-    let source = source_of(&rt, alloc, &OVERFLOW);
-    let image = image_from(&rt, alloc, &source);
-    let of_another_source = segment_after(&rt, alloc, &image_from(&rt, alloc, WAITING), 0);
-    let earlier = segment_after(&rt, alloc, &image, 0);
-    let later = segment_after(&rt, alloc, &image, 2);
-    let alike = segment_after(&rt, alloc, &image, 1);
-    let mut core = core_of(&rt, alloc, &source, 7);
+/// A segment of another core is stale unless it agrees with the ticket that is out. A stale one changes nothing.
+pub fn foreign_segments(rt: &impl Abort, alloc: Global) {
+    let source = source_of(rt, alloc, &OVERFLOW);
+    let image = image_from(rt, alloc, &source);
+    let of_another_source = segment_after(rt, alloc, &image_from(rt, alloc, WAITING), 0);
+    let earlier = segment_after(rt, alloc, &image, 0);
+    let later = segment_after(rt, alloc, &image, 2);
+    let alike = segment_after(rt, alloc, &image, 1);
+    let mut core = core_of(rt, alloc, &source, 7);
     assert!(rt; is_stale(&mut core, &alike));
-    let _cancelled = cancelled_of(&rt, &mut core, 1);
-    let ticket = ticket_of(&rt, &mut core, 1);
+    let _cancelled = cancelled_of(rt, &mut core, 1);
+    let ticket = ticket_of(rt, &mut core, 1);
     for segment in [&of_another_source, &earlier, &later] {
         assert!(rt; is_stale(&mut core, segment));
         assert!(rt; core.history().len() == 0 && core.used() == 1 && core.next_ready().is_none());
     }
-    let turn = committed(&mut core, &alike).expect(&rt, "not committed");
+    let turn = committed(&mut core, &alike).expect(rt, "not committed");
     assert!(rt; turn.steps == 1);
     assert!(rt; is_stale(&mut core, &compute(&image, &ticket)));
     assert!(rt; core.history().len() == 1);
 }
 
-// A history that is full stops a check-out, and a stop is reported before all else.
-#[test]
-fn full_histories(rt: HostRuntime) {
-    let mut core = core_of(&rt, rt.alloc(), WAITING, 1);
-    chosen(&mut core, 1).expect(&rt, "no turn");
+/// A history that is full stops a check-out, and a stop is reported before all else.
+pub fn full_histories(rt: &impl Abort, alloc: Global) {
+    let mut core = core_of(rt, alloc, WAITING, 1);
+    chosen(&mut core, 1).expect(rt, "no turn");
     assert!(rt; unticketed(&mut core, 1) == Some(ChooseFault::Stopped(ChoiceStop::StepLimit)));
     assert!(rt; unticketed(&mut core, 7) == Some(ChooseFault::Stopped(ChoiceStop::StepLimit)));
     assert!(rt; chosen(&mut core, 7).err() == Some(ChooseFault::Stopped(ChoiceStop::StepLimit)));
 }
 
-// Why there is no report, each by itself.
-#[test]
-fn closing(rt: HostRuntime) {
-    let alloc = rt.alloc();
+/// Why there is no report, each by itself.
+pub fn closing(rt: &impl Abort, alloc: Global) {
     let options = WorkOptions {
         arena: 3,
         steps: 7,
         workers: 1,
     };
     let source = b"      I=1\n      END\n";
-    let image = image_from(&rt, alloc, source);
-    let opening = core_of(&rt, alloc, source, 7);
+    let image = image_from(rt, alloc, source);
+    let opening = core_of(rt, alloc, source, 7);
     assert!(rt; unclosed(alloc, opening, &image, &options) == Some(CloseFault::StillRunning));
-    let opening = core_of(&rt, alloc, source, 7);
-    let other = image_from(&rt, alloc, WAITING);
+    let opening = core_of(rt, alloc, source, 7);
+    let other = image_from(rt, alloc, WAITING);
     assert!(rt; unclosed(alloc, opening, &other, &options) == Some(CloseFault::NotTheRun));
-    let shorter = core_of(&rt, alloc, source, 6);
+    let shorter = core_of(rt, alloc, source, 6);
     assert!(rt; unclosed(alloc, shorter, &image, &options) == Some(CloseFault::NotTheRun));
 
-    let mut core = core_of(&rt, alloc, source, 7);
-    let ticket = ticket_of(&rt, &mut core, 1);
+    let mut core = core_of(rt, alloc, source, 7);
+    let ticket = ticket_of(rt, &mut core, 1);
     let segment = compute(&image, &ticket);
-    let receipt = worker_turn(&mut core, 1, &segment).expect(&rt, "no receipt");
+    let receipt = worker_turn(&mut core, 1, &segment).expect(rt, "no receipt");
     assert!(rt;
         receipt
             == Receipt {

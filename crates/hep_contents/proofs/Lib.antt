@@ -1,0 +1,14 @@
+mod Bounded
+mod Commons
+mod Doubles
+mod Extents
+mod HeldKeys
+mod Keyed
+mod Locals
+mod Named
+mod Owned
+mod Running
+mod Slots
+mod Stacks
+mod Valued
+pub mod Waited

@@ -1,0 +1,118 @@
+//! Where processes are.
+ghost use Rattle.std.specs.Prelude.{◌≡◌, ◌++◌, ℕ, List, OnOk, Some, codes, reverse};
+ghost use Rattle.hep_machine.specs.Words.{Process, numbered, run};
+ghost use Rattle.hep_proc.specs.Nodes.{nodes_of};
+ghost use Rattle.hep_state.specs.Words.{AreThere, IsThere, IsMachineAfter, HasLevels, snapshot_of};
+ghost use Rattle.hep_states.specs.Lines as lines;
+ghost use Rattle.hep_states.specs.States as words;
+ghost use Rattle.hep_contents.specs.Levels.{backs_seen, level_seen, top_seen};
+
+use hep_image::Image;
+use hep_output::append_number;
+use hep_proc::{Frames, Local};
+use hep_state::Machine;
+use hep_states::append_level;
+use hep_views::finding::line_from;
+use std::alloc::AllocError;
+
+// Where a level goes on.
+fn append_place(
+    text: &mut Vec<u8>,
+    frames: &Frames,
+    image: &Image,
+    level: Local,
+) -> Result<(), AllocError>
+    requires { IsThere image.now (nodes_of frames.now.nodes) level }
+    ensures { OnOk result (text.new.items ≡ text.old.items ++ level_seen image.now (nodes_of frames.now.nodes) level) }
+{
+    let unit = image.unit(level.unit as usize);
+    let line = line_from(unit.code.as_slice(), level.index);
+    let name = image.name(level.unit).unwrap();
+    append_level(text, name, line, frames.activation(level.key))
+}
+
+// The line of a level below the top one.
+fn append_back(
+    text: &mut Vec<u8>,
+    frames: &Frames,
+    image: &Image,
+    level: Local,
+) -> Result<(), AllocError>
+    requires { IsThere image.now (nodes_of frames.now.nodes) level }
+    ensures { OnOk result (text.new.items ≡ text.old.items ++ lines.back_text (level_seen image.now (nodes_of frames.now.nodes) level)) }
+{
+    text.extend_from_slice(b"  BACK TO ")?;
+    append_place(text, frames, image, level)?;
+    text.extend_from_slice(b"\n")?;
+    Ok(())
+}
+
+// The lines of levels below the top one, which stand with the upper one last.
+fn append_backs(
+    text: &mut Vec<u8>,
+    frames: &Frames,
+    image: &Image,
+    levels: &[Local],
+) -> Result<(), AllocError>
+    requires { AreThere image.now (nodes_of frames.now.nodes) (reverse levels.now) }
+    ensures { OnOk result (text.new.items ≡ text.old.items ++ backs_seen image.now (nodes_of frames.now.nodes) (reverse levels.now)) }
+{
+    for index in 0..levels.len() {
+        append_back(text, frames, image, levels[levels.len() - 1 - index])?;
+    }
+    Ok(())
+}
+
+// The front of the first line of process p, which is at a level.
+fn append_top(
+    text: &mut Vec<u8>,
+    frames: &Frames,
+    image: &Image,
+    p: u64,
+    level: Local,
+) -> Result<(), AllocError>
+    requires { IsThere image.now (nodes_of frames.now.nodes) level }
+    ensures { OnOk result (text.new.items ≡ text.old.items ++ top_seen image.now (nodes_of frames.now.nodes) p level) }
+{
+    text.extend_from_slice(b"PROCESS ")?;
+    append_number(text, p)?;
+    text.extend_from_slice(b" ")?;
+    append_place(text, frames, image, level)?;
+    Ok(())
+}
+
+// Its end: words for what the process waits for, or none.
+fn append_waiting(text: &mut Vec<u8>, waiting: &[u8]) -> Result<(), AllocError>
+    ensures { OnOk result (text.new.items ≡ text.old.items ++ (waiting.now ++ codes "\n")) }
+{
+    text.extend_from_slice(waiting)?;
+    text.extend_from_slice(b"\n")?;
+    Ok(())
+}
+
+/// Appends the lines of process p, which lives: where it is, with words for what it waits for, or none, and where it goes back to.
+///
+/// # Errors
+///
+/// Only where memory was refused.
+pub fn append_process(
+    text: &mut Vec<u8>,
+    machine: &Machine,
+    image: &Image,
+    p: u64,
+    waiting: &[u8],
+) -> Result<(), AllocError>
+    requires levels { HasLevels (snapshot_of machine.now) p }
+    requires after { (cells : ℕ) × (choices : List ℕ) × IsMachineAfter image.now cells choices machine.now }
+    ensures { OnOk result ((cells : ℕ) (choices : List ℕ) (q : Process) → IsMachineAfter image.now cells choices machine.now
+        → numbered (run image.now choices).processes p ≡ Some q
+        → text.new.items ≡ text.old.items ++ words.stack_text image.now (run image.now choices) p waiting.now q) }
+{
+    let at = machine.place(p);
+    let levels = machine.processes[at].levels.as_slice();
+    let below = levels.len() - 1;
+    append_top(text, &machine.frames, image, p, levels[below])?;
+    append_waiting(text, waiting)?;
+    append_backs(text, &machine.frames, image, &levels[..below])?;
+    Ok(())
+}
