@@ -1,0 +1,2 @@
+mod Unlike
+mod Worked

@@ -1,0 +1,4 @@
+pub mod Deeds
+pub mod Firsts
+pub mod Lines
+pub mod Differences

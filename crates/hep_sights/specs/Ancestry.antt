@@ -1,0 +1,18 @@
+-- An activation with those that it can't do without: docs/MACHINE.md, "Layout".
+use Rattle.std.specs.Prelude.{◌≡◌, ℕ, zero, suc, List, [], ◌∷◌, Option, Some, None}
+use Rattle.std.specs.Option.{option_map_or}
+use Rattle.hep_machine.specs.Words.{Level, Process, State, Top, parent_of}
+
+-- an activation, its parent, the parent's parent and so on, so many of them at most
+abbrev pub ancestry : State → ℕ → ℕ → List ℕ
+ancestry s zero a = []
+ancestry s (suc n) a = a ∷ option_map_or (λ b. ancestry s n b) (parent_of s a) []
+
+-- the top activation of a process with its whole ancestry: a parent has a lower number than its child
+abbrev pub IsAncestryOf : Top → List ℕ → Type 0
+IsAncestryOf t activations = activations ≡ ancestry t.state t.level.activation t.level.activation
+
+-- the top activation of a process that lives
+abbrev pub activation_on : Option (Level × Process) → ℕ
+activation_on None = 0
+activation_on (Some top) = top.0.activation

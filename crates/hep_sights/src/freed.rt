@@ -1,0 +1,143 @@
+//! Activations whose frames a turn gives back.
+ghost use Rattle.std.specs.Prelude.{◌≡◌, ◌++◌, ◌∷◌, [], ℕ, nat_le, IfOk, List, OnOk, Some, not, reverse, slice_get};
+ghost use Rattle.std.specs.List.{filter};
+ghost use Rattle.hep_core.specs.Value.{CoreValue, state_of};
+ghost use Rattle.hep_layout.specs.Words.{FrameNode};
+ghost use Rattle.hep_machine.specs.Words.{Level, Process as SourceProcess, Units, is_held, living, run};
+ghost use Rattle.hep_proc.specs.Nodes.{nodes_of};
+ghost use Rattle.hep_state.specs.declared.machine.Machine.{Machine as AMachine};
+ghost use Rattle.hep_state.specs.Words.{IsMachineAfter, snapshot_of};
+ghost use Rattle.hep_contents.specs.Keys.{AreHeldKeys};
+ghost use Rattle.hep_sights.specs.Ancestry as words;
+ghost use Rattle.hep_sights.specs.Ancestry.{IsAncestryOf, activation_on};
+ghost use Rattle.hep_sights.specs.Freed.{IsFreeing};
+ghost use Rattle.hep_sights.specs.References.{IsAhead, top_after};
+ghost use Rattle.hep_traces.specs.Lines as lines;
+ghost use Rattle.hep_traces.specs.Traces.{freed};
+
+use crate::reference::Ahead;
+use crate::tops::top_level;
+use hep_contents::held_keys;
+use hep_core::Core;
+use hep_state::Machine;
+use hep_traces::append_freed;
+use std::alloc::{AllocError, Global};
+
+// The activation whose node is under a key, its parent, the parent's parent and so on.
+fn ancestors(alloc: Global, machine: &Machine, key: usize) -> Result<Vec<u64>, AllocError>
+    requires { (program : Units) × (cells : ℕ) × (choices : List ℕ) × IsMachineAfter program cells choices machine.now
+        × (n : FrameNode) × (nodes_of machine.now.frames.nodes key ≡ Some n) }
+    ensures { IfOk result (λ activations. (program : Units) (cells : ℕ) (choices : List ℕ) (n : FrameNode)
+        → IsMachineAfter program cells choices machine.now → nodes_of machine.now.frames.nodes key ≡ Some n
+        → activations.items ≡ words.ancestry (run program choices) n.activation n.activation) }
+{
+    let mut activations = Vec::new(alloc);
+    let mut next = Some(key);
+    while let Some(at) = next {
+        activations.push(machine.frames.activation(at))?;
+        next = machine.frames.parent(at);
+    }
+    Ok(activations)
+}
+
+/// The top activation of a process of which something comes next, its parent, the parent's parent and so on.
+///
+/// # Errors
+///
+/// Only where memory was refused.
+pub fn ancestry(alloc: Global, ahead: &Ahead<'_>) -> Result<Vec<u64>, AllocError>
+    requires { (cells : ℕ) × (choices : List ℕ) × (top : Level × SourceProcess) × IsAhead cells choices ahead.now top }
+    ensures { IfOk result (λ activations. (cells : ℕ) (choices : List ℕ) (top : Level × SourceProcess) → IsAhead cells choices ahead.now top
+        → IsAncestryOf (top_after ahead.now.image.now choices ahead.now.process top) activations.items) }
+{
+    let top = top_level(ahead.machine, ahead.process);
+    ancestors(alloc, ahead.machine, top.key)
+}
+
+// The top activation of process p; 0 where it doesn't live.
+fn top_activation(machine: &Machine, p: u64) -> u64
+    requires { (program : Units) × (cells : ℕ) × (choices : List ℕ) × IsMachineAfter program cells choices machine.now }
+    ensures { (program : Units) (cells : ℕ) (choices : List ℕ) → IsMachineAfter program cells choices machine.now
+        → result ≡ activation_on (living (run program choices) p) }
+{
+    if !machine.lives(p) {
+        return 0;
+    }
+    machine.frames.activation(top_level(machine, p).key)
+}
+
+// Activation a has a key.
+fn has_key(keys: &[Option<usize>], a: u64) -> bool
+    ensures { (program : Units) (cells : ℕ) (choices : List ℕ) (m : AMachine) → IsMachineAfter program cells choices m
+        → AreHeldKeys (snapshot_of m) keys.now → result ≡ is_held (run program choices) a }
+{
+    if a == 0 {
+        return false;
+    }
+    match keys.get((a - 1) as usize) {
+        Some(key) => key.is_some(),
+        None => false,
+    }
+}
+
+// Adds an activation, unless it is held.
+fn add_freed(numbers: &mut Vec<u64>, keys: &[Option<usize>], a: u64) -> Result<(), AllocError>
+    ensures { OnOk result ((program : Units) (cells : ℕ) (choices : List ℕ) (m : AMachine) → IsMachineAfter program cells choices m
+        → AreHeldKeys (snapshot_of m) keys.now
+        → numbers.new.items ≡ numbers.old.items ++ filter (λ b. not (is_held (run program choices) b)) (a ∷ [])) }
+{
+    if !has_key(keys, a) {
+        numbers.push(a)?;
+    }
+    Ok(())
+}
+
+// Those of some activations that aren't held, the last one first.
+//
+// This costs a step for each activation that was made.
+fn unheld(alloc: Global, core: &Core, activations: &[u64]) -> Result<Vec<u64>, AllocError>
+    ensures { IfOk result (λ numbers. numbers.items ≡ reverse (filter (λ a. not (is_held (state_of core.now) a)) activations.now)) }
+{
+    let keys = held_keys(alloc, core.machine())?;
+    let mut numbers = Vec::new(alloc);
+    for number in activations {
+        add_freed(&mut numbers, &keys, *number)?;
+    }
+    numbers.reverse();
+    Ok(numbers)
+}
+
+// The top activation of process p is the first one of these or one that was made later.
+fn goes_on(core: &Core, p: u64, activations: &[u64]) -> bool
+    ensures { (a : ℕ) → slice_get activations.now 0 ≡ Some a → result ≡ nat_le a (activation_on (living (state_of core.now) p)) }
+{
+    match activations.first() {
+        Some(first) => *first <= top_activation(core.machine(), p),
+        None => false,
+    }
+}
+
+/// Appends the activations whose frames a turn of process p gave back, whose top activation before it was the first of these, with its ancestry.
+///
+/// This costs a step for each activation that was made, where the top activation has ended, and else a constant time.
+///
+/// # Errors
+///
+/// Only where memory was refused.
+pub fn append_freed_of(
+    alloc: Global,
+    text: &mut Vec<u8>,
+    core: &Core,
+    p: u64,
+    activations: &[u64],
+) -> Result<(), AllocError>
+    requires { (old : CoreValue) × (top : Level × SourceProcess) × IsFreeing old p top activations.now core.now }
+    ensures { OnOk result ((old : CoreValue) (top : Level × SourceProcess) → IsFreeing old p top activations.now core.now
+        → text.new.items ≡ text.old.items ++ lines.all_freed_text (freed (state_of old) (state_of core.now))) }
+{
+    if goes_on(core, p, activations) {
+        return Ok(());
+    }
+    let numbers = unheld(alloc, core, activations)?;
+    append_freed(text, &numbers)
+}
