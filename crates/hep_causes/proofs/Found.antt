@@ -1,10 +1,10 @@
 -- From watches, for which nothing is known, to reasons.
-use Rattle.std.proofs.Common.{◌≡◌, ℕ, zero, suc, ◌&&◌, Bool, true, false, true≢false, List, [], ◌∷◌, ◌++◌, length, map, not, replicate, Option, Some, None, refl, sym, ap, ◌∙◌, subst, arith, IsSome, if◌then◌else◌, nat_le, slice_get}
+use Rattle.std.proofs.Common.{◌≡◌, ℕ, zero, suc, ◌+◌, ◌≤◌, ◌&&◌, Bool, true, false, true≢false, List, [], ◌∷◌, ◌++◌, length, length-append, map, not, replicate, Option, Some, None, refl, sym, ap, ◌∙◌, subst, arith, IsSome, if◌then◌else◌, nat_le, slice_get}
 use Rattle.std.specs.Option.{option_map, option_to_list}
-use Rattle.std.proofs.lemmas.List.{length-map, map-append}
+use Rattle.std.proofs.lemmas.List.{length-map, length-replicate, map-append}
 use Rattle.std.proofs.lemmas.Option.{none-some, same_Some, slice_get-map}
-use Rattle.hep_core.proofs.Histories.{few-steps, number-listed, schedule-none, state-is}
-use Rattle.hep_core.specs.Value.{AreSingle, CoreValue, listed_after, state_of}
+use Rattle.hep_core.proofs.Histories.{number-listed, schedule-none, state-is}
+use Rattle.hep_core.specs.Value.{CoreValue, listed_after, state_of}
 use Rattle.hep_history.proofs.Turns.{expand_singles, state_singles}
 use Rattle.hep_history.specs.Replays.{most_entries, single_entries, single_steps, standing}
 use Rattle.hep_layout.proofs.HeldFrames.{opening-is}
@@ -51,6 +51,19 @@ module _ (program : Units) where
   all-listed es p zero = refl
   all-listed es p (suc n) = λ i. option_to_list (listed-singles es p i) ++ all-listed es (suc p) n i
 
+-- each of them has one step at most
+some-singles : (p n : ℕ) → n ≤ length (single_steps p n)
+some-singles p zero = omega arith
+some-singles p (suc n) = omega (arith, length-replicate (suc n) (one p))
+
+few-singles : (es : List Entry) → length (schedule_of es) ≤ length (single_entries es)
+unfolding schedule_of
+few-singles [] = omega arith
+few-singles (e ∷ es) =
+    let turns : length (schedule_of (e ∷ es)) ≡ length (replicate e.steps e.process) + length (schedule_of es) = length-append (replicate e.steps e.process) (schedule_of es) in
+    let entries : length (single_entries (e ∷ es)) ≡ length (single_steps e.process e.steps) + length (single_entries es) = length-append (single_steps e.process e.steps) (single_entries es) in
+    omega (arith, turns, entries, few-singles es, some-singles e.process e.steps, length-replicate e.steps e.process)
+
 -- ---- turns
 
 processes-alike : (n k p : ℕ) → processes (replicate n (k, p)) ≡ replicate n p
@@ -88,7 +101,7 @@ module _ (core : CoreValue) (entries : List Entry) (h : IsReplayed core entries)
   pub state-is-so : state_of core ≡ state_after core.program entries
   state-is-so = ap (state_after core.program) history-is ∙ state_singles core.program entries
 
-  module _ (legal : IsLegal core.program core.cells core.limit core.history) (single : AreSingle core.history) where
+  module _ (legal : IsLegal core.program core.cells core.limit core.history) where
     laid : IsSome (layout_of core.program core.cells is_held (processes all))
     laid = subst (λ ps. IsSome (layout_of core.program core.cells is_held ps)) same-turns legal.room
 
@@ -148,7 +161,7 @@ module _ (core : CoreValue) (entries : List Entry) (h : IsReplayed core entries)
           steps = subst (λ (s : State). AreSteps core.program s (processes all)) (sym (opened core.program)) (
               subst (AreSteps core.program (opening core.program)) same-turns (legal_steps core.program core.cells core.limit core.history legal));
           laid = laid;
-          few = omega (arith, few-steps core.history single, legal.within, limit-is, ap length same-turns, length-map all (λ (t : ℕ × ℕ). t.1));
+          few = omega (arith, few-singles entries, ap length history-is, legal.within, limit-is, ap length (processes-all 1 entries), length-map all (λ (t : ℕ × ℕ). t.1));
           each = each;
         })
       where

@@ -14,7 +14,7 @@ use std::alloc::{AllocError, Global};
 
 // Process p, if it was found waiting and waits since.
 fn watch_of(core: &Core, p: u64) -> Option<Watch>
-    ensures { IsWatchOf core.now p result }
+    ensures { IsWatchOf core.now.core p result }
 {
     match core.want(p) {
         Some(want) => Some(Watch {
@@ -30,9 +30,9 @@ fn watch_of(core: &Core, p: u64) -> Option<Watch>
 // Adds process p, if it was found waiting and waits since.
 fn add_watch(watches: &mut Vec<Watch>, core: &Core, p: u64) -> Result<(), AllocError>
     ensures listed { OnOk result (map (λ w. w.listed) watches.new.items
-        ≡ map (λ w. w.listed) watches.old.items ++ option_to_list (listed_after core.now.program core.now.history p)) }
-    ensures each { OnOk result (AreNewWatches core.now.program core.now.cells (schedule_of core.now.history) watches.old.items
-        → AreNewWatches core.now.program core.now.cells (schedule_of core.now.history) watches.new.items) }
+        ≡ map (λ w. w.listed) watches.old.items ++ option_to_list (listed_after core.now.core.program core.now.core.history p)) }
+    ensures each { OnOk result (AreNewWatches core.now.core.program core.now.core.cells (schedule_of core.now.core.history) watches.old.items
+        → AreNewWatches core.now.core.program core.now.core.cells (schedule_of core.now.core.history) watches.new.items) }
 {
     match watch_of(core, p) {
         Some(watch) => {
@@ -50,8 +50,8 @@ fn add_watch(watches: &mut Vec<Watch>, core: &Core, p: u64) -> Result<(), AllocE
 /// Only where memory was refused.
 pub(crate) fn all_watches(alloc: Global, core: &Core) -> Result<Vec<Watch>, AllocError>
     ensures listed { IfOk result (λ watches. map (λ w. w.listed) watches.items
-        ≡ listed_from core.now.program core.now.history 1 (length (state_of core.now).processes)) }
-    ensures each { IfOk result (λ watches. AreNewWatches core.now.program core.now.cells (schedule_of core.now.history) watches.items) }
+        ≡ listed_from core.now.core.program core.now.core.history 1 (length (state_of core.now.core).processes)) }
+    ensures each { IfOk result (λ watches. AreNewWatches core.now.core.program core.now.core.cells (schedule_of core.now.core.history) watches.items) }
 {
     let mut watches = Vec::new(alloc);
     for index in 0..core.made() {
@@ -62,7 +62,7 @@ pub(crate) fn all_watches(alloc: Global, core: &Core) -> Result<Vec<Watch>, Allo
 
 /// The next step of process p, which is told by an entry, as a change.
 pub(crate) fn change_by(core: &Core, p: u64, entry: u64) -> Option<Change>
-    ensures { result ≡ words.change_by core.now.program entry p (state_of core.now) }
+    ensures { result ≡ words.change_by core.now.core.program entry p (state_of core.now.core) }
 {
     match core.whereabouts(p) {
         Some(place) => Some(Change { entry, place }),
@@ -72,15 +72,15 @@ pub(crate) fn change_by(core: &Core, p: u64, entry: u64) -> Option<Change>
 
 /// How many activations were made.
 pub(crate) fn activations(core: &Core) -> u64
-    ensures { result ≡ length (state_of core.now).activations }
+    ensures { result ≡ length (state_of core.now.core).activations }
 {
     core.machine().activations
 }
 
 // Whether the storage unit is full that is kept in a cell.
 fn is_full(core: &Core, cell: u32) -> bool
-    requires { (at : Location) × IsKeptIn core.now at cell }
-    ensures { (at : Location) → IsKeptIn core.now at cell → result ≡ ((state_of core.now).store at).full }
+    requires { (at : Location) × IsKeptIn core.now.core at cell }
+    ensures { (at : Location) → IsKeptIn core.now.core at cell → result ≡ ((state_of core.now.core).store at).full }
 {
     core.machine().frames.get(cell).full
 }
@@ -98,8 +98,8 @@ fn latest(watch: Watch, made: u64, full: bool, change: Option<Change>) -> Option
 
 // A watch that has looked at its storage unit.
 fn look_once(core: &Core, watch: Watch, made: u64, change: Option<Change>) -> Watch
-    requires { (at : Location) × IsKeptOnceThere core.now watch at }
-    ensures { (at : Location) → IsKeptOnceThere core.now watch at → result ≡ looked (state_of core.now) at made change watch }
+    requires { (at : Location) × IsKeptOnceThere core.now.core watch at }
+    ensures { (at : Location) → IsKeptOnceThere core.now.core watch at → result ≡ looked (state_of core.now.core) at made change watch }
 {
     let made_now = activations(core);
     if made_now < watch.listed.owner {
@@ -116,8 +116,8 @@ fn look_once(core: &Core, watch: Watch, made: u64, change: Option<Change>) -> Wa
 
 /// Looks at the storage units of all watches after a step, before which so many activations were made, and which is this as a change.
 pub(crate) fn look(core: &Core, watches: &mut Vec<Watch>, made: u64, change: Option<Change>)
-    requires { AreKeptOnceThere core.now watches.old.items }
-    ensures { HaveLooked core.now made change watches.old.items watches.new.items }
+    requires { AreKeptOnceThere core.now.core watches.old.items }
+    ensures { HaveLooked core.now.core made change watches.old.items watches.new.items }
 {
     for index in 0..watches.len() {
         watches[index] = look_once(core, watches[index], made, change);

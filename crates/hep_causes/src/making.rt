@@ -19,8 +19,8 @@ use std::alloc::AllocError;
 ///
 /// Only where memory was refused.
 pub fn step(core: &mut Core, p: u64) -> Result<(), AllocError>
-    requires { CanTurn core.old p }
-    ensures { OnOk result (core.new ≡ longer core.old (turn_entry p false ∷ [])) }
+    requires { CanTurn core.old.core p }
+    ensures { OnOk result (core.new.core ≡ longer core.old.core (turn_entry p false ∷ [])) }
 {
     match core.choose(p) {
         Ok(_) => Ok(()),
@@ -38,9 +38,9 @@ fn make_turn(
     p: u64,
     entry: u64,
 ) -> Result<(), AllocError>
-    requires { (whole : Whole) × (left : List (ℕ × ℕ)) × AreAlong whole core.old ((entry, p) ∷ left) watches.old.items }
-    ensures along { OnOk result ((whole : Whole) (left : List (ℕ × ℕ)) → AreAlong whole core.old ((entry, p) ∷ left) watches.old.items
-        → AreAlong whole core.new left watches.new.items) }
+    requires { (whole : Whole) × (left : List (ℕ × ℕ)) × AreAlong whole core.old.core ((entry, p) ∷ left) watches.old.items }
+    ensures along { OnOk result ((whole : Whole) (left : List (ℕ × ℕ)) → AreAlong whole core.old.core ((entry, p) ∷ left) watches.old.items
+        → AreAlong whole core.new.core left watches.new.items) }
     ensures same { OnOk result (WaitTheSame watches.old.items watches.new.items) }
 {
     let made = activations(core);
@@ -57,9 +57,9 @@ fn make_entry(
     number: u64,
     entry: Entry,
 ) -> Result<(), AllocError>
-    requires { (whole : Whole) × (left : List (ℕ × ℕ)) × AreAlong whole core.old (turns_of number entry ++ left) watches.old.items }
-    ensures along { OnOk result ((whole : Whole) (left : List (ℕ × ℕ)) → AreAlong whole core.old (turns_of number entry ++ left) watches.old.items
-        → AreAlong whole core.new left watches.new.items) }
+    requires { (whole : Whole) × (left : List (ℕ × ℕ)) × AreAlong whole core.old.core (turns_of number entry ++ left) watches.old.items }
+    ensures along { OnOk result ((whole : Whole) (left : List (ℕ × ℕ)) → AreAlong whole core.old.core (turns_of number entry ++ left) watches.old.items
+        → AreAlong whole core.new.core left watches.new.items) }
     ensures same { OnOk result (WaitTheSame watches.old.items watches.new.items) }
 {
     for _ in 0..entry.steps {
@@ -70,9 +70,9 @@ fn make_entry(
 
 // Turns of process p, up to so many, and how many were made: as many as fill and empty nothing, and else one.
 fn go_on(core: &mut Core, p: u64, most: u64) -> Result<u64, AllocError>
-    requires can { CanTurn core.old p }
+    requires can { CanTurn core.old.core p }
     requires some { 1 ≤ most }
-    ensures moved { IfOk result (λ made. HasMoved core.old p made core.new) }
+    ensures moved { IfOk result (λ made. HasMoved core.old.core p made core.new.core) }
     ensures some { IfOk result (λ made. 1 ≤ made) }
     ensures few { IfOk result (λ made. made ≤ most) }
 {
@@ -93,9 +93,9 @@ fn make_turns(
     entry: u64,
     most: u64,
 ) -> Result<u64, AllocError>
-    requires { (whole : Whole) × (ts : List (ℕ × ℕ)) × (left : List (ℕ × ℕ)) × AreTurnsOf p entry most ts × AreAlong whole core.old (ts ++ left) watches.old.items }
+    requires { (whole : Whole) × (ts : List (ℕ × ℕ)) × (left : List (ℕ × ℕ)) × AreTurnsOf p entry most ts × AreAlong whole core.old.core (ts ++ left) watches.old.items }
     ensures along { IfOk result (λ made. (whole : Whole) (ts left : List (ℕ × ℕ)) → AreTurnsOf p entry most ts
-        → AreAlong whole core.old (ts ++ left) watches.old.items → AreAlong whole core.new (drop made ts ++ left) watches.new.items) }
+        → AreAlong whole core.old.core (ts ++ left) watches.old.items → AreAlong whole core.new.core (drop made ts ++ left) watches.new.items) }
     ensures same { OnOk result (WaitTheSame watches.old.items watches.new.items) }
     ensures some { IfOk result (λ made. 1 ≤ made) }
     ensures few { IfOk result (λ made. made ≤ most) }
@@ -115,10 +115,10 @@ fn make_row(
     number: u64,
     count: u64,
 ) -> Result<(), AllocError>
-    requires along { (whole : Whole) × (left : List (ℕ × ℕ)) × AreAlong whole core.old (turns_in_row number p count ++ left) watches.old.items }
+    requires along { (whole : Whole) × (left : List (ℕ × ℕ)) × AreAlong whole core.old.core (turns_in_row number p count ++ left) watches.old.items }
     requires few { number + count < 2 ^ 64 }
-    ensures along { OnOk result ((whole : Whole) (left : List (ℕ × ℕ)) → AreAlong whole core.old (turns_in_row number p count ++ left) watches.old.items
-        → AreAlong whole core.new left watches.new.items) }
+    ensures along { OnOk result ((whole : Whole) (left : List (ℕ × ℕ)) → AreAlong whole core.old.core (turns_in_row number p count ++ left) watches.old.items
+        → AreAlong whole core.new.core left watches.new.items) }
     ensures same { OnOk result (WaitTheSame watches.old.items watches.new.items) }
 {
     let mut made = 0;
@@ -135,10 +135,10 @@ fn make_run(
     number: u64,
     run: Run,
 ) -> Result<(), AllocError>
-    requires along { (whole : Whole) × (left : List (ℕ × ℕ)) × AreAlong whole core.old (turns_from number (replicate run.count (entry_of run)) ++ left) watches.old.items }
+    requires along { (whole : Whole) × (left : List (ℕ × ℕ)) × AreAlong whole core.old.core (turns_from number (replicate run.count (entry_of run)) ++ left) watches.old.items }
     requires few { number + run.count < 2 ^ 64 }
-    ensures along { OnOk result ((whole : Whole) (left : List (ℕ × ℕ)) → AreAlong whole core.old (turns_from number (replicate run.count (entry_of run)) ++ left) watches.old.items
-        → AreAlong whole core.new left watches.new.items) }
+    ensures along { OnOk result ((whole : Whole) (left : List (ℕ × ℕ)) → AreAlong whole core.old.core (turns_from number (replicate run.count (entry_of run)) ++ left) watches.old.items
+        → AreAlong whole core.new.core left watches.new.items) }
     ensures same { OnOk result (WaitTheSame watches.old.items watches.new.items) }
 {
     if run.steps == 1 {
@@ -161,9 +161,9 @@ pub(crate) fn make_entries(
     watches: &mut Vec<Watch>,
     entries: &History,
 ) -> Result<(), AllocError>
-    requires { (whole : Whole) × AreAlong whole core.old (turns_from 1 entries.now.items) watches.old.items }
-    ensures along { OnOk result ((whole : Whole) → AreAlong whole core.old (turns_from 1 entries.now.items) watches.old.items
-        → AreAlong whole core.new [] watches.new.items) }
+    requires { (whole : Whole) × AreAlong whole core.old.core (turns_from 1 entries.now.items) watches.old.items }
+    ensures along { OnOk result ((whole : Whole) → AreAlong whole core.old.core (turns_from 1 entries.now.items) watches.old.items
+        → AreAlong whole core.new.core [] watches.new.items) }
     ensures same { OnOk result (WaitTheSame watches.old.items watches.new.items) }
 {
     let mut runs = entries.runs();

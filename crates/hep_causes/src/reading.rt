@@ -22,8 +22,8 @@ use std::alloc::{AllocError, Global};
 ///
 /// Only where memory was refused.
 pub fn begin_again(alloc: Global, core: &Core, entries: &History) -> Result<Core, AllocError>
-    requires { IsReplayed core.now entries.now.items }
-    ensures { IfOk result (λ again. again ≡ standing core.now.program core.now.cells []) }
+    requires { IsReplayed core.now.core entries.now.items }
+    ensures { IfOk result (λ again. again.core ≡ standing core.now.core.program core.now.core.cells []) }
 {
     let image = core.image().copy(alloc)?;
     match Core::new(alloc, image, core.cells(), MOST_ENTRIES) {
@@ -40,9 +40,9 @@ fn find_changes(
     watches: &mut Vec<Watch>,
     entries: &History,
 ) -> Result<(), AllocError>
-    requires replayed { IsReplayed core.now entries.now.items }
-    requires watches { AreNewWatches core.now.program core.now.cells (schedule_of core.now.history) watches.old.items }
-    ensures found { OnOk result (AreFound core.now entries.now.items watches.new.items) }
+    requires replayed { IsReplayed core.now.core entries.now.items }
+    requires watches { AreNewWatches core.now.core.program core.now.core.cells (schedule_of core.now.core.history) watches.old.items }
+    ensures found { OnOk result (AreFound core.now.core entries.now.items watches.new.items) }
     ensures same { OnOk result (WaitTheSame watches.old.items watches.new.items) }
 {
     if watches.is_empty() {
@@ -57,7 +57,7 @@ fn find_changes(
 
 // Why the process of a watch waits.
 fn reason_for(core: &Core, watch: &Watch) -> Reason
-    ensures { result ≡ words.reason_with (state_of core.now) watch.now.listed watch.now.latest }
+    ensures { result ≡ words.reason_with (state_of core.now.core) watch.now.listed watch.now.latest }
 {
     let lives = match watch.latest {
         Some(change) => core.lives(change.place.process),
@@ -71,7 +71,7 @@ fn reason_for(core: &Core, watch: &Watch) -> Reason
 }
 
 fn reasons_for(alloc: Global, core: &Core, watches: &[Watch]) -> Result<Vec<Reason>, AllocError>
-    ensures { IfOk result (λ reasons. reasons.items ≡ all_reasons (state_of core.now) watches.now) }
+    ensures { IfOk result (λ reasons. reasons.items ≡ all_reasons (state_of core.now.core) watches.now) }
 {
     let mut reasons = Vec::new(alloc);
     for watch in watches {
@@ -82,8 +82,8 @@ fn reasons_for(alloc: Global, core: &Core, watches: &[Watch]) -> Result<Vec<Reas
 
 // Why processes wait after the history of a core that has made these entries.
 fn find_reasons(alloc: Global, core: &Core, entries: &History) -> Result<Vec<Reason>, AllocError>
-    requires { IsReplayed core.now entries.now.items }
-    ensures { IfOk result (λ reasons. reasons.items ≡ words.reasons_of core.now.program entries.now.items) }
+    requires { IsReplayed core.now.core entries.now.items }
+    ensures { IfOk result (λ reasons. reasons.items ≡ words.reasons_of core.now.core.program entries.now.items) }
 {
     let mut watches = all_watches(alloc, core)?;
     find_changes(alloc, core, &mut watches, entries)?;
@@ -97,8 +97,8 @@ fn find_reasons(alloc: Global, core: &Core, entries: &History) -> Result<Vec<Rea
 ///
 /// Only where memory was refused.
 pub fn why_text(alloc: Global, core: &Core, entries: &History) -> Result<Vec<u8>, AllocError>
-    requires { IsReplayed core.now entries.now.items }
-    ensures { IfOk result (λ text. text.items ≡ words.why_text core.now.program entries.now.items) }
+    requires { IsReplayed core.now.core entries.now.items }
+    ensures { IfOk result (λ text. text.items ≡ words.why_text core.now.core.program entries.now.items) }
 {
     let reasons = find_reasons(alloc, core, entries)?;
     let mut text = Vec::new(alloc);

@@ -41,14 +41,14 @@ fn make_alike(
     first: usize,
     end: usize,
 ) -> Result<(), Halt>
-    requires running { IsRunning options.now core.old }
-    requires behind { core.old.stop ≡ None → length core.old.history ≡ first }
+    requires running { IsRunning options.now core.old.core }
+    requires behind { core.old.core.stop ≡ None → length core.old.core.history ≡ first }
     requires before { first ≤ end }
     requires alike { (k : ℕ) → first ≤ k → k < end → slice_get options.now.choices k ≡ Some process }
-    ensures program { core.new.program ≡ core.old.program }
-    ensures running { OnOk result (IsRunning options.now core.new) }
-    ensures made { OnOk result (core.new.stop ≡ None → length core.new.history ≡ end) }
-    ensures halted { IfErr result (IsHaltedBy options.now core.new) }
+    ensures program { core.new.core.program ≡ core.old.core.program }
+    ensures running { OnOk result (IsRunning options.now core.new.core) }
+    ensures made { OnOk result (core.new.core.stop ≡ None → length core.new.core.history ≡ end) }
+    ensures halted { IfErr result (IsHaltedBy options.now core.new.core) }
 {
     let mut index = first;
     while index < end {
@@ -65,13 +65,13 @@ fn make_alike(
 
 // Makes the choices in order, until a stop.
 fn make_choices(core: &mut Core, options: &Options) -> Result<(), Halt>
-    requires opening { core.old.history ≡ [] }
-    requires running { IsRunning options.now core.old }
-    ensures program { core.new.program ≡ core.old.program }
-    ensures running { OnOk result (IsRunning options.now core.new) }
-    ensures made { OnOk result (core.new.stop ≡ None
-        → length options.now.choices ≤ length core.new.history) }
-    ensures halted { IfErr result (IsHaltedBy options.now core.new) }
+    requires opening { core.old.core.history ≡ [] }
+    requires running { IsRunning options.now core.old.core }
+    ensures program { core.new.core.program ≡ core.old.core.program }
+    ensures running { OnOk result (IsRunning options.now core.new.core) }
+    ensures made { OnOk result (core.new.core.stop ≡ None
+        → length options.now.choices ≤ length core.new.core.history) }
+    ensures halted { IfErr result (IsHaltedBy options.now core.new.core) }
 {
     let choices = options.choices.as_slice();
     let mut first = 0;
@@ -86,7 +86,7 @@ fn make_choices(core: &mut Core, options: &Options) -> Result<(), Halt>
 // How often the process that comes next is chosen at once: the one that came last comes next only where no other is ready.
 fn most_at_once(core: &Core, process: u64) -> u64
     ensures some { 1 ≤ result }
-    ensures alone { 2 ≤ result → last_process core.now.history ≡ process }
+    ensures alone { 2 ≤ result → last_process core.now.core.history ≡ process }
 {
     if process == core.last_process() {
         MOST_AT_ONCE
@@ -97,14 +97,14 @@ fn most_at_once(core: &Core, process: u64) -> u64
 
 // Chooses in rounds, where several processes are ready.
 fn go_round(core: &mut Core, options: &Options, most: u64)
-    requires running { IsRunning options.now core.old }
-    requires made { core.old.stop ≡ None
-        → length options.now.choices ≤ length core.old.history }
-    ensures program { core.new.program ≡ core.old.program }
-    ensures running { IsRunning options.now core.new }
-    ensures made { core.new.stop ≡ None
-        → length options.now.choices ≤ length core.new.history }
-    ensures more { (core.new.limit ≡ core.old.limit) × (length core.old.history ≤ length core.new.history) }
+    requires running { IsRunning options.now core.old.core }
+    requires made { core.old.core.stop ≡ None
+        → length options.now.choices ≤ length core.old.core.history }
+    ensures program { core.new.core.program ≡ core.old.core.program }
+    ensures running { IsRunning options.now core.new.core }
+    ensures made { core.new.core.stop ≡ None
+        → length options.now.choices ≤ length core.new.core.history }
+    ensures more { (core.new.core.limit ≡ core.old.core.limit) × (length core.old.core.history ≤ length core.new.core.history) }
 {
     if most == 1 {
         core.go_round(u64::MAX);
@@ -113,13 +113,13 @@ fn go_round(core: &mut Core, options: &Options, most: u64)
 
 // Chooses what is ready, until nothing is or the run stops.
 fn run_on(core: &mut Core, options: &Options) -> Result<(), AllocError>
-    requires running { IsRunning options.now core.old }
-    requires made { core.old.stop ≡ None
-        → length options.now.choices ≤ length core.old.history }
-    ensures program { core.new.program ≡ core.old.program }
-    ensures running { OnOk result (IsRunning options.now core.new) }
-    ensures over { OnOk result (core.new.stop ≡ None
-        → next_process core.new.program options.now.choices core.new.history ≡ None) }
+    requires running { IsRunning options.now core.old.core }
+    requires made { core.old.core.stop ≡ None
+        → length options.now.choices ≤ length core.old.core.history }
+    ensures program { core.new.core.program ≡ core.old.core.program }
+    ensures running { OnOk result (IsRunning options.now core.new.core) }
+    ensures over { OnOk result (core.new.core.stop ≡ None
+        → next_process core.new.core.program options.now.choices core.new.core.history ≡ None) }
 {
     while let Some(process) = core.next_ready() {
         let most = most_at_once(core, process);
@@ -141,8 +141,8 @@ fn run_transcript(
     options: &Options,
     long: bool,
 ) -> Result<Transcript, AllocError>
-    requires { core ≡ opening_of core.program options.now.arena options.now.steps }
-    ensures { IfOk result (λ r. IsRunOutcome long core.program options.now (outcome_of r)) }
+    requires { core.core ≡ opening_of core.core.program options.now.arena options.now.steps }
+    ensures { IfOk result (λ r. IsRunOutcome long core.core.program options.now (outcome_of r)) }
 {
     let mut core = core;
     match make_choices(&mut core, options) {

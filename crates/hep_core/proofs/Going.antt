@@ -16,15 +16,15 @@ use Rattle.hep_state.specs.declared.machine.Machine.{Machine}
 use Rattle.hep_state.specs.Words.{IsMachineAfter, snapshot_of}
 use Rattle.hep_going.specs.Gone.{HasGone, IsPlainTurn, none, more}
 use Rattle.hep_core.specs.Going.{AreChoices, AreMoves, AreRounds, CanMove, IsPlainChoice, again, begun, entries_along, goes_round, started}
-use Rattle.hep_core.specs.Invariant.{AreLiving, CoreInvariant, core_value}
+use Rattle.hep_core.specs.Invariant.{AreFew, AreLiving, CoreInvariant, core_value}
 use Rattle.hep_core.specs.Tickets.{is_out}
-use Rattle.hep_core.specs.Value.{AreSingle, CoreValue, HasNoStop, IsChoice, IsStop, free_of, next_ready_of, ready_of, stop_after}
+use Rattle.hep_core.specs.Value.{CoreValue, HasNoStop, IsChoice, IsStop, free_of, next_ready_of, ready_of, stop_after}
 use Rattle.hep_core.specs.declared.stop.ChoiceStop.TheVariants.{Halted}
 use Rattle.hep_core.specs.declared.scheduler.Core.TheInside.{Inside}
-use Rattle.hep_core.specs.declared.ticket.TicketId.{TicketId}
+use Rattle.hep_segments.specs.declared.ticket.TicketId.{TicketId}
 use Rattle.hep_core.proofs.Histories.{legal-stepped, state-is}
 use Rattle.hep_core.proofs.Outs.{all_free}
-use Rattle.hep_core.proofs.Kept.{AreSeen, halted-is, listed-next, living-next, next, schedule-next, single-next, state-next, steps-on, view-is}
+use Rattle.hep_core.proofs.Kept.{AreSeen, halted-is, listed-next, living-next, next, few-next, schedule-next, state-next, steps-on, view-is}
 
 -- the law of lists that go along with a step
 abbrev pub GoAlong : Type 0
@@ -73,7 +73,7 @@ module _ (law : GoAlong) (program : Units) (cells limit p : ℕ) (waiting : ℕ 
     pub layout : Layout
     pub laid : layout_of program cells is_held (schedule_of es) ≡ Some layout
     pub listed : AreListed program cells (schedule_of es) (progress_after program es) waiting ready
-    pub single : AreSingle es
+    pub few : AreFew program es
     pub legal : length es ≤ limit → IsLegal program cells limit es
     pub living : AreLiving program es out
 
@@ -91,7 +91,7 @@ module _ (law : GoAlong) (program : Units) (cells limit p : ℕ) (waiting : ℕ 
         layout = is.layout;
         laid = laid;
         listed = listed-next program cells es p es' refl made waiting ready far.listed.state lists;
-        single = single-next program cells es p es' refl made far.single;
+        few = few-next program cells es p es' refl made far.few;
         legal = λ le. legal-stepped program cells limit es p (next program cells es p es' refl made) (far.legal (omega (arith, le, length-append es (one ∷ [])))) (omega (arith, le, length-append es (one ∷ [])))
             (some-there (layout_of program cells is_held (schedule_of es')) is.layout laid) (steps-on program cells es p es' refl made);
         living = living-next program cells es p es' refl made out home far.living;
@@ -138,7 +138,7 @@ module _ (law : GoAlong) (i : Inside) (p : ℕ) (k : CoreInvariant i) (running :
   h = i.history.items
 
   start : Far law i.image i.cells i.limit p (want_of i.roster.waiting) i.roster.ready i.out.items home h
-  start = record { layout = k.after.after.layout; laid = k.after.after.laid; listed = k.listed; single = k.single; legal = λ within. k.legal; living = k.living }
+  start = record { layout = k.after.after.layout; laid = k.after.after.laid; listed = k.listed; few = k.few; legal = λ within. k.legal; living = k.living }
 
   come : (n : ℕ) (after : List ℕ) → HasGone i.image i.cells p (schedule_of h) n after → HasCome law i.image i.cells i.limit p (want_of i.roster.waiting) i.roster.ready i.out.items home h start n after
   come n after gone = come-so law i.image i.cells i.limit p (want_of i.roster.waiting) i.roster.ready i.out.items home h start n after gone
@@ -155,10 +155,11 @@ module _ (law : GoAlong) (i : Inside) (p : ℕ) (k : CoreInvariant i) (running :
         listed = far.listed;
         room = record { room = omega (arith, k.room.room, count); last = omega (arith, k.room.last, count) };
         legal = far.legal (omega (arith, room, ap length is, entries-more h p n));
-        single = far.single;
+        few = far.few;
         named = subst (λ stop. IsStop i.image i.cells i.limit history.items stop) (sym running) (sym (halted-is i.image i.cells history.items (snapshot_of machine) there.after) ∙ unhalted);
         living = far.living;
         tabled = k.tabled;
+        owned = k.owned;
       }
 
   -- each of its entries is of a choice

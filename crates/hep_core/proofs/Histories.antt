@@ -1,16 +1,19 @@
 -- A history with one entry more, and the processes that are listed after it, by rising numbers.
 use Rattle.std.proofs.Common.{◌≡◌, ◌≢◌, inl, inr, ℕ, true, zero, suc, ◌-◌, ◌<◌, ◌≤◌, List, [], ◌∷◌, ◌++◌, length, length-append, refl, sym, ap, ◌∙◌, subst, append_assoc, append-nil, arith, Option, Some, None, replicate, ◌+◌, Bool, false, IsSome, slice_get, if◌then◌else◌}
-use Rattle.std.proofs.lemmas.List.{length-replicate}
+use Rattle.std.proofs.lemmas.List.{replicate-append-replicate}
 use Rattle.std.proofs.lemmas.Option.{none-some, same_Some}
 use Rattle.std.specs.Option.{unwrap_or, option_or}
 use Rattle.hep_machine.specs.declared.event.Entry.{Entry}
-use Rattle.hep_machine.specs.Words.{Units, IsEntry, AreEntries, IsLegal, is_held, layout_of, opening, run, run_from, schedule_of_entry, schedule_of, state_after, state_after_turn, Progress, progress_after_entry, progress_after_step, progress_after_steps, progress_from, progress_after, last_process, State, Level, Process, is_waiting, step, Wanted, wanted_by, is_number_among, living}
+use Rattle.hep_machine.specs.Histories.{most_steps}
+use Rattle.hep_machine.specs.Words.{Units, AreSteps, IsEntry, AreEntries, IsLegal, is_held, layout_of, opening, run, run_from, schedule_of_entry, schedule_of, state_after, state_after_turn, Progress, progress_after_entry, progress_after_step, progress_after_steps, progress_from, progress_after, last_process, State, Level, Process, is_waiting, step, Wanted, wanted_by, is_number_among, living}
 use Rattle.hep_layout.proofs.HeldFrames.{run-last}
 use Rattle.hep_machine.proofs.Replays.{run_after}
 use Rattle.std.proofs.lemmas.Bool.{cases_lt}
 use Rattle.hep_views.specs.declared.listed.Listed.{Listed}
 use Rattle.hep_views.specs.Listed.{listed_by, listed_with}
-use Rattle.hep_core.specs.Value.{AreSingle, first_listed, listed_after}
+use Rattle.hep_core.specs.Going.{entries_along}
+use Rattle.hep_core.specs.Invariant.{AreFew}
+use Rattle.hep_core.specs.Value.{first_listed, listed_after}
 
 -- ---- the state
 
@@ -18,17 +21,10 @@ pub schedule-none : schedule_of [] ≡ []
 unfolding schedule_of
 schedule-none = refl
 
--- each entry has one step or none
-pub single-last : (es : List Entry) (e : Entry) → e.steps ≤ 1 → AreSingle es → AreSingle (es ++ e ∷ [])
-single-last [] e one single = (one, tt)
-single-last (x ∷ es) e one single = (single.0, single-last es e one single.1)
-
--- so there are no more steps than entries
-pub few-steps : (es : List Entry) → AreSingle es → length (schedule_of es) ≤ length es
-unfolding schedule_of
-few-steps [] single = omega arith
-few-steps (e ∷ es) single =
-    omega (arith, single.0, few-steps es single.1, length-append (replicate e.steps e.process) (schedule_of es), length-replicate e.steps e.process)
+-- there are one activation and one process at the opening
+pub few-none : (program : Units) → AreFew program []
+unfolding state_after run run_from schedule_of opening
+few-none program = record { activations = omega arith; processes = omega arith }
 
 schedule-last : (es : List Entry) (e : Entry) → schedule_of (es ++ e ∷ []) ≡ schedule_of es ++ (replicate e.steps e.process ++ [])
 unfolding schedule_of
@@ -47,7 +43,7 @@ pub state-is : (program : Units) (es : List Entry) → state_after program es �
 unfolding state_after
 state-is program es = refl
 
-turned : (program : Units) (es : List Entry) (p : ℕ) → state_after program (es ++ record { process = p; steps = 1 } ∷ []) ≡ state_after_turn program p (state_after program es)
+pub turned : (program : Units) (es : List Entry) (p : ℕ) → state_after program (es ++ record { process = p; steps = 1 } ∷ []) ≡ state_after_turn program p (state_after program es)
 unfolding state_after run run_from
 turned program es p = ap (run_from program (opening program)) (schedule-stepped es p) ∙ run_after program (opening program) (schedule_of es) (p ∷ [])
 
@@ -193,3 +189,92 @@ module _ (program : Units) (history : List Entry) where
     by-list : (b : Bool) → (if b then listed_by program p (state_after program history) else None) ≡ Some l → l.process ≡ p
     by-list true is = number-of p l (living (state_after program history) p) (wanted_by program p (state_after program history)) is
     by-list false is = absurd cc
+
+-- ---- an entry of several steps
+
+snoc : {A : Type 0} (n : ℕ) (x : A) → replicate n x ++ x ∷ [] ≡ replicate (suc n) x
+snoc n x = let next : n + 1 ≡ suc n = omega arith in replicate-append-replicate n 1 x ∙ ap (λ k. replicate k x) next
+
+-- so many entries of one step are the same turns
+pub schedule-along : (es : List Entry) (p n : ℕ) → schedule_of (entries_along es p n) ≡ schedule_of es ++ replicate n p
+schedule-along es p zero = sym (append-nil (schedule_of es))
+schedule-along es p (suc n) =
+    schedule-stepped (entries_along es p n) p
+    ∙ ap (λ ps. ps ++ p ∷ []) (schedule-along es p n)
+    ∙ append_assoc (schedule_of es) (replicate n p) (p ∷ [])
+    ∙ ap (λ ps. schedule_of es ++ ps) (snoc n p)
+
+pub schedule-several : (es : List Entry) (p n : ℕ) → schedule_of (es ++ record { process = p; steps = n } ∷ []) ≡ schedule_of es ++ replicate n p
+schedule-several es p n = schedule-last es (record { process = p; steps = n }) ∙ ap (λ ps. schedule_of es ++ ps) (append-nil (replicate n p))
+
+pub schedule-joined : (es : List Entry) (p n : ℕ) → schedule_of (es ++ record { process = p; steps = n } ∷ []) ≡ schedule_of (entries_along es p n)
+schedule-joined es p n = schedule-several es p n ∙ sym (schedule-along es p n)
+
+-- and list the same
+module _ (program : Units) where
+  steps-last : (x : Progress) (p n : ℕ)
+      → progress_after_steps program x p (suc n) ≡ progress_after_step program (progress_after_steps program x p n) p (state_after_turn program p (progress_after_steps program x p n).state)
+  steps-last x p zero = refl
+  steps-last x p (suc n) = steps-last (progress_after_step program x p (state_after_turn program p x.state)) p n
+
+  progress-along : (es : List Entry) (p n : ℕ) → progress_after program (entries_along es p n) ≡ progress_after_steps program (progress_after program es) p n
+  progress-along es p zero = refl
+  progress-along es p (suc n) =
+      progress-last program (entries_along es p n) (record { process = p; steps = 1 })
+      ∙ ap (λ (x : Progress). progress_after_step program x p (state_after_turn program p x.state)) (progress-along es p n)
+      ∙ sym (steps-last (progress_after program es) p n)
+
+  pub progress-joined : (es : List Entry) (p n : ℕ) → progress_after program (es ++ record { process = p; steps = suc n } ∷ []) ≡ progress_after program (entries_along es p (suc n))
+  progress-joined es p n = progress-last program es (record { process = p; steps = suc n }) ∙ sym (progress-along es p (suc n))
+
+  pub state-joined : (es : List Entry) (p n : ℕ) → state_after program (es ++ record { process = p; steps = n } ∷ []) ≡ state_after program (entries_along es p n)
+  state-joined es p n =
+      state-is program (es ++ record { process = p; steps = n } ∷ [])
+      ∙ ap (run program) (schedule-joined es p n)
+      ∙ sym (state-is program (entries_along es p n))
+
+  -- where they are steps, it is the state after these
+  pub state-several : (es : List Entry) (p n : ℕ) → state_after program (es ++ record { process = p; steps = n } ∷ []) ≡ run_from program (state_after program es) (replicate n p)
+  unfolding state_after run run_from
+  state-several es p n = ap (run_from program (opening program)) (schedule-several es p n) ∙ run_after program (opening program) (schedule_of es) (replicate n p)
+
+  pub legal-several : (cells limit : ℕ) (es : List Entry) (p n : ℕ) → IsLegal program cells limit es → length es < limit → IsSome (layout_of program cells is_held (schedule_of (es ++ record { process = p; steps = suc n } ∷ [])))
+      → suc n ≤ most_steps → AreSteps program (state_after program es) (replicate (suc n) p) → IsLegal program cells limit (es ++ record { process = p; steps = suc n } ∷ [])
+  unfolding state_after run
+  legal-several cells limit es p n h lt room few made = record {
+    within = omega (arith, lt, length-append es (let e : Entry = record { process = p; steps = suc n } in e ∷ []));
+    room = room;
+    entries = entries-last program es (record { process = p; steps = suc n }) (opening program) h.entries (inr (omega arith, few, made));
+  }
+
+  -- ---- one step more in it
+
+  pub schedule-further : (es : List Entry) (p n : ℕ) → schedule_of ((es ++ record { process = p; steps = n } ∷ []) ++ record { process = p; steps = 1 } ∷ []) ≡ schedule_of (es ++ record { process = p; steps = suc n } ∷ [])
+  schedule-further es p n =
+      schedule-stepped (es ++ record { process = p; steps = n } ∷ []) p
+      ∙ ap (λ ps. ps ++ p ∷ []) (schedule-several es p n)
+      ∙ append_assoc (schedule_of es) (replicate n p) (p ∷ [])
+      ∙ ap (λ ps. schedule_of es ++ ps) (snoc n p)
+      ∙ sym (schedule-several es p (suc n))
+
+  pub state-further : (es : List Entry) (p n : ℕ) → state_after program ((es ++ record { process = p; steps = n } ∷ []) ++ record { process = p; steps = 1 } ∷ []) ≡ state_after program (es ++ record { process = p; steps = suc n } ∷ [])
+  state-further es p n =
+      state-is program ((es ++ record { process = p; steps = n } ∷ []) ++ record { process = p; steps = 1 } ∷ [])
+      ∙ ap (run program) (schedule-further es p n)
+      ∙ sym (state-is program (es ++ record { process = p; steps = suc n } ∷ []))
+
+  pub progress-further : (es : List Entry) (p n : ℕ)
+      → progress_after program ((es ++ record { process = p; steps = suc n } ∷ []) ++ record { process = p; steps = 1 } ∷ []) ≡ progress_after program (es ++ record { process = p; steps = suc (suc n) } ∷ [])
+  progress-further es p n =
+      progress-last program (es ++ record { process = p; steps = suc n } ∷ []) (record { process = p; steps = 1 })
+      ∙ ap (λ (x : Progress). progress_after_step program x p (state_after_turn program p x.state)) (progress-last program es (record { process = p; steps = suc n }))
+      ∙ sym (steps-last (progress_after program es) p (suc n))
+      ∙ sym (progress-last program es (record { process = p; steps = suc (suc n) }))
+
+  steps-before : (p : ℕ) (s : State) (ps : List ℕ) → AreSteps program s ps → step program p (run_from program s ps) ≢ None → AreSteps program s (ps ++ p ∷ [])
+  unfolding run_from
+  steps-before p s [] made more = (more, tt)
+  steps-before p s (q ∷ ps) made more = (made.0, steps-before p (state_after_turn program q s) ps made.1 more)
+
+  pub steps-further : (s : State) (p n : ℕ) → AreSteps program s (replicate n p) → step program p (run_from program s (replicate n p)) ≢ None → AreSteps program s (replicate (suc n) p)
+  steps-further s p n made more = subst (AreSteps program s) (snoc n p) (steps-before p s (replicate n p) made more)

@@ -1,6 +1,6 @@
 -- What follows from what a machine keeps of the state after a history, and what a turn tells of what it touched, as the laws of lists ask for it.
-use Rattle.std.proofs.Common.{◌≡◌, ◌≢◌, ℕ, true, false, true≢false, ◌<◌, ◌≤◌, List, [], ◌∷◌, ◌++◌, length, length-append, arith, refl, sym, ap, ◌∙◌, subst, Option, Some, None, ◌+◌, zero, suc, Bool, Result, Err, IsSome, is_some, ◌||◌, slice_get}
-use Rattle.hep_machine.specs.Words.{Units, IsLegal, is_held, layout_of, Layout, opening, run, run_from, schedule_of, state_after, progress_after, progress_after_entry, progress_after_step, State, is_waiting, step, Wanted, wanted_by, view_of, is_number_among, living}
+use Rattle.std.proofs.Common.{◌≡◌, ◌≢◌, inl, inr, ℕ, true, false, true≢false, ◌<◌, ◌≤◌, List, [], ◌∷◌, ◌++◌, length, length-append, arith, refl, sym, ap, ◌∙◌, subst, Option, Some, None, ◌+◌, zero, suc, Bool, Result, Err, IsSome, is_some, ◌||◌, slice_get}
+use Rattle.hep_machine.specs.Words.{Units, IsLegal, is_held, layout_of, Layout, opening, run, run_from, schedule_of, state_after, progress_after, progress_after_entry, progress_after_step, State, state_after_turn, IsSameOrOneMore, is_waiting, step, Wanted, wanted_by, view_of, is_number_among, living}
 use Rattle.hep_machine.specs.declared.event.Entry.{Entry}
 use Rattle.hep_cells.specs.declared.want.Want.{Want}
 use Rattle.hep_blocked.specs.Listing.{AreListed, GoesAlong, GoesAlongEmptying, HasEmptied, IsBlocked, awake_by, awake_where, is_noted, is_woken, is_woken_where}
@@ -10,14 +10,16 @@ use Rattle.hep_entries.specs.Entries.{Kept}
 use Rattle.hep_state.specs.declared.machine.Machine.{Machine}
 use Rattle.hep_state.specs.Words.{IsMachineAfter, Snapshot, snapshot_of, IsAfter, HasWaited, HasPurged, HasTurned, HasLevels}
 use Rattle.hep_views.specs.Seen.{machine_view}
-use Rattle.hep_core.specs.Invariant.{AreLiving, CoreInvariant}
-use Rattle.hep_core.specs.Value.{AreSingle, IsStop, CoreValue, IsChoice}
+use Rattle.hep_core.specs.Invariant.{AreFew, AreLiving, CoreInvariant}
+use Rattle.hep_core.specs.Value.{IsStop, CoreValue, IsChoice}
 use Rattle.hep_core.specs.declared.scheduler.Core.TheInside.{Inside}
 use Rattle.hep_core.specs.declared.stop.ChoiceStop.{ChoiceStop}
-use Rattle.hep_core.specs.declared.ticket.TicketId.{TicketId}
+use Rattle.hep_segments.specs.declared.ticket.TicketId.{TicketId}
 use Rattle.hep_core.specs.Tickets.{is_out}
 use Rattle.hep_core.proofs.Staying.{living-stepped, living-waited}
-use Rattle.hep_core.proofs.Histories.{legal-stepped, legal-waited, progress-last, progress-stepped, schedule-stepped, schedule-waited, single-last, state-is, state-stepped}
+use Rattle.hep_core.proofs.Histories.{legal-stepped, legal-waited, progress-last, progress-stepped, schedule-stepped, schedule-waited, state-is, state-stepped, turned}
+use Rattle.hep_layout.proofs.HeldFrames.{run-last}
+use Rattle.hep_machine.proofs.Others.{activations_after, processes_after}
 use Rattle.hep_source.proofs.Tests.{some-there}
 use Rattle.hep_state.proofs.Numbered.{length-stacks}
 use Rattle.std.specs.Result.{IsErrAnd}
@@ -58,6 +60,12 @@ module _ (program : Units) (cells : ℕ) (history : List Entry) (m : Snapshot) (
   pub faults-are : m.faults ≡ (state_after program history).faults
   faults-are = after.shows.faults ∙ ap (λ (s : State). s.faults) (sym (state-is program history))
 
+  pub activations-are : m.activations ≡ length (state_after program history).activations
+  activations-are = after.shows.activations ∙ ap (λ (s : State). length s.activations) (sym (state-is program history))
+
+  pub processes-are : length m.processes ≡ length (state_after program history).processes
+  processes-are = after.shows.processes ∙ ap (λ (s : State). length s.processes) (sym (state-is program history))
+
   pub laid-out : IsSome (layout_of program cells is_held (schedule_of history))
   laid-out = some-there (layout_of program cells is_held (schedule_of history)) after.layout after.laid
 
@@ -77,10 +85,11 @@ module _ (c : Inside) (kept : CoreInvariant c) (history : Kept) (machine : Machi
             listed-alike c.image c.cells (schedule_of c.history.items) (progress_after c.image c.history.items) (want_of c.roster.waiting) (want_of roster.waiting) c.roster.ready roster.ready kept.listed noted.waiting noted.ready);
         room = room;
         legal = subst (IsLegal c.image c.cells c.limit) (sym same) kept.legal;
-        single = subst AreSingle (sym same) kept.single;
+        few = subst (AreFew c.image) (sym same) kept.few;
         named = subst (λ es. IsStop c.image c.cells c.limit es stop) (sym same) named;
         living = subst (λ es. AreLiving c.image es c.out.items) (sym same) kept.living;
         tabled = kept.tabled;
+        owned = kept.owned;
       }
 
 -- what is seen of it
@@ -91,6 +100,10 @@ unturned-view c kept machine after seen =
     ∙ sym (view-is c.image c.cells c.history.items (snapshot_of c.machine) kept.after.after seen)
 
 -- ---- one step more
+
+pub one-more : {A : Type 0} (xs ys : List A) → IsSameOrOneMore xs ys → length ys ≤ length xs + 1
+one-more xs ys (inl same) = omega (arith, ap length same)
+one-more xs ys (inr more) = omega (arith, ap length more.1, length-append xs (more.0 ∷ []))
 
 module _ (program : Units) (cells : ℕ) (h : List Entry) (p : ℕ) (h' : List Entry) (is : h' ≡ h ++ record { process = p; steps = 1 } ∷ []) (made : step program p (run program (schedule_of h)) ≢ None) where
   made-there : step program p (state_after program h) ≢ None
@@ -109,9 +122,19 @@ module _ (program : Units) (cells : ℕ) (h : List Entry) (p : ℕ) (h' : List E
   pub schedule-next : schedule_of h' ≡ schedule_of h ++ p ∷ []
   schedule-next = ap schedule_of is ∙ schedule-stepped h p
 
-  -- each entry has one step at most
-  pub single-next : AreSingle h → AreSingle h'
-  single-next single = subst AreSingle (sym is) (single-last h (record { process = p; steps = 1 }) (omega arith) single)
+  -- an entry more makes one activation at most, and one process
+  pub few-next : AreFew program h → AreFew program h'
+  few-next few =
+      let s = state_after program h in
+      let t = state_after_turn program p s in
+      let there : state_after program h' ≡ t = ap (state_after program) is ∙ turned program h p in
+      let longer : length h' ≡ length h + 1 = ap length is ∙ length-append h (record { process = p; steps = 1 } ∷ []) in
+      let acts : length t.activations ≤ length s.activations + 1 = one-more s.activations t.activations (activations_after program p s) in
+      let procs : length t.processes ≤ length s.processes + 1 = elim (processes_after program p s) [ inl e ↦ omega (arith, e) | inr e ↦ omega (arith, e) ] in
+      record {
+        activations = omega (arith, few.activations, acts, longer, ap (λ (z : State). length z.activations) there);
+        processes = omega (arith, few.processes, procs, longer, ap (λ (z : State). length z.processes) there);
+      }
 
   -- those that are out live on
   pub living-next : (out : List TicketId) → is_out p out ≡ false → AreLiving program h out → AreLiving program h' out
@@ -149,8 +172,13 @@ module _ (program : Units) (cells : ℕ) (h : List Entry) (p : ℕ) (h' : List E
   pub state-left : state_after program h' ≡ state_after program h
   state-left = state-is program h' ∙ ap (run program) schedule-left ∙ sym (state-is program h)
 
-  pub single-left : AreSingle h → AreSingle h'
-  single-left single = subst AreSingle (sym is) (single-last h (record { process = p; steps = 0 }) (omega arith) single)
+  pub few-left : AreFew program h → AreFew program h'
+  few-left few =
+      let longer : length h' ≡ length h + 1 = ap length is ∙ length-append h (record { process = p; steps = 0 } ∷ []) in
+      record {
+        activations = omega (arith, few.activations, longer, ap (λ (z : State). length z.activations) state-left);
+        processes = omega (arith, few.processes, longer, ap (λ (z : State). length z.processes) state-left);
+      }
 
   pub listed-left : (waits : ℕ → Option Want) (ready : List ℕ) → AreListed program cells (schedule_of h) (progress_after_entry program (progress_after program h) (record { process = p; steps = 0 }) 0) waits ready
       → AreListed program cells (schedule_of h') (progress_after program h') waits ready
@@ -183,10 +211,11 @@ module _ (i : Inside) (k : CoreInvariant i) (p : ℕ) (lt : length i.history.ite
         listed = listed-next i.image i.cells i.history.items p history.items is made (want_of roster.waiting) roster.ready k.listed.state listed;
         room = room;
         legal = legal-next i.image i.cells i.history.items p history.items is made m after i.limit k.legal lt;
-        single = single-next i.image i.cells i.history.items p history.items is made k.single;
+        few = few-next i.image i.cells i.history.items p history.items is made k.few;
         named = named;
         living = living-next i.image i.cells i.history.items p history.items is made i.out.items home k.living;
         tabled = k.tabled;
+        owned = k.owned;
       }
 
 -- that found its process waiting
@@ -201,10 +230,11 @@ module _ (i : Inside) (k : CoreInvariant i) (p : ℕ) (lt : length i.history.ite
         listed = listed-left i.image i.cells i.history.items p history.items is (want_of roster.waiting) roster.ready listed;
         room = room;
         legal = legal-left i.image i.cells i.history.items p history.items is i.limit k.legal lt waiting;
-        single = single-left i.image i.cells i.history.items p history.items is k.single;
+        few = few-left i.image i.cells i.history.items p history.items is k.few;
         named = named;
         living = subst (λ es. AreLiving i.image es i.out.items) (sym is) (living-waited i.image i.history.items p i.out.items k.living);
         tabled = k.tabled;
+        owned = k.owned;
       }
 
   -- it has stopped no more than before
@@ -239,6 +269,16 @@ in-arena program cells choices p (Waits want) new h = tt
 -- as many processes as the state has
 pub as-many : (program : Units) (cells : ℕ) (choices : List ℕ) (m : Machine) → IsAfter program cells choices (snapshot_of m) → m.made ≡ length (run program choices).processes
 as-many program cells choices m after = sym (length-stacks m.processes.items 1 m.made) ∙ after.shows.processes
+
+-- no process is taken back
+pub risen : (program : Units) (cells : ℕ) (choices : List ℕ) (p : ℕ) (turned : Turned) (old new : Machine) → IsAfter program cells choices (snapshot_of old) → IsNoWait turned → HasTurned program cells choices p turned new
+    → old.made ≤ new.made
+risen program cells choices p turned old new after other has =
+    let s = run program choices in
+    let made = made-step program cells choices p turned new other has in
+    let grown : length s.processes ≤ length (run program (choices ++ p ∷ [])).processes =
+    subst (λ (t : State). length s.processes ≤ length t.processes) (sym (run-last program choices p)) (elim (processes_after program p s) [ inl e ↦ omega (arith, e) | inr e ↦ omega (arith, e) ]) in
+    omega (arith, grown, as-many program cells choices old after, as-many program cells (choices ++ p ∷ []) new made.1.after)
 
 -- who is ready once those who were woken and those who are noted are
 noted-so : (program : Units) (choices : List ℕ) (p : ℕ) (woken : ℕ → Bool) (ready noted left : List ℕ) (before now : ℕ)

@@ -6,4 +6,12 @@ pub mod Returning
 pub mod Kept
 pub mod Coming
 pub mod Going
+pub mod Settled
+pub mod Private
+pub mod Committing
+pub mod Behind
+pub mod Answered
+pub mod Underway
+pub mod Exits
 pub mod Idle
+pub mod Beside

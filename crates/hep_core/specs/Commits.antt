@@ -1,69 +1,174 @@
--- What check-outs, commits and cancellations make of a core: docs/MACHINE.md, "Workers".
-use Rattle.std.specs.Prelude.{◌≡◌, ◌≢◌, ◌⊎◌, ℕ, ◌+◌, ◌<◌, true, false, [], ◌∷◌, ◌++◌, Some, None, Result, Ok, Err, length}
-use Rattle.hep_machine.specs.Words.{living, schedule_of}
+-- What check-outs, commits and cancellations make of a core: docs/MACHINE.md, "Private steps" and "Workers".
+use Rattle.std.specs.Prelude.{◌≡◌, ◌≢◌, ◌⊎◌, ℕ, suc, ◌+◌, ◌<◌, Bool, true, false, List, [], ◌∷◌, ◌++◌, None, Some, Result, Ok, Err, is_some, length, replicate}
+use Rattle.hep_machine.specs.declared.event.Entry.{Entry}
+use Rattle.hep_machine.specs.Words.{AreSteps, State, Units, is_waiting, living, run_from, schedule_of, unit_at}
+use Rattle.hep_image.specs.Private.{private_cells}
+use Rattle.hep_step.specs.Simulation.{unit_code}
+use Rattle.hep_private.specs.declared.record.Record.{Record}
+use Rattle.hep_private.specs.Own.{Values, begun}
+use Rattle.hep_private.specs.Recorded.{recorded}
+use Rattle.hep_segments.specs.declared.ticket.TicketId.{TicketId}
+use Rattle.hep_segments.specs.Segments.{IsComputed, IsKept, IsMadeOf, SegmentValue, Start, TicketValue}
 use Rattle.hep_state.specs.Words.{HasNoGap}
-use Rattle.hep_core.specs.Value.{CoreValue, HasNoStop, IsChoice, IsFree, state_of}
+use Rattle.hep_taking.specs.Levels.{ticket_of}
+use Rattle.hep_taking.specs.OwnCells.{own_cells_of}
+use Rattle.hep_core.specs.Places.{IsWhere, Placed, with_core}
+use Rattle.hep_core.specs.Value.{CoreValue, HasNoStop, IsChoice, IsFree, core_after_choice, state_of}
 use Rattle.hep_core.specs.declared.fault.ChooseFault.{ChooseFault}
 use Rattle.hep_core.specs.declared.fault.ChooseFault.TheVariants as choosing
 use Rattle.hep_core.specs.declared.fault.CommitFault.{CommitFault}
 use Rattle.hep_core.specs.declared.fault.CommitFault.TheVariants as committing
 use Rattle.hep_core.specs.declared.stop.ChoiceStop.TheVariants.{ArenaFull, StepLimit}
 use Rattle.hep_core.specs.declared.stop.Turn.{Turn}
-use Rattle.hep_core.specs.declared.ticket.TicketId.{TicketId}
 use Rattle.hep_core.specs.Tickets.{has_ticket, is_out, without_process}
 
 -- the core in which p isn't out any more
 abbrev pub core_after_return : CoreValue → ℕ → CoreValue
 core_after_return core p = record core { out = without_process p core.out }
 
+-- the history of a core without a stop is full, and that is its stop now; or it isn't full, and nothing has changed
+abbrev pub IsStoppedWhereFull : Placed → Bool → Placed → Type 0
+IsStoppedWhereFull old true new =
+    (length old.core.history ≡ old.core.limit) × (new ≡ with_core old (record old.core { stop = Some StepLimit }))
+IsStoppedWhereFull old false new = (length old.core.history < old.core.limit) × (new ≡ old)
+
 -- ---- check-outs
 
 abbrev pub most_tickets : ℕ
 most_tickets = 18446744073709551615
 
--- the next ticket was given to p, which is out by it: its number is above all that were given before
-abbrev pub IsGivenTo : CoreValue → ℕ → TicketId → CoreValue → Type 0
+-- the next ticket, whose number is above all that were given before
+abbrev pub next_id : CoreValue → ℕ → TicketId
+next_id core p = record { number = core.given + 1; process = p }
+
+-- the core that has given it
+abbrev pub core_after_ticket : CoreValue → ℕ → CoreValue
+core_after_ticket core p = record core { out = core.out ++ next_id core p ∷ []; given = core.given + 1 }
+
+-- it was given to p, which is out by it: it has where p is, its operands, and copies of the cells that its top activation has for itself
+abbrev pub IsGivenTo : Placed → ℕ → TicketValue → Placed → Type 0
 IsGivenTo old p ticket new =
-    (ticket ≡ record { number = old.given + 1; process = p })
-    × (new ≡ record old { out = old.out ++ ticket ∷ []; given = old.given + 1 })
+    (start : Start) × IsWhere old p start × (ticket ≡ ticket_of (next_id old.core p) start (own_cells_of old.core.program start.unit))
+    × (new ≡ with_core old (core_after_ticket old.core p))
 
 -- what came of a check-out of p
-abbrev pub IsCheckedOut : CoreValue → ℕ → Result TicketId ChooseFault → CoreValue → Type 0
+abbrev pub IsCheckedOut : Placed → ℕ → Result TicketValue ChooseFault → Placed → Type 0
 IsCheckedOut old p (Ok ticket) new =
-    IsFree old p × (old.given < most_tickets) × (length old.history < old.limit) × IsGivenTo old p ticket new
+    IsFree old.core p × (old.core.given < most_tickets) × (length old.core.history < old.core.limit) × IsGivenTo old p ticket new
 IsCheckedOut old p (Err (choosing.Stopped stop)) new =
-    ((old.stop ≡ Some stop) × (new ≡ old))
-    ⊎ (IsFree old p × (old.given < most_tickets) × (length old.history ≡ old.limit)
-    × (stop ≡ StepLimit) × (new ≡ record old { stop = Some StepLimit }))
-IsCheckedOut old p (Err choosing.NoSuchProcess) new = HasNoStop old × (living (state_of old) p ≡ None) × (new ≡ old)
-IsCheckedOut old p (Err choosing.IsOut) new = HasNoStop old × (is_out p old.out ≡ true) × (new ≡ old)
-IsCheckedOut old p (Err choosing.NoTicket) new = IsFree old p × (old.given ≡ most_tickets) × (new ≡ old)
+    ((old.core.stop ≡ Some stop) × (new ≡ old))
+    ⊎ (IsFree old.core p × (old.core.given < most_tickets) × (length old.core.history ≡ old.core.limit) × (stop ≡ StepLimit)
+    × (new ≡ with_core old (record old.core { stop = Some StepLimit })))
+IsCheckedOut old p (Err choosing.NoSuchProcess) new = HasNoStop old.core × (living (state_of old.core) p ≡ None) × (new ≡ old)
+IsCheckedOut old p (Err choosing.IsOut) new =
+    HasNoStop old.core × (living (state_of old.core) p ≢ None) × (is_out p old.core.out ≡ true) × (new ≡ old)
+IsCheckedOut old p (Err choosing.NoTicket) new = IsFree old.core p × (old.core.given ≡ most_tickets) × (new ≡ old)
 IsCheckedOut old p (Err choosing.NoMemory) new =
-    IsFree old p × (old.given < most_tickets) × (length old.history < old.limit) × (new ≡ old)
+    IsFree old.core p × (old.core.given < most_tickets) × (length old.core.history < old.core.limit) × (new ≡ old)
+
+-- ---- segments that can be committed
+
+-- the segment begins there and has read what is there, and its records are those of private steps of the program
+abbrev pub IsNextOf : CoreValue → SegmentValue → Start → Type 0
+IsNextOf core s start = IsKept start s × ((values : Values) × IsMadeOf core.program values s)
+
+-- the core has no stop, and the segment's ticket is the one that is out for its process, which lives
+abbrev pub IsOutBy : CoreValue → SegmentValue → Type 0
+IsOutBy core s = HasNoStop core × (living (state_of core) s.id.process ≢ None) × (has_ticket s.id core.out ≡ true)
+
+-- and its steps come next where its process is
+abbrev pub IsGoodAt : Placed → SegmentValue → Start → Type 0
+IsGoodAt old s start = IsOutBy old.core s × IsWhere old s.id.process start × IsNextOf old.core s start
+
+abbrev pub IsGood : Placed → SegmentValue → Type 0
+IsGood old s = (start : Start) × IsGoodAt old s start
+
+-- whether its steps come next there
+abbrev pub IsWhetherNext : Bool → Placed → SegmentValue → Type 0
+IsWhetherNext true old s = (start : Start) × IsWhere old s.id.process start × IsNextOf old.core s start
+IsWhetherNext false old s = (start : Start) → IsWhere old s.id.process start → IsNextOf old.core s start → ⊥
+
+-- ---- what others leave
+
+-- its process lives, and its steps come next where that is
+abbrev pub ComesNext : Placed → SegmentValue → Type 0
+ComesNext old s =
+    (living (state_of old.core) s.id.process ≢ None) × ((start : Start) × IsWhere old s.id.process start × IsNextOf old.core s start)
+
+-- unless there is a stop, what comes next of other processes than p does so still
+abbrev pub LeavesNext : ℕ → Placed → Placed → Type 0
+LeavesNext p old new = (s : SegmentValue) → s.id.process ≢ p → HasNoStop new.core → ComesNext old s → ComesNext new s
+
+-- unless there is a stop, each segment that was good is so still, where its ticket is out still
+abbrev pub AreGoodStill : Placed → Placed → Type 0
+AreGoodStill old new = (s : SegmentValue) → HasNoStop new.core → has_ticket s.id new.core.out ≡ true → IsGood old s → IsGood new s
+
+-- what is computed of this ticket is good
+abbrev pub IsFresh : TicketValue → Placed → Type 0
+IsFresh ticket new = (s : SegmentValue) → IsComputed new.core.program ticket s → IsGood new s
 
 -- ---- commits
 
--- the core has no stop, and the ticket is the one that is out for its process, which lives
-abbrev pub IsGood : CoreValue → TicketId → Type 0
-IsGood core id = HasNoStop core × (living (state_of core) id.process ≢ None) × (has_ticket id core.out ≡ true)
+-- an entry of p with so many steps is in the place of the last one
+abbrev pub HasMore : ℕ → ℕ → List Entry → List Entry → Type 0
+HasMore p n old new = (front : List Entry) × (last : Entry) × (old ≡ front ++ last ∷ []) × (new ≡ front ++ record { process = p; steps = n } ∷ [])
 
--- what came of a commit of a segment of this ticket: a choice of its process, in the core to which that came back; where none is made the
--- ticket is out as before
-abbrev pub IsCommitted : CoreValue → TicketId → Result Turn CommitFault → CoreValue → Type 0
-IsCommitted old id (Ok turn) new = (has_ticket id old.out ≡ true) × IsChoice (core_after_return old id.process) id.process (Ok turn) new
-IsCommitted old id (Err (committing.Stopped stop)) new =
-    ((old.stop ≡ Some stop) × (new ≡ old))
-    ⊎ (IsGood old id × (length old.history ≡ old.limit) × (stop ≡ StepLimit) × (new ≡ record old { stop = Some StepLimit }))
-    ⊎ (IsGood old id × (length old.history < old.limit) × HasNoGap old.program old.cells (schedule_of old.history) id.process
-    × (stop ≡ ArenaFull) × (new ≡ record old { stop = Some ArenaFull }))
-IsCommitted old id (Err committing.Stale) new = HasNoStop old × (has_ticket id old.out ≡ false) × (new ≡ old)
-IsCommitted old id (Err committing.NoMemory) new =
-    IsGood old id × (length old.history < old.limit)
-    × (HasNoGap old.program old.cells (schedule_of old.history) id.process → ⊥) × (new ≡ old)
+-- the state after so many steps more of p
+abbrev pub state_along : CoreValue → ℕ → ℕ → State
+state_along core p n = run_from core.program (state_of core) (replicate n p)
+
+-- p made so many steps, and the core has one entry more
+abbrev pub HasSteps : CoreValue → ℕ → ℕ → CoreValue → Type 0
+HasSteps old p n new = AreSteps old.program (state_of old) (replicate n p) × (new ≡ core_after_choice old p n (state_along old p n))
+
+-- so many steps that come next at a start are private
+abbrev pub are_private : Units → Start → ℕ → Bool
+are_private program start n =
+    is_some (
+    recorded (private_cells (unit_at program start.unit)) (unit_code program start.unit) n (begun start.index start.operands start.values))
+
+-- the step behind those of the segment isn't private, and was made
+abbrev pub IsMadeBehind : CoreValue → Start → SegmentValue → Turn → CoreValue → Type 0
+IsMadeBehind old start s turn new =
+    (turn.steps ≡ suc (length s.records)) × (are_private old.program start (suc (length s.records)) ≡ false) × HasSteps old s.id.process (suc (length s.records)) new
+
+-- or it was left out: it is private, or it waits, or it makes an activation for whose frame there is no gap
+abbrev pub IsLeftOut : CoreValue → Start → SegmentValue → Turn → CoreValue → Type 0
+IsLeftOut old start s turn new =
+    (turn.steps ≡ length s.records) × HasSteps old s.id.process (length s.records) new
+    × ((are_private old.program start (suc (length s.records)) ≡ true) ⊎ (is_waiting new.program (state_of new) s.id.process ≡ true)
+    ⊎ HasNoGap new.program new.cells (schedule_of new.history) s.id.process)
+
+-- the steps of the segment were made, and the next one, if it wasn't left out; where there are none, that is a choice
+abbrev pub IsTakenBy : List Record → CoreValue → Start → SegmentValue → Turn → CoreValue → Type 0
+IsTakenBy [] old start s turn new = IsChoice old s.id.process (Ok turn) new
+IsTakenBy (r ∷ rs) old start s turn new =
+    (length old.history < old.limit) × (turn.blocked ≡ false) × (IsMadeBehind old start s turn new ⊎ IsLeftOut old start s turn new)
+
+abbrev pub IsTaken : CoreValue → Start → SegmentValue → Turn → CoreValue → Type 0
+IsTaken old start s turn new = IsTakenBy s.records old start s turn new
+
+-- what came of a commit of a segment: its turn; where none is made, the ticket is out as before, and its process is where it was
+abbrev pub IsCommitted : Placed → SegmentValue → Result Turn CommitFault → Placed → Type 0
+IsCommitted old s (Ok turn) new =
+    (start : Start) × IsGoodAt old s start × IsTaken (core_after_return old.core s.id.process) start s turn new.core
+IsCommitted old s (Err (committing.Stopped stop)) new =
+    ((old.core.stop ≡ Some stop) × (new ≡ old))
+    ⊎ (IsGood old s × (length old.core.history ≡ old.core.limit) × (stop ≡ StepLimit)
+    × (new ≡ with_core old (record old.core { stop = Some StepLimit })))
+    ⊎ (IsGood old s × (length old.core.history < old.core.limit) × (s.records ≡ [])
+    × HasNoGap old.core.program old.core.cells (schedule_of old.core.history) s.id.process × (stop ≡ ArenaFull)
+    × (new ≡ with_core old (record old.core { stop = Some ArenaFull })))
+IsCommitted old s (Err committing.Stale) new = HasNoStop old.core × (IsGood old s → ⊥) × (new ≡ old)
+IsCommitted old s (Err committing.NoMemory) new =
+    IsGood old s × (length old.core.history < old.core.limit)
+    × (s.records ≡ [] → HasNoGap old.core.program old.core.cells (schedule_of old.core.history) s.id.process → ⊥) × (new ≡ old)
 
 -- what came of cancelling this ticket
-abbrev pub IsCancelled : CoreValue → TicketId → Result (Unit {0}) CommitFault → CoreValue → Type 0
-IsCancelled old id (Ok done) new = IsGood old id × (new ≡ core_after_return old id.process)
-IsCancelled old id (Err (committing.Stopped stop)) new = (old.stop ≡ Some stop) × (new ≡ old)
-IsCancelled old id (Err committing.Stale) new = HasNoStop old × (has_ticket id old.out ≡ false) × (new ≡ old)
+abbrev pub IsCancelled : Placed → TicketId → Result (Unit {0}) CommitFault → Placed → Type 0
+IsCancelled old id (Ok done) new =
+    HasNoStop old.core × (living (state_of old.core) id.process ≢ None) × (has_ticket id old.core.out ≡ true)
+    × (new ≡ with_core old (core_after_return old.core id.process))
+IsCancelled old id (Err (committing.Stopped stop)) new = (old.core.stop ≡ Some stop) × (new ≡ old)
+IsCancelled old id (Err committing.Stale) new = HasNoStop old.core × (has_ticket id old.core.out ≡ false) × (new ≡ old)
 IsCancelled old id (Err committing.NoMemory) new = ⊥

@@ -1,6 +1,6 @@
 pub mod Tickets
-pub mod Segments
 pub mod Value
+pub mod Places
 pub mod Going
 pub mod Commits
 pub mod Waking

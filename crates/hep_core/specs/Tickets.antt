@@ -1,7 +1,7 @@
 -- The tickets that are out: docs/MACHINE.md, "Workers".
 use Rattle.std.specs.Prelude.{ℕ, Bool, ◌&&◌, nat_eq, not, List}
 use Rattle.std.specs.List.{filter, list_any}
-use Rattle.hep_core.specs.declared.ticket.TicketId.{TicketId}
+use Rattle.hep_segments.specs.declared.ticket.TicketId.{TicketId}
 
 abbrev pub is_out : ℕ → List TicketId → Bool
 is_out p out = list_any (λ t. nat_eq t.process p) out

@@ -18,7 +18,7 @@ use Rattle.hep_core.specs.declared.fault.ChooseFault.{ChooseFault}
 use Rattle.hep_core.specs.declared.fault.ChooseFault.TheVariants as refused
 use Rattle.hep_core.specs.declared.fault.NewFault.{NewFault}
 use Rattle.hep_core.specs.declared.fault.NewFault.TheVariants as unmade
-use Rattle.hep_core.specs.declared.ticket.TicketId.{TicketId}
+use Rattle.hep_segments.specs.declared.ticket.TicketId.{TicketId}
 use Rattle.hep_core.specs.Tickets.{is_out}
 
 -- the program, the cells of the arena, the longest history, the history, the stop, what is seen of the state, the tickets that are out, and
@@ -108,11 +108,6 @@ IsStop program cells limit history (Some StepLimit) = ((state_after program hist
 IsStop program cells limit history (Some ArenaFull) =
     ((state_after program history).halted ≡ false) × ((p : ℕ) × HasNoGap program cells (schedule_of history) p)
 
--- the history of a core without a stop is full, and that is its stop now; or it isn't full, and nothing has changed
-abbrev pub IsStoppedWhereFull : CoreValue → Bool → CoreValue → Type 0
-IsStoppedWhereFull old true new = (length old.history ≡ old.limit) × (new ≡ record old { stop = Some StepLimit })
-IsStoppedWhereFull old false new = (length old.history < old.limit) × (new ≡ old)
-
 -- nothing lives, or all that lives is listed as waiting, or something is ready
 abbrev pub verdict_by : Option ChoiceStop → List ℕ → List ℕ → Verdict
 verdict_by (Some stop) alive ready = Stopped stop
@@ -125,11 +120,6 @@ verdict_of core =
     verdict_by core.stop (living_from 1 (state_of core).processes) (ready_in (progress_after core.program core.history))
 
 -- ---- what every core is
-
--- each entry has one step, or none
-abbrev pub AreSingle : List Entry → Type 0
-AreSingle [] = Unit {0}
-AreSingle (e ∷ es) = (e.steps ≤ 1) × AreSingle es
 
 -- no process has a step
 abbrev pub IsIdle : Units → State → Type 0

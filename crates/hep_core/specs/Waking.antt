@@ -1,11 +1,11 @@
 -- Who is ready and who waits no more after a turn that made a step: docs/MACHINE.md, "Which process comes next".
-use Rattle.std.specs.Prelude.{◌≡◌, ℕ, ◌+◌, ◌≤◌, Bool, false, List, Option, Some, slice_get}
+use Rattle.std.specs.Prelude.{◌≡◌, ℕ, ◌+◌, ◌≤◌, ◌||◌, Bool, false, List, Option, Some, slice_get}
 use Rattle.std.specs.Option.{is_some}
 use Rattle.hep_machine.specs.Words.{Units, is_number_among, living, run}
 use Rattle.hep_cells.specs.declared.want.Want.{Want}
 use Rattle.hep_image.specs.Image.{most_cells}
 use Rattle.hep_blocked.specs.Listing.{awake_by, awake_where, is_noted, is_woken, is_woken_where}
-use Rattle.hep_blocked.specs.Rolls.{Roll}
+use Rattle.hep_blocked.specs.Rolls.{Roll, want_of}
 use Rattle.hep_purging.specs.declared.range.ClosedRange.{ClosedRange}
 use Rattle.hep_purging.specs.Purged.{have_cell}
 use Rattle.hep_state.specs.declared.machine.Machine.{Machine}
@@ -48,3 +48,10 @@ is_woken_after (Waits want) emptied waiting q = false
 abbrev pub AreInArena : Turned → List ClosedRange → Type 0
 AreInArena Purged emptied = (i : ℕ) (r : ClosedRange) → slice_get emptied i ≡ Some r → r.first + r.cells ≤ most_cells
 AreInArena _ emptied = Unit {0}
+
+-- who waits and who is ready once a turn of process p was noted that made a step, before which so many processes were made
+pub record GoAlongTurn (p made : ℕ) (turned : Turned) (m : Machine) (old new : Roll) : Type 0 where
+  pub waiting : (q : ℕ) → want_of new.waiting q ≡ awake_after turned m.passing.ranges.items (want_of old.waiting q)
+  pub ready : (program : Units) (cells : ℕ) (choices : List ℕ) → IsAfter program cells choices (snapshot_of m) → (q : ℕ)
+      → is_number_among q new.ready
+      ≡ (is_woken_after turned m.passing.ranges.items (want_of old.waiting) q || is_noted p (is_some (living (run program choices) p)) made m.made old.ready q)

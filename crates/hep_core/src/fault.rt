@@ -75,10 +75,21 @@ pub enum CommitFault {
     /// The core has stopped, now or before, for this reason.
     #[error("stopped")]
     Stopped(ChoiceStop),
-    /// The ticket isn't the one that is out for its process.
+    /// The ticket isn't the one that is out for its process; or the steps of a segment don't come next of it.
     #[error("stale")]
     Stale,
     /// Memory was refused; nothing has changed.
     #[error("no memory")]
     NoMemory,
+}
+
+impl From<AllocError> for CommitFault {
+    ghost use Rattle.std.specs.Prelude.{◌≡◌};
+    ghost use Rattle.hep_core.specs.declared.fault.CommitFault.TheVariants.{NoMemory};
+
+    ghost from_gives = { λ _ e. e ≡ NoMemory };
+
+    fn from(_refused: AllocError) -> CommitFault {
+        CommitFault::NoMemory
+    }
 }

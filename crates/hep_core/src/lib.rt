@@ -5,13 +5,14 @@
 
 pub mod fault;
 mod lists;
+mod noting;
+mod out;
 pub mod scheduler;
 pub mod stop;
-pub mod ticket;
 
 pub use fault::{ChooseFault, CommitFault, NewFault};
 pub use hep_machine::{Entry, Fault, Kind};
+pub use hep_segments::{Segment, Ticket, TicketId, compute};
 pub use hep_views::{Listed, Whereabouts};
 pub use scheduler::Core;
 pub use stop::{ChoiceStop, Turn, Turns, Verdict};
-pub use ticket::{Segment, Ticket, TicketId, compute};

@@ -6,7 +6,7 @@ ghost use Rattle.hep_blocked.specs.Listing.{awake_by, awake_where, is_woken, is_
 ghost use Rattle.hep_blocked.specs.Rolls.{want_of};
 ghost use Rattle.hep_purging.specs.declared.range.ClosedRange.{ClosedRange as PureRange};
 ghost use Rattle.hep_purging.specs.Purged.{has_cell, have_cell};
-ghost use Rattle.hep_core.specs.Waking.{AreInArena, CanNote, HasRoomLeft, NotesReady, awake_after, is_woken_after};
+ghost use Rattle.hep_core.specs.Waking.{AreInArena, CanNote, GoAlongTurn, HasRoomLeft, NotesReady, awake_after, is_woken_after};
 
 use hep_blocked::{Roster, Want};
 use hep_purging::ClosedRange;
@@ -82,4 +82,16 @@ pub(crate) fn wake_after(roster: &mut Roster, turned: Turned, emptied: &[ClosedR
         Turned::Purged => wake_emptied(roster, emptied),
         Turned::Waits(_) => {}
     }
+}
+
+/// After a turn of process p that made a step, before which so many processes were made: p isn't ready once it has ended, and a process that it
+/// made is; and those wait no more, and are ready, that waited for what the turn has changed to be as it is now.
+pub(crate) fn note_step(roster: &mut Roster, machine: &Machine, p: u64, made: u64, turned: Turned)
+    requires made { CanNote roster.old made machine.now }
+    requires few { AreInArena turned machine.now.passing.ranges.items }
+    ensures lists { GoAlongTurn p made turned machine.now roster.old roster.new }
+    ensures room { HasRoomLeft machine.now roster.new }
+{
+    note_ready(roster, machine, p, made);
+    wake_after(roster, turned, &machine.passing.ranges);
 }

@@ -5,20 +5,23 @@ ghost use Rattle.hep_machine.specs.Words.{IsLegal, common_cells, is_held, openin
 ghost use Rattle.hep_machine.specs.Words.{is_number_among, next_of_ready, progress_after, schedule_of, view_of};
 ghost use Rattle.hep_blocked.specs.Listing.{IsBlocked};
 ghost use Rattle.hep_blocked.specs.Numbers.{AreRising};
-ghost use Rattle.hep_state.specs.Words.{IsMachineAfter};
+ghost use Rattle.hep_state.specs.Words.{IsMachineAfter, snapshot_of};
 ghost use Rattle.hep_views.specs.Standing.{whereabouts_by};
-ghost use Rattle.hep_core.specs.Value.{state_of, opening_of, IsNewFault, IsChoice, HasNoStop, IsStop, IsStoppedWhereFull};
-ghost use Rattle.hep_core.specs.Commits.{IsCancelled, IsCheckedOut, IsCommitted, IsGivenTo, core_after_return, most_tickets};
+ghost use Rattle.hep_core.specs.Value.{state_of, opening_of, IsNewFault, IsChoice, HasNoStop, IsStop};
+ghost use Rattle.hep_core.specs.Commits.{AreGoodStill, IsCancelled, IsCheckedOut, IsCommitted, IsFresh, IsGivenTo, IsStoppedWhereFull};
+ghost use Rattle.hep_core.specs.Commits.{IsWhetherNext, LeavesNext, core_after_return, most_tickets};
 ghost use Rattle.hep_core.specs.Invariant.{AreLiving};
+ghost use Rattle.hep_core.specs.Places.{places_of, with_core};
 ghost use Rattle.hep_core.specs.declared.stop.Verdict.TheVariants.{Waiting};
 ghost use Rattle.hep_core.specs.Tickets.{has_ticket, is_out};
-ghost use Rattle.hep_core.specs.Going.{AreMoves, AreRounds, AreTurns, CanMove, IsAtRest, IsTurnOnce, entries_along};
-ghost use Rattle.hep_core.specs.Value.{AreSingle, IsAtPosition, IsIdle, free_of, next_listed_of, verdict_of, next_ready_of, ready_of};
+ghost use Rattle.hep_core.specs.Going.{AreChoices, AreMoves, AreRounds, AreTurns, CanMove, IsAtRest, IsTurnOnce, entries_along};
+ghost use Rattle.hep_core.specs.Value.{IsAtPosition, IsIdle, free_of, next_listed_of, verdict_of, next_ready_of, ready_of};
 
 use crate::fault::{ChooseFault, CommitFault, NewFault};
-use crate::lists::{note_ready, wake_after};
+use crate::lists::{note_ready, note_step, wake_after};
+use crate::noting::{made_steps, note_more, stop_where};
+use crate::out::come_back;
 use crate::stop::{ChoiceStop, Turn, Turns, Verdict};
-use crate::ticket::{Segment, Ticket, TicketId, come_back};
 use hep_blocked::laws::{
     lists_are_those_of_definitions, lists_go_along_with_purges, lists_go_along_with_steps,
     openings_list_nobody, waiting_processes_are_listed,
@@ -30,9 +33,16 @@ use hep_going::{go_on, rests};
 use hep_image::Image;
 use hep_layout::laws::layouts_have_what_is_held;
 use hep_machine::{Entry, Fault, Record, Slot};
+use hep_private_laws::laws::{others_leave_what_is_read, private_steps_are_turns};
 use hep_quick::{Table, Tabled, tables_of};
-use hep_state::laws::activations_are_few;
+use hep_segments::laws::segments_depend_on_reads;
+use hep_segments::{Segment, Ticket, TicketId};
+use hep_state::laws::tops_are_running;
 use hep_state::{Machine, TurnFault, Turned, fits};
+use hep_taking::laws::{restored_machines_are_as_before, tickets_have_what_is_read};
+use hep_taking::{
+    OwnCells, Owned, Saved, is_made, is_next_private, own_cells_of, start, take_private,
+};
 use hep_views::finding::{listed, whereabouts};
 use hep_views::laws::views_are_of_states;
 use hep_views::{Listed, Whereabouts};
@@ -47,14 +57,15 @@ const FIRST_PROCESS: u64 = 1;
 const MOST_AT_ONCE: u64 = 0xFFFF_FFFF;
 
 /// A run of an image. Contracts see the program, the cells of the arena, the longest history, the
-/// history, the stop, what is seen of the state, the tickets that are out, and how many were given.
+/// history, the stop, what is seen of the state, the tickets that are out, and how many were given; and where each process is in the machine.
 ///
 /// A choice, a check-out, a commit and a cancellation each cost a step for each process that is out, besides.
 pub struct Core {
     alloc: Global,
     image: Image,
-    // Those of its units.
+    // Those of its units, and the cells that activations of each unit have for themselves.
     tables: Vec<Table>,
+    own: Vec<OwnCells>,
     cells: u32,
     limit: u64,
     history: History,
@@ -65,6 +76,8 @@ pub struct Core {
     // The tickets that are out, and how many were given.
     out: Vec<TicketId>,
     given: u64,
+    // Room for what a process has for itself, while a commit of its steps may still be refused.
+    saved: Saved,
 }
 
 // Written out, so that a caller's proof has one call of it at each exit.
@@ -74,6 +87,7 @@ impl Drop for Core {
             alloc,
             image,
             tables,
+            own,
             cells,
             limit,
             history,
@@ -82,22 +96,23 @@ impl Drop for Core {
             roster,
             out,
             given,
+            saved,
         } = self;
     }
 }
 
 impl Model for Core {
-    ghost use Rattle.hep_core.specs.Value.{CoreValue};
+    ghost use Rattle.hep_core.specs.Places.{Placed};
     ghost use Rattle.hep_source.specs.contracts.expression.Expr as expression;
     ghost use Rattle.std.specs.Coded.{codes};
 
-    ghost Value = { CoreValue };
+    ghost Value = { Placed };
 
     ghost coded = { Prim.hlevel (codes, expression.the_row.coded) };
 
-    ghost use Rattle.hep_core.specs.Invariant.{core_value, CoreInvariant};
+    ghost use Rattle.hep_core.specs.Invariant.{CoreInvariant, placed_value};
 
-    ghost view = { core_value };
+    ghost view = { placed_value };
 
     ghost invariant = { CoreInvariant };
 }
@@ -114,7 +129,7 @@ impl Core {
         requires some { 1 ≤ cells }
         requires few { cells ≤ 16777216 }
         ensures fits { OnOk result (IsSome (opening_layout image cells)) }
-        ensures made { IfOk result (λ core. core ≡ opening_of image cells steps) }
+        ensures made { IfOk result (λ made. made.core ≡ opening_of image cells steps) }
         ensures unmade { IfErr result (λ e. IsNewFault e image cells) }
     {
         image.is_runnable();
@@ -125,6 +140,7 @@ impl Core {
         }
         let machine = Machine::open(alloc, &image, cells)?;
         let tables = tables_of(alloc, &image)?;
+        let own = own_cells_of(alloc, &image)?;
         let mut roster = Roster::new(alloc);
         roster.reserve(FIRST_PROCESS)?;
         roster.enroll(FIRST_PROCESS);
@@ -132,6 +148,7 @@ impl Core {
             alloc,
             image,
             tables,
+            own,
             cells,
             limit: steps,
             history: History::new(alloc),
@@ -140,6 +157,7 @@ impl Core {
             roster,
             out: Vec::new(alloc),
             given: 0,
+            saved: Saved::new(alloc),
         })
     }
 
@@ -151,7 +169,8 @@ impl Core {
     /// where the history has as many entries as it may have, or else the step makes an activation for whose frame there is no gap, each of
     /// which sets the stop and adds no entry; `NoMemory`, which is asked for only where there is a gap.
     pub fn choose(&mut self, p: u64) -> Result<Turn, ChooseFault>
-        ensures { IsChoice self.old p result self.new }
+        ensures chosen { IsChoice self.old.core p result self.new.core }
+        ensures kept { AreGoodStill self.old self.new }
     {
         if let Some(stop) = self.stop() {
             return Err(ChooseFault::Stopped(stop));
@@ -162,7 +181,7 @@ impl Core {
         if self.rests(p) {
             return self.turn(p);
         }
-        match self.move_on(p, 1, false) {
+        match self.move_alone(p, 1) {
             Ok(0) => self.turn(p),
             Ok(_) => Ok(Turn {
                 steps: 1,
@@ -183,10 +202,11 @@ impl Core {
     #[inline(always)]
     pub fn go_on(&mut self, p: u64, most: u64) -> Result<Turns, ChooseFault>
         requires { 1 ≤ most }
-        ensures made { IfOk result (λ turns. AreTurns self.old p turns self.new) }
+        ensures made { IfOk result (λ turns. AreTurns self.old.core p turns self.new.core) }
         ensures some { IfOk result (λ turns. 1 ≤ turns.made) }
         ensures few { IfOk result (λ turns. turns.made ≤ most) }
-        ensures refused { IfErr result (λ fault. IsChoice self.old p (Err fault) self.new) }
+        ensures refused { IfErr result (λ fault. IsChoice self.old.core p (Err fault) self.new.core) }
+        ensures kept { AreGoodStill self.old self.new }
     {
         if let Some(stop) = self.stop() {
             return Err(ChooseFault::Stopped(stop));
@@ -198,7 +218,7 @@ impl Core {
             return self.turn_once(p);
         }
         // So many entries are one run.
-        match self.move_on(p, most.min(MOST_AT_ONCE), false) {
+        match self.move_alone(p, most.min(MOST_AT_ONCE)) {
             Ok(0) => self.turn_once(p),
             Ok(made) => Ok(Turns {
                 made,
@@ -210,9 +230,10 @@ impl Core {
 
     // A turn of process p, as what came of choosing it once.
     fn turn_once(&mut self, p: u64) -> Result<Turns, ChooseFault>
-        requires { is_out p self.old.out ≡ false }
-        ensures made { IfOk result (λ turns. IsTurnOnce self.old p turns self.new) }
-        ensures refused { IfErr result (λ fault. IsChoice self.old p (Err fault) self.new) }
+        requires { is_out p self.old.core.out ≡ false }
+        ensures made { IfOk result (λ turns. IsTurnOnce self.old.core p turns self.new.core) }
+        ensures refused { IfErr result (λ fault. IsChoice self.old.core p (Err fault) self.new.core) }
+        ensures others { LeavesNext p self.old self.new }
     {
         match self.turn(p) {
             Ok(turn) => Ok(Turns {
@@ -228,8 +249,9 @@ impl Core {
     /// such choices cost less together than one by one.
     #[inline(never)]
     pub fn go_round(&mut self, most: u64) -> u64
-        ensures chosen { AreRounds self.old result self.new }
+        ensures chosen { AreRounds self.old.core result self.new.core }
         ensures few { result ≤ most }
+        ensures kept { AreGoodStill self.old self.new }
     {
         if !self.out.is_empty() {
             return 0;
@@ -249,7 +271,7 @@ impl Core {
     // The core is at no stop, process p lives, and the table says that no plain operation stands ahead of it.
     #[inline(always)]
     fn rests(&self, p: u64) -> bool
-        ensures { result ≡ true → IsAtRest self.now p }
+        ensures { result ≡ true → IsAtRest self.now.core p }
     {
         if self.stop.is_some() {
             return false;
@@ -269,13 +291,15 @@ impl Core {
     //
     // It ends early only where the core is at a stop, p doesn't live, the history is full, or no plain operation stands ahead of p that
     // moves it. It sets no stop. It fails only where the history has no room for so many entries; nothing has changed then.
+    #[inline(always)]
     fn move_on(&mut self, p: u64, most: u64, rounds: bool) -> Result<u64, AllocError>
-        requires ready { CanMove rounds p self.old }
+        requires ready { CanMove rounds p self.old.core }
         requires once { most < 2 ^ 32 }
-        ensures chosen { IfOk result (λ n. AreMoves rounds p self.old n self.new) }
+        ensures chosen { IfOk result (λ n. AreMoves rounds p self.old.core n self.new.core) }
         ensures few { IfOk result (λ n. n ≤ most) }
-        ensures all { IfOk result (λ n. rounds ≡ false → n < most → IsAtRest self.new p) }
+        ensures all { IfOk result (λ n. rounds ≡ false → n < most → IsAtRest self.new.core p) }
         ensures refused { OnErr result (self.new ≡ self.old) }
+        ensures others { rounds ≡ false → LeavesNext p self.old self.new }
     {
         if self.stop.is_some() {
             return Ok(0);
@@ -285,9 +309,10 @@ impl Core {
         }
         self.image.is_runnable();
         views_are_of_states();
-        activations_are_few();
         lists_go_along_with_steps();
         lists_are_those_of_definitions();
+        others_leave_what_is_read();
+        segments_depend_on_reads();
         let room = most.min(self.limit - self.history.len());
         let each = at_once(room, rounds);
         self.history.reserve(each as u32)?;
@@ -315,10 +340,26 @@ impl Core {
         Ok(done)
     }
 
+    // The same of process p alone. It has a function of its own, so that the loop of rounds is one apart from it.
+    #[inline(never)]
+    fn move_alone(&mut self, p: u64, most: u64) -> Result<u64, AllocError>
+        requires home { is_out p self.old.core.out ≡ false }
+        requires once { most < 2 ^ 32 }
+        ensures chosen { IfOk result (λ n. AreChoices p self.old.core n self.new.core) }
+        ensures few { IfOk result (λ n. n ≤ most) }
+        ensures all { IfOk result (λ n. n < most → IsAtRest self.new.core p) }
+        ensures refused { OnErr result (self.new ≡ self.old) }
+        ensures others { LeavesNext p self.old self.new }
+    {
+        self.move_on(p, most, false)
+    }
+
     // A turn of process p, as `choose` has it.
     fn turn(&mut self, p: u64) -> Result<Turn, ChooseFault>
-        requires { is_out p self.old.out ≡ false }
-        ensures { IsChoice self.old p result self.new }
+        requires { is_out p self.old.core.out ≡ false }
+        ensures chosen { IsChoice self.old.core p result self.new.core }
+        ensures places { OnErr result (self.new.places ≡ self.old.places) }
+        ensures others { LeavesNext p self.old self.new }
     {
         if let Some(stop) = self.stop {
             return Err(ChooseFault::Stopped(stop));
@@ -332,11 +373,12 @@ impl Core {
         }
         self.image.is_runnable();
         views_are_of_states();
-        activations_are_few();
         waiting_processes_are_listed();
         lists_go_along_with_steps();
         lists_go_along_with_purges();
         waiting_processes_need_it();
+        others_leave_what_is_read();
+        segments_depend_on_reads();
         let made = self.machine.made;
         match self.machine.turn(
             self.alloc,
@@ -378,15 +420,15 @@ impl Core {
 
     // Process p is out.
     fn is_out(&self, p: u64) -> bool
-        ensures { result ≡ is_out p self.now.out }
+        ensures { result ≡ is_out p self.now.core.out }
     {
         self.out.iter().any(|id| id.process == p)
     }
 
     // The ticket is the one that is out for its process.
     fn has_ticket(&self, id: TicketId) -> bool
-        ensures ticket { result ≡ has_ticket id self.now.out }
-        ensures lives { result ≡ true → living (state_of self.now) id.process ≢ None }
+        ensures ticket { result ≡ has_ticket id self.now.core.out }
+        ensures lives { result ≡ true → living (state_of self.now.core) id.process ≢ None }
     {
         self.out
             .iter()
@@ -402,8 +444,12 @@ impl Core {
     /// `NoTicket` where 2^64 - 1 tickets were given; `Stopped` where the history has as many entries as it may have, which sets the stop;
     /// `NoMemory`.
     pub fn check_out(&mut self, p: u64) -> Result<Ticket, ChooseFault>
-        ensures { IsCheckedOut self.old p result self.new }
+        ensures given { IsCheckedOut self.old p result self.new }
+        ensures fresh { IfOk result (λ ticket. IsFresh ticket self.new) }
+        ensures kept { AreGoodStill self.old self.new }
     {
+        tickets_have_what_is_read();
+        segments_depend_on_reads();
         if let Some(stop) = self.stop() {
             return Err(ChooseFault::Stopped(stop));
         }
@@ -424,49 +470,84 @@ impl Core {
 
     // How many tickets were given.
     fn given(&self) -> u64
-        ensures { result ≡ self.now.given }
+        ensures { result ≡ self.now.core.given }
     {
         self.given
     }
 
-    // The next ticket, for process p.
+    // The next ticket, for process p, which lives.
+    //
+    // The values that stand ahead of it are operands then, so that a commit without steps that is refused changes nothing of where it is.
     fn give(&mut self, p: u64) -> Result<Ticket, AllocError>
-        requires lives { living (state_of self.old) p ≢ None }
-        requires left { self.old.given < most_tickets }
+        requires going { HasNoStop self.old.core }
+        requires lives { living (state_of self.old.core) p ≢ None }
+        requires left { self.old.core.given < most_tickets }
         ensures given { IfOk result (λ ticket. IsGivenTo self.old p ticket self.new) }
         ensures refused { OnErr result (self.new ≡ self.old) }
     {
+        self.image.is_runnable();
+        views_are_of_states();
+        tops_are_running();
         let id = TicketId {
             number: self.given + 1,
             process: p,
         };
-        self.out.push(id)?;
+        self.out.reserve(1)?;
+        self.machine.settle(&self.image, p);
+        let owned = Owned {
+            image: &self.image,
+            tables: &self.own,
+        };
+        let ticket = start(self.alloc, &mut self.machine, &owned, id)?;
+        self.out.push_reserved(id);
         self.given += 1;
-        Ok(Ticket::new(id))
+        Ok(ticket)
     }
 
-    /// The turn of a segment: the next step of its process, or none where it waits, and one entry of the history. The process isn't out
-    /// any more.
+    /// The turn of a segment: its private steps, and then the next step of its process, as one entry of the history. Where it has no steps
+    /// that is a choice of the process, which may be found waiting. Behind private steps the next one is left out where it is private too, where it
+    /// waits, and where it makes an activation for whose frame there is no gap. The process isn't out any more.
     ///
     /// # Errors
     ///
-    /// In this order: `Stopped` at a stop that was set before; `Stale` where the segment's ticket isn't the one that is out
-    /// for its process; `Stopped` and `NoMemory` as `choose` has them. The ticket is out as before then.
+    /// In this order: `Stopped` at a stop that was set before; `Stale` where the segment's ticket isn't the one that is out for its process, or
+    /// its steps aren't the private ones that come next of it, by the core's image; `Stopped` where the history has as many entries as it may
+    /// have, or else the segment has no steps and the next step has no gap for its frame, each of which sets the stop and adds no entry;
+    /// `NoMemory`. The ticket is out as before then, and the segment can be committed still.
     pub fn commit(&mut self, segment: &Segment) -> Result<Turn, CommitFault>
-        ensures { IsCommitted self.old segment.now result self.new }
+        ensures committed { IsCommitted self.old segment.now result self.new }
+        ensures kept { AreGoodStill self.old self.new }
     {
         if let Some(stop) = self.stop() {
             return Err(CommitFault::Stopped(stop));
         }
-        let id = segment.ticket();
-        if !self.has_ticket(id) {
+        if !self.has_ticket(segment.ticket()) {
+            return Err(CommitFault::Stale);
+        }
+        if segment.records().is_empty() {
+            return self.commit_alone(segment);
+        }
+        self.commit_behind(segment)
+    }
+
+    // The commit of a segment without steps, whose ticket is the one that is out for its process: a choice of that.
+    fn commit_alone(&mut self, segment: &Segment) -> Result<Turn, CommitFault>
+        requires going { HasNoStop self.old.core }
+        requires lives { living (state_of self.old.core) segment.now.id.process ≢ None }
+        requires ticket { has_ticket segment.now.id self.old.core.out ≡ true }
+        requires none { segment.now.records ≡ [] }
+        ensures committed { IsCommitted self.old segment.now result self.new }
+        ensures others { OnOk result (LeavesNext segment.now.id.process self.old self.new) }
+    {
+        if !self.is_next(segment) {
             return Err(CommitFault::Stale);
         }
         // The turn may end the process, and each one that is out lives.
+        let process = segment.ticket().process;
         let mut out = self.put_aside();
-        match self.choose(id.process) {
+        match self.turn(process) {
             Ok(turn) => {
-                come_back(&mut out, id.process);
+                come_back(&mut out, process);
                 self.put_back(out);
                 Ok(turn)
             }
@@ -482,19 +563,109 @@ impl Core {
         }
     }
 
+    // The steps of a segment are the private ones that come next of its process, which lives, by the image.
+    fn is_next(&mut self, segment: &Segment) -> bool
+        requires going { HasNoStop self.old.core }
+        requires lives { living (state_of self.old.core) segment.now.id.process ≢ None }
+        ensures next { IsWhetherNext result self.old segment.now }
+        ensures same { self.new ≡ self.old }
+    {
+        self.image.is_runnable();
+        views_are_of_states();
+        segments_depend_on_reads();
+        tops_are_running();
+        self.machine.settle(&self.image, segment.ticket().process);
+        is_made(&mut self.machine, &self.image, segment)
+    }
+
+    // The commit of a segment with steps, whose ticket is the one that is out for its process: these steps, and one turn more.
+    //
+    // What may be refused behind the steps is refused before anything else has changed, or the process gets back what it had for itself.
+    fn commit_behind(&mut self, segment: &Segment) -> Result<Turn, CommitFault>
+        requires going { HasNoStop self.old.core }
+        requires lives { living (state_of self.old.core) segment.now.id.process ≢ None }
+        requires ticket { has_ticket segment.now.id self.old.core.out ≡ true }
+        requires some { 0 < length segment.now.records }
+        ensures committed { IsCommitted self.old segment.now result self.new }
+        ensures others { OnOk result (LeavesNext segment.now.id.process self.old self.new) }
+    {
+        self.image.is_runnable();
+        views_are_of_states();
+        lists_go_along_with_steps();
+        lists_go_along_with_purges();
+        segments_depend_on_reads();
+        tops_are_running();
+        private_steps_are_turns();
+        others_leave_what_is_read();
+        restored_machines_are_as_before();
+        let p = segment.ticket().process;
+        self.machine.settle(&self.image, p);
+        if !is_made(&mut self.machine, &self.image, segment) {
+            return Err(CommitFault::Stale);
+        }
+        if self.limit <= self.history.len() {
+            self.stop = Some(ChoiceStop::StepLimit);
+            return Err(CommitFault::Stopped(ChoiceStop::StepLimit));
+        }
+        let owned = Owned {
+            image: &self.image,
+            tables: &self.own,
+        };
+        self.saved.keep(&mut self.machine, &owned, p)?;
+        self.history.reserve(1)?;
+        let steps = segment.records().len() as u32;
+        let made = self.machine.made;
+        take_private(&mut self.machine, &self.image, segment);
+        note(&mut self.history, p, steps);
+        if is_next_private(&mut self.machine, &self.image, p) {
+            come_back(&mut self.out, p);
+            return Ok(made_steps(steps));
+        }
+        match self.machine.turn(
+            self.alloc,
+            &self.image,
+            p,
+            &mut self.history,
+            &mut self.roster,
+        ) {
+            Ok(turned) => match turned {
+                Turned::Waits(_) => {
+                    come_back(&mut self.out, p);
+                    Ok(made_steps(steps))
+                }
+                _ => {
+                    note_more(&mut self.history, p, steps + 1);
+                    note_step(&mut self.roster, &self.machine, p, made, turned);
+                    self.stop = stop_where(self.machine.halted);
+                    come_back(&mut self.out, p);
+                    Ok(made_steps(steps + 1))
+                }
+            },
+            Err(TurnFault::ArenaFull) => {
+                come_back(&mut self.out, p);
+                Ok(made_steps(steps))
+            }
+            Err(TurnFault::NoMemory) => {
+                self.history.pop();
+                self.saved.put_back(&mut self.machine, &owned, p);
+                Err(CommitFault::NoMemory)
+            }
+        }
+    }
+
     // The tickets that are out, which aren't any more.
     fn put_aside(&mut self) -> Vec<TicketId>
-        ensures aside { self.new ≡ record self.old { out = [] } }
-        ensures tickets { result.items ≡ self.old.out }
-        ensures living { AreLiving self.old.program self.old.history self.old.out }
+        ensures aside { self.new ≡ with_core self.old (record self.old.core { out = [] }) }
+        ensures tickets { result.items ≡ self.old.core.out }
+        ensures living { AreLiving self.old.core.program self.old.core.history self.old.core.out }
     {
         replace(&mut self.out, Vec::new(self.alloc))
     }
 
     // These tickets are out.
     fn put_back(&mut self, out: Vec<TicketId>)
-        requires { AreLiving self.old.program self.old.history out.items }
-        ensures { self.new ≡ record self.old { out = out.items } }
+        requires { AreLiving self.old.core.program self.old.core.history out.items }
+        ensures { self.new ≡ with_core self.old (record self.old.core { out = out.items }) }
     {
         self.out = out;
     }
@@ -505,7 +676,8 @@ impl Core {
     ///
     /// `Stopped` at a stop; `Stale` where the ticket isn't the one that is out for its process.
     pub fn cancel(&mut self, ticket: &Ticket) -> Result<(), CommitFault>
-        ensures { IsCancelled self.old ticket.now result self.new }
+        ensures cancelled { IsCancelled self.old ticket.now.id result self.new }
+        ensures kept { AreGoodStill self.old self.new }
     {
         if let Some(stop) = self.stop() {
             return Err(CommitFault::Stopped(stop));
@@ -520,21 +692,20 @@ impl Core {
 
     // Process p isn't out any more.
     fn bring_back(&mut self, p: u64)
-        ensures { self.new ≡ core_after_return self.old p }
+        ensures { self.new ≡ with_core self.old (core_after_return self.old.core p) }
     {
         come_back(&mut self.out, p);
     }
 
     /// Does nothing: its clauses say what every core is. What is seen of a core is what is seen of
-    /// the source machine after the core's own history; the history is one that a core may have, each entry of which has one
-    /// step or none; a stop is what its name says: a STOP ran, the history is full, or some process can't make its step, for whose new
-    /// activation's frame there is no gap; and where all that live wait no process has a step.
+    /// the source machine after the core's own history; the history is one that a core may have; a stop is what its name says: a STOP
+    /// ran, the history is full, or some process can't make its step, for whose new activation's frame there is no gap; and where all that
+    /// live wait no process has a step.
     pub fn headline(&self)
-        ensures view { self.now.view ≡ view_of self.now.program is_held (state_of self.now) }
-        ensures legal { IsLegal self.now.program self.now.cells self.now.limit self.now.history }
-        ensures single { AreSingle self.now.history }
-        ensures named { IsStop self.now.program self.now.cells self.now.limit self.now.history self.now.stop }
-        ensures waiting { verdict_of self.now ≡ Waiting → IsIdle self.now.program (state_of self.now) }
+        ensures view { self.now.core.view ≡ view_of self.now.core.program is_held (state_of self.now.core) }
+        ensures legal { IsLegal self.now.core.program self.now.core.cells self.now.core.limit self.now.core.history }
+        ensures named { IsStop self.now.core.program self.now.core.cells self.now.core.limit self.now.core.history self.now.core.stop }
+        ensures waiting { verdict_of self.now.core ≡ Waiting → IsIdle self.now.core.program (state_of self.now.core) }
     {
         self.image.is_runnable();
         views_are_of_states();
@@ -542,15 +713,15 @@ impl Core {
 
     /// The stop that the core is at.
     pub fn stop(&self) -> Option<ChoiceStop>
-        ensures stop { result ≡ self.now.stop }
-        ensures none { IfNone result (HasNoStop self.now) }
+        ensures stop { result ≡ self.now.core.stop }
+        ensures none { IfNone result (HasNoStop self.now.core) }
     {
         self.stop
     }
 
     // Sets the stop `StepLimit`, and says so, where the history has as many entries as it may have.
     fn stop_where_full(&mut self) -> bool
-        requires { self.old.stop ≡ None }
+        requires { self.old.core.stop ≡ None }
         ensures { IsStoppedWhereFull self.old result self.new }
     {
         let full = self.limit <= self.history.len();
@@ -562,14 +733,14 @@ impl Core {
 
     /// Process p was made and hasn't ended.
     pub fn lives(&self, p: u64) -> bool
-        ensures { result ≡ is_some (living (state_of self.now) p) }
+        ensures { result ≡ is_some (living (state_of self.now.core) p) }
     {
         self.machine.lives(p)
     }
 
     // Of the processes that live and don't wait the one with the least number above p.
     fn ready_above(&self, p: u64) -> Option<u64>
-        ensures { result ≡ first_above p (ready_of self.now) None }
+        ensures { result ≡ first_above p (ready_of self.now.core) None }
     {
         lists_are_those_of_definitions();
         self.roster.first_above(p)
@@ -578,7 +749,7 @@ impl Core {
     // The process that comes next after p, whoever is out.
     #[inline(always)]
     fn next_of_all(&self, p: u64) -> Option<u64>
-        ensures { result ≡ next_of_ready p (ready_of self.now) }
+        ensures { result ≡ next_of_ready p (ready_of self.now.core) }
     {
         lists_are_those_of_definitions();
         self.roster.next(p)
@@ -586,7 +757,7 @@ impl Core {
 
     // Of those that aren't out the one with the least number above p.
     fn free_above(&self, p: u64) -> Option<u64>
-        ensures { result ≡ first_above p (free_of self.now) None }
+        ensures { result ≡ first_above p (free_of self.now.core) None }
     {
         let mut next = self.ready_above(p)?;
         while self.is_out(next) {
@@ -601,7 +772,7 @@ impl Core {
     /// where at most 64 were made.
     #[inline(always)]
     pub fn ready_after(&self, p: u64) -> Option<u64>
-        ensures { result ≡ next_of_ready p (free_of self.now) }
+        ensures { result ≡ next_of_ready p (free_of self.now.core) }
     {
         if self.out.is_empty() {
             return self.next_of_all(p);
@@ -617,21 +788,21 @@ impl Core {
     /// This costs what `ready_after` does.
     #[inline(always)]
     pub fn next_ready(&self) -> Option<u64>
-        ensures { result ≡ next_ready_of self.now }
+        ensures { result ≡ next_ready_of self.now.core }
     {
         self.ready_after(self.last_process())
     }
 
     /// The process of the last entry of the history, 0 where there is none.
     pub fn last_process(&self) -> u64
-        ensures { result ≡ last_process self.now.history }
+        ensures { result ≡ last_process self.now.core.history }
     {
         self.history.last().map_or(0, |entry| entry.process)
     }
 
     /// Whether the run goes on.
     pub fn verdict(&self) -> Verdict
-        ensures { result ≡ verdict_of self.now }
+        ensures { result ≡ verdict_of self.now.core }
     {
         lists_are_those_of_definitions();
         match self.stop {
@@ -648,7 +819,7 @@ impl Core {
     /// This costs the logarithm of how many processes lived at one time, and a step for each activation from the process's top one up to the
     /// one whose variable it waits for.
     pub fn waiting_after(&self, p: u64) -> Option<Listed>
-        ensures { result ≡ next_listed_of self.now p }
+        ensures { result ≡ next_listed_of self.now.core p }
     {
         let next = self.roster.next_waiting(p)?;
         let want = self.roster.waiting(next)?;
@@ -657,29 +828,30 @@ impl Core {
 
     /// For what process p waits, if it was found waiting and waits since.
     pub fn want(&self, p: u64) -> Option<Want>
-        ensures listed { is_some result ≡ is_number_among p (progress_after self.now.program self.now.history).listed }
-        ensures want { IfSome result (IsBlocked self.now.program self.now.cells (schedule_of self.now.history) p) }
+        ensures listed { is_some result ≡ is_number_among p (progress_after self.now.core.program self.now.core.history).listed }
+        ensures want { IfSome result (IsBlocked self.now.core.program self.now.core.cells (schedule_of self.now.core.history) p) }
     {
         self.roster.waiting(p)
     }
 
     /// What is kept of the state.
     pub fn machine(&self) -> &Machine
-        ensures { IsMachineAfter self.now.program self.now.cells (schedule_of self.now.history) result.now }
+        ensures after { IsMachineAfter self.now.core.program self.now.core.cells (schedule_of self.now.core.history) result.now }
+        ensures places { self.now.places ≡ places_of self.now.core.program (snapshot_of result.now) }
     {
         &self.machine
     }
 
     /// How many processes were made.
     pub fn made(&self) -> u64
-        ensures { result ≡ length (state_of self.now).processes }
+        ensures { result ≡ length (state_of self.now.core).processes }
     {
         self.machine.made
     }
 
     /// Where process p is; none where it was never made or has ended.
     pub fn whereabouts(&self, p: u64) -> Option<Whereabouts>
-        ensures { result ≡ whereabouts_by self.now.program p (state_of self.now) }
+        ensures { result ≡ whereabouts_by self.now.core.program p (state_of self.now.core) }
     {
         if !self.machine.lives(p) {
             return None;
@@ -689,7 +861,7 @@ impl Core {
 
     /// How many cells of the arena are taken.
     pub fn used(&self) -> u32
-        ensures { result ≡ used_cells self.now.program is_held (state_of self.now) }
+        ensures { result ≡ used_cells self.now.core.program is_held (state_of self.now.core) }
     {
         layouts_have_what_is_held();
         self.machine.frames.used()
@@ -698,8 +870,8 @@ impl Core {
     /// The cell at a position of COMMON, counted from 0, where the common blocks stand one behind the other in the order in which they
     /// appear first, each at its greatest length. None past the end of COMMON.
     pub fn common(&self, at: u32) -> Option<Slot>
-        ensures inside { is_some result ≡ nat_lt at (common_cells self.now.program) }
-        ensures cell { IfSome result (IsAtPosition self.now at) }
+        ensures inside { is_some result ≡ nat_lt at (common_cells self.now.core.program) }
+        ensures cell { IfSome result (IsAtPosition self.now.core at) }
     {
         if self.image.common() <= at {
             return None;
@@ -709,33 +881,34 @@ impl Core {
 
     /// The records so far.
     pub fn output(&self) -> &[Record]
-        ensures { result.now ≡ (state_of self.now).records }
+        ensures { result.now ≡ (state_of self.now.core).records }
     {
         &self.machine.records
     }
 
     /// The faults so far.
     pub fn faults(&self) -> &[Fault]
-        ensures { result.now ≡ (state_of self.now).faults }
+        ensures { result.now ≡ (state_of self.now.core).faults }
     {
         &self.machine.faults
     }
 
     /// The history.
     pub fn history(&self) -> &History
-        ensures { result.now.items ≡ self.now.history }
+        ensures { result.now.items ≡ self.now.core.history }
     {
         &self.history
     }
 
     /// The history of a core that is no longer needed.
     pub fn into_history(self) -> History
-        ensures { result.items ≡ self.history }
+        ensures { result.items ≡ self.core.history }
     {
         let Core {
             alloc,
             image,
             tables,
+            own,
             cells,
             limit,
             history,
@@ -744,27 +917,28 @@ impl Core {
             roster,
             out,
             given,
+            saved,
         } = self;
         history
     }
 
     /// How many cells the arena has.
     pub fn cells(&self) -> u32
-        ensures { result ≡ self.now.cells }
+        ensures { result ≡ self.now.core.cells }
     {
         self.cells
     }
 
     /// How many entries the history may have.
     pub fn limit(&self) -> u64
-        ensures { result ≡ self.now.limit }
+        ensures { result ≡ self.now.core.limit }
     {
         self.limit
     }
 
     /// The image that runs.
     pub fn image(&self) -> &Image
-        ensures { result.now ≡ self.now.program }
+        ensures { result.now ≡ self.now.core.program }
     {
         &self.image
     }

@@ -5,7 +5,7 @@ use Rattle.hep_begins.specs.Begins.{begun}
 use Rattle.hep_causes.proofs.Along.{along-next, state-next}
 use Rattle.hep_causes.proofs.Found.{begin-along, opened, processes-all, whole}
 use Rattle.hep_causes.specs.Watches.{HaveLooked, IsReplayed, Whole, processes}
-use Rattle.hep_core.specs.Value.{AreSingle, CoreValue, state_of}
+use Rattle.hep_core.specs.Value.{CoreValue, state_of}
 use Rattle.hep_history.specs.Progress.{longer, turn_entry}
 use Rattle.hep_history.specs.Replays.{standing}
 use Rattle.hep_machine.specs.declared.event.Entry.{Entry}
@@ -76,11 +76,11 @@ all-there before n rest all count less end none = omega (arith, count, less, end
 -- ---- the beginning and the end
 
 module _ (core : CoreValue) (entries : List Entry) (r : IsReplayed core entries) (operations : List ℕ) where
-  pub counting-begins : IsLegal core.program core.cells core.limit core.history → AreSingle core.history → (again : CoreValue) (counts : List (Option ℕ)) → again ≡ standing core.program core.cells []
+  pub counting-begins : IsLegal core.program core.cells core.limit core.history → (again : CoreValue) (counts : List (Option ℕ)) → again ≡ standing core.program core.cells []
       → IsCounting (whole core entries r) operations (counted_in core.program operations entries counts) again (turns_from 1 entries) counts
-  counting-begins legal single again counts e =
+  counting-begins legal again counts e =
       record {
-        along = begin-along core entries r legal single again [] [] e (λ i w f. absurd (none-some w f)) (nobody-looks again 0 None);
+        along = begin-along core entries r legal again [] [] e (λ i w f. absurd (none-some w f)) (nobody-looks again 0 None);
         so_far =
             (λ i. counted_along core.program operations (state_after core.program (ap (λ (c : CoreValue). c.history) e i)) (processes-all 1 entries i) counts)
             ∙ ap (λ (s : State). counted_along core.program operations s (schedule_of entries) counts) (opened core.program);

@@ -66,7 +66,7 @@ fn begun_by(machine: &Machine, image: &Image, operations: &[usize], p: u64) -> O
 
 /// The line of the statement that a step of process p begins, if it lives and begins one.
 pub(crate) fn begun(core: &Core, operations: &[usize], p: u64) -> Option<u32>
-    ensures { result ≡ words.begun core.now.program operations.now p (state_of core.now) }
+    ensures { result ≡ words.begun core.now.core.program operations.now p (state_of core.now.core) }
 {
     if !core.lives(p) {
         return None;

@@ -21,10 +21,10 @@ fn make_turn(
     p: u64,
 ) -> Result<(), AllocError>
     requires { (whole : Whole) × (total : List (Option ℕ)) × (entry : ℕ) × (left : List (ℕ × ℕ))
-        × IsCounting whole operations.now total core.old ((entry, p) ∷ left) counts.old.items }
+        × IsCounting whole operations.now total core.old.core ((entry, p) ∷ left) counts.old.items }
     ensures { OnOk result ((whole : Whole) (total : List (Option ℕ)) (entry : ℕ) (left : List (ℕ × ℕ))
-        → IsCounting whole operations.now total core.old ((entry, p) ∷ left) counts.old.items
-        → IsCounting whole operations.now total core.new left counts.new.items) }
+        → IsCounting whole operations.now total core.old.core ((entry, p) ∷ left) counts.old.items
+        → IsCounting whole operations.now total core.new.core left counts.new.items) }
 {
     let line = begun(core, operations, p);
     step(core, p)?;
@@ -40,10 +40,10 @@ fn make_entry(
     entry: Entry,
 ) -> Result<(), AllocError>
     requires { (whole : Whole) × (total : List (Option ℕ)) × (number : ℕ) × (left : List (ℕ × ℕ))
-        × IsCounting whole operations.now total core.old (turns_of number entry ++ left) counts.old.items }
+        × IsCounting whole operations.now total core.old.core (turns_of number entry ++ left) counts.old.items }
     ensures { OnOk result ((whole : Whole) (total : List (Option ℕ)) (number : ℕ) (left : List (ℕ × ℕ))
-        → IsCounting whole operations.now total core.old (turns_of number entry ++ left) counts.old.items
-        → IsCounting whole operations.now total core.new left counts.new.items) }
+        → IsCounting whole operations.now total core.old.core (turns_of number entry ++ left) counts.old.items
+        → IsCounting whole operations.now total core.new.core left counts.new.items) }
 {
     for _ in 0..entry.steps {
         make_turn(core, operations, counts, entry.process)?;
@@ -58,9 +58,9 @@ fn make_entries(
     counts: &mut Vec<Option<u64>>,
     entries: &History,
 ) -> Result<(), AllocError>
-    requires { (whole : Whole) × (total : List (Option ℕ)) × IsCounting whole operations.now total core.old (turns_from 1 entries.now.items) counts.old.items }
-    ensures { OnOk result ((whole : Whole) (total : List (Option ℕ)) → IsCounting whole operations.now total core.old (turns_from 1 entries.now.items) counts.old.items
-        → IsCounting whole operations.now total core.new [] counts.new.items) }
+    requires { (whole : Whole) × (total : List (Option ℕ)) × IsCounting whole operations.now total core.old.core (turns_from 1 entries.now.items) counts.old.items }
+    ensures { OnOk result ((whole : Whole) (total : List (Option ℕ)) → IsCounting whole operations.now total core.old.core (turns_from 1 entries.now.items) counts.old.items
+        → IsCounting whole operations.now total core.new.core [] counts.new.items) }
 {
     let mut rest = entries.iter();
     for _ in 0..entries.len() {
@@ -85,8 +85,8 @@ pub fn count_history(
     entries: &History,
     counts: &mut Vec<Option<u64>>,
 ) -> Result<(), AllocError>
-    requires { IsReplayed core.now entries.now.items }
-    ensures { OnOk result (counts.new.items ≡ counted_in core.now.program operations.now entries.now.items counts.old.items) }
+    requires { IsReplayed core.now.core entries.now.items }
+    ensures { OnOk result (counts.new.items ≡ counted_in core.now.core.program operations.now entries.now.items counts.old.items) }
 {
     core.headline();
     let mut again = begin_again(alloc, core, entries)?;

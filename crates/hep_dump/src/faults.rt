@@ -86,7 +86,7 @@ pub fn append_faults(text: &mut Vec<u8>, image: &Image, faults: &[Fault]) -> Res
 /// Only where memory was refused.
 pub fn fault_text(alloc: Global, core: &Core) -> Result<Vec<u8>, AllocError>
     ensures { IfOk result (λ text. text.items
-        ≡ words.faults_text (names_in_order core.now.program) (state_of core.now).faults) }
+        ≡ words.faults_text (names_in_order core.now.core.program) (state_of core.now.core).faults) }
 {
     let mut text = Vec::new(alloc);
     append_faults(&mut text, core.image(), core.faults())?;

@@ -141,7 +141,7 @@ fn append_place(
 ///
 /// Only where memory was refused.
 pub fn append_places(alloc: Global, text: &mut Vec<u8>, core: &Core) -> Result<(), AllocError>
-    ensures { OnOk result (text.new.items ≡ text.old.items ++ stops.all_places_notes core.now.program core.now.history) }
+    ensures { OnOk result (text.new.items ≡ text.old.items ++ stops.all_places_notes core.now.core.program core.now.core.history) }
 {
     for before in 0..core.made() {
         append_place(alloc, text, core.image(), core.whereabouts(before + 1))?;

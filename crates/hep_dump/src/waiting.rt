@@ -185,7 +185,7 @@ pub fn append_all_waiting(
     core: &Core,
     long: bool,
 ) -> Result<(), AllocError>
-    ensures { OnOk result (text.new.items ≡ text.old.items ++ words.all_waiting_text long core.now.program core.now.history) }
+    ensures { OnOk result (text.new.items ≡ text.old.items ++ words.all_waiting_text long core.now.core.program core.now.core.history) }
 {
     let mut last = 0;
     while let Some(listed) = core.waiting_after(last) {
@@ -201,7 +201,7 @@ pub fn append_all_waiting(
 ///
 /// Only where memory was refused.
 pub fn dump_text(alloc: Global, core: &Core) -> Result<Vec<u8>, AllocError>
-    ensures { IfOk result (λ text. text.items ≡ words.all_waiting_text false core.now.program core.now.history) }
+    ensures { IfOk result (λ text. text.items ≡ words.all_waiting_text false core.now.core.program core.now.core.history) }
 {
     let mut text = Vec::new(alloc);
     append_all_waiting(alloc, &mut text, core, false)?;

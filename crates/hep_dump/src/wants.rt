@@ -144,7 +144,7 @@ fn append_want(
     place: &Whereabouts,
     want: &Want,
 ) -> Result<(), AllocError>
-    ensures { OnOk result (text.new.items ≡ text.old.items ++ words.want_notes core.now.program core.now.cells place.now want.now) }
+    ensures { OnOk result (text.new.items ≡ text.old.items ++ words.want_notes core.now.core.program core.now.core.cells place.now want.now) }
 {
     let image = core.image();
     let Some(unit) = want.unit else {
@@ -174,7 +174,7 @@ fn append_wants(
     wants: &[Want],
 ) -> Result<(), AllocError>
     ensures { OnOk result (text.new.items
-        ≡ text.old.items ++ flat_map (words.want_notes core.now.program core.now.cells place.now) wants.now) }
+        ≡ text.old.items ++ flat_map (words.want_notes core.now.core.program core.now.core.cells place.now) wants.now) }
 {
     for want in wants {
         append_want(alloc, text, core, place, want)?;
@@ -190,8 +190,8 @@ fn append_wants_of(
     program: &ProgramSymbols,
     place: Option<Whereabouts>,
 ) -> Result<(), AllocError>
-    requires { program.now ≡ core.now.program }
-    ensures { OnOk result (text.new.items ≡ text.old.items ++ words.wants_notes core.now.program core.now.cells place) }
+    requires { program.now ≡ core.now.core.program }
+    ensures { OnOk result (text.new.items ≡ text.old.items ++ words.wants_notes core.now.core.program core.now.core.cells place) }
 {
     let Some(place) = place else {
         return Ok(());
@@ -208,7 +208,7 @@ fn append_wants_of(
 /// Only where memory was refused.
 pub fn append_all_wants(alloc: Global, text: &mut Vec<u8>, core: &Core) -> Result<(), AllocError>
     ensures { OnOk result (text.new.items
-        ≡ text.old.items ++ words.all_wants_notes core.now.program core.now.cells core.now.history) }
+        ≡ text.old.items ++ words.all_wants_notes core.now.core.program core.now.core.cells core.now.core.history) }
 {
     let program = ProgramSymbols::new(alloc, core.image().program().as_slice())?;
     for before in 0..core.made() {

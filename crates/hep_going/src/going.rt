@@ -1,9 +1,9 @@
 //! Turns of a process, one after the other, by which it lives on and which fill and empty no cell.
 ghost use Rattle.std.specs.Prelude.{◌≡◌, ◌+◌, ◌^◌, ◌≤◌, ◌<◌, false, true};
-ghost use Rattle.hep_state.specs.Words.{LivesOn, snapshot_of};
+ghost use Rattle.hep_state.specs.Words.{LeavesOthers, LivesOn, snapshot_of};
 ghost use Rattle.hep_going.specs.Gone.{CanTakeTurns, HasNoMoveAhead, MakesMoves};
 
-use crate::top::{go_top, top_rests};
+use crate::top::{go_top, step_top, top_rests};
 use hep_quick::Tabled;
 use hep_state::{Machine, laws};
 
@@ -25,11 +25,24 @@ fn move_on(machine: &mut Machine, tabled: &Tabled<'_>, p: u64, most: u64) -> u64
     go_top(process, &mut machine.frames, tabled, most)
 }
 
-/// So many turns of process p at most, which lives, and how many they were: each is a step of a plain operation, or begins or ends an
-/// activation. None fills or empties a cell, or makes or ends a process.
-///
-/// It makes fewer only where no plain operation stands ahead of p any more, or one that is a fault.
-pub fn go_on(machine: &mut Machine, tabled: &Tabled<'_>, p: u64, most: u64) -> u64
+// A turn of process p, which lives, whose step its table has and only moves it, or none.
+#[inline(always)]
+fn move_once(machine: &mut Machine, tabled: &Tabled<'_>, p: u64) -> u64
+    requires { CanTakeTurns tabled.now p machine.old }
+    ensures gone { MakesMoves tabled.now.image.now p machine.old result machine.new }
+    ensures few { result ≤ 1 }
+    ensures lives { LivesOn p 0 machine.old machine.new }
+{
+    tabled.image.is_runnable();
+    laws::tops_are_running();
+    let at = machine.place(p);
+    let process = &mut machine.processes[at];
+    step_top(process, &mut machine.frames, tabled)
+}
+
+// So many turns of process p, as `go_on` has them. A function of its own, so that one turn needs no room for it.
+#[inline(never)]
+fn go_along(machine: &mut Machine, tabled: &Tabled<'_>, p: u64, most: u64) -> u64
     requires turn { CanTakeTurns tabled.now p machine.old }
     requires countable { machine.old.activations + most < 2 ^ 64 }
     ensures gone { MakesMoves tabled.now.image.now p machine.old result machine.new }
@@ -37,6 +50,7 @@ pub fn go_on(machine: &mut Machine, tabled: &Tabled<'_>, p: u64, most: u64) -> u
     ensures all { result < most → HasNoMoveAhead tabled.now.image.now p (snapshot_of machine.new) }
     ensures made { machine.new.made ≡ machine.old.made }
     ensures halted { machine.new.halted ≡ false }
+    ensures others { LeavesOthers p (snapshot_of machine.old) (snapshot_of machine.new) }
 {
     let mut made = 0;
     while made < most {
@@ -50,6 +64,49 @@ pub fn go_on(machine: &mut Machine, tabled: &Tabled<'_>, p: u64, most: u64) -> u
         made += 1;
     }
     made
+}
+
+// One turn of process p at most, as `go_on` has it: by its table, or else as any other.
+#[inline(always)]
+fn go_once(machine: &mut Machine, tabled: &Tabled<'_>, p: u64) -> u64
+    requires turn { CanTakeTurns tabled.now p machine.old }
+    requires countable { machine.old.activations + 1 < 2 ^ 64 }
+    ensures gone { MakesMoves tabled.now.image.now p machine.old result machine.new }
+    ensures few { result ≤ 1 }
+    ensures all { result < 1 → HasNoMoveAhead tabled.now.image.now p (snapshot_of machine.new) }
+    ensures made { machine.new.made ≡ machine.old.made }
+    ensures halted { machine.new.halted ≡ false }
+    ensures others { LeavesOthers p (snapshot_of machine.old) (snapshot_of machine.new) }
+{
+    let made = move_once(machine, tabled, p);
+    if made == 1 {
+        return made;
+    }
+    // The tables need a place in memory for this call alone.
+    let tabled = *tabled;
+    go_along(machine, &tabled, p, 1)
+}
+
+/// So many turns of process p at most, which lives, and how many they were: each is a step of a plain operation, or begins or ends an
+/// activation. None fills or empties a cell, or makes or ends a process, and the other processes stand where they stood.
+///
+/// It makes fewer only where no plain operation stands ahead of p any more, or one that is a fault. One turn alone, as processes make it
+/// that go in turn, costs least where the table has its step.
+#[inline(always)]
+pub fn go_on(machine: &mut Machine, tabled: &Tabled<'_>, p: u64, most: u64) -> u64
+    requires turn { CanTakeTurns tabled.now p machine.old }
+    requires countable { machine.old.activations + most < 2 ^ 64 }
+    ensures gone { MakesMoves tabled.now.image.now p machine.old result machine.new }
+    ensures few { result ≤ most }
+    ensures all { result < most → HasNoMoveAhead tabled.now.image.now p (snapshot_of machine.new) }
+    ensures made { machine.new.made ≡ machine.old.made }
+    ensures halted { machine.new.halted ≡ false }
+    ensures others { LeavesOthers p (snapshot_of machine.old) (snapshot_of machine.new) }
+{
+    if most == 1 {
+        return go_once(machine, tabled, p);
+    }
+    go_along(machine, tabled, p, most)
 }
 
 /// Where process p is, which lives, its table has an operation that isn't plain, so no plain operation stands ahead of it. Behind values that

@@ -5,7 +5,7 @@ ghost use Rattle.hep_going.specs.Gone.{CanGoTop, GoesTop, IsTabledTop, RestsAtTo
 
 use hep_moves::Activation;
 use hep_proc::{Frames, Process};
-use hep_quick::{Quick, Tabled, move_by_table, rests};
+use hep_quick::{Quick, Tabled, move_by_table, rests, step_by_table};
 use hep_state::place;
 
 /// So many steps at most of the top activation of a process, each of which only moves it, and how many they were.
@@ -33,6 +33,30 @@ pub(crate) fn go_top(
     let quick = Quick { activation, table };
     let operands = &mut process.operands;
     let made = move_by_table(&quick, &mut frames.arena, operands, &mut index, most);
+    process.stand_at(index);
+    made
+}
+
+/// A step of the top activation of a process that its table has, which only moves it, or none.
+#[inline(always)]
+pub(crate) fn step_top(process: &mut Process, frames: &mut Frames, tabled: &Tabled<'_>) -> u64
+    requires { CanGoTop tabled.now process.old frames.old }
+    ensures gone { GoesTop tabled.now.image.now process.old frames.old result result process.new frames.new }
+    ensures few { result ≤ 1 }
+    ensures nodes { frames.new.nodes ≡ frames.old.nodes }
+    ensures holes { frames.new.arena.holes ≡ frames.old.arena.holes }
+    ensures same { IsSameProcess process.old process.new }
+{
+    let (unit, frame, mut index) = place(process, frames, tabled.image);
+    let activation = Activation {
+        code: unit.code.as_slice(),
+        arrays: unit.arrays.as_slice(),
+        frame,
+    };
+    let level = process.top();
+    let table = tabled.table(level.unit as usize);
+    let quick = Quick { activation, table };
+    let made = step_by_table(&quick, &mut frames.arena, &mut process.operands, &mut index);
     process.stand_at(index);
     made
 }

@@ -20,8 +20,8 @@ const MOST_AT_ONCE: u32 = 4_096;
 // One choice of a process, and whether it did what it should: whether it made a step or, where the
 // process is to wait, found it waiting. A step that makes a frame without a gap isn't made.
 fn make_turn(core: &mut Core, process: u64, waits: bool) -> Result<bool, ReplayFault>
-    requires { IsStanding core.old }
-    ensures { TurnMade core.old process waits result core.new }
+    requires { IsStanding core.old.core }
+    ensures { TurnMade core.old.core process waits result core.new.core }
 {
     match core.choose(process) {
         Ok(turn) => Ok(turn.blocked == waits),
@@ -34,9 +34,9 @@ fn make_turn(core: &mut Core, process: u64, waits: bool) -> Result<bool, ReplayF
 
 // So many steps of a process, and whether each of them was there, and each frame had its gap.
 fn make_steps(core: &mut Core, process: u64, steps: u32) -> Result<bool, ReplayFault>
-    requires standing { IsStanding core.old }
-    requires within { length core.old.history ≤ most_entries }
-    ensures { StepsMade core.old process steps result core.new }
+    requires standing { IsStanding core.old.core }
+    requires within { length core.old.core.history ≤ most_entries }
+    ensures { StepsMade core.old.core process steps result core.new.core }
 {
     for _ in 0..steps {
         if !make_turn(core, process, false)? {
@@ -48,9 +48,9 @@ fn make_steps(core: &mut Core, process: u64, steps: u32) -> Result<bool, ReplayF
 
 // Makes an entry, and says whether it was possible.
 fn make_entry(core: &mut Core, entry: Entry) -> Result<bool, ReplayFault>
-    requires standing { IsStanding core.old }
-    requires within { length core.old.history ≤ most_entries }
-    ensures { EntryMade core.old entry result core.new }
+    requires standing { IsStanding core.old.core }
+    requires within { length core.old.core.history ≤ most_entries }
+    ensures { EntryMade core.old.core entry result core.new.core }
 {
     if entry.steps == 0 {
         make_turn(core, entry.process, true)
@@ -61,9 +61,9 @@ fn make_entry(core: &mut Core, entry: Entry) -> Result<bool, ReplayFault>
 
 // Makes entries of one step of a process, up to so many, and says how many: none where the first one isn't there, or its frame has no gap.
 fn make_some_steps(core: &mut Core, process: u64, most: u64) -> Result<u64, ReplayFault>
-    requires standing { IsStanding core.old }
+    requires standing { IsStanding core.old.core }
     requires some { 1 ≤ most }
-    ensures made { SomeStepsMade core.old process result core.new }
+    ensures made { SomeStepsMade core.old.core process result core.new.core }
     ensures few { IfOk result (λ made. made ≤ most) }
 {
     match core.go_on(process, most) {
@@ -82,10 +82,10 @@ fn make_some_steps(core: &mut Core, process: u64, most: u64) -> Result<u64, Repl
 
 // Makes an entry up to so many times, and says how often: none where it isn't possible.
 fn make_some(core: &mut Core, entry: Entry, most: u32) -> Result<u32, ReplayFault>
-    requires standing { IsStanding core.old }
-    requires within { length core.old.history ≤ most_entries }
+    requires standing { IsStanding core.old.core }
+    requires within { length core.old.core.history ≤ most_entries }
     requires some { 1 ≤ most }
-    ensures made { SomeMade core.old entry result core.new }
+    ensures made { SomeMade core.old.core entry result core.new.core }
     ensures few { IfOk result (λ made. made ≤ most) }
 {
     if entry.steps == 1 {
@@ -102,9 +102,9 @@ fn make_some(core: &mut Core, entry: Entry, most: u32) -> Result<u32, ReplayFaul
 
 // Makes an entry so many times, and says how often: fewer times where it isn't possible after those.
 fn make_run(core: &mut Core, entry: Entry, count: u32) -> Result<u32, ReplayFault>
-    requires standing { IsStanding core.old }
-    requires within { length core.old.history ≤ most_entries }
-    ensures made { RunMade core.old entry count result core.new }
+    requires standing { IsStanding core.old.core }
+    requires within { length core.old.core.history ≤ most_entries }
+    ensures made { RunMade core.old.core entry count result core.new.core }
     ensures few { IfOk result (λ made. made ≤ count) }
 {
     let mut made = 0;
@@ -135,8 +135,8 @@ pub fn replay(
 ) -> Result<Core, ReplayFault>
     requires some { 1 ≤ cells }
     requires few { cells ≤ 16777216 }
-    ensures made { IfOk result (λ core. core ≡ replayed image cells entries.now.items) }
-    ensures expanded { IfOk result (λ core. schedule_of core.history ≡ schedule_of entries.now.items) }
+    ensures made { IfOk result (λ made. made.core ≡ replayed image cells entries.now.items) }
+    ensures expanded { IfOk result (λ made. schedule_of made.core.history ≡ schedule_of entries.now.items) }
     ensures fits { OnOk result (IsSome (opening_layout image cells)) }
     ensures possible { OnOk result (ArePossible image cells entries.now.items (length entries.now.items)) }
     ensures unmade { IfErr result (IsUnmade image cells entries.now.items) }

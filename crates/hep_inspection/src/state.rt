@@ -57,8 +57,8 @@ fn told_text(
     entries: &History,
     telling: Telling,
 ) -> Result<Vec<u8>, AllocError>
-    requires { IsReplayed core.now entries.now.items }
-    ensures { IfOk result (λ text. text.items ≡ told telling core.now.program entries.now.items) }
+    requires { IsReplayed core.now.core entries.now.items }
+    ensures { IfOk result (λ text. text.items ≡ told telling core.now.core.program entries.now.items) }
 {
     match telling {
         Telling::State => state_text(alloc, core, entries.len()),

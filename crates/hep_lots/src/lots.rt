@@ -41,7 +41,7 @@ fn stay_of(seed: u64) -> u32
 
 // The process p is ready and isn't out.
 fn is_ready(core: &Core, p: u64) -> bool
-    ensures { result ≡ spec.is_ready p (free_of core.now) }
+    ensures { result ≡ spec.is_ready p (free_of core.now.core) }
 {
     match core.ready_after(p.saturating_sub(1)) {
         Some(next) => p == next,
@@ -51,7 +51,7 @@ fn is_ready(core: &Core, p: u64) -> bool
 
 // So many of the ready ones that aren't out further on from p, around.
 fn further(core: &Core, count: u32, p: u64) -> Option<u64>
-    ensures { result ≡ spec.further count p (free_of core.now) }
+    ensures { result ≡ spec.further count p (free_of core.now.core) }
 {
     let mut at = p;
     for _ in 0..count {
@@ -62,7 +62,7 @@ fn further(core: &Core, count: u32, p: u64) -> Option<u64>
 
 // Any of the ready ones that aren't out, as a word says.
 fn drawn_anew(core: &Core, word: u32) -> Option<u64>
-    ensures { result ≡ spec.drawn_anew word (length (state_of core.now).processes) (free_of core.now) }
+    ensures { result ≡ spec.drawn_anew word (length (state_of core.now.core).processes) (free_of core.now.core) }
 {
     let start = u64::from(word / 4) % core.made();
     further(core, word % 4 + 1, start)
@@ -83,7 +83,7 @@ impl Lots {
     ///
     /// This costs what `ready_after` of the core does, five times at most.
     pub fn next(&mut self, core: &Core) -> Option<u64>
-        ensures process { result ≡ next_in self.old core.now }
+        ensures process { result ≡ next_in self.old core.now.core }
         ensures lots { self.new ≡ lots_next self.old }
     {
         let word = self.generator.next_word();

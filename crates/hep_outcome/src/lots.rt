@@ -14,11 +14,11 @@ use std::alloc::{AllocError, Global};
 
 // Chooses what is drawn, until nothing is ready or the run stops.
 fn draw_on(core: &mut Core, options: &LotOptions) -> Result<(), AllocError>
-    requires opening { core.old.history ≡ [] }
-    requires drawing { IsDrawing options.now core.old }
-    requires out { core.old.out ≡ [] }
-    ensures program { core.new.program ≡ core.old.program }
-    ensures drawn { OnOk result ((choices : List ℕ) × IsDrawnOut options.now core.new choices) }
+    requires opening { core.old.core.history ≡ [] }
+    requires drawing { IsDrawing options.now core.old.core }
+    requires out { core.old.core.out ≡ [] }
+    ensures program { core.new.core.program ≡ core.old.core.program }
+    ensures drawn { OnOk result ((choices : List ℕ) × IsDrawnOut options.now core.new.core choices) }
 {
     let mut lots = Lots::new(options.seed);
     while let Some(process) = lots.next(core) {
@@ -40,8 +40,8 @@ fn drawn_transcript(
     options: &LotOptions,
     long: bool,
 ) -> Result<Transcript, AllocError>
-    requires { core ≡ opening_of core.program options.now.arena options.now.steps }
-    ensures { IfOk result (λ r. IsDrawnOutcome long core.program options.now (outcome_of r)) }
+    requires { core.core ≡ opening_of core.core.program options.now.arena options.now.steps }
+    ensures { IfOk result (λ r. IsDrawnOutcome long core.core.program options.now (outcome_of r)) }
 {
     let mut core = core;
     draw_on(&mut core, options)?;

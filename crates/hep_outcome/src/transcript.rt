@@ -82,7 +82,7 @@ fn append_dump(
     verdict: Verdict,
     long: bool,
 ) -> Result<(), AllocError>
-    ensures { OnOk result (text.new.items ≡ text.old.items ++ outcome.dump_text long core.now.program core.now.history verdict) }
+    ensures { OnOk result (text.new.items ≡ text.old.items ++ outcome.dump_text long core.now.core.program core.now.core.history verdict) }
 {
     match verdict {
         Verdict::Waiting => append_all_waiting(alloc, text, core, long),
@@ -98,7 +98,7 @@ fn append_notes_of_stop(
     stop: Option<ChoiceStop>,
 ) -> Result<(), AllocError>
     ensures { OnOk result (text.new.items
-        ≡ text.old.items ++ told.notes_of_stop core.now.program core.now.cells core.now.history stop) }
+        ≡ text.old.items ++ told.notes_of_stop core.now.core.program core.now.core.cells core.now.core.history stop) }
 {
     match stop {
         Some(ChoiceStop::ArenaFull) => {
@@ -120,7 +120,7 @@ fn append_stop_notes(
     long: bool,
 ) -> Result<(), AllocError>
     ensures { OnOk result (text.new.items
-        ≡ text.old.items ++ told.stop_notes long core.now.program core.now.cells core.now.history stop) }
+        ≡ text.old.items ++ told.stop_notes long core.now.core.program core.now.core.cells core.now.core.history stop) }
 {
     if long {
         append_notes_of_stop(alloc, text, core, stop)?;
@@ -130,7 +130,7 @@ fn append_stop_notes(
 
 /// The stop that a core is at.
 fn stop_of(core: &Core) -> Option<ChoiceStop>
-    ensures { result ≡ core.now.stop }
+    ensures { result ≡ core.now.core.stop }
 {
     match core.verdict() {
         Verdict::Stopped(stop) => Some(stop),
@@ -140,7 +140,7 @@ fn stop_of(core: &Core) -> Option<ChoiceStop>
 
 // The history of a core that is no longer needed.
 fn history_of(core: Core) -> History
-    ensures { result.items ≡ core.history }
+    ensures { result.items ≡ core.core.history }
 {
     core.into_history()
 }
@@ -152,7 +152,7 @@ fn history_of(core: Core) -> History
 /// Only where memory was refused.
 pub fn ended_transcript(alloc: Global, core: Core, long: bool) -> Result<Transcript, AllocError>
     ensures { IfOk result (λ r.
-        outcome_of r ≡ outcome_of_end long core.program core.cells core.history core.stop) }
+        outcome_of r ≡ outcome_of_end long core.core.program core.core.cells core.core.history core.core.stop) }
 {
     let stop = stop_of(&core);
     let verdict = core.verdict();
@@ -186,7 +186,7 @@ fn running_text(verdict: Verdict) -> &'static [u8]
 ///
 /// Only where memory was refused.
 pub fn core_transcript(alloc: Global, core: Core, long: bool) -> Result<Transcript, AllocError>
-    ensures { IfOk result (λ r. outcome_of r ≡ outcome_of_core long core) }
+    ensures { IfOk result (λ r. outcome_of r ≡ outcome_of_core long core.core) }
 {
     let verdict = core.verdict();
     let Transcript {
@@ -211,8 +211,8 @@ pub fn core_transcript(alloc: Global, core: Core, long: bool) -> Result<Transcri
 ///
 /// Only where memory was refused.
 pub fn choice_transcript(alloc: Global, core: Core, choice: usize) -> Result<Transcript, AllocError>
-    requires { choice ≡ length core.history + 1 }
-    ensures { IfOk result (λ r. outcome_of r ≡ outcome_of_refused_choice core.history) }
+    requires { choice ≡ length core.core.history + 1 }
+    ensures { IfOk result (λ r. outcome_of r ≡ outcome_of_refused_choice core.core.history) }
 {
     let mut messages = Vec::new(alloc);
     put_refusal(&mut messages, 501, choice as u64, b"")?;

@@ -1,6 +1,7 @@
 mod Inside
-mod Runs
+pub mod Runs
 mod Room
+mod Behind
 mod Turns
 mod Lists
 mod Stored
@@ -8,3 +9,6 @@ mod Saved
 mod Bare
 mod Kept
 mod Owned
+mod Ends
+mod WhatIsRead
+mod Beside

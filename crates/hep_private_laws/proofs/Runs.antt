@@ -134,6 +134,19 @@ module _ (code : List Instruction) (arrays : List Array) (cells : List ℕ) (fra
         subst (λ rs. Come (k + suc n) (snapshot (contents_with frame.first u.contents rs) end.operands end.index)) first.are (
         subst (λ j. Come j (snapshot (contents_with frame.first u.contents (first.m.noted ∷ first.rest)) end.operands end.index)) count rest)
 
+    -- and the values in the frame are theirs
+    pub values-gone : (n k : ℕ) (u : Snapshot) (written : List ℕ) (records : List Record) (end : Own) → Come k u → recorded cells code n (own_at u written) ≡ Some (records, end)
+        → (d : ℕ) → values_at (contents_with frame.first u.contents records) frame.first d ≡ end.values d
+    values-gone zero k u written records end come is d =
+        let same = same_Some ([], own_at u written) (records, end) is in
+        subst (λ (r : List Record × Own). values_at (contents_with frame.first u.contents r.0) frame.first d ≡ r.1.values d) same refl
+    values-gone (suc n) k u written records end come is d =
+        let first = first-of cells code n (own_at u written) records end is in
+        let later : recorded cells code n (own_at (after k u written come first.m first.next) (written_after written first.m.noted)) ≡ Some (first.rest, end) =
+        ap (recorded cells code n) (sym (own-after k u written come first.m first.next)) ∙ first.later in
+        subst (λ rs. values_at (contents_with frame.first u.contents rs) frame.first d ≡ end.values d) first.are (
+        values-gone n (suc k) (after k u written come first.m first.next) (written_after written first.m.noted) first.rest end (come-after k u written come first.m first.next) later d)
+
 -- ---- turns
 
 snoc-more : {A : Type 0} (n : ℕ) (x : A) → replicate n x ++ x ∷ [] ≡ replicate (suc n) x

@@ -15,11 +15,12 @@ use Rattle.hep_moves.specs.Moves.{Goes, settles, stays}
 use Rattle.hep_going.specs.Gone.{HasGone}
 use Rattle.hep_going.proofs.Turns.{HasLaws, can-go, come-so}
 use Rattle.hep_private.specs.declared.record.Record.{Record}
-use Rattle.hep_private.specs.Own.{Own, pushed_ahead, settled}
+use Rattle.hep_private.specs.Own.{Own, pushed_ahead, settled, values_at}
 use Rattle.hep_private.specs.Recorded.{made_ahead, next_made, recorded}
 use Rattle.hep_private_laws.specs.Gone.{HaveGone, contents_with, own_of}
+use Rattle.hep_private_laws.proofs.Behind.{private-behind}
 use Rattle.hep_private_laws.proofs.Room.{all-in-room, fits-ahead, pushed-length, room-for}
-use Rattle.hep_private_laws.proofs.Runs.{gone-on, left-same, steps-are, turns-are}
+use Rattle.hep_private_laws.proofs.Runs.{gone-on, left-same, steps-are, turns-are, values-gone}
 
 -- what the laws say of all programs
 module _ (running : (t : TurnOf) → IsAccepted t.program → is_some (main_among t.program) ≡ true → (turning : IsTurning t) → IsTopRunning t turning)
@@ -39,9 +40,12 @@ module _ (running : (t : TurnOf) → IsAccepted t.program → is_some (main_amon
       let code = unit_code t.program t.level.unit in
       let here = snapshot t.machine.arena.contents t.operands t.level.index in
       let there = snapshot (contents_with (top_frame t).first t.machine.arena.contents records) end.operands end.index in
+      let cells = private_cells (unit_at t.program t.level.unit) in
+      let can = can-go t laws turns (deepest code) (omega arith) in
       let goes =
-      gone-on code (unit_arrays t.program t.level.unit) (private_cells (unit_at t.program t.level.unit)) (frame_in_arena (top_frame t)) t.machine.arena.holes (deepest code) here
-      (can-go t laws turns (deepest code) (omega arith)) n 0 here [] records end (stays here) is in
+      gone-on code (unit_arrays t.program t.level.unit) cells (frame_in_arena (top_frame t)) t.machine.arena.holes (deepest code) here can n 0 here [] records end (stays here) is in
+      let values =
+      values-gone code (unit_arrays t.program t.level.unit) cells (frame_in_arena (top_frame t)) t.machine.arena.holes (deepest code) here can n 0 here [] records end (stays here) is in
       let count : 0 + n ≡ n = omega arith in
       let come = come-so t laws turns n there (subst (λ k. Goes code (unit_arrays t.program t.level.unit) (top_frame t).first here k there) count goes) in
       let made = turns-are t.program t.cells t.process t.choices n come.after come.gone in
@@ -49,6 +53,7 @@ module _ (running : (t : TurnOf) → IsAccepted t.program → is_some (main_amon
         gone = subst (HasGone t.program t.cells t.process t.choices n) made come.gone;
         steps = steps-are t.program t.cells t.process t.choices n come.after come.gone;
         after = subst (λ ps. IsAfter t.program t.cells ps (snapshot_moved t there.contents there.operands there.index)) made come.turns.after;
+        next = private-behind cells code n (own_of t) records end (values_at there.contents (top_frame t).first) is values;
       }
 
   -- no step is left out for want of room

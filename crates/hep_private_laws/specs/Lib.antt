@@ -1,3 +1,4 @@
 pub mod Gone
 pub mod Saved
 pub mod Scalars
+pub mod Beside

@@ -11,11 +11,13 @@ ghost use Rattle.hep_image.specs.Image.{most_cells};
 ghost use Rattle.hep_image.specs.Private.{private_cells};
 ghost use Rattle.hep_step.specs.Simulation.{unit_code};
 ghost use Rattle.hep_blocked.specs.Listing.{AreListed};
-ghost use Rattle.hep_state.specs.Words.{IsTurning, TurnOf};
+ghost use Rattle.hep_state.specs.Words.{IsTurning, Snapshot, TurnOf};
 ghost use Rattle.hep_private.specs.declared.record.Record.{Record as ARecord};
 ghost use Rattle.hep_private.specs.Own.{Own, settled};
+ghost use Rattle.hep_private.specs.Reads.{HaveRead};
 ghost use Rattle.hep_private.specs.Recorded.{made_ahead, next_made, recorded};
 ghost use Rattle.hep_private_laws.specs.Saved.{AreOf, HasLoopAhead, put_back};
+ghost use Rattle.hep_private_laws.specs.Beside.{IsBeside, values_beside};
 ghost use Rattle.hep_private_laws.specs.Gone.{HaveGone, contents_with, own_of};
 ghost use Rattle.hep_private_laws.specs.Scalars.{is_private_at, is_private_scalar};
 
@@ -44,6 +46,18 @@ pub fn others_leave_private_scalars()
 {
     hep_accepted_laws::runs::calls_come_from_statements();
     hep_accepted_laws::runs::references_come_from_statements();
+}
+
+/// What the next private steps of a process read in its frame is there still once others had turns, if it stands where it stood.
+pub fn others_leave_what_is_read()
+    ensures { (t : TurnOf) (others : List ℕ) (m : Snapshot) (n : ℕ) (records : List ARecord) (end : Own) → IsTurning t
+        → IsBeside t others m
+        → recorded (private_cells (unit_at t.program t.level.unit)) (unit_code t.program t.level.unit) n (own_of t) ≡ Some (records, end)
+        → HaveRead (values_beside t m) records }
+{
+    hep_accepted_laws::runs::calls_come_from_statements();
+    hep_accepted_laws::runs::references_come_from_statements();
+    hep_private::laws::private_steps_depend_on_reads();
 }
 
 /// So many private steps, one after the other, are so many turns of the process. Each is a step of the source machine that fills and

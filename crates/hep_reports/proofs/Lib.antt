@@ -1,2 +1,3 @@
 mod Marks
 mod Passing
+mod Committed

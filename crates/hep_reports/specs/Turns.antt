@@ -2,9 +2,9 @@
 use Rattle.std.specs.Prelude.{◌≡◌, ℕ, List, [], ◌∷◌, ◌++◌, Ok, length}
 use Rattle.hep_machine.specs.declared.event.Entry.{Entry}
 use Rattle.hep_core.specs.declared.stop.Turn.{Turn}
-use Rattle.hep_core.specs.declared.ticket.TicketId.{TicketId}
+use Rattle.hep_segments.specs.Segments.{SegmentValue}
 use Rattle.hep_core.specs.Commits.{IsCommitted}
-use Rattle.hep_core.specs.Value.{CoreValue}
+use Rattle.hep_core.specs.Places.{Placed}
 use Rattle.hep_reports.specs.declared.receipt.Receipt.{Receipt}
 use Rattle.hep_reports.specs.Receipts.{entry_of}
 
@@ -12,6 +12,6 @@ use Rattle.hep_reports.specs.Receipts.{entry_of}
 abbrev pub IsReceipt : List Entry → ℕ → Receipt → List Entry → Type 0
 IsReceipt old worker r new = (r.worker ≡ worker) × (r.index ≡ length old) × (new ≡ old ++ entry_of r ∷ [])
 
--- the commit of the ticket's segment made the receipt's steps
-abbrev pub HasCommitted : CoreValue → TicketId → Receipt → CoreValue → Type 0
-HasCommitted old id r new = (turn : Turn) × (turn.steps ≡ r.steps) × IsCommitted old id (Ok turn) new
+-- the commit of the segment made the receipt's steps
+abbrev pub HasCommitted : Placed → SegmentValue → Receipt → Placed → Type 0
+HasCommitted old s r new = (turn : Turn) × (turn.steps ≡ r.steps) × IsCommitted old s (Ok turn) new

@@ -32,9 +32,9 @@ impl Model for Report {
 
     ghost coded = { Prim.hlevel (codes, expression.the_row.coded) };
 
-    ghost view = { λ r. record { core = r.core; logs = r.logs.items } };
+    ghost view = { λ r. record { core = r.core.core; logs = r.logs.items } };
 
-    ghost invariant = { λ r. IsClosed (record { core = r.core; logs = r.logs.items }) };
+    ghost invariant = { λ r. IsClosed (record { core = r.core.core; logs = r.logs.items }) };
 }
 
 impl Report {
@@ -47,7 +47,7 @@ impl Report {
 
     /// The core that the workers shared.
     pub fn core(&self) -> &Core
-        ensures { result.now ≡ self.now.core }
+        ensures { result.now.core ≡ self.now.core }
     {
         &self.core
     }
@@ -61,7 +61,7 @@ impl Report {
 
     /// The core and the logs.
     pub fn into_parts(self) -> (Core, Vec<Log>)
-        ensures core { result.0 ≡ self.core }
+        ensures core { result.0.core ≡ self.core }
         ensures logs { result.1.items ≡ self.logs }
     {
         let Report { core, logs } = self;
@@ -84,9 +84,9 @@ pub fn close(
     options: &WorkOptions,
     logs: Vec<Log>,
 ) -> Result<Report, CloseFault>
-    ensures kept { IfOk result (λ report. (report.core ≡ core) × (report.logs ≡ logs.items)) }
-    ensures closed { IfOk result (λ report. IsReport core image.now options.now logs.items) }
-    ensures unclosed { IfErr result (λ fault. IsUnclosed fault core image.now options.now logs.items) }
+    ensures kept { IfOk result (λ report. (report.core ≡ core.core) × (report.logs ≡ logs.items)) }
+    ensures closed { IfOk result (λ report. IsReport core.core image.now options.now logs.items) }
+    ensures unclosed { IfErr result (λ fault. IsUnclosed fault core.core image.now options.now logs.items) }
 {
     let Ok(named) = are_entries(alloc, core.history(), &logs) else {
         return Err(CloseFault::NoMemory);
@@ -108,7 +108,7 @@ pub fn close(
 
 // The core is of this image and these options.
 fn is_of_run(core: &Core, image: &Image, options: &WorkOptions) -> bool
-    ensures { MatchBool result (IsOfRun core.now image.now options.now) (IsOfRun core.now image.now options.now → ⊥) }
+    ensures { MatchBool result (IsOfRun core.now.core image.now options.now) (IsOfRun core.now.core image.now options.now → ⊥) }
 {
     core.cells() == options.arena
         && core.limit() == options.steps

@@ -12,10 +12,10 @@ use hep_core::{CommitFault, Core, Segment};
 ///
 /// Those of `Core::commit`; the history is the same then.
 pub fn worker_turn(core: &mut Core, worker: u32, segment: &Segment) -> Result<Receipt, CommitFault>
-    ensures named { IfOk result (λ receipt. IsReceipt core.old.history worker receipt core.new.history) }
+    ensures named { IfOk result (λ receipt. IsReceipt core.old.core.history worker receipt core.new.core.history) }
     ensures made { IfOk result (λ receipt. HasCommitted core.old segment.now receipt core.new) }
     ensures unmade { IfErr result (λ fault. IsCommitted core.old segment.now (Err fault) core.new) }
-    ensures kept { OnErr result (core.new.history ≡ core.old.history) }
+    ensures kept { OnErr result (core.new.core.history ≡ core.old.core.history) }
 {
     let index = core.history().len();
     let process = segment.ticket().process;

@@ -2,7 +2,7 @@
 use Rattle.std.proofs.Common.{◌≡◌, ◌≢◌, ℕ, Bool, true, List, Option, Some, None, IsSome, inr, refl, sym, ap, ◌∙◌, subst}
 use Rattle.std.proofs.lemmas.Option.{none-some}
 use Rattle.hep_machine.specs.Words.{IsLegal, opening_layout, Units}
-use Rattle.hep_core.specs.Value.{AreSingle, CoreValue, IsStop}
+use Rattle.hep_core.specs.Value.{CoreValue, IsStop}
 use Rattle.hep_reports.specs.declared.fault.CloseFault.TheVariants as close
 use Rattle.hep_workers.specs.declared.fault.WorkFault.{WorkFault}
 use Rattle.hep_workers.specs.declared.fault.WorkFault.TheVariants.{NoMemory, ArenaFull, NoTicket, NoThread, Close}
@@ -15,9 +15,9 @@ use Rattle.hep_outcome.specs.Outcome.{Outcome, outcome_of_end, verdict_after}
 use Rattle.hep_run.specs.Workers.{IsImageWorked, is_refusal_of_workers}
 
 pub outcome-worked : (long : Bool) (program : Units) (options : WorkOptions) (core : CoreValue) (logs : List (List Receipt)) (o : Outcome)
-    → IsReport core program options logs → IsLegal core.program core.cells core.limit core.history → AreSingle core.history → IsStop core.program core.cells core.limit core.history core.stop
+    → IsReport core program options logs → IsLegal core.program core.cells core.limit core.history → IsStop core.program core.cells core.limit core.history core.stop
     → o ≡ outcome_of_end long core.program core.cells core.history core.stop → IsImageWorked long program options o
-outcome-worked long program options core logs o report legal single named is =
+outcome-worked long program options core logs o report legal named is =
     let h = core.history in
     let (same, cells, limit) = report.run in
     inr (inr (
@@ -25,7 +25,6 @@ outcome-worked long program options core logs o report legal single named is =
       core.stop,
       record {
         legal = subst (λ (p : Units). IsLegal p options.arena options.steps h) same (subst (λ n. IsLegal core.program options.arena n h) limit (subst (λ n. IsLegal core.program n core.limit h) cells legal));
-        single = single;
         stopped = subst (λ (p : Units). IsStop p options.arena options.steps h core.stop) same (subst (λ n. IsStop core.program options.arena n h core.stop) limit (subst (λ n. IsStop core.program n core.limit h core.stop) cells named));
         over = λ running. report.over (ap (λ (p : Units). verdict_after p h core.stop) same ∙ running);
       },

@@ -6,17 +6,15 @@ use Rattle.hep_machine.specs.declared.event.Entry.{Entry}
 use Rattle.hep_machine.specs.Words.{IsLegal, opening_layout, Units}
 use Rattle.hep_core.specs.declared.stop.ChoiceStop.{ChoiceStop}
 use Rattle.hep_core.specs.declared.stop.Verdict.TheVariants.{Running}
-use Rattle.hep_core.specs.Value.{AreSingle, IsStop}
+use Rattle.hep_core.specs.Value.{IsStop}
 use Rattle.hep_reports.specs.declared.options.WorkOptions.{WorkOptions}
 use Rattle.hep_outcome.specs.declared.status.Status.TheVariants as statuses
 use Rattle.hep_outcome.specs.Outcome.{Outcome, outcome_of_end, outcome_of_full_arena, verdict_after}
 use Rattle.hep_run.specs.Outcome.{RunsTo}
 
--- the workers' history is a legal one of the program by these options, each entry of which has one step or none, with the stop that it says,
--- after which the run is over
+-- the workers' history is a legal one of the program by these options, with the stop that it says, after which the run is over
 pub record IsWorked (program : Units) (options : WorkOptions) (history : List Entry) (stop : Option ChoiceStop) : Type 0 where
   pub legal : IsLegal program options.arena options.steps history
-  pub single : AreSingle history
   pub stopped : IsStop program options.arena options.steps history stop
   pub over : verdict_after program history stop ≢ Running
 

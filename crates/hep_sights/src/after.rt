@@ -18,7 +18,7 @@ use std::alloc::{AllocError, Global};
 
 /// The fault that was added since there were so many, if there is one more.
 pub fn fault_since(core: &Core, count: usize) -> Option<Kind>
-    ensures { (before : List SourceFault) → count ≡ length before → result ≡ fault_added before (state_of core.now).faults }
+    ensures { (before : List SourceFault) → count ≡ length before → result ≡ fault_added before (state_of core.now.core).faults }
 {
     match core.faults().get(count) {
         Some(fault) => Some(fault.kind),
@@ -28,7 +28,7 @@ pub fn fault_since(core: &Core, count: usize) -> Option<Kind>
 
 /// The line at which process p is, and 0 where it was never made or has ended.
 pub fn line_of(core: &Core, p: u64) -> u32
-    ensures { (t : Top) → result ≡ line_by core.now.program t (state_of core.now) (living (state_of core.now) p) }
+    ensures { (t : Top) → result ≡ line_by core.now.core.program t (state_of core.now.core) (living (state_of core.now.core) p) }
 {
     match core.whereabouts(p) {
         Some(place) => place.line,
@@ -42,7 +42,7 @@ pub fn line_of(core: &Core, p: u64) -> u32
 ///
 /// Only where memory was refused.
 pub fn printed(alloc: Global, core: &Core) -> Result<Vec<u8>, AllocError>
-    ensures { IfOk result (λ text. (before : List (List SourceItem)) (items : List SourceItem) → (state_of core.now).records ≡ before ++ items ∷ []
+    ensures { IfOk result (λ text. (before : List (List SourceItem)) (items : List SourceItem) → (state_of core.now.core).records ≡ before ++ items ∷ []
         → text.items ≡ items_text false items) }
 {
     let Some(record) = core.output().last() else {
@@ -59,9 +59,9 @@ pub fn printed(alloc: Global, core: &Core) -> Result<Vec<u8>, AllocError>
 ///
 /// Only where memory was refused.
 pub fn append_wait(alloc: Global, text: &mut Vec<u8>, core: &Core, p: u64) -> Result<(), AllocError>
-    requires { is_number_among p (progress_after core.now.program core.now.history).listed ≡ true }
-    ensures { OnOk result ((w : Wanted) → wanted_by core.now.program p (state_of core.now) ≡ Some w
-        → text.new.items ≡ text.old.items ++ lines.waits_text w.full (place_text core.now.program (state_of core.now) w.at)) }
+    requires { is_number_among p (progress_after core.now.core.program core.now.core.history).listed ≡ true }
+    ensures { OnOk result ((w : Wanted) → wanted_by core.now.core.program p (state_of core.now.core) ≡ Some w
+        → text.new.items ≡ text.old.items ++ lines.waits_text w.full (place_text core.now.core.program (state_of core.now.core) w.at)) }
 {
     let Some(want) = core.want(p) else {
         unreachable!()

@@ -96,7 +96,7 @@ fn add_freed(numbers: &mut Vec<u64>, keys: &[Option<usize>], a: u64) -> Result<(
 //
 // This costs a step for each activation that was made.
 fn unheld(alloc: Global, core: &Core, activations: &[u64]) -> Result<Vec<u64>, AllocError>
-    ensures { IfOk result (λ numbers. numbers.items ≡ reverse (filter (λ a. not (is_held (state_of core.now) a)) activations.now)) }
+    ensures { IfOk result (λ numbers. numbers.items ≡ reverse (filter (λ a. not (is_held (state_of core.now.core) a)) activations.now)) }
 {
     let keys = held_keys(alloc, core.machine())?;
     let mut numbers = Vec::new(alloc);
@@ -109,7 +109,7 @@ fn unheld(alloc: Global, core: &Core, activations: &[u64]) -> Result<Vec<u64>, A
 
 // The top activation of process p is the first one of these or one that was made later.
 fn goes_on(core: &Core, p: u64, activations: &[u64]) -> bool
-    ensures { (a : ℕ) → slice_get activations.now 0 ≡ Some a → result ≡ nat_le a (activation_on (living (state_of core.now) p)) }
+    ensures { (a : ℕ) → slice_get activations.now 0 ≡ Some a → result ≡ nat_le a (activation_on (living (state_of core.now.core) p)) }
 {
     match activations.first() {
         Some(first) => *first <= top_activation(core.machine(), p),
@@ -131,9 +131,9 @@ pub fn append_freed_of(
     p: u64,
     activations: &[u64],
 ) -> Result<(), AllocError>
-    requires { (old : CoreValue) × (top : Level × SourceProcess) × IsFreeing old p top activations.now core.now }
-    ensures { OnOk result ((old : CoreValue) (top : Level × SourceProcess) → IsFreeing old p top activations.now core.now
-        → text.new.items ≡ text.old.items ++ lines.all_freed_text (freed (state_of old) (state_of core.now))) }
+    requires { (old : CoreValue) × (top : Level × SourceProcess) × IsFreeing old p top activations.now core.now.core }
+    ensures { OnOk result ((old : CoreValue) (top : Level × SourceProcess) → IsFreeing old p top activations.now core.now.core
+        → text.new.items ≡ text.old.items ++ lines.all_freed_text (freed (state_of old) (state_of core.now.core))) }
 {
     if goes_on(core, p, activations) {
         return Ok(());

@@ -13,7 +13,7 @@ use std::alloc::{AllocError, Global};
 
 // Process p was found waiting and waits since.
 fn waits(core: &Core, p: u64) -> bool
-    ensures { result ≡ is_number_among p (progress_after core.now.program core.now.history).listed }
+    ensures { result ≡ is_number_among p (progress_after core.now.core.program core.now.core.history).listed }
 {
     core.want(p).is_some()
 }
@@ -26,7 +26,7 @@ fn waits(core: &Core, p: u64) -> bool
 ///
 /// Only where memory was refused.
 pub fn waiting_numbers(alloc: Global, core: &Core) -> Result<Vec<u64>, AllocError>
-    ensures { IfOk result (λ numbers. numbers.items ≡ listed_numbers core.now) }
+    ensures { IfOk result (λ numbers. numbers.items ≡ listed_numbers core.now.core) }
 {
     core.headline();
     let mut numbers = Vec::new(alloc);
@@ -41,7 +41,7 @@ pub fn waiting_numbers(alloc: Global, core: &Core) -> Result<Vec<u64>, AllocErro
 // Adds process q, unless it waits or is p.
 fn add_awake(awake: &mut Vec<u64>, core: &Core, q: u64, p: u64) -> Result<(), AllocError>
     ensures { OnOk result (awake.new.items ≡ awake.old.items
-        ++ filter (λ q. not (is_number_among q (progress_after core.now.program core.now.history).listed) && not (nat_eq p q)) (q ∷ [])) }
+        ++ filter (λ q. not (is_number_among q (progress_after core.now.core.program core.now.core.history).listed) && not (nat_eq p q)) (q ∷ [])) }
 {
     if !waits(core, q) && p != q {
         awake.push(q)?;
@@ -51,7 +51,7 @@ fn add_awake(awake: &mut Vec<u64>, core: &Core, q: u64, p: u64) -> Result<(), Al
 
 // Those of some processes that don't wait, p left out.
 fn awake(alloc: Global, core: &Core, numbers: &[u64], p: u64) -> Result<Vec<u64>, AllocError>
-    ensures { IfOk result (λ awake. awake.items ≡ filter (λ q. not (is_number_among q (progress_after core.now.program core.now.history).listed)
+    ensures { IfOk result (λ awake. awake.items ≡ filter (λ q. not (is_number_among q (progress_after core.now.core.program core.now.core.history).listed)
         && not (nat_eq p q)) numbers.now) }
 {
     let mut awake = Vec::new(alloc);
@@ -75,7 +75,7 @@ pub fn append_woken_of(
 ) -> Result<(), AllocError>
     ensures { OnOk result ((old : CoreValue) → waiting.now ≡ listed_numbers old
         → text.new.items ≡ text.old.items ++ lines.woken_text (woken p (progress_after old.program old.history)
-        (progress_after core.now.program core.now.history))) }
+        (progress_after core.now.core.program core.now.core.history))) }
 {
     let awake = awake(alloc, core, waiting, p)?;
     append_woken(text, &awake)

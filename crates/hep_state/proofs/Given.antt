@@ -6,6 +6,7 @@ use Rattle.hep_step.specs.Calls.{is_creation}
 use Rattle.hep_state.specs.declared.machine.Machine.{Machine}
 use Rattle.hep_state.specs.declared.upcoming.CallAhead.{CallAhead}
 use Rattle.hep_state.specs.Words.{CanBeginCall, HasCallAhead, HoldsInTurn, IsAfter, IsAtCallAhead, IsGivenBy, IsMachineAfter, IsMaking, KeepsRoomOf, Snapshot, StaysShown, StepsOn, snapshot_of}
+use Rattle.hep_state.proofs.Beside.{beside-again, beside-shown}
 use Rattle.hep_state.proofs.Tops.{turning}
 use Rattle.hep_state.proofs.Unchanged.{machine-of, machine-reserved}
 
@@ -60,5 +61,6 @@ module _ {program : Units} {p : ℕ} {old new : Machine} {call : CallAhead} (at 
           running = lives.running ∙ ap (λ (m : Snapshot). m.halted) shown;
           made = lives.made ∙ made;
           counted = omega (arith, lives.counted, ap (λ (m : Snapshot). m.activations) shown);
+          others = beside-again p (snapshot_of old) (snapshot_of new) (snapshot_of later) (beside-shown p (snapshot_of old) (snapshot_of new) shown) lives.others;
         };
       }

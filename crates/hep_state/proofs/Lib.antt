@@ -16,6 +16,7 @@ pub mod Returning
 pub mod Changes
 pub mod Callers
 pub mod Unchanged
+pub mod Beside
 pub mod RoomToPass
 pub mod Purging
 pub mod Subroutines

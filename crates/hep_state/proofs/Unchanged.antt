@@ -1,5 +1,5 @@
 -- A machine that keeps what it kept: where only room was made, or what a CALL gives was written.
-use Rattle.std.proofs.Common.{◌≡◌, ◌⊎◌, inl, inr, ℕ, ◌+◌, ◌-◌, ◌∷◌, ◌++◌, [], Some, None, arith, List, Result, Ok, Err, drop, sym, ap, ◌∙◌, subst, IfErr, OnErr, slice_get, slice_set, length}
+use Rattle.std.proofs.Common.{◌≡◌, ◌⊎◌, inl, inr, ℕ, ◌+◌, ◌-◌, ◌∷◌, ◌++◌, [], Some, None, arith, refl, List, Result, Ok, Err, drop, sym, ap, ◌∙◌, subst, IfErr, OnErr, slice_get, slice_set, length}
 use Rattle.std.specs.List.{filter}
 use Rattle.std.specs.Result.{IsErr, IsErrAnd}
 use Rattle.std.proofs.lemmas.Option.{same_Some}
@@ -16,7 +16,7 @@ use Rattle.hep_proc.specs.Stacks.{Stack, is_left, stack_with}
 use Rattle.hep_state.specs.declared.turn.Turned.TheVariants.{Stepped}
 use Rattle.hep_state.specs.declared.turn.TurnFault.{TurnFault}
 use Rattle.hep_state.specs.declared.turn.TurnFault.TheVariants.{NoMemory}
-use Rattle.hep_state.specs.Words.{AreNumbered, Changes, HasStepped, HasLevels, HasSettledTop, HasTurned, HasRoom, HasRoomToPass, HaveRoom, IsMachineAfter, ShowsSame, Snapshot, numbers_of, snapshot_of, stacks_of, IsAfter, IsAfterHistory, IsSameButTop, IsSeenSame, IsSettled, LeavesAlone, cells_of, with_stack}
+use Rattle.hep_state.specs.Words.{AreNumbered, Changes, HasStepped, HasLevels, HasSettledTop, HasTurned, HasRoom, HasRoomToPass, HaveRoom, IsMachineAfter, ShowsSame, Snapshot, numbers_of, snapshot_of, stacks_of, IsAfter, IsAfterHistory, IsSameButTop, IsSeenSame, IsSettled, LeavesAlone, LeavesSame, cells_of, with_stack}
 use Rattle.hep_state.proofs.Numbered.{got-left, left-stacks, length-stacks, numbers-left, numbers-more}
 use Rattle.hep_state.proofs.Processes.{IsAt, all-more, all-set, numbered-set, numbers-still}
 use Rattle.hep_state.proofs.Runs.{set-again, set-same}
@@ -165,27 +165,29 @@ levels-same h k =
 -- the same, but for the operands and the index of the top activation of a process
 module _ (p : ℕ) where
   pub top-settled : (program : Units) (old new : Snapshot) (levels : HasLevels old p) (operands : List Value) (index : ℕ)
-      → new ≡ with_stack old p (record levels.level { index = index } ∷ levels.below) operands levels.pending → IsSettled program levels.level.unit levels.operands levels.level.index operands index → HasSettledTop program p old new
-  top-settled program old new levels operands index shown settled before =
+      → new ≡ with_stack old p (record levels.level { index = index } ∷ levels.below) operands levels.pending → IsSettled program levels.level.unit levels.operands levels.level.index operands index → LeavesSame program levels.level.unit levels.operands levels.level.index operands index
+      → HasSettledTop program p old new
+  top-settled program old new levels operands index shown settled left before =
       let same = levels-same levels before in (
         operands,
         index,
         shown ∙ (λ i. with_stack old p (record (same.0 i) { index = index } ∷ same.1 i) operands (same.3 i)),
+        carry (λ i. LeavesSame program (same.0 i).unit (same.2 i) (same.0 i).index operands index) left,
         carry (λ i. IsSettled program (same.0 i).unit (same.2 i) (same.0 i).index operands index) settled,
       )
 
   -- where only values were settled
-  pub settled-same : (program : Units) (old new : Snapshot) → HasSettledTop program p old new → IsSameButTop p old new
-  settled-same program old new h levels = let s = h levels in (s.0, s.1, s.2)
+  pub settled-same : (program : Units) (old new : Snapshot) → HasSettledTop program p old new → IsSameButTop program p old new
+  settled-same program old new h levels = let s = h levels in (s.0, s.1, s.2, s.3)
 
-  pub top-shown : (old new : Snapshot) → new ≡ old → IsSameButTop p old new
-  top-shown old new shown levels =
+  pub top-shown : (program : Units) (old new : Snapshot) → new ≡ old → IsSameButTop program p old new
+  top-shown program old new shown levels =
       let whole = set-same old.processes p (stack_with levels.level levels.below levels.operands levels.pending) levels.kept in
-      (levels.operands, levels.level.index, shown ∙ (λ i. record old { processes = whole i }))
+      (levels.operands, levels.level.index, shown ∙ (λ i. record old { processes = whole i }), refl)
 
   -- of three, one after the other
-  pub top-again : (old mid new : Snapshot) → IsSameButTop p old mid → IsSameButTop p mid new → IsSameButTop p old new
-  top-again old mid new h k levels =
+  pub top-again : (program : Units) (old mid new : Snapshot) → IsSameButTop program p old mid → IsSameButTop program p mid new → IsSameButTop program p old new
+  top-again program old mid new h k levels =
       let first = h levels in
       let before = stack_with levels.level levels.below levels.operands levels.pending in
       let between = stack_with (record levels.level { index = first.1 }) levels.below first.0 levels.pending in
@@ -204,6 +206,7 @@ module _ (p : ℕ) where
         last.2
             ∙ ap (λ (m : Snapshot). with_stack m p (record levels.level { index = last.1 } ∷ levels.below) last.0 levels.pending) first.2
             ∙ (λ i. record old { processes = set-again old.processes (p - 1) between after i }),
+        last.3 ∙ first.3,
       )
 
 -- as many processes
@@ -221,18 +224,18 @@ alone program history p old new shown rooms h =
     record {
       after = machine-reserved program (cells_of old) (schedule_of history) old new shown rooms h;
       same = same;
-      top = top-shown p (snapshot_of old) (snapshot_of new) shown;
+      top = top-shown p program (snapshot_of old) (snapshot_of new) shown;
       made = as-many old new same;
     }
 
 -- one that is left alone after it was seen the same, but for the top of a process
-pub alone-after : (program : Units) (history : List Entry) (p : ℕ) (old mid new : Machine) → IsSeenSame (snapshot_of old) (snapshot_of mid) → IsSameButTop p (snapshot_of old) (snapshot_of mid)
+pub alone-after : (program : Units) (history : List Entry) (p : ℕ) (old mid new : Machine) → IsSeenSame (snapshot_of old) (snapshot_of mid) → IsSameButTop program p (snapshot_of old) (snapshot_of mid)
     → LeavesAlone program history p mid new → LeavesAlone program history p old new
 alone-after program history p old mid new same top h =
     record {
       after = subst (λ n. IsMachineAfter program n (schedule_of history) new) (as-large old mid same) h.after;
       same = seen-again (snapshot_of old) (snapshot_of mid) (snapshot_of new) same h.same;
-      top = top-again p (snapshot_of old) (snapshot_of mid) (snapshot_of new) top h.top;
+      top = top-again p program (snapshot_of old) (snapshot_of mid) (snapshot_of new) top h.top;
       made = h.made ∙ as-many old mid same;
     }
 

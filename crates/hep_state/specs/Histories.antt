@@ -69,5 +69,5 @@ IsUntaken program history p m fault = IsUnturned fault program (cells_of m) (sch
 pub record LeavesAlone (program : Units) (history : List Entry) (p : ℕ) (old new : Machine) : Type 0 where
   pub after : IsMachineAfter program (cells_of old) (schedule_of history) new
   pub same : IsSeenSame (snapshot_of old) (snapshot_of new)
-  pub top : IsSameButTop p (snapshot_of old) (snapshot_of new)
+  pub top : IsSameButTop program p (snapshot_of old) (snapshot_of new)
   pub made : new.made ≡ old.made

@@ -16,7 +16,7 @@ use Rattle.hep_state.specs.CallsAhead.{IsAtAnswer, IsAtReturn}
 use Rattle.hep_state.specs.Outcomes.{HasTurned}
 use Rattle.hep_state.specs.Parts.{AfterTurns, IsAtCallAhead, IsItsTurn, KeepsRoomOf}
 use Rattle.hep_state.specs.Snapshots.{snapshot_of}
-use Rattle.hep_state.specs.Taking.{IsToEnd}
+use Rattle.hep_state.specs.Taking.{IsToEnd, LeavesOthers}
 use Rattle.hep_state.specs.Tops.{HasLevels, HoldsInTurn}
 
 -- ---- what it asks for
@@ -63,12 +63,14 @@ IsToEndBy program p m effect = AfterTurns program m (λ cells choices. IsToEnd p
 abbrev pub StepsBy : Units → ℕ → Machine → Machine → Type 0
 StepsBy program p old new = AfterTurns program old (λ cells choices. HasTurned program cells choices p (Stepped None) new)
 
--- process p, which has activations still, can go on, no process was made, and no more activations than so many
+-- process p, which has activations still, can go on, no process was made, and no more activations than so many; the other processes stand
+-- where they stood
 pub record LivesOn (p more : ℕ) (old new : Machine) : Type 0 where
   pub living : HasLevels (snapshot_of new) p
   pub running : new.halted ≡ old.halted
   pub made : new.made ≡ old.made
   pub counted : new.activations ≤ old.activations + more
+  pub others : LeavesOthers p (snapshot_of old) (snapshot_of new)
 
 -- this is so where an activation was below its top one
 abbrev pub LivesOnBelow : ℕ → Machine → Machine → Type 0

@@ -1,11 +1,14 @@
 -- What a core keeps before the first step: docs/MACHINE.md, "The opening and runs".
-use Rattle.std.specs.Prelude.{◌≡◌, ℕ, false, List, [], ◌∷◌, length, nat_eq, slice_get, Some}
+use Rattle.std.specs.Prelude.{◌≡◌, ℕ, false, List, [], ◌∷◌, length, nat_eq, slice_get, Some, vec_capacity}
 use Rattle.std.specs.Option.{option_map}
 use Rattle.hep_machine.specs.Words.{Units, main_unit, unset_cell, Layout, opening_layout, cell_given, run, State}
 use Rattle.hep_arena.specs.Space.{Space}
 use Rattle.hep_layout.specs.Words.{FrameNode, Nodes}
+use Rattle.hep_code.specs.Words.{deepest}
 use Rattle.hep_image.specs.declared.data.DataRow.{DataRow}
 use Rattle.hep_image.specs.Data.{value_in_rows}
+use Rattle.hep_step.specs.Simulation.{unit_code}
+use Rattle.hep_proc.specs.declared.process.Process.{Process}
 use Rattle.hep_proc.specs.Keeping.{Keeps, frames_in}
 use Rattle.hep_state.specs.declared.machine.Machine.{Machine}
 use Rattle.hep_state.specs.Snapshots.{Snapshot}
@@ -42,6 +45,12 @@ snapshot_opened program key entry arena nodes =
       faults = [];
       halted = false;
     }
+
+-- a machine keeps one process, with room for just as many operands as the main program has at once at most
+pub record HasOneProcess (program : Units) (m : Machine) : Type 0 where
+  pub process : Process
+  pub alone : m.processes.items ≡ process ∷ []
+  pub room : vec_capacity process.operands ≡ deepest (unit_code program (main_unit program))
 
 -- a machine has written nothing, and nothing has stopped it
 pub record IsQuiet (m : Machine) : Type 0 where

@@ -7,11 +7,14 @@ use Rattle.hep_blocked.specs.Listing.{HasChanged}
 use Rattle.hep_purging.specs.declared.range.ClosedRange.{ClosedRange}
 use Rattle.hep_purging.specs.Purged.{have_cell}
 use Rattle.hep_purging.specs.Ready.{AreReached}
+use Rattle.hep_step.specs.declared.effect.Effect.{Effect}
+use Rattle.hep_step.specs.declared.effect.Effect.TheVariants as effect
 use Rattle.hep_state.specs.declared.machine.Machine.{Machine}
 use Rattle.hep_state.specs.declared.turn.Turned.{Turned}
 use Rattle.hep_state.specs.declared.turn.Turned.TheVariants.{Stepped, Purged, Waits}
 use Rattle.hep_state.specs.Rooms.{IsMachineAfter}
-use Rattle.hep_state.specs.Snapshots.{snapshot_of}
+use Rattle.hep_state.specs.Snapshots.{Snapshot, snapshot_of}
+use Rattle.hep_state.specs.Taking.{IsSameButTop, LeavesOthers}
 use Rattle.hep_state.specs.Turns.{HasWaited}
 
 -- the step of process p fills or empties the storage unit that is kept in the changed cell, if one is told, and leaves each other one as full
@@ -38,3 +41,14 @@ HasTurned program cells choices p Purged new =
     × HasPurged program cells choices p new.passing.ranges.items × AreReached new.frames.arena new.passing.ranges.items
 HasTurned program cells choices p (Waits want) new =
     HasWaited program cells choices p want.cell want.full (snapshot_of new) × IsMachineAfter program cells choices new
+
+-- where the process waits, values that stood ahead of it may be operands, and nothing else has changed; and a step leaves where the other
+-- processes stand
+abbrev pub LeavesRest : Turned → Units → ℕ → Snapshot → Snapshot → Type 0
+LeavesRest (Waits want) program p old new = IsSameButTop program p old new
+LeavesRest _ program p old new = LeavesOthers p old new
+
+-- an operation that waits changes nothing
+abbrev pub StaysWaiting : Effect → Snapshot → Snapshot → Type 0
+StaysWaiting (effect.Waits want) old new = new ≡ old
+StaysWaiting _ old new = Unit {0}

@@ -14,7 +14,7 @@ use Rattle.hep_proc.specs.declared.process.Local.{Local}
 use Rattle.hep_proc.specs.declared.process.Process.{Process}
 use Rattle.hep_proc.specs.Stacks.{HoldsOfTop, stack_of, stack_with}
 use Rattle.hep_state.specs.Showing.{IsThere}
-use Rattle.hep_state.specs.Taking.{CanAdvance, IsAdvanced, IsBehind, IsPlace, IsSettled}
+use Rattle.hep_state.specs.Taking.{CanAdvance, IsAdvanced, IsBehind, IsPlace, IsSettled, LeavesSame}
 
 -- ---- the top level
 
@@ -56,6 +56,7 @@ Settles old code new =
     → stack_of old ≡ stack_with l ls operands pending
     → (index : ℕ) × (after : List Value) × (stack_of new ≡ stack_with (record l { index = index }) ls after pending)
     × IsSettled program l.unit operands l.index after index
+    × LeavesSame program l.unit operands l.index after index
 
 -- the operation ahead of it can be performed
 abbrev pub CanAdvanceTop : Units → Process → Frames → Type 0

@@ -1,9 +1,9 @@
 -- One turn of a process in what a core keeps, in its parts: docs/MACHINE.md, "Steps".
-use Rattle.std.specs.Prelude.{◌≡◌, ◌<◌, ◌≤◌, ◌+◌, ℕ, List, [], ◌∷◌, ◌++◌, drop, length, Some, OnErr, IfOk, Result}
-use Rattle.hep_machine.specs.Words.{Value, Units, Work}
+use Rattle.std.specs.Prelude.{◌≡◌, ◌≢◌, ◌<◌, ◌≤◌, ◌+◌, ℕ, List, [], ◌∷◌, ◌++◌, drop, length, Some, OnErr, IfOk, Result}
+use Rattle.hep_machine.specs.Words.{Value, Units, Work, numbered}
 use Rattle.hep_arena.specs.Space.{Space}
 use Rattle.hep_code.specs.declared.instruction.Instruction.{Instruction}
-use Rattle.hep_code.specs.Words.{IsPastPushes, Stands, deepest, most_operands}
+use Rattle.hep_code.specs.Words.{IsPastPushes, Stands, deepest, left_to_do, most_operands}
 use Rattle.hep_layout.specs.Words.{Nodes}
 use Rattle.hep_image.specs.declared.array.Array.{Array}
 use Rattle.hep_image.specs.declared.unit.UnitCode.{UnitCode}
@@ -88,18 +88,29 @@ IsLeft program cells choices p m (Answered v) = IsToEnd program cells choices p 
 IsLeft program cells choices p m Stopped = HasStepped program cells choices p (snapshot_stopped m)
 IsLeft program cells choices p m LeftOut = ⊥
 
--- all is the same, but for the operands and the index of the top activation of process p
-abbrev pub IsSameButTop : ℕ → Snapshot → Snapshot → Type 0
-IsSameButTop p old new =
+-- what is to be done in a unit's code is the same, where values that stand ahead may be operands
+abbrev pub LeavesSame : Units → ℕ → List Value → ℕ → List Value → ℕ → Type 0
+LeavesSame program unit operands index new after =
+    left_to_do new after (unit_code program unit) ≡ left_to_do operands index (unit_code program unit)
+
+-- all is the same, but that values which stood ahead of the top activation of process p may be operands of it
+abbrev pub IsSameButTop : Units → ℕ → Snapshot → Snapshot → Type 0
+IsSameButTop program p old new =
     (levels : HasLevels old p) → (operands : List Value) × (index : ℕ)
     × (new ≡ with_stack old p (record levels.level { index = index } ∷ levels.below) operands levels.pending)
+    × LeavesSame program levels.level.unit levels.operands levels.level.index operands index
 
--- and the values that stood ahead of it were put behind the operands
+-- and those that stood ahead of it are
 abbrev pub HasSettledTop : Units → ℕ → Snapshot → Snapshot → Type 0
 HasSettledTop program p old new =
     (levels : HasLevels old p) → (operands : List Value) × (index : ℕ)
     × (new ≡ with_stack old p (record levels.level { index = index } ∷ levels.below) operands levels.pending)
+    × LeavesSame program levels.level.unit levels.operands levels.level.index operands index
     × IsSettled program levels.level.unit levels.operands levels.level.index operands index
+
+-- the stacks of all processes but p are the same, of those that were made before
+abbrev pub LeavesOthers : ℕ → Snapshot → Snapshot → Type 0
+LeavesOthers p old new = (q : ℕ) (k : Stack) → q ≢ p → numbered old.processes q ≡ Some k → numbered new.processes q ≡ Some k
 
 -- what is seen of two machines is the same, but for where processes stand
 pub record IsSeenSame (old new : Snapshot) : Type 0 where

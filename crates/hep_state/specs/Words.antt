@@ -14,18 +14,18 @@ pub use Rattle.hep_state.specs.Tops.{HasLevels, HoldsInTurn, IsTurning, TurnOf}
 unfoldable pub use Rattle.hep_state.specs.Calls.{call_in, entered_level, HasResultBy, snapshot_made_by, stacks_made_by, state_made}
 pub use Rattle.hep_state.specs.Calls.{HasEntered, IsAfterCall, IsMaking, IsUnit, Makes}
 unfoldable pub use Rattle.hep_state.specs.Openings.{snapshot_opened, unset_opening}
-pub use Rattle.hep_state.specs.Openings.{IsEntered, IsGiven, IsQuiet}
+pub use Rattle.hep_state.specs.Openings.{HasOneProcess, IsEntered, IsGiven, IsQuiet}
 unfoldable pub use Rattle.hep_state.specs.Rooms.{HasRoom, HasRoomAt, HoldsOfProcess}
 pub use Rattle.hep_state.specs.Rooms.{HasRoomToPass, HaveRoom, IsMachineAfter, IsRoomToPass}
 unfoldable pub use Rattle.hep_state.specs.Taking.{IsLeft, IsToEnd}
-pub use Rattle.hep_state.specs.Taking.{CanAdvance, HasSettledTop, IsAdvanced, IsBehind, IsEnding, IsPlace, IsSameButTop, IsSeenSame, IsSettled}
+pub use Rattle.hep_state.specs.Taking.{CanAdvance, HasSettledTop, IsAdvanced, IsBehind, IsEnding, IsPlace, IsSameButTop, IsSeenSame, IsSettled, LeavesOthers, LeavesSame}
 unfoldable pub use Rattle.hep_state.specs.Givings.{AreOut}
 unfoldable pub use Rattle.hep_state.specs.CallsAhead.{given_of, HasCallAhead, HasNone, HasPurgeAhead, HasResumeAhead, IsAhead, IsAtAnswer, IsAtPurge, IsAtResume}
 unfoldable pub use Rattle.hep_state.specs.CallsAhead.{IsAtReturn, IsInFront}
 unfoldable pub use Rattle.hep_state.specs.CallsAhead.{operation_of, ranges_ahead}
 pub use Rattle.hep_state.specs.CallsAhead.{IsAtCall, IsAtOther, IsAtStep, IsWithoutCall}
 unfoldable pub use Rattle.hep_state.specs.Unturned.{IsUnturned}
-unfoldable pub use Rattle.hep_state.specs.Outcomes.{HasTurned}
+unfoldable pub use Rattle.hep_state.specs.Outcomes.{HasTurned, LeavesRest, StaysWaiting}
 pub use Rattle.hep_state.specs.Outcomes.{Changes, HasPurged}
 pub use Rattle.hep_state.specs.Known.{AreRunning, IsKnown, IsMadeOf}
 unfoldable pub use Rattle.hep_state.specs.Stacks.{AdvancesTop, CanAdvanceTop, CanSettle, HasBehind, HasPlace}

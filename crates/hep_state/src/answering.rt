@@ -4,7 +4,7 @@ ghost use Rattle.hep_image.specs.Finding.{address_of, cells_in};
 ghost use Rattle.hep_step.specs.Cells.{HasFrame};
 ghost use Rattle.hep_step.specs.Effects.{answers, fails, value_found};
 ghost use Rattle.hep_step.specs.Ready.{IsVariableReady};
-ghost use Rattle.hep_state.specs.Words.{CanAnswer, IsToEndBy, StepsBy};
+ghost use Rattle.hep_state.specs.Words.{CanAnswer, IsToEndBy, LeavesOthers, StepsBy, snapshot_of};
 
 use crate::advancing::place;
 use crate::laws;
@@ -61,6 +61,7 @@ impl Machine {
         requires room { vec_len self.old.faults < vec_capacity self.old.faults }
         ensures stepped { StepsBy image.now p self.old self.new }
         ensures made { self.new.made ≡ self.old.made }
+        ensures others { LeavesOthers p (snapshot_of self.old) (snapshot_of self.new) }
     {
         image.is_runnable();
         laws::tops_are_running();

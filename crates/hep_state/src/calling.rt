@@ -1,7 +1,7 @@
 //! CALL, CREATE and references: an activation that begins, with its frame (X3.9-1978, 15.5.2 and 15.6.2).
 ghost use Rattle.std.specs.Prelude.{◌≡◌, ◌+◌};
-ghost use Rattle.hep_state.specs.Words.{Begins, CanBegin, CanCall, CanCreate, KeepsRoomAt, KeepsRoomWith, LivesOn, StepsByCall};
-ghost use Rattle.hep_state.specs.Words.{StepsByCreation};
+ghost use Rattle.hep_state.specs.Words.{Begins, CanBegin, CanCall, CanCreate, KeepsRoomAt, KeepsRoomWith, LeavesOthers, LivesOn, StepsByCall};
+ghost use Rattle.hep_state.specs.Words.{StepsByCreation, snapshot_of};
 
 use crate::machine::{Machine, append};
 use hep_binding::{begin, shape_all};
@@ -78,6 +78,7 @@ impl Machine {
         ensures stepped { StepsByCreation p called index self.old self.new }
         ensures rooms { KeepsRoomWith process called.unit self.old self.new }
         ensures made { self.new.made ≡ self.old.made + 1 }
+        ensures others { LeavesOthers p (snapshot_of self.old) (snapshot_of self.new) }
     {
         let at = self.place(p);
         let level = self.begin_activation(p, called);

@@ -2,7 +2,7 @@
 ghost use Rattle.std.specs.Prelude.{◌≡◌, ◌<◌, IfErr, OnOk, vec_len, vec_capacity};
 ghost use Rattle.hep_purging.specs.Ready.{AreReached};
 ghost use Rattle.hep_state.specs.Words.{CanEmpty, EmptiesTargets, FailsAtPurge, IsAtPurgeAhead, KeepsRoom, KeepsRoomOf, NamesRanges};
-ghost use Rattle.hep_state.specs.Words.{TurnsByPurge};
+ghost use Rattle.hep_state.specs.Words.{LeavesOthers, TurnsByPurge, snapshot_of};
 
 use crate::advancing::behind;
 use crate::laws;
@@ -61,6 +61,7 @@ impl Machine {
         requires room { vec_len self.old.faults < vec_capacity self.old.faults }
         ensures purged { TurnsByPurge image.now p purge self.old self.new }
         ensures made { self.new.made ≡ self.old.made }
+        ensures others { LeavesOthers p (snapshot_of self.old) (snapshot_of self.new) }
     {
         image.is_runnable();
         laws::purges_are_shown();

@@ -1,11 +1,12 @@
 //! What a turn comes to once its operation was performed: a record, a fault, the end of an activation, or a stop.
-ghost use Rattle.std.specs.Prelude.{◌≡◌, ◌<◌, [], MatchOption, length, reverse, vec_len, vec_capacity};
+ghost use Rattle.std.specs.Prelude.{◌≡◌, ◌<◌, [], IfSome, MatchOption, length, reverse, vec_len, vec_capacity};
 ghost use Rattle.hep_proc.specs.Keeping.{CanAllLeave};
 ghost use Rattle.hep_proc.specs.Nodes.{nodes_of};
 ghost use Rattle.hep_proc.specs.Stacks.{keys_of};
+ghost use Rattle.hep_step.specs.declared.effect.Effect.TheVariants.{Waits};
 ghost use Rattle.hep_step.specs.Effects.{answers, fails, returns};
 ghost use Rattle.hep_state.specs.Words.{EndsBy, HaveFramesLeft, IsEndingBy, IsEndingWithRoom, IsLeftWithRoom};
-ghost use Rattle.hep_state.specs.Words.{KeepsRoom, LivesOnBelow, StepsAfter, WaitsAfter};
+ghost use Rattle.hep_state.specs.Words.{KeepsRoom, LeavesOthers, LivesOnBelow, StepsAfter, WaitsAfter, snapshot_of};
 
 use crate::machine::{Machine, append};
 use hep_cells::Want;
@@ -33,6 +34,7 @@ impl Machine {
         ensures stepped { EndsBy returns p self.old self.new }
         ensures rooms { KeepsRoom self.old self.new }
         ensures made { self.new.made ≡ self.old.made }
+        ensures others { LeavesOthers p (snapshot_of self.old) (snapshot_of self.new) }
         ensures lives { LivesOnBelow p self.old self.new }
     {
         let at = self.place(p);
@@ -47,6 +49,7 @@ impl Machine {
         ensures stepped { EndsBy (answers value) p self.old self.new }
         ensures rooms { KeepsRoom self.old self.new }
         ensures made { self.new.made ≡ self.old.made }
+        ensures others { LeavesOthers p (snapshot_of self.old) (snapshot_of self.new) }
         ensures lives { LivesOnBelow p self.old self.new }
     {
         let at = self.place(p);
@@ -64,6 +67,7 @@ impl Machine {
         ensures passing { self.new.passing ≡ self.old.passing }
         ensures rooms { KeepsRoom self.old self.new }
         ensures made { self.new.made ≡ self.old.made }
+        ensures others { LeavesOthers p (snapshot_of self.old) (snapshot_of self.new) }
     {
         let at = self.place(p);
         let process = &mut self.processes[at];
@@ -86,8 +90,10 @@ impl Machine {
         requires records { vec_len self.old.records < vec_capacity self.old.records }
         requires faults { vec_len self.old.faults < vec_capacity self.old.faults }
         ensures ended { MatchOption result (StepsAfter effect p self.old self.new) (WaitsAfter effect p self.old self.new) }
+        ensures waits { IfSome result (λ want. (effect ≡ Waits want) × (self.new ≡ self.old)) }
         ensures rooms { KeepsRoom self.old self.new }
         ensures made { self.new.made ≡ self.old.made }
+        ensures others { LeavesOthers p (snapshot_of self.old) (snapshot_of self.new) }
     {
         match effect {
             Effect::Moved { .. } => {}

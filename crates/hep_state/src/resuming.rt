@@ -1,7 +1,8 @@
 //! RESUME: an activation that lets the one below it go on, and is a process of its own (docs/MACHINE.md, "Steps").
 ghost use Rattle.std.specs.Prelude.{◌≡◌, ◌+◌, None, OnErr, OnOk};
 ghost use Rattle.hep_state.specs.declared.turn.Turned.TheVariants.{Stepped};
-ghost use Rattle.hep_state.specs.Words.{CanPart, CanTakeResume, HasRoomForEntry, IsTurn, KeepsRollFor, KeepsRoomParting, LeavesAlone, PartsAt};
+ghost use Rattle.hep_state.specs.Words.{CanPart, CanTakeResume, HasRoomForEntry, IsTurn, KeepsRollFor, KeepsRoomParting, LeavesAlone, LeavesOthers, PartsAt};
+ghost use Rattle.hep_state.specs.Words.{snapshot_of};
 
 use crate::laws;
 use crate::machine::{Machine, append};
@@ -38,6 +39,7 @@ impl Machine {
         requires { CanTakeResume image.now history.old.items p self.old next roster.old }
         ensures turned { OnOk result (IsTurn image.now history.old.items p self.old (Stepped None) self.new) }
         ensures refused { OnErr result (LeavesAlone image.now history.old.items p self.old self.new) }
+        ensures others { LeavesOthers p (snapshot_of self.old) (snapshot_of self.new) }
         ensures entry { HasRoomForEntry history.old result history.new }
         ensures roster { KeepsRollFor self.new roster.old roster.new }
     {

@@ -4,7 +4,8 @@ ghost use Rattle.hep_step.specs.Performed.{changed_in};
 ghost use Rattle.hep_blocked.specs.Rolls.{KeepsRoll};
 ghost use Rattle.hep_state.specs.Words.{AreNumbered, CanBeMore, CanTakeCall, CanTakeOperation, CanTurn, ChangesNext, HasLevels};
 ghost use Rattle.hep_state.specs.Words.{HasRoomForCreation, HasRoomForEntry, HasRoomForLevel, HasRoomForProcess, IsAtOperation, IsEmptyProcess};
-ghost use Rattle.hep_state.specs.Words.{IsTurn, IsUntaken, KeepsRollFor, KeepsWritten, LeavesAlone, LeavesBy, ShowsSame, snapshot_of};
+ghost use Rattle.hep_state.specs.Words.{IsTurn, IsUntaken, KeepsRollFor, KeepsWritten, LeavesAlone, LeavesBy, LeavesOthers, LeavesRest, ShowsSame};
+ghost use Rattle.hep_state.specs.Words.{StaysWaiting, snapshot_of};
 
 use crate::advancing::advance;
 use crate::calling::Called;
@@ -140,6 +141,8 @@ impl Machine {
         ensures left { IfOk result (LeavesBy image.now p self.old self.new) }
         ensures changed { IfOk result (λ effect. ChangesNext image.now p self.old (changed_in effect)) }
         ensures refused { OnErr result (snapshot_of self.new ≡ snapshot_of self.old) }
+        ensures waits { IfOk result (λ effect. StaysWaiting effect (snapshot_of self.old) (snapshot_of self.new)) }
+        ensures others { LeavesOthers p (snapshot_of self.old) (snapshot_of self.new) }
         ensures kept { KeepsWritten image.now self.old self.new }
     {
         image.is_runnable();
@@ -160,6 +163,7 @@ impl Machine {
         requires { CanTakeOperation image.now history.old.items p self.old }
         ensures turned { IfOk result (λ turned. IsTurn image.now history.old.items p self.old turned self.new) }
         ensures refused { OnErr result (LeavesAlone image.now history.old.items p self.old self.new) }
+        ensures rest { IfOk result (λ turned. LeavesRest turned image.now p (snapshot_of self.old) (snapshot_of self.new)) }
         ensures made { self.new.made ≡ self.old.made }
         ensures entry { HasRoomForEntry history.old result history.new }
     {
@@ -188,6 +192,7 @@ impl Machine {
         ensures turned { IfOk result (λ turned. IsTurn image.now history.old.items p self.old turned self.new) }
         ensures unturned { IfErr result (IsUntaken image.now history.old.items p self.old) }
         ensures refused { OnErr result (LeavesAlone image.now history.old.items p self.old self.new) }
+        ensures rest { IfOk result (λ turned. LeavesRest turned image.now p (snapshot_of self.old) (snapshot_of self.new)) }
         ensures entry { HasRoomForEntry history.old result history.new }
         ensures roster { KeepsRollFor self.new roster.old roster.new }
     {
@@ -241,6 +246,7 @@ impl Machine {
         ensures turned { IfOk result (λ turned. IsTurn image.now history.old.items p self.old turned self.new) }
         ensures unturned { IfErr result (IsUntaken image.now history.old.items p self.old) }
         ensures refused { OnErr result (LeavesAlone image.now history.old.items p self.old self.new) }
+        ensures rest { IfOk result (λ turned. LeavesRest turned image.now p (snapshot_of self.old) (snapshot_of self.new)) }
         ensures entry { HasRoomForEntry history.old result history.new }
         ensures roster { KeepsRollFor self.new roster.old roster.new }
     {

@@ -14,8 +14,8 @@ use std::alloc::{AllocError, Global};
 // Words for what process p waits for, if it was found waiting and waits since.
 fn wait_of(alloc: Global, core: &Core, p: u64) -> Result<Vec<u8>, AllocError>
     ensures { IfOk result (λ text. text.items
-        ≡ words.wait_text core.now.program (state_of core.now) p
-        (is_number_among p (progress_after core.now.program core.now.history).listed)) }
+        ≡ words.wait_text core.now.core.program (state_of core.now.core) p
+        (is_number_among p (progress_after core.now.core.program core.now.core.history).listed)) }
 {
     match core.want(p) {
         None => Ok(Vec::new(alloc)),
@@ -25,9 +25,9 @@ fn wait_of(alloc: Global, core: &Core, p: u64) -> Result<Vec<u8>, AllocError>
 
 // The lines of process p, if it lives.
 fn append_one(alloc: Global, text: &mut Vec<u8>, core: &Core, p: u64) -> Result<(), AllocError>
-    ensures { OnOk result ((q : Process) → numbered (state_of core.now).processes p ≡ Some q
-        → text.new.items ≡ text.old.items ++ words.process_text core.now.program (state_of core.now) p
-        (is_number_among p (progress_after core.now.program core.now.history).listed) q) }
+    ensures { OnOk result ((q : Process) → numbered (state_of core.now.core).processes p ≡ Some q
+        → text.new.items ≡ text.old.items ++ words.process_text core.now.core.program (state_of core.now.core) p
+        (is_number_among p (progress_after core.now.core.program core.now.core.history).listed) q) }
 {
     if !core.lives(p) {
         return Ok(());
@@ -40,8 +40,8 @@ fn append_one(alloc: Global, text: &mut Vec<u8>, core: &Core, p: u64) -> Result<
 // The lines of all processes that live, by their numbers.
 fn append_processes(alloc: Global, text: &mut Vec<u8>, core: &Core) -> Result<(), AllocError>
     ensures { OnOk result (text.new.items
-        ≡ text.old.items ++ words.processes_text core.now.program (state_of core.now) (progress_after core.now.program core.now.history).listed 1
-        (state_of core.now).processes) }
+        ≡ text.old.items ++ words.processes_text core.now.core.program (state_of core.now.core) (progress_after core.now.core.program core.now.core.history).listed 1
+        (state_of core.now.core).processes) }
 {
     for index in 0..core.made() {
         append_one(alloc, text, core, index + 1)?;
@@ -56,9 +56,9 @@ fn append_contents(
     core: &Core,
     symbols: &ProgramSymbols,
 ) -> Result<(), AllocError>
-    requires { symbols.now ≡ core.now.program }
+    requires { symbols.now ≡ core.now.core.program }
     ensures { OnOk result (text.new.items
-        ≡ text.old.items ++ words.contents_text core.now.program (state_of core.now) (progress_after core.now.program core.now.history).listed) }
+        ≡ text.old.items ++ words.contents_text core.now.core.program (state_of core.now.core) (progress_after core.now.core.program core.now.core.history).listed) }
 {
     let machine = core.machine();
     let storage = Storage {
@@ -78,7 +78,7 @@ fn append_contents(
 ///
 /// Only where memory was refused.
 pub fn state_text(alloc: Global, core: &Core, entries: u64) -> Result<Vec<u8>, AllocError>
-    ensures { IfOk result (λ text. text.items ≡ words.state_text core.now.program entries core.now.history) }
+    ensures { IfOk result (λ text. text.items ≡ words.state_text core.now.core.program entries core.now.core.history) }
 {
     let symbols = ProgramSymbols::new(alloc, core.image().program().as_slice())?;
     let mut text = Vec::new(alloc);

@@ -1,6 +1,6 @@
 -- What was kept of a process, put back, gives back the whole machine.
 use Rattle.std.proofs.Common.{◌≡◌, ℕ, ◌+◌, ◌-◌, List, [], ◌∷◌, refl, sym, ap, ◌∙◌, subst, slice_set}
-use Rattle.hep_machine.specs.Words.{with_numbered}
+use Rattle.hep_machine.specs.Words.{Units, with_numbered}
 use Rattle.hep_machine.specs.declared.slot.Slot.{Slot}
 use Rattle.hep_image.specs.Finding.{cells_in}
 use Rattle.hep_binding.proofs.Calls.{set-numbered}
@@ -76,10 +76,10 @@ module _ (undone : IsUndone) {m : Snapshot} {p : ℕ} (levels : HasLevels m p) (
         ∙ (λ i. record m { arena = record { contents = cells-back i; holes = m.arena.holes }; processes = stacks-back i })
 
 -- whatever operands it has since
-pub restored-moved : IsUndone → {m new : Snapshot} {p : ℕ} (levels : HasLevels m p) (after : HasLevels new p) (s : SegmentValue) (cells : List ℕ) → AreOf cells s.records → IsSameButTop p (snapshot_taken levels s) new
+pub restored-moved : IsUndone → (program : Units) {m new : Snapshot} {p : ℕ} (levels : HasLevels m p) (after : HasLevels new p) (s : SegmentValue) (cells : List ℕ) → AreOf cells s.records → IsSameButTop program p (snapshot_taken levels s) new
     → snapshot_restored after cells (saved_of levels cells) ≡ m
 unfolding taken
-restored-moved undone {m} {new} {p} levels after s cells of but-top =
+restored-moved undone program {m} {new} {p} levels after s cells of but-top =
     let came = but-top (taken undone levels s cells of) in
     let later : SegmentValue = record s { end_operands = came.0; end_index = came.1 } in
     let gone = stack_with (record levels.level { index = s.end_index }) levels.below s.end_operands levels.pending in

@@ -22,7 +22,7 @@ pub fn tickets_have_what_is_read()
 /// the process before, with all its own cells, gives back the whole machine once it is put back.
 pub fn restored_machines_are_as_before()
     ensures { (program : Units) (m new : Snapshot) (p : ℕ) (s : SegmentValue) (levels : HasLevels m p) (after : HasLevels new p)
-        → IsMadeFrom program (start_in levels) s → IsSameButTop p (snapshot_taken levels s) new
+        → IsMadeFrom program (start_in levels) s → IsSameButTop program p (snapshot_taken levels s) new
         → snapshot_restored after (own_cells_of program levels.level.unit) (saved_of levels (own_cells_of program levels.level.unit)) ≡ m }
 {
     hep_private_laws::laws::private_steps_store_in_own_cells();

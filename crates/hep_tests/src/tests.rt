@@ -2,6 +2,7 @@
 //! with their bytes are cases of the folder `tests` at the top of the repository.
 
 mod cells;
+mod commits;
 mod growths;
 mod histories;
 mod lowering;

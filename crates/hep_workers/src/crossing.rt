@@ -12,6 +12,7 @@ use hep_image::{BlockStart, DataRow, UnitCode};
 use hep_quick::Table;
 use hep_source::{Expr, Sequence, Text};
 use hep_state::Machine;
+use hep_taking::{OwnCells, Saved};
 
 fn cross<T: Send + Sync>()
     ensures send { IsSend T.row }
@@ -55,7 +56,9 @@ pub(crate) fn cores_cross()
 {
     images_cross();
     pass::<Table>();
+    pass::<OwnCells>();
     pass::<History>();
     pass::<Machine>();
     pass::<Roster>();
+    pass::<Saved>();
 }

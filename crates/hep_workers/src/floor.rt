@@ -7,12 +7,13 @@ ghost use Rattle.hep_workers.specs.Faults.{IsWorkFault};
 use crate::crossing::{cores_cross, images_cross};
 use crate::fault::{CrewFault, WorkFault};
 use crate::gate::Gate;
-use hep_core::{ChooseFault, CommitFault, Core, Ticket, Verdict};
+use hep_core::{ChooseFault, CommitFault, Core, Verdict};
 use hep_image::Image;
 use hep_reports::{Log, Report, WorkOptions, close, worker_turn};
+use hep_segments::{Segment, Ticket};
 use std::alloc::Global;
-use std::sync::atomic::{AtomicBool, Ordering};
-use std::sync::{Condvar, Mutex, Wait};
+use std::sync::atomic::{AtomicBool, AtomicU32, Ordering};
+use std::sync::{Condvar, Mutex, MutexGuard, Wait};
 use std::thread;
 use std::thread::Threads;
 
@@ -20,10 +21,23 @@ use std::thread::Threads;
 #[derive(Drop)]
 struct Floor {
     core: Mutex<Core>,
-    // Notified after each change of the core and of `ended`.
+    // Notified where a process is free for a worker that waits, and where the run is over.
     changed: Condvar,
+    // How many workers wait. It changes under the lock.
+    idle: AtomicU32,
     // The workers are to end. It is set under the lock, and never taken back.
     ended: AtomicBool,
+}
+
+// What a worker has in hand: its number and how many turns it began, both counted from 1, its ticket, the segment that it makes of it,
+// and its log. A segment is made in the place of the one before.
+#[derive(Drop)]
+struct Hand {
+    worker: u32,
+    turns: u64,
+    ticket: Ticket,
+    segment: Segment,
+    log: Log,
 }
 
 // What a worker leaves.
@@ -34,7 +48,7 @@ struct Work {
 }
 
 /// Runs a program by several workers, until its run is over. Each worker takes the lock, checks out the process that comes next, gets its
-/// segment from the gate without the lock, and commits it under the lock.
+/// segment from the gate without the lock, and then, under the lock again, commits it and checks out the next one.
 ///
 /// It may wait, and what it promises holds if it returns.
 ///
@@ -114,6 +128,7 @@ impl Floor {
         Floor {
             core: Mutex::new(core),
             changed: Condvar::new(),
+            idle: AtomicU32::new(0),
             ended: AtomicBool::new(false),
         }
     }
@@ -134,22 +149,50 @@ impl Floor {
         worker: u32,
         gate: &G,
     ) -> Work {
-        let mut log = Log::new(alloc);
-        let mut turns = 0u64;
+        let log = Log::new(alloc);
+        let work = match self.check_out(rt, self.core.lock(rt)) {
+            Ok(Some(ticket)) => self.work_on(
+                rt,
+                image,
+                gate,
+                Hand {
+                    worker,
+                    turns: 0,
+                    ticket,
+                    segment: Segment::new(),
+                    log,
+                },
+            ),
+            Ok(None) => Work {
+                log,
+                outcome: Ok(()),
+            },
+            Err(fault) => Work {
+                log,
+                outcome: Err(fault),
+            },
+        };
+        if work.outcome.is_err() {
+            self.end(rt);
+        }
+        work
+    }
+
+    // The turns of a worker that has its first ticket.
+    fn work_on<R: Wait, G: Gate>(&self, rt: &R, image: &Image, gate: &G, hand: Hand) -> Work {
+        let mut hand = hand;
         for _ in rt.forever() {
-            turns = turns.wrapping_add(1);
-            match self.turn(rt, image, worker, turns, gate, &mut log) {
+            match self.turn(rt, image, gate, &mut hand) {
                 Ok(true) => {}
                 Ok(false) => {
                     return Work {
-                        log,
+                        log: hand.log,
                         outcome: Ok(()),
                     };
                 }
                 Err(fault) => {
-                    self.end(rt);
                     return Work {
-                        log,
+                        log: hand.log,
                         outcome: Err(fault),
                     };
                 }
@@ -158,49 +201,92 @@ impl Floor {
         unreachable!()
     }
 
-    // A turn of a worker. False where the run has ended.
+    // A turn of a worker, which has the next ticket then. False where the run is over.
     fn turn<R: Wait, G: Gate>(
         &self,
         rt: &R,
         image: &Image,
-        worker: u32,
-        turn: u64,
         gate: &G,
-        log: &mut Log,
+        hand: &mut Hand,
     ) -> Result<bool, CrewFault> {
-        log.reserve()?;
-        let Some(ticket) = self.check_out(rt)? else {
-            return Ok(false);
-        };
-        let segment = gate.segment(worker, turn, image, &ticket);
+        hand.log.reserve()?;
+        hand.turns = hand.turns.wrapping_add(1);
+        gate.segment_into(
+            hand.worker,
+            hand.turns,
+            image,
+            &hand.ticket,
+            &mut hand.segment,
+        );
         let mut core = self.core.lock(rt);
-        let made = worker_turn(&mut core, worker, &segment);
-        self.changed.notify_all();
-        match made {
+        if !self.commit(&mut core, hand)? {
+            return Ok(false);
+        }
+        match self.check_out(rt, core)? {
+            Some(ticket) => {
+                hand.ticket = ticket;
+                Ok(true)
+            }
+            None => Ok(false),
+        }
+    }
+
+    // Commits the segment that a worker has in hand, and notes its receipt. False where the run is over.
+    fn commit(&self, core: &mut Core, hand: &mut Hand) -> Result<bool, CrewFault> {
+        match worker_turn(core, hand.worker, &hand.segment) {
             Ok(receipt) => {
-                log.push(receipt)?;
+                hand.log.push(receipt)?;
                 Ok(true)
             }
             Err(CommitFault::NoMemory) => {
-                let _ = core.cancel(&ticket);
+                let _ = core.cancel(&hand.ticket);
                 Err(CrewFault::NoMemory)
             }
-            Err(CommitFault::Stopped(_)) => Ok(false),
+            Err(CommitFault::Stopped(_)) => {
+                self.changed.notify_all();
+                Ok(false)
+            }
             Err(CommitFault::Stale) => {
                 self.ended.store(true, Ordering::SeqCst);
+                self.changed.notify_all();
                 Ok(false)
             }
         }
     }
 
-    // A ticket for the process that comes next, once there is one. None where the run has ended.
-    fn check_out<R: Wait>(&self, rt: &R) -> Result<Option<Ticket>, CrewFault> {
-        let mut core = self.changed.wait_while(rt, self.core.lock(rt), |core| {
-            !self.ended.load(Ordering::SeqCst)
-                && core.verdict() == Verdict::Running
-                && core.next_ready().is_none()
+    // A ticket for the process that comes next, once there is one. None where the run is over.
+    fn check_out<R: Wait>(
+        &self,
+        rt: &R,
+        core: MutexGuard<'_, Core>,
+    ) -> Result<Option<Ticket>, CrewFault> {
+        let mut core = self.wait(rt, core);
+        let ticket = self.next_ticket(&mut core);
+        self.wake(&core);
+        ticket
+    }
+
+    // Waits until a process is free or the run is over.
+    fn wait<'a, R: Wait>(&self, rt: &R, core: MutexGuard<'a, Core>) -> MutexGuard<'a, Core> {
+        if self.is_over(&core) || core.next_ready().is_some() {
+            return core;
+        }
+        self.idle.fetch_add(1, Ordering::SeqCst);
+        let core = self.changed.wait_while(rt, core, |core| {
+            !self.is_over(core) && core.next_ready().is_none()
         });
-        if self.ended.load(Ordering::SeqCst) || core.verdict() != Verdict::Running {
+        self.idle.fetch_sub(1, Ordering::SeqCst);
+        core
+    }
+
+    // The run is over, or the workers are to end.
+    fn is_over(&self, core: &Core) -> bool {
+        self.ended.load(Ordering::SeqCst) || core.verdict() != Verdict::Running
+    }
+
+    // A ticket for the process that comes next. None where the run is over.
+    fn next_ticket(&self, core: &mut Core) -> Result<Option<Ticket>, CrewFault> {
+        if self.is_over(core) {
             return Ok(None);
         }
         let Some(process) = core.next_ready() else {
@@ -210,10 +296,16 @@ impl Floor {
             Ok(ticket) => Ok(Some(ticket)),
             Err(ChooseFault::NoMemory) => Err(CrewFault::NoMemory),
             Err(ChooseFault::NoTicket) => Err(CrewFault::NoTicket),
-            Err(_) => {
-                self.changed.notify_all();
-                Ok(None)
-            }
+            Err(_) => Ok(None),
+        }
+    }
+
+    // Wakes all workers where the run is over, and one that waits where another process is free. That one wakes the next one.
+    fn wake(&self, core: &Core) {
+        if self.is_over(core) {
+            self.changed.notify_all();
+        } else if 0 < self.idle.load(Ordering::SeqCst) && core.next_ready().is_some() {
+            self.changed.notify_one();
         }
     }
 }

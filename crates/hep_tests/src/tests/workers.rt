@@ -10,7 +10,7 @@ use hep_workers::{
 };
 use std::alloc::Global;
 use std::process::Abort;
-use std::sync::atomic::{AtomicU32, AtomicU64, Ordering};
+use std::sync::atomic::{AtomicBool, AtomicU32, AtomicU64, Ordering};
 use std::thread::sleep;
 use std::time::{Clock, Duration};
 
@@ -75,6 +75,7 @@ pub fn tickets(rt: &impl Abort, alloc: Global) {
     let turn = committed(&mut core, &first).expect(rt, "not committed");
     assert!(rt; turn.steps == 0 && turn.blocked);
     assert!(rt; is_stale(&mut core, &second));
+    assert!(rt; is_stale(&mut core, &first));
     assert!(rt; core.history().len() == 1);
     assert!(rt; core.verdict() == Verdict::Waiting);
 }
@@ -185,7 +186,7 @@ pub fn closing(rt: &impl Abort, alloc: Global) {
                 index: 0,
                 process: 1,
                 worker: 1,
-                steps: 1,
+                steps: 2,
             }
     );
     assert!(rt; unclosed(alloc, core, &image, &options) == Some(CloseFault::NotTheEntries));
@@ -274,13 +275,36 @@ fn is_log_of(log: &Log, worker: u32, calls: u64) -> bool {
             .all(|receipt| receipt.worker == worker)
 }
 
-// The run is over, in so many steps, and has left what was stored.
+// How many steps the entries of a core's history have together.
+fn steps_of(core: &Core) -> u64 {
+    core.history().iter().fold(0, |sum: u64, entry| sum.saturating_add(entry.steps as u64))
+}
+
+// How many entries of a process have so many steps.
+fn entries_of(core: &Core, process: u64, steps: u32) -> u64 {
+    core.history().iter().fold(0, |count: u64, entry| {
+        if entry.process == process && entry.steps == steps {
+            count.saturating_add(1)
+        } else {
+            count
+        }
+    })
+}
+
+// The run is over, in so many entries and steps, and has left what was stored. A turn of a process that stores has the two private steps in front
+// of its store, or those in front of its END.
 fn has_stored(rt: &impl Abort, core: &Core) {
     assert!(rt; core.verdict() == Verdict::Done);
     assert!(rt; core.output().len() == 0);
     assert!(rt; core.faults().len() == 0);
     assert!(rt; core.used() == 1);
-    assert!(rt; core.history().len() == 6_007);
+    assert!(rt; core.history().len() == 2_005);
+    assert!(rt; steps_of(core) == 6_007);
+    assert!(rt; entries_of(core, 1, 1) == 3);
+    for process in [2, 3] {
+        assert!(rt; entries_of(core, process, 3) == 1_000);
+        assert!(rt; entries_of(core, process, 2) == 1);
+    }
     let stored = core.common(0).and_then(|slot| slot.value);
     assert!(rt; stored == Some(Value::Int(1_000)));
     assert!(rt; core.common(1).is_none());
@@ -308,11 +332,102 @@ fn two_workers_take_turns(rt: HostRuntime) {
     assert!(rt; 2 <= gate.calls_of_other.load(Ordering::SeqCst));
     has_stored(&rt, &core);
     let calls = gate.calls.load(Ordering::SeqCst);
-    assert!(rt; calls == 6_007);
+    assert!(rt; calls == 2_005);
     are_logs_of(
         &rt,
         &logs,
         calls,
         gate.calls_of_first.load(Ordering::SeqCst),
     );
+}
+
+// The same entries come of each number of workers.
+#[test]
+fn many_workers(rt: HostRuntime) {
+    let alloc = rt.alloc();
+    let image = image_from(&rt, alloc, &source_of(&rt, alloc, &STORING));
+    for workers in 1..17u32 {
+        let copy = image.copy(alloc).expect(&rt, "no copy");
+        let options = options_of(10_000, workers);
+        let report = run_workers(&rt, alloc, copy, &options, &NoGate).expect(&rt, "no report");
+        assert!(rt; report.logs().len() == workers as usize);
+        has_stored(&rt, report.core());
+    }
+}
+
+// Private steps have no end here, so each turn has as many as a segment may have.
+#[test]
+fn endless_turns(rt: HostRuntime) {
+    let alloc = rt.alloc();
+    let image = image_from(&rt, alloc, b"   10 GO TO 10\n      END\n");
+    let options = options_of(2, 1);
+    let report = run_workers(&rt, alloc, image, &options, &NoGate).expect(&rt, "no report");
+    let core = report.core();
+    assert!(rt; core.verdict() == Verdict::Stopped(ChoiceStop::StepLimit));
+    assert!(rt; core.history().len() == 2);
+    assert!(rt; entries_of(core, 1, 1_023) == 2);
+}
+
+// Where a worker waits for the other one, after 20 calls, until both are inside.
+#[derive(Drop)]
+struct Meeting<'a, R> {
+    rt: &'a R,
+    calls: AtomicU64,
+    inside: AtomicU32,
+    met: AtomicBool,
+    polls: AtomicU64,
+}
+
+impl<'a, R: Clock> Meeting<'a, R> {
+    fn new(rt: &'a R) -> Self {
+        Meeting {
+            rt,
+            calls: AtomicU64::new(0),
+            inside: AtomicU32::new(0),
+            met: AtomicBool::new(false),
+            polls: AtomicU64::new(0),
+        }
+    }
+
+    fn come(&self) {
+        if self.inside.fetch_add(1, Ordering::SeqCst) == 1 {
+            self.met.store(true, Ordering::SeqCst);
+        }
+        if self.calls.fetch_add(1, Ordering::SeqCst) < 20 {
+            return;
+        }
+        for _poll in 0..MOST_POLLS {
+            if self.met.load(Ordering::SeqCst) {
+                return;
+            }
+            self.polls.fetch_add(1, Ordering::SeqCst);
+            sleep(self.rt, Duration::from_micros(100));
+        }
+    }
+
+    fn leave(&self) {
+        self.inside.fetch_sub(1, Ordering::SeqCst);
+    }
+}
+
+impl<R: Clock> Gate for Meeting<'_, R> {
+    fn segment(&self, _worker: u32, _turn: u64, image: &Image, ticket: &Ticket) -> Segment {
+        self.come();
+        let segment = compute(image, ticket);
+        self.leave();
+        segment
+    }
+}
+
+// Segments are made side by side: two workers are inside the gate at one time.
+#[test]
+fn two_workers_meet(rt: HostRuntime) {
+    let alloc = rt.alloc();
+    let image = image_from(&rt, alloc, &source_of(&rt, alloc, &STORING));
+    let gate = Meeting::new(&rt);
+    let options = options_of(10_000, 2);
+    let report = run_workers(&rt, alloc, image, &options, &gate).expect(&rt, "no report");
+    assert!(rt; gate.polls.load(Ordering::SeqCst) < MOST_POLLS);
+    assert!(rt; gate.met.load(Ordering::SeqCst));
+    has_stored(&rt, report.core());
 }

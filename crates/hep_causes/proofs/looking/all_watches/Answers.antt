@@ -8,7 +8,7 @@ use Rattle.hep_causes.proofs.looking.all_watches.Goals as goal
 
 pub loop-index-init : goal.loop-index-init
 loop-index-init c =
-    let core = c.args.core.now in
+    let core = c.args.core.now.core in
     record {
       listed = none-yet core.program core.history (length (state_of core).processes) c.new-watches.result.items c.new-watches.ensures.items;
       each = λ i w e. absurd (none-there c.new-watches.result.items i w c.new-watches.ensures.items e);
@@ -16,7 +16,7 @@ loop-index-init c =
 
 pub loop-index-preserved : goal.loop-index-preserved
 loop-index-preserved c =
-    let core = c.args.core.now in
+    let core = c.args.core.now.core in
     let i = c.loop-index.index in
     let less : i < length (state_of core).processes = omega (arith, c.loop-index-test.true, c.made-index-end.ensures) in
     let next : i + 1 ≡ suc i = omega arith in
@@ -27,7 +27,7 @@ loop-index-preserved c =
 
 pub returns-clause-listed : goal.returns-clause-listed
 returns-clause-listed c =
-    let core = c.args.core.now in
+    let core = c.args.core.now.core in
     let n = length (state_of core).processes in
     let none : n - c.loop-index.index ≡ 0 = omega (arith, c.loop-index-test.false, c.made-index-end.ensures) in
     let found : List Listed = map (λ (w : Watch). w.listed) c.loop-index.watches.items in

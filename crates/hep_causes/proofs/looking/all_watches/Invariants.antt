@@ -8,7 +8,7 @@ use Rattle.hep_causes.proofs.looking.all_watches.Given as goal
 abbrev pub invariant-loop-index : goal.invariant-loop-index
 invariant-loop-index l =
     record {
-      listed : map (λ (w : Watch). w.listed) l.watches.items ++ listed_from l.core.program l.core.history (suc l.index) (length (state_of l.core).processes - l.index)
-          ≡ listed_from l.core.program l.core.history 1 (length (state_of l.core).processes);
-      each : AreNewWatches l.core.program l.core.cells (schedule_of l.core.history) l.watches.items;
+      listed : map (λ (w : Watch). w.listed) l.watches.items ++ listed_from l.core.core.program l.core.core.history (suc l.index) (length (state_of l.core.core).processes - l.index)
+          ≡ listed_from l.core.core.program l.core.core.history 1 (length (state_of l.core.core).processes);
+      each : AreNewWatches l.core.core.program l.core.core.cells (schedule_of l.core.core.history) l.watches.items;
     }

@@ -19,15 +19,15 @@ module _ (core : CoreValue) (m : Machine) (after : IsMachineAfter core.program c
       (found.0, subst (IsOut cell) (sym memory.holes_are) found.1)
 
 pub get-requires-clause-inside : goal.get-requires-clause-inside
-get-requires-clause-inside c = (out c.args.core.now c.machine.result.now c.machine.ensures c.requires.0 c.args.cell c.requires.1).0
+get-requires-clause-inside c = (out c.args.core.now.core c.machine.result.now c.machine.ensures.after c.requires.0 c.args.cell c.requires.1).0
 
 pub get-requires-clause-out : goal.get-requires-clause-out
-get-requires-clause-out c = (out c.args.core.now c.machine.result.now c.machine.ensures c.requires.0 c.args.cell c.requires.1).1
+get-requires-clause-out c = (out c.args.core.now.core c.machine.result.now c.machine.ensures.after c.requires.0 c.args.cell c.requires.1).1
 
 pub returns : goal.returns
 returns c at kept =
-    let core = c.args.core.now in
+    let core = c.args.core.now.core in
     let s : State = run core.program (schedule_of core.history) in
-    let after = c.machine.ensures.after in
+    let after = c.machine.ensures.after.after in
     ap (λ (slot : Slot). slot.full) (c.get.ensures.unit (frames_in core.program s (is_held s) after.layout) at after.shows.keeps (kept after.layout after.laid))
     ∙ ap (λ (u : State). (u.store at).full) (sym (state-is core.program core.history))

@@ -22,7 +22,7 @@ pub loop-index-preserved : goal.loop-index-preserved
 loop-index-preserved c =
     let i = c.loop-index.index in
     let w = c.index.result.now in
-    let core = c.args.core.now in
+    let core = c.args.core.now.core in
     let old = c.args.watches.now.items in
     let less : i < length old = omega (arith, c.loop-index-test.true, c.len-index-end.ensures) in
     let is = here old c.loop-index.watches.items i w (omega (arith, less, c.loop-index.invariant.count)) (c.loop-index.invariant.rest i (omega arith)) c.index.ensures in

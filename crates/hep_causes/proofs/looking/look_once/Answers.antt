@@ -38,17 +38,17 @@ looked-so s at made change w full latest e full_is latest_is =
 
 pub is_full-full-requires : goal.is_full-full-requires
 is_full-full-requires c =
-    let core = c.args.core.now in
+    let core = c.args.core.now.core in
     let h = c.requires.1 in
     (c.requires.0, h.kept (there core c.args.watch c.requires.0 c.activations-made_now.result h c.activations-made_now.ensures c.if-made_now-watch.false))
 
 pub returns-then-made_now-watch : goal.returns-then-made_now-watch
 returns-then-made_now-watch c at h =
-    let core = c.args.core.now in
+    let core = c.args.core.now.core in
     unlooked (state_of core) at c.args.made c.args.change c.args.watch (not-there core c.args.watch at c.activations-made_now.result h c.activations-made_now.ensures c.if-made_now-watch.true)
 
 pub returns : goal.returns
 returns c at h =
-    let core = c.args.core.now in
+    let core = c.args.core.now.core in
     let here = there core c.args.watch at c.activations-made_now.result h c.activations-made_now.ensures c.if-made_now-watch.false in
     looked-so (state_of core) at c.args.made c.args.change c.args.watch c.is_full-full.result c.latest.result here (c.is_full-full.ensures at (h.kept here)) c.latest.ensures

@@ -35,8 +35,8 @@ pub loop-before-init : goal.loop-before-init
 loop-before-init c =
     let is = sym c.runs-runs.ensures.entries in
     record {
-      there = (c.requires.0, subst (λ (es : List Entry). AreAlong c.requires.0 c.args.core.now (turns_from 1 es) c.args.watches.now.items) is c.requires.1);
-      along = λ whole h. subst (λ (es : List Entry). AreAlong whole c.args.core.now (turns_from 1 es) c.args.watches.now.items) is h;
+      there = (c.requires.0, subst (λ (es : List Entry). AreAlong c.requires.0 c.args.core.now.core (turns_from 1 es) c.args.watches.now.items) is c.requires.1);
+      along = λ whole h. subst (λ (es : List Entry). AreAlong whole c.args.core.now.core (turns_from 1 es) c.args.watches.now.items) is h;
       same = λ i. refl;
       count = omega (arith, ap length c.runs-runs.ensures.entries);
     }
@@ -44,7 +44,7 @@ loop-before-init c =
 pub make_run-requires-clause-along : goal.make_run-requires-clause-along
 make_run-requires-clause-along c =
     let h = c.loop-before.invariant.there in
-    (h.0, _, subst (λ (ts : List (ℕ × ℕ)). AreAlong h.0 c.loop-before.core ts c.loop-before.watches.items) (more c.loop-before.before c.in-Some.run' c.loop-before.runs c.next.new.self c.in-Some.ensures.steps) h.1)
+    (h.0, _, subst (λ (ts : List (ℕ × ℕ)). AreAlong h.0 c.loop-before.core.core ts c.loop-before.watches.items) (more c.loop-before.before c.in-Some.run' c.loop-before.runs c.next.new.self c.in-Some.ensures.steps) h.1)
 
 pub loop-before-preserved : goal.loop-before-preserved
 loop-before-preserved c =
@@ -52,9 +52,9 @@ loop-before-preserved c =
     let run = c.in-Some.run' in
     let rest = c.next.new.self in
     let steps = c.in-Some.ensures.steps in
-    let next : (whole : Whole) → AreAlong whole c.loop-before.core (turns_from (suc before) (entries_of c.loop-before.runs)) c.loop-before.watches.items
-    → AreAlong whole c.make_run.new.core (turns_from (suc (before + run.count)) (entries_of rest)) c.make_run.new.watches.items =
-    λ whole h. c.in_ok-make_run.ensures.along whole _ (subst (λ (ts : List (ℕ × ℕ)). AreAlong whole c.loop-before.core ts c.loop-before.watches.items) (more before run c.loop-before.runs rest steps) h) in
+    let next : (whole : Whole) → AreAlong whole c.loop-before.core.core (turns_from (suc before) (entries_of c.loop-before.runs)) c.loop-before.watches.items
+    → AreAlong whole c.make_run.new.core.core (turns_from (suc (before + run.count)) (entries_of rest)) c.make_run.new.watches.items =
+    λ whole h. c.in_ok-make_run.ensures.along whole _ (subst (λ (ts : List (ℕ × ℕ)). AreAlong whole c.loop-before.core.core ts c.loop-before.watches.items) (more before run c.loop-before.runs rest steps) h) in
     let there = c.loop-before.invariant.there in
     record {
       there = (there.0, next there.0 there.1);
@@ -65,7 +65,7 @@ loop-before-preserved c =
 
 pub returns-clause-along : goal.returns-clause-along
 returns-clause-along c whole h =
-    subst (λ (ts : List (ℕ × ℕ)). AreAlong whole c.loop-before.core ts c.loop-before.watches.items)
+    subst (λ (ts : List (ℕ × ℕ)). AreAlong whole c.loop-before.core.core ts c.loop-before.watches.items)
     (none (suc c.loop-before.before) (entries_of c.loop-before.runs) (omega (arith, c.loop-before.invariant.count, c.loop-before-test.false, c.len.ensures.count))) (c.loop-before.invariant.along whole h)
 
 pub returns-clause-same : goal.returns-clause-same

@@ -21,7 +21,7 @@ pub loop-init : goal.loop-init
 loop-init c =
     let t : ℕ × ℕ = (c.args.number, c.args.entry.process) in
     let n = c.args.entry.steps in
-    let core = c.args.core.now in
+    let core = c.args.core.now.core in
     let ws = c.args.watches.now.items in
     record {
       there = (c.requires.0, c.requires.1, subst (λ ts. AreAlong c.requires.0 core ts ws) (all n t c.requires.1) c.requires.2);
@@ -32,14 +32,14 @@ loop-init c =
 pub make_turn-requires : goal.make_turn-requires
 make_turn-requires c =
     let h = c.loop.invariant.there in
-    (h.0, _, subst (λ ts. AreAlong h.0 c.loop.core ts c.loop.watches.items) (more c.args.entry.steps c.loop.counter (c.args.number, c.args.entry.process) h.1 c.loop-test.true) h.2)
+    (h.0, _, subst (λ ts. AreAlong h.0 c.loop.core.core ts c.loop.watches.items) (more c.args.entry.steps c.loop.counter (c.args.number, c.args.entry.process) h.1 c.loop-test.true) h.2)
 
 pub loop-preserved : goal.loop-preserved
 loop-preserved c =
     let t : ℕ × ℕ = (c.args.number, c.args.entry.process) in
-    let next : (whole : Whole) (left : List (ℕ × ℕ)) → AreAlong whole c.loop.core (replicate (c.args.entry.steps - c.loop.counter) t ++ left) c.loop.watches.items
-    → AreAlong whole c.make_turn.new.core (replicate (c.args.entry.steps - (c.loop.counter + 1)) t ++ left) c.make_turn.new.watches.items =
-    λ whole left h. c.in_ok-make_turn.ensures.along whole _ (subst (λ ts. AreAlong whole c.loop.core ts c.loop.watches.items) (more c.args.entry.steps c.loop.counter t left c.loop-test.true) h) in
+    let next : (whole : Whole) (left : List (ℕ × ℕ)) → AreAlong whole c.loop.core.core (replicate (c.args.entry.steps - c.loop.counter) t ++ left) c.loop.watches.items
+    → AreAlong whole c.make_turn.new.core.core (replicate (c.args.entry.steps - (c.loop.counter + 1)) t ++ left) c.make_turn.new.watches.items =
+    λ whole left h. c.in_ok-make_turn.ensures.along whole _ (subst (λ ts. AreAlong whole c.loop.core.core ts c.loop.watches.items) (more c.args.entry.steps c.loop.counter t left c.loop-test.true) h) in
     let there = c.loop.invariant.there in
     record {
       there = (there.0, there.1, next there.0 there.1 there.2);
@@ -49,7 +49,7 @@ loop-preserved c =
 
 pub returns-clause-along : goal.returns-clause-along
 returns-clause-along c whole left h =
-    subst (λ ts. AreAlong whole c.loop.core ts c.loop.watches.items) (none c.args.entry.steps c.loop.counter (c.args.number, c.args.entry.process) left (omega (arith, c.loop-test.false))) (c.loop.invariant.along whole left h)
+    subst (λ ts. AreAlong whole c.loop.core.core ts c.loop.watches.items) (none c.args.entry.steps c.loop.counter (c.args.number, c.args.entry.process) left (omega (arith, c.loop-test.false))) (c.loop.invariant.along whole left h)
 
 pub returns-clause-same : goal.returns-clause-same
 returns-clause-same c = c.loop.invariant.same

@@ -25,7 +25,7 @@ none n made number p left few =
 pub loop-made-init : goal.loop-made-init
 loop-made-init c =
     let n = c.args.count in
-    let core = c.args.core.now in
+    let core = c.args.core.now.core in
     let ws = c.args.watches.now.items in
     let r = c.requires.along in
     record {
@@ -47,10 +47,10 @@ loop-made-preserved c =
     let n = c.args.count - made in
     let row = turns_in_row (c.args.number + made) c.args.p n in
     let few : made + c.in_ok-made.field-0 ≤ c.args.count = omega (arith, c.in_ok-made.ensures.few, c.loop-made-test.true) in
-    let next : (whole : Whole) (left : List (ℕ × ℕ)) → AreAlong whole c.loop-made.core (row ++ left) c.loop-made.watches.items
-    → AreAlong whole c.make_turns.new.core (turns_in_row (c.args.number + (made + c.in_ok-made.field-0)) c.args.p (c.args.count - (made + c.in_ok-made.field-0)) ++ left) c.make_turns.new.watches.items =
+    let next : (whole : Whole) (left : List (ℕ × ℕ)) → AreAlong whole c.loop-made.core.core (row ++ left) c.loop-made.watches.items
+    → AreAlong whole c.make_turns.new.core.core (turns_in_row (c.args.number + (made + c.in_ok-made.field-0)) c.args.p (c.args.count - (made + c.in_ok-made.field-0)) ++ left) c.make_turns.new.watches.items =
     λ whole left h.
-    subst (λ (ts : List (ℕ × ℕ)). AreAlong whole c.make_turns.new.core (ts ++ left) c.make_turns.new.watches.items) (behind c.args.count made c.in_ok-made.field-0 c.args.number c.args.p few)
+    subst (λ (ts : List (ℕ × ℕ)). AreAlong whole c.make_turns.new.core.core (ts ++ left) c.make_turns.new.watches.items) (behind c.args.count made c.in_ok-made.field-0 c.args.number c.args.p few)
     (c.in_ok-made.ensures.along whole row left (row-turns n (c.args.number + made) c.args.p (omega (arith, c.loop-made-test.true))) h) in
     let there = c.loop-made.invariant.there in
     record {
@@ -62,7 +62,7 @@ loop-made-preserved c =
 
 pub returns-clause-along : goal.returns-clause-along
 returns-clause-along c whole left h =
-    subst (λ (ts : List (ℕ × ℕ)). AreAlong whole c.loop-made.core ts c.loop-made.watches.items)
+    subst (λ (ts : List (ℕ × ℕ)). AreAlong whole c.loop-made.core.core ts c.loop-made.watches.items)
     (none c.args.count c.loop-made.made c.args.number c.args.p left (omega (arith, c.loop-made-test.false))) (c.loop-made.invariant.along whole left h)
 
 pub returns-clause-same : goal.returns-clause-same

@@ -6,9 +6,9 @@ abbrev pub invariant-loop-made : goal.invariant-loop-made
 invariant-loop-made l =
     record {
       few : l.made ≤ l.count;
-      there : (whole : Whole) × (left : List (ℕ × ℕ)) × AreAlong whole l.core (turns_in_row (l.number + l.made) l.p (l.count - l.made) ++ left) l.watches.items;
-      along : (whole : Whole) (left : List (ℕ × ℕ)) → AreAlong whole l.fn.core (turns_in_row l.number l.p l.count ++ left) l.fn.watches.items
-          → AreAlong whole l.core (turns_in_row (l.number + l.made) l.p (l.count - l.made) ++ left) l.watches.items;
+      there : (whole : Whole) × (left : List (ℕ × ℕ)) × AreAlong whole l.core.core (turns_in_row (l.number + l.made) l.p (l.count - l.made) ++ left) l.watches.items;
+      along : (whole : Whole) (left : List (ℕ × ℕ)) → AreAlong whole l.fn.core.core (turns_in_row l.number l.p l.count ++ left) l.fn.watches.items
+          → AreAlong whole l.core.core (turns_in_row (l.number + l.made) l.p (l.count - l.made) ++ left) l.watches.items;
       same : WaitTheSame l.fn.watches.items l.watches.items;
     }
 

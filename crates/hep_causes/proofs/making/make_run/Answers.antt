@@ -39,12 +39,12 @@ row-so run number one = row-of run.count number (entry_of run) one
 pub make_row-requires-clause-along : goal.make_row-requires-clause-along
 make_row-requires-clause-along c =
     let r = c.requires.along in
-    (r.0, r.1, subst (λ (ts : List (ℕ × ℕ)). AreAlong r.0 c.args.core.now (ts ++ r.1) c.args.watches.now.items) (row-so c.args.run c.args.number c.if-run-eq1.true) r.2)
+    (r.0, r.1, subst (λ (ts : List (ℕ × ℕ)). AreAlong r.0 c.args.core.now.core (ts ++ r.1) c.args.watches.now.items) (row-so c.args.run c.args.number c.if-run-eq1.true) r.2)
 
 pub returns-then-run-eq1-clause-along : goal.returns-then-run-eq1-clause-along
 returns-then-run-eq1-clause-along c whole left h =
     c.in_ok-make_row.ensures.along whole left
-    (subst (λ (ts : List (ℕ × ℕ)). AreAlong whole c.args.core.now (ts ++ left) c.args.watches.now.items) (row-so c.args.run c.args.number c.if-run-eq1.true) h)
+    (subst (λ (ts : List (ℕ × ℕ)). AreAlong whole c.args.core.now.core (ts ++ left) c.args.watches.now.items) (row-so c.args.run c.args.number c.if-run-eq1.true) h)
 
 pub loop-before-init : goal.loop-before-init
 loop-before-init c =
@@ -52,8 +52,8 @@ loop-before-init c =
     let n = c.args.run.count in
     let r = c.requires.along in
     record {
-      there = (r.0, r.1, subst (λ (ts : List (ℕ × ℕ)). AreAlong r.0 c.args.core.now (ts ++ r.1) c.args.watches.now.items) (all n c.args.number e) r.2);
-      along = λ whole left h. subst (λ (ts : List (ℕ × ℕ)). AreAlong whole c.args.core.now (ts ++ left) c.args.watches.now.items) (all n c.args.number e) h;
+      there = (r.0, r.1, subst (λ (ts : List (ℕ × ℕ)). AreAlong r.0 c.args.core.now.core (ts ++ r.1) c.args.watches.now.items) (all n c.args.number e) r.2);
+      along = λ whole left h. subst (λ (ts : List (ℕ × ℕ)). AreAlong whole c.args.core.now.core (ts ++ left) c.args.watches.now.items) (all n c.args.number e) h;
       same = λ i. refl;
     }
 
@@ -62,7 +62,7 @@ make_entry-requires c =
     let there = c.loop-before.invariant.there in (
       there.0,
       _,
-      subst (λ (ts : List (ℕ × ℕ)). AreAlong there.0 c.loop-before.core ts c.loop-before.watches.items)
+      subst (λ (ts : List (ℕ × ℕ)). AreAlong there.0 c.loop-before.core.core ts c.loop-before.watches.items)
           (one-so c.args.run.count c.loop-before.before c.args.number (entry_of c.args.run) c.entry.result there.1 c.loop-before-test.true c.entry.ensures) there.2,
     )
 
@@ -71,9 +71,9 @@ loop-before-preserved c =
     let e = entry_of c.args.run in
     let n = c.args.run.count in
     let i = c.loop-before.before in
-    let next : (whole : Whole) (left : List (ℕ × ℕ)) → AreAlong whole c.loop-before.core (turns_from (c.args.number + i) (replicate (n - i) e) ++ left) c.loop-before.watches.items
-    → AreAlong whole c.make_entry.new.core (turns_from (c.args.number + (i + 1)) (replicate (n - (i + 1)) e) ++ left) c.make_entry.new.watches.items =
-    λ whole left h. c.in_ok-make_entry.ensures.along whole _ (subst (λ (ts : List (ℕ × ℕ)). AreAlong whole c.loop-before.core ts c.loop-before.watches.items)
+    let next : (whole : Whole) (left : List (ℕ × ℕ)) → AreAlong whole c.loop-before.core.core (turns_from (c.args.number + i) (replicate (n - i) e) ++ left) c.loop-before.watches.items
+    → AreAlong whole c.make_entry.new.core.core (turns_from (c.args.number + (i + 1)) (replicate (n - (i + 1)) e) ++ left) c.make_entry.new.watches.items =
+    λ whole left h. c.in_ok-make_entry.ensures.along whole _ (subst (λ (ts : List (ℕ × ℕ)). AreAlong whole c.loop-before.core.core ts c.loop-before.watches.items)
     (one-so n i c.args.number e c.entry.result left c.loop-before-test.true c.entry.ensures) h) in
     let there = c.loop-before.invariant.there in
     record {
@@ -84,7 +84,7 @@ loop-before-preserved c =
 
 pub returns-clause-along : goal.returns-clause-along
 returns-clause-along c whole left h =
-    subst (λ (ts : List (ℕ × ℕ)). AreAlong whole c.loop-before.core ts c.loop-before.watches.items)
+    subst (λ (ts : List (ℕ × ℕ)). AreAlong whole c.loop-before.core.core ts c.loop-before.watches.items)
     (none c.args.run.count c.loop-before.before c.args.number (entry_of c.args.run) left (omega (arith, c.loop-before-test.false))) (c.loop-before.invariant.along whole left h)
 
 pub returns-clause-same : goal.returns-clause-same

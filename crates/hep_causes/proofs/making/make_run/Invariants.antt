@@ -7,8 +7,8 @@ use Rattle.hep_causes.proofs.making.make_run.Given as goal
 abbrev pub invariant-loop-before : goal.invariant-loop-before
 invariant-loop-before l =
     record {
-      there : (whole : Whole) × (left : List (ℕ × ℕ)) × AreAlong whole l.core (turns_from (l.number + l.before) (replicate (l.run.count - l.before) (entry_of l.run)) ++ left) l.watches.items;
-      along : (whole : Whole) (left : List (ℕ × ℕ)) → AreAlong whole l.fn.core (turns_from l.number (replicate l.run.count (entry_of l.run)) ++ left) l.fn.watches.items
-          → AreAlong whole l.core (turns_from (l.number + l.before) (replicate (l.run.count - l.before) (entry_of l.run)) ++ left) l.watches.items;
+      there : (whole : Whole) × (left : List (ℕ × ℕ)) × AreAlong whole l.core.core (turns_from (l.number + l.before) (replicate (l.run.count - l.before) (entry_of l.run)) ++ left) l.watches.items;
+      along : (whole : Whole) (left : List (ℕ × ℕ)) → AreAlong whole l.fn.core.core (turns_from l.number (replicate l.run.count (entry_of l.run)) ++ left) l.fn.watches.items
+          → AreAlong whole l.core.core (turns_from (l.number + l.before) (replicate (l.run.count - l.before) (entry_of l.run)) ++ left) l.watches.items;
       same : WaitTheSame l.fn.watches.items l.watches.items;
     }

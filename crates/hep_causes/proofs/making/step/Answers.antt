@@ -14,17 +14,17 @@ made false old new p can turn = absurd (turn can.few can.steps can.gaps)
 
 pub returns-in-Ok : goal.returns-in-Ok
 returns-in-Ok c =
-    let old = c.args.core.now in
-    made _ old c.choose.new.self c.args.p c.requires (turn_made old c.choose.new.self c.args.p false c.in-Ok.field-0 c.requires.standing c.in-Ok.ensures)
+    let old = c.args.core.now.core in
+    made _ old c.choose.new.self.core c.args.p c.requires (turn_made old c.choose.new.self.core c.args.p false c.in-Ok.field-0 c.requires.standing c.in-Ok.ensures.chosen)
 
 pub unreachable-requires : goal.unreachable-requires
 unreachable-requires c =
-    let old = c.args.core.now in
-    not-stopped old c.choose.new.self c.args.p c.in-Err-Stopped.field-0-0 c.requires (
-    subst (λ (fault : ChooseFault). IsChoice old c.args.p (Err fault) c.choose.new.self) c.in-Err-Stopped.field-0-is c.in-Err-Stopped.ensures)
+    let old = c.args.core.now.core in
+    not-stopped old c.choose.new.self.core c.args.p c.in-Err-Stopped.field-0-0 c.requires (
+    subst (λ (fault : ChooseFault). IsChoice old c.args.p (Err fault) c.choose.new.self.core) c.in-Err-Stopped.field-0-is c.in-Err-Stopped.ensures.chosen)
 
 pub unreachable-requires-in-Err-NoSuchProcess : goal.unreachable-requires-in-Err-NoSuchProcess
 unreachable-requires-in-Err-NoSuchProcess c =
-    let old = c.args.core.now in
-    not-nobody old c.choose.new.self c.args.p c.requires (
-    subst (λ (fault : ChooseFault). IsChoice old c.args.p (Err fault) c.choose.new.self) c.in-Err-NoSuchProcess.field-0-is c.in-Err-NoSuchProcess.ensures)
+    let old = c.args.core.now.core in
+    not-nobody old c.choose.new.self.core c.args.p c.requires (
+    subst (λ (fault : ChooseFault). IsChoice old c.args.p (Err fault) c.choose.new.self.core) c.in-Err-NoSuchProcess.field-0-is c.in-Err-NoSuchProcess.ensures.chosen)

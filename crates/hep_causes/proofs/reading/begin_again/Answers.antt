@@ -12,9 +12,9 @@ new-requires-clause-few c = omega (arith, c.requires.few, c.cells.ensures)
 
 pub returns-in-Ok : goal.returns-in-Ok
 returns-in-Ok c =
-    begun-again c.args.core.now c.in_ok-image.image c.cells.result c.in-Ok.again (c.in_ok-image.ensures ∙ c.image.ensures) c.cells.ensures c.in-Ok.ensures.made
+    begun-again c.args.core.now.core c.in_ok-image.image c.cells.result c.in-Ok.again.core (c.in_ok-image.ensures ∙ c.image.ensures) c.cells.ensures c.in-Ok.ensures.made
 
 pub unreachable-requires : goal.unreachable-requires
 unreachable-requires c =
-    not-full c.args.core.now c.in_ok-image.image c.cells.result (c.in_ok-image.ensures ∙ c.image.ensures) c.cells.ensures c.requires.fits (
+    not-full c.args.core.now.core c.in_ok-image.image c.cells.result (c.in_ok-image.ensures ∙ c.image.ensures) c.cells.ensures c.requires.fits (
     subst (λ (fault : NewFault). IsNewFault fault c.in_ok-image.image c.cells.result) c.in-Err-ArenaFull.field-0-is c.in-Err-ArenaFull.ensures.unmade)

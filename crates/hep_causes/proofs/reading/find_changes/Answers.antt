@@ -17,20 +17,20 @@ returns-then-is_empty-clause-same c = λ i. refl
 
 pub look-requires : goal.look-requires
 look-requires c =
-    can-look c.args.core.now c.args.entries.now.items c.requires.replayed c.headline.ensures.legal c.headline.ensures.single c.in_ok-again.again c.args.watches.now.items c.in_ok-again.ensures c.requires.watches
+    can-look c.args.core.now.core c.args.entries.now.items c.requires.replayed c.headline.ensures.legal c.in_ok-again.again.core c.args.watches.now.items c.in_ok-again.ensures c.requires.watches
 
 pub make_entries-requires : goal.make_entries-requires
 make_entries-requires c = (
-  whole c.args.core.now c.args.entries.now.items c.requires.replayed,
-  begin-along c.args.core.now c.args.entries.now.items c.requires.replayed c.headline.ensures.legal c.headline.ensures.single c.in_ok-again.again c.args.watches.now.items c.look.new.watches.items c.in_ok-again.ensures c.requires.watches c.look.ensures,
+  whole c.args.core.now.core c.args.entries.now.items c.requires.replayed,
+  begin-along c.args.core.now.core c.args.entries.now.items c.requires.replayed c.headline.ensures.legal c.in_ok-again.again.core c.args.watches.now.items c.look.new.watches.items c.in_ok-again.ensures c.requires.watches c.look.ensures,
 )
 
 pub returns-clause-found : goal.returns-clause-found
 returns-clause-found c =
-    let core = c.args.core.now in
+    let core = c.args.core.now.core in
     let entries = c.args.entries.now.items in
-    let begun = begin-along core entries c.requires.replayed c.headline.ensures.legal c.headline.ensures.single c.in_ok-again.again c.args.watches.now.items c.look.new.watches.items c.in_ok-again.ensures c.requires.watches c.look.ensures in
-    end-found core entries c.requires.replayed c.make_entries.new.core c.make_entries.new.watches.items (c.in_ok-make_entries.ensures.along (whole core entries c.requires.replayed) begun)
+    let begun = begin-along core entries c.requires.replayed c.headline.ensures.legal c.in_ok-again.again.core c.args.watches.now.items c.look.new.watches.items c.in_ok-again.ensures c.requires.watches c.look.ensures in
+    end-found core entries c.requires.replayed c.make_entries.new.core.core c.make_entries.new.watches.items (c.in_ok-make_entries.ensures.along (whole core entries c.requires.replayed) begun)
 
 pub returns-clause-same : goal.returns-clause-same
 returns-clause-same c = same-both c.args.watches.now.items c.look.new.watches.items c.make_entries.new.watches.items c.look.ensures.same c.in_ok-make_entries.ensures.same

@@ -8,7 +8,7 @@ use Rattle.hep_causes.proofs.reading.find_reasons.Goals as goal
 
 pub returns : goal.returns
 returns c =
-    let core = c.args.core.now in
+    let core = c.args.core.now.core in
     IfOk-weaker c.reasons_for.result _ _ (λ reasons told.
     told ∙ ap (λ (ws : List Watch). reasons_for (state_of core) ws) c.deref.ensures.value
     ∙ reasons-are core c.args.entries.now.items c.requires c.in_ok-watches.watches.items c.find_changes.new.watches.items c.in_ok-watches.ensures.listed c.in_ok-find_changes.ensures.same c.in_ok-find_changes.ensures.found) c.reasons_for.ensures

@@ -4,8 +4,8 @@ use Rattle.hep_outcome.proofs.Schedules.{IsLonger, rounds_made}
 use Rattle.hep_choosing.proofs.run.go_round.Goals as goal
 use Rattle.hep_choosing.proofs.run.go_round.Goals.{After-go_round}
 
-longer : (c : After-go_round) → IsLonger c.args.options.now c.args.core.now c.go_round.result c.go_round.new.self
-longer c = rounds_made c.args.options.now c.args.core.now c.requires.running c.requires.made c.go_round.result c.go_round.new.self c.go_round.ensures.chosen
+longer : (c : After-go_round) → IsLonger c.args.options.now c.args.core.now.core c.go_round.result c.go_round.new.self.core
+longer c = rounds_made c.args.options.now c.args.core.now.core c.requires.running c.requires.made c.go_round.result c.go_round.new.self.core c.go_round.ensures.chosen
 
 pub returns-then-most-eq1-clause-program : goal.returns-then-most-eq1-clause-program
 returns-then-most-eq1-clause-program c = (longer (goal.at.returns-then-most-eq1-clause-program c).After-go_round).program
@@ -16,7 +16,7 @@ returns-then-most-eq1-clause-running c = (longer (goal.at.returns-then-most-eq1-
 pub returns-then-most-eq1-clause-made : goal.returns-then-most-eq1-clause-made
 returns-then-most-eq1-clause-made c none =
     let far = longer (goal.at.returns-then-most-eq1-clause-made c).After-go_round in
-    omega (arith, c.requires.made (rounds-going c.args.core.now c.go_round.result c.go_round.new.self c.go_round.ensures.chosen none), far.entries)
+    omega (arith, c.requires.made (rounds-going c.args.core.now.core c.go_round.result c.go_round.new.self.core c.go_round.ensures.chosen none), far.entries)
 
 pub returns-then-most-eq1-clause-more : goal.returns-then-most-eq1-clause-more
 returns-then-most-eq1-clause-more c =

@@ -4,11 +4,11 @@ use Rattle.hep_choosing.proofs.run.make_alike.Given as goal
 
 abbrev pub invariant-loop-index : goal.invariant-loop-index
 invariant-loop-index l = record {
-  program : l.core.program ≡ l.fn.core.program;
-  running : IsRunning l.fn.options l.core;
+  program : l.core.core.program ≡ l.fn.core.core.program;
+  running : IsRunning l.fn.options l.core.core;
   from : l.first ≤ l.index;
   to : l.index ≤ l.end;
-  made : l.core.stop ≡ None → length l.core.history ≡ l.index;
+  made : l.core.core.stop ≡ None → length l.core.core.history ≡ l.index;
 }
 
 abbrev pub decreases-loop-index : goal.decreases-loop-index

@@ -4,10 +4,10 @@ use Rattle.hep_choosing.proofs.run.make_choices.Given as goal
 
 abbrev pub invariant-loop-first : goal.invariant-loop-first
 invariant-loop-first l = record {
-  program : l.core.program ≡ l.fn.core.program;
-  running : IsRunning l.fn.options l.core;
+  program : l.core.core.program ≡ l.fn.core.core.program;
+  running : IsRunning l.fn.options l.core.core;
   within : l.first ≤ length l.choices;
-  made : l.core.stop ≡ None → length l.core.history ≡ l.first;
+  made : l.core.core.stop ≡ None → length l.core.core.history ≡ l.first;
 }
 
 abbrev pub decreases-loop-first : goal.decreases-loop-first

@@ -24,20 +24,20 @@ pub go_round-requires-clause-running : goal.go_round-requires-clause-running
 go_round-requires-clause-running c =
     let inv = c.loop-process.invariant in
     let done = c.in-Ok.ensures in
-    (chosen-so c.args.options.now c.in-Some.process c.most_at_once-most.result c.loop-process.core c.go_on.new.self c.in-Ok.field-0 inv.running inv.made c.in-Some.ensures done.some done.few c.most_at_once-most.ensures.alone done.made).running
+    (chosen-so c.args.options.now c.in-Some.process c.most_at_once-most.result c.loop-process.core.core c.go_on.new.self.core c.in-Ok.field-0 inv.running inv.made c.in-Some.ensures done.some done.few c.most_at_once-most.ensures.alone done.made).running
 
 pub go_round-requires-clause-made : goal.go_round-requires-clause-made
 go_round-requires-clause-made c none =
     let inv = c.loop-process.invariant in
     let done = c.in-Ok.ensures in
-    let more = chosen-so c.args.options.now c.in-Some.process c.most_at_once-most.result c.loop-process.core c.go_on.new.self c.in-Ok.field-0 inv.running inv.made c.in-Some.ensures done.some done.few c.most_at_once-most.ensures.alone done.made in
-    omega (arith, more.entries, inv.made (turns_began c.in-Some.process c.loop-process.core c.in-Ok.field-0 c.go_on.new.self done.some done.made).0)
+    let more = chosen-so c.args.options.now c.in-Some.process c.most_at_once-most.result c.loop-process.core.core c.go_on.new.self.core c.in-Ok.field-0 inv.running inv.made c.in-Some.ensures done.some done.few c.most_at_once-most.ensures.alone done.made in
+    omega (arith, more.entries, inv.made (turns_began c.in-Some.process c.loop-process.core.core c.in-Ok.field-0 c.go_on.new.self.core done.some done.made).0)
 
 pub loop-process-preserved : goal.loop-process-preserved
 loop-process-preserved c =
     let inv = c.loop-process.invariant in
     let done = c.in-Ok.ensures in
-    let more = chosen-so c.args.options.now c.in-Some.process c.most_at_once-most.result c.loop-process.core c.go_on.new.self c.in-Ok.field-0 inv.running inv.made c.in-Some.ensures done.some done.few c.most_at_once-most.ensures.alone done.made in
+    let more = chosen-so c.args.options.now c.in-Some.process c.most_at_once-most.result c.loop-process.core.core c.go_on.new.self.core c.in-Ok.field-0 inv.running inv.made c.in-Some.ensures done.some done.few c.most_at_once-most.ensures.alone done.made in
     let round = c.go_round.ensures in
     record { program = round.program ∙ (more.program ∙ inv.program); running = round.running; made = round.made }
 
@@ -45,23 +45,23 @@ pub loop-process-smaller : goal.loop-process-smaller
 loop-process-smaller c =
     let inv = c.loop-process.invariant in
     let done = c.in-Ok.ensures in
-    let more = chosen-so c.args.options.now c.in-Some.process c.most_at_once-most.result c.loop-process.core c.go_on.new.self c.in-Ok.field-0 inv.running inv.made c.in-Some.ensures done.some done.few c.most_at_once-most.ensures.alone done.made in
+    let more = chosen-so c.args.options.now c.in-Some.process c.most_at_once-most.result c.loop-process.core.core c.go_on.new.self.core c.in-Ok.field-0 inv.running inv.made c.in-Some.ensures done.some done.few c.most_at_once-most.ensures.alone done.made in
     omega (arith, more.entries, more.limit, more.room done.some, done.some, c.go_round.ensures.more.0, c.go_round.ensures.more.1)
 
 pub returns-in-Err-Stopped-clause-running : goal.returns-in-Err-Stopped-clause-running
 returns-in-Err-Stopped-clause-running c =
-    let old = c.loop-process.core in
-    let was = refused_for old c.go_on.new.self c.in-Some.process _ (Stopped c.in-Err-Stopped.field-0-0) c.in-Err-Stopped.field-0-is c.in-Err-Stopped.ensures.refused in
-    stopped c.args.options.now old c.go_on.new.self c.in-Some.process c.in-Err-Stopped.field-0-0 was c.loop-process.invariant.running (
+    let old = c.loop-process.core.core in
+    let was = refused_for old c.go_on.new.self.core c.in-Some.process _ (Stopped c.in-Err-Stopped.field-0-0) c.in-Err-Stopped.field-0-is c.in-Err-Stopped.ensures.refused in
+    stopped c.args.options.now old c.go_on.new.self.core c.in-Some.process c.in-Err-Stopped.field-0-0 was c.loop-process.invariant.running (
     λ going. next_is_ready old.program c.args.options.now.choices old.history going.1 (c.loop-process.invariant.made going.0) ∙ comes c.args.options.now old c.loop-process.invariant.running c.in-Some.process c.in-Some.ensures)
 
 pub unreachable-requires : goal.unreachable-requires
 unreachable-requires c =
-    let old = c.loop-process.core in
+    let old = c.loop-process.core.core in
     ready_lives old.program old.history c.in-Some.process (comes c.args.options.now old c.loop-process.invariant.running c.in-Some.process c.in-Some.ensures) (
-    refused_for old c.go_on.new.self c.in-Some.process _ NoSuchProcess c.in-Err-NoSuchProcess.field-0-is c.in-Err-NoSuchProcess.ensures.refused).1
+    refused_for old c.go_on.new.self.core c.in-Some.process _ NoSuchProcess c.in-Err-NoSuchProcess.field-0-is c.in-Err-NoSuchProcess.ensures.refused).1
 
 pub returns-clause-over : goal.returns-clause-over
 returns-clause-over c = λ none.
-    let old = c.loop-process.core in
+    let old = c.loop-process.core.core in
     none_is_next old.program c.args.options.now.choices old.history (c.loop-process.invariant.made none) (sym (comes_next c.args.options.now old c.loop-process.invariant.running) ∙ sym c.next_ready.ensures ∙ is_none c.next_ready.result c.in_default.not-Some)

@@ -8,9 +8,9 @@ use Rattle.hep_coverage.proofs.covering.make_entries.Goals as goal
 pub loop-init : goal.loop-init
 loop-init c =
     let is = sym c.iter-rest.ensures in
-    let begins : (whole : Whole) (total : List (Option ℕ)) → IsCounting whole c.args.operations.now total c.args.core.now (turns_from 1 c.args.entries.now.items) c.args.counts.now.items
-    → IsCounting whole c.args.operations.now total c.args.core.now (turns_from 1 c.iter-rest.result) c.args.counts.now.items =
-    λ whole total h. subst (λ es. IsCounting whole c.args.operations.now total c.args.core.now (turns_from 1 es) c.args.counts.now.items) is h in
+    let begins : (whole : Whole) (total : List (Option ℕ)) → IsCounting whole c.args.operations.now total c.args.core.now.core (turns_from 1 c.args.entries.now.items) c.args.counts.now.items
+    → IsCounting whole c.args.operations.now total c.args.core.now.core (turns_from 1 c.iter-rest.result) c.args.counts.now.items =
+    λ whole total h. subst (λ es. IsCounting whole c.args.operations.now total c.args.core.now.core (turns_from 1 es) c.args.counts.now.items) is h in
     record {
       there = (c.requires.0, c.requires.1, begins c.requires.0 c.requires.1 c.requires.2);
       counting = begins;
@@ -24,7 +24,7 @@ make_entry-requires c =
       h.1,
       suc c.loop.counter,
       _,
-      subst (λ ts. IsCounting h.0 c.args.operations.now h.1 c.loop.core ts c.loop.counts.items) (next-entry c.loop.counter c.in-Some.entry c.loop.rest c.next.new.self c.in-Some.ensures.steps) h.2,
+      subst (λ ts. IsCounting h.0 c.args.operations.now h.1 c.loop.core.core ts c.loop.counts.items) (next-entry c.loop.counter c.in-Some.entry c.loop.rest c.next.new.self c.in-Some.ensures.steps) h.2,
     )
 
 pub loop-preserved : goal.loop-preserved
@@ -32,10 +32,10 @@ loop-preserved c =
     let i = c.loop.counter in
     let steps = c.in-Some.ensures.steps in
     let operations = c.args.operations.now in
-    let next : (whole : Whole) (total : List (Option ℕ)) → IsCounting whole operations total c.loop.core (turns_from (suc i) c.loop.rest) c.loop.counts.items
-    → IsCounting whole operations total c.make_entry.new.core (turns_from (suc (i + 1)) c.next.new.self) c.make_entry.new.counts.items =
+    let next : (whole : Whole) (total : List (Option ℕ)) → IsCounting whole operations total c.loop.core.core (turns_from (suc i) c.loop.rest) c.loop.counts.items
+    → IsCounting whole operations total c.make_entry.new.core.core (turns_from (suc (i + 1)) c.next.new.self) c.make_entry.new.counts.items =
     λ whole total h. c.in_ok-make_entry.ensures whole total (suc i) _ (
-    subst (λ ts. IsCounting whole operations total c.loop.core ts c.loop.counts.items) (next-entry i c.in-Some.entry c.loop.rest c.next.new.self steps) h) in
+    subst (λ ts. IsCounting whole operations total c.loop.core.core ts c.loop.counts.items) (next-entry i c.in-Some.entry c.loop.rest c.next.new.self steps) h) in
     let there = c.loop.invariant.there in
     record {
       there = (there.0, there.1, next there.0 there.1 there.2);
@@ -45,7 +45,7 @@ loop-preserved c =
 
 pub returns : goal.returns
 returns c whole total h =
-    subst (λ ts. IsCounting whole c.args.operations.now total c.loop.core ts c.loop.counts.items) (
+    subst (λ ts. IsCounting whole c.args.operations.now total c.loop.core.core ts c.loop.counts.items) (
     no-entry (suc c.loop.counter) c.loop.rest (omega (arith, c.loop.invariant.count, c.loop-test.false, c.len-end.ensures))) (c.loop.invariant.counting whole total h)
 
 pub returns-in_default : goal.returns-in_default

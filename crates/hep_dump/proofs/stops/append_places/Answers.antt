@@ -8,7 +8,7 @@ use Rattle.hep_dump.proofs.stops.append_places.Goals as goal
 
 pub loop-before-preserved : goal.loop-before-preserved
 loop-before-preserved c =
-    let core = c.args.core.now in
+    let core = c.args.core.now.core in
     let b = c.loop-before.before in
     let n = length (state_of core).processes in
     let found = c.loop-before.text.items in

@@ -5,5 +5,5 @@ use Rattle.hep_dump.proofs.stops.append_places.Given as goal
 
 abbrev pub invariant-loop-before : goal.invariant-loop-before
 invariant-loop-before l =
-    l.text.items ++ words.places_notes l.core.program l.core.history (suc l.before) (length (state_of l.core).processes - l.before)
-    ≡ l.initial.text.items ++ words.all_places_notes l.core.program l.core.history
+    l.text.items ++ words.places_notes l.core.core.program l.core.core.history (suc l.before) (length (state_of l.core.core).processes - l.before)
+    ≡ l.initial.text.items ++ words.all_places_notes l.core.core.program l.core.core.history

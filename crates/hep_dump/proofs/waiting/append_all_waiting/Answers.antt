@@ -12,7 +12,7 @@ nobody (Some l) not = absurd (not l refl)
 
 pub loop-listed-smaller : goal.loop-listed-smaller
 loop-listed-smaller c =
-    let core = c.args.core.now in
+    let core = c.args.core.now.core in
     let told = words.told_text c.args.long core.program in
     let n = length (state_of core).processes in
     let last = c.loop-listed.last in
@@ -21,7 +21,7 @@ loop-listed-smaller c =
 
 pub loop-listed-preserved : goal.loop-listed-preserved
 loop-listed-preserved c =
-    let core = c.args.core.now in
+    let core = c.args.core.now.core in
     let told = words.told_text c.args.long core.program in
     let n = length (state_of core).processes in
     let last = c.loop-listed.last in
@@ -39,7 +39,7 @@ loop-listed-preserved c =
 
 pub returns : goal.returns
 returns c =
-    let core = c.args.core.now in
+    let core = c.args.core.now.core in
     let told = words.told_text c.args.long core.program in
     let n = length (state_of core).processes in
     let last = c.loop-listed.last in

@@ -7,7 +7,7 @@ use Rattle.hep_dump.proofs.wants.append_all_wants.Goals as goal
 
 pub loop-before-preserved : goal.loop-before-preserved
 loop-before-preserved c =
-    let core = c.args.core.now in
+    let core = c.args.core.now.core in
     let b = c.loop-before.before in
     let n = length (state_of core).processes in
     let found = c.loop-before.text.items in
@@ -22,7 +22,7 @@ loop-before-preserved c =
 
 pub returns : goal.returns
 returns c =
-    let core = c.args.core.now in
+    let core = c.args.core.now.core in
     let b = c.loop-before.before in
     let n = length (state_of core).processes in
     let over : n ≤ b = omega (arith, c.loop-before-test.false, c.made-before-end.ensures) in

@@ -5,5 +5,5 @@ use Rattle.hep_dump.proofs.wants.append_all_wants.Given as goal
 
 abbrev pub invariant-loop-before : goal.invariant-loop-before
 invariant-loop-before l =
-    l.text.items ++ words.wants_from l.core.program l.core.cells l.core.history (suc l.before) (length (state_of l.core).processes - l.before)
-    ≡ l.initial.text.items ++ words.all_wants_notes l.core.program l.core.cells l.core.history
+    l.text.items ++ words.wants_from l.core.core.program l.core.core.cells l.core.core.history (suc l.before) (length (state_of l.core.core).processes - l.before)
+    ≡ l.initial.text.items ++ words.all_wants_notes l.core.core.program l.core.core.cells l.core.core.history

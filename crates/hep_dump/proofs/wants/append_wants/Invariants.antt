@@ -5,5 +5,5 @@ use Rattle.hep_dump.proofs.wants.append_wants.Given as goal
 
 abbrev pub invariant-loop-want : goal.invariant-loop-want
 invariant-loop-want l =
-    l.text.items ++ flat_map (want_notes l.core.program l.core.cells l.place) (drop l.want-index l.wants)
-    ≡ l.initial.text.items ++ flat_map (want_notes l.core.program l.core.cells l.place) l.wants
+    l.text.items ++ flat_map (want_notes l.core.core.program l.core.core.cells l.place) (drop l.want-index l.wants)
+    ≡ l.initial.text.items ++ flat_map (want_notes l.core.core.program l.core.core.cells l.place) l.wants

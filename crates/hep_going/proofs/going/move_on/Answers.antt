@@ -12,6 +12,7 @@ use Rattle.hep_proc.specs.declared.process.Process.{Process}
 use Rattle.hep_proc.specs.Stacks.{Stack, stack_of, stack_with}
 use Rattle.hep_proc.proofs.Levels.{last-there}
 use Rattle.hep_state.specs.Words.{AreNumbered, IsAfter, TurnOf, snapshot_of, turn_with, with_contents, with_stack}
+use Rattle.hep_state.proofs.Beside.{beside-set}
 use Rattle.hep_state.proofs.Moved.{top-node}
 use Rattle.hep_state.proofs.Processes.{IsAt, kept-set, process-at, room-moved, stacks-set}
 use Rattle.hep_state.proofs.Taken.{inside}
@@ -138,4 +139,5 @@ returns-clause-lives c =
       running = refl;
       made = refl;
       counted = omega arith;
+      others = beside-set p old r c.requires.turn.after.2.numbers it e.kept c.go_top.ensures.same.number;
     }

@@ -16,25 +16,25 @@ some_made old e zero new some made = absurd (some refl)
 some_made old e (suc n) new some made = made
 
 pub loop-made-init : goal.loop-made-init
-loop-made-init c = record { few = omega arith; before = begun c.args.core.now; standing = c.requires.standing; within = c.requires.within }
+loop-made-init c = record { few = omega arith; before = begun c.args.core.now.core; standing = c.requires.standing; within = c.requires.within }
 
 pub returns-then-more-eq0-clause-made : goal.returns-then-more-eq0-clause-made
 returns-then-more-eq0-clause-made c =
     inr (record {
-      core = c.loop-made.core;
+      core = c.loop-made.core.core;
       fewer = c.loop-made-test.true;
       before = c.loop-made.invariant.before;
       gaps = c.headline.ensures.legal.room;
-      refused = none_made c.loop-made.core c.args.entry c.in_ok-more.more c.make_some.new.core c.if-more-eq0.true c.in_ok-more.ensures.made;
+      refused = none_made c.loop-made.core.core c.args.entry c.in_ok-more.more c.make_some.new.core.core c.if-more-eq0.true c.in_ok-more.ensures.made;
     })
 
 pub loop-made-preserved : goal.loop-made-preserved
 loop-made-preserved c =
-    let more = some_made c.loop-made.core c.args.entry c.in_ok-more.more c.make_some.new.core c.if-more-eq0.false c.in_ok-more.ensures.made in
-    let still = still_standing c.args.entry c.loop-made.core c.in_ok-more.more c.make_some.new.core more c.loop-made.invariant.standing c.loop-made.invariant.within in
+    let more = some_made c.loop-made.core.core c.args.entry c.in_ok-more.more c.make_some.new.core.core c.if-more-eq0.false c.in_ok-more.ensures.made in
+    let still = still_standing c.args.entry c.loop-made.core.core c.in_ok-more.more c.make_some.new.core.core more c.loop-made.invariant.standing c.loop-made.invariant.within in
     record {
       few = omega (arith, c.in_ok-more.ensures.few);
-      before = joined c.args.entry c.args.core.now c.loop-made.made c.in_ok-more.more c.loop-made.core c.make_some.new.core c.loop-made.invariant.before more;
+      before = joined c.args.entry c.args.core.now.core c.loop-made.made c.in_ok-more.more c.loop-made.core.core c.make_some.new.core.core c.loop-made.invariant.before more;
       standing = still.0;
       within = still.1;
     }

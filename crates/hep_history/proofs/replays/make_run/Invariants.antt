@@ -6,9 +6,9 @@ use Rattle.hep_history.proofs.replays.make_run.Given as goal
 abbrev pub invariant-loop-made : goal.invariant-loop-made
 invariant-loop-made l = record {
   few : l.made ≤ l.count;
-  before : AreMade l.entry l.fn.core l.made l.core;
-  standing : IsStanding l.core;
-  within : length l.core.history ≤ most_entries;
+  before : AreMade l.entry l.fn.core.core l.made l.core.core;
+  standing : IsStanding l.core.core;
+  within : length l.core.core.history ≤ most_entries;
 }
 
 abbrev pub decreases-loop-made : goal.decreases-loop-made

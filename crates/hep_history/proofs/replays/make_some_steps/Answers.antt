@@ -13,16 +13,16 @@ made-so p old turns new h some stepped (inr made) = steps_turned p old new made.
 
 pub returns-else-turns-clause-made : goal.returns-else-turns-clause-made
 returns-else-turns-clause-made c =
-    made-so c.args.process c.args.core.now c.in-Ok.turns c.go_on.new.self c.requires.standing c.in-Ok.ensures.some c.if-turns.false c.in-Ok.ensures.made
+    made-so c.args.process c.args.core.now.core c.in-Ok.turns c.go_on.new.self.core c.requires.standing c.in-Ok.ensures.some c.if-turns.false c.in-Ok.ensures.made
 
 pub returns-in-Err-Stopped-clause-made : goal.returns-in-Err-Stopped-clause-made
 returns-in-Err-Stopped-clause-made c =
-    let old = c.args.core.now in
-    stopped_turns old c.go_on.new.self c.args.process false c.in-Err-Stopped.field-0-0 c.requires.standing (
-    subst (λ (fault : ChooseFault). IsChoice old c.args.process (Err fault) c.go_on.new.self) c.in-Err-Stopped.field-0-is c.in-Err-Stopped.ensures.refused)
+    let old = c.args.core.now.core in
+    stopped_turns old c.go_on.new.self.core c.args.process false c.in-Err-Stopped.field-0-0 c.requires.standing (
+    subst (λ (fault : ChooseFault). IsChoice old c.args.process (Err fault) c.go_on.new.self.core) c.in-Err-Stopped.field-0-is c.in-Err-Stopped.ensures.refused)
 
 pub returns-in-Err-NoSuchProcess-clause-made : goal.returns-in-Err-NoSuchProcess-clause-made
 returns-in-Err-NoSuchProcess-clause-made c =
-    let old = c.args.core.now in
-    nobody_turns old c.go_on.new.self c.args.process false (
-    subst (λ (fault : ChooseFault). IsChoice old c.args.process (Err fault) c.go_on.new.self) c.in-Err-NoSuchProcess.field-0-is c.in-Err-NoSuchProcess.ensures.refused)
+    let old = c.args.core.now.core in
+    nobody_turns old c.go_on.new.self.core c.args.process false (
+    subst (λ (fault : ChooseFault). IsChoice old c.args.process (Err fault) c.go_on.new.self.core) c.in-Err-NoSuchProcess.field-0-is c.in-Err-NoSuchProcess.ensures.refused)

@@ -7,7 +7,7 @@ use Rattle.hep_history.proofs.replays.make_steps.Given as goal
 
 abbrev pub invariant-loop : goal.invariant-loop
 invariant-loop l = record {
-  within : length l.fn.core.history + l.counter ≤ most_entries;
-  there : AreSteps l.fn.core.program (state_of l.fn.core) (replicate l.counter l.process);
-  made : l.core ≡ longer l.fn.core (replicate l.counter (record { process = l.process; steps = 1 }));
+  within : length l.fn.core.core.history + l.counter ≤ most_entries;
+  there : AreSteps l.fn.core.core.program (state_of l.fn.core.core) (replicate l.counter l.process);
+  made : l.core.core ≡ longer l.fn.core.core (replicate l.counter (record { process = l.process; steps = 1 }));
 }

@@ -34,10 +34,10 @@ returns-then-made-run-clause-unmade c =
     let at = c.loop-run.at in
     let made = c.in_ok-made.made in
     let place : drop at entries ≡ entries_of (run ∷ rest) = c.loop-run.invariant.place ∙ ap (λ rs. entries_of rs) c.in-Some.ensures.steps in
-    let came = subst (λ (x : Entry). RunMade c.loop-run.core x run.count (Ok made) c.make_run.new.core) c.entry.ensures c.in_ok-made.ensures.made in
-    let cut = run_cut c.loop-run.core e run.count made c.make_run.new.core came c.if-made-run.true in
+    let came = subst (λ (x : Entry). RunMade c.loop-run.core.core x run.count (Ok made) c.make_run.new.core.core) c.entry.ensures c.in_ok-made.ensures.made in
+    let cut = run_cut c.loop-run.core.core e run.count made c.make_run.new.core.core came c.if-made-run.true in
     let here : (k : ℕ) → k < run.count → slice_get entries (at + k) ≡ Some e = λ k lt. run_here entries at run rest place k lt in
-    let so_far = run_replayed c.args.image c.args.cells entries at e c.loop-run.core made cut.core (λ k lt. here k (omega (arith, lt, c.if-made-run.true))) c.loop-run.invariant.so_far cut.before cut.gaps in (
+    let so_far = run_replayed c.args.image c.args.cells entries at e c.loop-run.core.core made cut.core (λ k lt. here k (omega (arith, lt, c.if-made-run.true))) c.loop-run.invariant.so_far cut.before cut.gaps in (
       c.in_ok-core.ensures.fits,
       refl,
       record {
@@ -46,7 +46,7 @@ returns-then-made-run-clause-unmade c =
         counted = omega (arith, c.from.ensures);
         here = here made c.if-made-run.true;
         before = so_far.possible;
-        impossible = run_refused c.args.image c.args.cells entries (at + made) e cut.core c.make_run.new.core so_far cut.refused;
+        impossible = run_refused c.args.image c.args.cells entries (at + made) e cut.core c.make_run.new.core.core so_far cut.refused;
       },
     )
 
@@ -59,12 +59,12 @@ loop-run-preserved c =
     let at = c.loop-run.at in
     let made = c.in_ok-made.made in
     let place : drop at entries ≡ entries_of (run ∷ rest) = c.loop-run.invariant.place ∙ ap (λ rs. entries_of rs) c.in-Some.ensures.steps in
-    let came = subst (λ (x : Entry). RunMade c.loop-run.core x run.count (Ok made) c.make_run.new.core) c.entry.ensures c.in_ok-made.ensures.made in
-    let all = run_whole c.loop-run.core e run.count made c.make_run.new.core came c.if-made-run.false in
+    let came = subst (λ (x : Entry). RunMade c.loop-run.core.core x run.count (Ok made) c.make_run.new.core.core) c.entry.ensures c.in_ok-made.ensures.made in
+    let all = run_whole c.loop-run.core.core e run.count made c.make_run.new.core.core came c.if-made-run.false in
     let here : (k : ℕ) → k < run.count → slice_get entries (at + k) ≡ Some e = λ k lt. run_here entries at run rest place k lt in
     let within = run_within entries at run rest place c.loop-run.invariant.within in
-    let so_far = run_replayed c.args.image c.args.cells entries at e c.loop-run.core made c.make_run.new.core (λ k lt. here k (omega (arith, lt, all.0))) c.loop-run.invariant.so_far all.1 c.headline.ensures.legal.room in
-    let few = replayed_few c.args.image c.args.cells entries (at + made) c.make_run.new.core so_far (omega (arith, all.0, within)) in
+    let so_far = run_replayed c.args.image c.args.cells entries at e c.loop-run.core.core made c.make_run.new.core.core (λ k lt. here k (omega (arith, lt, all.0))) c.loop-run.invariant.so_far all.1 c.headline.ensures.legal.room in
+    let few = replayed_few c.args.image c.args.cells entries (at + made) c.make_run.new.core.core so_far (omega (arith, all.0, within)) in
     rw c.from-at.ensures (record {
       so_far = so_far;
       place = subst (λ n. drop (at + n) entries ≡ entries_of rest) (sym all.0) (run_after entries at run rest place);

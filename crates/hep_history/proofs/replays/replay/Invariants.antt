@@ -6,7 +6,7 @@ use Rattle.hep_history.proofs.replays.replay.Given as goal
 
 abbrev pub invariant-loop-run : goal.invariant-loop-run
 invariant-loop-run l = record {
-  so_far : HaveReplayed l.fn.image l.cells l.entries.items l.at l.core;
+  so_far : HaveReplayed l.fn.image l.cells l.entries.items l.at l.core.core;
   place : drop l.at l.entries.items ≡ entries_of l.runs;
   within : l.at ≤ length l.entries.items;
   few : l.at ≤ most_entries;

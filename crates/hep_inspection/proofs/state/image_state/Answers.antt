@@ -7,7 +7,7 @@ use Rattle.hep_inspection.proofs.state.image_state.Goals as goal
 
 pub returns-in-Ok-replay : goal.returns-in-Ok-replay
 returns-in-Ok-replay c =
-    first-told c.args.asked.now.telling c.args.asked.now.long c.args.asked.now.history.now c.args.asked.now.entries c.args.asked.now.arena c.args.image c.in-Ok.entries.items c.in_ok-first.first.items c.in-Ok-replay.core _
+    first-told c.args.asked.now.telling c.args.asked.now.long c.args.asked.now.history.now c.args.asked.now.entries c.args.asked.now.arena c.args.image c.in-Ok.entries.items c.in_ok-first.first.items c.in-Ok-replay.core.core _
     c.in-Ok.ensures.read c.in_ok-first.ensures c.in-Ok-replay.ensures.made c.in-Ok-replay.ensures.fits c.in-Ok-replay.ensures.possible (search rules)
 
 pub told_text-requires : goal.told_text-requires

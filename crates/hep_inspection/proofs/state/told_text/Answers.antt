@@ -7,7 +7,7 @@ use Rattle.hep_inspection.proofs.state.told_text.Goals as goal
 
 pub returns-in-State : goal.returns-in-State
 returns-in-State c =
-    let core = c.args.core.now in
+    let core = c.args.core.now.core in
     let entries = c.args.entries.now.items in
     IfOk-weaker c.state_text.result _ _ (λ text same.
     same ∙ ap (λ n. state_text core.program n core.history) c.len.ensures.count ∙ state-told core entries c.requires.made

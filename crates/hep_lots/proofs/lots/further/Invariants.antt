@@ -4,4 +4,4 @@ use Rattle.hep_lots.specs.Drawing.{further}
 use Rattle.hep_lots.proofs.lots.further.Given as goal
 
 abbrev pub invariant-loop : goal.invariant-loop
-invariant-loop l = further l.count l.p (free_of l.core) ≡ further (l.count - l.counter) l.at (free_of l.core)
+invariant-loop l = further l.count l.p (free_of l.core.core) ≡ further (l.count - l.counter) l.at (free_of l.core.core)

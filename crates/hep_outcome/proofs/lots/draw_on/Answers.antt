@@ -16,67 +16,67 @@ given options core lots drawing is p found = sym (found ∙ drawn-in options cor
 
 pub loop-process-preserved : goal.loop-process-preserved
 loop-process-preserved c =
-    let old = c.loop-process.core in
+    let old = c.loop-process.core.core in
     let inv = c.loop-process.invariant in
     let options = c.args.options.now in
     let p = c.in-Some.process in
-    let new = c.choose.new.self in
+    let new = c.choose.new.self.core in
     let next = given options old c.loop-process.lots inv.drawing inv.lots p c.in-Some.ensures.process in
     record {
-      program = same-program options old p inv.drawing next new c.in-Ok.field-0 c.in-Ok.ensures ∙ inv.program;
-      drawing = drawing-more options old p inv.drawing next new c.in-Ok.field-0 c.in-Ok.ensures;
-      out = ((drawing-more options old p inv.drawing next new c.in-Ok.field-0 c.in-Ok.ensures).running []).out;
+      program = same-program options old p inv.drawing next new c.in-Ok.field-0 c.in-Ok.ensures.chosen ∙ inv.program;
+      drawing = drawing-more options old p inv.drawing next new c.in-Ok.field-0 c.in-Ok.ensures.chosen;
+      out = ((drawing-more options old p inv.drawing next new c.in-Ok.field-0 c.in-Ok.ensures.chosen).running []).out;
       lots = c.in-Some.ensures.lots ∙ ap lots_next inv.lots ∙ lots-step options.seed (length old.history)
-          ∙ ap (lots_after options.seed) (sym (one-more options old p inv.drawing next new c.in-Ok.field-0 c.in-Ok.ensures));
+          ∙ ap (lots_after options.seed) (sym (one-more options old p inv.drawing next new c.in-Ok.field-0 c.in-Ok.ensures.chosen));
     }
 
 pub loop-process-smaller : goal.loop-process-smaller
 loop-process-smaller c =
-    let old = c.loop-process.core in
+    let old = c.loop-process.core.core in
     let inv = c.loop-process.invariant in
     let options = c.args.options.now in
     let p = c.in-Some.process in
-    let new = c.choose.new.self in
+    let new = c.choose.new.self.core in
     let next = given options old c.loop-process.lots inv.drawing inv.lots p c.in-Some.ensures.process in
     omega (
       arith,
-      one-more options old p inv.drawing next new c.in-Ok.field-0 c.in-Ok.ensures,
-      same-limit options old p inv.drawing next new c.in-Ok.field-0 c.in-Ok.ensures,
-      room options old p inv.drawing next new c.in-Ok.field-0 c.in-Ok.ensures,
+      one-more options old p inv.drawing next new c.in-Ok.field-0 c.in-Ok.ensures.chosen,
+      same-limit options old p inv.drawing next new c.in-Ok.field-0 c.in-Ok.ensures.chosen,
+      room options old p inv.drawing next new c.in-Ok.field-0 c.in-Ok.ensures.chosen,
     )
 
 pub returns-in-Err-Stopped-clause-drawn : goal.returns-in-Err-Stopped-clause-drawn
 returns-in-Err-Stopped-clause-drawn c =
-    let old = c.loop-process.core in
+    let old = c.loop-process.core.core in
     let inv = c.loop-process.invariant in
     let options = c.args.options.now in
     let p = c.in-Some.process in
     let next = given options old c.loop-process.lots inv.drawing inv.lots p c.in-Some.ensures.process in
-    let met = refused_for old c.choose.new.self p _ (Stopped c.in-Err-Stopped.field-0-0) c.in-Err-Stopped.field-0-is c.in-Err-Stopped.ensures in
-    (_, drawn-out-stopped options old p inv.drawing next c.choose.new.self c.in-Err-Stopped.field-0-0 met)
+    let met = refused_for old c.choose.new.self.core p _ (Stopped c.in-Err-Stopped.field-0-0) c.in-Err-Stopped.field-0-is c.in-Err-Stopped.ensures.chosen in
+    (_, drawn-out-stopped options old p inv.drawing next c.choose.new.self.core c.in-Err-Stopped.field-0-0 met)
 
 pub returns-in-Err-Stopped-clause-program : goal.returns-in-Err-Stopped-clause-program
 returns-in-Err-Stopped-clause-program c =
-    let old = c.loop-process.core in
+    let old = c.loop-process.core.core in
     let inv = c.loop-process.invariant in
     let options = c.args.options.now in
     let p = c.in-Some.process in
     let next = given options old c.loop-process.lots inv.drawing inv.lots p c.in-Some.ensures.process in
-    let met = refused_for old c.choose.new.self p _ (Stopped c.in-Err-Stopped.field-0-0) c.in-Err-Stopped.field-0-is c.in-Err-Stopped.ensures in
-    same-program-stopped options old p inv.drawing next c.choose.new.self c.in-Err-Stopped.field-0-0 met ∙ inv.program
+    let met = refused_for old c.choose.new.self.core p _ (Stopped c.in-Err-Stopped.field-0-0) c.in-Err-Stopped.field-0-is c.in-Err-Stopped.ensures.chosen in
+    same-program-stopped options old p inv.drawing next c.choose.new.self.core c.in-Err-Stopped.field-0-0 met ∙ inv.program
 
 pub unreachable-requires : goal.unreachable-requires
 unreachable-requires c =
-    let old = c.loop-process.core in
+    let old = c.loop-process.core.core in
     let inv = c.loop-process.invariant in
     let options = c.args.options.now in
     let p = c.in-Some.process in
     let next = given options old c.loop-process.lots inv.drawing inv.lots p c.in-Some.ensures.process in
-    drawn-lives options old p next (refused_for old c.choose.new.self p _ NoSuchProcess c.in-Err-NoSuchProcess.field-0-is c.in-Err-NoSuchProcess.ensures).1
+    drawn-lives options old p next (refused_for old c.choose.new.self.core p _ NoSuchProcess c.in-Err-NoSuchProcess.field-0-is c.in-Err-NoSuchProcess.ensures.chosen).1
 
 pub returns-clause-drawn : goal.returns-clause-drawn
 returns-clause-drawn c =
-    let old = c.loop-process.core in
+    let old = c.loop-process.core.core in
     let inv = c.loop-process.invariant in
     let options = c.args.options.now in
     let none = is_none c.next.result c.in_default.not-Some in

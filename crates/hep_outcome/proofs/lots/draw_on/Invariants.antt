@@ -5,11 +5,11 @@ use Rattle.hep_outcome.proofs.lots.draw_on.Given as goal
 
 abbrev pub invariant-loop-process : goal.invariant-loop-process
 invariant-loop-process l = record {
-  program : l.core.program ≡ l.fn.core.program;
-  drawing : IsDrawing l.fn.options l.core;
-  lots : l.lots ≡ lots_after l.fn.options.seed (length l.core.history);
-  out : l.core.out ≡ [];
+  program : l.core.core.program ≡ l.fn.core.core.program;
+  drawing : IsDrawing l.fn.options l.core.core;
+  lots : l.lots ≡ lots_after l.fn.options.seed (length l.core.core.history);
+  out : l.core.core.out ≡ [];
 }
 
 abbrev pub decreases-loop-process : goal.decreases-loop-process
-decreases-loop-process l = l.core.limit - length l.core.history
+decreases-loop-process l = l.core.core.limit - length l.core.core.history

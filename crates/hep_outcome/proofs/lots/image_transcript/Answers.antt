@@ -10,12 +10,12 @@ use Rattle.std.proofs.lemmas.Result.{IfOk-weaker}
 
 pub drawn_transcript-requires : goal.drawn_transcript-requires
 drawn_transcript-requires c =
-    let same : c.in-Ok.core.program ≡ c.args.image = ap (λ (v : CoreValue). v.program) c.in-Ok.ensures.made in
+    let same : c.in-Ok.core.core.program ≡ c.args.image = ap (λ (v : CoreValue). v.program) c.in-Ok.ensures.made in
     c.in-Ok.ensures.made ∙ ap (λ (u : Units). opening_of u c.args.options.now.arena c.args.options.now.steps) (sym same)
 
 pub returns-in-Ok-clause-made : goal.returns-in-Ok-clause-made
 returns-in-Ok-clause-made c =
-    let same : c.in-Ok.core.program ≡ c.args.image = ap (λ (v : CoreValue). v.program) c.in-Ok.ensures.made in
+    let same : c.in-Ok.core.core.program ≡ c.args.image = ap (λ (v : CoreValue). v.program) c.in-Ok.ensures.made in
     IfOk-weaker c.drawn_transcript.result _ _ (λ r is. subst (λ (u : Units). IsDrawnOutcome c.args.long u c.args.options.now (outcome_of r)) same is) c.drawn_transcript.ensures
 
 pub returns-in-Err-ArenaFull-clause-made : goal.returns-in-Err-ArenaFull-clause-made

@@ -11,10 +11,10 @@ use Rattle.std.proofs.lemmas.Result.{IfOk-weaker}
 pub returns-in-Ok-clause-made : goal.returns-in-Ok-clause-made
 returns-in-Ok-clause-made g c =
     let report = c.in-Ok.report in
-    let core = c.into_parts-core.result.0 in
+    let core = c.into_parts-core.result.0.core in
     let same = sym c.into_parts-core.ensures.core in
     let is-report = subst (λ v. IsReport v c.args.image c.args.asked.now.options.now report.logs) same c.in-Ok.ensures.report in
-    IfOk-weaker c.ended_transcript.result _ _ (λ r is. outcome-worked c.args.asked.now.long c.args.image c.args.asked.now.options.now core report.logs (outcome_of r) is-report c.headline.ensures.legal c.headline.ensures.single c.headline.ensures.named is) c.ended_transcript.ensures
+    IfOk-weaker c.ended_transcript.result _ _ (λ r is. outcome-worked c.args.asked.now.long c.args.image c.args.asked.now.options.now core report.logs (outcome_of r) is-report c.headline.ensures.legal c.headline.ensures.named is) c.ended_transcript.ensures
 
 pub returns-in-Ok-clause-unmade : goal.returns-in-Ok-clause-unmade
 returns-in-Ok-clause-unmade g c = on-err-anyway c.ended_transcript.result (inr c.in-Ok.ensures.fits)

@@ -12,7 +12,7 @@ use Rattle.hep_sights.proofs.freed.append_freed_of.Goals as goal
 
 pub returns-then-goes_on : goal.returns-then-goes_on
 returns-then-goes_on c old top h =
-    let core = c.args.core.now in
+    let core = c.args.core.now.core in
     let a = top.0.activation in
     let it = freeing old c.args.p top h.0 core h.2 in
     let first : slice_get c.args.activations.now 0 ≡ Some a = ap (λ (xs : List ℕ). slice_get xs 0) h.1 ∙ ancestry-first (state_of old) a it.some in
@@ -23,8 +23,8 @@ returns-then-goes_on c old top h =
 pub returns : goal.returns
 returns c =
     on_ok_weaker c.append_freed.result (λ told old top h.
-    let it = freeing old c.args.p top h.0 c.args.core.now h.2 in
+    let it = freeing old c.args.p top h.0 c.args.core.now.core h.2 in
     told
     ∙ ap (λ ns. c.args.text.now.items ++ lines.all_freed_text ns) (c.deref.ensures.value ∙ c.in_ok-numbers.ensures
-    ∙ ap (λ (xs : List ℕ). reverse (filter (λ a. not (is_held (state_of c.args.core.now) a)) xs)) h.1
+    ∙ ap (λ (xs : List ℕ). reverse (filter (λ a. not (is_held (state_of c.args.core.now.core) a)) xs)) h.1
     ∙ sym it.all)) c.append_freed.ensures

@@ -6,13 +6,13 @@ use Rattle.hep_sights.specs.Ancestry.{activation_on}
 use Rattle.hep_sights.proofs.freed.goes_on.Goals as goal
 
 pub top_activation-requires : goal.top_activation-requires
-top_activation-requires c = let core = c.args.core.now in (core.program, core.cells, schedule_of core.history, c.machine.ensures)
+top_activation-requires c = let core = c.args.core.now.core in (core.program, core.cells, schedule_of core.history, c.machine.ensures.after)
 
 pub returns-in-Some : goal.returns-in-Some
 returns-in-Some c a e =
-    let core = c.args.core.now in
+    let core = c.args.core.now.core in
     let first = same_Some c.in-Some.first.now a (c.in-Some.ensures.value ∙ e) in
-    let top = c.top_activation.ensures core.program core.cells (schedule_of core.history) c.machine.ensures
+    let top = c.top_activation.ensures core.program core.cells (schedule_of core.history) c.machine.ensures.after
     ∙ ap (λ (s : State). activation_on (living s c.args.p)) (sym (state-is core.program core.history)) in
     λ i. nat_le (first i) (top i)
 

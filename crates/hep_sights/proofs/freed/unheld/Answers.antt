@@ -10,11 +10,11 @@ use Rattle.hep_sights.proofs.Numbers.{filter-next}
 use Rattle.hep_sights.proofs.freed.unheld.Goals as goal
 
 pub held_keys-requires : goal.held_keys-requires
-held_keys-requires c = let core = c.args.core.now in (core.program, core.cells, schedule_of core.history, c.machine.ensures)
+held_keys-requires c = let core = c.args.core.now.core in (core.program, core.cells, schedule_of core.history, c.machine.ensures.after)
 
 pub loop-number-preserved : goal.loop-number-preserved
 loop-number-preserved c =
-    let core = c.args.core.now in
+    let core = c.args.core.now.core in
     let xs = c.args.activations.now in
     let i = c.loop-number.number-index in
     let f : ℕ → Bool = λ a. not (is_held (state_of core) a) in
@@ -23,7 +23,7 @@ loop-number-preserved c =
     let less : i < length xs = c.loop-number-test.true in
     let ahead : drop i xs ≡ a ∷ drop (i + 1) xs = rw (add-one, drop-cons xs i 0) refl in
     let keys = subst (AreHeldKeys (snapshot_of c.machine.result.now)) (sym c.deref.ensures.value) c.in_ok-keys.ensures in
-    let grown = c.in_ok-add_freed.ensures core.program core.cells (schedule_of core.history) c.machine.result.now c.machine.ensures keys
+    let grown = c.in_ok-add_freed.ensures core.program core.cells (schedule_of core.history) c.machine.result.now c.machine.ensures.after keys
     ∙ ap (λ (s : State). old ++ filter (λ b. not (is_held s b)) (a ∷ [])) (sym (state-is core.program core.history)) in
     filter-next f old (drop (i + 1) xs) c.add_freed.new.numbers.items (filter f xs) a (ap (λ ys. old ++ filter f ys) (sym ahead) ∙ c.loop-number.invariant) grown
 
@@ -31,7 +31,7 @@ pub returns : goal.returns
 returns c =
     let xs = c.args.activations.now in
     let i = c.loop-number.number-index in
-    let f : ℕ → Bool = λ a. not (is_held (state_of c.args.core.now) a) in
+    let f : ℕ → Bool = λ a. not (is_held (state_of c.args.core.now.core) a) in
     let found = c.loop-number.numbers.items in
     c.reverse.ensures.items
     ∙ ap reverse (

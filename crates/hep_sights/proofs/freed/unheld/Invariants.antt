@@ -6,4 +6,4 @@ use Rattle.hep_sights.proofs.freed.unheld.Given as goal
 
 abbrev pub invariant-loop-number : goal.invariant-loop-number
 invariant-loop-number l =
-    l.numbers.items ++ filter (λ a. not (is_held (state_of l.core) a)) (drop l.number-index l.activations) ≡ filter (λ a. not (is_held (state_of l.core) a)) l.activations
+    l.numbers.items ++ filter (λ a. not (is_held (state_of l.core.core) a)) (drop l.number-index l.activations) ≡ filter (λ a. not (is_held (state_of l.core.core) a)) l.activations

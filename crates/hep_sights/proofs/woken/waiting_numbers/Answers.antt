@@ -13,14 +13,14 @@ nobody (Some l) not = absurd (not l refl)
 
 pub loop-listed-init : goal.loop-listed-init
 loop-listed-init c =
-    let core = c.args.core.now in
+    let core = c.args.core.now.core in
     let n = length (state_of core).processes in
     let all : n - 0 ≡ n = omega arith in
     ap (λ xs. xs ++ listed_from core 1 (n - 0)) c.new-numbers.ensures.items ∙ ap (listed_from core 1) all
 
 pub loop-listed-smaller : goal.loop-listed-smaller
 loop-listed-smaller c =
-    let core = c.args.core.now in
+    let core = c.args.core.now.core in
     let n = length (state_of core).processes in
     let last = c.loop-listed.last in
     let all = waiting-listed core.program core.cells core.limit core.history c.headline.ensures.legal in
@@ -29,7 +29,7 @@ loop-listed-smaller c =
 
 pub loop-listed-preserved : goal.loop-listed-preserved
 loop-listed-preserved c =
-    let core = c.args.core.now in
+    let core = c.args.core.now.core in
     let n = length (state_of core).processes in
     let last = c.loop-listed.last in
     let listed = c.in-Some.listed in
@@ -45,7 +45,7 @@ loop-listed-preserved c =
 
 pub returns : goal.returns
 returns c =
-    let core = c.args.core.now in
+    let core = c.args.core.now.core in
     let n = length (state_of core).processes in
     let last = c.loop-listed.last in
     let all = waiting-listed core.program core.cells core.limit core.history c.headline.ensures.legal in

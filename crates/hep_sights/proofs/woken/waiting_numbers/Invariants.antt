@@ -5,7 +5,7 @@ use Rattle.hep_sights.proofs.woken.waiting_numbers.Given as goal
 
 abbrev pub invariant-loop-listed : goal.invariant-loop-listed
 invariant-loop-listed l =
-    l.numbers.items ++ listed_from l.core (suc l.last) (length (state_of l.core).processes - l.last) ≡ listed_from l.core 1 (length (state_of l.core).processes)
+    l.numbers.items ++ listed_from l.core.core (suc l.last) (length (state_of l.core.core).processes - l.last) ≡ listed_from l.core.core 1 (length (state_of l.core.core).processes)
 
 abbrev pub decreases-loop-listed : goal.decreases-loop-listed
-decreases-loop-listed l = length (state_of l.core).processes - l.last
+decreases-loop-listed l = length (state_of l.core.core).processes - l.last

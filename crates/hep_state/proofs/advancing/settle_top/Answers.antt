@@ -1,12 +1,12 @@
 use Rattle.std.proofs.Common.{drop, length, sym, ap, ◌∙◌, arith, ◌≡◌, ℕ, List, subst}
-use Rattle.hep_code.specs.Words.{values_ahead, IsPastPushes, Stands, AddressedUnit, code_of}
+use Rattle.hep_code.specs.Words.{values_ahead, IsPastPushes, Stands, AddressedUnit, code_of, left_to_do}
 use Rattle.hep_step.specs.Simulation.{unit_code, unit_addressed}
 use Rattle.hep_proc.specs.declared.process.Local.{Local}
 use Rattle.hep_proc.proofs.Levels.{operands-are, some-levels}
 use Rattle.hep_state.proofs.advancing.settle_top.Goals as goal
 use Rattle.hep_machine.specs.Words.{Value, Units, Work}
 use Rattle.hep_code.specs.declared.instruction.Instruction.{Instruction}
-use Rattle.hep_state.specs.Words.{IsSettled}
+use Rattle.hep_state.specs.Words.{IsSettled, LeavesSame}
 
 -- what its code says is what the unit's code says
 settled-here : (program : Units) (top l : Local) (was operands new : List Value) (index : ℕ) (code : List Instruction) → code ≡ unit_code program top.unit → top ≡ l → was ≡ operands
@@ -19,6 +19,14 @@ settled-here program top l was operands new index code is same ops past stands =
       past = subst (λ c. IsPastPushes c index) is past;
       stands = λ k work s. stands (unit_addressed program top.unit) k work is s;
     }))
+
+-- and what is to be done is the same
+left-here : (program : Units) (top l : Local) (was operands new : List Value) (index : ℕ) (code : List Instruction) → code ≡ unit_code program top.unit → top ≡ l → was ≡ operands
+    → left_to_do new index code ≡ left_to_do was top.index code → LeavesSame program l.unit operands l.index new index
+left-here program top l was operands new index code is same ops left =
+    subst (λ (m : Local). LeavesSame program m.unit operands m.index new index) same (
+    subst (λ vs. LeavesSame program top.unit vs top.index new index) ops (
+    subst (λ c. left_to_do new index c ≡ left_to_do was top.index c) is left))
 
 pub top-index-requires : goal.top-index-requires
 top-index-requires c = let r = c.requires in some-levels c.args.process.now r.0 r.1 r.2 r.3 r.4
@@ -45,4 +53,5 @@ returns-clause-settled c program l ls operands pending code is =
       settled,
       c.stand_at.ensures.stack l ls settled pending (λ i. record { levels = (is i).levels; operands = settled; pending = (is i).pending }),
       settled-here program c.top-index.result l q.operands.items operands settled index c.args.code.now (code ∙ ap (λ (m : Local). unit_code program m.unit) (sym same)) same (operands-are q l ls operands pending is) c.settle.ensures.settled c.settle.ensures.stands,
+      left-here program c.top-index.result l q.operands.items operands settled index c.args.code.now (code ∙ ap (λ (m : Local). unit_code program m.unit) (sym same)) same (operands-are q l ls operands pending is) c.settle.ensures.same,
     )

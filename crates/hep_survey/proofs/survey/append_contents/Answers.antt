@@ -8,7 +8,7 @@ use Rattle.hep_survey.proofs.survey.append_contents.Goals as goal
 
 pub returns : goal.returns
 returns c =
-    let core = c.args.core.now in
+    let core = c.args.core.now.core in
     let program = core.program in
     let s = state_of core in
     let listed = (progress_after program core.history).listed in
@@ -21,9 +21,9 @@ returns c =
     let third = c.append_activations.new.text.items in
     let m = c.machine-machine.result.now in
     let image = c.image.result.now in
-    after-history program image core.history core.cells m (λ (us : Units) (t : State). third ≡ second ++ words.activations_text us t 1 t.activations) c.image.ensures c.machine-machine.ensures c.in_ok-append_activations.ensures
+    after-history program image core.history core.cells m (λ (us : Units) (t : State). third ≡ second ++ words.activations_text us t 1 t.activations) c.image.ensures c.machine-machine.ensures.after c.in_ok-append_activations.ensures
     ∙ ap (λ (xs : List ℕ). xs ++ activations) (
-    after-history program image core.history core.cells m (λ (us : Units) (t : State). second ≡ first ++ flat_map (words.block_text us t) (blocks_of us)) c.image.ensures c.machine-machine.ensures c.in_ok-append_common.ensures
+    after-history program image core.history core.cells m (λ (us : Units) (t : State). second ≡ first ++ flat_map (words.block_text us t) (blocks_of us)) c.image.ensures c.machine-machine.ensures.after c.in_ok-append_common.ensures
     ∙ ap (λ (xs : List ℕ). xs ++ common) c.in_ok-append_processes.ensures)
     ∙ ap (λ (xs : List ℕ). xs ++ activations) (append_assoc old processes common)
     ∙ append_assoc old (processes ++ common) activations

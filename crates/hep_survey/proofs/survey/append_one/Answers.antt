@@ -5,11 +5,11 @@ use Rattle.hep_survey.proofs.survey.append_one.Goals as goal
 
 pub append_process-requires-clause-levels : goal.append_process-requires-clause-levels
 append_process-requires-clause-levels c =
-    let core = c.args.core.now in
-    has-levels core.program core.history core.cells c.args.p c.machine.result.now c.machine.ensures (sym c.lives.ensures ∙ c.if-not-lives.false)
+    let core = c.args.core.now.core in
+    has-levels core.program core.history core.cells c.args.p c.machine.result.now c.machine.ensures.after (sym c.lives.ensures ∙ c.if-not-lives.false)
 
 pub returns : goal.returns
 returns c q there =
-    let core = c.args.core.now in
+    let core = c.args.core.now.core in
     process-so core.program c.image.result.now core.history core.cells c.args.p c.machine.result.now q c.args.text.now.items c.append_process.new.text.items c.deref.result.now c.in_ok-waiting.waiting.items
-    (is_number_among c.args.p (progress_after core.program core.history).listed) c.image.ensures c.machine.ensures there c.in_ok-append_process.ensures c.deref.ensures.value c.in_ok-waiting.ensures
+    (is_number_among c.args.p (progress_after core.program core.history).listed) c.image.ensures c.machine.ensures.after there c.in_ok-append_process.ensures c.deref.ensures.value c.in_ok-waiting.ensures

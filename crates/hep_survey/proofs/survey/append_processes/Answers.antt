@@ -7,7 +7,7 @@ use Rattle.hep_survey.proofs.survey.append_processes.Goals as goal
 
 pub loop-index-preserved : goal.loop-index-preserved
 loop-index-preserved c =
-    let core = c.args.core.now in
+    let core = c.args.core.now.core in
     let s = state_of core in
     let listed = (progress_after core.program core.history).listed in
     let i = c.loop-index.index in

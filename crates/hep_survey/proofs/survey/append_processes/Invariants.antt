@@ -6,5 +6,5 @@ use Rattle.hep_survey.proofs.survey.append_processes.Given as goal
 
 abbrev pub invariant-loop-index : goal.invariant-loop-index
 invariant-loop-index l =
-    l.text.items ++ words.processes_text l.core.program (state_of l.core) (progress_after l.core.program l.core.history).listed (suc l.index) (drop l.index (state_of l.core).processes)
-    ≡ l.initial.text.items ++ words.processes_text l.core.program (state_of l.core) (progress_after l.core.program l.core.history).listed 1 (state_of l.core).processes
+    l.text.items ++ words.processes_text l.core.core.program (state_of l.core.core) (progress_after l.core.core.program l.core.core.history).listed (suc l.index) (drop l.index (state_of l.core.core).processes)
+    ≡ l.initial.text.items ++ words.processes_text l.core.core.program (state_of l.core.core) (progress_after l.core.core.program l.core.core.history).listed 1 (state_of l.core.core).processes

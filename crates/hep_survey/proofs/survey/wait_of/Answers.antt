@@ -5,7 +5,7 @@ use Rattle.hep_survey.proofs.survey.wait_of.Goals as goal
 
 pub returns-in-Some : goal.returns-in-Some
 returns-in-Some c =
-    let core = c.args.core.now in
+    let core = c.args.core.now.core in
     IfOk-weaker c.waiting_text.result _ _ (λ text told.
     waits-so core.program c.image.result.now core.history core.cells c.args.p c.machine.result.now c.in-Some.want text.items (is_number_among c.args.p (progress_after core.program core.history).listed)
-    c.image.ensures c.machine.ensures c.in-Some.ensures.want told c.in-Some.ensures.listed) c.waiting_text.ensures
+    c.image.ensures c.machine.ensures.after c.in-Some.ensures.want told c.in-Some.ensures.listed) c.waiting_text.ensures

@@ -11,4 +11,4 @@ pub returns : goal.returns
 returns c program m new p s levels after made moved =
     let of = subst (λ u. AreOf (own_cells_of program u) s.records) made.0.unit (
     stored-by c.private_steps_store_in_own_cells.ensures program s.unit (length s.records) (begun s.index s.operands (start_in levels).values) s.records made.1.end made.1.made) in
-    restored-moved c.saved_cells_undo_stores.ensures levels after s (own_cells_of program levels.level.unit) of moved
+    restored-moved c.saved_cells_undo_stores.ensures program levels after s (own_cells_of program levels.level.unit) of moved

@@ -9,7 +9,9 @@ use Rattle.hep_core.specs.contracts.scheduler.Core.TheInside as inside
 use Rattle.hep_core.specs.contracts.stop.ChoiceStop as stop
 use Rattle.hep_quick.specs.contracts.table.Table as table
 use Rattle.hep_state.specs.contracts.machine.Machine as machine
-use Rattle.hep_core.specs.contracts.ticket.TicketId as ticket
+use Rattle.hep_segments.specs.contracts.ticket.TicketId as ticket
+use Rattle.hep_taking.specs.contracts.own_cells.OwnCells as own
+use Rattle.hep_taking.specs.contracts.saving.Saved as saved
 use Rattle.hep_image.specs.contracts.image.Image as image
 use Rattle.hep_workers.proofs.crossing.cores_cross.Goals as goal
 
@@ -28,9 +30,11 @@ count-send = search sendable depth 20
 pub returns : goal.returns
 returns c =
     let table-send : IsSend table.the_row = record { owned = c.pass.ensures.send.owned; leaving = search (crosses, sendable) depth 30 fits 5000 } in
-    let history-send : IsSend history.the_row = record { owned = c.pass-2.ensures.send.owned; leaving = λ k d w. tt } in
-    let machine-send : IsSend machine.the_row = record { owned = c.pass-3.ensures.send.owned; leaving = search (crosses, sendable) depth 30 fits 5000 } in
-    let roster-send : IsSend roster.the_row = record { owned = c.pass-4.ensures.send.owned; leaving = λ k d w. tt } in
+    let own-send : IsSend own.the_row = record { owned = c.pass-2.ensures.send.owned; leaving = search (crosses, sendable) depth 30 fits 5000 } in
+    let history-send : IsSend history.the_row = record { owned = c.pass-3.ensures.send.owned; leaving = λ k d w. tt } in
+    let machine-send : IsSend machine.the_row = record { owned = c.pass-4.ensures.send.owned; leaving = search (crosses, sendable) depth 30 fits 5000 } in
+    let roster-send : IsSend roster.the_row = record { owned = c.pass-5.ensures.send.owned; leaving = λ k d w. tt } in
+    let saved-send : IsSend saved.the_row = record { owned = c.pass-6.ensures.send.owned; leaving = search (crosses, sendable) depth 30 fits 5000 } in
     record {
       send = view_send inside.the_row _ _ _ _ (declared_send inside.the_type (
         search (crosses, sendable, declared_send, as_row_send) depth 20,
@@ -39,18 +43,24 @@ returns c =
           (
             search (crosses, sendable, as_row_send, table-send) depth 20,
             (
-              as_row_send u32-field number-send,
+              search (crosses, sendable, as_row_send, own-send) depth 20,
               (
-                as_row_send u64-field count-send,
+                as_row_send u32-field number-send,
                 (
-                  as_row_send history.the_field history-send,
+                  as_row_send u64-field count-send,
                   (
-                    search (crosses, sendable, variants_send, as_row_send, stop-send) depth 20,
+                    as_row_send history.the_field history-send,
                     (
-                      machine-send,
+                      search (crosses, sendable, variants_send, as_row_send, stop-send) depth 20,
                       (
-                        as_row_send roster.the_field roster-send,
-                        (search (crosses, sendable, as_row_send, ticket-send) depth 20, (as_row_send u64-field count-send, tt)),
+                        machine-send,
+                        (
+                          as_row_send roster.the_field roster-send,
+                          (
+                            search (crosses, sendable, as_row_send, ticket-send) depth 20,
+                            (as_row_send u64-field count-send, (saved-send, tt)),
+                          ),
+                        ),
                       ),
                     ),
                   ),

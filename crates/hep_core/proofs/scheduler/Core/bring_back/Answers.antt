@@ -12,8 +12,9 @@ invariant_of-self c =
       listed = k.listed;
       room = k.room;
       legal = k.legal;
-      single = k.single;
+      few = k.few;
       named = k.named;
       living = λ q away. k.living q (out-still c.args.p q i.out.items (subst (λ ts. is_out q ts ≡ true) c.come_back.ensures away)).0;
       tabled = k.tabled;
+      owned = k.owned;
     }

@@ -23,18 +23,18 @@ module _ (core : CoreValue) where
 
 pub returns-in_err-next : goal.returns-in_err-next
 returns-in_err-next c =
-    let none : first_above c.args.p (ready_of c.args.self.now) None ≡ None = sym c.in_err-next.ensures in
-    c.from_residual.ensures ∙ sym (none-free c.args.self.now c.args.p none)
+    let none : first_above c.args.p (ready_of c.args.self.now.core) None ≡ None = sym c.in_err-next.ensures in
+    c.from_residual.ensures ∙ sym (none-free c.args.self.now.core c.args.p none)
 
 pub loop-next-init : goal.loop-next-init
 loop-next-init c =
-    let core = c.args.self.now in
+    let core = c.args.self.now.core in
     let found : first_above c.args.p (ready_of core) None ≡ Some c.in_ok-next.next = sym c.in_ok-next.ensures in
     (next-free core c.args.p c.in_ok-next.next found, (above core c.args.p c.in_ok-next.next found).1)
 
 pub returns-in_err-next-2 : goal.returns-in_err-next-2
 returns-in_err-next-2 c =
-    let core = c.args.self.now in
+    let core = c.args.self.now.core in
     let none : first_above c.loop-next.next (ready_of core) None ≡ None = sym c.in_err-next-2.ensures in
     let is : is_out c.loop-next.next core.out ≡ true = search rules in
     c.from_residual-in_err-next-2.ensures
@@ -42,14 +42,14 @@ returns-in_err-next-2 c =
 
 pub loop-next-smaller : goal.loop-next-smaller
 loop-next-smaller c =
-    let core = c.args.self.now in
+    let core = c.args.self.now.core in
     let found : first_above c.loop-next.next (ready_of core) None ≡ Some c.in_ok-next-2.next = sym c.in_ok-next-2.ensures in
     let more = above core c.loop-next.next c.in_ok-next-2.next found in
     omega (arith, more.0, more.1)
 
 pub loop-next-preserved : goal.loop-next-preserved
 loop-next-preserved c =
-    let core = c.args.self.now in
+    let core = c.args.self.now.core in
     let found : first_above c.loop-next.next (ready_of core) None ≡ Some c.in_ok-next-2.next = sym c.in_ok-next-2.ensures in
     let is : is_out c.loop-next.next core.out ≡ true = search rules in
     let further = c.loop-next.invariant.0 ∙ ap (λ b. if not b then Some c.loop-next.next else first_above c.loop-next.next (free_of core) None) is in
@@ -57,6 +57,6 @@ loop-next-preserved c =
 
 pub returns : goal.returns
 returns c =
-    let core = c.args.self.now in
+    let core = c.args.self.now.core in
     let is : is_out c.loop-next.next core.out ≡ false = search rules in
     sym (c.loop-next.invariant.0 ∙ ap (λ b. if not b then Some c.loop-next.next else first_above c.loop-next.next (free_of core) None) is)

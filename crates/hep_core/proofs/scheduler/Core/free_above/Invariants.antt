@@ -7,8 +7,8 @@ use Rattle.hep_core.proofs.scheduler.Core.free_above.Given as goal
 -- the one that comes next is this one, unless it is out, and then it is above it
 abbrev pub invariant-loop-next : goal.invariant-loop-next
 invariant-loop-next l =
-    (first_above l.p (free_of l.self) None ≡ (if not (is_out l.next l.self.out) then Some l.next else first_above l.next (free_of l.self) None))
-    × (l.next ≤ length (progress_after l.self.program l.self.history).state.processes)
+    (first_above l.p (free_of l.self.core) None ≡ (if not (is_out l.next l.self.core.out) then Some l.next else first_above l.next (free_of l.self.core) None))
+    × (l.next ≤ length (progress_after l.self.core.program l.self.core.history).state.processes)
 
 abbrev pub decreases-loop-next : goal.decreases-loop-next
-decreases-loop-next l = length (progress_after l.self.program l.self.history).state.processes - l.next
+decreases-loop-next l = length (progress_after l.self.core.program l.self.core.history).state.processes - l.next

@@ -6,17 +6,21 @@ use Rattle.hep_blocked.specs.Rolls.{want_of}
 use Rattle.hep_entries.specs.Entries.{Kept}
 use Rattle.hep_quick.specs.UnitTables.{AreTables}
 use Rattle.hep_going.specs.Gone.{HasNoMoveAhead, none}
-use Rattle.hep_state.specs.Words.{snapshot_of}
-use Rattle.hep_core.specs.Invariant.{CoreInvariant, core_value}
+use Rattle.hep_state.specs.Words.{LeavesOthers, snapshot_of}
+use Rattle.hep_state.proofs.Unchanged.{on-err}
+use Rattle.hep_core.specs.Invariant.{CoreInvariant, core_value, placed_value}
 use Rattle.hep_core.specs.declared.scheduler.Core.TheInside.{Inside}
 use Rattle.hep_core.specs.Going.{AreMoves, IsAtRest, entries_along}
 use Rattle.hep_core.specs.Tickets.{is_out}
-use Rattle.hep_core.specs.Value.{CoreValue, IsStop}
+use Rattle.hep_core.specs.Places.{Placed, places_of}
+use Rattle.hep_core.specs.Value.{CoreValue, HasNoStop, IsStop, state_of}
+use Rattle.hep_core.proofs.Beside.{AreReadStill, entry-next, next-between, next-itself, next-same}
 use Rattle.hep_core.proofs.Coming.{next-levels}
-use Rattle.hep_core.proofs.Going.{IsNext, chosen-so, core-goes-on, core_along, entries-more, home-so, last-along, moves-begun, moves-on, next-alone, next-begun, next-round, next-so, nobody-out}
-use Rattle.hep_core.proofs.Histories.{few-steps, state-is}
-use Rattle.hep_core.proofs.Kept.{AreSeen, halted-is, some-of}
-use Rattle.hep_core.proofs.scheduler.Core.move_on.Goals.{After-lives, After-note_all, After-other_next}
+use Rattle.hep_core.proofs.Going.{IsNext, chosen-so, core-goes-on, core_along, entries-more, home-so, last-along, moves-begun, moves-on, next-alone, next-begun, next-round, next-so, nobody-out, unmoved}
+use Rattle.hep_core.proofs.Committing.{DependOnReads}
+use Rattle.hep_core.proofs.Histories.{schedule-along, state-is}
+use Rattle.hep_core.proofs.Kept.{AreSeen, activations-are, halted-is, some-of}
+use Rattle.hep_core.proofs.scheduler.Core.move_on.Goals.{After-lives, After-note_all, After-other_next, After-reserve}
 use Rattle.hep_core.proofs.scheduler.Core.move_on.Goals as goal
 
 pub lives-requires : goal.lives-requires
@@ -62,22 +66,23 @@ loop-done-init c =
     let history = c.reserve.new.self in
     let items = c.reserve.ensures.items in
     let lives : c.lives.result ≡ true = search rules in
-    let home = subst (λ (v : CoreValue). is_out c.args.p v.out ≡ false) (sym c.self.view_is) (home-so c.args.rounds c.args.p c.args.p c.args.self.now c.args.self.now can (next-begun c.args.rounds c.args.p c.args.self.now can)) in
-    let same : c.args.self.now ≡ core_value (core_along i history i.machine) = sym c.self.view_is ∙ (λ j. record (core_value i) { history = sym items j }) in
+    let home = subst (λ (v : Placed). is_out c.args.p v.core.out ≡ false) (sym c.self.view_is) (home-so c.args.rounds c.args.p c.args.p c.args.self.now.core c.args.self.now.core can (next-begun c.args.rounds c.args.p c.args.self.now.core can)) in
+    let same : c.args.self.now.core ≡ core_value (core_along i history i.machine) = ap (λ (v : Placed). v.core) (sym c.self.view_is) ∙ (λ j. record (core_value i) { history = sym items j }) in
     record {
       kept = core-goes-on c.lists_go_along_with_steps.ensures i c.args.p k none-stops home 0 (schedule_of i.history.items) i.machine history (none (schedule_of i.history.items)) k.after (goes i k none-stops) refl (omega (arith, k.legal.within)) items;
       going = none-stops;
-      program = ap (λ (v : CoreValue). v.program) c.self.view_is;
-      limit = ap (λ (v : CoreValue). v.limit) c.self.view_is;
-      out = ap (λ (v : CoreValue). v.out) c.self.view_is;
-      moves = subst (AreMoves c.args.rounds c.args.p c.args.self.now 0) same (moves-begun c.args.rounds c.args.p c.args.self.now);
-      next = subst (IsNext c.args.rounds c.args.p c.args.p) same (next-begun c.args.rounds c.args.p c.args.self.now can);
+      program = ap (λ (v : Placed). v.core.program) c.self.view_is;
+      limit = ap (λ (v : Placed). v.core.limit) c.self.view_is;
+      out = ap (λ (v : Placed). v.core.out) c.self.view_is;
+      moves = subst (AreMoves c.args.rounds c.args.p c.args.self.now.core 0) same (moves-begun c.args.rounds c.args.p c.args.self.now.core);
+      next = subst (IsNext c.args.rounds c.args.p c.args.p) same (next-begun c.args.rounds c.args.p c.args.self.now.core can);
       living = c.lives.ensures.levels lives;
-      entries = omega (arith, ap length items, ap (λ (v : CoreValue). length v.history) c.self.view_is);
+      entries = omega (arith, ap length items, ap (λ (v : Placed). length v.core.history) c.self.view_is);
       few = omega arith;
       alone = λ once. refl;
       free = is.room;
       short = omega (arith, is.few, ap length items);
+      still = λ alone. ap (λ (v : Placed). v.places) c.self.view_is;
     }
 
 pub go_on-made-requires-clause-turn : goal.go_on-made-requires-clause-turn
@@ -95,7 +100,7 @@ go_on-made-requires-clause-countable c =
     let i = c.loop-done.self-inside in
     let k = c.loop-done.invariant.kept in
     let h = i.history.items in
-    omega (arith, c.activations_are_few.ensures.activations i.image i.cells (schedule_of h) (snapshot_of i.machine) k.after.after, few-steps h k.single, c.loop-done.invariant.short, c.at_once-each.ensures.few)
+    omega (arith, activations-are i.image i.cells h (snapshot_of i.machine) k.after.after, k.few.activations, c.loop-done.invariant.short, c.at_once-each.ensures.few)
 
 -- no more than there is room for
 few-made : (c : After-note_all) → c.loop-done.done + c.go_on-made.result ≤ c.min-room.result
@@ -107,12 +112,12 @@ few-made c = elim (cases_Bool c.args.rounds) [
 within : (c : After-note_all) → length c.loop-done.self-inside.history.items + c.go_on-made.result ≤ c.loop-done.self-inside.limit
 within c =
     let inv = c.loop-done.invariant in
-    omega (arith, few-made c, inv.entries, inv.limit, ap (λ (v : CoreValue). length v.history) c.self.view_is, ap (λ (v : CoreValue). v.limit) c.self.view_is, c.min-room.ensures, c.len.ensures.count, c.self.invariant.legal.within)
+    omega (arith, few-made c, inv.entries, inv.limit, ap (λ (v : Placed). length v.core.history) c.self.view_is, ap (λ (v : Placed). v.core.limit) c.self.view_is, c.min-room.ensures, c.len.ensures.count, c.self.invariant.legal.within)
 
 home : (c : After-note_all) → is_out c.loop-done.next c.loop-done.self-inside.out.items ≡ false
 home c =
     let inv = c.loop-done.invariant in
-    subst (λ out. is_out c.loop-done.next out ≡ false) (sym inv.out) (home-so c.args.rounds c.args.p c.loop-done.next c.args.self.now (core_value c.loop-done.self-inside) c.requires.ready inv.next)
+    subst (λ out. is_out c.loop-done.next out ≡ false) (sym inv.out) (home-so c.args.rounds c.args.p c.loop-done.next c.args.self.now.core (core_value c.loop-done.self-inside) c.requires.ready inv.next)
 
 kept : (c : After-note_all) → (history : Kept) → history.items ≡ entries_along c.loop-done.self-inside.history.items c.loop-done.next c.go_on-made.result
     → CoreInvariant (core_along c.loop-done.self-inside history c.go_on-made.new.machine)
@@ -126,18 +131,18 @@ kept c history is =
 are-seen : (c : After-note_all) → AreSeen c.loop-done.self-inside.image c.loop-done.self-inside.cells
 are-seen c =
     let cells = c.loop-done.self-inside.cells in
-    let same = ap (λ (v : CoreValue). v.program) c.self.view_is ∙ sym c.loop-done.invariant.program in
+    let same = ap (λ (v : Placed). v.core.program) c.self.view_is ∙ sym c.loop-done.invariant.program in
     subst (λ program. AreSeen program cells) same (λ choices n. c.views_are_of_states.ensures c.self.inside.image cells choices n c.is_runnable.ensures.accepted c.is_runnable.ensures.main)
 
 moved : (c : After-note_all) → (history : Kept) → history.items ≡ entries_along c.loop-done.self-inside.history.items c.loop-done.next c.go_on-made.result
-    → AreMoves c.args.rounds c.args.p c.args.self.now (c.loop-done.done + c.go_on-made.result) (core_value (core_along c.loop-done.self-inside history c.go_on-made.new.machine))
+    → AreMoves c.args.rounds c.args.p c.args.self.now.core (c.loop-done.done + c.go_on-made.result) (core_value (core_along c.loop-done.self-inside history c.go_on-made.new.machine))
 moved c history is =
     let i = c.loop-done.self-inside in
     let inv = c.loop-done.invariant in
     let machine = c.go_on-made.new.machine in
     let made = c.go_on-made.result in
     let gone = c.go_on-made.ensures.gone i.cells (schedule_of i.history.items) inv.kept.after in
-    moves-on c.args.rounds c.args.p c.loop-done.next c.args.self.now (core_value i) (core_value (core_along i history machine)) c.loop-done.done made inv.moves inv.next
+    moves-on c.args.rounds c.args.p c.loop-done.next c.args.self.now.core (core_value i) (core_value (core_along i history machine)) c.loop-done.done made inv.moves inv.next
     (λ round. omega (arith, c.at_once-each.ensures.rounds round, c.go_on-made.ensures.few))
     (chosen-so c.lists_go_along_with_steps.ensures i c.loop-done.next inv.kept inv.going (home c) (are-seen c) made gone.0 machine history gone.1 (kept c history is) (within c) is)
 
@@ -160,8 +165,8 @@ at-rest c alone fewer =
       inv.alone alone,
       inv.entries,
       inv.limit,
-      ap (λ (v : CoreValue). length v.history) c.self.view_is,
-      ap (λ (v : CoreValue). v.limit) c.self.view_is,
+      ap (λ (v : Placed). length v.core.history) c.self.view_is,
+      ap (λ (v : Placed). v.core.limit) c.self.view_is,
       c.min-room.ensures,
       c.len.ensures.count,
       c.self.invariant.legal.within,
@@ -229,7 +234,7 @@ loop-done-preserved c =
     let round : c.args.rounds ≡ true = search rules in
     let once : made ≡ 1 = omega (arith, c.at_once-each.ensures.rounds round, c.go_on-made.ensures.few) in
     let found = c.in-Some.ensures in
-    let nobody : i.out.items ≡ [] = inv.out ∙ nobody-out c.args.rounds c.args.p c.args.self.now round c.requires.ready in
+    let nobody : i.out.items ≡ [] = inv.out ∙ nobody-out c.args.rounds c.args.p c.args.self.now.core round c.requires.ready in
     let last : last_process history.items ≡ c.loop-done.next = ap last_process items ∙ last-along i.history.items c.loop-done.next made (omega (arith, once)) in
     let same = c.lists_are_those_of_definitions.ensures.ready i.image i.cells i.roster.last (schedule_of history.items) (progress_after i.image history.items) (want_of i.roster.waiting) i.roster.ready keeps.listed c.other_next.ensures.rising in
     let many : length history.items ≡ length i.history.items + made = ap length items ∙ entries-more i.history.items c.loop-done.next made in
@@ -247,4 +252,66 @@ loop-done-preserved c =
       alone = λ alone. absurd (true≢false (sym round ∙ alone));
       free = found.room.0;
       short = omega (arith, found.room.1, c.at_once-each.ensures.rounds round);
+      still = λ alone. absurd (true≢false (sym round ∙ alone));
     }
+
+-- ---- what comes next of other processes, where the choices are of one
+
+pub returns-then-is_some-clause-others : goal.returns-then-is_some-clause-others
+returns-then-is_some-clause-others c alone = next-itself c.args.p c.args.self.now c.args.self.now refl
+
+pub returns-then-not-lives-clause-others : goal.returns-then-not-lives-clause-others
+returns-then-not-lives-clause-others c alone = next-itself c.args.p c.args.self.now c.args.self.now refl
+
+-- where no more than room was made for entries, nothing has changed
+reserved-same : (c : After-reserve) → placed_value (record c.self.inside { history = c.reserve.new.self }) ≡ c.args.self.now
+reserved-same c =
+    (λ j. record { core = record (core_value c.self.inside) { history = c.reserve.ensures.items j }; places = places_of c.self.inside.image (snapshot_of c.self.inside.machine) }) ∙ c.self.view_is
+
+pub returns-in_err-reserve-clause-refused : goal.returns-in_err-reserve-clause-refused
+returns-in_err-reserve-clause-refused c = on-err c.from_residual.result c.from_residual.ensures.0 (reserved-same (goal.at.returns-in_err-reserve-clause-refused c).After-reserve)
+
+pub returns-in_err-reserve-clause-others : goal.returns-in_err-reserve-clause-others
+returns-in_err-reserve-clause-others c alone = next-itself c.args.p c.args.self.now _ (reserved-same (goal.at.returns-in_err-reserve-clause-others c).After-reserve)
+
+-- none was made before
+begun-same : (c : After-note_all) → c.args.rounds ≡ false → core_value c.loop-done.self-inside ≡ c.args.self.now.core
+begun-same c alone =
+    let inv = c.loop-done.invariant in
+    let moves = subst (λ rounds. AreMoves rounds c.args.p c.args.self.now.core c.loop-done.done (core_value c.loop-done.self-inside)) alone inv.moves in
+    sym (unmoved c.args.p c.args.self.now.core c.loop-done.done (core_value c.loop-done.self-inside) (inv.alone alone) moves)
+
+pub returns-then-not-rounds-clause-others : goal.returns-then-not-rounds-clause-others
+returns-then-not-rounds-clause-others c alone =
+    let at = (goal.at.returns-then-not-rounds-clause-others c).After-note_all in
+    let i = c.loop-done.self-inside in
+    let inv = c.loop-done.invariant in
+    let p = c.args.p in
+    let n = c.go_on-made.result in
+    let m = c.go_on-made.new.machine in
+    let es = c.note_all.new.history.items in
+    let now = record i { history = c.note_all.new.history; machine = m } in
+    let same = begun-same at alone in
+    let own : c.loop-done.next ≡ p = next-alone c.args.rounds p c.loop-done.next (core_value i) alone inv.next in
+    let law : AreReadStill = c.others_leave_what_is_read.ensures in
+    let depend : DependOnReads = record { kept = c.segments_depend_on_reads.ensures.kept; made = c.segments_depend_on_reads.ensures.made } in
+    let going : HasNoStop (core_value i) = (inv.going, subst (IsStop i.image i.cells i.limit i.history.items) inv.going inv.kept.named) in
+    let entries = c.note_all.ensures ∙ ap (λ q. entries_along i.history.items q n) own in
+    let turns = ap schedule_of entries ∙ schedule-along i.history.items p n in
+    let stay = subst (λ q. LeavesOthers q (snapshot_of i.machine) (snapshot_of m)) own c.go_on-made.ensures.others in
+    let leaves = entry-next law depend i inv.kept going p n es turns m (kept at c.note_all.new.history c.note_all.ensures).after stay (core_value now) refl in
+    next-between p c.args.self.now (placed_value i) (placed_value now) (placed_value now) (inv.still alone) inv.program (ap (λ (v : CoreValue). state_of v) same) leaves refl refl refl refl
+
+pub returns-then-made-eq0-clause-others : goal.returns-then-made-eq0-clause-others
+returns-then-made-eq0-clause-others c alone = let round : c.args.rounds ≡ true = search rules in absurd (true≢false (sym round ∙ alone))
+
+pub returns-in-None-clause-others : goal.returns-in-None-clause-others
+returns-in-None-clause-others c alone = let round : c.args.rounds ≡ true = search rules in absurd (true≢false (sym round ∙ alone))
+
+pub returns-clause-others : goal.returns-clause-others
+returns-clause-others c alone =
+    let i = c.loop-done.self-inside in
+    let inv = c.loop-done.invariant in
+    let moves = subst (λ rounds. AreMoves rounds c.args.p c.args.self.now.core c.loop-done.done (core_value i)) alone inv.moves in
+    let same = unmoved c.args.p c.args.self.now.core c.loop-done.done (core_value i) (inv.alone alone) moves in
+    next-same c.args.p c.args.self.now (placed_value i) (inv.still alone) inv.program (ap (λ (v : CoreValue). state_of v) (sym same))

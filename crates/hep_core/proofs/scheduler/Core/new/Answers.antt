@@ -6,8 +6,9 @@ use Rattle.hep_blocked.proofs.Keeping.{listed-alike}
 use Rattle.hep_state.specs.Words.{IsMachineAfter, snapshot_of}
 use Rattle.hep_views.specs.Seen.{machine_view}
 use Rattle.hep_core.specs.Tickets.{is_out}
-use Rattle.hep_core.specs.Value.{AreSingle, opening_of}
-use Rattle.hep_core.proofs.Histories.{legal-none, progress-none, schedule-none}
+use Rattle.hep_core.specs.Invariant.{AreFew}
+use Rattle.hep_core.specs.Value.{opening_of}
+use Rattle.hep_core.proofs.Histories.{few-none, legal-none, progress-none, schedule-none}
 use Rattle.hep_core.proofs.Kept.{AreSeen, laid-out, opening-goes, view-is}
 use Rattle.hep_core.proofs.scheduler.Core.new.Goals as goal
 
@@ -33,10 +34,11 @@ invariant_of-result c =
         last = omega (arith, c.in_ok-machine.ensures.alone, c.enroll.ensures.last);
       };
       legal = subst (IsLegal program c.args.cells c.args.steps) none (legal-none program c.args.cells c.args.steps (laid-out program c.args.cells [] (snapshot_of m) after.after));
-      single = subst AreSingle none tt;
+      few = subst (AreFew program) none (few-none program);
       named = subst (λ es. (state_after program es).halted ≡ _) none (opening-goes program);
       living = λ q away. absurd (true≢false (sym away ∙ ap (is_out q) c.new-2.ensures.items));
       tabled = c.in_ok-tables.ensures;
+      owned = c.in_ok-own.ensures;
     }
 
 pub returns-clause-made : goal.returns-clause-made

@@ -1,5 +1,6 @@
 use Rattle.std.proofs.Common.{◌≡◌, ◌≢◌, ◌<◌, ◌≤◌, ℕ, List, ◌++◌, ◌∷◌, [], ◌∙◌, inl, inr, sym, ap, subst, rules, false, true, Option, None, Some, length, arith, refl, ◌||◌, ◌&&◌, is_some, nat_eq, nat_lt, not}
 use Rattle.hep_machine.specs.declared.event.Entry.{Entry}
+use Rattle.hep_entries.specs.Entries.{Kept}
 use Rattle.hep_machine.specs.Words.{Units, is_number_among, living, run, schedule_of, state_after, progress_after, progress_after_step, State, is_waiting, step}
 use Rattle.hep_blocked.specs.Listing.{AreListed, IsBlocked, IsReadyNoMore, WaitsNow, is_noted}
 use Rattle.hep_purging.specs.Purged.{have_cell}
@@ -7,22 +8,27 @@ use Rattle.hep_blocked.specs.Rolls.{KeepsRoll, Roll, want_of}
 use Rattle.hep_blocked.proofs.Keeping.{living-enrolled}
 use Rattle.hep_state.specs.declared.turn.Turned.{Turned}
 use Rattle.hep_state.specs.declared.turn.Turned.TheVariants.{Stepped, Purged, Waits}
-use Rattle.hep_state.specs.Words.{HasTurned, IsAfter, IsMachineAfter, KeepsRollFor, snapshot_of, IsUnturned}
+use Rattle.hep_state.specs.Words.{HasTurned, IsAfter, IsMachineAfter, IsSameButTop, KeepsRollFor, LeavesOthers, LeavesRest, snapshot_of, IsUnturned}
+use Rattle.hep_state.proofs.Unchanged.{on-err}
+use Rattle.hep_core.specs.Places.{places_of}
+use Rattle.hep_core.proofs.Settled.{places-same}
 use Rattle.hep_state.proofs.Histories.{after-history, still-after, turned-at, unturned-at}
 use Rattle.hep_state.proofs.Numbered.{length-stacks}
-use Rattle.hep_core.specs.Invariant.{CoreInvariant, core_value}
+use Rattle.hep_core.specs.Invariant.{CoreInvariant, core_value, placed_value}
 use Rattle.hep_core.specs.declared.scheduler.Core.TheInside.{Inside}
-use Rattle.hep_layout.proofs.HeldFrames.{run-last}
-use Rattle.hep_machine.proofs.Others.{processes_after}
 use Rattle.hep_state.specs.declared.machine.Machine.{Machine}
 use Rattle.hep_views.specs.Seen.{machine_view}
 use Rattle.hep_core.specs.Tickets.{is_out}
-use Rattle.hep_core.specs.Value.{CoreValue, IsStop, IsTurn, stop_after}
+use Rattle.hep_core.specs.Commits.{LeavesNext}
+use Rattle.hep_core.specs.Places.{Placed}
+use Rattle.hep_core.specs.Value.{CoreValue, HasNoStop, IsStop, IsTurn, state_of, stop_after}
 use Rattle.hep_core.specs.declared.stop.ChoiceStop.{ChoiceStop}
 use Rattle.hep_core.specs.Waking.{AreInArena, HasRoomLeft, awake_after, is_woken_after}
-use Rattle.hep_core.specs.declared.stop.ChoiceStop.TheVariants.{ArenaFull, Halted}
-use Rattle.hep_core.proofs.Histories.{few-steps, state-is}
-use Rattle.hep_core.proofs.Kept.{AreSeen, halted-is, halted-next, named-left, next, some-of, state-next, stepped-kept, steps-on, unturned-kept, unturned-view, view-is, view-next, waited-kept, IsNoWait, along, along-emptying, as-many, blocked-now, emptied-to-lists, in-arena, made-step, no-memory, waits-unstepped}
+use Rattle.hep_core.specs.declared.stop.ChoiceStop.TheVariants.{ArenaFull, Halted, StepLimit}
+use Rattle.hep_core.proofs.Beside.{AreReadStill, entry-next, next-itself, next-same, rest-others}
+use Rattle.hep_core.proofs.Committing.{DependOnReads}
+use Rattle.hep_core.proofs.Histories.{state-is}
+use Rattle.hep_core.proofs.Kept.{AreSeen, activations-are, processes-are, halted-is, halted-next, named-left, next, schedule-next, some-of, state-left, state-next, stepped-kept, steps-on, unturned-kept, unturned-view, view-is, view-next, waited-kept, IsNoWait, along, along-emptying, as-many, blocked-now, emptied-to-lists, in-arena, made-step, no-memory, risen, waits-unstepped}
 use Rattle.hep_core.proofs.scheduler.Core.turn.Goals.{After-len, After-lives, After-turn, After-block, After-wake_after}
 use Rattle.hep_core.proofs.scheduler.Core.turn.Goals as goal
 use Rattle.hep_source.proofs.Tests.{none-from-not}
@@ -52,27 +58,27 @@ are-seen c choices n = c.views_are_of_states.ensures c.self.inside.image c.self.
 
 -- p isn't out
 at-home : (c : After-lives) → is_out c.args.p c.self.inside.out.items ≡ false
-at-home c = subst (λ (v : CoreValue). is_out c.args.p v.out ≡ false) (sym c.self.view_is) c.requires
+at-home c = subst (λ (v : Placed). is_out c.args.p v.core.out ≡ false) (sym c.self.view_is) c.requires
 
 -- ---- no turn is asked for
 
-pub returns-then-not-lives : goal.returns-then-not-lives
-returns-then-not-lives c =
+pub returns-then-not-lives-clause-chosen : goal.returns-then-not-lives-clause-chosen
+returns-then-not-lives-clause-chosen c =
     let i = c.self.inside in
     let h = i.history.items in
-    let going = going-on (goal.at.returns-then-not-lives c).After-lives in
+    let going = going-on (goal.at.returns-then-not-lives-clause-chosen c).After-lives in
     let dead : c.lives.result ≡ false = search rules in
     let ended = none-from-not (living (state_after i.image h) c.args.p) (ap (λ (s : State). is_some (living s c.args.p)) (state-is i.image h) ∙ sym (c.lives.ensures.lives i.image i.cells (schedule_of h) c.self.invariant.after.after) ∙ dead) in
     rw (← c.self.view_is) (going, ended, refl)
 
-pub returns-then-self-len : goal.returns-then-self-len
-returns-then-self-len c =
+pub returns-then-self-len-clause-chosen : goal.returns-then-self-len-clause-chosen
+returns-then-self-len-clause-chosen c =
     let i = c.self.inside in
     let h = i.history.items in
-    let going = going-on (goal.at.returns-then-self-len c).After-lives in
-    let alive = is-alive (goal.at.returns-then-self-len c).After-len in
+    let going = going-on (goal.at.returns-then-self-len-clause-chosen c).After-lives in
+    let alive = is-alive (goal.at.returns-then-self-len-clause-chosen c).After-len in
     let full : length h ≡ i.limit = omega (arith, c.len.ensures.count, c.if-self-len.true, c.self.invariant.legal.within) in
-    rw (← c.self.view_is) (inr (inl ((going, alive, at-home (goal.at.returns-then-self-len c).After-lives), full, refl, refl)))
+    rw (← c.self.view_is) (inr (inl ((going, alive, at-home (goal.at.returns-then-self-len-clause-chosen c).After-lives), full, refl, refl)))
 
 -- each activation was made by an entry of its own, of which there are less than 2^64 by far
 pub turn-requires : goal.turn-requires
@@ -86,8 +92,8 @@ turn-requires c =
       after = after-history i.image i.cells h i.machine k.after;
       running = halted-is i.image i.cells h (snapshot_of i.machine) k.after.after ∙ going.1;
       living = c.lives.ensures.levels lives;
-      countable = omega (arith, c.activations_are_few.ensures.activations i.image i.cells (schedule_of h) (snapshot_of i.machine) k.after.after, few-steps h k.single, c.len.ensures.count, c.len.ensures.few);
-      numerable = omega (arith, c.activations_are_few.ensures.processes i.image i.cells (schedule_of h) (snapshot_of i.machine) k.after.after, length-stacks i.machine.processes.items 1 i.machine.made, few-steps h k.single, c.len.ensures.count, c.len.ensures.few);
+      countable = omega (arith, activations-are i.image i.cells h (snapshot_of i.machine) k.after.after, k.few.activations, c.len.ensures.count, c.len.ensures.few);
+      numerable = omega (arith, processes-are i.image i.cells h (snapshot_of i.machine) k.after.after, length-stacks i.machine.processes.items 1 i.machine.made, k.few.processes, c.len.ensures.count, c.len.ensures.few);
       numbers = k.room.room;
     }
 
@@ -125,9 +131,9 @@ invariant_of-self-in-Err-NoMemory c =
     let k = c.self.invariant in
     unturned (goal.at.invariant_of-self-in-Err-NoMemory c).After-turn (still-after i.image i.cells i.history.items i.machine k.after c.args.p c.turn.new.self c.in-Err-NoMemory.ensures.refused) i.stop k.named
 
-pub returns-in-Err-NoMemory : goal.returns-in-Err-NoMemory
-returns-in-Err-NoMemory c =
-    let at = goal.at.returns-in-Err-NoMemory c in
+pub returns-in-Err-NoMemory-clause-chosen : goal.returns-in-Err-NoMemory-clause-chosen
+returns-in-Err-NoMemory-clause-chosen c =
+    let at = goal.at.returns-in-Err-NoMemory-clause-chosen c in
     let i = c.self.inside in
     let h = i.history.items in
     let after = still-after i.image i.cells h i.machine c.self.invariant.after c.args.p c.turn.new.self c.in-Err-NoMemory.ensures.refused in
@@ -143,9 +149,9 @@ invariant_of-self-in-Err-ArenaFull c =
     let gap = subst (λ e. IsUnturned e i.image i.cells (schedule_of h) c.args.p) c.in-Err-ArenaFull.field-0-is (unturned-at i.image i.cells h i.machine k.after c.args.p c.in-Err-ArenaFull.field-0 c.in-Err-ArenaFull.ensures.unturned) in
     unturned at.After-turn (still-after i.image i.cells h i.machine k.after c.args.p c.turn.new.self c.in-Err-ArenaFull.ensures.refused) (Some ArenaFull) ((going-on at.After-lives).1, (c.args.p, gap))
 
-pub returns-in-Err-ArenaFull : goal.returns-in-Err-ArenaFull
-returns-in-Err-ArenaFull c =
-    let at = goal.at.returns-in-Err-ArenaFull c in
+pub returns-in-Err-ArenaFull-clause-chosen : goal.returns-in-Err-ArenaFull-clause-chosen
+returns-in-Err-ArenaFull-clause-chosen c =
+    let at = goal.at.returns-in-Err-ArenaFull-clause-chosen c in
     let i = c.self.inside in
     let h = i.history.items in
     let after = still-after i.image i.cells h i.machine c.self.invariant.after c.args.p c.turn.new.self c.in-Err-ArenaFull.ensures.refused in
@@ -282,15 +288,15 @@ invariant_of-self-else-self c =
     step-kept at.After-wake_after (is-asked at.After-turn) (at-home at.After-lives) i.stop
     (subst (IsStop i.image i.cells i.limit c.note-in_default-turned.new.history.items) (sym (going-on at.After-lives).0) (halted-history at.After-wake_after ∙ c.if-self.false))
 
-pub returns-then-self : goal.returns-then-self
-returns-then-self c =
-    let at = goal.at.returns-then-self c in
+pub returns-then-self-clause-chosen : goal.returns-then-self-clause-chosen
+returns-then-self-clause-chosen c =
+    let at = goal.at.returns-then-self-clause-chosen c in
     let halted : (after-step at.After-wake_after).halted ≡ true = sym (halted-after at.After-wake_after) ∙ c.if-self.true in
     rw (← c.self.view_is) (going-on at.After-lives, at-home at.After-lives, is-asked at.After-turn, step-made at.After-wake_after (are-seen at.After-turn) (Some Halted) (rw halted refl))
 
-pub returns-else-self : goal.returns-else-self
-returns-else-self c =
-    let at = goal.at.returns-else-self c in
+pub returns-else-self-clause-chosen : goal.returns-else-self-clause-chosen
+returns-else-self-clause-chosen c =
+    let at = goal.at.returns-else-self-clause-chosen c in
     let going = going-on at.After-lives in
     let halted : (after-step at.After-wake_after).halted ≡ false = sym (halted-after at.After-wake_after) ∙ c.if-self.false in
     rw (← c.self.view_is) (going, at-home at.After-lives, is-asked at.After-turn, step-made at.After-wake_after (are-seen at.After-turn) c.self.inside.stop (going.0 ∙ rw halted refl))
@@ -302,16 +308,6 @@ wake_after-requires c =
       few = subst (AreInArena c.in-Ok.turned) (sym c.deref.ensures.value) (
           in-arena i.image i.cells (schedule_of i.history.items) c.args.p c.in-Ok.turned c.turn.new.self (turned-at i.image i.cells i.history.items i.machine c.self.invariant.after c.args.p c.in-Ok.turned c.turn.new.self c.in-Ok.ensures.turned));
     }
-
--- no process is taken back
-risen : (program : Units) (cells : ℕ) (choices : List ℕ) (p : ℕ) (turned : Turned) (old new : Machine) → IsAfter program cells choices (snapshot_of old) → IsNoWait turned → HasTurned program cells choices p turned new
-    → old.made ≤ new.made
-risen program cells choices p turned old new after other has =
-    let s = run program choices in
-    let made = made-step program cells choices p turned new other has in
-    let grown : length s.processes ≤ length (run program (choices ++ p ∷ [])).processes =
-    subst (λ (t : State). length s.processes ≤ length t.processes) (sym (run-last program choices p)) (elim (processes_after program p s) [ inl e ↦ omega (arith, e) | inr e ↦ omega (arith, e) ]) in
-    omega (arith, grown, as-many program cells choices old after, as-many program cells (choices ++ p ∷ []) new made.1.after)
 
 pub note_ready-requires : goal.note_ready-requires
 note_ready-requires c =
@@ -362,11 +358,11 @@ invariant_of-self-in_err-block-in-Waits c =
     unturned-kept i k c.turn.new.history c.turn.new.self c.block.new.self c.turn.ensures.entry.entries done.1 (subst (KeepsRoll i.roster) (sym same) c.turn.ensures.roster.kept)
     (subst (HasRoomLeft c.turn.new.self) (sym same) (left-room i k c.turn.new.self c.turn.new.roster done.1 c.turn.ensures.roster)) i.stop k.named
 
-pub returns-in_err-block-in-Waits : goal.returns-in_err-block-in-Waits
-returns-in_err-block-in-Waits c =
+pub returns-in_err-block-in-Waits-clause-chosen : goal.returns-in_err-block-in-Waits-clause-chosen
+returns-in_err-block-in-Waits-clause-chosen c =
     let i = c.self.inside in
-    let done = waited-now (goal.at.returns-in_err-block-in-Waits c).After-block in
-    let at = goal.at.returns-in_err-block-in-Waits c in
+    let done = waited-now (goal.at.returns-in_err-block-in-Waits-clause-chosen c).After-block in
+    let at = goal.at.returns-in_err-block-in-Waits-clause-chosen c in
     let unstepped = waits-unstepped i.image c.args.p (run i.image (schedule_of i.history.items)) done.0.wanted done.0.waits in
     rw (← c.self.view_is) (
     no-memory (core_value i) c.args.p c.from_residual.result (record (core_value i) { history = c.turn.new.history.items; view = machine_view i.image (snapshot_of c.turn.new.self) }) c.from_residual.ensures.1
@@ -395,17 +391,111 @@ invariant_of-self-in-Waits c =
     waited-kept i k p lt c.note.new.history is c.turn.new.self done.1 blocked.1 c.block.new.self listed room i.stop
     (subst (IsStop i.image i.cells i.limit c.note.new.history.items) (sym going.0) (named-left i k p lt c.note.new.history is c.turn.new.self done.1 blocked.1 c.block.new.self listed room going.1))
 
-pub returns-in_ok-block-in-Waits : goal.returns-in_ok-block-in-Waits
-returns-in_ok-block-in-Waits c =
-    let at = (goal.at.returns-in_ok-block-in-Waits c).After-block in
+pub returns-in_ok-block-in-Waits-clause-chosen : goal.returns-in_ok-block-in-Waits-clause-chosen
+returns-in_ok-block-in-Waits-clause-chosen c =
+    let at = (goal.at.returns-in_ok-block-in-Waits-clause-chosen c).After-block in
     let i = c.self.inside in
     let h = i.history.items in
     let p = c.args.p in
     let done = waited-now at in
     let is : c.note.new.history.items ≡ h ++ record { process = p; steps = 0 } ∷ [] = c.note.ensures ∙ ap (λ (es : List Entry). es ++ record { process = p; steps = 0 } ∷ []) c.turn.ensures.entry.entries in
-    let lt = is-asked (goal.at.returns-in_ok-block-in-Waits c).After-turn in
-    let going = going-on (goal.at.returns-in_ok-block-in-Waits c).After-lives in
+    let lt = is-asked (goal.at.returns-in_ok-block-in-Waits-clause-chosen c).After-turn in
+    let going = going-on (goal.at.returns-in_ok-block-in-Waits-clause-chosen c).After-lives in
     let stop : i.stop ≡ stop_after (state_after i.image h) = going.0 ∙ rw going.1 refl in
-    let seen = are-seen (goal.at.returns-in_ok-block-in-Waits c).After-turn in
+    let seen = are-seen (goal.at.returns-in_ok-block-in-Waits-clause-chosen c).After-turn in
     let view = view-is i.image i.cells h (snapshot_of c.turn.new.self) done.1.after seen in
-    rw (← c.self.view_is) (going, at-home (goal.at.returns-in_ok-block-in-Waits c).After-lives, lt, (ap (λ (s : State). is_waiting i.image s p) (state-is i.image h) ∙ (is-blocked at).1, λ j. record (core_value i) { history = is j; stop = stop j; view = view j }))
+    rw (← c.self.view_is) (going, at-home (goal.at.returns-in_ok-block-in-Waits-clause-chosen c).After-lives, lt, (ap (λ (s : State). is_waiting i.image s p) (state-is i.image h) ∙ (is-blocked at).1, λ j. record (core_value i) { history = is j; stop = stop j; view = view j }))
+
+-- ---- where processes are, where no turn was made
+
+-- those of the machine, where constants that stood ahead may be operands
+places-left : (c : After-turn) → IsSameButTop c.self.inside.image c.args.p (snapshot_of c.self.inside.machine) (snapshot_of c.turn.new.self) → places_of c.self.inside.image (snapshot_of c.turn.new.self) ≡ c.args.self.now.places
+places-left c top =
+    let i = c.self.inside in
+    let lives : c.lives.result ≡ true = search rules in
+    places-same i.image c.args.p (snapshot_of i.machine) (snapshot_of c.turn.new.self) (c.lives.ensures.levels lives) top ∙ ap (λ (v : Placed). v.places) c.self.view_is
+
+pub returns-then-not-lives-clause-places : goal.returns-then-not-lives-clause-places
+returns-then-not-lives-clause-places c = refl
+
+pub returns-then-self-len-clause-places : goal.returns-then-self-len-clause-places
+returns-then-self-len-clause-places c = ap (λ (v : Placed). v.places) c.self.view_is
+
+pub returns-in-Err-NoMemory-clause-places : goal.returns-in-Err-NoMemory-clause-places
+returns-in-Err-NoMemory-clause-places c = places-left (goal.at.returns-in-Err-NoMemory-clause-places c).After-turn c.in-Err-NoMemory.ensures.refused.top
+
+pub returns-in-Err-ArenaFull-clause-places : goal.returns-in-Err-ArenaFull-clause-places
+returns-in-Err-ArenaFull-clause-places c = places-left (goal.at.returns-in-Err-ArenaFull-clause-places c).After-turn c.in-Err-ArenaFull.ensures.refused.top
+
+pub returns-in_err-block-in-Waits-clause-places : goal.returns-in_err-block-in-Waits-clause-places
+returns-in_err-block-in-Waits-clause-places c =
+    let i = c.self.inside in
+    let waiting = subst (λ (turned : Turned). LeavesRest turned i.image c.args.p (snapshot_of i.machine) (snapshot_of c.turn.new.self)) c.in-Waits.is c.in-Ok.ensures.rest in
+    on-err c.from_residual.result c.from_residual.ensures.0 (places-left (goal.at.returns-in_err-block-in-Waits-clause-places c).After-turn waiting)
+
+-- ---- what comes next of other processes
+
+pub returns-then-not-lives-clause-others : goal.returns-then-not-lives-clause-others
+returns-then-not-lives-clause-others c = next-itself c.args.p c.args.self.now c.args.self.now refl
+
+pub returns-then-self-len-clause-others : goal.returns-then-self-len-clause-others
+returns-then-self-len-clause-others c =
+    next-same c.args.p c.args.self.now (placed_value (record c.self.inside { stop = Some StepLimit })) (ap (λ (v : Placed). v.places) c.self.view_is) (ap (λ (v : Placed). v.core.program) c.self.view_is) (ap (λ (v : Placed). state_of v.core) c.self.view_is)
+
+-- where the machine has the same places
+places-next : (c : After-turn) → IsSameButTop c.self.inside.image c.args.p (snapshot_of c.self.inside.machine) (snapshot_of c.turn.new.self) → (history : Kept) (stop : Option ChoiceStop)
+    → state_after c.self.inside.image history.items ≡ state_after c.self.inside.image c.self.inside.history.items
+    → LeavesNext c.args.p c.args.self.now (placed_value (record c.self.inside { history = history; stop = stop; machine = c.turn.new.self }))
+places-next c top history stop state =
+    next-same c.args.p c.args.self.now (placed_value (record c.self.inside { history = history; stop = stop; machine = c.turn.new.self })) (places-left c top) (ap (λ (v : Placed). v.core.program) c.self.view_is) (
+    state ∙ ap (λ (v : Placed). state_of v.core) c.self.view_is)
+
+pub returns-in-Err-NoMemory-clause-others : goal.returns-in-Err-NoMemory-clause-others
+returns-in-Err-NoMemory-clause-others c =
+    places-next (goal.at.returns-in-Err-NoMemory-clause-others c).After-turn c.in-Err-NoMemory.ensures.refused.top c.turn.new.history c.self.inside.stop (ap (state_after c.self.inside.image) c.turn.ensures.entry.entries)
+
+pub returns-in-Err-ArenaFull-clause-others : goal.returns-in-Err-ArenaFull-clause-others
+returns-in-Err-ArenaFull-clause-others c =
+    places-next (goal.at.returns-in-Err-ArenaFull-clause-others c).After-turn c.in-Err-ArenaFull.ensures.refused.top c.turn.new.history (Some ArenaFull) (ap (state_after c.self.inside.image) c.turn.ensures.entry.entries)
+
+-- where it was found waiting
+waits-top : (c : After-block) → IsSameButTop c.self.inside.image c.args.p (snapshot_of c.self.inside.machine) (snapshot_of c.turn.new.self)
+waits-top c =
+    let i = c.self.inside in
+    subst (λ (turned : Turned). LeavesRest turned i.image c.args.p (snapshot_of i.machine) (snapshot_of c.turn.new.self)) c.in-Waits.is c.in-Ok.ensures.rest
+
+pub returns-in_err-block-in-Waits-clause-others : goal.returns-in_err-block-in-Waits-clause-others
+returns-in_err-block-in-Waits-clause-others c =
+    let at = goal.at.returns-in_err-block-in-Waits-clause-others c in
+    places-next at.After-turn (waits-top at.After-block) c.turn.new.history c.self.inside.stop (ap (state_after c.self.inside.image) c.turn.ensures.entry.entries)
+
+pub returns-in_ok-block-in-Waits-clause-others : goal.returns-in_ok-block-in-Waits-clause-others
+returns-in_ok-block-in-Waits-clause-others c =
+    let at = goal.at.returns-in_ok-block-in-Waits-clause-others c in
+    let i = c.self.inside in
+    let h = i.history.items in
+    let is : c.note.new.history.items ≡ h ++ record { process = c.args.p; steps = 0 } ∷ [] = c.note.ensures ∙ ap (λ (es : List Entry). es ++ record { process = c.args.p; steps = 0 } ∷ []) c.turn.ensures.entry.entries in
+    places-next at.After-turn (waits-top at.After-block) c.note.new.history i.stop (state-left i.image i.cells h c.args.p c.note.new.history.items is)
+
+-- after a step
+step-next : (c : After-wake_after) → HasNoStop (core_value c.self.inside) → (stop : Option ChoiceStop)
+    → LeavesNext c.args.p c.args.self.now (placed_value (record c.self.inside { history = c.note-in_default-turned.new.history; stop = stop; machine = c.turn.new.self }))
+step-next c going stop =
+    let i = c.self.inside in
+    let h = i.history.items in
+    let p = c.args.p in
+    let es = c.note-in_default-turned.new.history.items in
+    let done = stepped-now c in
+    let law : AreReadStill = c.others_leave_what_is_read.ensures in
+    let depend : DependOnReads = record { kept = c.segments_depend_on_reads.ensures.kept; made = c.segments_depend_on_reads.ensures.made } in
+    let turns : schedule_of es ≡ schedule_of h ++ p ∷ [] = schedule-next i.image i.cells h p es (entry-is c) done.0 in
+    let after = subst (λ ps. IsMachineAfter i.image i.cells ps c.turn.new.self) (sym turns) done.1 in
+    let stay = rest-others i.image p c.in-Ok.turned (snapshot_of i.machine) (snapshot_of c.turn.new.self) (no-wait c) c.in-Ok.ensures.rest in
+    let now = record i { history = c.note-in_default-turned.new.history; stop = stop; machine = c.turn.new.self } in
+    rw (← c.self.view_is) (entry-next law depend i c.self.invariant going p 1 es turns c.turn.new.self after stay (core_value now) refl)
+
+pub returns-then-self-clause-others : goal.returns-then-self-clause-others
+returns-then-self-clause-others c = let at = goal.at.returns-then-self-clause-others c in step-next at.After-wake_after (going-on at.After-lives) (Some Halted)
+
+pub returns-else-self-clause-others : goal.returns-else-self-clause-others
+returns-else-self-clause-others c = let at = goal.at.returns-else-self-clause-others c in step-next at.After-wake_after (going-on at.After-lives) c.self.inside.stop

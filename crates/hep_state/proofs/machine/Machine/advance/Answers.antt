@@ -1,9 +1,12 @@
-use Rattle.std.proofs.Common.{◌≡◌, ℕ, List, ◌∷◌, refl, sym, ap, ◌∙◌, subst, vec_capacity}
+use Rattle.std.proofs.Common.{◌≡◌, ℕ, List, Option, ◌∷◌, refl, sym, ap, ◌∙◌, subst, vec_capacity}
 use Rattle.std.proofs.lemmas.Result.{IfOk-weaker, on_err_weaker}
 use Rattle.hep_machine.specs.Words.{Value}
 use Rattle.hep_proc.specs.Nodes.{nodes_of}
+use Rattle.hep_cells.specs.declared.want.Want.{Want}
 use Rattle.hep_step.specs.declared.effect.Effect.{Effect}
+use Rattle.hep_step.specs.declared.effect.Effect.TheVariants.{Moved, Printed, Failed, Waits, Returned, Answered, Stopped, LeftOut}
 use Rattle.hep_step.specs.Changes.{changed_at}
+use Rattle.hep_step.specs.Effects as effects
 use Rattle.hep_step.specs.Effects.{effect_at}
 use Rattle.hep_step.specs.Performed as performed
 use Rattle.hep_step.specs.Performed.{changed_in}
@@ -15,7 +18,8 @@ use Rattle.hep_state.specs.declared.machine.Machine.{Machine}
 use Rattle.hep_proc.specs.declared.process.Process.{Process}
 use Rattle.hep_proc.specs.Stacks.{Stack, stack_of, stack_with}
 use Rattle.hep_proc.proofs.Levels.{last-there}
-use Rattle.hep_state.specs.Words.{AreNumbered, Changes, node_under, Snapshot, snapshot_of, IsLeft, turn_with, with_contents, with_stack}
+use Rattle.hep_state.specs.Words.{AreNumbered, Changes, node_under, Snapshot, snapshot_of, IsLeft, StaysWaiting, turn_with, with_contents, with_stack}
+use Rattle.hep_state.proofs.Beside.{beside-set}
 use Rattle.hep_state.proofs.Moved.{top-node}
 use Rattle.hep_state.proofs.Processes.{IsAt, process-at, room-moved, stacks-set}
 use Rattle.hep_state.proofs.Tops.{turning}
@@ -66,6 +70,42 @@ shown-now m p r frames l ls left pending next numbers it same stack holes nodes 
       processes = stacks i;
     }
 
+-- an operation that waits has changed nothing
+abbrev Stays : Effect → performed.Snapshot → performed.Snapshot → Type 0
+Stays (Waits want) before after = after ≡ before
+Stays _ before after = Unit {0}
+
+stays-so : (effect : Effect) (before after : performed.Snapshot) → after ≡ before → Stays effect before after
+stays-so (Waits want) before after is = is
+stays-so (Moved changed) before after is = tt
+stays-so (Printed items) before after is = tt
+stays-so (Failed line kind) before after is = tt
+stays-so Returned before after is = tt
+stays-so (Answered v) before after is = tt
+stays-so Stopped before after is = tt
+stays-so LeftOut before after is = tt
+
+stays : (ahead : effects.Effect) (changed : Option Want) (before : performed.Snapshot) (effect : Effect) (after : performed.Snapshot) → performed.IsPerformed ahead changed before effect after → Stays effect before after
+stays (effects.moves contents operands index) changed before effect after is = subst (λ (e : Effect). Stays e before after) (sym (ap (λ (x : Effect × performed.Snapshot). x.0) is)) tt
+stays (effects.prints items index) changed before effect after is = subst (λ (e : Effect). Stays e before after) (sym (ap (λ (x : Effect × performed.Snapshot). x.0) is)) tt
+stays (effects.fails line kind) changed before effect after is = stays-so effect before after (ap (λ (x : Effect × performed.Snapshot). x.1) is)
+stays (effects.waits address full) changed before effect after is = stays-so effect before after (ap (λ (x : Effect × performed.Snapshot). x.1) is)
+stays effects.returns changed before effect after is = stays-so effect before after (ap (λ (x : Effect × performed.Snapshot). x.1) is)
+stays (effects.answers v) changed before effect after is = stays-so effect before after (ap (λ (x : Effect × performed.Snapshot). x.1) is)
+stays effects.stops changed before effect after is = stays-so effect before after (ap (λ (x : Effect × performed.Snapshot). x.1) is)
+stays effects.left_out changed before effect after is = stays-so effect before after (ap (λ (x : Effect × performed.Snapshot). x.1) is)
+
+-- and so the machine shows the same
+stays-shown : (effect : Effect) (m new : Snapshot) {before after : performed.Snapshot} → (after ≡ before → new ≡ m) → Stays effect before after → StaysWaiting effect m new
+stays-shown (Waits want) m new shown is = shown is
+stays-shown (Moved changed) m new shown is = tt
+stays-shown (Printed items) m new shown is = tt
+stays-shown (Failed line kind) m new shown is = tt
+stays-shown Returned m new shown is = tt
+stays-shown (Answered v) m new shown is = tt
+stays-shown Stopped m new shown is = tt
+stays-shown LeftOut m new shown is = tt
+
 pub returns : goal.returns
 returns c =
     let program = c.args.image.now in
@@ -101,6 +141,10 @@ returns c =
       refused = on_err_weaker c.advance.result (λ is.
           let turn = turning p c.requires.after.2.after e.levels c.requires.running in
           shown ∙ (ap (with_performed turn.1) is ∙ unperformed turn.1)) a.refused;
+      waits = IfOk-weaker c.advance.result _ _ (λ effect is.
+          let turn = turning p c.requires.after.2.after e.levels c.requires.running in
+          stays-shown effect m _ (λ same. shown ∙ (ap (with_performed turn.1) same ∙ unperformed turn.1)) (stays ahead changed (performed.snapshot m.arena.contents vs l.index) effect after is)) a.performed;
+      others = beside-set p old r c.requires.after.2.numbers it e.levels.kept done.same.number;
       kept = record {
         rooms = λ cells h. rooms-set program cells old _ r it done.same.number refl refl refl (room-moved program q r l a.next ls vs a.left ws it.stack a.stack done.same.room (h.room c.place-at.result q it.there)) h;
         records = refl;

@@ -5,7 +5,8 @@ use Rattle.hep_code.specs.Words.{deepest}
 use Rattle.hep_step.specs.Simulation.{unit_code}
 use Rattle.hep_state.specs.declared.calling.Called.{Called}
 use Rattle.hep_state.specs.declared.machine.Machine.{Machine}
-use Rattle.hep_state.specs.Words.{HaveRoom, HoldsInTurn, IsMachineAfter, IsMaking, IsUnit, Makes, ShowsSame, Snapshot, turn_of}
+use Rattle.hep_state.specs.Words.{HaveRoom, HoldsInTurn, IsMachineAfter, IsMaking, IsUnit, Makes, ShowsSame, Snapshot, snapshot_of, turn_of}
+use Rattle.hep_state.proofs.Beside.{beside-again, beside-shown}
 use Rattle.hep_state.proofs.Given.{ahead-after}
 use Rattle.hep_state.proofs.Unchanged.{carry, rooms-of, turned-so}
 use Rattle.hep_state.proofs.machine.Machine.begin_call.Goals.{After-calls_touch_nothing, After-reserve_level}
@@ -93,5 +94,6 @@ returns-clause-made c =
         running = lives.running ∙ ap (λ (m : Snapshot). m.halted) shown;
         made = lives.made ∙ (same before).made;
         counted = omega (arith, lives.counted, ap (λ (m : Snapshot). m.activations) shown);
+        others = beside-again c.args.p (snapshot_of c.args.self.now) (snapshot_of (new before)) (snapshot_of c.call.new.self) (beside-shown c.args.p (snapshot_of c.args.self.now) (snapshot_of (new before)) shown) lives.others;
       };
     }

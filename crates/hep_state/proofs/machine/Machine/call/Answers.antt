@@ -10,6 +10,7 @@ use Rattle.hep_proc.proofs.Levels.{operands-are}
 use Rattle.hep_state.specs.declared.machine.Machine.{Machine}
 use Rattle.hep_state.specs.Words.{HasMadeTurn, entered_level, snapshot_made_by, snapshot_of, stacks_of, turn_of}
 use Rattle.hep_state.proofs.Begun.{made-shown}
+use Rattle.hep_state.proofs.Beside.{beside-same, beside-set}
 use Rattle.hep_state.proofs.Processes.{kept-set, numbers-still, process-still, room-more, stacks-set, some-levels-at}
 use Rattle.hep_state.proofs.Unchanged.{rooms-begun, rooms-set}
 use Rattle.hep_state.proofs.machine.Machine.call.Goals as goal
@@ -95,5 +96,6 @@ returns c =
             running = ap (λ (n : Machine). n.halted) begun.others;
             made = count;
             counted = omega (arith, ap (λ (n : Machine). n.activations) begun.others);
+            others = λ n z apart there. beside-set p new r numbers it kept number n z apart (beside-same p m (snapshot_of new) (λ i. stacks_of (same i) (count i)) n z apart there);
           };
     }

@@ -1,4 +1,4 @@
-use Rattle.std.proofs.Common.{true, ◌≡◌, ◌+◌, ◌≤◌, List, [], ◌∷◌, ◌++◌, length, reverse, sym, ap, ◌∙◌, subst, arith, slice_set, vec_capacity, vec_len}
+use Rattle.std.proofs.Common.{true, ◌≡◌, ◌+◌, ◌≤◌, List, [], ◌∷◌, ◌++◌, length, refl, reverse, sym, ap, ◌∙◌, subst, arith, slice_set, vec_capacity, vec_len}
 use Rattle.hep_machine.specs.Words.{with_numbered}
 use Rattle.hep_code.specs.Words.{deepest}
 use Rattle.hep_proc.specs.Nodes.{nodes_of}
@@ -7,9 +7,10 @@ use Rattle.hep_step.specs.declared.way.Way.TheVariants.{Creates}
 use Rattle.hep_proc.specs.declared.process.Local.{Local}
 use Rattle.hep_state.specs.declared.machine.Machine.{Machine}
 use Rattle.hep_proc.specs.declared.process.Process.{Process}
-use Rattle.hep_proc.specs.Stacks.{Stack, stack_of}
+use Rattle.hep_proc.specs.Stacks.{Stack, stack_of, stack_with}
 use Rattle.hep_state.specs.Words.{HasMadeTurn, HasRoom, entered_level, snapshot_made_by, snapshot_of, stacks_of, turn_of}
 use Rattle.hep_state.proofs.Begun.{made-shown}
+use Rattle.hep_state.proofs.Beside.{more-beside}
 use Rattle.hep_state.proofs.Numbered.{more-stacks}
 use Rattle.hep_state.proofs.Processes.{all-set, numbered-set, numbers-still, process-still, room-alone, room-moved, stacks-set, some-levels-at}
 use Rattle.hep_state.proofs.Unchanged.{rooms-begun, rooms-more}
@@ -83,4 +84,10 @@ returns c =
           let enough : deepest (unit_code program level.unit) ≤ vec_capacity made.operands = omega (arith, unit, deep) in
           rooms-more program cells new c.admit.new.self rest made added.added added.made next (ap (λ (n : Machine). n.passing) added.others) (numbered-set new p r numbers it number) others (room-alone program made level alone enough) had;
       made = added.made ∙ ap (λ n. n + 1) count;
+      others =
+          let e = c.requires.creating.4.making.levels in
+          let it = process-still old new p same count c.requires.numbers c.place-at.ensures e.kept c.index_mut.ensures.value in
+          let own = stacks-set new p r (stack_of r) numbers it number refl ∙ (λ i. with_numbered (stacks_of (same i) (count i)) p (stack_of r)) in
+          let stacks = (λ i. stacks_of (added.added i) (added.made i)) ∙ (more-stacks rest new.made made (stack_of made) (numbered-set new p r numbers it number) next refl ∙ ap (λ (ks : List Stack). ks ++ stack_of made ∷ []) own) in
+          more-beside p m.processes _ (stack_with e.level e.below e.operands e.pending) (stack_of r) (stack_of made) e.kept stacks;
     }

@@ -8,6 +8,7 @@ use Rattle.hep_proc.specs.declared.process.Process.{Process}
 use Rattle.hep_proc.specs.Stacks.{keys_of, Stack}
 use Rattle.hep_state.specs.Words.{HasMadeTurn, fault_at, snapshot_of, snapshot_failed, state_before, state_failed, turn_of}
 use Rattle.hep_state.proofs.Moved.{can-all-leave, can-leave, failed-ended, failed-shown, lead-upwards}
+use Rattle.hep_state.proofs.Beside.{beside-set}
 use Rattle.hep_state.proofs.Processes.{process-at, room-none, stacks-set, some-levels-at}
 use Rattle.hep_state.proofs.Unchanged.{rooms-set}
 use Rattle.hep_state.proofs.machine.Machine.fail.Goals as goal
@@ -54,3 +55,10 @@ returns-clause-rooms c program cells h =
     let r : Process = record c.index_mut-process.result.now { levels = c.leave_all.new.levels; operands = c.clear.new.self; pending = c.clear-2.new.self } in
     let it = process-at c.args.self.now c.args.p c.requires.ending.4 c.place-at.ensures c.requires.ending.3.levels.kept c.index_mut-process.ensures.value in
     rooms-set program cells c.args.self.now _ r it refl refl refl refl (room-none program r c.leave_all.ensures.none) h
+
+pub returns-clause-others : goal.returns-clause-others
+returns-clause-others c =
+    let r : Process = record c.index_mut-process.result.now { levels = c.leave_all.new.levels; operands = c.clear.new.self; pending = c.clear-2.new.self } in
+    let levels = c.requires.ending.3.levels in
+    let it = process-at c.args.self.now c.args.p c.requires.ending.4 c.place-at.ensures levels.kept c.index_mut-process.ensures.value in
+    beside-set c.args.p c.args.self.now r c.requires.ending.4 it levels.kept refl

@@ -7,6 +7,7 @@ use Rattle.hep_proc.specs.declared.process.Local.{Local}
 use Rattle.hep_proc.specs.Stacks.{Stack}
 use Rattle.hep_state.specs.Words.{HasMadeTurn, node_under, snapshot_of, snapshot_returned, state_before, state_returned, turn_of}
 use Rattle.hep_state.proofs.Moved.{kept-now, lead-upwards, returned-ended, returned-shown, top-node}
+use Rattle.hep_state.proofs.Beside.{beside-set}
 use Rattle.hep_state.proofs.Processes.{kept-set, process-at, room-fewer, stacks-set, some-levels-at}
 use Rattle.hep_state.proofs.Unchanged.{rooms-set}
 use Rattle.hep_state.proofs.machine.Machine.finish.Goals as goal
@@ -54,6 +55,12 @@ returns-clause-rooms c program cells h =
     rooms-set program cells c.args.self.now _ r it c.end_top-ended.ensures.number refl refl refl (
     room-fewer program q r c.end_top-ended.result c.end_top-ended.ensures.fewer (omega (arith, c.end_top-ended.ensures.capacity)) (h.room c.place-at.result q it.there)) h
 
+pub returns-clause-others : goal.returns-clause-others
+returns-clause-others c =
+    let levels = c.requires.3.levels in
+    let it = process-at c.args.self.now c.args.p c.requires.4 c.place-at.ensures levels.kept c.index_mut.ensures.value in
+    beside-set c.args.p c.args.self.now c.end_top-ended.new.self c.requires.4 it levels.kept c.end_top-ended.ensures.number
+
 pub returns-clause-lives : goal.returns-clause-lives
 returns-clause-lives c levels l ls below =
     let m = c.args.self.now in
@@ -66,4 +73,5 @@ returns-clause-lives c levels l ls below =
       running = refl;
       made = refl;
       counted = omega arith;
+      others = beside-set p m c.end_top-ended.new.self c.requires.4 it levels.kept c.end_top-ended.ensures.number;
     }

@@ -8,6 +8,7 @@ use Rattle.hep_proc.specs.Stacks.{operands_answered, pending_answered, Stack, st
 use Rattle.hep_proc.proofs.Levels.{last-there}
 use Rattle.hep_state.specs.Words.{HasMadeTurn, HasRoom, node_under, snapshot_answered, snapshot_of, state_answered, state_before, turn_of}
 use Rattle.hep_state.proofs.Moved.{answer-room, answered-ended, answered-shown, kept-now, lead-upwards, top-node}
+use Rattle.hep_state.proofs.Beside.{beside-set}
 use Rattle.hep_state.proofs.Processes.{kept-set, process-at, room-fewer, room-reserved, stacks-set, some-levels-at}
 use Rattle.hep_state.proofs.Unchanged.{rooms-set}
 use Rattle.hep_state.proofs.machine.Machine.hand_down.Goals.{After-end_top-ended}
@@ -82,6 +83,12 @@ returns-clause-rooms c program cells h =
     let fewer = room-fewer program q r c.end_top-ended.result c.end_top-ended.ensures.fewer (omega (arith, c.end_top-ended.ensures.capacity)) (h.room c.place-at.result q it.there) in
     rooms-set program cells c.args.self.now _ z it (c.take_value.ensures.number ∙ c.end_top-ended.ensures.number) refl refl refl (room-reserved program r z (λ i. (c.take_value.ensures.levels i).items) c.take_value.ensures.capacity fewer) h
 
+pub returns-clause-others : goal.returns-clause-others
+returns-clause-others c =
+    let levels = c.requires.3.levels in
+    let it = process-at c.args.self.now c.args.p c.requires.4.numbers c.place-at.ensures levels.kept c.index_mut-process.ensures.value in
+    beside-set c.args.p c.args.self.now c.take_value.new.self c.requires.4.numbers it levels.kept (c.take_value.ensures.number ∙ c.end_top-ended.ensures.number)
+
 pub returns-clause-lives : goal.returns-clause-lives
 returns-clause-lives c levels l ls below =
     let m = c.args.self.now in
@@ -102,4 +109,5 @@ returns-clause-lives c levels l ls below =
       running = refl;
       made = refl;
       counted = omega arith;
+      others = beside-set p m c.take_value.new.self c.requires.4.numbers it levels.kept (c.take_value.ensures.number ∙ c.end_top-ended.ensures.number);
     }

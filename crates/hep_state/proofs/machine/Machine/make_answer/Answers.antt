@@ -37,5 +37,5 @@ returns c =
           turned-so program cells choices c.args.p c.hand_down.new.self (answer-untouched c.requires.at known h.after r.running)
           (c.hand_down.ensures.stepped program cells choices (c.in-Ok.ensures.value cells choices h))
           (c.hand_down.ensures.rooms program cells (rooms-of program cells choices old h));
-      lives = record { living = lives.living; running = lives.running; made = lives.made; counted = omega (arith, lives.counted) };
+      lives = record { living = lives.living; running = lives.running; made = lives.made; counted = omega (arith, lives.counted); others = lives.others };
     }

@@ -38,5 +38,5 @@ returns c =
           turned-so program cells choices c.args.p c.finish.new.self (untouched-there at laws h.after r.running)
           (c.finish.ensures.stepped program cells choices (ends-there at laws h.after r.running))
           (c.finish.ensures.rooms program cells (rooms-of program cells choices old h));
-      lives = record { living = lives.living; running = lives.running; made = lives.made; counted = omega (arith, lives.counted) };
+      lives = record { living = lives.living; running = lives.running; made = lives.made; counted = omega (arith, lives.counted); others = lives.others };
     }

@@ -8,6 +8,7 @@ use Rattle.hep_proc.specs.declared.frames.Frames.{Frames}
 use Rattle.hep_state.specs.declared.machine.Machine.{Machine}
 use Rattle.hep_state.specs.declared.machine.Passing.{Passing}
 use Rattle.hep_state.specs.Words.{HasLevels, HasMadeTurn, HasPurged, HasRoomToPass, Snapshot, snapshot_of, IsToEnd, snapshot_moved, turn_of}
+use Rattle.hep_state.proofs.Beside.{beside-again, beside-shown, beside-with}
 use Rattle.hep_state.proofs.Purging.{reached-alike}
 use Rattle.hep_state.proofs.Unchanged.{machine-of, rooms-of}
 use Rattle.hep_state.proofs.machine.Machine.purge.Goals as goal
@@ -95,3 +96,22 @@ fail-requires-clause-ending c =
       subst (λ (n : Snapshot). IsToEnd c.args.image.now at.0 at.1 c.args.p n (fails c.args.purge.line c.in-Err.kind)) (sym same) (c.in-Err.ensures.fault at.0 at.1 at.3),
       (c.in-Err.ensures.rooms at.0 (rooms-of c.args.image.now at.0 at.1 c.args.self.now at.2)).numbers,
     )
+
+pub returns-in-Ok-clause-others : goal.returns-in-Ok-clause-others
+returns-in-Ok-clause-others c =
+    let p = c.args.p in
+    let old = snapshot_of c.args.self.now in
+    let between = snapshot_of c.find_targets.new.self in
+    let same : between ≡ old = ap snapshot_of c.in-Ok.ensures.others in
+    let e = c.requires.at.3.levels in
+    let levels : HasLevels between p = record { level = e.level; below = e.below; operands = e.operands; pending = e.pending; kept = ap (λ (s : Snapshot). numbered s.processes p) same ∙ e.kept } in
+    beside-again p old between (snapshot_of c.empty_targets.new.self) (beside-shown p old between same) (
+    beside-with p between (snapshot_of c.empty_targets.new.self) (stack_with e.level e.below e.operands e.pending) (stack_with (record e.level { index = c.args.purge.next }) e.below [] e.pending) levels.kept (
+    ap (λ (s : Snapshot). s.processes) (c.empty_targets.ensures.moved levels)))
+
+pub returns-in-Err-clause-others : goal.returns-in-Err-clause-others
+returns-in-Err-clause-others c =
+    let p = c.args.p in
+    let old = snapshot_of c.args.self.now in
+    let between = snapshot_of c.find_targets.new.self in
+    beside-again p old between (snapshot_of c.fail.new.self) (beside-shown p old between (ap snapshot_of c.in-Err.ensures.others)) c.fail.ensures.others

@@ -86,6 +86,6 @@ returns c =
           machine-of program cells choices _ (subst (IsAfter program cells choices) (sym shown) (settled turn.1 s.1 s.0 s.3.stands).after) (
           rooms-set program cells old _ r it c.settle_top.ensures.same.number refl refl refl (room-moved program q r l s.0 ls vs s.1 ws it.stack s.2 c.settle_top.ensures.same.room (h.room c.place-at.result q it.there)) (rooms-of program cells choices old h));
       same = record { arena = refl; nodes = refl; processes = ap length stacks ∙ length-set m.processes (p - 1) k; activations = refl; records = refl; faults = refl; halted = refl };
-      top = top-settled p program m _ e s.1 s.0 shown s.3;
+      top = top-settled p program m _ e s.1 s.0 shown s.3 s.4;
       living = subst (λ (n : Snapshot). HasLevels n p) (sym shown) levels;
     }

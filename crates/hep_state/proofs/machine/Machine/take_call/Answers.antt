@@ -12,6 +12,7 @@ use Rattle.hep_state.specs.declared.calling.Called.{Called}
 use Rattle.hep_state.specs.declared.machine.Machine.{Machine}
 use Rattle.hep_state.specs.Words.{AreNumbered, HasStepped, HoldsInTurn, IsAtCallAhead, IsMaking, IsTurn, IsUnit, IsUntaken, LeavesAlone, Makes, ShowsSame, Changes, HaveRoom, Snapshot, snapshot_of, IsToEnd, HasGaps, cells_of, turn_of}
 use Rattle.hep_state.specs.declared.turn.Turned.TheVariants.{Stepped}
+use Rattle.hep_state.proofs.Beside.{beside-again, beside-shown}
 use Rattle.hep_state.proofs.Given.{can-begin, stepped-given}
 use Rattle.hep_state.proofs.Unchanged.{alone, carry, on-err, rooms-of, rooms-written, shown-written, turned-so, without-memory}
 use Rattle.hep_state.proofs.machine.Machine.take_call.Goals.{After-fits, After-reserve}
@@ -254,3 +255,24 @@ returns-in_ok-process-clause-turned c =
     let same = c.reserve_creation.ensures.same in
     taken before new same c.create.new.self (c.create.ensures.stepped (program before) (cells before) (choices before) c.in-Ok.kept (making before new same Creates (creation c.args.call.way (sym c.creates.ensures ∙ c.if-creates.true))))
     (c.create.ensures.rooms (program before) (cells before) (rooms before new same) (omega (arith, deep before, c.in_ok-process.ensures.made.operands)))
+
+-- ---- the others stand where they stood
+
+pub returns-in-Err-clause-rest : goal.returns-in-Err-clause-rest
+returns-in-Err-clause-rest c =
+    let before = (goal.at.returns-in-Err-clause-rest c).After-reserve in
+    let old = snapshot_of c.args.self.now in
+    let reserved = snapshot_of c.reserve.new.self in
+    beside-again c.args.p old reserved (snapshot_of c.fail.new.self) (beside-shown c.args.p old reserved (reserved-shown before)) c.fail.ensures.others
+
+pub returns-in_ok-begin_call-clause-rest : goal.returns-in_ok-begin_call-clause-rest
+returns-in_ok-begin_call-clause-rest c =
+    let before = (goal.at.returns-in_ok-begin_call-clause-rest c).After-fits in
+    (stepped-given (at-call before) c.give.ensures.others c.give.ensures.rooms c.begin_call.new.self c.in_ok-begin_call.ensures.made).lives.others
+
+pub returns-in_ok-process-clause-rest : goal.returns-in_ok-process-clause-rest
+returns-in_ok-process-clause-rest c =
+    let before = (goal.at.returns-in_ok-process-clause-rest c).After-fits in
+    let old = snapshot_of c.args.self.now in
+    let new = c.reserve_creation.new.self in
+    beside-again c.args.p old (snapshot_of new) (snapshot_of c.create.new.self) (beside-shown c.args.p old (snapshot_of new) (shown before new c.reserve_creation.ensures.same)) c.create.ensures.others

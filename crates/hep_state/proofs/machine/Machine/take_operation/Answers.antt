@@ -1,7 +1,9 @@
 use Rattle.std.proofs.Common.{◌≡◌, ℕ, List, [], ◌∷◌, ◌++◌, ◌∙◌, ap, subst, sym}
 use Rattle.hep_machine.specs.Words.{schedule_of}
-use Rattle.hep_state.specs.Words.{Changes, HaveRoom, IsWithoutCall, IsMachineAfter, Snapshot, cells_of, snapshot_of}
-use Rattle.hep_state.proofs.Unchanged.{alone, machine-of, machine-written, on-err, rooms-of, shown-written}
+use Rattle.hep_step.specs.declared.effect.Effect.{Effect}
+use Rattle.hep_state.specs.Words.{Changes, HaveRoom, IsWithoutCall, IsMachineAfter, Snapshot, StaysWaiting, cells_of, snapshot_of}
+use Rattle.hep_state.proofs.Beside.{beside-again, beside-shown}
+use Rattle.hep_state.proofs.Unchanged.{alone, machine-of, machine-written, on-err, rooms-of, shown-written, top-shown}
 use Rattle.hep_state.proofs.machine.Machine.take_operation.Goals.{After-reserve}
 use Rattle.hep_state.proofs.machine.Machine.take_operation.Goals as goal
 
@@ -56,6 +58,12 @@ returns-in-Some-clause-turned c =
     let rooms = c.end_turn.ensures.rooms program (cells before) (c.advance.ensures.kept.rooms (cells before) (reserved-rooms before)) in
     (waited, machine-of program (cells before) (choices before) c.end_turn.new.self waited.after rooms)
 
+pub returns-in-Some-clause-rest : goal.returns-in-Some-clause-rest
+returns-in-Some-clause-rest c =
+    let before = (goal.at.returns-in-Some-clause-rest c).After-reserve in
+    let stays = subst (λ (e : Effect). StaysWaiting e (snapshot_of c.reserve.new.self) (snapshot_of c.advance.new.self)) c.in-Some.ensures.waits.0 c.in_ok-effect.ensures.waits in
+    top-shown c.args.p c.args.image.now (snapshot_of c.args.self.now) (snapshot_of c.end_turn.new.self) (ap snapshot_of c.in-Some.ensures.waits.1 ∙ stays ∙ reserved-shown before)
+
 pub returns-in-None-clause-turned : goal.returns-in-None-clause-turned
 returns-in-None-clause-turned c =
     let program = c.args.image.now in
@@ -67,3 +75,13 @@ returns-in-None-clause-turned c =
       machine-of program (cells before) (choices before ++ p ∷ []) c.end_turn.new.self stepped.after rooms,
       subst (Changes program (cells before) (choices before) p) (sym c.changed-changed.ensures) (c.in_ok-effect.ensures.changed (cells before) (choices before) (reserved before)),
     )
+
+pub returns-in-None-clause-rest : goal.returns-in-None-clause-rest
+returns-in-None-clause-rest c =
+    let before = (goal.at.returns-in-None-clause-rest c).After-reserve in
+    let p = c.args.p in
+    let old = snapshot_of c.args.self.now in
+    let reserved = snapshot_of c.reserve.new.self in
+    let advanced = snapshot_of c.advance.new.self in
+    let new = snapshot_of c.end_turn.new.self in
+    beside-again p old advanced new (beside-again p old reserved advanced (beside-shown p old reserved (reserved-shown before)) c.advance.ensures.others) c.end_turn.ensures.others

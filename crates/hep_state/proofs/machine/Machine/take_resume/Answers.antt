@@ -6,6 +6,7 @@ use Rattle.hep_step.specs.Simulation.{unit_code}
 use Rattle.hep_proc.specs.declared.process.Local.{Local}
 use Rattle.hep_proc.specs.Stacks.{stack_with}
 use Rattle.hep_state.specs.Words.{cells_of, HasLevels, HasStepped, Snapshot, snapshot_moved, snapshot_of, snapshot_parted, turn_of}
+use Rattle.hep_state.proofs.Beside.{beside-again, beside-set, beside-shown, more-beside}
 use Rattle.hep_state.proofs.Processes.{counted, none-by, process-at, room-moved, some-by, some-levels-at, stacks-set}
 use Rattle.hep_state.proofs.Taken.{inside}
 use Rattle.hep_state.proofs.Unchanged.{alone, on-err, rooms-of, rooms-set, turned-so}
@@ -105,3 +106,29 @@ returns-clause-turned c =
     turned-so program cells choices p c.part.new.self (c.resumes_are_shown.ensures.nothing t c.args.next c.is_runnable.ensures.accepted c.is_runnable.ensures.main at.holds)
     (subst (HasStepped program cells choices p) (sym parted) made)
     (c.part.ensures.rooms program cells (c.reserve_process.ensures.same.rooms program cells (rooms-of program cells choices old h)) levels deep)
+
+-- ---- the others stand where they stood
+
+pub returns-then-len-eq1-clause-others : goal.returns-then-len-eq1-clause-others
+returns-then-len-eq1-clause-others c =
+    let levels = c.requires.at.levels in
+    let it = process-at c.args.self.now c.args.p c.requires.after.numbers c.place-at.ensures levels.kept c.index_mut.ensures.value in
+    beside-set c.args.p c.args.self.now c.stand_at.new.self c.requires.after.numbers it levels.kept c.stand_at.ensures.number
+
+pub returns-in_err-reserve-clause-others : goal.returns-in_err-reserve-clause-others
+returns-in_err-reserve-clause-others c = beside-shown c.args.p (snapshot_of c.args.self.now) (snapshot_of c.args.self.now) refl
+
+pub returns-in_err-process-clause-others : goal.returns-in_err-process-clause-others
+returns-in_err-process-clause-others c = beside-shown c.args.p (snapshot_of c.args.self.now) (snapshot_of c.reserve_process.new.self) c.reserve_process.ensures.same.shown
+
+pub returns-clause-others : goal.returns-clause-others
+returns-clause-others c =
+    let p = c.args.p in
+    let old = snapshot_of c.args.self.now in
+    let new = snapshot_of c.reserve_process.new.self in
+    let shown = c.reserve_process.ensures.same.shown in
+    let e = c.requires.at.levels in
+    let levels : HasLevels new p = record { level = e.level; below = e.below; operands = e.operands; pending = e.pending; kept = ap (λ (s : Snapshot). numbered s.processes p) shown ∙ e.kept } in
+    beside-again p old new (snapshot_of c.part.new.self) (beside-shown p old new shown) (
+    more-beside p new.processes (snapshot_of c.part.new.self).processes (stack_with e.level e.below e.operands e.pending) (record { levels = e.below; operands = []; pending = e.pending }) (record { levels = record e.level { index = c.args.next } ∷ []; operands = []; pending = [] }) levels.kept (
+    ap (λ (s : Snapshot). s.processes) (c.part.ensures.parted levels)))

@@ -6,7 +6,8 @@ use Rattle.hep_step.specs.Effects.{returns}
 use Rattle.hep_state.specs.declared.machine.Machine.{Machine}
 use Rattle.hep_state.specs.declared.turn.Turned.{Turned}
 use Rattle.hep_state.specs.declared.turn.Turned.TheVariants.{Stepped}
-use Rattle.hep_state.specs.Words.{Changes, HasCallAhead, HasLevels, HasPurgeAhead, HasResumeAhead, HasTurned, IsAtAnswer, IsAtReturn, IsMachineAfter, IsSeenSame, IsToEnd, IsTurn, IsUntaken, IsUnturned, KeepsRollFor, LeavesAlone, Snapshot, cells_of, snapshot_of, turn_of}
+use Rattle.hep_state.specs.Words.{Changes, HasCallAhead, HasLevels, HasPurgeAhead, HasResumeAhead, HasTurned, IsAtAnswer, IsAtReturn, IsMachineAfter, IsSameButTop, IsSeenSame, IsToEnd, IsTurn, IsUntaken, IsUnturned, KeepsRollFor, LeavesAlone, LeavesOthers, LeavesRest, Snapshot, cells_of, snapshot_of, turn_of}
+use Rattle.hep_state.proofs.Beside.{beside-again, beside-shown, beside-top, rest-again}
 use Rattle.hep_state.proofs.Returning.{IsRunningAlways, ends-there, running-always, untouched-there}
 use Rattle.hep_state.proofs.Unchanged.{alone-after, as-large, machine-written, on-err, own-size, rooms-of, seen-again, seen-shown, settled-same, shown-written, top-again, top-shown, without-memory, as-many, turned-so}
 use Rattle.hep_state.proofs.machine.Machine.turn.Goals.{After-reserve, After-step_ahead}
@@ -116,7 +117,7 @@ module _ (c : After-step_ahead) (new : Machine) (others : new ≡ record c.step_
       record {
         after = reserved;
         same = reserved-same;
-        top = top-again c.args.p (snapshot_of c.args.self.now) mid (snapshot_of new) (settled-same c.args.p c.args.image.now (snapshot_of c.args.self.now) mid c.step_ahead.ensures.top) (top-shown c.args.p mid (snapshot_of new) reserved-shown);
+        top = top-again c.args.p c.args.image.now (snapshot_of c.args.self.now) mid (snapshot_of new) (settled-same c.args.p c.args.image.now (snapshot_of c.args.self.now) mid c.step_ahead.ensures.top) (top-shown c.args.p c.args.image.now mid (snapshot_of new) reserved-shown);
         made = as-many c.args.self.now new reserved-same;
       }
 
@@ -290,3 +291,52 @@ returns-in_err-reserve-in-Answer-clause-roster c =
 pub returns-in_ok-reserve-in-Answer-clause-roster : goal.returns-in_ok-reserve-in-Answer-clause-roster
 returns-in_ok-reserve-in-Answer-clause-roster c =
     kept-for c.take_answer.new.self c.args.roster.now (omega (arith, c.requires.numbers, as-many c.args.self.now c.step_ahead.new.self c.in-Answer.ensures.same, ap (λ (m : Machine). m.made) c.reserve-in-Answer.ensures.others, c.take_answer.ensures.made))
+
+-- ---- the others stand where they stood
+
+module _ (c : After-step_ahead) where
+  -- where it was looked what is ahead
+  settled-top : IsSameButTop c.args.image.now c.args.p (snapshot_of c.args.self.now) (snapshot_of (between c))
+  settled-top = settled-same c.args.p c.args.image.now (snapshot_of c.args.self.now) (snapshot_of (between c)) c.step_ahead.ensures.top
+
+  beside-looked : (new : Snapshot) → LeavesOthers c.args.p (snapshot_of (between c)) new → LeavesOthers c.args.p (snapshot_of c.args.self.now) new
+  beside-looked new h =
+      let old = snapshot_of c.args.self.now in
+      let mid = snapshot_of (between c) in
+      beside-again c.args.p old mid new (beside-top c.args.p c.args.image.now old mid c.requires.living settled-top) h
+
+  rest-looked : (turned : Turned) (new : Snapshot) → LeavesRest turned c.args.image.now c.args.p (snapshot_of (between c)) new → LeavesRest turned c.args.image.now c.args.p (snapshot_of c.args.self.now) new
+  rest-looked turned new h = rest-again c.args.image.now c.args.p turned (snapshot_of c.args.self.now) (snapshot_of (between c)) new c.requires.living settled-top h
+
+  -- and room was made
+  beside-reserved : (room : Machine) → room ≡ record c.step_ahead.new.self { records = room.records; faults = room.faults } → (room.records.items ≡ c.step_ahead.new.self.records.items) × (room.faults.items ≡ c.step_ahead.new.self.faults.items)
+      → (new : Snapshot) → LeavesOthers c.args.p (snapshot_of room) new → LeavesOthers c.args.p (snapshot_of c.args.self.now) new
+  beside-reserved room others written new h =
+      let mid = snapshot_of (between c) in
+      beside-looked new (beside-again c.args.p mid (snapshot_of room) new (beside-shown c.args.p mid (snapshot_of room) (reserved-shown c room others written)) h)
+
+pub returns-in-Call-clause-rest : goal.returns-in-Call-clause-rest
+returns-in-Call-clause-rest c =
+    let before = (goal.at.returns-in-Call-clause-rest c).After-step_ahead in
+    IfOk-weaker c.take_call.result _ _ (λ t told. rest-looked before t (snapshot_of c.take_call.new.self) told) c.take_call.ensures.rest
+
+pub returns-in_ok-take_operation-in-Other-clause-rest : goal.returns-in_ok-take_operation-in-Other-clause-rest
+returns-in_ok-take_operation-in-Other-clause-rest c =
+    rest-looked (goal.at.returns-in_ok-take_operation-in-Other-clause-rest c).After-step_ahead _ (snapshot_of c.take_operation.new.self) c.in_ok-take_operation-in-Other.ensures.rest
+
+pub returns-in_ok-reserve-in-Purge-clause-rest : goal.returns-in_ok-reserve-in-Purge-clause-rest
+returns-in_ok-reserve-in-Purge-clause-rest c =
+    beside-reserved (goal.at.returns-in_ok-reserve-in-Purge-clause-rest c).After-step_ahead c.reserve.new.self c.reserve.ensures.others c.reserve.ensures.written (snapshot_of c.purge.new.self) c.purge.ensures.others
+
+pub returns-in_ok-reserve-in-Answer-clause-rest : goal.returns-in_ok-reserve-in-Answer-clause-rest
+returns-in_ok-reserve-in-Answer-clause-rest c =
+    let r = c.reserve-in-Answer in
+    beside-reserved (goal.at.returns-in_ok-reserve-in-Answer-clause-rest c).After-step_ahead r.new.self r.ensures.others r.ensures.written (snapshot_of c.take_answer.new.self) c.take_answer.ensures.others
+
+pub returns-in_ok-take_resume-in-Resume-clause-rest : goal.returns-in_ok-take_resume-in-Resume-clause-rest
+returns-in_ok-take_resume-in-Resume-clause-rest c =
+    beside-looked (goal.at.returns-in_ok-take_resume-in-Resume-clause-rest c).After-step_ahead (snapshot_of c.take_resume.new.self) c.take_resume.ensures.others
+
+pub returns-in_ok-reserve-in-Return-clause-rest : goal.returns-in_ok-reserve-in-Return-clause-rest
+returns-in_ok-reserve-in-Return-clause-rest c =
+    beside-looked (goal.at.returns-in_ok-reserve-in-Return-clause-rest c).After-step_ahead (snapshot_of c.finish.new.self) c.finish.ensures.others

@@ -1,10 +1,11 @@
 use Rattle.std.proofs.Common.{◌≡◌, ◌+◌, ◌-◌, ◌<◌, true, false, refl, sym, ap, ◌∙◌, subst, arith}
-use Rattle.hep_state.specs.Words.{HasLivedOn, Snapshot, StaysShown, StepsOn}
+use Rattle.hep_state.specs.Words.{HasLivedOn, LeavesOthers, Snapshot, StaysShown, StepsOn, snapshot_of}
+use Rattle.hep_state.proofs.Beside.{beside-again, beside-shown}
 use Rattle.hep_state.proofs.Unchanged.{machine-reserved}
 use Rattle.hep_going.specs.Gone.{HasNoMoveAhead, MakesMoves}
 use Rattle.hep_going.proofs.Onward.{more-made, none-made, one-made}
-use Rattle.hep_going.proofs.going.go_on.Goals.{After-move_on-made, After-turn_plainly}
-use Rattle.hep_going.proofs.going.go_on.Goals as goal
+use Rattle.hep_going.proofs.going.go_along.Goals.{After-move_on-made, After-turn_plainly}
+use Rattle.hep_going.proofs.going.go_along.Goals as goal
 
 pub loop-made-init : goal.loop-made-init
 loop-made-init c =
@@ -15,6 +16,7 @@ loop-made-init c =
       same = refl;
       counted = omega arith;
       few = omega arith;
+      others = beside-shown c.args.p (snapshot_of c.args.machine.now) (snapshot_of c.args.machine.now) refl;
     }
 
 pub move_on-made-requires : goal.move_on-made-requires
@@ -27,6 +29,11 @@ move_on-made-requires c =
 -- so many turns, with those that only moved it
 moved : (c : After-move_on-made) → MakesMoves c.args.tabled.now.image.now c.args.p c.args.machine.now (c.loop-made.made + c.move_on-made.result) c.move_on-made.new.machine
 moved c = more-made c.args.tabled.now.image.now c.args.p c.args.machine.now c.loop-made.machine c.move_on-made.new.machine c.loop-made.made c.move_on-made.result c.loop-made.invariant.gone c.move_on-made.ensures.gone
+
+-- the others stand where they stood
+beside-moved : (c : After-move_on-made) → LeavesOthers c.args.p (snapshot_of c.args.machine.now) (snapshot_of c.move_on-made.new.machine)
+beside-moved c =
+    beside-again c.args.p (snapshot_of c.args.machine.now) (snapshot_of c.loop-made.machine) (snapshot_of c.move_on-made.new.machine) c.loop-made.invariant.others c.move_on-made.ensures.lives.others
 
 -- the turn that comes next, in front of which no value stands
 pub turn_plainly-requires : goal.turn_plainly-requires
@@ -60,6 +67,17 @@ returns-then-made-most-clause-made c = c.move_on-made.ensures.lives.made ∙ c.l
 
 pub returns-then-made-most-clause-halted : goal.returns-then-made-most-clause-halted
 returns-then-made-most-clause-halted c = c.move_on-made.ensures.lives.running ∙ c.loop-made.invariant.running
+
+pub returns-then-made-most-clause-others : goal.returns-then-made-most-clause-others
+returns-then-made-most-clause-others c = beside-moved (goal.at.returns-then-made-most-clause-others c).After-move_on-made
+
+pub returns-then-not-turn_plainly-clause-others : goal.returns-then-not-turn_plainly-clause-others
+returns-then-not-turn_plainly-clause-others c =
+    let turned = (goal.at.returns-then-not-turn_plainly-clause-others c).After-turn_plainly in
+    let before = (goal.at.After-turn_plainly turned).After-move_on-made in
+    let stays = stayed turned c.if-not-turn_plainly.true in
+    let mid = snapshot_of c.move_on-made.new.machine in
+    beside-again c.args.p (snapshot_of c.args.machine.now) mid (snapshot_of c.turn_plainly.new.self) (beside-moved before) (beside-shown c.args.p mid (snapshot_of c.turn_plainly.new.self) stays.shown)
 
 pub returns-then-not-turn_plainly-clause-gone : goal.returns-then-not-turn_plainly-clause-gone
 returns-then-not-turn_plainly-clause-gone c cells choices h =
@@ -99,6 +117,7 @@ loop-made-preserved c =
       same = steps.lives.made ∙ (lives.made ∙ inv.same);
       counted = omega (arith, steps.lives.counted, lives.counted, inv.counted);
       few = omega (arith, c.move_on-made.ensures.few, c.loop-made-test.true, c.if-made-most.false);
+      others = beside-again c.args.p (snapshot_of c.args.machine.now) (snapshot_of c.move_on-made.new.machine) (snapshot_of c.turn_plainly.new.self) (beside-moved before) steps.lives.others;
     }
 
 -- ---- as many as were asked for
@@ -114,3 +133,6 @@ returns-clause-made c = c.loop-made.invariant.same
 
 pub returns-clause-halted : goal.returns-clause-halted
 returns-clause-halted c = c.loop-made.invariant.running
+
+pub returns-clause-others : goal.returns-clause-others
+returns-clause-others c = c.loop-made.invariant.others

@@ -1,7 +1,7 @@
 use Rattle.std.proofs.Common.{◌≡◌, ◌+◌, ◌-◌, ◌≤◌, false}
-use Rattle.hep_state.specs.Words.{HasLevels, snapshot_of}
+use Rattle.hep_state.specs.Words.{HasLevels, LeavesOthers, snapshot_of}
 use Rattle.hep_going.specs.Gone.{MakesMoves}
-use Rattle.hep_going.proofs.going.go_on.Given as goal
+use Rattle.hep_going.proofs.going.go_along.Given as goal
 
 abbrev pub invariant-loop-made : goal.invariant-loop-made
 invariant-loop-made l =
@@ -12,6 +12,7 @@ invariant-loop-made l =
       same : l.machine.made ≡ l.fn.machine.made;
       counted : l.machine.activations ≤ l.fn.machine.activations + l.made;
       few : l.made ≤ l.most;
+      others : LeavesOthers l.p (snapshot_of l.fn.machine) (snapshot_of l.machine);
     }
 
 abbrev pub decreases-loop-made : goal.decreases-loop-made

@@ -1,0 +1,62 @@
+-- Where the processes of a core are in the machine that it has: docs/MACHINE.md, "Private steps" and "Workers".
+use Rattle.std.specs.Prelude.{◌≡◌, ◌<◌, ℕ, List, [], ◌∷◌, length, map, Option, Some, None}
+use Rattle.hep_machine.specs.Words.{Value, Units, numbered}
+use Rattle.hep_machine.specs.declared.slot.Slot.{Slot}
+use Rattle.hep_code.specs.declared.instruction.Instruction.{Instruction}
+use Rattle.hep_code.specs.Words.{IsPastPushes, left_to_do}
+use Rattle.hep_layout.specs.Words.{Nodes}
+use Rattle.hep_step.specs.Simulation.{unit_code}
+use Rattle.hep_private.specs.Own.{values_at}
+use Rattle.hep_proc.specs.declared.process.Local.{Local}
+use Rattle.hep_proc.specs.Stacks.{Stack}
+use Rattle.hep_segments.specs.Segments.{Start}
+use Rattle.hep_state.specs.Words.{Snapshot, frame_under}
+use Rattle.hep_core.specs.Value.{CoreValue}
+
+-- the unit that the top activation of a process runs; what is to be done in the unit's code, in front of which its operands stand as constants; the
+-- cells of the arena; and the first one of its frame
+pub record Place : Type 0 where
+  pub unit : ℕ
+  pub left : List Instruction
+  pub contents : List Slot
+  pub first : ℕ
+
+-- ---- in a machine
+
+abbrev pub place_on : Units → List Slot → Nodes → List Value → List Local → Option Place
+place_on program contents nodes operands [] = None
+place_on program contents nodes operands (l ∷ ls) =
+    Some (
+    record {
+      unit = l.unit;
+      left = left_to_do operands l.index (unit_code program l.unit);
+      contents = contents;
+      first = (frame_under nodes l.key).first;
+    })
+
+-- that of each process, by its number
+abbrev pub places_of : Units → Snapshot → List (Option Place)
+places_of program m = map (λ (k : Stack). place_on program m.arena.contents m.nodes k.operands k.levels) m.processes
+
+-- it is at this start: no constant stands ahead that is yet to be an operand, and an operation does
+pub record IsHere (program : Units) (place : Place) (start : Start) : Type 0 where
+  pub unit : start.unit ≡ place.unit
+  pub left : left_to_do start.operands start.index (unit_code program start.unit) ≡ place.left
+  pub values : start.values ≡ values_at place.contents place.first
+  pub past : IsPastPushes (unit_code program start.unit) start.index
+  pub inside : start.index < length (unit_code program start.unit)
+
+-- ---- cores
+
+-- a core, and where its processes are
+pub record Placed : Type 0 where
+  pub core : CoreValue
+  pub places : List (Option Place)
+
+-- another core, with processes where they were
+abbrev pub with_core : Placed → CoreValue → Placed
+with_core old core = record old { core = core }
+
+-- process p is at this start
+abbrev pub IsWhere : Placed → ℕ → Start → Type 0
+IsWhere old p start = (place : Place) × (numbered old.places p ≡ Some (Some place)) × IsHere old.core.program place start

@@ -1,0 +1,55 @@
+-- A commit has one entry more, and one that is refused leaves the history.
+use Rattle.std.proofs.Common.{◌≡◌, ℕ, zero, suc, Bool, true, false, List, [], ◌∷◌, ◌++◌, length, Result, Ok, Err, IsErr, IfErr, OnErr, inl, inr, ap, subst, sym, ◌∙◌}
+use Rattle.std.specs.Result.{IsErrAnd}
+use Rattle.std.proofs.lemmas.Result.{err_from_is_err_and}
+use Rattle.hep_core.specs.Commits.{IsCommitted, IsTakenBy, core_after_return}
+use Rattle.hep_core.specs.Places.{Placed}
+use Rattle.hep_core.specs.Value.{CoreValue, IsTurn}
+use Rattle.hep_core.specs.declared.fault.CommitFault.{CommitFault}
+use Rattle.hep_core.specs.declared.fault.CommitFault.TheVariants.{NoMemory, Stale, Stopped}
+use Rattle.hep_core.specs.declared.stop.Turn.{Turn}
+use Rattle.hep_machine.specs.declared.event.Entry.{Entry}
+use Rattle.hep_private.specs.declared.record.Record.{Record}
+use Rattle.hep_segments.specs.Segments.{SegmentValue, Start}
+
+-- ---- one entry more
+
+abbrev HasEntry : CoreValue → ℕ → ℕ → CoreValue → Type 0
+HasEntry old p n new = new.history ≡ old.history ++ record { process = p; steps = n } ∷ []
+
+by-turn : (old : CoreValue) (p n : ℕ) (blocked : Bool) (new : CoreValue) → IsTurn old p n blocked new → HasEntry old p n new
+by-turn old p zero true new t = ap (λ (c : CoreValue). c.history) t.1
+by-turn old p zero false new t = absurd t
+by-turn old p (suc zero) true new t = absurd t
+by-turn old p (suc zero) false new t = ap (λ (c : CoreValue). c.history) t.2
+by-turn old p (suc (suc n)) blocked new t = absurd t
+
+by-steps : (rs : List Record) (old : CoreValue) (start : Start) (s : SegmentValue) (turn : Turn) (new : CoreValue) → IsTakenBy rs old start s turn new
+    → HasEntry old s.id.process turn.steps new
+by-steps [] old start s turn new chosen = by-turn old s.id.process turn.steps turn.blocked new chosen.3
+by-steps (r ∷ rs) old start s turn new (room, going, inl (many, other, made)) =
+    subst (λ n. HasEntry old s.id.process n new) (sym many) (ap (λ (c : CoreValue). c.history) made.1)
+by-steps (r ∷ rs) old start s turn new (room, going, inr (many, made, left)) =
+    subst (λ n. HasEntry old s.id.process n new) (sym many) (ap (λ (c : CoreValue). c.history) made.1)
+
+module _ (old new : Placed) (s : SegmentValue) where
+  pub one-entry : (turn : Turn) → IsCommitted old s (Ok turn) new → HasEntry old.core s.id.process turn.steps new.core
+  one-entry turn (start, good, taken) = by-steps s.records (core_after_return old.core s.id.process) start s turn new.core taken
+
+  -- ---- no entry
+
+  pub no-entry : (fault : CommitFault) → IsCommitted old s (Err fault) new → new.core.history ≡ old.core.history
+  no-entry (Stopped stop) (inl (at, same)) = ap (λ (x : Placed). x.core.history) same
+  no-entry (Stopped stop) (inr (inl (good, full, at, same))) = ap (λ (x : Placed). x.core.history) same
+  no-entry (Stopped stop) (inr (inr (good, room, none, gap, at, same))) = ap (λ (x : Placed). x.core.history) same
+  no-entry Stale (going, bad, same) = ap (λ (x : Placed). x.core.history) same
+  no-entry NoMemory (good, room, gap, same) = ap (λ (x : Placed). x.core.history) same
+
+-- ---- faults that are passed on
+
+pub fault-so : {A E : Type 0} (r : Result A E) (e : E) (IsSo : E → Type 0) → IsErrAnd r (λ x. x ≡ e) → IsSo e → IfErr r IsSo
+fault-so r e IsSo h given = let told = err_from_is_err_and r h in subst (λ x. IfErr x IsSo) (sym (told.1 ∙ ap Err told.2)) given
+
+pub err-so : {A E P : Type 0} (r : Result A E) → IsErr r → P → OnErr r P
+err-so (Err e) h given = given
+err-so (Ok x) h given = absurd cc
