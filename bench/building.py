@@ -23,8 +23,8 @@ def libraries(lines, name):
 
 def copied(folder, name, below):
     """Makes a repository of the program and the crates that it needs, and returns the program's crate."""
-    rows = (row.split(":") for row in (ROOT / "crates.txt").read_text().splitlines() if ":" in row)
-    lines = {crate.strip(): rest.split() for crate, rest in rows if not crate.startswith("#")}
+    rows = (row.partition(":") for row in (ROOT / "crates.txt").read_text().splitlines() if ":" in row and not row.startswith("#"))
+    lines = {crate.strip(): rest.split() for crate, _, rest in rows}
     needed = {}
     for crate in below:
         needed |= libraries(lines, crate)
