@@ -12,7 +12,7 @@ _hepf() {
     [[ $before != = ]] || before=${COMP_WORDS[COMP_CWORD - 2]}
     [[ $word != = ]] || word=
     case $before in
-        --arena | --at | --steps | --workers | --seed | --runs) return ;;
+        --arena | --at | --from | --to | --process | --cell | --steps | --workers | --seed | --runs) return ;;
         --choices | --history | --keep)
             _hepf_offer -f
             return
@@ -22,7 +22,7 @@ _hepf() {
     local at=1
     [[ ${COMP_WORDS[1]} != --long ]] || at=2
     if ((COMP_CWORD <= at)); then
-        _hepf_offer -W "check run sample replay state why cover list explain help --long --help --version"
+        _hepf_offer -W "check run sample replay state trace why cover diff list explain help --long --help --version"
         return
     fi
     case ${COMP_WORDS[at]} in
@@ -30,8 +30,9 @@ _hepf() {
         list) options="--long --help" ;;
         run) options="--arena --steps --workers --seed --choices --history --long --help" ;;
         sample) options="--runs --seed --arena --steps --keep --long --help" ;;
-        replay | why | cover) options="--arena --long --help" ;;
+        replay | why | cover | diff) options="--arena --long --help" ;;
         state) options="--at --arena --long --help" ;;
+        trace) options="--from --to --process --cell --arena --long --help" ;;
         explain)
             if ((COMP_CWORD == at + 1)); then
                 _hepf_offer -W "--long --help 101 102 103 104 105 106 107 201 202 203 204 205 301 302 303 304 305 306 307 308 309 310 311 312 401 402 501 506 601 602 603 701 702 703 704 705 OVERFLOW DIVIDE RANGE UNDEFINED SHAPE STEP FAULT WAITING STOPPED ARENA NO WORKERS READ WRITE REFUSED STILL WARNING STATUS"
@@ -41,7 +42,7 @@ _hepf() {
             return
             ;;
         help)
-            _hepf_offer -W "check run sample replay state why cover list explain"
+            _hepf_offer -W "check run sample replay state trace why cover diff list explain"
             return
             ;;
         *) return ;;

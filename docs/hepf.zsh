@@ -10,8 +10,10 @@ _hepf() {
         'sample:run a source by lots many times and count what comes'
         'replay:make the steps of a history again'
         'state:show what everything holds'
+        'trace:say what each step did'
         'why:say why processes wait'
         'cover:say how often the statement of each line began'
+        'diff:say what differs between the runs of two histories'
         'list:show the units and common blocks of a source'
         'explain:say what a line or a status means'
         'help:show help'
@@ -53,8 +55,17 @@ _hepf_words() {
             _arguments '--arena=[cells of storage]:cells:' '--long[say more of what went wrong]' '--help[show help]' '1:source:_files' \
                 '*:history:_files'
             ;;
+        diff)
+            _arguments '--arena=[cells of storage]:cells:' '--long[say more of what went wrong]' '--help[show help]' '1:source:_files' \
+                '2:history:_files' '3:history:_files'
+            ;;
         state)
             _arguments '--at=[after how many entries]:entries:' '--arena=[cells of storage]:cells:' '--long[say more of what went wrong]' \
+                '--help[show help]' '1:source:_files' '2:history:_files'
+            ;;
+        trace)
+            _arguments '--from=[first entry]:entry:' '--to=[last entry]:entry:' '--process=[process by its number]:process:' \
+                '--cell=[name of a variable]:name:' '--arena=[cells of storage]:cells:' '--long[say more of what went wrong]' \
                 '--help[show help]' '1:source:_files' '2:history:_files'
             ;;
         explain)
@@ -62,7 +73,7 @@ _hepf_words() {
                 '*:its next word:(ARENA STEP FULL LIMIT MEMORY REFUSED FAULT RUNNING 0 1 2 3 4 5 6 7 8 70)'
             ;;
         help)
-            _arguments '1:command:(check run sample replay state why cover list explain)'
+            _arguments '1:command:(check run sample replay state trace why cover diff list explain)'
             ;;
     esac
 }

@@ -17,7 +17,7 @@ COLUMNS = 80
 # What stands for a file in the manual page, or for what names of files begin with.
 FILES = ("FILE", "HISTORY", "PREFIX")
 # What stands for a number.
-NUMBERS = ("N", "K")
+NUMBERS = ("N", "K", "P")
 # Behind what stands there for one word or more.
 MORE = ".."
 # What every command takes, before it or behind it, and what asks for help.

@@ -304,16 +304,16 @@ class Run(machine.Run):
 
 def text_of(program, arena, entries, first=1, last=None, process=None, cell=None):
     """What is written of a history: the lines of the entries from one to another, of one process or of all, and of the turns that
-    access a variable of one name or of all."""
+    access a variable of one name or of all. Entries behind the last one aren't made."""
     run = Run(program, arena, cell)
     run.open()
     if run.stop:
         return run.outcome()
     kept = []
-    for at, (number, steps) in enumerate(entries, 1):
+    for at, (number, steps) in enumerate(entries[:last], 1):
         run.lines = []
         if not run.makes_entry(at, number, steps):
             return machine.refused(603, at)
-        if first <= at and (last is None or at <= last) and process in (None, number):
+        if first <= at and process in (None, number):
             kept += run.lines
     return machine.Outcome("".join(kept).encode("latin-1"), b"", 0, b"")

@@ -56,7 +56,7 @@ some-singles : (p n : ℕ) → n ≤ length (single_steps p n)
 some-singles p zero = omega arith
 some-singles p (suc n) = omega (arith, length-replicate (suc n) (one p))
 
-few-singles : (es : List Entry) → length (schedule_of es) ≤ length (single_entries es)
+pub few-singles : (es : List Entry) → length (schedule_of es) ≤ length (single_entries es)
 unfolding schedule_of
 few-singles [] = omega arith
 few-singles (e ∷ es) =

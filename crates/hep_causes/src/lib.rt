@@ -6,5 +6,6 @@ pub mod making;
 pub mod reading;
 mod watch;
 
+pub use hep_history::History;
 pub use making::step;
 pub use reading::{begin_again, why_text};

@@ -1,19 +1,19 @@
 //! A program's run by choices: what it writes.
 ghost use Rattle.std.specs.Prelude.{◌≡◌, ◌≤◌, ◌<◌, ℕ, [], None, Some, IfOk, IfErr, OnErr, OnOk, length, slice_get};
 ghost use Rattle.hep_machine.specs.Words.{last_process};
-ghost use Rattle.hep_core.specs.Value.{opening_of};
+ghost use Rattle.hep_outcome.specs.Value.{opening_of};
 ghost use Rattle.hep_outcome.specs.Outcome.{IsProgramOutcome, IsRunOutcome, next_process};
 ghost use Rattle.hep_outcome.specs.Memory.{MayOpen};
 ghost use Rattle.hep_outcome.specs.Transcripts.{outcome_of};
 ghost use Rattle.hep_outcome.specs.Progress.{IsRunning, IsHaltedBy};
 
-use hep_core::{ChooseFault, Core, NewFault};
 use hep_image::Image;
 use hep_outcome::halt::Halt;
 use hep_outcome::options::Options;
 use hep_outcome::transcript::{
     Transcript, choice_transcript, ended_transcript, full_transcript, opening_notes_when,
 };
+use hep_outcome::{ChooseFault, Core, NewFault};
 use std::alloc::{AllocError, Global};
 
 // How many choices of one process are asked for at once, at most: their entries get room together.

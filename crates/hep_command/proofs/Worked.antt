@@ -1,7 +1,7 @@
 -- What the words for numbers, jobs and names say, row by row.
 use Rattle.std.proofs.Common.{◌≡◌, ◌∷◌, [], Some, None, false, refl, true, codes}
 use Rattle.clap.proofs.OnLiterals.{clap_on_literals}
-use Rattle.hep_command.specs.Asked.{check, cover, explain, heard, replay, run, sample, standard, state, why}
+use Rattle.hep_command.specs.Asked.{check, cover, diff, explain, heard, replay, run, sample, standard, state, trace, why}
 use Rattle.hep_command.specs.Explanations.{is_explained, name_of}
 use Rattle.hep_command.specs.Numbers.{number_within}
 use Rattle.hep_command.specs.Program.{asked, histories, is_long}
@@ -79,6 +79,17 @@ state_of_all : asked (codes "hepf" ∷ codes "state" ∷ codes "a.f" ∷ codes "
 unfolding asked clap_on_literals
 state_of_all = refl
 
+trace_of_all : asked (codes "hepf" ∷ codes "trace" ∷ codes "a.f" ∷ codes "h" ∷ [])
+    ≡ Some (trace (codes "a.f") (codes "h") None None None None 65536)
+unfolding asked clap_on_literals
+trace_of_all = refl
+
+trace_with_all : asked (codes "hepf" ∷ codes "trace" ∷ codes "a.f" ∷ codes "--from=2" ∷ codes "h" ∷ codes "--to" ∷ codes "9" ∷ codes "--process=3"
+    ∷ codes "--cell" ∷ codes "$X" ∷ codes "--arena" ∷ codes "7" ∷ [])
+    ≡ Some (trace (codes "a.f") (codes "h") (Some 2) (Some 9) (Some 3) (Some (codes "$X")) 7)
+unfolding asked clap_on_literals
+trace_with_all = refl
+
 why_with_arena : asked (codes "hepf" ∷ codes "why" ∷ codes "a.f" ∷ codes "h" ∷ codes "--arena=9" ∷ [])
     ≡ Some (why (codes "a.f") (codes "h") 9)
 unfolding asked clap_on_literals
@@ -95,6 +106,11 @@ histories_of_two = refl
 no_histories : histories (codes "hepf" ∷ codes "replay" ∷ codes "a.f" ∷ codes "h" ∷ []) ≡ []
 unfolding histories clap_on_literals
 no_histories = refl
+
+diff_with_arena : asked (codes "hepf" ∷ codes "diff" ∷ codes "a.f" ∷ codes "g" ∷ codes "--arena=9" ∷ codes "h" ∷ [])
+    ≡ Some (diff (codes "a.f") (codes "g") (codes "h") 9)
+unfolding asked clap_on_literals
+diff_with_arena = refl
 
 replay_with_defaults : asked (codes "hepf" ∷ codes "replay" ∷ codes "a.f" ∷ codes "h" ∷ [])
     ≡ Some (replay (codes "a.f") (codes "h") 65536)

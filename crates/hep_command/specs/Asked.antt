@@ -8,7 +8,7 @@ use Rattle.clap.specs.Words.{Row, Text, all_of, first_of, found_of, rows_of}
 use Rattle.clap.specs.declared.parser.matches.ArgMatches.{ArgMatches}
 use Rattle.hep_command.specs.Numbers.{number_within, option_number}
 use Rattle.hep_command.specs.declared.job.Job.{Job}
-use Rattle.hep_command.specs.declared.job.Job.TheVariants.{Standard, Check, Run, Sample, Replay, State, Why, Cover, List, Explain}
+use Rattle.hep_command.specs.declared.job.Job.TheVariants.{Standard, Check, Run, Sample, Replay, State, Trace, Why, Cover, Diff, List, Explain}
 
 -- a job with the texts of its paths
 pub data Asked : Type 0 where
@@ -18,8 +18,10 @@ pub data Asked : Type 0 where
   sample : Text → ℕ → ℕ → ℕ → ℕ → Option Text → Asked
   replay : Text → Text → ℕ → Asked
   state : Text → Text → Option ℕ → ℕ → Asked
+  trace : Text → Text → Option ℕ → Option ℕ → Option ℕ → Option Text → ℕ → Asked
   why : Text → Text → ℕ → Asked
   cover : Text → ℕ → Asked
+  diff : Text → Text → Text → ℕ → Asked
   list : Text → Asked
   explain : Text → Option Text → Option Text → Asked
 
@@ -33,8 +35,10 @@ asked_by (Run file arena steps workers seed choices history) = run file.now aren
 asked_by (Sample file runs seed arena steps keep) = sample file.now runs seed arena steps (texts keep)
 asked_by (Replay file history arena) = replay file.now history.now arena
 asked_by (State file history at arena) = state file.now history.now at arena
+asked_by (Trace file history first last process cell arena) = trace file.now history.now first last process (texts cell) arena
 asked_by (Why file history arena) = why file.now history.now arena
 asked_by (Cover file arena) = cover file.now arena
+asked_by (Diff file history other arena) = diff file.now history.now other.now arena
 asked_by (List file) = list file.now
 asked_by (Explain first second third) = explain first.now (texts second) (texts third)
 
@@ -126,6 +130,17 @@ state_in rows =
     option_and_then (λ file. option_and_then (λ history. option_and_then (λ entries. option_map (state file history entries)
     (arena_in rows)) (entries_in rows)) (first_of (codes "history") rows)) (first_of (codes "file") rows)
 
+-- the number of an entry or a process, where its option is given
+abbrev pub ordinal_in : Text → ListOf Row → Option (Option ℕ)
+ordinal_in id rows = number_by 4294967296 (first_of id rows)
+
+abbrev pub trace_in : ListOf Row → Option Asked
+trace_in rows =
+    option_and_then (λ file. option_and_then (λ history. option_and_then (λ first. option_and_then (λ last. option_and_then (λ process. option_map
+    (trace file history first last process (first_of (codes "cell") rows))
+    (arena_in rows)) (ordinal_in (codes "process") rows)) (ordinal_in (codes "to") rows)) (ordinal_in (codes "from") rows))
+    (first_of (codes "history") rows)) (first_of (codes "file") rows)
+
 abbrev pub why_in : ListOf Row → Option Asked
 why_in rows =
     option_and_then (λ file. option_and_then (λ history. option_map (why file history)
@@ -133,6 +148,11 @@ why_in rows =
 
 abbrev pub cover_in : ListOf Row → Option Asked
 cover_in rows = option_and_then (λ file. option_map (cover file) (arena_in rows)) (first_of (codes "file") rows)
+
+abbrev pub diff_in : ListOf Row → Option Asked
+diff_in rows =
+    option_and_then (λ file. option_and_then (λ history. option_and_then (λ other. option_map (diff file history other)
+    (arena_in rows)) (first_of (codes "other") rows)) (first_of (codes "history") rows)) (first_of (codes "file") rows)
 
 abbrev pub list_in : ListOf Row → Option Asked
 list_in rows = option_map list (first_of (codes "file") rows)
@@ -150,10 +170,12 @@ command_in command rows =
     else (if bytes_eq command (codes "sample") then sample_in rows
     else (if bytes_eq command (codes "replay") then replay_in rows
     else (if bytes_eq command (codes "state") then state_in rows
+    else (if bytes_eq command (codes "trace") then trace_in rows
     else (if bytes_eq command (codes "why") then why_in rows
     else (if bytes_eq command (codes "cover") then cover_in rows
+    else (if bytes_eq command (codes "diff") then diff_in rows
     else (if bytes_eq command (codes "list") then list_in rows
-    else (if bytes_eq command (codes "explain") then explain_in rows else None))))))))
+    else (if bytes_eq command (codes "explain") then explain_in rows else None))))))))))
 
 -- with no command the source on standard input is run
 abbrev pub job_in : Option (Text × ListOf Row) → Option Asked

@@ -5,7 +5,7 @@ use Rattle.clap.specs.declared.error.kind.ErrorKind.{ErrorKind}
 use Rattle.clap.specs.declared.error.kind.ErrorKind.TheVariants.{DisplayHelp, DisplayVersion, OutOfMemory}
 use Rattle.hep_command.specs.declared.job.Job.{Job}
 use Rattle.hep_command.specs.declared.job.Usage.{Usage}
-use Rattle.hep_command.specs.declared.job.Job.TheVariants.{Standard, Check, Run, Sample, Replay, State, Why, Cover, List, Explain}
+use Rattle.hep_command.specs.declared.job.Job.TheVariants.{Standard, Check, Run, Sample, Replay, State, Trace, Why, Cover, Diff, List, Explain}
 
 abbrev pub IsArena : ℕ → Type 0
 IsArena cells = (1 ≤ cells) × (cells ≤ 16777216)
@@ -35,8 +35,10 @@ IsInRange (Run file arena steps workers seed choices history) = IsArena arena ×
 IsInRange (Sample file runs seed arena steps keep) = AreSampled runs × IsSeed seed × IsArena arena × IsSteps steps
 IsInRange (Replay file history arena) = IsArena arena
 IsInRange (State file history at arena) = IsArena arena
+IsInRange (Trace file history first last process cell arena) = IsArena arena
 IsInRange (Why file history arena) = IsArena arena
 IsInRange (Cover file arena) = IsArena arena
+IsInRange (Diff file history other arena) = IsArena arena
 IsInRange (List file) = Unit {0}
 IsInRange (Explain first second third) = Unit {0}
 

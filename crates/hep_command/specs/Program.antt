@@ -95,6 +95,28 @@ state_command =
     with_rule (with_rule (with_rule (with_rule (with_rule (new_app (codes "state")) source_word) history_word) entries_option) arena_option)
     long_flag
 
+-- a number that counts from 1
+abbrev pub ordinal_option : Text → Rule
+ordinal_option id = number_option id 4294967296
+
+abbrev pub first_option : Rule
+first_option = ordinal_option (codes "from")
+
+abbrev pub last_option : Rule
+last_option = ordinal_option (codes "to")
+
+abbrev pub process_option : Rule
+process_option = ordinal_option (codes "process")
+
+-- a word that is a name
+abbrev pub cell_option : Rule
+cell_option = file_option (codes "cell")
+
+abbrev pub trace_command : App
+trace_command =
+    with_rule (with_rule (with_rule (with_rule (with_rule (with_rule (with_rule (with_rule (new_app (codes "trace")) source_word) history_word)
+    first_option) last_option) process_option) cell_option) arena_option) long_flag
+
 abbrev pub why_command : App
 why_command =
     with_rule (with_rule (with_rule (with_rule (new_app (codes "why")) source_word) history_word) arena_option)
@@ -107,6 +129,15 @@ histories_word = record (required_word (codes "histories")) { range = Some (reco
 abbrev pub cover_command : App
 cover_command =
     with_rule (with_rule (with_rule (with_rule (new_app (codes "cover")) source_word) histories_word) arena_option)
+    long_flag
+
+-- a second history
+abbrev pub other_word : Rule
+other_word = required_word (codes "other")
+
+abbrev pub diff_command : App
+diff_command =
+    with_rule (with_rule (with_rule (with_rule (with_rule (new_app (codes "diff")) source_word) history_word) other_word) arena_option)
     long_flag
 
 abbrev pub list_command : App
@@ -126,9 +157,9 @@ bare_program = with_rule named_program long_flag
 
 abbrev pub hepf : App
 hepf =
-    with_subcommand (with_subcommand (with_subcommand (with_subcommand (with_subcommand (with_subcommand (with_subcommand (with_subcommand
-    (with_subcommand bare_program check_command.top) run_command.top) sample_command.top) replay_command.top) state_command.top) why_command.top)
-    cover_command.top) list_command.top) explain_command.top
+    with_subcommand (with_subcommand (with_subcommand (with_subcommand (with_subcommand (with_subcommand (with_subcommand (with_subcommand (with_subcommand
+    (with_subcommand (with_subcommand bare_program check_command.top) run_command.top) sample_command.top) replay_command.top) state_command.top)
+    trace_command.top) why_command.top) cover_command.top) diff_command.top) list_command.top) explain_command.top
 
 -- a parse sees this of the argument, and of the command
 abbrev pub IsArgument : Rule → Arg → Type 0

@@ -88,6 +88,21 @@ pub enum Job<'a> {
         /// The cells of the arena, 1 to 16,777,216.
         arena: u32,
     },
+    /// To say what each step of a history did, or some of them.
+    Trace {
+        file: &'a str,
+        history: &'a str,
+        /// The first entry whose lines are shown, counted from 1; the first one where none is said.
+        first: Option<u64>,
+        /// The last entry that is made; all are where none is said.
+        last: Option<u64>,
+        /// The process whose lines are shown, or all.
+        process: Option<u64>,
+        /// The name of the variable whose accesses are shown, or all steps.
+        cell: Option<&'a str>,
+        /// The cells of the arena, 1 to 16,777,216.
+        arena: u32,
+    },
     /// To say why processes wait after a history.
     Why {
         file: &'a str,
@@ -98,6 +113,14 @@ pub enum Job<'a> {
     /// To say how often the statement of each line began in histories, which the request has.
     Cover {
         file: &'a str,
+        /// The cells of the arena, 1 to 16,777,216.
+        arena: u32,
+    },
+    /// To say what differs between the runs of two histories.
+    Diff {
+        file: &'a str,
+        history: &'a str,
+        other: &'a str,
         /// The cells of the arena, 1 to 16,777,216.
         arena: u32,
     },

@@ -36,13 +36,18 @@ fn with_run<S: AsStr>(text: String, words: &[S]) -> Result<String, AllocError> {
     Ok(all)
 }
 
-// The greatest number of an option.
+// The least number of an option.
+fn least_of(option: &str) -> u64 {
+    if option == "at" { 0 } else { 1 }
+}
+
+// The greatest number of an option; those that aren't named here count entries or processes.
 fn most_of(option: &str) -> u64 {
     if option == "arena" {
         return u64::from(MOST_ARENA);
     }
-    if option == "steps" {
-        return MOST_STEPS;
+    if option == "workers" {
+        return MOST_WORKERS;
     }
     if option == "seed" {
         return MOST_SEED;
@@ -50,18 +55,22 @@ fn most_of(option: &str) -> u64 {
     if option == "runs" {
         return MOST_RUNS;
     }
-    MOST_WORKERS
+    MOST_STEPS
 }
 
-// The text with its reason replaced: which numbers the option takes.
+// The text with its reason replaced: which numbers the option takes, which is given with the letter that stands for them.
 fn with_numbers(
     alloc: Global,
     before: &str,
-    option: &str,
+    given: &str,
     behind: &str,
 ) -> Result<String, AllocError> {
-    let most = most_of(option);
-    format!(in alloc; "{before}' for '--{option} <N>': it takes a number, 1 to {most}\n{behind}")
+    let option = match given.split_once(" <") {
+        Some((option, _)) => option,
+        None => given,
+    };
+    let (least, most) = (least_of(option), most_of(option));
+    format!(in alloc; "{before}' for '--{given}>': it takes a number, {least} to {most}\n{behind}")
 }
 
 // The text of an option's value that isn't taken: where it doesn't say which numbers are, it comes to.
@@ -69,12 +78,12 @@ fn with_range(alloc: Global, text: String) -> Result<String, AllocError> {
     let Some((before, rest)) = text.as_str().split_once("' for '--") else {
         return Ok(text);
     };
-    let Some((option, rest)) = rest.split_once(" <N>': ") else {
+    let Some((given, rest)) = rest.split_once(">': ") else {
         return Ok(text);
     };
     match rest.split_once("\n") {
         Some((reason, behind)) if reason.find(" is not in ").is_none() => with_numbers(
-            alloc, before, option, behind,
+            alloc, before, given, behind,
         ),
         _ => Ok(text),
     }

@@ -13,11 +13,10 @@ use std::alloc::{AllocError, Global};
 /// What `hepf --version` says after the program's name.
 const VERSION: &str = "0.2.0, rattle-kit-13f logic dac8208d650f15bf";
 
-const ABOUT: &str = "Compiles and runs HEP FORTRAN.
-With no command it runs the source on standard input.";
+const ABOUT: &str = "Compiles and runs HEP FORTRAN.";
 
-const EXAMPLES: &str = "Example: hepf run examples/powers.f
-`hepf COMMAND --help` has more; `man hepf`, or `man -l docs/hepf.1`, has all.";
+const EXAMPLES: &str =
+    "No command runs standard input. `hepf COMMAND --help` and `man hepf` have more.";
 
 const CHECK_EXAMPLE: &str = "Example: hepf check examples/powers.f
          hepf check --warn examples/quotients.f";
@@ -32,11 +31,17 @@ const REPLAY_EXAMPLE: &str = "Example: hepf replay examples/powers.f powers.hist
 
 const STATE_EXAMPLE: &str = "Example: hepf state examples/powers.f powers.history --at 100";
 
+const TRACE_EXAMPLE: &str = "Example: hepf run examples/deadlock.f --history deadlock.history
+         hepf trace examples/deadlock.f deadlock.history --cell '$A'";
+
 const WHY_EXAMPLE: &str = "Example: hepf run examples/deadlock.f --history deadlock.history
          hepf why examples/deadlock.f deadlock.history";
 
 const COVER_EXAMPLE: &str = "Example: hepf sample examples/race.f --keep race
          hepf cover examples/race.f race.*";
+
+const DIFF_EXAMPLE: &str = "Example: hepf sample examples/race.f --keep race
+         hepf diff examples/race.f race.1 race.2";
 
 const LIST_EXAMPLE: &str = "Example: hepf list examples/sort.f";
 
@@ -270,6 +275,61 @@ fn state_command<'a>(alloc: Global) -> Result<Command<'a>, AllocError>
     with_arg(state, long_flag(alloc))
 }
 
+// A number that counts entries or processes from 1.
+fn ordinal_option<'a>(alloc: Global, id: &'a str) -> Arg<'a>
+    ensures { IsArgument (spec.ordinal_option id.entry.now) result }
+{
+    number_option(alloc, id, MOST_STEPS)
+}
+
+fn first_option<'a>(alloc: Global) -> Arg<'a>
+    ensures { IsArgument spec.first_option result }
+{
+    ordinal_option(alloc, "from")
+        .value_name("K")
+        .help("The first entry to show [default: 1]")
+}
+
+fn last_option<'a>(alloc: Global) -> Arg<'a>
+    ensures { IsArgument spec.last_option result }
+{
+    ordinal_option(alloc, "to")
+        .value_name("K")
+        .help("The last entry to make [default: all]")
+}
+
+fn process_option<'a>(alloc: Global) -> Arg<'a>
+    ensures { IsArgument spec.process_option result }
+{
+    ordinal_option(alloc, "process")
+        .value_name("P")
+        .help("Show the steps of this process alone")
+}
+
+fn cell_option<'a>(alloc: Global) -> Arg<'a>
+    ensures { IsArgument spec.cell_option result }
+{
+    file_option(alloc, "cell")
+        .value_name("NAME")
+        .help("Show the accesses to variables of this name alone")
+}
+
+fn trace_command<'a>(alloc: Global) -> Result<Command<'a>, AllocError>
+    ensures { IfOk result (IsCommand spec.trace_command) }
+{
+    let trace = Command::new(alloc, "trace")
+        .about("Say what each step of a history did, a line a step")
+        .after_help(TRACE_EXAMPLE)
+        .arg(source_argument(alloc));
+    let trace = with_arg(trace, history_argument(alloc));
+    let trace = with_arg(trace, first_option(alloc));
+    let trace = with_arg(trace, last_option(alloc));
+    let trace = with_arg(trace, process_option(alloc));
+    let trace = with_arg(trace, cell_option(alloc));
+    let trace = with_arg(trace, arena_option(alloc));
+    with_arg(trace, long_flag(alloc))
+}
+
 fn why_command<'a>(alloc: Global) -> Result<Command<'a>, AllocError>
     ensures { IfOk result (IsCommand spec.why_command) }
 {
@@ -301,6 +361,28 @@ fn cover_command<'a>(alloc: Global) -> Result<Command<'a>, AllocError>
     let cover = with_arg(cover, histories_argument(alloc));
     let cover = with_arg(cover, arena_option(alloc));
     with_arg(cover, long_flag(alloc))
+}
+
+// A first part of another history that is there.
+fn other_argument<'a>(alloc: Global) -> Arg<'a>
+    ensures { IsArgument spec.other_word result }
+{
+    argument(alloc, "other", "HISTORY").help(
+        "Another history of the source, or some first lines of it",
+    )
+}
+
+fn diff_command<'a>(alloc: Global) -> Result<Command<'a>, AllocError>
+    ensures { IfOk result (IsCommand spec.diff_command) }
+{
+    let diff = Command::new(alloc, "diff")
+        .about("Say what differs between the runs of two histories")
+        .after_help(DIFF_EXAMPLE)
+        .arg(source_argument(alloc));
+    let diff = with_arg(diff, history_argument(alloc));
+    let diff = with_arg(diff, other_argument(alloc));
+    let diff = with_arg(diff, arena_option(alloc));
+    with_arg(diff, long_flag(alloc))
 }
 
 fn list_command<'a>(alloc: Global) -> Result<Command<'a>, AllocError>
@@ -353,8 +435,10 @@ pub(crate) fn program<'a>(alloc: Global) -> Result<Command<'a>, AllocError>
     let whole = with_command(whole, sample_command(alloc));
     let whole = with_command(whole, replay_command(alloc));
     let whole = with_command(whole, state_command(alloc));
+    let whole = with_command(whole, trace_command(alloc));
     let whole = with_command(whole, why_command(alloc));
     let whole = with_command(whole, cover_command(alloc));
+    let whole = with_command(whole, diff_command(alloc));
     let whole = with_command(whole, list_command(alloc));
     with_command(whole, explain_command(alloc))
 }

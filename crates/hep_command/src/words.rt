@@ -5,7 +5,7 @@ ghost use Rattle.hep_command.specs.Program.{IsAskedBy, IsMistaken, IsStatusFor, 
 ghost use Rattle.std.specs.Option.{unwrap_or};
 ghost use Rattle.hep_command.specs.Numbers.{number_within, option_number};
 ghost use Rattle.hep_command.specs.Asked.{asked_by, arena_in, asks_from, check_in, command_in, explain_in, heard, is_given, is_help_of_help};
-ghost use Rattle.hep_command.specs.Asked.{entries_in, is_long_in, is_word, job_in, cover_in, histories_in, list_in, replay_in, run_in, state_in, steps_in, why_in, word_of, words_found};
+ghost use Rattle.hep_command.specs.Asked.{entries_in, is_long_in, is_word, job_in, cover_in, diff_in, histories_in, list_in, ordinal_in, replay_in, run_in, state_in, steps_in, trace_in, why_in, word_of, words_found};
 ghost use Rattle.hep_command.specs.Asked.{first_seed_in, runs_in, sample_in, seed_in, workers_in};
 ghost use Rattle.hep_command.specs.Jobs.{IsInRange, IsNoPath, IsOneOrder, IsUsage, IsWant, IsWrittenApart, usage_status};
 
@@ -189,6 +189,31 @@ fn state_job<'a>(found: &ArgMatches<'a>) -> Option<Job<'a>>
     })
 }
 
+// The number of an entry or a process, counted from 1, where its option is given.
+fn ordinal_of(found: &ArgMatches<'_>, id: &str) -> Option<Option<u64>>
+    ensures { result ≡ ordinal_in id.now (words_found found.now) }
+{
+    let Some(text) = word_of(found, id) else {
+        return Some(None);
+    };
+    Some(Some(number_within(text, 1, MOST_STEPS)?))
+}
+
+fn trace_job<'a>(found: &ArgMatches<'a>) -> Option<Job<'a>>
+    ensures range { IfSome result IsInRange }
+    ensures job { option_map asked_by result ≡ trace_in (words_found found.now) }
+{
+    Some(Job::Trace {
+        file: word_of(found, "file")?,
+        history: word_of(found, "history")?,
+        first: ordinal_of(found, "from")?,
+        last: ordinal_of(found, "to")?,
+        process: ordinal_of(found, "process")?,
+        cell: word_of(found, "cell"),
+        arena: arena_of(found)?,
+    })
+}
+
 fn why_job<'a>(found: &ArgMatches<'a>) -> Option<Job<'a>>
     ensures range { IfSome result IsInRange }
     ensures job { option_map asked_by result ≡ why_in (words_found found.now) }
@@ -206,6 +231,18 @@ fn cover_job<'a>(found: &ArgMatches<'a>) -> Option<Job<'a>>
 {
     Some(Job::Cover {
         file: word_of(found, "file")?,
+        arena: arena_of(found)?,
+    })
+}
+
+fn diff_job<'a>(found: &ArgMatches<'a>) -> Option<Job<'a>>
+    ensures range { IfSome result IsInRange }
+    ensures job { option_map asked_by result ≡ diff_in (words_found found.now) }
+{
+    Some(Job::Diff {
+        file: word_of(found, "file")?,
+        history: word_of(found, "history")?,
+        other: word_of(found, "other")?,
         arena: arena_of(found)?,
     })
 }
@@ -250,11 +287,17 @@ fn command_job<'a>(command: &str, found: &ArgMatches<'a>) -> Option<Job<'a>>
     if command == "state" {
         return state_job(found);
     }
+    if command == "trace" {
+        return trace_job(found);
+    }
     if command == "why" {
         return why_job(found);
     }
     if command == "cover" {
         return cover_job(found);
+    }
+    if command == "diff" {
+        return diff_job(found);
     }
     if command == "list" {
         return list_job(found);

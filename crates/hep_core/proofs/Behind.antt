@@ -7,8 +7,8 @@ use Rattle.hep_cells.specs.declared.want.Want.{Want}
 use Rattle.hep_blocked.specs.Listing.{AreListed, GoesAlong, GoesAlongEmptying, HasEmptied, awake_by, awake_where, is_noted, is_woken, is_woken_where}
 use Rattle.hep_blocked.specs.Rolls.{KeepsRoll, Roll, want_of}
 use Rattle.hep_entries.specs.Entries.{Kept}
-use Rattle.hep_going.specs.Gone.{HasGone, MakesMoves}
-use Rattle.hep_binding.proofs.Calls.{set-numbered}
+use Rattle.hep_taking.specs.Going.{HasGone, MakesMoves}
+use Rattle.hep_taking.proofs.Calls.{set-numbered}
 use Rattle.hep_private.specs.declared.record.Record.{Record}
 use Rattle.hep_code.specs.Words.{deepest}
 use Rattle.hep_step.specs.Simulation.{unit_code}

@@ -10,8 +10,8 @@ use Rattle.hep_private.specs.Own.{Own, Values, begun, values_at}
 use Rattle.hep_private.specs.declared.record.Record.{Record}
 use Rattle.hep_private.specs.Reads.{HaveRead}
 use Rattle.hep_private.specs.Recorded.{recorded}
-use Rattle.hep_private_laws.specs.Beside.{IsBeside, values_beside}
-use Rattle.hep_private_laws.specs.Gone.{own_of}
+use Rattle.hep_taking.specs.Beside.{IsBeside, values_beside}
+use Rattle.hep_taking.specs.Gone.{own_of}
 use Rattle.hep_proc.specs.Stacks.{Stack, stack_with}
 use Rattle.hep_proc.specs.declared.process.Local.{Local}
 use Rattle.hep_segments.specs.declared.ticket.TicketId.{TicketId}

@@ -3,14 +3,14 @@ use Rattle.std.proofs.Common.{◌≡◌, ◌≢◌, ◌≤◌, ◌↔◌, IsTrue
 use Rattle.std.proofs.lemmas.Option.{same_Some}
 use Rattle.hep_machine.specs.declared.event.Entry.{Entry}
 use Rattle.hep_machine.specs.Words.{State, Units, living, main_among, numbered, run, schedule_of, state_after, unit_at}
-use Rattle.hep_binding.proofs.Calls.{set-numbered}
+use Rattle.hep_taking.proofs.Calls.{set-numbered}
 use Rattle.hep_code.specs.Words.{IsPastPushes}
 use Rattle.hep_image.specs.Image.{most_cells}
 use Rattle.hep_image.specs.Private.{private_cells}
 use Rattle.hep_private.specs.Own.{Own, Values, begun, values_at}
 use Rattle.hep_private.specs.declared.record.Record.{Record}
 use Rattle.hep_private.specs.Recorded.{next_made, recorded}
-use Rattle.hep_private_laws.specs.Gone.{HaveGone, contents_with, own_of}
+use Rattle.hep_taking.specs.Gone.{HaveGone, contents_with, own_of}
 use Rattle.hep_proc.specs.Stacks.{stack_with}
 use Rattle.hep_segments.specs.Segments.{IsKept, IsMadeFrom, IsMadeOf, SegmentValue, Start, is_next_private}
 use Rattle.hep_step.specs.Simulation.{unit_code}

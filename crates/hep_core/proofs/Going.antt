@@ -14,7 +14,7 @@ use Rattle.hep_blocked.proofs.Members.{ready-rise, rising-same}
 use Rattle.hep_entries.specs.Entries.{Kept}
 use Rattle.hep_state.specs.declared.machine.Machine.{Machine}
 use Rattle.hep_state.specs.Words.{IsMachineAfter, snapshot_of}
-use Rattle.hep_going.specs.Gone.{HasGone, IsPlainTurn, none, more}
+use Rattle.hep_taking.specs.Going.{HasGone, IsPlainTurn, none, more}
 use Rattle.hep_core.specs.Going.{AreChoices, AreMoves, AreRounds, CanMove, IsPlainChoice, again, begun, entries_along, goes_round, started}
 use Rattle.hep_core.specs.Invariant.{AreFew, AreLiving, CoreInvariant, core_value}
 use Rattle.hep_core.specs.Tickets.{is_out}

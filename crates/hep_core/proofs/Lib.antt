@@ -1,3 +1,4 @@
+pub use Rattle.hep_state.proofs.Runs
 pub mod Histories
 pub mod Outs
 pub mod Free

@@ -4,7 +4,7 @@ use Rattle.hep_machine.specs.declared.event.Entry.{Entry}
 use Rattle.hep_machine.specs.Words.{IsLegal, Units, living, progress_after, schedule_of, state_after}
 use Rattle.hep_blocked.specs.Listing.{AreListed}
 use Rattle.hep_blocked.specs.Rolls.{want_of}
-use Rattle.hep_quick.specs.UnitTables.{AreTables}
+use Rattle.hep_taking.specs.UnitTables.{AreTables}
 use Rattle.hep_state.specs.Words.{IsMachineAfter, snapshot_of}
 use Rattle.hep_taking.specs.OwnCells.{AreOwnCells}
 use Rattle.hep_views.specs.Seen.{machine_view}

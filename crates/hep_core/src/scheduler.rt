@@ -29,19 +29,18 @@ use hep_blocked::laws::{
 use hep_blocked::need_laws::waiting_processes_need_it;
 use hep_blocked::{Roster, Want};
 use hep_entries::History;
-use hep_going::{go_on, rests};
 use hep_image::Image;
 use hep_layout::laws::layouts_have_what_is_held;
 use hep_machine::{Entry, Fault, Record, Slot};
-use hep_private_laws::laws::{others_leave_what_is_read, private_steps_are_turns};
-use hep_quick::{Table, Tabled, tables_of};
 use hep_segments::laws::segments_depend_on_reads;
 use hep_segments::{Segment, Ticket, TicketId};
 use hep_state::laws::tops_are_running;
 use hep_state::{Machine, TurnFault, Turned, fits};
 use hep_taking::laws::{restored_machines_are_as_before, tickets_have_what_is_read};
 use hep_taking::{
-    OwnCells, Owned, Saved, is_made, is_next_private, own_cells_of, start, take_private,
+    OwnCells, Owned, Saved, Table, Tabled, go_on, is_made, is_next_private,
+    others_leave_what_is_read, own_cells_of, private_steps_are_turns, rests, start, tables_of,
+    take_private,
 };
 use hep_views::finding::{listed, whereabouts};
 use hep_views::laws::views_are_of_states;
@@ -990,6 +989,11 @@ fn note_all(history: &mut History, p: u64, count: u32)
     requires few { length history.old.items + count ≤ 2 ^ 63 }
     ensures { history.new.items ≡ entries_along history.old.items p count }
 {
+    // In rounds it is one.
+    if count == 1 {
+        note(history, p, 1);
+        return;
+    }
     history.push_many(
         Entry {
             process: p,

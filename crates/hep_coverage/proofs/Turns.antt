@@ -6,12 +6,12 @@ use Rattle.hep_causes.proofs.Along.{along-next, state-next}
 use Rattle.hep_causes.proofs.Found.{begin-along, opened, processes-all, whole}
 use Rattle.hep_causes.specs.Watches.{HaveLooked, IsReplayed, Whole, processes}
 use Rattle.hep_core.specs.Value.{CoreValue, state_of}
-use Rattle.hep_history.specs.Progress.{longer, turn_entry}
-use Rattle.hep_history.specs.Replays.{standing}
+use Rattle.hep_causes.specs.Progress.{longer, turn_entry}
+use Rattle.hep_causes.specs.Replays.{standing}
 use Rattle.hep_machine.specs.declared.event.Entry.{Entry}
 use Rattle.hep_machine.specs.Words.{IsLegal, State, Units, schedule_of, state_after, state_after_turn}
-use Rattle.hep_reasons.specs.Changes.{turns_from, turns_of}
-use Rattle.hep_reasons.specs.declared.reason.Change.{Change}
+use Rattle.hep_causes.specs.Changes.{turns_from, turns_of}
+use Rattle.hep_causes.specs.Change.{Change}
 use Rattle.hep_coverage.specs.Counting.{IsCounting}
 use Rattle.hep_coverage.specs.Coverage.{counted, counted_along, counted_in}
 

@@ -3,13 +3,12 @@ ghost use Rattle.std.specs.Prelude.{◌≡◌, ◌∷◌, ◌++◌, [], ℕ, Lis
 ghost use Rattle.hep_causes.specs.Watches.{IsReplayed, Whole};
 ghost use Rattle.hep_coverage.specs.Counting.{IsCounting};
 ghost use Rattle.hep_coverage.specs.Coverage.{counted_in};
-ghost use Rattle.hep_reasons.specs.Changes.{turns_from, turns_of};
+ghost use Rattle.hep_causes.specs.Changes.{turns_from, turns_of};
 
 use crate::begun::begun;
 use crate::counts::count;
-use hep_causes::{begin_again, step};
+use hep_causes::{History, begin_again, step};
 use hep_core::Core;
-use hep_history::History;
 use hep_machine::Entry;
 use std::alloc::{AllocError, Global};
 

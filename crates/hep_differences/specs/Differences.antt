@@ -1,7 +1,7 @@
 -- What differs between two runs of a program, as a text: docs/RUNS.md, "What differs".
 use Rattle.std.specs.Prelude.{ℕ, zero, suc, ◌+◌, max, false, nat_le, List, [], ◌++◌, length, Option, Some, None, slice_get}
-use Rattle.hep_core.specs.Value.{listed_after}
-use Rattle.hep_history.specs.Replays.{replayed}
+use Rattle.hep_outcome.specs.Value.{listed_after}
+use Rattle.hep_outcome.specs.Replays.{replayed}
 use Rattle.hep_machine.specs.declared.event.Entry.{Entry}
 use Rattle.hep_machine.specs.Words.{Units, state_after}
 use Rattle.hep_outcome.specs.Outcome.{Outcome}

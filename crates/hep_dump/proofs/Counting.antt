@@ -3,7 +3,7 @@ use Rattle.std.proofs.Common.{◌≡◌, ℕ, zero, suc, ◌+◌, ◌-◌, ◌<�
 use Rattle.std.specs.Option.{option_or}
 use Rattle.hep_machine.specs.declared.event.Entry.{Entry}
 use Rattle.hep_machine.specs.Words.{Units}
-use Rattle.hep_views.specs.declared.listed.Listed.{Listed}
+use Rattle.hep_core.specs.Listed.{Listed}
 use Rattle.hep_core.proofs.Histories.{number-listed}
 use Rattle.hep_core.specs.Value.{first_listed, listed_after}
 use Rattle.hep_dump.specs.Waiting as words

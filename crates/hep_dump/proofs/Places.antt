@@ -3,7 +3,7 @@ use Rattle.std.proofs.Common.{◌≡◌, ℕ, suc, ◌-◌, ◌<◌, ◌≤◌, 
 use Rattle.hep_machine.specs.declared.event.Entry.{Entry}
 use Rattle.hep_machine.specs.Words.{Units, state_after}
 use Rattle.hep_image.specs.Names.{names_in_order}
-use Rattle.hep_views.specs.Standing.{whereabouts_by}
+use Rattle.hep_core.specs.Standing.{whereabouts_by}
 use Rattle.hep_dump.specs.Stops.{place_notes, places_notes}
 use Rattle.hep_dump.specs.Wants.{wants_from, wants_notes}
 

@@ -2,7 +2,7 @@
 use Rattle.std.proofs.Common.{◌≡◌, ℕ, Bool, true, false, List, [], ◌∷◌, refl, codes}
 use Rattle.std.specs.Fmt.{digits}
 use Rattle.hep_machine.specs.declared.event.Kind.TheVariants.{Undefined, Divide}
-use Rattle.hep_views.specs.declared.listed.Listed.{Listed}
+use Rattle.hep_core.specs.Listed.{Listed}
 use Rattle.hep_dump.specs.Faults.{faults_text}
 use Rattle.hep_dump.specs.Waiting.{listed_text}
 

@@ -1,3 +1,4 @@
+pub use Rattle.hep_core.specs.Value
 pub mod Names
 pub mod Faults
 pub mod Waiting

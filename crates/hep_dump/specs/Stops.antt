@@ -4,8 +4,8 @@ use Rattle.std.specs.Fmt.{decimal}
 use Rattle.hep_machine.specs.declared.event.Entry.{Entry}
 use Rattle.hep_machine.specs.Words.{Units, common_cells, frame_cells, main_among, state_after, unit_at}
 use Rattle.hep_image.specs.Names.{names_in_order}
-use Rattle.hep_views.specs.declared.whereabouts.Whereabouts.{Whereabouts}
-use Rattle.hep_views.specs.Standing.{whereabouts_by}
+use Rattle.hep_core.specs.Whereabouts.{Whereabouts}
+use Rattle.hep_core.specs.Standing.{whereabouts_by}
 use Rattle.hep_notes.specs.Shown.{words_text}
 use Rattle.hep_dump.specs.Names.{name_found}
 

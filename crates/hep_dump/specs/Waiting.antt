@@ -4,7 +4,7 @@ use Rattle.std.specs.Fmt.{decimal}
 use Rattle.hep_machine.specs.declared.event.Entry.{Entry}
 use Rattle.hep_machine.specs.Words.{Units, state_after, unit_at}
 use Rattle.hep_image.specs.Names.{names_in_order}
-use Rattle.hep_views.specs.declared.listed.Listed.{Listed}
+use Rattle.hep_core.specs.Listed.{Listed}
 use Rattle.hep_core.specs.Value.{listed_after}
 use Rattle.hep_notes.specs.Shown.{words_text}
 use Rattle.hep_naming.specs.Naming.{own_name}

@@ -7,8 +7,8 @@ use Rattle.hep_machine.specs.declared.event.Entry.{Entry}
 use Rattle.hep_machine.specs.Words.{Form, Name, Statement, Units, frame_cells, function_called, is_external, listed_meaning, spelling, state_after, subroutine_called, unit_at}
 use Rattle.hep_conditions.specs.Statements.{NameWithList, names_with_lists}
 use Rattle.hep_image.specs.Names.{names_in_order}
-use Rattle.hep_views.specs.declared.whereabouts.Whereabouts.{Whereabouts}
-use Rattle.hep_views.specs.Standing.{whereabouts_by}
+use Rattle.hep_core.specs.Whereabouts.{Whereabouts}
+use Rattle.hep_core.specs.Standing.{whereabouts_by}
 use Rattle.hep_notes.specs.Shown.{words_text}
 use Rattle.hep_dump.specs.declared.wants.Want.{Want}
 use Rattle.hep_dump.specs.Stops.{place_words}

@@ -1,3 +1,11 @@
+pub use Rattle.hep_core.specs.declared.stop.Verdict
+pub use Rattle.hep_core.specs.declared.stop.Turns
+pub use Rattle.hep_core.specs.declared.stop.Turn
+pub use Rattle.hep_core.specs.declared.stop.ChoiceStop
+pub use Rattle.hep_core.specs.declared.fault.ChooseFault
+pub use Rattle.hep_core.specs.States
+pub use Rattle.hep_core.specs.Going
+pub use Rattle.hep_core.specs.Value
 pub mod Lines
 pub mod Choices
 pub mod Histories

@@ -21,6 +21,7 @@ pub use given::{choices_of_history, read_given};
 /// Why a text is refused: 601 for a history, 602 for choices, with the first bad line, and line 0
 /// where the text is too long. Neither is about a name.
 pub use hep_base::Refusal as HistFault;
+pub use hep_core::{ChoiceStop, ChooseFault, Core, Fault, NewFault, Verdict};
 pub use hep_entries::History;
 pub use history::{read_text, write_text};
 pub use replays::replay;

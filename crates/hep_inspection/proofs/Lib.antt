@@ -1,2 +1,3 @@
 mod Told
 mod Covered
+mod Compared

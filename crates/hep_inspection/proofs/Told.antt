@@ -1,13 +1,13 @@
 -- What everything holds after entries is what it holds after these one step at a time; and what is left of a source whose state is told.
-use Rattle.std.proofs.Common.{◌≡◌, ℕ, zero, suc, ◌≤◌, List, [], ◌∷◌, ◌++◌, Bool, Option, Result, inl, inr, length, replicate, take, refl, subst, sym, ap, ◌∙◌, IfOk, IsSome}
+use Rattle.std.proofs.Common.{◌≡◌, ℕ, ◌≤◌, List, [], ◌++◌, Bool, Option, Result, inl, inr, length, take, subst, ap, ◌∙◌, IfOk, IsSome}
 use Rattle.std.specs.Io.KnownBytes.{Consumes, IsAtEnd}
 use Rattle.hep_core.specs.Value.{CoreValue}
 use Rattle.hep_history.specs.Histories.{entry_text, IsAllowed}
 use Rattle.hep_history.specs.Lines.{AreLines}
-use Rattle.hep_history.specs.Replays.{ArePossible, replayed, single_entries, single_steps}
+use Rattle.hep_history.specs.Replays.{ArePossible, replayed, single_entries}
 use Rattle.hep_history.proofs.Turns.{state_singles}
 use Rattle.hep_machine.specs.declared.event.Entry.{Entry}
-use Rattle.hep_machine.specs.Words.{Progress, Units, opening_layout, progress_after_entry, progress_after_steps, progress_from, opening}
+use Rattle.hep_machine.specs.Words.{Units, opening_layout, opening}
 use Rattle.hep_states.specs.Lines as lines
 use Rattle.hep_states.specs.States.{contents_text, state_text}
 use Rattle.hep_run.specs.declared.options.Run.{Run}

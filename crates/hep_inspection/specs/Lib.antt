@@ -1,3 +1,5 @@
 pub mod States
 pub mod Covers
 pub mod Counted
+pub mod Diffs
+pub mod Remade

@@ -1,22 +1,25 @@
--- What is told of the first entries of a history: docs/RUNS.md, "What everything holds" and "Why processes wait".
+-- What is told of the first entries of a history: docs/RUNS.md, "What everything holds", "What each step did" and "Why processes wait".
 use Rattle.std.specs.Prelude.{◌≡◌, ◌⊎◌, ℕ, Bool, List, length, take, None, IsSome}
 use Rattle.hep_machine.specs.declared.event.Entry.{Entry}
 use Rattle.hep_machine.specs.Words.{Units, opening_layout}
 use Rattle.hep_history.specs.Lines.{AreLines, IsRefusedText}
 use Rattle.hep_history.specs.Histories.{entry_text, IsAllowed}
 use Rattle.hep_history.specs.Replays.{ArePossible, IsFirstImpossible}
-use Rattle.hep_reasons.specs.Reasons.{why_text}
+use Rattle.hep_causes.specs.Reasons.{why_text}
 use Rattle.hep_states.specs.States.{state_text}
+use Rattle.hep_turns.specs.Traces.{trace_text}
+use Rattle.hep_turns.specs.Pages.{shown_on}
 use Rattle.hep_inspection.specs.declared.state.Telling.{Telling}
-use Rattle.hep_inspection.specs.declared.state.Telling.TheVariants.{State, Why}
+use Rattle.hep_inspection.specs.declared.state.Telling.TheVariants.{State, Trace, Why}
 use Rattle.hep_run.specs.Checks.{outcome_of_text}
 use Rattle.hep_outcome.specs.Outcome.{Outcome, outcome_of_full_arena}
 use Rattle.hep_run.specs.Outcome.{RunsTo}
 use Rattle.hep_outcome.specs.Replay.{outcome_of_refused_history}
 
--- what is told of entries: what everything holds after them, or why processes wait
+-- what is told of entries: what everything holds after them, what each step did, or why processes wait
 abbrev pub told : Telling → Units → List Entry → List ℕ
 told State program entries = state_text program (length entries) entries
+told (Trace page) program entries = trace_text program (shown_on page) entries
 told Why program entries = why_text program entries
 
 -- what is written of these entries: what is told; or that COMMON and the main program's frame don't fit the arena, or the first entry that isn't

@@ -2,7 +2,9 @@
 #![tactic(auto)]
 
 pub mod cover;
+pub mod diff;
 pub mod state;
 
 pub use cover::{AskedCover, cover_noted};
+pub use diff::{AskedDiff, diff_noted};
 pub use state::{AskedState, Telling, state_noted, state_source};

@@ -1,6 +1,7 @@
 //! The bytes of a source and of a history to what everything holds after the history's first entries.
-ghost use Rattle.std.specs.Prelude.{◌≡◌, ◌≤◌, false, IfOk, OnErr};
+ghost use Rattle.std.specs.Prelude.{◌≡◌, ◌≤◌, false, length, IfOk, OnErr};
 ghost use Rattle.hep_causes.specs.Watches.{IsReplayed};
+ghost use Rattle.hep_history.specs.Replays.{ArePossible};
 ghost use Rattle.hep_inspection.specs.declared.state.Telling.TheVariants.{State};
 ghost use Rattle.hep_run.specs.Delivery.{LeavesOfSource, status_alone};
 ghost use Rattle.hep_run.specs.Memory.{MayReadOn, RefusesLargeSource};
@@ -22,14 +23,17 @@ use hep_run::transcript::{
     text_transcript,
 };
 use hep_survey::state_text;
+use hep_turns::{Page, trace_text};
 use std::alloc::{AllocError, Global};
 use std::io::{Read, Write};
 
 /// What is told of the first entries of a history.
-#[derive(Clone, Copy, Debug, PartialEq, Eq)]
-pub enum Telling {
+#[derive(Clone, Copy)]
+pub enum Telling<'a> {
     /// What everything holds after them.
     State,
+    /// What each of their steps did, as far as it is shown.
+    Trace(Page<'a>),
     /// Why processes wait after them.
     Why,
 }
@@ -37,7 +41,7 @@ pub enum Telling {
 /// What is asked of the first entries of a history.
 #[derive(Clone, Copy)]
 pub struct AskedState<'a> {
-    pub telling: Telling,
+    pub telling: Telling<'a>,
     /// The text of the history.
     pub history: &'a [u8],
     /// After how many entries; after all of them where there are no more.
@@ -55,13 +59,15 @@ fn told_text(
     alloc: Global,
     core: &Core,
     entries: &History,
-    telling: Telling,
+    telling: Telling<'_>,
 ) -> Result<Vec<u8>, AllocError>
-    requires { IsReplayed core.now.core entries.now.items }
-    ensures { IfOk result (λ text. text.items ≡ told telling core.now.core.program entries.now.items) }
+    requires replayed { IsReplayed core.now.core entries.now.items }
+    requires possible { ArePossible core.now.core.program core.now.core.cells entries.now.items (length entries.now.items) }
+    ensures { IfOk result (λ text. text.items ≡ told telling.entry core.now.core.program entries.now.items) }
 {
     match telling {
         Telling::State => state_text(alloc, core, entries.len()),
+        Telling::Trace(page) => trace_text(alloc, core, entries, &page),
         Telling::Why => why_text(alloc, core, entries),
     }
 }
@@ -115,8 +121,9 @@ pub fn state_transcript(
     }
 }
 
-/// Reads a source, makes the first entries of a history of it again, and writes to `output` what everything holds then: where each process
-/// is, and what each variable of COMMON and of the activations that are held has; or to `messages` why there is no such state.
+/// Reads a source, makes the first entries of a history of it again, and writes to `output` what is told of them: what everything holds then,
+/// where each process is, and what each variable of COMMON and of the activations that are held has; what each of their steps did; or why
+/// processes wait; or to `messages` why there is no such state.
 ///
 /// The history's bytes were read before, as those of `replay_noted` are. The answer is the code of a `Status`.
 pub fn state_noted<R: Read, W: Write, E: Write>(

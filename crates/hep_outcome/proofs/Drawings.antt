@@ -6,11 +6,11 @@ use Rattle.std.proofs.lemmas.Option.{none-some, slice_get_past}
 use Rattle.std.proofs.Math.Seq.{take-append_seam}
 use Rattle.hep_machine.specs.declared.event.Entry.{Entry}
 use Rattle.hep_machine.specs.Words.{Units, last_process, living, next_of_ready, next_ready, progress_after, ready_in, state_after}
-use Rattle.hep_core.specs.declared.stop.ChoiceStop.{ChoiceStop}
-use Rattle.hep_core.specs.declared.stop.Turn.{Turn}
-use Rattle.hep_core.specs.declared.fault.ChooseFault.TheVariants.{NoSuchProcess, Stopped}
-use Rattle.hep_core.specs.Value.{CoreValue, IsChoice, IsStop, opening_of, ready_of, state_of}
-use Rattle.hep_core.proofs.Outs.{all_free}
+use Rattle.hep_history.specs.ChoiceStop.{ChoiceStop}
+use Rattle.hep_history.specs.Turn.{Turn}
+use Rattle.hep_history.specs.ChooseFault.TheVariants.{NoSuchProcess, Stopped}
+use Rattle.hep_history.specs.Value.{CoreValue, IsChoice, IsStop, opening_of, ready_of, state_of}
+use Rattle.hep_history.proofs.Outs.{all_free}
 use Rattle.hep_lots.specs.Drawing.{drawn, next_drawn, stay_of, word_of}
 use Rattle.hep_lots.specs.Kept.{LotsValue, lots_after, next_in}
 use Rattle.hep_lots.proofs.Draws.{drawn-comes, drawn-none}

@@ -1,3 +1,4 @@
+pub use Rattle.hep_history.proofs.Going
 pub mod Schedules
 pub mod Outcomes
 mod Drawings

@@ -1,3 +1,13 @@
+pub use Rattle.hep_history.specs.Lines as HistoryLines
+pub use Rattle.hep_history.specs.Histories
+pub use Rattle.hep_history.specs.Given
+pub use Rattle.hep_history.specs.Verdict
+pub use Rattle.hep_history.specs.ChoiceStop
+pub use Rattle.hep_history.specs.Turns
+pub use Rattle.hep_history.specs.ChooseFault
+pub use Rattle.hep_history.specs.Going
+pub use Rattle.hep_history.specs.Replays
+pub use Rattle.hep_history.specs.Value
 pub mod Texts
 pub mod Lines
 pub mod Statuses

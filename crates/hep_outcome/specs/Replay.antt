@@ -2,10 +2,10 @@
 use Rattle.std.specs.Prelude.{◌≡◌, ◌⊎◌, ℕ, Bool, List, [], ◌++◌, codes, length, None, IsSome}
 use Rattle.hep_machine.specs.declared.event.Entry.{Entry}
 use Rattle.hep_machine.specs.Words.{Units, opening_layout}
-use Rattle.hep_core.specs.declared.stop.Verdict.{Verdict}
-use Rattle.hep_core.specs.declared.stop.Verdict.TheVariants.{Running}
+use Rattle.hep_history.specs.Verdict.{Verdict}
+use Rattle.hep_history.specs.Verdict.TheVariants.{Running}
 use Rattle.hep_image.specs.Names.{names_in_order}
-use Rattle.hep_core.specs.Value.{CoreValue, state_of, verdict_of}
+use Rattle.hep_history.specs.Value.{CoreValue, state_of, verdict_of}
 use Rattle.hep_output.specs.Records.{records_text}
 use Rattle.hep_dump.specs.Faults.{faults_text}
 use Rattle.hep_history.specs.Lines.{AreLines, IsRefusedText}

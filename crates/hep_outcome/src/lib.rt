@@ -11,6 +11,8 @@ pub mod tally;
 pub mod texts;
 pub mod transcript;
 
+pub use hep_history::history::MOST_BYTES;
+pub use hep_history::{Choices, ChooseFault, Core, NewFault, read_given, write_text};
 pub use lines::Lines;
 pub use options::{
     AskedLots, AskedReplay, AskedRun, AskedSample, LotOptions, Options, SampleOptions,

@@ -12,11 +12,11 @@ use crate::lines::Lines;
 use crate::status::Status;
 use crate::texts::put_refusal;
 use hep_base::Text;
-use hep_core::{ChoiceStop, Core, Fault, Verdict};
 use hep_dump::{
     append_all_waiting, append_all_wants, append_faults, append_places, opening_notes, used_notes,
 };
 use hep_entries::History;
+use hep_history::{ChoiceStop, Core, Fault, Verdict};
 use hep_image::Image;
 use hep_output::append_records;
 use std::alloc::{AllocError, Global};

@@ -1,3 +1,5 @@
+pub use Rattle.hep_going.proofs.Calls
+pub use Rattle.hep_going.proofs.Pushed
 mod Inside
 pub mod Runs
 mod Room

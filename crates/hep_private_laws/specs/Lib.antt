@@ -1,3 +1,5 @@
+pub use Rattle.hep_going.specs.UnitTables
+pub use Rattle.hep_going.specs.Gone as Going
 pub mod Gone
 pub mod Saved
 pub mod Scalars

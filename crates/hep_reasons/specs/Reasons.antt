@@ -3,7 +3,7 @@ use Rattle.std.specs.Prelude.{ℕ, zero, suc, Bool, false, List, [], ◌∷◌, 
 use Rattle.std.specs.Option.{option_map_or}
 use Rattle.hep_machine.specs.declared.event.Entry.{Entry}
 use Rattle.hep_machine.specs.Words.{State, Units, Wanted, living, state_after, wanted_by}
-use Rattle.hep_core.specs.Value.{listed_after}
+use Rattle.hep_dump.specs.Value.{listed_after}
 use Rattle.hep_states.specs.Lines.{head_text}
 use Rattle.hep_views.specs.declared.listed.Listed.{Listed}
 use Rattle.hep_reasons.specs.Changes.{latest_change}

@@ -2,14 +2,14 @@
 use Rattle.std.proofs.Common.{◌≡◌, ◌≢◌, ℕ, Bool, true, List, Option, Some, None, IsSome, inr, refl, sym, ap, ◌∙◌, subst}
 use Rattle.std.proofs.lemmas.Option.{none-some}
 use Rattle.hep_machine.specs.Words.{IsLegal, opening_layout, Units}
-use Rattle.hep_core.specs.Value.{CoreValue, IsStop}
-use Rattle.hep_reports.specs.declared.fault.CloseFault.TheVariants as close
+use Rattle.hep_outcome.specs.Value.{CoreValue, IsStop}
+use Rattle.hep_workers.specs.CloseFault.TheVariants as close
 use Rattle.hep_workers.specs.declared.fault.WorkFault.{WorkFault}
 use Rattle.hep_workers.specs.declared.fault.WorkFault.TheVariants.{NoMemory, ArenaFull, NoTicket, NoThread, Close}
-use Rattle.hep_reports.specs.declared.options.WorkOptions.{WorkOptions}
-use Rattle.hep_reports.specs.declared.receipt.Receipt.{Receipt}
+use Rattle.hep_workers.specs.WorkOptions.{WorkOptions}
+use Rattle.hep_workers.specs.Receipt.{Receipt}
 use Rattle.hep_workers.specs.Faults.{number_of}
-use Rattle.hep_reports.specs.Reports.{IsReport}
+use Rattle.hep_workers.specs.Reports.{IsReport}
 use Rattle.hep_workers.specs.Faults.{IsWorkFault}
 use Rattle.hep_outcome.specs.Outcome.{Outcome, outcome_of_end, verdict_after}
 use Rattle.hep_run.specs.Workers.{IsImageWorked, is_refusal_of_workers}

@@ -1,9 +1,9 @@
 -- Files and texts beside a source, and its two outputs: docs/MACHINE.md, "The program".
 use Rattle.std.specs.Prelude.{◌≡◌, ◌⊎◌, ℕ, ◌<◌, ◌≤◌, List, [], codes, length, take, Option, Result, Ok, Err}
 use Rattle.std.specs.Io.KnownBytes.{Appends, Keeps, Consumes, IsAtEnd}
-use Rattle.hep_history.specs.Lines.{most_bytes}
-use Rattle.hep_history.specs.Given.{AreGiven, IsRefusedGiven}
-use Rattle.hep_history.specs.Histories.{history_text}
+use Rattle.hep_outcome.specs.HistoryLines.{most_bytes}
+use Rattle.hep_outcome.specs.Given.{AreGiven, IsRefusedGiven}
+use Rattle.hep_outcome.specs.Histories.{history_text}
 use Rattle.hep_run.specs.declared.options.Run.{Run}
 use Rattle.hep_outcome.specs.declared.status.Status.TheVariants.{Usage, NoMemory, DeviceFailed}
 use Rattle.hep_outcome.specs.Statuses.{status_code}

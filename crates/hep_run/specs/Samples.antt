@@ -1,7 +1,7 @@
 -- What a sample of a source comes to: docs/RUNS.md, "Lots".
 use Rattle.std.specs.Prelude.{◌≡◌, ◌⊎◌, ℕ, Bool, false, List, [], length, map, slice_get, Some}
 use Rattle.hep_machine.specs.Words.{Units}
-use Rattle.hep_history.specs.Histories.{history_text}
+use Rattle.hep_outcome.specs.Histories.{history_text}
 use Rattle.hep_outcome.specs.declared.options.LotOptions.{LotOptions}
 use Rattle.hep_outcome.specs.declared.options.SampleOptions.{SampleOptions}
 use Rattle.hep_outcome.specs.Outcome.{Outcome}

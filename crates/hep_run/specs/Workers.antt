@@ -4,10 +4,10 @@ use Rattle.std.specs.Fmt.{decimal}
 use Rattle.std.specs.List.{list_any}
 use Rattle.hep_machine.specs.declared.event.Entry.{Entry}
 use Rattle.hep_machine.specs.Words.{IsLegal, opening_layout, Units}
-use Rattle.hep_core.specs.declared.stop.ChoiceStop.{ChoiceStop}
-use Rattle.hep_core.specs.declared.stop.Verdict.TheVariants.{Running}
-use Rattle.hep_core.specs.Value.{IsStop}
-use Rattle.hep_reports.specs.declared.options.WorkOptions.{WorkOptions}
+use Rattle.hep_outcome.specs.ChoiceStop.{ChoiceStop}
+use Rattle.hep_outcome.specs.Verdict.TheVariants.{Running}
+use Rattle.hep_outcome.specs.Value.{IsStop}
+use Rattle.hep_workers.specs.WorkOptions.{WorkOptions}
 use Rattle.hep_outcome.specs.declared.status.Status.TheVariants as statuses
 use Rattle.hep_outcome.specs.Outcome.{Outcome, outcome_of_end, outcome_of_full_arena, verdict_after}
 use Rattle.hep_run.specs.Outcome.{RunsTo}

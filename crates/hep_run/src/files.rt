@@ -4,7 +4,7 @@
 //! why, so that nothing more is to be written.
 ghost use Rattle.std.specs.Prelude.{◌≡◌, ◌≢◌, codes, IfOk, IfErr, Ok, Err};
 ghost use Rattle.std.specs.Io.KnownBytes.{Keeps};
-ghost use Rattle.hep_history.specs.Lines.{most_bytes};
+ghost use Rattle.hep_outcome.specs.HistoryLines.{most_bytes};
 ghost use Rattle.hep_run.specs.Delivery.{CannotRead, SaysLines, SaysUnread, SomeOf, write_fault_text};
 ghost use Rattle.hep_run.specs.Files.{HasReadText, KeepsHistory, PutsText, ReadsChoices, SaysRefusal};
 ghost use Rattle.hep_outcome.specs.declared.status.Status.TheVariants.{DeviceFailed, NoMemory, Usage};
@@ -14,10 +14,8 @@ use crate::input::{ReadFault, read_input};
 use crate::options::Run;
 use crate::source::NO_MEMORY;
 use hep_base::Refusal;
-use hep_history::history::MOST_BYTES;
-use hep_history::{Choices, read_given, write_text};
-use hep_outcome::Status;
 use hep_outcome::texts::put_refusal;
+use hep_outcome::{Choices, MOST_BYTES, Status, read_given, write_text};
 use std::alloc::Global;
 use std::io::{Read, Write};
 

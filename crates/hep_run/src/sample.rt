@@ -13,9 +13,8 @@ use crate::lots::lots_transcript;
 use crate::options::{AskedSample, LotOptions, SampleOptions};
 use crate::source::NO_MEMORY;
 use crate::transcript::{Transcript, fault_transcript, text_transcript};
-use hep_history::write_text;
-use hep_outcome::Status;
 use hep_outcome::tally::{Tally, count, nth_options, seeds_of, text_of};
+use hep_outcome::{Status, write_text};
 use std::alloc::{AllocError, Global};
 use std::io::Write;
 

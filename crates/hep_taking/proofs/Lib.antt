@@ -1,3 +1,5 @@
+pub use Rattle.hep_private_laws.proofs.Calls
+pub use Rattle.hep_private_laws.proofs.Runs
 pub mod Putting
 pub mod Loops
 pub mod Copies

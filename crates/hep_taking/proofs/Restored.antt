@@ -3,7 +3,7 @@ use Rattle.std.proofs.Common.{◌≡◌, ℕ, ◌+◌, ◌-◌, List, [], ◌∷
 use Rattle.hep_machine.specs.Words.{Units, with_numbered}
 use Rattle.hep_machine.specs.declared.slot.Slot.{Slot}
 use Rattle.hep_image.specs.Finding.{cells_in}
-use Rattle.hep_binding.proofs.Calls.{set-numbered}
+use Rattle.hep_private_laws.proofs.Calls.{set-numbered}
 use Rattle.hep_private.specs.declared.record.Record.{Record}
 use Rattle.hep_private_laws.specs.Gone.{contents_with}
 use Rattle.hep_private_laws.specs.Saved.{AreOf, put_back}

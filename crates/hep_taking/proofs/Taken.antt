@@ -3,7 +3,7 @@ use Rattle.std.proofs.Common.{◌≡◌, ℕ, ◌≤◌, ◌++◌, List, ◌∷�
 use Rattle.std.specs.Vec.{with_item}
 use Rattle.hep_machine.specs.Words.{Units, Value, unit_at}
 use Rattle.hep_machine.specs.declared.slot.Slot.{Slot}
-use Rattle.hep_binding.proofs.Calls.{set-numbered}
+use Rattle.hep_private_laws.proofs.Calls.{set-numbered}
 use Rattle.hep_code.specs.Words.{deepest}
 use Rattle.hep_image.specs.Image.{most_cells}
 use Rattle.hep_image.specs.Private.{private_cells}

@@ -1,3 +1,7 @@
+pub use Rattle.hep_private_laws.specs.UnitTables
+pub use Rattle.hep_private_laws.specs.Going
+pub use Rattle.hep_private_laws.specs.Beside
+pub use Rattle.hep_private_laws.specs.Gone
 pub mod OwnCells
 pub mod Levels
 pub mod Saved

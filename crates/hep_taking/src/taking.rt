@@ -1,6 +1,6 @@
 //! The steps of a segment in the machine of a core.
 ghost use Rattle.std.specs.Prelude.{◌≡◌, length};
-ghost use Rattle.hep_going.specs.Gone.{MakesMoves};
+ghost use Rattle.hep_private_laws.specs.Going.{MakesMoves};
 ghost use Rattle.hep_taking.specs.Taking.{CanTake, HasTakenIn};
 
 use crate::top::take;

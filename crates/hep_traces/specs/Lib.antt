@@ -1,3 +1,4 @@
+pub use Rattle.hep_dump.specs.Faults
 pub mod Values
 pub mod Lines
 pub mod Deeds

@@ -3,7 +3,7 @@ use Rattle.std.specs.Prelude.{ℕ, Bool, true, false, List, [], Result, Ok, Err}
 use Rattle.hep_code.specs.declared.instruction.Evaluation.{Evaluation}
 use Rattle.hep_code.specs.declared.instruction.Evaluation.TheVariants.{Load, Sign, Not, Combine, Apply, Test}
 use Rattle.hep_code.specs.Words.{first_operand, second_operand}
-use Rattle.hep_dump.specs.Faults.{kind_text}
+use Rattle.hep_traces.specs.Faults.{kind_text}
 use Rattle.hep_machine.specs.declared.event.Kind.{Kind}
 use Rattle.hep_machine.specs.Words.{Value, combined_value, function_value, negated_value, signed_value}
 use Rattle.hep_traces.specs.Lines.{applied_text, combined_text, fault_text, negated_text, signed_text}

@@ -9,13 +9,16 @@ ghost use Rattle.hep_command.specs.Jobs.{IsInRange};
 
 use hep_command::{Job, Request, SAME_FILE, explain, read_request};
 use hep_history::Choices;
-use hep_inspection::{AskedCover, AskedState, Telling, cover_noted, state_noted};
+use hep_inspection::{
+    AskedCover, AskedDiff, AskedState, Telling, cover_noted, diff_noted, state_noted,
+};
 use hep_run::{
     AskedLots, AskedReplay, AskedRun, AskedSample, AskedWork, LotOptions, NoGate, Options,
     ReadFault, Run, SampleOptions, WorkOptions, answer, check_noted, choices_of, history_text,
     list_noted, lots_history, lots_noted, put_text, read_text_file, replay_noted, run_noted,
     sample_bytes, say_unread, say_unwritten, warn_noted, work_noted,
 };
+use hep_turns::Page;
 use std::fs::File;
 use std::io::ErrorKind;
 use std::os::unix::fs::MetadataExt;
@@ -332,6 +335,13 @@ fn replay_file(
     Ok(run.status)
 }
 
+fn bytes_of(word: Option<&str>) -> Option<&[u8]> {
+    match word {
+        Some(word) => Some(word.as_bytes()),
+        None => None,
+    }
+}
+
 // Says what is asked of the first entries of a history.
 fn state_file(rt: &HostRuntime, file: &str, asked: &AskedState<'_>) -> Result<u8, u8> {
     let mut source = opened(rt, file, asked.long)?;
@@ -360,6 +370,18 @@ fn all_bytes(rt: &HostRuntime, paths: &[&str], long: bool) -> Result<Vec<Vec<u8>
 fn cover_file(rt: &HostRuntime, file: &str, asked: &AskedCover<'_>) -> Result<u8, u8> {
     let mut source = opened(rt, file, asked.long)?;
     Ok(cover_noted(
+        rt.alloc(),
+        &mut source,
+        asked,
+        &mut rt.stdout(),
+        &mut rt.stderr(),
+    ))
+}
+
+// Says what differs between the runs of two histories.
+fn diff_file(rt: &HostRuntime, file: &str, asked: &AskedDiff<'_>) -> Result<u8, u8> {
+    let mut source = opened(rt, file, asked.long)?;
+    Ok(diff_noted(
         rt.alloc(),
         &mut source,
         asked,
@@ -458,6 +480,32 @@ fn done<H: Threads + Wait + Sync>(
             };
             state_file(rt, file, &asked)
         }
+        Job::Trace {
+            file,
+            history,
+            first,
+            last,
+            process,
+            cell,
+            arena,
+        } => {
+            let history = file_bytes(rt, history, long)?;
+            let last = last.unwrap_or(u64::MAX);
+            let page = Page {
+                first: first.unwrap_or(1),
+                last,
+                process,
+                cell: bytes_of(cell),
+            };
+            let asked = AskedState {
+                telling: Telling::Trace(page),
+                history: &history,
+                entries: last,
+                arena,
+                long,
+            };
+            state_file(rt, file, &asked)
+        }
         Job::Why {
             file,
             history,
@@ -481,6 +529,22 @@ fn done<H: Threads + Wait + Sync>(
                 long,
             };
             cover_file(rt, file, &asked)
+        }
+        Job::Diff {
+            file,
+            history,
+            other,
+            arena,
+        } => {
+            let first = file_bytes(rt, history, long)?;
+            let second = file_bytes(rt, other, long)?;
+            let asked = AskedDiff {
+                first: &first,
+                second: &second,
+                arena,
+                long,
+            };
+            diff_file(rt, file, &asked)
         }
         Job::List { file } => list_file(rt, file, long),
         Job::Explain {

@@ -1,5 +1,5 @@
 use Rattle.std.proofs.Common.{◌≡◌, ◌∙◌, arith, refl}
-use Rattle.hep_core.proofs.Going.{rounds-going}
+use Rattle.hep_outcome.proofs.Going.{rounds-going}
 use Rattle.hep_outcome.proofs.Schedules.{IsLonger, rounds_made}
 use Rattle.hep_choosing.proofs.run.go_round.Goals as goal
 use Rattle.hep_choosing.proofs.run.go_round.Goals.{After-go_round}

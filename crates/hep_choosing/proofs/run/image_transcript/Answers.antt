@@ -1,7 +1,7 @@
 use Rattle.std.proofs.Common.{◌∙◌, ap, subst, inl, inr}
 use Rattle.hep_outcome.proofs.Wanted.{noted-full, on-err-anyway, on-err-so}
 use Rattle.hep_machine.specs.Words.{Units}
-use Rattle.hep_core.specs.Value.{CoreValue, IsNewFault}
+use Rattle.hep_outcome.specs.Value.{CoreValue, IsNewFault}
 use Rattle.hep_outcome.specs.Outcome.{IsRunOutcome, full_with}
 use Rattle.hep_outcome.specs.Transcripts.{outcome_of}
 use Rattle.hep_choosing.proofs.run.image_transcript.Goals as goal

@@ -1,5 +1,5 @@
 use Rattle.std.proofs.Common.{◌≡◌, ◌+◌, ◌<◌, ◌≤◌, ℕ, Some, ◌∙◌, arith, slice_get}
-use Rattle.hep_core.specs.declared.fault.ChooseFault.TheVariants.{NoSuchProcess, Stopped}
+use Rattle.hep_outcome.specs.ChooseFault.TheVariants.{NoSuchProcess, Stopped}
 use Rattle.hep_outcome.proofs.Schedules.{choice_is_next, named_turns, nobody_chosen, refused_for, stopped, turns_began}
 use Rattle.hep_choosing.proofs.run.make_alike.Goals as goal
 

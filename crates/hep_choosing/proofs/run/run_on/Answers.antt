@@ -1,9 +1,9 @@
 use Rattle.std.proofs.Common.{◌≡◌, ◌≤◌, ◌∙◌, ℕ, sym, length, None, Some, arith}
 use Rattle.hep_machine.specs.Words.{last_process, next_ready}
-use Rattle.hep_core.specs.declared.fault.ChooseFault.TheVariants.{Stopped, NoSuchProcess}
-use Rattle.hep_core.specs.declared.stop.Turns.{Turns}
-use Rattle.hep_core.specs.Going.{AreTurns}
-use Rattle.hep_core.specs.Value.{CoreValue, next_ready_of}
+use Rattle.hep_outcome.specs.ChooseFault.TheVariants.{Stopped, NoSuchProcess}
+use Rattle.hep_outcome.specs.Turns.{Turns}
+use Rattle.hep_outcome.specs.Going.{AreTurns}
+use Rattle.hep_outcome.specs.Value.{CoreValue, next_ready_of}
 use Rattle.hep_outcome.specs.declared.options.Options.{Options}
 use Rattle.hep_outcome.specs.Outcome.{next_process}
 use Rattle.hep_outcome.specs.Progress.{IsRunning}

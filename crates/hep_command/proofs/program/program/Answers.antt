@@ -20,14 +20,20 @@ to_replay = with_subcommand to_sample spec.replay_command.top
 abbrev to_state : App
 to_state = with_subcommand to_replay spec.state_command.top
 
+abbrev to_trace : App
+to_trace = with_subcommand to_state spec.trace_command.top
+
 abbrev to_why : App
-to_why = with_subcommand to_state spec.why_command.top
+to_why = with_subcommand to_trace spec.why_command.top
 
 abbrev to_cover : App
 to_cover = with_subcommand to_why spec.cover_command.top
 
+abbrev to_diff : App
+to_diff = with_subcommand to_cover spec.diff_command.top
+
 abbrev to_list : App
-to_list = with_subcommand to_cover spec.list_command.top
+to_list = with_subcommand to_diff spec.list_command.top
 
 pub returns : goal.returns
 returns c =
@@ -40,7 +46,9 @@ returns c =
     let with_sample = c.with_command-whole-3.ensures to_run spec.sample_command refl with_run c.sample_command.ensures in
     let with_replay = c.with_command-whole-4.ensures to_sample spec.replay_command refl with_sample c.replay_command.ensures in
     let with_state = c.with_command-whole-5.ensures to_replay spec.state_command refl with_replay c.state_command.ensures in
-    let with_why = c.with_command-whole-6.ensures to_state spec.why_command refl with_state c.why_command.ensures in
-    let with_cover = c.with_command-whole-7.ensures to_why spec.cover_command refl with_why c.cover_command.ensures in
-    let with_list = c.with_command-whole-8.ensures to_cover spec.list_command refl with_cover c.list_command.ensures in
+    let with_trace = c.with_command-whole-6.ensures to_state spec.trace_command refl with_state c.trace_command.ensures in
+    let with_why = c.with_command-whole-7.ensures to_trace spec.why_command refl with_trace c.why_command.ensures in
+    let with_cover = c.with_command-whole-8.ensures to_why spec.cover_command refl with_why c.cover_command.ensures in
+    let with_diff = c.with_command-whole-9.ensures to_cover spec.diff_command refl with_cover c.diff_command.ensures in
+    let with_list = c.with_command-whole-10.ensures to_diff spec.list_command refl with_diff c.list_command.ensures in
     c.with_command.ensures to_list spec.explain_command refl with_list c.explain_command.ensures

@@ -1,5 +1,5 @@
 use Rattle.std.proofs.Common.{◌≡◌, ◌+◌, ℕ, suc, List, Option, length}
-use Rattle.hep_reasons.specs.Changes.{turns_from}
+use Rattle.hep_causes.specs.Changes.{turns_from}
 use Rattle.hep_causes.specs.Watches.{Whole}
 use Rattle.hep_coverage.specs.Counting.{IsCounting}
 use Rattle.hep_coverage.proofs.covering.make_entries.Given as goal

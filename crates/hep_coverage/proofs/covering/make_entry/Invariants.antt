@@ -1,5 +1,5 @@
 use Rattle.std.proofs.Common.{ℕ, ◌-◌, ◌++◌, List, Option, replicate}
-use Rattle.hep_reasons.specs.Changes.{turns_of}
+use Rattle.hep_causes.specs.Changes.{turns_of}
 use Rattle.hep_causes.specs.Watches.{Whole}
 use Rattle.hep_coverage.specs.Counting.{IsCounting}
 use Rattle.hep_coverage.proofs.covering.make_entry.Given as goal

@@ -1,6 +1,6 @@
 use Rattle.std.proofs.Common.{◌≡◌, ◌+◌, ◌-◌, ◌<◌, suc, ◌++◌, ◌∙◌, length, sym, ap, subst, arith}
 use Rattle.hep_image.specs.Names.{names_in_order}
-use Rattle.hep_views.specs.Standing.{whereabouts_by}
+use Rattle.hep_core.specs.Standing.{whereabouts_by}
 use Rattle.hep_core.specs.Value.{state_of}
 use Rattle.hep_dump.specs.Stops.{all_places_notes, place_notes, places_notes}
 use Rattle.hep_dump.proofs.Places.{turn}

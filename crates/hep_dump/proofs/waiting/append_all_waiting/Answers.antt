@@ -1,6 +1,6 @@
 use Rattle.std.proofs.Common.{◌≡◌, suc, ◌++◌, ◌+◌, ◌-◌, List, ℕ, Option, Some, None, refl, length, sym, ap, ◌∙◌, append_assoc, append-nil, arith}
 use Rattle.hep_machine.specs.Words.{Units}
-use Rattle.hep_views.specs.declared.listed.Listed.{Listed}
+use Rattle.hep_core.specs.Listed.{Listed}
 use Rattle.hep_core.specs.Value.{state_of}
 use Rattle.hep_dump.specs.Waiting as words
 use Rattle.hep_dump.proofs.Counting.{first-of, no-lines}

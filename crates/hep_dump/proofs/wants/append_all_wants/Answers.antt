@@ -1,5 +1,5 @@
 use Rattle.std.proofs.Common.{◌≡◌, ◌+◌, ◌-◌, ◌<◌, ◌≤◌, suc, ◌++◌, ◌∙◌, length, sym, ap, subst, arith}
-use Rattle.hep_views.specs.Standing.{whereabouts_by}
+use Rattle.hep_core.specs.Standing.{whereabouts_by}
 use Rattle.hep_core.specs.Value.{state_of}
 use Rattle.hep_dump.specs.Wants.{all_wants_notes, wants_from, wants_notes}
 use Rattle.hep_dump.proofs.Places.{none_wanted, wanted_turn}

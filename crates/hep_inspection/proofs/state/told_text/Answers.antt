@@ -10,5 +10,5 @@ returns-in-State c =
     let core = c.args.core.now.core in
     let entries = c.args.entries.now.items in
     IfOk-weaker c.state_text.result _ _ (λ text same.
-    same ∙ ap (λ n. state_text core.program n core.history) c.len.ensures.count ∙ state-told core entries c.requires.made
+    same ∙ ap (λ n. state_text core.program n core.history) c.len.ensures.count ∙ state-told core entries c.requires.replayed.made
     ∙ ap (λ t. told t core.program entries) (sym c.in-State.is)) c.state_text.ensures

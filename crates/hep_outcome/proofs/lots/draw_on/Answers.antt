@@ -1,6 +1,6 @@
 use Rattle.std.proofs.Common.{◌≡◌, ◌∙◌, ℕ, [], Some, ap, arith, length, sym}
-use Rattle.hep_core.specs.declared.fault.ChooseFault.TheVariants.{NoSuchProcess, Stopped}
-use Rattle.hep_core.specs.Value.{CoreValue}
+use Rattle.hep_history.specs.ChooseFault.TheVariants.{NoSuchProcess, Stopped}
+use Rattle.hep_history.specs.Value.{CoreValue}
 use Rattle.hep_lots.specs.Drawing.{next_drawn}
 use Rattle.hep_lots.specs.Kept.{LotsValue, lots_after, lots_next, next_in}
 use Rattle.hep_lots.proofs.Draws.{lots-step}

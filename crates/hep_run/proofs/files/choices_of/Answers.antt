@@ -1,5 +1,5 @@
 use Rattle.std.proofs.Common.{subst, inr}
-use Rattle.hep_history.specs.Given.{ReportsGiven}
+use Rattle.hep_outcome.specs.Given.{ReportsGiven}
 use Rattle.hep_run.proofs.files.choices_of.Goals as goal
 
 pub returns : goal.returns

@@ -1,5 +1,5 @@
 use Rattle.std.proofs.Common.{rules, ap, inl, inr, subst, sym, ◌∙◌}
-use Rattle.hep_reports.specs.Reports.{IsReport}
+use Rattle.hep_workers.specs.Reports.{IsReport}
 use Rattle.hep_workers.specs.Faults.{IsWorkFault}
 use Rattle.hep_outcome.specs.Outcome.{full_with}
 use Rattle.hep_outcome.specs.Transcripts.{outcome_of}

@@ -1,5 +1,5 @@
 use Rattle.std.proofs.Common.{◌≡◌, inl, inr, List, Some, slice_get, sym, ◌∙◌, subst, arith}
-use Rattle.hep_quick.proofs.Onward.{get-one-more}
+use Rattle.hep_private_laws.proofs.Pushed.{get-one-more}
 use Rattle.hep_taking.specs.OwnCells as spec
 use Rattle.hep_taking.specs.declared.own_cells.OwnCells.{OwnCells}
 use Rattle.hep_taking.proofs.own_cells.own_cells_of.Goals as goal

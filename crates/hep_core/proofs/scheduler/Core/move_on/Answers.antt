@@ -4,8 +4,8 @@ use Rattle.hep_source.proofs.Tests.{none-from-not}
 use Rattle.hep_machine.specs.Words.{last_process, living, progress_after, schedule_of, State, state_after}
 use Rattle.hep_blocked.specs.Rolls.{want_of}
 use Rattle.hep_entries.specs.Entries.{Kept}
-use Rattle.hep_quick.specs.UnitTables.{AreTables}
-use Rattle.hep_going.specs.Gone.{HasNoMoveAhead, none}
+use Rattle.hep_taking.specs.UnitTables.{AreTables}
+use Rattle.hep_taking.specs.Going.{HasNoMoveAhead, none}
 use Rattle.hep_state.specs.Words.{LeavesOthers, snapshot_of}
 use Rattle.hep_state.proofs.Unchanged.{on-err}
 use Rattle.hep_core.specs.Invariant.{CoreInvariant, core_value, placed_value}

@@ -1,0 +1,6 @@
+mod Noting
+mod Asked
+mod Living
+mod Rows
+mod Told
+mod Sides

@@ -1,0 +1,98 @@
+//! Processes that are looked at before their turns.
+ghost use Rattle.std.specs.Prelude.{◌≡◌, ◌<◌, ◌^◌, false, length, IfOk};
+ghost use Rattle.hep_core.specs.Value.{state_of};
+ghost use Rattle.hep_machine.specs.Words.{Level, Process as SourceProcess, schedule_of};
+ghost use Rattle.hep_sites.specs.Variables.{AreVariablesOf};
+ghost use Rattle.hep_traces.specs.Traces.{is_accessed};
+ghost use Rattle.hep_glances.specs.Sights.{IsAheadOf, IsShownBy, IsSight, name_sought};
+ghost use Rattle.hep_sights.specs.Freed.{top_in};
+
+use crate::ahead::{is_shown, targets, value_before};
+use crate::laws::turns_are_told;
+use crate::sight::{Before, Sight};
+use hep_coming::coming_of;
+use hep_core::Core;
+use hep_sights::{Ahead, ancestry, numbers_before, reference_ahead, waiting_numbers};
+use hep_sites::Variables;
+use hep_state::laws::activations_are_few;
+use std::alloc::{AllocError, Global};
+
+// What the line of the next turn of a process that lives needs; nothing where it isn't shown.
+fn look_ahead(
+    alloc: Global,
+    core: &Core,
+    ahead: &Ahead<'_>,
+    cell: Option<&[u8]>,
+) -> Result<Option<Before>, AllocError>
+    requires ahead { (top : Level × SourceProcess) × IsAheadOf core.now.core ahead.now top }
+    requires few { length (schedule_of core.now.core.history) < 2 ^ 63 }
+    ensures { IfOk result (λ before. (top : Level × SourceProcess) → IsAheadOf core.now.core ahead.now top
+        → IsShownBy core.now.core (top_in core.now.core ahead.now.process top) before
+        (is_accessed core.now.core.program (name_sought cell.entry) (top_in core.now.core ahead.now.process top))) }
+{
+    ahead.image.is_runnable();
+    turns_are_told();
+    activations_are_few();
+    let reference = reference_ahead(alloc, ahead)?;
+    if !is_shown(ahead, &reference, cell) {
+        return Ok(None);
+    }
+    let Some(place) = core.whereabouts(ahead.process) else {
+        unreachable!()
+    };
+    let operands = ahead.coming.operands.as_slice().to_vec(alloc)?;
+    let list = targets(alloc, ahead)?;
+    let waiting = waiting_numbers(alloc, core)?;
+    let ancestry = ancestry(alloc, ahead)?;
+    let value = value_before(ahead, &reference);
+    Ok(Some(Before {
+        unit: place.unit,
+        line: place.line,
+        operation: ahead.coming.operation,
+        operands,
+        reference,
+        value,
+        list,
+        numbers: numbers_before(ahead),
+        waiting,
+        ancestry,
+        faults: core.faults().len(),
+    }))
+}
+
+/// What the line of the next turn of process p needs of what is so before it, where the turns that access a variable of one name are
+/// shown, or all.
+///
+/// # Errors
+///
+/// Only where memory was refused.
+pub fn look(
+    alloc: Global,
+    core: &Core,
+    variables: &Variables,
+    p: u64,
+    cell: Option<&[u8]>,
+) -> Result<Sight, AllocError>
+    requires variables { AreVariablesOf core.now.core.program variables.now }
+    requires running { (state_of core.now.core).halted ≡ false }
+    requires few { length (schedule_of core.now.core.history) < 2 ^ 63 }
+    ensures { IfOk result (IsSight core.now.core p (name_sought cell.entry)) }
+{
+    if !core.lives(p) {
+        return Ok(Sight {
+            process: p,
+            before: None,
+        });
+    }
+    let (machine, image) = (core.machine(), core.image());
+    let coming = coming_of(alloc, machine, image, p)?;
+    let ahead = Ahead {
+        machine,
+        image,
+        variables,
+        process: p,
+        coming: &coming,
+    };
+    let before = look_ahead(alloc, core, &ahead, cell)?;
+    Ok(Sight { process: p, before })
+}

@@ -1,0 +1,3 @@
+pub use Rattle.hep_traces.specs.Traces
+pub mod Pages
+pub mod Making
