@@ -1,5 +1,4 @@
 pub mod OneName
-mod Among
 pub mod Standing
 pub mod Answered
 pub mod Accessed

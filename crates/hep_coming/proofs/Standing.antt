@@ -1,5 +1,5 @@
 -- Where the top activation of a process stands, by what a core keeps, and that the operation that comes next can be looked at.
-use Rattle.std.proofs.Common.{◌≡◌, ℕ, ◌+◌, ◌<◌, ◌≤◌, false, List, drop, length, subst, arith}
+use Rattle.std.proofs.Common.{◌≡◌, ℕ, ◌+◌, ◌<◌, ◌≤◌, false, List, drop, length, sym, ◌∙◌, subst, arith}
 use Rattle.hep_machine.specs.Words.{Process, Units}
 use Rattle.hep_machine.specs.State.{Level as SourceLevel}
 use Rattle.hep_code.specs.Words.{Stands, deepest, values_ahead}
@@ -40,7 +40,7 @@ module _ {program : Units} {cells : ℕ} {choices : List ℕ} {p : ℕ} (m : Mac
     settled-turn = turn_settled (turn_with program cells choices levels turn.0) c.operands.items k.index
 
     pub settled-there : IsTurning settled-turn
-    settled-there = settled turn.1 c.operands.items k.index k.settled
+    settled-there = settled turn.1 c.operands.items k.index (λ n work stands. record { fits = stands.fits; rest = stands.rest; same = stands.same ∙ sym k.same })
 
     pub ready-there : IsTopRunning settled-turn settled-there → ArePlacedArrays program (unit_at program levels.level.unit)
         → HasFrame m.frames.arena (frame_in_arena (frame_under (nodes_of m.frames.nodes) levels.level.key))

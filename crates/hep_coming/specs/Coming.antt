@@ -3,8 +3,8 @@ use Rattle.std.specs.Prelude.{◌≡◌, ℕ, List, ◌∷◌, drop}
 use Rattle.hep_code.specs.declared.instruction.Instruction.{Instruction}
 use Rattle.hep_code.specs.declared.instruction.Instruction.TheVariants.{Step}
 use Rattle.hep_code.specs.declared.instruction.Operation.{Operation}
-use Rattle.hep_code.specs.Words.{AddressedUnit, Stands, code_of}
-use Rattle.hep_machine.specs.Words.{Units, Value, Work}
+use Rattle.hep_code.specs.Words.{AddressedUnit, code_of, left_to_do}
+use Rattle.hep_machine.specs.Words.{Units, Value}
 use Rattle.hep_state.specs.declared.machine.Machine.{Machine}
 use Rattle.hep_state.specs.Words.{HasLevels, snapshot_of}
 use Rattle.hep_step.specs.Simulation.{unit_addressed}
@@ -17,7 +17,7 @@ HasStep ahead = (line : ℕ) × (o : Operation) × (behind : List Instruction) �
 -- what stands in a unit's code, once the values in front of it are put behind operands of an activation at an index
 pub record IsComing (addressed : AddressedUnit) (operands : List Value) (at : ℕ) (c : Coming) : Type 0 where
   pub index : ℕ
-  pub settled : (k : ℕ) (work : Work) → Stands addressed k work operands at → Stands addressed k work c.operands.items index
+  pub same : left_to_do c.operands.items index (code_of addressed) ≡ left_to_do operands at (code_of addressed)
   pub ahead : drop index (code_of addressed) ≡ Step c.line c.operation ∷ c.behind.now
 
 -- of the top activation of process p

@@ -9,4 +9,3 @@ pub mod names;
 
 pub use access::reply_ahead;
 pub use coming::{Coming, coming_of};
-pub use names::name_in;

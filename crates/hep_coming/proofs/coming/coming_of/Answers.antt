@@ -2,7 +2,7 @@ use Rattle.std.proofs.Common.{◌≡◌, ◌<◌, ◌-◌, ℕ, List, ◌∷◌,
 use Rattle.hep_code.specs.declared.instruction.Instruction.{Instruction}
 use Rattle.hep_code.specs.declared.instruction.Instruction.TheVariants.{Step}
 use Rattle.hep_code.specs.declared.instruction.Operation.{Operation}
-use Rattle.hep_code.specs.Words.{IsPastPushes, Stands, deepest, values_ahead}
+use Rattle.hep_code.specs.Words.{IsPastPushes, Stands, code_of, deepest, left_to_do, values_ahead}
 use Rattle.hep_machine.specs.Words.{Work, line_at, unit_at}
 use Rattle.hep_proc.specs.declared.process.Local.{Local}
 use Rattle.hep_proc.proofs.Levels.{operands-are}
@@ -101,9 +101,11 @@ pub returns : goal.returns
 returns c levels =
     let at = (goal.at.returns c).After-settle in
     let addressed = unit_addressed c.args.image.now levels.level.unit in
-    let items = ap (λ v. v.items) (sym c.in_front.ensures.operands) in
+    let code = same-code at levels in
     record {
       index = c.settle.new.index;
-      settled = λ k work stands. carry (λ i. Stands addressed k work (items i) c.settle.new.index) (settled at levels k work stands);
+      same = (λ i. left_to_do (c.in_front.ensures.operands i).items c.settle.new.index (code_of addressed))
+          ∙ (ap (left_to_do c.settle.new.operands.items c.settle.new.index) (sym code)
+          ∙ (c.settle.ensures.same ∙ (λ i. left_to_do (same-operands at levels i) (same-level at levels i).index (code i))));
       ahead = ap (drop c.settle.new.index) (sym (same-code at levels)) ∙ (sym (whole at) ∙ c.in_front.ensures.ahead);
     }
