@@ -1,3 +1,4 @@
 pub mod NumberLemmas
 pub mod ProgramLemmas
+pub mod TableLemmas
 mod Worked

@@ -3,3 +3,4 @@ pub mod Asked
 pub mod Program
 pub mod Jobs
 pub mod Explanations
+pub mod Table

@@ -8,6 +8,7 @@ pub mod meanings;
 mod mistakes;
 mod program;
 pub mod refusals;
+mod table;
 pub mod words;
 
 pub use explaining::explain;

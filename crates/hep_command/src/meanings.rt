@@ -1,6 +1,6 @@
 //! What faults, other ends of a run and statuses mean, by their names. docs/FAULTS.md has the same
 //! texts.
-ghost use Rattle.std.specs.Prelude.{◌≡◌, ◌||◌, is_some};
+ghost use Rattle.std.specs.Prelude.{◌≡◌, ◌||◌, is_some, map};
 ghost use Rattle.hep_command.specs.Explanations.{ends, faults, is_among, statuses};
 
 const OVERFLOW: &str = "FAULT process unit LINE n OVERFLOW: a value is below -9223372036854775808 or
@@ -377,72 +377,71 @@ a status of the launchers alone, and no source gets it.
 Read the lines above it on standard error: they name the crate and say why.
 ";
 
-// What a fault means, and what to do.
-fn of_fault(name: &str) -> Option<&'static str>
-    ensures { is_some result ≡ is_among faults name.now }
-{
-    let text = match name {
-        "OVERFLOW" => OVERFLOW,
-        "DIVIDE" => DIVIDE,
-        "RANGE" => RANGE,
-        "UNDEFINED" => UNDEFINED,
-        "SHAPE" => SHAPE,
-        "STEP" => STEP,
-        _ => return None,
-    };
-    Some(text)
-}
+// The names of faults, each with what it means and what to do.
+const FAULTS: [(&str, &str); 6] = [
+    ("OVERFLOW", OVERFLOW),
+    ("DIVIDE", DIVIDE),
+    ("RANGE", RANGE),
+    ("UNDEFINED", UNDEFINED),
+    ("SHAPE", SHAPE),
+    ("STEP", STEP),
+];
 
 // What else a run ends with.
-fn of_end(name: &str) -> Option<&'static str>
-    ensures { is_some result ≡ is_among ends name.now }
-{
-    let text = match name {
-        "FAULT" => FAULT,
-        "WAITING" => WAITING,
-        "STOPPED ARENA FULL" | "ARENA FULL" => STOPPED_ARENA_FULL,
-        "STOPPED STEP LIMIT" | "STEP LIMIT" => STOPPED_STEP_LIMIT,
-        "NO MEMORY" => NO_MEMORY,
-        "WORKERS REFUSED" => WORKERS_REFUSED,
-        "READ FAULT" => READ_FAULT,
-        "WRITE FAULT" => WRITE_FAULT,
-        "REFUSED" => REFUSED,
-        "STILL RUNNING" => DONE,
-        "WARNING" => WARNING,
-        _ => return None,
-    };
-    Some(text)
-}
+const ENDS: [(&str, &str); 13] = [
+    ("FAULT", FAULT),
+    ("WAITING", WAITING),
+    ("STOPPED ARENA FULL", STOPPED_ARENA_FULL),
+    ("ARENA FULL", STOPPED_ARENA_FULL),
+    ("STOPPED STEP LIMIT", STOPPED_STEP_LIMIT),
+    ("STEP LIMIT", STOPPED_STEP_LIMIT),
+    ("NO MEMORY", NO_MEMORY),
+    ("WORKERS REFUSED", WORKERS_REFUSED),
+    ("READ FAULT", READ_FAULT),
+    ("WRITE FAULT", WRITE_FAULT),
+    ("REFUSED", REFUSED),
+    ("STILL RUNNING", DONE),
+    ("WARNING", WARNING),
+];
 
-// What an exit status means.
-fn of_status(name: &str) -> Option<&'static str>
-    ensures { is_some result ≡ is_among statuses name.now }
+const STATUSES: [(&str, &str); 10] = [
+    ("STATUS 0", DONE),
+    ("STATUS 1", REFUSED),
+    ("STATUS 2", UNUSABLE),
+    ("STATUS 3", FAULT),
+    ("STATUS 4", WAITING),
+    ("STATUS 5", STOPPED_ARENA_FULL),
+    ("STATUS 6", STOPPED_STEP_LIMIT),
+    ("STATUS 7", NO_MEMORY),
+    ("STATUS 8", READ_FAULT),
+    ("STATUS 70", UNBUILT),
+];
+
+// What a name means, if it stands among these.
+fn meaning_among(meanings: &[(&'static str, &'static str)], name: &str) -> Option<&'static str>
+    ensures { is_some result ≡ is_among (map (λ meaning. meaning.0.now) meanings.now) name.now }
 {
-    let text = match name {
-        "STATUS 0" => DONE,
-        "STATUS 1" => REFUSED,
-        "STATUS 2" => UNUSABLE,
-        "STATUS 3" => FAULT,
-        "STATUS 4" => WAITING,
-        "STATUS 5" => STOPPED_ARENA_FULL,
-        "STATUS 6" => STOPPED_STEP_LIMIT,
-        "STATUS 7" => NO_MEMORY,
-        "STATUS 8" => READ_FAULT,
-        "STATUS 70" => UNBUILT,
-        _ => return None,
-    };
-    Some(text)
+    match meanings {
+        [] => None,
+        [(known, text), others @ ..] => {
+            if name == *known {
+                Some(*text)
+            } else {
+                meaning_among(others, name)
+            }
+        }
+    }
 }
 
 /// What is meant by a fault, another end of a run or an exit status with this name, and what to do.
 pub fn meaning(name: &str) -> Option<&'static str>
     ensures { is_some result ≡ (is_among faults name.now || (is_among ends name.now || is_among statuses name.now)) }
 {
-    if let Some(text) = of_fault(name) {
+    if let Some(text) = meaning_among(&FAULTS, name) {
         return Some(text);
     }
-    if let Some(text) = of_end(name) {
+    if let Some(text) = meaning_among(&ENDS, name) {
         return Some(text);
     }
-    of_status(name)
+    meaning_among(&STATUSES, name)
 }

@@ -2,14 +2,15 @@ use Rattle.std.proofs.Common.{◌≡◌, ◌∙◌, ap, ap₂, rules, true}
 use Rattle.std.proofs.lemmas.Result.{IfOk-weaker}
 use Rattle.clap.specs.Words.{App, app_of, with_subcommand}
 use Rattle.clap.proofs.WalkLemmas.{both}
+use Rattle.hep_command.proofs.TableLemmas.{is_plain}
 use Rattle.hep_command.proofs.program.with_command.Goals as goal
 use Rattle.std.proofs.lemmas.Bool.{not-true}
 
 pub returns : goal.returns
-returns c = λ app sub plain whole part.
+returns c = λ app whole.
     let whole_is : app_of c.in_ok-whole.field-0 ≡ app = search (rules, whole) in
-    let part_is : app_of c.in_ok-part.part ≡ sub = search (rules, part) in
-    let plain_part : (app_of c.in_ok-part.part).top.is_plain ≡ true = ap (λ (a : App). a.top.is_plain) part_is ∙ plain in
+    let part_is = c.in_ok-part.ensures in
+    let plain_part : (app_of c.in_ok-part.part).top.is_plain ≡ true = ap (λ (a : App). a.top.is_plain) part_is ∙ is_plain c.args.described.now in
     let rest = (both _ _ plain_part).1 in
     let later = (both _ _ rest).1 in
     let no_globals = not-true _ (both _ _ later).0 in
