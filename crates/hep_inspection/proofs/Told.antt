@@ -33,20 +33,19 @@ module _ (program : Units) where
       let listed = progress-singles program (record { state = opening program; listed = [] }) es in
       λ i. lines.head_text count ++ contents_text program (states i) (listed i).listed
 
--- what everything holds after a core's history
-pub state-told : (core : CoreValue) (entries : List Entry) → core ≡ replayed core.program core.cells entries
-    → state_text core.program (length entries) core.history ≡ told State core.program entries
-state-told core entries made = ap (λ (x : CoreValue). state_text core.program (length entries) x.history) made ∙ text-same core.program (length entries) entries
+-- what everything holds after the history of a core that has made entries again
+pub state-told : (core : CoreValue) (program : Units) (cells : ℕ) (entries : List Entry) → core ≡ replayed program cells entries
+    → state_text core.program (length entries) core.history ≡ told State program entries
+state-told core program cells entries made = ap (λ (x : CoreValue). state_text x.program (length entries) x.history) made ∙ text-same program (length entries) entries
 
--- the text of a core that has made the first entries of a history again
-pub first-told : (telling : Telling) (long : Bool) (text : List ℕ) (count cells : ℕ) (program : Units) (entries es : List Entry) (core : CoreValue) (o : Outcome)
-    → AreLines entry_text IsAllowed text entries → es ≡ take count entries → core ≡ replayed program cells es
+-- what is told of the first entries of a history
+pub first-told : (telling : Telling) (long : Bool) (text : List ℕ) (count cells : ℕ) (program : Units) (entries es : List Entry) (o : Outcome)
+    → AreLines entry_text IsAllowed text entries → es ≡ take count entries
     → IsSome (opening_layout program cells) → ArePossible program cells es (length es)
-    → o ≡ outcome_of_text (told telling core.program es)
+    → o ≡ outcome_of_text (told telling program es)
     → IsFirstOutcome telling long text count cells program o
-first-told telling long text count cells program entries es core o read front made fits possible is =
-    let so : o ≡ outcome_of_text (told telling program es) = is ∙ ap (λ (x : CoreValue). outcome_of_text (told telling x.program es)) made in
-    inr (entries, read, subst (λ fs. IsToldOutcome telling long program cells fs o) front (inr (fits, inr (possible, so))))
+first-told telling long text count cells program entries es o read front fits possible is =
+    inr (entries, read, subst (λ fs. IsToldOutcome telling long program cells fs o) front (inr (fits, inr (possible, is))))
 
 module _ (telling : Telling) (long : Bool) (text : List ℕ) (count cells : ℕ) where
   keeps_none : (source : List ℕ) (o : Outcome) → IsSourceTold telling long text count cells source o → o.history ≡ []

@@ -1,16 +1,16 @@
 //! The bytes of a source and of a history to what everything holds after the history's first entries.
-ghost use Rattle.std.specs.Prelude.{◌≡◌, ◌≤◌, false, length, IfOk, OnErr};
-ghost use Rattle.hep_causes.specs.Watches.{IsReplayed};
+ghost use Rattle.std.specs.Prelude.{◌≡◌, ◌≤◌, false, length, IfErr, IfOk, IsSome, OnErr, OnOk};
 ghost use Rattle.hep_history.specs.Replays.{ArePossible};
 ghost use Rattle.hep_inspection.specs.declared.state.Telling.TheVariants.{State};
 ghost use Rattle.hep_run.specs.Delivery.{LeavesOfSource, status_alone};
 ghost use Rattle.hep_run.specs.Memory.{MayReadOn, RefusesLargeSource};
 ghost use Rattle.hep_inspection.specs.States.{IsFirstOutcome, IsSourceTold, told};
+ghost use Rattle.hep_machine.specs.Words.{opening_layout};
 ghost use Rattle.hep_outcome.specs.Transcripts.{outcome_of};
+ghost use Rattle.hep_turns.specs.Making.{IsUntold};
 
 use hep_base::Refusal;
 use hep_causes::why_text;
-use hep_core::Core;
 use hep_history::{History, ReplayFault, first_entries, read_text, replay};
 use hep_image::Image;
 use hep_run::deliver::deliver_made;
@@ -23,7 +23,7 @@ use hep_run::transcript::{
     text_transcript,
 };
 use hep_survey::state_text;
-use hep_turns::{Page, trace_text};
+use hep_turns::{Page, trace_history};
 use std::alloc::{AllocError, Global};
 use std::io::{Read, Write};
 
@@ -54,21 +54,34 @@ pub struct AskedState<'a> {
     ghost few: { arena ≤ 16777216 },
 }
 
-// What is told of the entries that a core has made.
+// What is told of entries, which are made once for it.
 fn told_text(
     alloc: Global,
-    core: &Core,
+    image: Image,
+    asked: &AskedState<'_>,
     entries: &History,
-    telling: Telling<'_>,
-) -> Result<Vec<u8>, AllocError>
-    requires replayed { IsReplayed core.now.core entries.now.items }
-    requires possible { ArePossible core.now.core.program core.now.core.cells entries.now.items (length entries.now.items) }
-    ensures { IfOk result (λ text. text.items ≡ told telling.entry core.now.core.program entries.now.items) }
+) -> Result<Vec<u8>, ReplayFault>
+    ensures told { IfOk result (λ text. text.items ≡ told asked.now.telling image entries.now.items) }
+    ensures fits { OnOk result (IsSome (opening_layout image asked.now.arena)) }
+    ensures possible { OnOk result (ArePossible image asked.now.arena entries.now.items (length entries.now.items)) }
+    ensures untold { IfErr result (IsUntold image asked.now.arena entries.now.items) }
 {
-    match telling {
-        Telling::State => state_text(alloc, core, entries.len()),
-        Telling::Trace(page) => trace_text(alloc, core, entries, &page),
-        Telling::Why => why_text(alloc, core, entries),
+    match asked.telling {
+        Telling::State => {
+            let core = replay(alloc, image, asked.arena, entries)?;
+            let Ok(text) = state_text(alloc, &core, entries.len()) else {
+                return Err(ReplayFault::NoMemory);
+            };
+            Ok(text)
+        }
+        Telling::Trace(page) => trace_history(alloc, image, asked.arena, entries, &page),
+        Telling::Why => {
+            let core = replay(alloc, image, asked.arena, entries)?;
+            let Ok(text) = why_text(alloc, &core, entries) else {
+                return Err(ReplayFault::NoMemory);
+            };
+            Ok(text)
+        }
     }
 }
 
@@ -90,11 +103,8 @@ fn image_state(
     };
     let first = first_entries(alloc, &entries, asked.entries)?;
     let notes = opening_notes_when(alloc, &image, asked.arena, asked.long)?;
-    match replay(alloc, image, asked.arena, &first) {
-        Ok(core) => {
-            let text = told_text(alloc, &core, &first, asked.telling)?;
-            Ok(text_transcript(alloc, text))
-        }
+    match told_text(alloc, image, asked, &first) {
+        Ok(text) => Ok(text_transcript(alloc, text)),
         Err(ReplayFault::NoMemory) => Err(AllocError),
         Err(ReplayFault::ArenaFull) => full_transcript(alloc, &notes),
         Err(ReplayFault::Refused { number, entry }) => history_transcript(alloc, number, entry),

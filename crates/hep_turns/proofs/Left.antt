@@ -1,19 +1,20 @@
 -- Entries that are left behind those that were made, and the lines of all.
-use Rattle.std.proofs.Common.{◌≡◌, ℕ, zero, suc, ◌+◌, ◌-◌, ◌≤◌, false, ◌&&◌, if◌then◌else◌, List, [], ◌∷◌, ◌++◌, Some, length, take, drop, refl, sym, ap, ◌∙◌, subst, arith, append_assoc, append-nil, slice_get, IsSome, nat_le}
+use Rattle.std.proofs.Common.{◌≡◌, ℕ, zero, suc, ◌+◌, ◌-◌, ◌<◌, ◌≤◌, true, false, ◌&&◌, if◌then◌else◌, List, [], ◌∷◌, ◌++◌, Some, Ok, length, length-take-le, take, drop, refl, sym, ap, ◌∙◌, subst, arith, append_assoc, append-nil, slice_get, nat_le}
 use Rattle.std.proofs.lemmas.Bool.{lt-leb}
 use Rattle.std.proofs.lemmas.List.{take_more}
 use Rattle.std.proofs.lemmas.Option.{get_or_from_slice_get, none-some, slice_get_within}
 use Rattle.hep_causes.proofs.Found.{few-singles, progress-singles}
 use Rattle.hep_core.specs.Value.{CoreValue}
 use Rattle.hep_core.proofs.Histories.{progress-last}
-use Rattle.hep_history.specs.Progress.{longer}
-use Rattle.hep_history.specs.Replays.{ArePossible, IsFirstImpossible, IsPossible, IsThere, replayed, single_entries, single_steps, standing}
-use Rattle.hep_history.proofs.Readings.{lines_more}
-use Rattle.hep_history.proofs.Turns.{expand_singles, state_singles}
+use Rattle.hep_history.specs.Progress.{EntryMade}
+use Rattle.hep_history.specs.Replays.{ArePossible, HaveGaps, IsFirstImpossible, IsPossible, IsUnmade, most_entries, replayed, single_entries}
+use Rattle.hep_history.specs.declared.fault.ReplayFault.{ReplayFault}
+use Rattle.hep_history.specs.declared.fault.ReplayFault.TheVariants.{NoMemory, ArenaFull, Refused}
+use Rattle.hep_history.proofs.Turns.{HaveReplayed, expand_singles, one_replayed, run_refused}
 use Rattle.hep_machine.specs.declared.event.Entry.{Entry}
-use Rattle.hep_machine.specs.Words.{Progress, State, Units, is_held, layout_of, opening, progress_after, progress_after_entry, progress_from, schedule_of}
+use Rattle.hep_machine.specs.Words.{Progress, Units, opening, progress_after, progress_after_entry, progress_from}
 use Rattle.hep_traces.specs.Traces.{Shown, entry_text, is_of, is_shown, trace_from, trace_text}
-use Rattle.hep_turns.specs.Making.{AreLeft, CanMake, progress_of, shown_text}
+use Rattle.hep_turns.specs.Making.{HasMade, IsReplaying, IsUntold, progress_of, shown_text}
 
 -- ---- the first of those that are left
 
@@ -33,46 +34,49 @@ front-more : (k : ℕ) (es : List Entry) (e : Entry) → slice_get es k ≡ Some
 front-more k es e at =
     take_more es k e (slice_get_within es k e at) ∙ ap (λ (x : Entry). take k es ++ x ∷ []) (get_or_from_slice_get es k e e at)
 
--- ---- it can be made
+-- ---- it is made, or isn't possible
 
-singles-more : (es : List Entry) (e : Entry) → single_entries (es ++ e ∷ []) ≡ single_entries es ++ single_steps e.process e.steps
-singles-more es e = lines_more (λ (x : Entry). single_steps x.process x.steps) es e
+-- what is so in an arena is so in the same one
+pub of-same : (P : Units → ℕ → Type 0) (program other : Units) (cells others : ℕ) → program ≡ other → cells ≡ others → P program cells → P other others
+of-same P program other cells others same arena is = subst (λ n. P other n) arena (subst (λ u. P u cells) same is)
 
-same-turns : (es : List Entry) (e : Entry) → schedule_of (es ++ e ∷ []) ≡ schedule_of (single_entries es ++ single_steps e.process e.steps)
-same-turns es e = sym (expand_singles (es ++ e ∷ [])) ∙ ap (λ (xs : List Entry). schedule_of xs) (singles-more es e)
+replayed-so : (core : CoreValue) (entries : List Entry) (k : ℕ) → HasMade core entries k → HaveReplayed core.program core.cells entries k core
+replayed-so core entries k has = record { made = has.is; within = has.within; possible = has.possible }
 
-can-replay : (program : Units) (cells : ℕ) (es : List Entry) (e : Entry) → IsPossible program cells es e → CanMake (replayed program cells es) e
-can-replay program cells es e possible = record {
-  standing = refl;
-  few = possible.0;
-  turns = omega (arith, few-singles es, ap length (expand_singles es));
-  there = subst (λ (s : State). IsThere program s e.process e.steps) (sym (state_singles program es)) possible.1;
-  gaps = subst (λ ps. IsSome (layout_of program cells is_held ps)) (same-turns es e) possible.2;
+pub made-next : (core : CoreValue) (entries : List Entry) (k : ℕ) (e : Entry) (new : CoreValue) → HasMade core entries k → slice_get entries k ≡ Some e
+    → EntryMade core e (Ok true) new → HaveGaps new.program new.cells new.history → HasMade new entries (k + 1)
+made-next core entries k e new has at made gaps =
+    let next = one_replayed core.program core.cells entries k e core new at (replayed-so core entries k has) made gaps in
+    subst (λ (c : CoreValue). HasMade c entries (k + 1)) (sym next.made) (record {
+      is = refl;
+      few = omega (arith, slice_get_within entries k e at);
+      within = next.within;
+      possible = next.possible;
+    })
+
+pub first-impossible : (core : CoreValue) (entries : List Entry) (k : ℕ) (e : Entry) (new : CoreValue) → HasMade core entries k → slice_get entries k ≡ Some e
+    → EntryMade core e (Ok false) new → IsFirstImpossible core.program core.cells entries (k + 1)
+first-impossible core entries k e new has at refused = record {
+  place = k;
+  entry = e;
+  counted = refl;
+  here = at;
+  before = has.possible;
+  impossible = run_refused core.program core.cells entries k e core new (replayed-so core entries k has) refused;
 }
 
-pub can-make : (core : CoreValue) (entries : List Entry) (k : ℕ) (e : Entry) → AreLeft core entries k → slice_get entries k ≡ Some e → CanMake core e
-can-make core entries k e left at =
-    subst (λ (c : CoreValue). CanMake c e) (sym left.is) (
-    can-replay core.program core.cells (take k entries) e (left.possible k e (slice_get_within entries k e at) at))
-
--- and then one less is left
-pub left-next : (core : CoreValue) (entries : List Entry) (k : ℕ) (e : Entry) (new : CoreValue) → AreLeft core entries k → slice_get entries k ≡ Some e
-    → new ≡ longer core (single_steps e.process e.steps) → AreLeft new entries (k + 1)
-left-next core entries k e new left at is = subst (λ (c : CoreValue). AreLeft c entries (k + 1)) (sym is) (record {
-  is = ap (λ (h : List Entry). standing core.program core.cells h) history;
-  within = omega (arith, slice_get_within entries k e at);
-  possible = left.possible;
-})
-  where
-    history : core.history ++ single_steps e.process e.steps ≡ single_entries (take (k + 1) entries)
-    history =
-        ap (λ (c : CoreValue). c.history ++ single_steps e.process e.steps) left.is
-        ∙ sym (singles-more (take k entries) e)
-        ∙ ap (λ (es : List Entry). single_entries es) (sym (front-more k entries e at))
+-- the core that has made those before it
+pub replaying : (core : CoreValue) (entries : List Entry) (k : ℕ) → HasMade core entries k → IsReplaying core
+replaying core entries k has =
+    subst IsReplaying (sym has.is) (record {
+      standing = refl;
+      within = has.within;
+      turns = omega (arith, few-singles (take k entries), ap length (expand_singles (take k entries)));
+    })
 
 -- ---- its lines
 
-progress-is : (core : CoreValue) (entries : List Entry) (k : ℕ) → AreLeft core entries k → progress_of core ≡ progress_after core.program (take k entries)
+progress-is : (core : CoreValue) (entries : List Entry) (k : ℕ) → HasMade core entries k → progress_of core ≡ progress_after core.program (take k entries)
 progress-is core entries k left =
     ap (λ (c : CoreValue). progress_after core.program c.history) left.is
     ∙ progress-singles core.program (record { state = opening core.program; listed = [] }) (take k entries)
@@ -97,7 +101,7 @@ module _ (program : Units) (shown : Shown) where
 
   -- after the lines of the first entry those of the others are left
   pub trace-on : (core : CoreValue) (entries : List Entry) (k : ℕ) (rest : List Entry) (e : Entry) (behind : List Entry) (text text' all : List ℕ)
-      → core.program ≡ program → AreLeft core entries k → rest ≡ drop k entries → rest ≡ e ∷ behind
+      → core.program ≡ program → HasMade core entries k → rest ≡ drop k entries → rest ≡ e ∷ behind
       → text' ≡ text ++ shown_text core.program shown (k + 1) (progress_of core) e
       → text ++ trace_from program shown (k + 1) (progress_after program (take k entries)) rest ≡ all
       → text' ++ trace_from program shown ((k + 1) + 1) (progress_after program (take (k + 1) entries)) behind ≡ all
@@ -138,30 +142,62 @@ module _ (program : Units) (shown : Shown) where
 
 -- ---- the beginning
 
-pub left-first : (again : CoreValue) (program : Units) (cells : ℕ) (front entries : List Entry) (k : ℕ) → again ≡ replayed program cells front → front ≡ take k entries
-    → k ≤ length entries → ArePossible program cells entries (length entries) → AreLeft again entries k
-left-first again program cells front entries k is are within possible =
-    subst (λ (c : CoreValue). AreLeft c entries k) (sym is) (record {
-      is = ap (λ (es : List Entry). replayed program cells es) are;
-      within = within;
-      possible = possible;
-    })
-
 -- of the first entries those at the front are the first ones
-within-front : (k j : ℕ) (es : List Entry) (e : Entry) → slice_get (take k es) j ≡ Some e → (slice_get es j ≡ Some e) × (take j (take k es) ≡ take j es)
-within-front zero j es e at = absurd (none-some e at)
-within-front (suc k) j [] e at = absurd (none-some e at)
-within-front (suc k) zero (x ∷ es) e at = (at, refl)
-within-front (suc k) (suc j) (x ∷ es) e at =
-    let rest = within-front k j es e at in
+front-same : (k j : ℕ) (es : List Entry) → j < k → (slice_get (take k es) j ≡ slice_get es j) × (take j (take k es) ≡ take j es)
+front-same zero j es less = absurd (omega (arith, less))
+front-same (suc k) j [] less = (refl, refl)
+front-same (suc k) zero (x ∷ es) less = (refl, refl)
+front-same (suc k) (suc j) (x ∷ es) less =
+    let rest = front-same k j es (omega (arith, less)) in
     (rest.0, ap (λ (xs : List Entry). x ∷ xs) rest.1)
 
--- so none of them is impossible
-pub not-refused : (program : Units) (cells : ℕ) (front entries : List Entry) (k number : ℕ) → front ≡ take k entries → ArePossible program cells entries (length entries)
-    → IsFirstImpossible program cells front number → ⊥
-not-refused program cells front entries k number are possible bad =
-    let here = within-front k bad.place entries bad.entry (ap (λ (es : List Entry). slice_get es bad.place) (sym are) ∙ bad.here) in
-    let same : take bad.place front ≡ take bad.place entries = ap (λ (es : List Entry). take bad.place es) are ∙ here.1 in
-    bad.impossible (
-    subst (λ (es : List Entry). IsPossible program cells es bad.entry) (sym same) (
-    possible bad.place bad.entry (slice_get_within entries bad.place bad.entry here.0) here.0))
+front-within : (k j : ℕ) (es : List Entry) (e : Entry) → slice_get (take k es) j ≡ Some e → j < k
+front-within zero j es e at = absurd (none-some e at)
+front-within (suc k) j [] e at = absurd (none-some e at)
+front-within (suc k) zero (x ∷ es) e at = omega arith
+front-within (suc k) (suc j) (x ∷ es) e at = omega (arith, front-within k j es e at)
+
+-- so what is possible of them is possible
+possible-front : (program : Units) (cells k : ℕ) (entries : List Entry) (m : ℕ) → m ≤ k → ArePossible program cells (take k entries) m → ArePossible program cells entries m
+possible-front program cells k entries m few possible j e less at =
+    let same = front-same k j entries (omega (arith, few, less)) in
+    subst (λ (es : List Entry). IsPossible program cells es e) same.1 (possible j e less (same.0 ∙ at))
+
+-- and what isn't is not
+first-of-front : (program : Units) (cells k : ℕ) (entries : List Entry) (number : ℕ) → IsFirstImpossible program cells (take k entries) number
+    → IsFirstImpossible program cells entries number
+first-of-front program cells k entries number bad =
+    let less : bad.place < k = front-within k bad.place entries bad.entry bad.here in
+    let same = front-same k bad.place entries less in
+    record {
+      place = bad.place;
+      entry = bad.entry;
+      counted = bad.counted;
+      here = sym same.0 ∙ bad.here;
+      before = possible-front program cells k entries bad.place (omega (arith, less)) bad.before;
+      impossible = λ possible. bad.impossible (subst (λ (es : List Entry). IsPossible program cells es bad.entry) (sym same.1) possible);
+    }
+
+pub untold-front : (program : Units) (cells : ℕ) (front : List Entry) (k : ℕ) (entries : List Entry) (fault : ReplayFault) → front ≡ take k entries
+    → IsUnmade program cells front fault → IsUntold program cells entries fault
+untold-front program cells front k entries NoMemory are unmade = tt
+untold-front program cells front k entries ArenaFull are unmade = unmade
+untold-front program cells front k entries (Refused number entry) are unmade = (
+  unmade.0,
+  unmade.1,
+  first-of-front program cells k entries entry (subst (λ (es : List Entry). IsFirstImpossible program cells es entry) are unmade.2),
+)
+
+pub made-first : (core : CoreValue) (program : Units) (cells : ℕ) (front entries : List Entry) (k : ℕ) → core ≡ replayed program cells front → front ≡ take k entries
+    → k ≤ length entries → ArePossible program cells front (length front) → length core.history ≤ core.limit → HasMade core entries k
+made-first core program cells front entries k is are within possible legal =
+    let room : length (single_entries (take k entries)) ≤ most_entries =
+    omega (arith, legal, ap (λ (c : CoreValue). length c.history) is, ap (λ (c : CoreValue). c.limit) is, ap (λ (es : List Entry). length (single_entries es)) are) in
+    let all : ArePossible program cells (take k entries) k =
+    subst (λ n. ArePossible program cells (take k entries) n) (length-take-le k entries within) (subst (λ (es : List Entry). ArePossible program cells es (length es)) are possible) in
+    subst (λ (c : CoreValue). HasMade c entries k) (sym is) (record {
+      is = ap (λ (es : List Entry). replayed program cells es) are;
+      few = within;
+      within = room;
+      possible = possible-front program cells k entries k (omega arith) all;
+    })

@@ -1,10 +1,9 @@
-//! What each step of a history did, read from a history that is made again.
+//! What each step of a history did, told while the history is made.
 #![tactic(auto)]
 
-mod making;
 pub mod page;
 pub mod reading;
 mod telling;
 
 pub use page::Page;
-pub use reading::trace_text;
+pub use reading::trace_history;

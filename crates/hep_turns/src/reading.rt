@@ -1,60 +1,83 @@
 //! What each step of a history did.
-ghost use Rattle.std.specs.Prelude.{◌≡◌, ◌≤◌, IfOk, length};
-ghost use Rattle.hep_causes.specs.Watches.{IsReplayed};
+ghost use Rattle.std.specs.Prelude.{◌≡◌, ◌≤◌, IfErr, IfOk, IsSome, OnOk, length};
 ghost use Rattle.hep_history.specs.Replays.{ArePossible};
+ghost use Rattle.hep_machine.specs.Words.{opening_layout};
 ghost use Rattle.hep_traces.specs.Traces as words;
-ghost use Rattle.hep_turns.specs.Making.{AreLeft};
+ghost use Rattle.hep_turns.specs.Making.{HasMade, IsUntold};
 ghost use Rattle.hep_turns.specs.Pages.{shown_on};
 
 use crate::page::Page;
 use crate::telling::{Teller, tell_entries};
 use hep_core::Core;
 use hep_history::{History, ReplayFault, first_entries, replay};
+use hep_image::Image;
 use hep_sites::Variables;
-use std::alloc::{AllocError, Global};
+use std::alloc::Global;
 
-// A core of the same image and arena that has made so many of the entries, which are no more than there are.
-fn begin_after(alloc: Global, core: &Core, entries: &History, made: u64) -> Result<Core, AllocError>
-    requires replayed { IsReplayed core.now.core entries.now.items }
-    requires possible { ArePossible core.now.core.program core.now.core.cells entries.now.items (length entries.now.items) }
+// A core that has made so many of the entries, which are no more than there are.
+fn begin_after(
+    alloc: Global,
+    image: Image,
+    cells: u32,
+    entries: &History,
+    made: u64,
+) -> Result<Core, ReplayFault>
+    requires some { 1 ≤ cells }
+    requires few { cells ≤ 16777216 }
     requires within { made ≤ length entries.now.items }
-    ensures left { IfOk result (λ again. AreLeft again.core entries.now.items made) }
-    ensures same { IfOk result (λ again. again.core.program ≡ core.now.core.program) }
+    ensures made { IfOk result (λ core. HasMade core.core entries.now.items made) }
+    ensures same { IfOk result (λ core. (core.core.program ≡ image) × (core.core.cells ≡ cells)) }
+    ensures fits { OnOk result (IsSome (opening_layout image cells)) }
+    ensures untold { IfErr result (IsUntold image cells entries.now.items) }
 {
-    let before = first_entries(alloc, entries, made)?;
-    let image = core.image().copy(alloc)?;
-    match replay(alloc, image, core.cells(), &before) {
-        Ok(again) => Ok(again),
-        Err(ReplayFault::NoMemory) => Err(AllocError),
-        Err(ReplayFault::ArenaFull) => unreachable!(),
-        Err(ReplayFault::Refused { .. }) => unreachable!(),
-    }
+    let Ok(front) = first_entries(alloc, entries, made) else {
+        return Err(ReplayFault::NoMemory);
+    };
+    let core = replay(alloc, image, cells, &front)?;
+    // A core's history is legal, so it has no more entries than it may have.
+    core.headline();
+    Ok(core)
 }
 
-/// What each step of entries did which a core has made, as a text with the lines that are shown. The entries are made once more for it.
+/// What each step of entries does which an image makes in an arena of so many cells, 1 to 16,777,216, as a text with the lines that are
+/// shown. The entries are made once: those before the first line as a replay makes them, and the others step by step.
 ///
 /// # Errors
 ///
-/// Only where memory was refused.
-pub fn trace_text(
+/// `ArenaFull` and `Refused` as a replay of these entries gives them, and `NoMemory`.
+pub fn trace_history(
     alloc: Global,
-    core: &Core,
+    image: Image,
+    cells: u32,
     entries: &History,
     page: &Page<'_>,
-) -> Result<Vec<u8>, AllocError>
-    requires replayed { IsReplayed core.now.core entries.now.items }
-    requires possible { ArePossible core.now.core.program core.now.core.cells entries.now.items (length entries.now.items) }
-    ensures { IfOk result (λ text. text.items ≡ words.trace_text core.now.core.program (shown_on page.now) entries.now.items) }
+) -> Result<Vec<u8>, ReplayFault>
+    requires some { 1 ≤ cells }
+    requires few { cells ≤ 16777216 }
+    ensures told { IfOk result (λ text. text.items ≡ words.trace_text image (shown_on page.now) entries.now.items) }
+    ensures fits { OnOk result (IsSome (opening_layout image cells)) }
+    ensures possible { OnOk result (ArePossible image cells entries.now.items (length entries.now.items)) }
+    ensures untold { IfErr result (IsUntold image cells entries.now.items) }
 {
     let made = page.first.saturating_sub(1).min(entries.len());
-    let variables = Variables::of_image(alloc, core.image())?;
-    let mut again = begin_after(alloc, core, entries, made)?;
+    let mut core = begin_after(alloc, image, cells, entries, made)?;
+    let Ok(variables) = Variables::of_image(alloc, core.image()) else {
+        return Err(ReplayFault::NoMemory);
+    };
     let teller = Teller {
         alloc,
         variables: &variables,
         page,
     };
     let mut text = Vec::new(alloc);
-    tell_entries(&mut again, &mut text, &teller, entries, made)?;
+    let Ok(all) = tell_entries(&mut core, &mut text, &teller, entries, made) else {
+        return Err(ReplayFault::NoMemory);
+    };
+    if all < entries.len() {
+        return Err(ReplayFault::Refused {
+            number: 603,
+            entry: all + 1,
+        });
+    }
     Ok(text)
 }

@@ -1,16 +1,16 @@
 //! Turns and entries that are made and told of.
-ghost use Rattle.std.specs.Prelude.{◌≡◌, ◌+◌, ◌++◌, ◌∷◌, [], Bool, OnOk, drop, replicate, take};
-ghost use Rattle.hep_history.specs.Progress.{longer, turn_entry};
-ghost use Rattle.hep_history.specs.Replays.{single_steps};
+ghost use Rattle.std.specs.Prelude.{◌≡◌, ◌+◌, ◌++◌, ◌<◌, ◌≤◌, IfOk, Ok, drop, length, take, true};
+ghost use Rattle.hep_glances.specs.Sights.{IsTurnMade};
+ghost use Rattle.hep_history.specs.Progress.{EntryMade, IsStanding, StepsMade, TurnMade};
+ghost use Rattle.hep_history.specs.Replays.{ArePossible, IsFirstImpossible};
 ghost use Rattle.hep_machine.specs.Words.{progress_after};
 ghost use Rattle.hep_sites.specs.Variables.{AreVariablesOf};
 ghost use Rattle.hep_traces.specs.Traces as words;
-ghost use Rattle.hep_turns.specs.Making.{AreLeft, CanMake, CanStep, CanTurn, progress_of, shown_text};
+ghost use Rattle.hep_turns.specs.Making.{HasMade, IsReplaying, progress_of, shown_lines, shown_text};
 ghost use Rattle.hep_turns.specs.Pages.{shown_on};
 
-use crate::making::{make_entry, make_turn};
 use crate::page::Page;
-use hep_core::Core;
+use hep_core::{ChooseFault, Core};
 use hep_glances::{append_line, look};
 use hep_history::History;
 use hep_machine::Entry;
@@ -25,90 +25,130 @@ pub(crate) struct Teller<'a> {
     pub(crate) page: &'a Page<'a>,
 }
 
-// A turn of process p, which can be made, and its line, which is of the entry with this number.
+// The line of a turn: of the entry with which number it is, and of which process, and whether it is shown.
+#[derive(Clone, Copy)]
+struct Line {
+    number: u64,
+    process: u64,
+    shown: bool,
+}
+
+// A turn of process p, and whether it did what it should: whether it made a step or, where the process is to wait, found it waiting.
+fn make_turn(core: &mut Core, p: u64, waits: bool) -> Result<bool, AllocError>
+    requires { IsStanding core.old.core }
+    ensures made { IfOk result (λ made. TurnMade core.old.core p waits (Ok made) core.new.core) }
+    ensures turned { IfOk result (λ made. made ≡ true → IsTurnMade core.old.core p core.new.core) }
+{
+    match core.choose(p) {
+        Ok(turn) => Ok(turn.blocked == waits),
+        Err(ChooseFault::NoMemory) => Err(AllocError),
+        Err(ChooseFault::Stopped(_)) => Ok(false),
+        Err(ChooseFault::NoSuchProcess) => Ok(false),
+        Err(ChooseFault::IsOut | ChooseFault::NoTicket) => unreachable!(),
+    }
+}
+
+// A turn, whether it did what it should, and its line. At a stop there is none, and nothing is looked at.
 fn tell_turn(
     core: &mut Core,
     text: &mut Vec<u8>,
     teller: &Teller<'_>,
-    p: u64,
-    number: u64,
-) -> Result<(), AllocError>
+    line: Line,
+    waits: bool,
+) -> Result<bool, AllocError>
     requires variables { AreVariablesOf core.old.core.program teller.now.variables.now }
-    requires possible { (waits : Bool) × CanTurn core.old.core p waits }
-    ensures longer { OnOk result ((waits : Bool) → CanTurn core.old.core p waits → core.new.core ≡ longer core.old.core (turn_entry p waits ∷ [])) }
-    ensures told { OnOk result (text.new.items ≡ text.old.items
-        ++ words.line_text core.old.core.program (shown_on teller.now.page.now).cell number p (progress_of core.old.core) (progress_of core.new.core)) }
+    requires replaying { IsReplaying core.old.core }
+    ensures made { IfOk result (λ made. TurnMade core.old.core line.process waits (Ok made) core.new.core) }
+    ensures told { IfOk result (λ made. made ≡ true → text.new.items ≡ text.old.items
+        ++ words.line_text core.old.core.program (shown_on teller.now.page.now).cell line.number line.process (progress_of core.old.core) (progress_of core.new.core)) }
 {
-    let sight = look(teller.alloc, core, teller.variables, p, teller.page.cell)?;
-    make_turn(core, p)?;
-    append_line(teller.alloc, text, core, &sight, number)
+    if core.stop().is_some() {
+        return Ok(false);
+    }
+    let sight = look(
+        teller.alloc,
+        core,
+        teller.variables,
+        line.process,
+        teller.page.cell,
+    )?;
+    if !make_turn(core, line.process, waits)? {
+        return Ok(false);
+    }
+    append_line(teller.alloc, text, core, &sight, line.number)?;
+    Ok(true)
 }
 
-// All steps of an entry, which can be made, each with its line.
+// A turn, whether it did what it should, and its line where that is shown.
+fn tell_shown(
+    core: &mut Core,
+    text: &mut Vec<u8>,
+    teller: &Teller<'_>,
+    line: Line,
+    waits: bool,
+) -> Result<bool, AllocError>
+    requires variables { AreVariablesOf core.old.core.program teller.now.variables.now }
+    requires replaying { IsReplaying core.old.core }
+    ensures made { IfOk result (λ made. TurnMade core.old.core line.process waits (Ok made) core.new.core) }
+    ensures told { IfOk result (λ made. made ≡ true → text.new.items ≡ text.old.items ++ shown_lines line.shown
+        (words.line_text core.old.core.program (shown_on teller.now.page.now).cell line.number line.process (progress_of core.old.core) (progress_of core.new.core))) }
+{
+    if line.shown {
+        tell_turn(core, text, teller, line, waits)
+    } else {
+        make_turn(core, line.process, waits)
+    }
+}
+
+// So many steps, whether each of them was there and each frame had its gap, and their lines where they are shown.
 fn tell_steps(
     core: &mut Core,
     text: &mut Vec<u8>,
     teller: &Teller<'_>,
-    entry: Entry,
-    number: u64,
-) -> Result<(), AllocError>
+    line: Line,
+    steps: u32,
+) -> Result<bool, AllocError>
     requires variables { AreVariablesOf core.old.core.program teller.now.variables.now }
-    requires possible { CanStep core.old.core entry.process entry.steps }
-    ensures longer { OnOk result (core.new.core ≡ longer core.old.core (replicate entry.steps (record { process = entry.process; steps = 1 }))) }
-    ensures told { OnOk result (text.new.items ≡ text.old.items
-        ++ words.steps_text core.old.core.program (shown_on teller.now.page.now).cell number entry.process (progress_of core.old.core) entry.steps) }
+    requires replaying { IsReplaying core.old.core }
+    ensures made { IfOk result (λ made. StepsMade core.old.core line.process steps (Ok made) core.new.core) }
+    ensures told { IfOk result (λ made. made ≡ true → text.new.items ≡ text.old.items ++ shown_lines line.shown
+        (words.steps_text core.old.core.program (shown_on teller.now.page.now).cell line.number line.process (progress_of core.old.core) steps)) }
 {
-    for _ in 0..entry.steps {
-        tell_turn(core, text, teller, entry.process, number)?;
+    for _ in 0..steps {
+        if !tell_shown(core, text, teller, line, false)? {
+            return Ok(false);
+        }
     }
-    Ok(())
+    Ok(true)
 }
 
-// The entry with this number, which can be made, and its lines.
+// The entry with this number, whether it was possible, and its lines where they are shown.
 fn tell_entry(
     core: &mut Core,
     text: &mut Vec<u8>,
     teller: &Teller<'_>,
     entry: Entry,
     number: u64,
-) -> Result<(), AllocError>
+) -> Result<bool, AllocError>
     requires variables { AreVariablesOf core.old.core.program teller.now.variables.now }
-    requires possible { CanMake core.old.core entry }
-    ensures longer { OnOk result (core.new.core ≡ longer core.old.core (single_steps entry.process entry.steps)) }
-    ensures told { OnOk result (text.new.items ≡ text.old.items
-        ++ words.entry_text core.old.core.program (shown_on teller.now.page.now).cell number (progress_of core.old.core) entry entry.steps) }
-{
-    if entry.steps == 0 {
-        tell_turn(core, text, teller, entry.process, number)?;
-        Ok(())
-    } else {
-        tell_steps(core, text, teller, entry, number)?;
-        Ok(())
-    }
-}
-
-// The entry with this number, which can be made, and its lines where they are shown.
-fn tell_shown(
-    core: &mut Core,
-    text: &mut Vec<u8>,
-    teller: &Teller<'_>,
-    entry: Entry,
-    number: u64,
-) -> Result<(), AllocError>
-    requires variables { AreVariablesOf core.old.core.program teller.now.variables.now }
-    requires possible { CanMake core.old.core entry }
-    ensures longer { OnOk result (core.new.core ≡ longer core.old.core (single_steps entry.process entry.steps)) }
-    ensures told { OnOk result (text.new.items ≡ text.old.items
+    requires replaying { IsReplaying core.old.core }
+    ensures made { IfOk result (λ made. EntryMade core.old.core entry (Ok made) core.new.core) }
+    ensures told { IfOk result (λ made. made ≡ true → text.new.items ≡ text.old.items
         ++ shown_text core.old.core.program (shown_on teller.now.page.now) number (progress_of core.old.core) entry) }
 {
-    if teller.page.shows(number, entry.process) {
-        tell_entry(core, text, teller, entry, number)
+    let line = Line {
+        number,
+        process: entry.process,
+        shown: teller.page.shows(number, entry.process),
+    };
+    if entry.steps == 0 {
+        tell_shown(core, text, teller, line, true)
     } else {
-        make_entry(core, entry)
+        tell_steps(core, text, teller, line, entry.steps)
     }
 }
 
-/// The lines of the entries that are left after so many, on a core that has made those.
+/// The entries that are left after so many, on a core that has made those, and their lines: how many of all are possible.
 ///
 /// # Errors
 ///
@@ -119,19 +159,28 @@ pub(crate) fn tell_entries(
     teller: &Teller<'_>,
     entries: &History,
     made: u64,
-) -> Result<(), AllocError>
+) -> Result<u64, AllocError>
     requires variables { AreVariablesOf core.old.core.program teller.now.variables.now }
-    requires left { AreLeft core.old.core entries.now.items made }
-    ensures { OnOk result (text.new.items ≡ text.old.items ++ words.trace_from core.old.core.program (shown_on teller.now.page.now)
+    requires made { HasMade core.old.core entries.now.items made }
+    ensures few { IfOk result (λ all. all ≤ length entries.now.items) }
+    ensures possible { IfOk result (λ all. ArePossible core.old.core.program core.old.core.cells entries.now.items all) }
+    ensures refused { IfOk result (λ all. all < length entries.now.items
+        → IsFirstImpossible core.old.core.program core.old.core.cells entries.now.items (all + 1)) }
+    ensures told { IfOk result (λ all. all ≡ length entries.now.items → text.new.items ≡ text.old.items
+        ++ words.trace_from core.old.core.program (shown_on teller.now.page.now)
         (made + 1) (progress_after core.old.core.program (take made entries.now.items)) (drop made entries.now.items)) }
 {
     let mut rest = entries.iter();
     rest.pass(made);
     for before in made..entries.len() {
         let Some(entry) = rest.next() else {
-            return Ok(());
+            unreachable!()
         };
-        tell_shown(core, text, teller, entry, before + 1)?;
+        if !tell_entry(core, text, teller, entry, before + 1)? {
+            return Ok(before);
+        }
+        // A core's history is legal, so each frame had its gap.
+        core.headline();
     }
-    Ok(())
+    Ok(entries.len())
 }

@@ -1,41 +1,41 @@
-use Rattle.std.proofs.Common.{◌∙◌, ap, true, List}
-use Rattle.hep_history.specs.Progress.{longer}
-use Rattle.hep_machine.specs.declared.event.Entry.{Entry}
-use Rattle.hep_turns.specs.Making.{progress_of}
+use Rattle.std.proofs.Common.{◌∙◌, ◌++◌, Bool, Ok, ap, subst, true}
+use Rattle.std.proofs.lemmas.Result.{IfOk-weaker}
+use Rattle.hep_history.specs.Progress.{TurnMade}
+use Rattle.hep_history.proofs.Turns.{entry_stepped, entry_waited}
+use Rattle.hep_traces.specs.Traces.{entry_text}
+use Rattle.hep_turns.specs.Making.{progress_of, shown_lines}
 use Rattle.hep_turns.specs.Pages.{shown_on}
-use Rattle.hep_turns.proofs.Along.{entry-steps, entry-waits, steps-lines, steps-single, wait-line, waits-once}
+use Rattle.hep_turns.proofs.Along.{both-ok, shown-steps, shown-wait}
 use Rattle.hep_turns.proofs.telling.tell_entry.Goals as goal
 
-pub tell_turn-requires-clause-possible : goal.tell_turn-requires-clause-possible
-tell_turn-requires-clause-possible c =
-    (true, entry-waits c.args.core.now.core c.args.entry.process c.args.entry.steps c.if-entry-eq0.true c.requires.possible)
+pub returns-then-entry-eq0-clause-made : goal.returns-then-entry-eq0-clause-made
+returns-then-entry-eq0-clause-made c =
+    IfOk-weaker c.tell_shown.result _ _ (λ made turn.
+    entry_waited c.args.core.now.core c.tell_shown.new.core.core c.args.entry.process c.args.entry.steps (Ok made) c.if-entry-eq0.true turn) c.tell_shown.ensures.made
 
-pub returns-in_ok-tell_turn-clause-longer : goal.returns-in_ok-tell_turn-clause-longer
-returns-in_ok-tell_turn-clause-longer c =
+pub returns-else-entry-eq0-clause-made : goal.returns-else-entry-eq0-clause-made
+returns-else-entry-eq0-clause-made c =
+    IfOk-weaker c.tell_steps.result _ _ (λ made steps.
+    entry_stepped c.args.core.now.core c.tell_steps.new.core.core c.args.entry.process c.args.entry.steps (Ok made) c.if-entry-eq0.false steps) c.tell_steps.ensures.made
+
+pub returns-then-entry-eq0-clause-told : goal.returns-then-entry-eq0-clause-told
+returns-then-entry-eq0-clause-told c =
     let core = c.args.core.now.core in
-    let p = c.args.entry.process in
-    let n = c.args.entry.steps in
-    c.in_ok-tell_turn.ensures.longer true (entry-waits core p n c.if-entry-eq0.true c.requires.possible)
-    ∙ ap (λ (es : List Entry). longer core es) (waits-once p n c.if-entry-eq0.true)
+    let new = c.tell_shown.new.core.core in
+    let e = c.args.entry in
+    let cell = (shown_on c.args.teller.now.page.now).cell in
+    both-ok c.tell_shown.result _ _ _ (λ made turn told is.
+    shown-wait c.shows.result cell c.args.number e.process e.steps core new c.args.text.now.items c.tell_shown.new.text.items c.if-entry-eq0.true
+    (subst (λ (b : Bool). TurnMade core e.process true (Ok b) new) is turn).2 (told is)
+    ∙ ap (λ b. c.args.text.now.items ++ shown_lines b (entry_text core.program cell c.args.number (progress_of core) e e.steps)) c.shows.ensures)
+    c.tell_shown.ensures.made c.tell_shown.ensures.told
 
-pub returns-in_ok-tell_turn-clause-told : goal.returns-in_ok-tell_turn-clause-told
-returns-in_ok-tell_turn-clause-told c =
+pub returns-else-entry-eq0-clause-told : goal.returns-else-entry-eq0-clause-told
+returns-else-entry-eq0-clause-told c =
     let core = c.args.core.now.core in
-    let p = c.args.entry.process in
-    let n = c.args.entry.steps in
-    let none = c.if-entry-eq0.true in
-    wait-line (shown_on c.args.teller.now.page.now).cell c.args.number p n core c.tell_turn.new.core.core c.args.text.now.items c.tell_turn.new.text.items none (
-    c.in_ok-tell_turn.ensures.longer true (entry-waits core p n none c.requires.possible)) c.in_ok-tell_turn.ensures.told
-
-pub tell_steps-requires-clause-possible : goal.tell_steps-requires-clause-possible
-tell_steps-requires-clause-possible c = entry-steps c.args.core.now.core c.args.entry.process c.args.entry.steps c.if-entry-eq0.false c.requires.possible
-
-pub returns-in_ok-tell_steps-clause-longer : goal.returns-in_ok-tell_steps-clause-longer
-returns-in_ok-tell_steps-clause-longer c =
-    c.in_ok-tell_steps.ensures.longer
-    ∙ ap (λ (es : List Entry). longer c.args.core.now.core es) (steps-single c.args.entry.process c.args.entry.steps c.if-entry-eq0.false)
-
-pub returns-in_ok-tell_steps-clause-told : goal.returns-in_ok-tell_steps-clause-told
-returns-in_ok-tell_steps-clause-told c =
-    steps-lines c.args.core.now.core.program (shown_on c.args.teller.now.page.now).cell c.args.number (progress_of c.args.core.now.core) c.args.entry.process c.args.entry.steps
-    c.args.text.now.items c.tell_steps.new.text.items c.if-entry-eq0.false c.in_ok-tell_steps.ensures.told
+    let e = c.args.entry in
+    let cell = (shown_on c.args.teller.now.page.now).cell in
+    IfOk-weaker c.tell_steps.result _ _ (λ made told is.
+    shown-steps c.shows.result core.program cell c.args.number (progress_of core) e.process e.steps c.args.text.now.items c.tell_steps.new.text.items c.if-entry-eq0.false (told is)
+    ∙ ap (λ b. c.args.text.now.items ++ shown_lines b (entry_text core.program cell c.args.number (progress_of core) e e.steps)) c.shows.ensures)
+    c.tell_steps.ensures.told

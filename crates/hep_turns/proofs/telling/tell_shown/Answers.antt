@@ -1,18 +1,14 @@
-use Rattle.std.proofs.Common.{◌∙◌, sym}
-use Rattle.std.proofs.lemmas.Result.{on_ok_weaker}
-use Rattle.hep_turns.specs.Making.{progress_of}
-use Rattle.hep_turns.specs.Pages.{shown_on}
+use Rattle.std.proofs.lemmas.Result.{IfOk-weaker}
 use Rattle.hep_turns.proofs.Along.{hidden-so, shown-so}
 use Rattle.hep_turns.proofs.telling.tell_shown.Goals as goal
 
-pub returns-then-shows-clause-told : goal.returns-then-shows-clause-told
-returns-then-shows-clause-told c =
-    on_ok_weaker c.tell_entry.result (λ told.
-    shown-so c.args.core.now.core.program (shown_on c.args.teller.now.page.now) c.args.number (progress_of c.args.core.now.core) c.args.entry c.args.text.now.items c.tell_entry.new.text.items
-    (sym c.shows.ensures ∙ c.if-shows.true) told) c.tell_entry.ensures.told
+pub make_turn-requires : goal.make_turn-requires
+make_turn-requires c = c.requires.replaying.standing
 
-pub returns-else-shows-clause-told : goal.returns-else-shows-clause-told
-returns-else-shows-clause-told c =
-    on_ok_weaker c.make_entry.result (λ made.
-    hidden-so c.args.core.now.core.program (shown_on c.args.teller.now.page.now) c.args.number (progress_of c.args.core.now.core) c.args.entry c.args.text.now.items
-    (sym c.shows.ensures ∙ c.if-shows.false)) c.make_entry.ensures
+pub returns-then-line-clause-told : goal.returns-then-line-clause-told
+returns-then-line-clause-told c =
+    IfOk-weaker c.tell_turn.result _ _ (λ made told is. shown-so c.args.line.shown c.args.text.now.items c.tell_turn.new.text.items _ c.if-line.true (told is)) c.tell_turn.ensures.told
+
+pub returns-else-line-clause-told : goal.returns-else-line-clause-told
+returns-else-line-clause-told c =
+    IfOk-weaker c.make_turn.result _ _ (λ made turn is. hidden-so c.args.line.shown c.args.text.now.items _ c.if-line.false) c.make_turn.ensures.made

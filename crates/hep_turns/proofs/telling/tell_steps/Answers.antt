@@ -1,60 +1,67 @@
-use Rattle.std.proofs.Common.{◌-◌, ◌+◌, ◌++◌, ℕ, false, ap, ◌∙◌, refl, replicate, subst, sym, arith}
-use Rattle.hep_core.specs.Value.{CoreValue}
-use Rattle.hep_history.specs.Progress.{longer}
-use Rattle.hep_history.proofs.Turns.{one}
-use Rattle.hep_machine.specs.Words.{Units}
+use Rattle.std.proofs.Common.{◌≡◌, ◌≤◌, ◌-◌, ◌+◌, ◌++◌, ◌∙◌, ℕ, Bool, false, Ok, List, ap, append-nil, arith, length, replicate, subst, sym}
+use Rattle.hep_core.specs.Value.{CoreValue, state_of}
+use Rattle.hep_history.specs.Progress.{TurnMade, longer}
+use Rattle.hep_history.specs.Replays.{most_entries, standing}
+use Rattle.hep_history.proofs.Turns.{one, steps_end, steps_more}
+use Rattle.hep_machine.specs.declared.event.Entry.{Entry}
+use Rattle.hep_machine.specs.Words.{AreSteps, Units}
 use Rattle.hep_sites.specs.Variables.{AreVariablesOf}
 use Rattle.hep_traces.specs.Traces.{steps_text}
-use Rattle.hep_turns.specs.Making.{CanStep, progress_of}
+use Rattle.hep_turns.specs.Making.{progress_of, shown_lines}
 use Rattle.hep_turns.specs.Pages.{shown_on}
-use Rattle.hep_turns.proofs.Along.{all-left, count-left, first-turn, lines-end, lines-on, other-steps, steps-end, steps-further}
+use Rattle.hep_turns.proofs.Along.{all-left, count-left, shown-end, shown-on, still-replaying}
 use Rattle.hep_turns.proofs.telling.tell_steps.Goals as goal
 
 pub loop-init : goal.loop-init
 loop-init c =
     let core = c.args.core.now.core in
-    let p = c.args.entry.process in
-    let all = all-left c.args.entry.steps in
+    let line = c.args.line in
     record {
-      same = refl;
-      can = subst (CanStep core p) all c.requires.possible;
-      left = ap (λ (n : ℕ). longer core (replicate n (one p))) (sym all);
-      told = ap (λ (n : ℕ). c.args.text.now.items ++ steps_text core.program (shown_on c.args.teller.now.page.now).cell c.args.number p (progress_of core) n) (sym all);
+      within = omega (arith, c.requires.replaying.within);
+      there = tt;
+      made = c.requires.replaying.standing ∙ ap (λ (es : List Entry). standing core.program core.cells es) (sym (append-nil core.history));
+      told = ap (λ (n : ℕ). c.args.text.now.items ++ shown_lines line.shown (steps_text core.program (shown_on c.args.teller.now.page.now).cell line.number line.process (progress_of core) n)) (sym (all-left c.args.steps));
     }
 
-pub tell_turn-requires-clause-variables : goal.tell_turn-requires-clause-variables
-tell_turn-requires-clause-variables c = subst (λ (u : Units). AreVariablesOf u c.args.teller.now.variables.now) (sym c.loop.invariant.same) c.requires.variables
+pub tell_shown-requires-clause-variables : goal.tell_shown-requires-clause-variables
+tell_shown-requires-clause-variables c =
+    subst (λ (u : Units). AreVariablesOf u c.args.teller.now.variables.now) (sym (ap (λ (x : CoreValue). x.program) c.loop.invariant.made)) c.requires.variables
 
-pub tell_turn-requires-clause-possible : goal.tell_turn-requires-clause-possible
-tell_turn-requires-clause-possible c =
-    let i = c.loop.counter in
-    let n = c.args.entry.steps in
-    let p = c.args.entry.process in
-    (false, first-turn c.loop.core.core p (n - (i + 1)) (subst (CanStep c.loop.core.core p) (count-left n i c.loop-test.true) c.loop.invariant.can))
+pub tell_shown-requires-clause-replaying : goal.tell_shown-requires-clause-replaying
+tell_shown-requires-clause-replaying c =
+    still-replaying c.args.core.now.core c.loop.core.core c.args.line.process c.loop.counter c.requires.replaying c.loop.invariant.within c.loop.invariant.made
+
+pub returns-then-not-branch-clause-made : goal.returns-then-not-branch-clause-made
+returns-then-not-branch-clause-made c =
+    steps_end c.args.core.now.core c.loop.core.core c.tell_shown.new.core.core c.args.line.process c.loop.counter c.args.steps c.loop-test.true c.loop.invariant.made (
+    subst (λ (b : Bool). TurnMade c.loop.core.core c.args.line.process false (Ok b) c.tell_shown.new.core.core) c.if-not-branch.true c.in_ok-tell_shown.ensures.made)
 
 pub loop-preserved : goal.loop-preserved
 loop-preserved c =
     let i = c.loop.counter in
-    let n = c.args.entry.steps in
-    let p = c.args.entry.process in
+    let n = c.args.steps in
+    let line = c.args.line in
     let core = c.loop.core.core in
-    let new = c.tell_turn.new.core.core in
+    let new = c.tell_shown.new.core.core in
     let cell = (shown_on c.args.teller.now.page.now).cell in
-    let count = count-left n i c.loop-test.true in
-    let can = subst (CanStep core p) count c.loop.invariant.can in
-    let made = c.in_ok-tell_turn.ensures.longer false (first-turn core p (n - (i + 1)) can) in
+    let turn = subst (λ (b : Bool). TurnMade core line.process false (Ok b) new) c.if-not-branch.false c.in_ok-tell_shown.ensures.made in
+    let more = steps_more c.args.core.now.core core new line.process i c.loop.invariant.there c.loop.invariant.made turn in
     record {
-      same = ap (λ (x : CoreValue). x.program) made ∙ c.loop.invariant.same;
-      can = other-steps core p (n - (i + 1)) new can made;
-      left = steps-further core p (n - (i + 1)) new made ∙ ap (λ (k : ℕ). longer core (replicate k (one p))) (sym count) ∙ c.loop.invariant.left;
-      told = lines-on cell c.args.number p (n - (i + 1)) core new c.loop.text.items c.tell_turn.new.text.items _ made c.in_ok-tell_turn.ensures.told (
-          ap (λ (k : ℕ). c.loop.text.items ++ steps_text core.program cell c.args.number p (progress_of core) k) (sym count) ∙ c.loop.invariant.told);
+      within = more.0;
+      there = more.1;
+      made = more.2;
+      told = shown-on line.shown cell line.number line.process (n - (i + 1)) core new c.loop.text.items c.tell_shown.new.text.items _ turn.2 (c.in_ok-tell_shown.ensures.told c.if-not-branch.false) (
+          ap (λ (k : ℕ). c.loop.text.items ++ shown_lines line.shown (steps_text core.program cell line.number line.process (progress_of core) k)) (sym (count-left n i c.loop-test.true))
+          ∙ c.loop.invariant.told);
     }
 
-pub returns-clause-longer : goal.returns-clause-longer
-returns-clause-longer c =
-    steps-end c.loop.core.core c.args.core.now.core c.args.entry.process c.args.entry.steps (c.args.entry.steps - c.loop.counter) c.loop.invariant.can (omega (arith, c.loop-test.false)) c.loop.invariant.left
+pub returns-clause-made : goal.returns-clause-made
+returns-clause-made c =
+    let all : c.loop.counter ≡ c.args.steps = omega arith in
+    let P : ℕ → Type 0 = λ n. (length c.args.core.now.core.history + n ≤ most_entries) × AreSteps c.args.core.now.core.program (state_of c.args.core.now.core) (replicate n c.args.line.process) × (c.loop.core.core ≡ longer c.args.core.now.core (replicate n (one c.args.line.process))) in
+    subst P all (c.loop.invariant.within, c.loop.invariant.there, c.loop.invariant.made)
 
 pub returns-clause-told : goal.returns-clause-told
-returns-clause-told c =
-    lines-end (shown_on c.args.teller.now.page.now).cell c.args.number c.args.entry.process (c.args.entry.steps - c.loop.counter) c.loop.core.core c.loop.text.items _ (omega (arith, c.loop-test.false)) c.loop.invariant.told
+returns-clause-told c is =
+    shown-end c.args.line.shown (shown_on c.args.teller.now.page.now).cell c.args.line.number c.args.line.process (c.args.steps - c.loop.counter) c.loop.core.core c.loop.text.items _
+    (omega (arith, c.loop-test.false)) c.loop.invariant.told

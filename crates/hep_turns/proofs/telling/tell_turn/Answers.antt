@@ -1,28 +1,40 @@
-use Rattle.std.proofs.Common.{arith}
-use Rattle.std.proofs.lemmas.Result.{on_ok_weaker}
+use Rattle.std.proofs.Common.{◌∙◌, Bool, Ok, arith, subst, sym}
 use Rattle.hep_glances.specs.Sights.{name_sought}
-use Rattle.hep_turns.proofs.Along.{runs}
+use Rattle.hep_history.specs.Progress.{TurnMade}
+use Rattle.hep_turns.proofs.Along.{no-turn, runs}
 use Rattle.hep_turns.proofs.telling.tell_turn.Goals as goal
 
+pub returns-then-is_some-clause-made : goal.returns-then-is_some-clause-made
+returns-then-is_some-clause-made c =
+    no-turn c.args.core.now.core c.args.line.process c.args.waits c.stop.result (sym c.is_some.ensures ∙ c.if-is_some.true) c.stop.ensures.stop c.requires.replaying.standing
+
 pub look-requires-clause-running : goal.look-requires-clause-running
-look-requires-clause-running c = runs c.args.core.now.core c.args.p c.requires.possible.0 c.requires.possible.1
+look-requires-clause-running c = runs c.args.core.now.core c.stop.result (sym c.is_some.ensures ∙ c.if-is_some.false) c.stop.ensures.none
 
 pub look-requires-clause-few : goal.look-requires-clause-few
-look-requires-clause-few c = omega (arith, c.requires.possible.1.turns, c.requires.possible.1.few)
+look-requires-clause-few c = omega (arith, c.requires.replaying.turns, c.requires.replaying.within)
+
+pub make_turn-requires : goal.make_turn-requires
+make_turn-requires c = c.requires.replaying.standing
+
+pub returns-then-not-branch-clause-made : goal.returns-then-not-branch-clause-made
+returns-then-not-branch-clause-made c =
+    subst (λ (b : Bool). TurnMade c.args.core.now.core c.args.line.process c.args.waits (Ok b) c.make_turn.new.core.core) c.if-not-branch.true c.in_ok-make_turn.ensures.made
 
 pub append_line-requires : goal.append_line-requires
 append_line-requires c = (
   c.args.core.now.core,
-  c.args.p,
+  c.args.line.process,
   name_sought c.args.teller.now.page.now.cell,
   c.in_ok-sight.ensures,
-  c.in_ok-make_turn.ensures.made,
+  c.in_ok-make_turn.ensures.turned c.if-not-branch.false,
 )
 
-pub returns-clause-longer : goal.returns-clause-longer
-returns-clause-longer c = on_ok_weaker c.append_line.result (λ told. c.in_ok-make_turn.ensures.longer) c.append_line.ensures
+pub returns-clause-made : goal.returns-clause-made
+returns-clause-made c =
+    subst (λ (b : Bool). TurnMade c.args.core.now.core c.args.line.process c.args.waits (Ok b) c.make_turn.new.core.core) c.if-not-branch.false c.in_ok-make_turn.ensures.made
 
 pub returns-clause-told : goal.returns-clause-told
-returns-clause-told c =
-    on_ok_weaker c.append_line.result (λ told. told c.args.core.now.core c.args.p (name_sought c.args.teller.now.page.now.cell) c.in_ok-sight.ensures c.in_ok-make_turn.ensures.made)
-    c.append_line.ensures
+returns-clause-told c is =
+    c.in_ok-append_line.ensures c.args.core.now.core c.args.line.process (name_sought c.args.teller.now.page.now.cell) c.in_ok-sight.ensures (
+    c.in_ok-make_turn.ensures.turned c.if-not-branch.false)
