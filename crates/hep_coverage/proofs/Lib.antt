@@ -1,3 +1,2 @@
-mod Standing
-mod Turns
+mod Remade
 mod Worked

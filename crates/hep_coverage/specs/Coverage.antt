@@ -1,10 +1,10 @@
 -- How often the statements of lines began in histories: docs/RUNS.md, "How often lines began".
-use Rattle.std.specs.Prelude.{ℕ, ◌+◌, ◌-◌, ◌&&◌, not, Bool, true, false, min, if◌then◌else◌, List, [], ◌∷◌, replicate, Option, Some, None, slice_get}
-use Rattle.std.specs.Option.{option_flatten, unwrap_or}
+use Rattle.std.specs.Prelude.{ℕ, ◌&&◌, not, Bool, true, false, if◌then◌else◌, List, [], ◌∷◌, replicate, Option, Some, None}
 use Rattle.hep_machine.specs.declared.event.Entry.{Entry}
-use Rattle.hep_machine.specs.Words.{Form, Statement, Units, State, is_executable, opening, schedule_of, state_after_turn}
+use Rattle.hep_machine.specs.Words.{Form, Statement, Units, is_executable, opening, schedule_of}
 use Rattle.hep_source.specs.declared.statement.Form.TheVariants.{Else}
-use Rattle.hep_begins.specs.Begins.{begun, operations_by_line, with_line}
+use Rattle.hep_begins.specs.Begins.{operations_by_line, with_line}
+unfoldable pub use Rattle.hep_counting.specs.Counts.{counted_along}
 
 -- ---- counts: how often it began, none where no statement is that can begin
 
@@ -28,28 +28,9 @@ unbegun_in (unit ∷ units) counts = unbegun_in units (unbegun_in_unit unit coun
 abbrev pub unbegun : Units → ℕ → List (Option ℕ)
 unbegun program count = unbegun_in program (replicate count None)
 
--- one more, and no more than a number of 64 bits can say
-abbrev pub one_more : ℕ → ℕ
-one_more n = min (n + 1) 18446744073709551615
-
--- what is counted so far at an index
-abbrev pub count_before : List (Option ℕ) → ℕ → ℕ
-count_before counts i = unwrap_or (option_flatten (slice_get counts i)) 0
-
--- the statement of a line began, if one did
-abbrev pub counted : Option ℕ → List (Option ℕ) → List (Option ℕ)
-counted None counts = counts
-counted (Some line) counts = with_line counts line (Some (one_more (count_before counts (line - 1))))
-
 -- ---- histories
 
--- with the turns of these processes from a state
-unfoldable pub counted_along : Units → List ℕ → State → List ℕ → List (Option ℕ) → List (Option ℕ)
-counted_along program operations s [] counts = counts
-counted_along program operations s (p ∷ ps) counts =
-    counted_along program operations (state_after_turn program p s) ps (counted (begun program operations p s) counts)
-
--- with those of a history
+-- with the turns of a history
 abbrev pub counted_in : Units → List ℕ → List Entry → List (Option ℕ) → List (Option ℕ)
 counted_in program operations history counts = counted_along program operations (opening program) (schedule_of history) counts
 

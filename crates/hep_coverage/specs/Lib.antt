@@ -1,3 +1,3 @@
 pub mod Coverage
 pub mod Lines
-pub mod Counting
+pub mod Remaking

@@ -3,6 +3,7 @@ ghost use Rattle.std.specs.Prelude.{◌≡◌, IfOk, if◌then◌else◌, Some};
 ghost use Rattle.hep_begins.specs.Begins.{with_line};
 ghost use Rattle.hep_coverage.specs.Coverage as words;
 
+use hep_counting::set_line;
 use hep_image::Image;
 use hep_source::{Form, Statement};
 use std::alloc::{AllocError, Global};
@@ -23,19 +24,6 @@ fn can_begin(form: &Form) -> bool
         | Form::Data(_)
         | Form::Else => false,
         _ => true,
-    }
-}
-
-// Sets the count of a line, where there is such a line.
-fn set_line(counts: &mut Vec<Option<u64>>, line: u32, count: Option<u64>)
-    ensures { counts.new.items ≡ with_line counts.old.items line count }
-{
-    if line == 0 {
-        return;
-    }
-    let index = line as usize - 1;
-    if index < counts.len() {
-        counts[index] = count;
     }
 }
 
@@ -68,24 +56,4 @@ pub fn unbegun(alloc: Global, image: &Image, lines: usize) -> Result<Vec<Option<
         note_unit(&mut counts, unit.as_slice());
     }
     Ok(counts)
-}
-
-// How often it began before.
-fn count_at(counts: &[Option<u64>], index: usize) -> u64
-    ensures { result ≡ words.count_before counts.now index }
-{
-    match counts.get(index) {
-        Some(Some(count)) => *count,
-        _ => 0,
-    }
-}
-
-/// Counts that the statement of a line began, if one did.
-pub(crate) fn count(counts: &mut Vec<Option<u64>>, line: Option<u32>)
-    ensures { counts.new.items ≡ words.counted line counts.old.items }
-{
-    if let Some(line) = line {
-        let before = count_at(counts, line.saturating_sub(1) as usize);
-        set_line(counts, line, Some(before.saturating_add(1)));
-    }
 }

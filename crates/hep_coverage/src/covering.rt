@@ -1,72 +1,83 @@
 //! A history that is made again, while the statements are counted that its steps begin.
-ghost use Rattle.std.specs.Prelude.{◌≡◌, ◌∷◌, ◌++◌, [], ℕ, List, Option, OnOk};
-ghost use Rattle.hep_causes.specs.Watches.{IsReplayed, Whole};
-ghost use Rattle.hep_coverage.specs.Counting.{IsCounting};
+ghost use Rattle.std.specs.Prelude.{◌≡◌, ◌≤◌, ◌-◌, ◌*◌, [], IfOk, OnOk, replicate};
+ghost use Rattle.hep_causes.specs.Watches.{IsReplayed};
 ghost use Rattle.hep_coverage.specs.Coverage.{counted_in};
-ghost use Rattle.hep_causes.specs.Changes.{turns_from, turns_of};
+ghost use Rattle.hep_coverage.specs.Remaking.{CanRemake, Remakes};
+ghost use Rattle.hep_machine.specs.Words.{schedule_of};
 
-use crate::begun::begun;
-use crate::counts::count;
-use hep_causes::{History, begin_again, step};
+use crate::again::Again;
+use hep_causes::History;
 use hep_core::Core;
+use hep_counting::{Marked, Tabled, count_on, marks_of, tables_of};
 use hep_machine::Entry;
+use hep_state::laws;
 use std::alloc::{AllocError, Global};
 
-// A turn of process p.
-fn make_turn(
-    core: &mut Core,
-    operations: &[usize],
+// The most turns that are made at once.
+const MOST_AT_ONCE: u64 = 0xFFFF_FFFF;
+
+// The first ones of so many turns of process p, and how many were made: as many as only move p, and else one.
+fn make_some(
+    again: &mut Again,
+    marked: &Marked<'_>,
     counts: &mut Vec<Option<u64>>,
     p: u64,
-) -> Result<(), AllocError>
-    requires { (whole : Whole) × (total : List (Option ℕ)) × (entry : ℕ) × (left : List (ℕ × ℕ))
-        × IsCounting whole operations.now total core.old.core ((entry, p) ∷ left) counts.old.items }
-    ensures { OnOk result ((whole : Whole) (total : List (Option ℕ)) (entry : ℕ) (left : List (ℕ × ℕ))
-        → IsCounting whole operations.now total core.old.core ((entry, p) ∷ left) counts.old.items
-        → IsCounting whole operations.now total core.new.core left counts.new.items) }
+    most: u64,
+) -> Result<u64, AllocError>
+    requires remade { CanRemake marked.now again.old (replicate most p) counts.old.items }
+    requires some { 1 ≤ most }
+    ensures remade { IfOk result (λ made. Remakes marked.now again.old (replicate most p) counts.old.items again.new (replicate (most - made) p) counts.new.items) }
+    ensures some { IfOk result (λ made. 1 ≤ made) }
+    ensures few { IfOk result (λ made. made ≤ most) }
 {
-    let line = begun(core, operations, p);
-    step(core, p)?;
-    count(counts, line);
-    Ok(())
+    laws::activations_are_few();
+    let few = most.min(MOST_AT_ONCE);
+    again.history.reserve(few as u32)?;
+    let made = count_on(&mut again.machine, marked, counts, p, few);
+    let entry = Entry {
+        process: p,
+        steps: 1,
+    };
+    again.history.push_many(entry, made as u32);
+    if made == 0 {
+        again.turn(marked, counts, p)?;
+        return Ok(1);
+    }
+    Ok(made)
 }
 
-// The turns of an entry.
-fn make_entry(
-    core: &mut Core,
-    operations: &[usize],
+// So many turns of process p.
+fn make_turns(
+    again: &mut Again,
+    marked: &Marked<'_>,
     counts: &mut Vec<Option<u64>>,
-    entry: Entry,
+    p: u64,
+    count: u64,
 ) -> Result<(), AllocError>
-    requires { (whole : Whole) × (total : List (Option ℕ)) × (number : ℕ) × (left : List (ℕ × ℕ))
-        × IsCounting whole operations.now total core.old.core (turns_of number entry ++ left) counts.old.items }
-    ensures { OnOk result ((whole : Whole) (total : List (Option ℕ)) (number : ℕ) (left : List (ℕ × ℕ))
-        → IsCounting whole operations.now total core.old.core (turns_of number entry ++ left) counts.old.items
-        → IsCounting whole operations.now total core.new.core left counts.new.items) }
+    requires { CanRemake marked.now again.old (replicate count p) counts.old.items }
+    ensures { OnOk result (Remakes marked.now again.old (replicate count p) counts.old.items again.new [] counts.new.items) }
 {
-    for _ in 0..entry.steps {
-        make_turn(core, operations, counts, entry.process)?;
+    let mut made = 0;
+    while made < count {
+        made += make_some(again, marked, counts, p, count - made)?;
     }
     Ok(())
 }
 
 // The turns of all entries.
 fn make_entries(
-    core: &mut Core,
-    operations: &[usize],
+    again: &mut Again,
+    marked: &Marked<'_>,
     counts: &mut Vec<Option<u64>>,
     entries: &History,
 ) -> Result<(), AllocError>
-    requires { (whole : Whole) × (total : List (Option ℕ)) × IsCounting whole operations.now total core.old.core (turns_from 1 entries.now.items) counts.old.items }
-    ensures { OnOk result ((whole : Whole) (total : List (Option ℕ)) → IsCounting whole operations.now total core.old.core (turns_from 1 entries.now.items) counts.old.items
-        → IsCounting whole operations.now total core.new.core [] counts.new.items) }
+    requires { CanRemake marked.now again.old (schedule_of entries.now.items) counts.old.items }
+    ensures { OnOk result (Remakes marked.now again.old (schedule_of entries.now.items) counts.old.items again.new [] counts.new.items) }
 {
-    let mut rest = entries.iter();
-    for _ in 0..entries.len() {
-        let Some(entry) = rest.next() else {
-            return Ok(());
-        };
-        make_entry(core, operations, counts, entry)?;
+    let mut runs = entries.runs();
+    while let Some(run) = runs.next() {
+        let count = run.count as u64 * run.steps as u64;
+        make_turns(again, marked, counts, run.process, count)?;
     }
     Ok(())
 }
@@ -88,7 +99,18 @@ pub fn count_history(
     ensures { OnOk result (counts.new.items ≡ counted_in core.now.core.program operations.now entries.now.items counts.old.items) }
 {
     core.headline();
-    let mut again = begin_again(alloc, core, entries)?;
-    make_entries(&mut again, operations, counts, entries)?;
+    let image = core.image();
+    let tables = tables_of(alloc, image)?;
+    let marks = marks_of(alloc, image, operations)?;
+    let marked = Marked {
+        tabled: Tabled {
+            image,
+            tables: &tables,
+        },
+        operations,
+        marks: &marks,
+    };
+    let mut again = Again::open(alloc, image, core.cells())?;
+    make_entries(&mut again, &marked, counts, entries)?;
     Ok(())
 }

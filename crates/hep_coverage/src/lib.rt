@@ -1,7 +1,7 @@
 //! How often the statement of each line of a source began in histories, as a text.
 #![tactic(auto)]
 
-mod begun;
+mod again;
 pub mod counts;
 pub mod covering;
 pub mod text;

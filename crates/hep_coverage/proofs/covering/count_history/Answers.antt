@@ -1,16 +1,21 @@
-use Rattle.hep_causes.proofs.Found.{whole}
-use Rattle.hep_coverage.specs.Coverage.{counted_in}
-use Rattle.hep_coverage.proofs.Turns.{counting-begins, counting-ends}
+use Rattle.std.proofs.Common.{[], sym, subst}
+use Rattle.hep_state.specs.Words.{IsMachineAfter}
+use Rattle.hep_counting.specs.declared.marks.Marked.{Marked}
+use Rattle.hep_counting.specs.Marks.{AreMarks}
+use Rattle.hep_quick.specs.UnitTables.{AreTables}
+use Rattle.hep_coverage.proofs.Remade.{aim, remade-begins, remade-ends}
 use Rattle.hep_coverage.proofs.covering.count_history.Goals as goal
 
 pub make_entries-requires : goal.make_entries-requires
 make_entries-requires c =
     let core = c.args.core.now.core in
     let entries = c.args.entries.now.items in
-    let counts = c.args.counts.now.items in (
-      whole core entries c.requires,
-      counted_in core.program c.args.operations.now entries counts,
-      counting-begins core entries c.requires c.args.operations.now c.headline.ensures.legal c.in_ok-again.again.core counts c.in_ok-again.ensures,
+    let counts = c.args.counts.now.items in
+    let marked : Marked = record { tabled = record { image = c.image-image.result; tables = c.deref.result }; operations = c.args.operations; marks = c.deref-2.result } in
+    let opened = c.in_ok-again.ensures in (
+      aim core entries c.requires c.headline.ensures.legal c.args.operations.now counts,
+      [],
+      remade-begins core entries c.requires c.headline.ensures.legal marked c.in_ok-again.again counts c.image-image.ensures (subst (AreTables c.image-image.result.now) (sym c.deref.ensures.value) c.in_ok-tables.ensures) (subst (AreMarks c.image-image.result.now c.args.operations.now) (sym c.deref-2.ensures.value) c.in_ok-marks.ensures) (subst (λ n. IsMachineAfter c.image-image.result.now n [] c.in_ok-again.again.machine) c.cells.ensures opened.opened) opened.begun opened.room,
     )
 
 pub returns : goal.returns
@@ -18,8 +23,9 @@ returns c =
     let core = c.args.core.now.core in
     let entries = c.args.entries.now.items in
     let counts = c.args.counts.now.items in
-    let w = whole core entries c.requires in
-    let total = counted_in core.program c.args.operations.now entries counts in
-    counting-ends w c.args.operations.now total c.make_entries.new.core.core c.make_entries.new.counts.items (
-    c.in_ok-make_entries.ensures w total (
-    counting-begins core entries c.requires c.args.operations.now c.headline.ensures.legal c.in_ok-again.again.core counts c.in_ok-again.ensures))
+    let marked : Marked = record { tabled = record { image = c.image-image.result; tables = c.deref.result }; operations = c.args.operations; marks = c.deref-2.result } in
+    let opened = c.in_ok-again.ensures in
+    let its = aim core entries c.requires c.headline.ensures.legal c.args.operations.now counts in
+    remade-ends its marked c.make_entries.new.again c.make_entries.new.counts.items (
+    c.in_ok-make_entries.ensures its [] (
+    remade-begins core entries c.requires c.headline.ensures.legal marked c.in_ok-again.again counts c.image-image.ensures (subst (AreTables c.image-image.result.now) (sym c.deref.ensures.value) c.in_ok-tables.ensures) (subst (AreMarks c.image-image.result.now c.args.operations.now) (sym c.deref-2.ensures.value) c.in_ok-marks.ensures) (subst (λ n. IsMachineAfter c.image-image.result.now n [] c.in_ok-again.again.machine) c.cells.ensures opened.opened) opened.begun opened.room))

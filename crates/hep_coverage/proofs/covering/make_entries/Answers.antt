@@ -1,53 +1,49 @@
-use Rattle.std.proofs.Common.{ℕ, ◌+◌, suc, List, Option, ap, length, subst, sym, arith}
-use Rattle.hep_causes.specs.Changes.{turns_from}
-use Rattle.hep_causes.specs.Watches.{Whole}
-use Rattle.hep_coverage.specs.Counting.{IsCounting}
-use Rattle.hep_coverage.proofs.Turns.{all-there, next-entry, no-entry}
+use Rattle.std.proofs.Common.{ℕ, ◌*◌, ◌++◌, List, replicate, append_assoc, sym, ap, ◌∙◌, subst}
+use Rattle.hep_entries.specs.Runs.{entries_of}
+use Rattle.hep_machine.specs.declared.event.Entry.{Entry}
+use Rattle.hep_machine.specs.Words.{schedule_of}
+use Rattle.hep_coverage.specs.Remaking.{Aim, CanRemake, IsRemade, Remakes}
+use Rattle.hep_coverage.proofs.Remade.{no-turns, run-turns}
 use Rattle.hep_coverage.proofs.covering.make_entries.Goals as goal
+use Rattle.hep_coverage.proofs.covering.make_entries.Goals.{In-Some}
 
-pub loop-init : goal.loop-init
-loop-init c =
-    let is = sym c.iter-rest.ensures in
-    let begins : (whole : Whole) (total : List (Option ℕ)) → IsCounting whole c.args.operations.now total c.args.core.now.core (turns_from 1 c.args.entries.now.items) c.args.counts.now.items
-    → IsCounting whole c.args.operations.now total c.args.core.now.core (turns_from 1 c.iter-rest.result) c.args.counts.now.items =
-    λ whole total h. subst (λ es. IsCounting whole c.args.operations.now total c.args.core.now.core (turns_from 1 es) c.args.counts.now.items) is h in
+pub loop-run-init : goal.loop-run-init
+loop-run-init c =
+    let is = sym c.runs-runs.ensures.entries in
     record {
-      there = (c.requires.0, c.requires.1, begins c.requires.0 c.requires.1 c.requires.2);
-      counting = begins;
-      count = omega (arith, ap length c.iter-rest.ensures);
+      there = subst (λ (es : List Entry). CanRemake c.args.marked.now c.args.again.now (schedule_of es) c.args.counts.now.items) is c.requires;
+      remade = subst (λ (es : List Entry). Remakes c.args.marked.now c.args.again.now (schedule_of c.args.entries.now.items) c.args.counts.now.items c.args.again.now (schedule_of es) c.args.counts.now.items) is (λ aim left h. h);
     }
 
-pub make_entry-requires : goal.make_entry-requires
-make_entry-requires c =
-    let h = c.loop.invariant.there in (
-      h.0,
-      h.1,
-      suc c.loop.counter,
-      _,
-      subst (λ ts. IsCounting h.0 c.args.operations.now h.1 c.loop.core.core ts c.loop.counts.items) (next-entry c.loop.counter c.in-Some.entry c.loop.rest c.next.new.self c.in-Some.ensures.steps) h.2,
-    )
+-- the turns of the next run, and of those behind it
+next-run : (c : In-Some) (aim : Aim) (left : List ℕ) → IsRemade aim c.args.marked.now c.loop-run.again (schedule_of (entries_of c.loop-run.runs) ++ left) c.loop-run.counts.items
+    → IsRemade aim c.args.marked.now c.loop-run.again (replicate (c.in-Some.run'.count * c.in-Some.run'.steps) c.in-Some.run'.process ++ (schedule_of (entries_of c.next.new.self) ++ left)) c.loop-run.counts.items
+next-run c aim left h =
+    let run = c.in-Some.run' in
+    let rest = c.next.new.self in
+    subst (λ ps. IsRemade aim c.args.marked.now c.loop-run.again ps c.loop-run.counts.items)
+    (ap (λ ps. ps ++ left) (run-turns run c.loop-run.runs rest c.in-Some.ensures.steps) ∙ append_assoc (replicate (run.count * run.steps) run.process) (schedule_of (entries_of rest)) left) h
 
-pub loop-preserved : goal.loop-preserved
-loop-preserved c =
-    let i = c.loop.counter in
-    let steps = c.in-Some.ensures.steps in
-    let operations = c.args.operations.now in
-    let next : (whole : Whole) (total : List (Option ℕ)) → IsCounting whole operations total c.loop.core.core (turns_from (suc i) c.loop.rest) c.loop.counts.items
-    → IsCounting whole operations total c.make_entry.new.core.core (turns_from (suc (i + 1)) c.next.new.self) c.make_entry.new.counts.items =
-    λ whole total h. c.in_ok-make_entry.ensures whole total (suc i) _ (
-    subst (λ ts. IsCounting whole operations total c.loop.core.core ts c.loop.counts.items) (next-entry i c.in-Some.entry c.loop.rest c.next.new.self steps) h) in
-    let there = c.loop.invariant.there in
+pub make_turns-requires : goal.make_turns-requires
+make_turns-requires c =
+    let there = c.loop-run.invariant.there in
+    (there.0, schedule_of (entries_of c.next.new.self) ++ there.1, next-run (goal.at.make_turns-requires c).In-Some there.0 there.1 there.2)
+
+pub loop-run-preserved : goal.loop-run-preserved
+loop-run-preserved c =
+    let inv = c.loop-run.invariant in
+    let there = inv.there in
+    let before = (goal.at.loop-run-preserved c).In-Some in
+    let rest = schedule_of (entries_of c.next.new.self) in
+    let next : (aim : Aim) (left : List ℕ) → IsRemade aim c.args.marked.now c.loop-run.again (schedule_of (entries_of c.loop-run.runs) ++ left) c.loop-run.counts.items
+    → IsRemade aim c.args.marked.now c.make_turns.new.again (rest ++ left) c.make_turns.new.counts.items =
+    λ aim left h. c.in_ok-make_turns.ensures aim (rest ++ left) (next-run before aim left h) in
     record {
       there = (there.0, there.1, next there.0 there.1 there.2);
-      counting = λ whole total h. next whole total (c.loop.invariant.counting whole total h);
-      count = omega (arith, c.loop.invariant.count, ap length steps);
+      remade = λ aim left h. next aim left (inv.remade aim left h);
     }
 
 pub returns : goal.returns
-returns c whole total h =
-    subst (λ ts. IsCounting whole c.args.operations.now total c.loop.core.core ts c.loop.counts.items) (
-    no-entry (suc c.loop.counter) c.loop.rest (omega (arith, c.loop.invariant.count, c.loop-test.false, c.len-end.ensures))) (c.loop.invariant.counting whole total h)
-
-pub returns-in_default : goal.returns-in_default
-returns-in_default c =
-    absurd (all-there c.loop.counter _ c.loop.rest c.args.entries.now.items c.loop.invariant.count c.loop-test.true c.len-end.ensures.count c.in_default.ensures.steps.0)
+returns c =
+    subst (λ ps. Remakes c.args.marked.now c.args.again.now (schedule_of c.args.entries.now.items) c.args.counts.now.items c.loop-run.again ps c.loop-run.counts.items)
+    (no-turns c.loop-run.runs c.in_default.ensures.steps.0) c.loop-run.invariant.remade

@@ -1,14 +1,15 @@
-use Rattle.std.proofs.Common.{◌≡◌, ◌+◌, ℕ, suc, List, Option, length}
-use Rattle.hep_causes.specs.Changes.{turns_from}
-use Rattle.hep_causes.specs.Watches.{Whole}
-use Rattle.hep_coverage.specs.Counting.{IsCounting}
+use Rattle.std.proofs.Common.{length}
+use Rattle.hep_entries.specs.Runs.{entries_of}
+use Rattle.hep_machine.specs.Words.{schedule_of}
+use Rattle.hep_coverage.specs.Remaking.{CanRemake, Remakes}
 use Rattle.hep_coverage.proofs.covering.make_entries.Given as goal
 
-abbrev pub invariant-loop : goal.invariant-loop
-invariant-loop l =
+abbrev pub invariant-loop-run : goal.invariant-loop-run
+invariant-loop-run l =
     record {
-      there : (whole : Whole) × (total : List (Option ℕ)) × IsCounting whole l.operations total l.core.core (turns_from (suc l.counter) l.rest) l.counts.items;
-      counting : (whole : Whole) (total : List (Option ℕ)) → IsCounting whole l.operations total l.fn.core.core (turns_from 1 l.entries.items) l.fn.counts.items
-          → IsCounting whole l.operations total l.core.core (turns_from (suc l.counter) l.rest) l.counts.items;
-      count : l.counter + length l.rest ≡ length l.entries.items;
+      there : CanRemake l.marked l.again (schedule_of (entries_of l.runs)) l.counts.items;
+      remade : Remakes l.marked l.fn.again (schedule_of l.entries.items) l.fn.counts.items l.again (schedule_of (entries_of l.runs)) l.counts.items;
     }
+
+abbrev pub decreases-loop-run : goal.decreases-loop-run
+decreases-loop-run l = length l.runs
