@@ -22,6 +22,10 @@ told State program entries = state_text program (length entries) entries
 told (Trace page) program entries = trace_text program (shown_on page) entries
 told Why program entries = why_text program entries
 
+-- the main program's frame has a gap in an arena of so many cells, and each of these entries is possible after those before it
+abbrev pub CanBeTold : Units → ℕ → List Entry → Type 0
+CanBeTold program cells entries = IsSome (opening_layout program cells) × ArePossible program cells entries (length entries)
+
 -- what is written of these entries: what is told; or that COMMON and the main program's frame don't fit the arena, or the first entry that isn't
 -- possible
 abbrev pub IsToldOutcome : Telling → Bool → Units → ℕ → List Entry → Outcome → Type 0

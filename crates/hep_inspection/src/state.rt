@@ -1,11 +1,9 @@
 //! The bytes of a source and of a history to what everything holds after the history's first entries.
-ghost use Rattle.std.specs.Prelude.{◌≡◌, ◌≤◌, false, length, IfErr, IfOk, IsSome, OnErr, OnOk};
-ghost use Rattle.hep_history.specs.Replays.{ArePossible};
-ghost use Rattle.hep_inspection.specs.declared.state.Telling.TheVariants.{State};
+ghost use Rattle.std.specs.Prelude.{◌≡◌, ◌≤◌, false, IfErr, IfOk, OnErr, OnOk};
+ghost use Rattle.hep_inspection.specs.declared.state.Telling.TheVariants.{State, Trace, Why};
 ghost use Rattle.hep_run.specs.Delivery.{LeavesOfSource, status_alone};
 ghost use Rattle.hep_run.specs.Memory.{MayReadOn, RefusesLargeSource};
-ghost use Rattle.hep_inspection.specs.States.{IsFirstOutcome, IsSourceTold, told};
-ghost use Rattle.hep_machine.specs.Words.{opening_layout};
+ghost use Rattle.hep_inspection.specs.States.{CanBeTold, IsFirstOutcome, IsSourceTold, told};
 ghost use Rattle.hep_outcome.specs.Transcripts.{outcome_of};
 ghost use Rattle.hep_turns.specs.Making.{IsUntold};
 
@@ -54,6 +52,63 @@ pub struct AskedState<'a> {
     ghost few: { arena ≤ 16777216 },
 }
 
+// What everything holds after entries, which are made for it.
+fn state_told(
+    alloc: Global,
+    image: Image,
+    arena: u32,
+    entries: &History,
+) -> Result<Vec<u8>, ReplayFault>
+    requires some { 1 ≤ arena }
+    requires few { arena ≤ 16777216 }
+    ensures told { IfOk result (λ text. text.items ≡ told State image entries.now.items) }
+    ensures possible { OnOk result (CanBeTold image arena entries.now.items) }
+    ensures untold { IfErr result (IsUntold image arena entries.now.items) }
+{
+    let core = replay(alloc, image, arena, entries)?;
+    match state_text(alloc, &core, entries.len()) {
+        Ok(text) => Ok(text),
+        Err(_) => Err(ReplayFault::NoMemory),
+    }
+}
+
+// Why processes wait after entries, which are made for it.
+fn why_told(
+    alloc: Global,
+    image: Image,
+    arena: u32,
+    entries: &History,
+) -> Result<Vec<u8>, ReplayFault>
+    requires some { 1 ≤ arena }
+    requires few { arena ≤ 16777216 }
+    ensures told { IfOk result (λ text. text.items ≡ told Why image entries.now.items) }
+    ensures possible { OnOk result (CanBeTold image arena entries.now.items) }
+    ensures untold { IfErr result (IsUntold image arena entries.now.items) }
+{
+    let core = replay(alloc, image, arena, entries)?;
+    match why_text(alloc, &core, entries) {
+        Ok(text) => Ok(text),
+        Err(_) => Err(ReplayFault::NoMemory),
+    }
+}
+
+// What each step of entries did, as far as it is shown, told while they are made.
+fn trace_told(
+    alloc: Global,
+    image: Image,
+    arena: u32,
+    entries: &History,
+    page: Page<'_>,
+) -> Result<Vec<u8>, ReplayFault>
+    requires some { 1 ≤ arena }
+    requires few { arena ≤ 16777216 }
+    ensures told { IfOk result (λ text. text.items ≡ told (Trace page.entry) image entries.now.items) }
+    ensures possible { OnOk result (CanBeTold image arena entries.now.items) }
+    ensures untold { IfErr result (IsUntold image arena entries.now.items) }
+{
+    trace_history(alloc, image, arena, entries, &page)
+}
+
 // What is told of entries, which are made once for it.
 fn told_text(
     alloc: Global,
@@ -62,26 +117,13 @@ fn told_text(
     entries: &History,
 ) -> Result<Vec<u8>, ReplayFault>
     ensures told { IfOk result (λ text. text.items ≡ told asked.now.telling image entries.now.items) }
-    ensures fits { OnOk result (IsSome (opening_layout image asked.now.arena)) }
-    ensures possible { OnOk result (ArePossible image asked.now.arena entries.now.items (length entries.now.items)) }
+    ensures possible { OnOk result (CanBeTold image asked.now.arena entries.now.items) }
     ensures untold { IfErr result (IsUntold image asked.now.arena entries.now.items) }
 {
     match asked.telling {
-        Telling::State => {
-            let core = replay(alloc, image, asked.arena, entries)?;
-            let Ok(text) = state_text(alloc, &core, entries.len()) else {
-                return Err(ReplayFault::NoMemory);
-            };
-            Ok(text)
-        }
-        Telling::Trace(page) => trace_history(alloc, image, asked.arena, entries, &page),
-        Telling::Why => {
-            let core = replay(alloc, image, asked.arena, entries)?;
-            let Ok(text) = why_text(alloc, &core, entries) else {
-                return Err(ReplayFault::NoMemory);
-            };
-            Ok(text)
-        }
+        Telling::State => state_told(alloc, image, asked.arena, entries),
+        Telling::Trace(page) => trace_told(alloc, image, asked.arena, entries, page),
+        Telling::Why => why_told(alloc, image, asked.arena, entries),
     }
 }
 
