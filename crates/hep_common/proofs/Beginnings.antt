@@ -9,7 +9,7 @@ use Rattle.hep_layout.proofs.CommonRows.{common_row-cells}
 use Rattle.hep_values.proofs.BlockNames.{changed}
 use Rattle.hep_common.specs.Starts.{AreStarts, narrowed, start_in}
 use Rattle.hep_common.specs.declared.starts.CommonStarts.{CommonStarts}
-use Rattle.hep_common.proofs.Singles.{AreSingle, program-single, single-apart, single-rest}
+use Rattle.hep_layout.proofs.Singles.{AreOnce, program-single, single-apart, single-rest}
 use Rattle.hep_layout.proofs.Runs.{block-turned}
 
 -- what a table has of a block after it was given a start
@@ -26,7 +26,7 @@ cells_ahead program b bs = first_in (same_block b) (map (λ (k : BlockName). (k,
 
 -- the starts, where these blocks are still to come
 pub record AreBegun (program : Units) (c : CommonStarts) (bs : List BlockName) : Type 0 where
-  pub single : AreSingle bs
+  pub single : AreOnce bs
   pub cells : c.cells + cells_of_blocks program bs ≡ common_cells program
   pub ahead : (b : BlockName) → is_block_among b bs ≡ true → c.cells + cells_ahead program b bs ≡ first_of_block program b
   pub behind : (b : BlockName) → is_block_among b (blocks_of program) ≡ true → is_block_among b bs ≡ false → start_in c b ≡ narrowed (first_of_block program b)

@@ -6,7 +6,7 @@ use Rattle.hep_machine.specs.Words.{Units, Name, Statement, constant_value, boun
 use Rattle.hep_common.specs.declared.common.CommonItem.{CommonItem}
 use Rattle.hep_common.specs.Lengths.{entries_of, entries_of_program, cells_of_entry, cells_in_block}
 use Rattle.hep_common.proofs.Entries.{unit-cells}
-use Rattle.hep_common.proofs.Singles.{AreSingle, occurrences, program-single}
+use Rattle.hep_layout.proofs.Singles.{AreOnce, occurrences, program-single}
 
 -- ---- one entry
 
@@ -83,7 +83,7 @@ blocks-empty : (unit : List Statement) (bs : List BlockName) → cells_in_blocks
 blocks-empty unit [] = refl
 blocks-empty unit (b ∷ bs) = omega (arith, blocks-empty unit bs)
 
-blocks-few : (unit : List Statement) (bs : List BlockName) (es : List CommonItem) → AreSingle bs → cells_in_blocks unit bs es ≤ 2 ^ 20 * length es
+blocks-few : (unit : List Statement) (bs : List BlockName) (es : List CommonItem) → AreOnce bs → cells_in_blocks unit bs es ≤ 2 ^ 20 * length es
 blocks-few unit bs [] h = omega (arith, blocks-empty unit bs)
 blocks-few unit bs (e ∷ es) h = omega (arith, blocks-split unit e es bs, added-few unit e bs (h e.block), blocks-few unit bs es h)
 
@@ -102,7 +102,7 @@ unit-ahead unit us (b ∷ bs) =
     longer (cells_of_all unit (names_in_block unit b)) (cells_in_block unit b (entries_of unit)) (block_cells us b) (cells_of_blocks (unit ∷ us) bs) (cells_in_blocks unit bs (entries_of unit)) (cells_of_blocks us bs)
     (unit-cells unit b) (unit-ahead unit us bs)
 
-units-few : (us : Units) (bs : List BlockName) → AreSingle bs → cells_of_blocks us bs ≤ 2 ^ 20 * length (entries_of_program us)
+units-few : (us : Units) (bs : List BlockName) → AreOnce bs → cells_of_blocks us bs ≤ 2 ^ 20 * length (entries_of_program us)
 units-few [] bs h = omega (arith, no-units bs)
 units-few (unit ∷ us) bs h =
     omega (arith, unit-ahead unit us bs, blocks-few unit bs (entries_of unit) h, units-few us bs h, length-append (entries_of unit) (entries_of_program us))

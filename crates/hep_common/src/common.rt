@@ -17,14 +17,14 @@ use indexmap::{IndexMap, IndexSet};
 use std::alloc::{AllocError, Global};
 
 // What a COMMON statement says, one thing at a time: a name in a block, or none where a list names only the block.
-#[derive(Clone, Copy, PartialEq, Eq)]
+#[derive(Clone, Copy)]
 struct CommonItem {
     block: Option<Name>,
     name: Option<Name>,
 }
 
 // The length of a common block in the units that were read.
-#[derive(Clone, Copy, PartialEq, Eq)]
+#[derive(Clone, Copy)]
 struct Length {
     greatest: u128,
     // The last unit that has the block, and the cells that it has there as far as that was read.

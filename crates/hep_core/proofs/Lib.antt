@@ -16,3 +16,4 @@ pub mod Underway
 pub mod Exits
 pub mod Idle
 pub mod Beside
+pub mod Commons

@@ -1,5 +1,5 @@
 -- A commit of a segment on its way: from the core as it was to the machine in which constants ahead are operands, and nothing else has changed.
-use Rattle.std.proofs.Common.{◌≡◌, ◌≢◌, ◌≤◌, ◌⊎◌, ℕ, suc, true, false, List, [], ◌∷◌, ◌++◌, length, Result, Ok, Err, Option, Some, None, Global, refl, sym, ap, ◌∙◌, subst, arith}
+use Rattle.std.proofs.Common.{◌≡◌, ◌≢◌, ◌≤◌, ◌⊎◌, ℕ, suc, Bool, true, false, List, [], ◌∷◌, ◌++◌, length, Result, Ok, Err, Option, Some, None, Global, refl, sym, ap, ◌∙◌, subst, arith}
 use Rattle.std.specs.declared.vec.Vec.{Vec}
 use Rattle.std.specs.Result.{IsErrAnd}
 use Rattle.std.proofs.lemmas.Result.{err_from_is_err_and}
@@ -7,7 +7,7 @@ use Rattle.hep_machine.specs.Words.{Units, living, schedule_of}
 use Rattle.hep_code.specs.Words.{deepest}
 use Rattle.hep_entries.specs.Entries.{Kept}
 use Rattle.hep_segments.specs.declared.ticket.TicketId.{TicketId}
-use Rattle.hep_segments.specs.Segments.{IsMadeFrom, SegmentValue}
+use Rattle.hep_segments.specs.Segments.{IsMadeBy, IsMadeFrom, SegmentValue}
 use Rattle.hep_step.specs.Simulation.{unit_code}
 use Rattle.hep_state.specs.declared.machine.Machine.{Machine}
 use Rattle.hep_state.specs.Words.{HasLevels, HasSettledTop, IsItsTurn, IsMachineAfter, KeepsState, snapshot_of}
@@ -21,7 +21,6 @@ use Rattle.hep_views.specs.Seen.{machine_view}
 use Rattle.hep_core.specs.Commits.{IsCommitted, IsOutBy}
 use Rattle.hep_core.specs.Invariant.{AreLiving, CoreInvariant, core_value, placed_value}
 use Rattle.hep_core.specs.Places.{Placed, places_of, with_core}
-use Rattle.hep_core.specs.Tickets.{has_ticket}
 use Rattle.hep_core.specs.Value.{HasNoStop, state_of}
 use Rattle.hep_core.specs.declared.fault.CommitFault.{CommitFault}
 use Rattle.hep_core.specs.declared.fault.CommitFault.TheVariants as committing
@@ -50,8 +49,12 @@ module _ (i : Inside) (k : CoreInvariant i) (old : Placed) (view : placed_value 
     settled-by p own m after top made =
         settled-in i k going-in q levels-in m (after i.cells (schedule_of i.history.items) k.after) (subst (λ n. HasSettledTop i.image n (snapshot_of i.machine) (snapshot_of m)) own top) made
 
-pub out-in : (i : Inside) (old : Placed) (s : SegmentValue) → placed_value i ≡ old → HasNoStop old.core → living (state_of old.core) s.id.process ≢ None → has_ticket s.id old.core.out ≡ true → IsOutBy (core_value i) s
-out-in i old s view going lives ticket = subst (λ (v : Placed). IsOutBy v.core s) (sym view) (going, lives, ticket)
+pub out-in : (i : Inside) (old : Placed) (s : SegmentValue) → placed_value i ≡ old → IsOutBy old.core s → IsOutBy (core_value i) s
+out-in i old s view out = subst (λ (v : Placed). IsOutBy v.core s) (sym view) out
+
+-- what is known of a segment is so of the image
+pub known-in : (i : Inside) (old : Placed) (s : SegmentValue) → placed_value i ≡ old → (known : Bool) → (known ≡ true → IsMadeBy old.core.program s) → known ≡ true → IsMadeBy i.image s
+known-in i old s view known made is = subst (λ (v : Placed). IsMadeBy v.core.program s) (sym view) (made is)
 
 -- ---- a segment whose steps come next
 

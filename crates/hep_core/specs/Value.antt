@@ -1,11 +1,10 @@
 -- What a core is to its callers, and what a choice makes of it: docs/MACHINE.md, "Histories" and "Which process comes next".
-use Rattle.std.specs.Prelude.{◌≡◌, ◌≢◌, ◌⊎◌, ℕ, zero, suc, ◌+◌, ◌-◌, ◌<◌, ◌≤◌, Bool, true, false, not, if◌then◌else◌, List, [], ◌∷◌, ◌++◌, Option, Some, None, IsSome, Result, Ok, Err, length}
+use Rattle.std.specs.Prelude.{◌≡◌, ◌≢◌, ◌⊎◌, ℕ, zero, suc, ◌-◌, ◌<◌, ◌≤◌, Bool, true, false, not, if◌then◌else◌, List, [], ◌∷◌, ◌++◌, Option, Some, None, IsSome, Result, Ok, Err, length, option_map, slice_get}
 use Rattle.std.specs.List.{filter}
 use Rattle.std.specs.Option.{option_or}
 use Rattle.hep_machine.specs.declared.event.Entry.{Entry}
-use Rattle.hep_machine.specs.Words.{Units, BlockName, State, common, step, is_waiting, schedule_of, state_after, is_held, last_process, opening_layout, living_from, next_of_ready, progress_after, ready_in, View, view_of, is_number_among, living}
+use Rattle.hep_machine.specs.Words.{Units, CellView, State, step, is_waiting, schedule_of, state_after, is_held, last_process, opening_layout, living_from, next_of_ready, progress_after, ready_in, View, view_of, is_number_among, living}
 use Rattle.hep_machine.specs.declared.slot.Slot.{Slot}
-use Rattle.hep_layout.specs.Words.{place_of_block}
 use Rattle.hep_state.specs.Words.{HasNoGap}
 use Rattle.hep_views.specs.declared.listed.Listed.{Listed}
 use Rattle.hep_views.specs.Listed.{listed_by}
@@ -140,10 +139,9 @@ next_ready_of core = next_of_ready (last_process core.history) (free_of core)
 
 -- ---- COMMON
 
--- the cell is that of the storage unit of COMMON at this position
-abbrev pub IsAtPosition : CoreValue → ℕ → Slot → Type 0
-IsAtPosition core at slot =
-    (b : BlockName) (i : ℕ) → place_of_block core.program b i ≡ Some at → slot ≡ (state_of core).store (common b (i + 1))
+-- the cell at a position, of those that are seen of COMMON
+abbrev pub common_cell : CoreValue → ℕ → Option Slot
+common_cell core at = option_map (λ (v : CellView). v.cell) (slice_get core.view.common_contents at)
 
 -- ---- processes that wait
 

@@ -6,7 +6,6 @@
 pub mod fault;
 mod lists;
 mod noting;
-mod out;
 pub mod scheduler;
 pub mod stop;
 

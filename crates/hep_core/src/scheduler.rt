@@ -1,26 +1,26 @@
 //! The core: a run of an image, one choice at a time, with its history.
 ghost use Rattle.std.specs.Prelude.{◌≡◌, ◌≢◌, ◌≤◌, ◌<◌, ◌++◌, ◌∷◌, [], None, Some, IsSome, IfNone, IfSome, IfOk, OnErr, OnOk, IfErr, Err, false, true};
-ghost use Rattle.std.specs.Prelude.{◌+◌, ◌^◌, is_some, length, nat_lt};
-ghost use Rattle.hep_machine.specs.Words.{IsLegal, common_cells, is_held, opening_layout, used_cells, living, first_above, last_process};
+ghost use Rattle.std.specs.Prelude.{◌+◌, ◌^◌, is_some, length};
+ghost use Rattle.hep_machine.specs.Words.{IsLegal, is_held, opening_layout, used_cells, living, first_above, last_process};
 ghost use Rattle.hep_machine.specs.Words.{is_number_among, next_of_ready, progress_after, schedule_of, view_of};
 ghost use Rattle.hep_blocked.specs.Listing.{IsBlocked};
 ghost use Rattle.hep_blocked.specs.Numbers.{AreRising};
 ghost use Rattle.hep_state.specs.Words.{IsMachineAfter, snapshot_of};
 ghost use Rattle.hep_views.specs.Standing.{whereabouts_by};
 ghost use Rattle.hep_core.specs.Value.{state_of, opening_of, IsNewFault, IsChoice, HasNoStop, IsStop};
-ghost use Rattle.hep_core.specs.Commits.{AreGoodStill, IsCancelled, IsCheckedOut, IsCommitted, IsFresh, IsGivenTo, IsStoppedWhereFull};
+ghost use Rattle.hep_core.specs.Commits.{AreGoodStill, IsCancelled, IsCheckedOut, IsCommitted, IsFresh, IsGivenTo, IsOutBy, IsStoppedWhereFull};
 ghost use Rattle.hep_core.specs.Commits.{IsWhetherNext, LeavesNext, core_after_return, most_tickets};
 ghost use Rattle.hep_core.specs.Invariant.{AreLiving};
 ghost use Rattle.hep_core.specs.Places.{places_of, with_core};
 ghost use Rattle.hep_core.specs.declared.stop.Verdict.TheVariants.{Waiting};
 ghost use Rattle.hep_core.specs.Tickets.{has_ticket, is_out};
+ghost use Rattle.hep_segments.specs.Segments.{IsMadeBy};
 ghost use Rattle.hep_core.specs.Going.{AreChoices, AreMoves, AreRounds, AreTurns, CanMove, IsAtRest, IsTurnOnce, entries_along};
-ghost use Rattle.hep_core.specs.Value.{IsAtPosition, IsIdle, free_of, next_listed_of, verdict_of, next_ready_of, ready_of};
+ghost use Rattle.hep_core.specs.Value.{IsIdle, common_cell, free_of, next_listed_of, verdict_of, next_ready_of, ready_of};
 
 use crate::fault::{ChooseFault, CommitFault, NewFault};
 use crate::lists::{note_ready, note_step, wake_after};
 use crate::noting::{made_steps, note_more, stop_where};
-use crate::out::come_back;
 use crate::stop::{ChoiceStop, Turn, Turns, Verdict};
 use hep_blocked::laws::{
     lists_are_those_of_definitions, lists_go_along_with_purges, lists_go_along_with_steps,
@@ -38,10 +38,11 @@ use hep_state::laws::tops_are_running;
 use hep_state::{Machine, TurnFault, Turned, fits};
 use hep_taking::laws::{restored_machines_are_as_before, tickets_have_what_is_read};
 use hep_taking::{
-    OwnCells, Owned, Saved, Table, Tabled, go_on, is_made, is_next_private,
+    OwnCells, Owned, Saved, Table, Tabled, comes_next, go_on, is_next_private,
     others_leave_what_is_read, own_cells_of, private_steps_are_turns, rests, start, tables_of,
     take_private,
 };
+use hep_tickets::come_back;
 use hep_views::finding::{listed, whereabouts};
 use hep_views::laws::views_are_of_states;
 use hep_views::{Listed, Whereabouts};
@@ -421,7 +422,7 @@ impl Core {
     fn is_out(&self, p: u64) -> bool
         ensures { result ≡ is_out p self.now.core.out }
     {
-        self.out.iter().any(|id| id.process == p)
+        hep_tickets::is_out(&self.out, p)
     }
 
     // The ticket is the one that is out for its process.
@@ -429,9 +430,7 @@ impl Core {
         ensures ticket { result ≡ has_ticket id self.now.core.out }
         ensures lives { result ≡ true → living (state_of self.now.core) id.process ≢ None }
     {
-        self.out
-            .iter()
-            .any(|out| out.process == id.process && out.number == id.number)
+        hep_tickets::has_ticket(&self.out, id)
     }
 
     /// A ticket for process p, which is out from now on, until its segment is committed or the ticket is cancelled. Its number is above
@@ -443,6 +442,21 @@ impl Core {
     /// `NoTicket` where 2^64 - 1 tickets were given; `Stopped` where the history has as many entries as it may have, which sets the stop;
     /// `NoMemory`.
     pub fn check_out(&mut self, p: u64) -> Result<Ticket, ChooseFault>
+        ensures given { IsCheckedOut self.old p result self.new }
+        ensures fresh { IfOk result (λ ticket. IsFresh ticket self.new) }
+        ensures kept { AreGoodStill self.old self.new }
+    {
+        let blank = Ticket::blank(self.alloc);
+        self.check_out_again(p, blank)
+    }
+
+    /// The same, in the room of a ticket that was used before. So memory is asked for only where that has too little, or the list of tickets
+    /// that are out.
+    ///
+    /// # Errors
+    ///
+    /// Those of `check_out`, in the same order.
+    pub fn check_out_again(&mut self, p: u64, used: Ticket) -> Result<Ticket, ChooseFault>
         ensures given { IsCheckedOut self.old p result self.new }
         ensures fresh { IfOk result (λ ticket. IsFresh ticket self.new) }
         ensures kept { AreGoodStill self.old self.new }
@@ -464,7 +478,7 @@ impl Core {
         if self.stop_where_full() {
             return Err(ChooseFault::Stopped(ChoiceStop::StepLimit));
         }
-        Ok(self.give(p)?)
+        Ok(self.give(p, used)?)
     }
 
     // How many tickets were given.
@@ -477,7 +491,7 @@ impl Core {
     // The next ticket, for process p, which lives.
     //
     // The values that stand ahead of it are operands then, so that a commit without steps that is refused changes nothing of where it is.
-    fn give(&mut self, p: u64) -> Result<Ticket, AllocError>
+    fn give(&mut self, p: u64, used: Ticket) -> Result<Ticket, AllocError>
         requires going { HasNoStop self.old.core }
         requires lives { living (state_of self.old.core) p ≢ None }
         requires left { self.old.core.given < most_tickets }
@@ -497,7 +511,7 @@ impl Core {
             image: &self.image,
             tables: &self.own,
         };
-        let ticket = start(self.alloc, &mut self.machine, &owned, id)?;
+        let ticket = start(&mut self.machine, &owned, id, used)?;
         self.out.push_reserved(id);
         self.given += 1;
         Ok(ticket)
@@ -517,6 +531,29 @@ impl Core {
         ensures committed { IsCommitted self.old segment.now result self.new }
         ensures kept { AreGoodStill self.old self.new }
     {
+        self.commit_by(segment, false)
+    }
+
+    /// The same of a segment that is known to be made by the program of the core. So its steps aren't made again to see whether they are: it is looked
+    /// only whether the segment begins where its process is, and has read what is there.
+    ///
+    /// # Errors
+    ///
+    /// Those of `commit`, in the same order.
+    pub fn commit_known(&mut self, segment: &Segment) -> Result<Turn, CommitFault>
+        requires { IsMadeBy self.old.core.program segment.now }
+        ensures committed { IsCommitted self.old segment.now result self.new }
+        ensures kept { AreGoodStill self.old self.new }
+    {
+        self.commit_by(segment, true)
+    }
+
+    // The turn of a segment, which may be known to be made by the program of the core.
+    fn commit_by(&mut self, segment: &Segment, known: bool) -> Result<Turn, CommitFault>
+        requires { known ≡ true → IsMadeBy self.old.core.program segment.now }
+        ensures committed { IsCommitted self.old segment.now result self.new }
+        ensures kept { AreGoodStill self.old self.new }
+    {
         if let Some(stop) = self.stop() {
             return Err(CommitFault::Stopped(stop));
         }
@@ -524,21 +561,20 @@ impl Core {
             return Err(CommitFault::Stale);
         }
         if segment.records().is_empty() {
-            return self.commit_alone(segment);
+            return self.commit_alone(segment, known);
         }
-        self.commit_behind(segment)
+        self.commit_behind(segment, known)
     }
 
     // The commit of a segment without steps, whose ticket is the one that is out for its process: a choice of that.
-    fn commit_alone(&mut self, segment: &Segment) -> Result<Turn, CommitFault>
-        requires going { HasNoStop self.old.core }
-        requires lives { living (state_of self.old.core) segment.now.id.process ≢ None }
-        requires ticket { has_ticket segment.now.id self.old.core.out ≡ true }
+    fn commit_alone(&mut self, segment: &Segment, known: bool) -> Result<Turn, CommitFault>
+        requires out { IsOutBy self.old.core segment.now }
+        requires known { known ≡ true → IsMadeBy self.old.core.program segment.now }
         requires none { segment.now.records ≡ [] }
         ensures committed { IsCommitted self.old segment.now result self.new }
         ensures others { OnOk result (LeavesNext segment.now.id.process self.old self.new) }
     {
-        if !self.is_next(segment) {
+        if !self.is_next(segment, known) {
             return Err(CommitFault::Stale);
         }
         // The turn may end the process, and each one that is out lives.
@@ -563,9 +599,10 @@ impl Core {
     }
 
     // The steps of a segment are the private ones that come next of its process, which lives, by the image.
-    fn is_next(&mut self, segment: &Segment) -> bool
+    fn is_next(&mut self, segment: &Segment, known: bool) -> bool
         requires going { HasNoStop self.old.core }
         requires lives { living (state_of self.old.core) segment.now.id.process ≢ None }
+        requires known { known ≡ true → IsMadeBy self.old.core.program segment.now }
         ensures next { IsWhetherNext result self.old segment.now }
         ensures same { self.new ≡ self.old }
     {
@@ -574,16 +611,15 @@ impl Core {
         segments_depend_on_reads();
         tops_are_running();
         self.machine.settle(&self.image, segment.ticket().process);
-        is_made(&mut self.machine, &self.image, segment)
+        comes_next(&mut self.machine, &self.image, segment, known)
     }
 
     // The commit of a segment with steps, whose ticket is the one that is out for its process: these steps, and one turn more.
     //
     // What may be refused behind the steps is refused before anything else has changed, or the process gets back what it had for itself.
-    fn commit_behind(&mut self, segment: &Segment) -> Result<Turn, CommitFault>
-        requires going { HasNoStop self.old.core }
-        requires lives { living (state_of self.old.core) segment.now.id.process ≢ None }
-        requires ticket { has_ticket segment.now.id self.old.core.out ≡ true }
+    fn commit_behind(&mut self, segment: &Segment, known: bool) -> Result<Turn, CommitFault>
+        requires out { IsOutBy self.old.core segment.now }
+        requires known { known ≡ true → IsMadeBy self.old.core.program segment.now }
         requires some { 0 < length segment.now.records }
         ensures committed { IsCommitted self.old segment.now result self.new }
         ensures others { OnOk result (LeavesNext segment.now.id.process self.old self.new) }
@@ -599,7 +635,7 @@ impl Core {
         restored_machines_are_as_before();
         let p = segment.ticket().process;
         self.machine.settle(&self.image, p);
-        if !is_made(&mut self.machine, &self.image, segment) {
+        if !comes_next(&mut self.machine, &self.image, segment, known) {
             return Err(CommitFault::Stale);
         }
         if self.limit <= self.history.len() {
@@ -869,8 +905,7 @@ impl Core {
     /// The cell at a position of COMMON, counted from 0, where the common blocks stand one behind the other in the order in which they
     /// appear first, each at its greatest length. None past the end of COMMON.
     pub fn common(&self, at: u32) -> Option<Slot>
-        ensures inside { is_some result ≡ nat_lt at (common_cells self.now.core.program) }
-        ensures cell { IfSome result (IsAtPosition self.now.core at) }
+        ensures { result ≡ common_cell self.now.core at }
     {
         if self.image.common() <= at {
             return None;

@@ -1,6 +1,7 @@
 pub mod Rows
 pub mod FrameRows
 pub mod CommonRows
+pub mod Singles
 pub mod Frames
 pub mod Addresses
 pub mod Memory

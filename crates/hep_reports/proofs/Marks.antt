@@ -7,9 +7,10 @@ use Rattle.std.proofs.lemmas.Grind.{common_steps}
 use Rattle.std.proofs.lemmas.List.{length-replicate, length-set}
 use Rattle.std.proofs.lemmas.Option.{slice_get_within}
 use Rattle.hep_machine.specs.declared.event.Entry.{Entry}
-use Rattle.hep_reports.specs.declared.receipt.Receipt.{Receipt}
+use Rattle.hep_receipts.specs.declared.receipt.Receipt.{Receipt}
 use Rattle.hep_reports.specs.Marks.{is_named_by, is_unset, mark, marked}
-use Rattle.hep_reports.specs.Receipts.{AllName, AreEntries, Names, entry_of, one_where, receipts_of, times_named}
+use Rattle.hep_reports.specs.Receipts.{AllName, AreEntries, Names, one_where, receipts_of, times_named}
+use Rattle.hep_receipts.specs.Turns.{entry_of}
 
 -- ---- marks
 

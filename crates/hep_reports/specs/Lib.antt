@@ -1,4 +1,3 @@
 pub mod Receipts
 pub mod Marks
-pub mod Turns
 pub mod Reports

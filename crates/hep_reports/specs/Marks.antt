@@ -1,7 +1,7 @@
 -- Marking the entries of a history that receipts name.
 use Rattle.std.specs.Prelude.{Bool, true, false, ◌&&◌, not, nat_eq, if◌then◌else◌, List, [], ◌∷◌, Option, Some, None, option_and_then, slice_get, slice_set}
 use Rattle.hep_machine.specs.declared.event.Entry.{Entry}
-use Rattle.hep_reports.specs.declared.receipt.Receipt.{Receipt}
+use Rattle.hep_receipts.specs.declared.receipt.Receipt.{Receipt}
 
 -- there is an entry, and it is the receipt's
 abbrev pub is_named_by : Receipt → Option Entry → Bool

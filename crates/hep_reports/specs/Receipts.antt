@@ -2,10 +2,8 @@
 use Rattle.std.specs.Prelude.{◌≡◌, ℕ, ◌+◌, ◌<◌, ◌&&◌, Bool, true, nat_eq, nat_lt, if◌then◌else◌, List, [], ◌∷◌, ◌++◌, Some, length, slice_get}
 use Rattle.std.specs.List.{list_all}
 use Rattle.hep_machine.specs.declared.event.Entry.{Entry}
-use Rattle.hep_reports.specs.declared.receipt.Receipt.{Receipt}
-
-abbrev pub entry_of : Receipt → Entry
-entry_of r = record { process = r.process; steps = r.steps }
+use Rattle.hep_receipts.specs.declared.receipt.Receipt.{Receipt}
+use Rattle.hep_receipts.specs.Turns.{are_of, entry_of}
 
 -- the entry at the receipt's index is the receipt's
 abbrev pub Names : List Entry → Receipt → Type 0
@@ -41,3 +39,12 @@ rises (r ∷ q ∷ rs) = nat_lt r.index q.index && rises (q ∷ rs)
 
 abbrev pub all_rise : List (List Receipt) → Bool
 all_rise logs = list_all rises logs
+
+-- each log has the receipts of one worker, and the workers are numbered one after the other from this number on
+abbrev pub are_numbered : ℕ → List (List Receipt) → Bool
+are_numbered worker [] = true
+are_numbered worker (log ∷ logs) = are_of worker log && are_numbered (worker + 1) logs
+
+-- there is one for each of so many workers, who are numbered from 1
+abbrev pub are_of_workers : ℕ → List (List Receipt) → Bool
+are_of_workers workers logs = nat_eq (length logs) workers && are_numbered 1 logs

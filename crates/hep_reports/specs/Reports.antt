@@ -6,7 +6,7 @@ use Rattle.hep_core.specs.declared.stop.Verdict.TheVariants.{Running}
 use Rattle.hep_reports.specs.declared.fault.CloseFault.{CloseFault}
 use Rattle.hep_reports.specs.declared.fault.CloseFault.TheVariants.{NoMemory, NotTheEntries, NotRising, NotTheRun, StillRunning}
 use Rattle.hep_reports.specs.declared.options.WorkOptions.{WorkOptions}
-use Rattle.hep_reports.specs.declared.receipt.Receipt.{Receipt}
+use Rattle.hep_receipts.specs.declared.receipt.Receipt.{Receipt}
 use Rattle.hep_reports.specs.Receipts.{AreEntries, all_rise, receipts_of}
 
 -- the core is of this program and these options

@@ -2,13 +2,11 @@
 #![tactic(auto)]
 
 mod fault;
+mod numbering;
 mod options;
-mod receipt;
 mod report;
-mod turn;
 
 pub use fault::CloseFault;
+pub use numbering::are_of_workers;
 pub use options::WorkOptions;
-pub use receipt::{Log, Receipt};
 pub use report::{Report, close};
-pub use turn::worker_turn;

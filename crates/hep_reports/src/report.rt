@@ -7,11 +7,11 @@ ghost use Rattle.hep_reports.specs.Reports.{IsClosed, IsOfRun, IsReport, IsUnclo
 
 use crate::fault::CloseFault;
 use crate::options::WorkOptions;
-use crate::receipt::{Log, Receipt};
 use hep_core::{Core, Verdict};
 use hep_entries::{Entries, History};
 use hep_image::Image;
 use hep_machine::Entry;
+use hep_receipts::{Log, Receipt};
 use std::alloc::{AllocError, Global};
 use std::marker::Model;
 

@@ -1,30 +1,44 @@
 -- What a run by workers comes to, from the bytes of a source to the bytes that it writes: docs/MACHINE.md, "Workers".
-use Rattle.std.specs.Prelude.{◌≡◌, ◌≢◌, ◌⊎◌, ℕ, true, Bool, nat_eq, List, [], ◌∷◌, ◌++◌, codes, Option, None, IsSome}
+use Rattle.std.specs.Prelude.{◌≡◌, ◌≢◌, ◌⊎◌, ℕ, true, Bool, nat_eq, List, [], ◌∷◌, ◌++◌, codes, Option, Some, None, IsSome}
 use Rattle.std.specs.Fmt.{decimal}
 use Rattle.std.specs.List.{list_any}
 use Rattle.hep_machine.specs.declared.event.Entry.{Entry}
 use Rattle.hep_machine.specs.Words.{IsLegal, opening_layout, Units}
 use Rattle.hep_outcome.specs.ChoiceStop.{ChoiceStop}
 use Rattle.hep_outcome.specs.Verdict.TheVariants.{Running}
-use Rattle.hep_outcome.specs.Value.{IsStop}
+use Rattle.hep_outcome.specs.Value.{CoreValue, IsStop}
 use Rattle.hep_workers.specs.WorkOptions.{WorkOptions}
+use Rattle.hep_workers.specs.declared.fault.WorkFault.{WorkFault}
+use Rattle.hep_workers.specs.Faults.{IsSharedBy, IsWorkFault, number_of}
 use Rattle.hep_outcome.specs.declared.status.Status.TheVariants as statuses
 use Rattle.hep_outcome.specs.Outcome.{Outcome, outcome_of_end, outcome_of_full_arena, verdict_after}
 use Rattle.hep_run.specs.Outcome.{RunsTo}
 
--- the workers' history is a legal one of the program by these options, with the stop that it says, after which the run is over
+-- workers have made a core with this history and this stop of the opening: so each entry is that of one commit
+abbrev pub AreTurns : Units → WorkOptions → List Entry → Option ChoiceStop → Type 0
+AreTurns program options history stop =
+    (core : CoreValue) × IsSharedBy program options core × (core.history ≡ history) × (core.stop ≡ stop)
+
+-- the workers' history is a legal one of the program by these options, with the stop that it says, after which the run is over; and its entries are
+-- their turns
 pub record IsWorked (program : Units) (options : WorkOptions) (history : List Entry) (stop : Option ChoiceStop) : Type 0 where
+  pub turns : AreTurns program options history stop
   pub legal : IsLegal program options.arena options.steps history
   pub stopped : IsStop program options.arena options.steps history stop
   pub over : verdict_after program history stop ≢ Running
 
 -- the numbers by which workers give up, or leave no report
 abbrev pub is_refusal_of_workers : ℕ → Bool
-is_refusal_of_workers number = list_any (nat_eq number) (506 ∷ 701 ∷ 702 ∷ 703 ∷ 704 ∷ 705 ∷ [])
+is_refusal_of_workers number = list_any (nat_eq number) (506 ∷ 701 ∷ 702 ∷ 704 ∷ 705 ∷ [])
 
 -- the workers gave up, or left no report, for this reason
 abbrev pub workers_text : ℕ → List ℕ
 workers_text number = codes "WORKERS REFUSED " ++ decimal number ++ codes "\n"
+
+-- by the number of this fault, which they have met
+abbrev pub AreRefusedBy : WorkFault → Units → WorkOptions → ℕ → Type 0
+AreRefusedBy fault program options number =
+    IsWorkFault fault program options × (number_of fault ≡ Some number) × (is_refusal_of_workers number ≡ true)
 
 abbrev pub outcome_of_refused_workers : ℕ → Outcome
 outcome_of_refused_workers number = record { output = []; messages = workers_text number; status = statuses.NoMemory; history = [] }
@@ -34,7 +48,7 @@ abbrev pub IsImageWorked : Bool → Units → WorkOptions → Outcome → Type 0
 IsImageWorked long program options o =
     ((opening_layout program options.arena ≡ None) × (o ≡ outcome_of_full_arena long program options.arena))
     ⊎ (IsSome (opening_layout program options.arena)
-    × (number : ℕ) × (is_refusal_of_workers number ≡ true) × (o ≡ outcome_of_refused_workers number))
+    × (fault : WorkFault) × (number : ℕ) × AreRefusedBy fault program options number × (o ≡ outcome_of_refused_workers number))
     ⊎ ((history : List Entry) × (stop : Option ChoiceStop) × IsWorked program options history stop
     × (o ≡ outcome_of_end long program options.arena history stop))
 

@@ -1,11 +1,15 @@
 -- Once its steps are made a segment is that of its ticket.
-use Rattle.std.proofs.Common.{◌≡◌, ℕ, List, length, Some, refl, sym, ap, ◌∙◌, subst}
-use Rattle.hep_machine.specs.Words.{Value, Units, unit_at}
-use Rattle.hep_segments.specs.declared.progress.Progress.{Progress}
-use Rattle.hep_segments.specs.declared.ticket.Copied.{Copied}
+use Rattle.std.proofs.Common.{◌≡◌, ℕ, List, refl, sym, subst}
+use Rattle.hep_machine.specs.Words.{Value, Units}
+use Rattle.hep_repeating.specs.Made.{Progress}
+use Rattle.hep_repeating.specs.Copied.{Copied}
 use Rattle.hep_segments.specs.declared.ticket.TicketId.{TicketId}
-use Rattle.hep_segments.specs.Progress.{HasTaken, own_of, start_of}
-use Rattle.hep_segments.specs.Segments.{IsComputed, IsMadeOf, IsSegment, SegmentValue, Start, TicketValue, most_records, segment_value, value_copied}
+use Rattle.hep_repeating.specs.Taken.{HasTaken, start_of}
+use Rattle.hep_repeating.specs.Progress.{own_of}
+use Rattle.hep_segments.specs.Segments.{IsComputed, IsMadeOf, IsSegment, SegmentValue, TicketValue, segment_value}
+use Rattle.hep_repeating.specs.Taken.{Start}
+use Rattle.hep_repeating.specs.Records.{most_records}
+use Rattle.hep_repeating.specs.Bases.{value_copied}
 
 -- the start of a ticket
 abbrev start-of-ticket : TicketValue → Start

@@ -1,14 +1,15 @@
 -- Segments that begin where an activation is: kept ones are made again, and made ones are kept.
-use Rattle.std.proofs.Common.{◌≡◌, ℕ, List, length, Option, Some, refl, sym, ap, ◌∙◌, subst}
+use Rattle.std.proofs.Common.{◌≡◌, ℕ, List, length, Some, ◌∙◌}
 use Rattle.hep_machine.specs.Words.{Value, Units, unit_at}
 use Rattle.hep_code.specs.declared.instruction.Instruction.{Instruction}
 use Rattle.hep_image.specs.Private.{private_cells}
 use Rattle.hep_step.specs.Simulation.{unit_code}
-use Rattle.hep_private.specs.declared.record.Record.{Record}
-use Rattle.hep_private.specs.Own.{Own, Values, begun}
-use Rattle.hep_private.specs.Reads.{HaveRead}
-use Rattle.hep_private.specs.Recorded.{recorded}
-use Rattle.hep_segments.specs.Segments.{BeginsAt, IsKept, IsMadeFrom, IsMadeOf, SegmentValue, Start}
+use Rattle.hep_repeating.specs.Record.{Record}
+use Rattle.hep_repeating.specs.Own.{Own, Values, begun}
+use Rattle.hep_repeating.specs.Reads.{HaveRead}
+use Rattle.hep_repeating.specs.Recorded.{recorded}
+use Rattle.hep_segments.specs.Segments.{IsKept, IsMadeFrom, IsMadeOf, SegmentValue}
+use Rattle.hep_repeating.specs.Taken.{Start}
 
 -- what the laws of private steps say
 pub record HaveLaws : Type 0 where

@@ -1,7 +1,7 @@
 //! Whether two records are one.
 ghost use Rattle.std.specs.Prelude.{◌≡◌, ◌↔◌, IsTrue};
 
-use hep_private::Record;
+use hep_repeating::Record;
 
 // Where the operation of a DO stands, and which cells it has.
 #[derive(Clone, Copy, Debug, PartialEq, Eq)]

@@ -7,19 +7,11 @@
 
 mod comparing;
 pub mod laws;
-mod looping;
-mod memory;
-mod operands;
-mod performing;
 mod place;
-mod progress;
-mod records;
 mod segment;
-mod taking;
 mod ticket;
 
-pub use operands::Operands;
+pub use hep_repeating::{Copied, Operands, Records};
 pub use place::{Place, is_kept, is_made, is_next_private};
-pub use records::Records;
 pub use segment::{Segment, compute, compute_into};
-pub use ticket::{Copied, Ticket, TicketId};
+pub use ticket::{Ticket, TicketId};

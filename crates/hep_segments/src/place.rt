@@ -3,25 +3,23 @@ ghost use Rattle.std.specs.Prelude.{◌≡◌, ◌≤◌, ◌↔◌, ◌+ℤ◌,
 ghost use Rattle.std.specs.Option.{option_map};
 ghost use Rattle.hep_code.specs.Words.{most_operands};
 ghost use Rattle.hep_machine.specs.Words.{integer_of};
-ghost use Rattle.hep_private.specs.Own.{count_in, increment_in};
-ghost use Rattle.hep_private.specs.Reads.{HasRead};
-ghost use Rattle.hep_segments.specs.Bases.{values_of};
+ghost use Rattle.hep_repeating.specs.Own.{count_in, increment_in};
+ghost use Rattle.hep_repeating.specs.Reads.{HasRead};
+ghost use Rattle.hep_repeating.specs.Bases.{values_of};
 ghost use Rattle.hep_segments.specs.Places.{start_at};
 ghost use Rattle.hep_segments.specs.Progress.{HasCome};
 ghost use Rattle.hep_segments.specs.Segments.{BeginsAt, IsKept, IsMadeFrom};
 ghost use Rattle.hep_segments.specs.Segments as segments;
 
 use crate::comparing::same_record;
-use crate::memory::Base;
-use crate::operands::{Operands, assign};
-use crate::progress::{Progress, Source, deed_behind, has_room};
-use crate::records::Records;
 use crate::segment::Segment;
-use crate::taking::{take_steps, unit_of};
 use hep_arena::Cell;
 use hep_image::Image;
 use hep_machine::values::integer_of;
-use hep_private::Record;
+use hep_repeating::{
+    Base, Operands, Progress, Record, Records, Source, assign, deed_behind, has_room, take_steps,
+    unit_of,
+};
 use hep_source::Value;
 
 /// Where an activation is: its unit, its index in the unit's code, its operands, and the slots of the arena, in which its frame begins at a
@@ -220,7 +218,7 @@ pub fn is_next_private(image: &Image, place: &Place<'_>) -> bool
     };
     let mut operands = Operands::new();
     assign(&mut operands, place.operands);
-    match deed_behind(&source, &[], &mut operands, place.index) {
+    match deed_behind(&source, None, &mut operands, place.index) {
         Some(deed) => has_room(&operands, deed),
         None => false,
     }

@@ -1,16 +1,12 @@
 //! Segments.
 ghost use Rattle.std.specs.Prelude.{◌≡◌, ◌≤◌, [], length};
 ghost use Rattle.hep_code.specs.Words.{most_operands};
-ghost use Rattle.hep_segments.specs.Segments.{IsComputed, IsSegment, most_records};
+ghost use Rattle.hep_segments.specs.Segments.{IsComputed, IsSegment};
+ghost use Rattle.hep_repeating.specs.Records.{most_records};
 
-use crate::memory::Base;
-use crate::operands::{Operands, assign};
-use crate::progress::Progress;
-use crate::records::{MOST_RECORDS, Records};
-use crate::taking::take_steps;
 use crate::ticket::{Ticket, TicketId};
 use hep_image::Image;
-use hep_private::Record;
+use hep_repeating::{Base, MOST_RECORDS, Operands, Progress, Record, Records, assign, take_steps};
 use hep_source::Value;
 use std::marker::Model;
 

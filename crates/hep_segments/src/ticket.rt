@@ -1,9 +1,11 @@
 //! Tickets.
-ghost use Rattle.std.specs.Prelude.{◌≡◌, ◌≤◌, length};
+ghost use Rattle.std.specs.Prelude.{◌≡◌, ◌≤◌, [], length};
 ghost use Rattle.hep_code.specs.Words.{most_operands};
 ghost use Rattle.hep_segments.specs.Segments.{ticket_value};
 
+use hep_repeating::Copied;
 use hep_source::Value;
+use std::alloc::Global;
 use std::marker::Model;
 
 /// Which ticket it is.
@@ -13,15 +15,6 @@ pub struct TicketId {
     pub number: u64,
     /// The process that is out by it.
     pub process: u64,
-}
-
-/// The copy of a cell of a frame.
-#[derive(Clone, Copy, Debug, PartialEq, Eq)]
-pub struct Copied {
-    /// The cell, counted from the first one of the frame.
-    pub cell: usize,
-    /// Its value, if it has one.
-    pub value: Option<Value>,
 }
 
 /// The right to commit a segment of a process, with what the segment is made of. Contracts see all of it.
@@ -66,6 +59,37 @@ impl Ticket {
             operands,
             copies,
         }
+    }
+
+    /// A ticket of no process, whose room another one can have. This takes no memory.
+    pub fn blank(alloc: Global) -> Ticket
+        ensures { result ≡ ticket_value (record { number = 0; process = 0 }) 0 0 [] [] }
+    {
+        Ticket {
+            id: TicketId {
+                number: 0,
+                process: 0,
+            },
+            unit: 0,
+            index: 0,
+            operands: Vec::new(alloc),
+            copies: Vec::new(alloc),
+        }
+    }
+
+    /// The operands and the copies, whose room another ticket can have.
+    pub fn into_parts(self) -> (Vec<Value>, Vec<Copied>)
+        ensures operands { result.0.items ≡ self.operands }
+        ensures copies { result.1.items ≡ self.copies }
+    {
+        let Ticket {
+            id,
+            unit,
+            index,
+            operands,
+            copies,
+        } = self;
+        (operands, copies)
     }
 
     /// Which ticket it is.

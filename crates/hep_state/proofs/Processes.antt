@@ -138,6 +138,16 @@ room-fewer program q r l fewer more room i m e =
     let here = room i m (subst (λ (xs : List Local). slice_get xs i ≡ Some m) (sym fewer) (at-front r.levels.items (l ∷ []) i m e)) in
     omega (arith, here, more)
 
+-- that below the top one has room for its unit too
+last-of : (xs : List Local) (l : Local) → slice_get (xs ++ l ∷ []) (length xs) ≡ Some l
+last-of [] l = refl
+last-of (x ∷ xs) l = last-of xs l
+
+pub room-below : (program : Units) (q : Process) (l m : Local) (ms : List Local) (operands pending : List Value) → stack_of q ≡ stack_with l (m ∷ ms) operands pending → HasRoom program q → deepest (unit_code program m.unit) ≤ vec_capacity q.operands
+room-below program q l m ms operands pending is room =
+    let here = subst (λ (xs : List Local). slice_get xs (length (reverse ms)) ≡ Some m) (sym (reverse-append (m ∷ []) ms)) (last-of (reverse ms) m) in
+    room (length (reverse ms)) m (subst (λ (xs : List Local). slice_get xs (length (reverse ms)) ≡ Some m) (sym (levels-are q l (m ∷ ms) operands pending is)) (at-front (reverse (m ∷ ms)) (l ∷ []) (length (reverse ms)) m here))
+
 pub room-none : (program : Units) (r : Process) → r.levels.items ≡ [] → HasRoom program r
 room-none program r none i m e = absurd (none-some m (subst (λ (xs : List Local). slice_get xs i ≡ Some m) none e))
 

@@ -9,6 +9,7 @@ use Rattle.hep_machine.specs.Words.{Units, Value, numbered, schedule_of}
 use Rattle.hep_arena.specs.Space.{Space}
 use Rattle.hep_binding.proofs.Calls.{set-numbered}
 use Rattle.hep_blocked.specs.Numbers.{AreRising}
+pub use Rattle.hep_tops.proofs.Carried.{carry}
 use Rattle.hep_state.specs.declared.machine.Machine.{Machine}
 use Rattle.hep_proc.specs.declared.process.Local.{Local}
 use Rattle.hep_proc.specs.declared.process.Process.{Process}
@@ -22,10 +23,6 @@ use Rattle.hep_state.proofs.Processes.{IsAt, all-more, all-set, numbered-set, nu
 use Rattle.hep_state.proofs.Runs.{set-again, set-same}
 
 -- ---- answers
-
--- what holds of some values holds of those that they are equal to
-pub carry : {S T : Type 0} → S ≡ T → S → T
-carry same h = subst (λ (U : Type 0). U) same h
 
 -- memory was refused
 pub without-memory : {A : Type 0} (P : TurnFault → Type 0) (r : Result A TurnFault) → IsErrAnd r (λ e. e ≡ NoMemory) → P NoMemory → IfErr r P

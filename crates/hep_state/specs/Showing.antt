@@ -1,26 +1,19 @@
 -- That a core keeps a state of the source machine: docs/MACHINE.md, "Activations and processes" and "Layout".
-use Rattle.std.specs.Prelude.{◌≡◌, ◌<◌, ◌+◌, ◌-◌, ℕ, true, List, [], ◌∷◌, drop, length, take, Some, None}
-use Rattle.std.specs.Option.{unwrap_or}
+use Rattle.std.specs.Prelude.{◌≡◌, ◌+◌, ◌-◌, ℕ, true, List, [], ◌∷◌, drop, length, take, Some}
 use Rattle.hep_machine.specs.Words.{Value, Units, unit_at, Layout, is_held, numbered, Process, State}
 use Rattle.hep_machine.specs.declared.slot.Slot.{Slot}
 use Rattle.hep_code.specs.Words.{AreLevels, CodeLevel}
-use Rattle.hep_layout.specs.Words.{is_stacked, FrameNode, Nodes}
+use Rattle.hep_layout.specs.Words.{is_stacked, Nodes}
 use Rattle.hep_image.specs.Places.{addresses_of}
 use Rattle.hep_image.specs.Bound.{AreKept}
 use Rattle.hep_proc.specs.Keeping.{Keeps, frames_in}
 use Rattle.hep_step.specs.Simulation.{counts_in}
 use Rattle.hep_proc.specs.declared.process.Local.{Local}
 use Rattle.hep_proc.specs.Stacks.{Stack}
+use Rattle.hep_tops.specs.Tops.{IsThere, node_under}
 use Rattle.hep_state.specs.Snapshots.{Snapshot}
 
 -- ---- levels
-
--- the node under a key; where there is none, one of no activation
-abbrev pub no_node : FrameNode
-no_node = record { activation = 0; unit = 0; first = 0; cells = 0; parent = None; children = 0; finished = true }
-
-abbrev pub node_under : Nodes → ℕ → FrameNode
-node_under nodes key = unwrap_or (nodes key) no_node
 
 module _ (program : Units) (contents : List Slot) (nodes : Nodes) where
   -- a level in the code, with these operands: its activation is that of the node under its key, and the counts of its DOs are in
@@ -55,10 +48,7 @@ abbrev pub kept_below : List Local → ℕ
 kept_below [] = 0
 kept_below (l ∷ ls) = kept_by ls
 
--- a level's node is under its key, and its unit is one of the program's
-abbrev pub IsThere : Units → Nodes → Local → Type 0
-IsThere program nodes l = (l.unit < length program) × (nodes l.key ≡ Some (node_under nodes l.key))
-
+-- each of them is there
 abbrev pub AreThere : Units → Nodes → List Local → Type 0
 AreThere program nodes [] = Unit {0}
 AreThere program nodes (l ∷ ls) = IsThere program nodes l × AreThere program nodes ls

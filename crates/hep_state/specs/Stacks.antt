@@ -1,40 +1,27 @@
--- Where a process stands in the code, and what is done there: its unit, its frame, and the operation ahead of its top level.
-use Rattle.std.specs.Prelude.{◌≡◌, ◌+◌, ◌<◌, ◌≤◌, ℕ, List, drop, length, Result, vec_capacity}
+-- Where a process stands in the code: what is behind the operation ahead of its top level, and the values in front of it.
+use Rattle.std.specs.Prelude.{◌≡◌, ◌+◌, ◌<◌, ◌≤◌, ℕ, List, drop, length, vec_capacity}
 use Rattle.hep_machine.specs.Words.{Value, Units}
 use Rattle.hep_code.specs.declared.instruction.Instruction.{Instruction}
 use Rattle.hep_code.specs.Words.{values_ahead}
 use Rattle.hep_proc.specs.declared.frames.Frames.{Frames}
 use Rattle.hep_proc.specs.Nodes.{nodes_of}
 use Rattle.hep_image.specs.declared.array.Array.{Array}
-use Rattle.hep_image.specs.declared.unit.UnitCode.{UnitCode}
-use Rattle.hep_step.specs.declared.effect.Effect.{Effect}
 use Rattle.hep_step.specs.declared.frame.Frame.{Frame as CellFrame}
 use Rattle.hep_step.specs.Simulation.{unit_code}
 use Rattle.hep_proc.specs.declared.process.Local.{Local}
 use Rattle.hep_proc.specs.declared.process.Process.{Process}
 use Rattle.hep_proc.specs.Stacks.{HoldsOfTop, stack_of, stack_with}
-use Rattle.hep_state.specs.Showing.{IsThere}
-use Rattle.hep_state.specs.Taking.{CanAdvance, IsAdvanced, IsBehind, IsPlace, IsSettled, LeavesSame}
+use Rattle.hep_tops.specs.Tops.{IsThere}
+use Rattle.hep_state.specs.Taking.{IsBehind, IsSettled, LeavesSame}
 
 -- ---- the top level
 
--- it has one, whose unit and node are there
-abbrev pub IsPlaced : Units → Frames → Process → Type 0
-IsPlaced program frames q =
-    (l : Local) × (ls : List Local) × (operands : List Value) × (pending : List Value)
-    × (stack_of q ≡ stack_with l ls operands pending) × IsThere program (nodes_of frames.nodes) l
-
--- and an operation is ahead of it in the unit's code
+-- it has one, whose unit and node are there, and an operation is ahead of it in the unit's code
 abbrev pub IsInCode : Units → Frames → Process → Type 0
 IsInCode program frames q =
     (l : Local) × (ls : List Local) × (operands : List Value) × (pending : List Value)
     × (stack_of q ≡ stack_with l ls operands pending) × IsThere program (nodes_of frames.nodes) l
     × (l.index < length (unit_code program l.unit))
-
--- its unit, its frame and its index are these
-abbrev pub HasPlace : Units → Frames → Process → UnitCode → CellFrame → ℕ → Type 0
-HasPlace program frames q unit frame index =
-    HoldsOfTop q (λ l _ _ _. IsPlace program (nodes_of frames.nodes) l unit frame index)
 
 -- what is behind its operation in the code, its unit's arrays, and its frame are these
 abbrev pub HasBehind : Units → Frames → Process → List Instruction → List Array → CellFrame → Type 0
@@ -57,13 +44,3 @@ Settles old code new =
     → (index : ℕ) × (after : List Value) × (stack_of new ≡ stack_with (record l { index = index }) ls after pending)
     × IsSettled program l.unit operands l.index after index
     × LeavesSame program l.unit operands l.index after index
-
--- the operation ahead of it can be performed
-abbrev pub CanAdvanceTop : Units → Process → Frames → Type 0
-CanAdvanceTop program q frames = CanAdvance program (stack_of q) (vec_capacity q.operands) frames.arena (nodes_of frames.nodes)
-
--- and it was
-abbrev pub AdvancesTop : {E : Type 0} → Units → Process → Frames → Result Effect E → Process → Frames → Type 0
-AdvancesTop program old frames result new after =
-    HoldsOfTop old (λ l ls operands pending.
-    IsAdvanced program (nodes_of frames.nodes) l ls operands pending frames.arena after.arena result (stack_of new))

@@ -1,35 +1,24 @@
 -- One turn of a process in what a core keeps, in its parts: docs/MACHINE.md, "Steps".
-use Rattle.std.specs.Prelude.{◌≡◌, ◌≢◌, ◌<◌, ◌≤◌, ◌+◌, ℕ, List, [], ◌∷◌, ◌++◌, drop, length, Some, OnErr, IfOk, Result}
+use Rattle.std.specs.Prelude.{◌≡◌, ◌≢◌, ◌≤◌, ◌+◌, ℕ, List, [], ◌∷◌, ◌++◌, drop, length, Some}
 use Rattle.hep_machine.specs.Words.{Value, Units, Work, numbered}
-use Rattle.hep_arena.specs.Space.{Space}
 use Rattle.hep_code.specs.declared.instruction.Instruction.{Instruction}
 use Rattle.hep_code.specs.Words.{IsPastPushes, Stands, deepest, left_to_do, most_operands}
 use Rattle.hep_layout.specs.Words.{Nodes}
 use Rattle.hep_image.specs.declared.array.Array.{Array}
-use Rattle.hep_image.specs.declared.unit.UnitCode.{UnitCode}
-use Rattle.hep_image.specs.Image.{IsUnitCode}
 use Rattle.hep_step.specs.declared.frame.Frame.{Frame as CellFrame}
 use Rattle.hep_step.specs.declared.effect.Effect.{Effect}
 use Rattle.hep_step.specs.declared.effect.Effect.TheVariants.{Moved, Printed, Failed, Waits, Returned, Answered, Stopped, LeftOut}
-use Rattle.hep_step.specs.Changes.{changed_at}
 use Rattle.hep_step.specs.Effects as effects
-use Rattle.hep_step.specs.Performed.{IsPerformed, snapshot}
-use Rattle.hep_step.specs.Ready.{IsReady, frame_in_arena}
+use Rattle.hep_step.specs.Ready.{frame_in_arena}
 use Rattle.hep_step.specs.Simulation.{unit_addressed, unit_arrays, unit_code}
 use Rattle.hep_proc.specs.declared.process.Local.{Local}
-use Rattle.hep_proc.specs.Stacks.{Stack, stack_with}
-use Rattle.hep_state.specs.Showing.{node_under}
+use Rattle.hep_proc.specs.Stacks.{Stack}
+use Rattle.hep_tops.specs.Tops.{frame_under}
 use Rattle.hep_state.specs.Snapshots.{Snapshot}
-use Rattle.hep_state.specs.Tops.{HasLevels, HoldsInTurn, IsEffectOf, IsTurning, TurnOf, frame_under, snapshot_stopped, with_stack}
+use Rattle.hep_state.specs.Tops.{HasLevels, HoldsInTurn, IsEffectOf, IsTurning, TurnOf, snapshot_stopped, with_stack}
 use Rattle.hep_state.specs.Turns.{HasStepped, HasWaited}
 
 -- ---- where the top activation of a process is
-
--- that of a level: its unit, its frame in the arena, and its index in the unit's code
-pub record IsPlace (program : Units) (nodes : Nodes) (l : Local) (unit : UnitCode) (frame : CellFrame) (index : ℕ) : Type 0 where
-  pub code : IsUnitCode program l.unit unit
-  pub framed : frame ≡ frame_in_arena (frame_under nodes l.key)
-  pub at : index ≡ l.index
 
 -- what is behind its operation in the code, its unit's arrays, and its frame; the unit's deepest stack of operands is no deeper than that of
 -- any may be
@@ -45,25 +34,6 @@ pub record IsBehind (program : Units) (nodes : Nodes) (l : Local) (entries : Lis
 pub record IsSettled (program : Units) (unit : ℕ) (operands : List Value) (index : ℕ) (new : List Value) (after : ℕ) : Type 0 where
   pub past : IsPastPushes (unit_code program unit) after
   pub stands : (k : ℕ) (work : Work) → Stands (unit_addressed program unit) k work operands index → Stands (unit_addressed program unit) k work new after
-
--- a process has a top level, whose unit and frame are there, and what is ahead of it can be done
-pub record CanAdvance (program : Units) (k : Stack) (capacity : ℕ) (arena : Space) (nodes : Nodes) : Type 0 where
-  pub l : Local
-  pub ls : List Local
-  pub operands : List Value
-  pub pending : List Value
-  pub stack : k ≡ stack_with l ls operands pending
-  pub inside : l.unit < length program
-  pub there : nodes l.key ≡ Some (node_under nodes l.key)
-  pub ready : IsReady (unit_code program l.unit) (unit_arrays program l.unit) arena (frame_in_arena (frame_under nodes l.key)) operands capacity l.index
-
--- then the operation ahead was performed, which changed the cells and the stack; or memory was refused, which changed nothing more
-pub record IsAdvanced {E : Type 0} (program : Units) (nodes : Nodes) (l : Local) (ls : List Local) (operands pending : List Value) (before after : Space) (result : Result Effect E) (k : Stack) : Type 0 where
-  pub next : ℕ
-  pub left : List Value
-  pub stack : k ≡ stack_with (record l { index = next }) ls left pending
-  pub performed : IfOk result (λ effect. IsPerformed (effects.effect_at (unit_code program l.unit) (unit_arrays program l.unit) (node_under nodes l.key).first before.contents operands l.index) (changed_at (unit_code program l.unit) (unit_arrays program l.unit) (node_under nodes l.key).first before.contents operands l.index) (snapshot before.contents operands l.index) effect (snapshot after.contents left next))
-  pub refused : OnErr result (snapshot after.contents left next ≡ snapshot before.contents operands l.index)
 
 -- ---- what is left of a turn then
 

@@ -13,15 +13,11 @@ use Rattle.hep_step.specs.Effects.{Effect}
 use Rattle.hep_step.specs.Simulation.{IsRunning, RunningTop, Simulates}
 use Rattle.hep_proc.specs.declared.process.Local.{Local}
 use Rattle.hep_proc.specs.Stacks.{Stack, operands_answered, pending_answered, stack_with}
-use Rattle.hep_state.specs.Showing.{node_under}
+use Rattle.hep_tops.specs.Tops.{frame_under}
 use Rattle.hep_state.specs.Snapshots.{Snapshot}
 use Rattle.hep_state.specs.Turns.{HasStepped, IsAfter}
 
 -- ---- levels
-
--- the frame of the node under a key
-abbrev pub frame_under : Nodes → ℕ → Frame
-frame_under nodes key = record { activation = (node_under nodes key).activation; first = (node_under nodes key).first; cells = (node_under nodes key).cells }
 
 -- process p has activations: the top level, those below it, and the operands of both
 pub record HasLevels (m : Snapshot) (p : ℕ) : Type 0 where

@@ -3,11 +3,12 @@ unfoldable pub use Rattle.hep_state.specs.Numbered.{numbers_of, stack_numbered, 
 pub use Rattle.hep_state.specs.Numbered.{IsPlaceOf}
 unfoldable pub use Rattle.hep_state.specs.Snapshots.{AreNumbered, snapshot_of}
 pub use Rattle.hep_state.specs.Snapshots.{Snapshot}
-unfoldable pub use Rattle.hep_state.specs.Showing.{AreThere, IsThere, node_under}
+pub use Rattle.hep_tops.specs.Tops.{IsPlace, IsThere, frame_under, node_under}
+unfoldable pub use Rattle.hep_state.specs.Showing.{AreThere}
 pub use Rattle.hep_state.specs.Showing.{code_level, code_levels, IsStack, kept_below, kept_by, levels_below, Shows}
 unfoldable pub use Rattle.hep_state.specs.Turns.{HasGaps}
 pub use Rattle.hep_state.specs.Turns.{HasNoGap, HasStepped, HasWaited, IsAbsent, IsAfter}
-unfoldable pub use Rattle.hep_state.specs.Tops.{fault_at, frame_under, snapshot_answered, snapshot_failed, snapshot_moved, snapshot_parted, snapshot_printed, snapshot_resumed, snapshot_returned}
+unfoldable pub use Rattle.hep_state.specs.Tops.{fault_at, snapshot_answered, snapshot_failed, snapshot_moved, snapshot_parted, snapshot_printed, snapshot_resumed, snapshot_returned}
 unfoldable pub use Rattle.hep_state.specs.Tops.{levels_turning, snapshot_stopped, stacks_parted, state_answered, state_before, state_failed, state_returned, top_before, top_frame}
 unfoldable pub use Rattle.hep_state.specs.Tops.{frames_before, HasMadeTurn, HaveLeft, IsEffectOf, IsTopRunning, running_top, turn_of, turn_settled, turn_with, with_contents, with_stack}
 pub use Rattle.hep_state.specs.Tops.{HasLevels, HoldsInTurn, IsTurning, TurnOf}
@@ -18,7 +19,7 @@ pub use Rattle.hep_state.specs.Openings.{HasOneProcess, IsEntered, IsGiven, IsQu
 unfoldable pub use Rattle.hep_state.specs.Rooms.{HasRoom, HasRoomAt, HoldsOfProcess}
 pub use Rattle.hep_state.specs.Rooms.{HasRoomToPass, HaveRoom, IsMachineAfter, IsRoomToPass}
 unfoldable pub use Rattle.hep_state.specs.Taking.{IsLeft, IsToEnd}
-pub use Rattle.hep_state.specs.Taking.{CanAdvance, HasSettledTop, IsAdvanced, IsBehind, IsEnding, IsPlace, IsSameButTop, IsSeenSame, IsSettled, LeavesOthers, LeavesSame}
+pub use Rattle.hep_state.specs.Taking.{HasSettledTop, IsBehind, IsEnding, IsSameButTop, IsSeenSame, IsSettled, LeavesOthers, LeavesSame}
 unfoldable pub use Rattle.hep_state.specs.Givings.{AreOut}
 unfoldable pub use Rattle.hep_state.specs.CallsAhead.{given_of, HasCallAhead, HasNone, HasPurgeAhead, HasResumeAhead, IsAhead, IsAtAnswer, IsAtPurge, IsAtResume}
 unfoldable pub use Rattle.hep_state.specs.CallsAhead.{IsAtReturn, IsInFront}
@@ -28,8 +29,7 @@ unfoldable pub use Rattle.hep_state.specs.Unturned.{IsUnturned}
 unfoldable pub use Rattle.hep_state.specs.Outcomes.{HasTurned, LeavesRest, StaysWaiting}
 pub use Rattle.hep_state.specs.Outcomes.{Changes, HasPurged}
 pub use Rattle.hep_state.specs.Known.{AreRunning, IsKnown, IsMadeOf}
-unfoldable pub use Rattle.hep_state.specs.Stacks.{AdvancesTop, CanAdvanceTop, CanSettle, HasBehind, HasPlace}
-unfoldable pub use Rattle.hep_state.specs.Stacks.{IsInCode, IsPlaced, Settles}
+unfoldable pub use Rattle.hep_state.specs.Stacks.{CanSettle, HasBehind, IsInCode, Settles}
 unfoldable pub use Rattle.hep_state.specs.Parts.{AfterTurns, Begins, ChangesNext, EmptiesTargets, EndsBy, FailsAtCall, FailsAtPurge}
 unfoldable pub use Rattle.hep_state.specs.Parts.{HaveFramesLeft, IsAtCallAhead, IsAtPurgeAhead, IsEndingBy, IsEndingWithRoom, IsGivenBy}
 unfoldable pub use Rattle.hep_state.specs.Parts.{IsLeftWithRoom, IsReached, IsWhetherLives, KeepsRoomAt, KeepsRoomOf, KeepsRoomParting}

@@ -6,7 +6,6 @@ ghost use Rattle.hep_step.specs.Effects.{answers, fails, value_found};
 ghost use Rattle.hep_step.specs.Ready.{IsVariableReady};
 ghost use Rattle.hep_state.specs.Words.{CanAnswer, IsToEndBy, LeavesOthers, StepsBy, snapshot_of};
 
-use crate::advancing::place;
 use crate::laws;
 use crate::machine::Machine;
 use crate::upcoming::AnswerAhead;
@@ -16,6 +15,7 @@ use hep_image::{Array, Image};
 use hep_machine::Kind;
 use hep_source::Value;
 use hep_step::{Frame, address};
+use hep_tops::place;
 
 // The value of a variable in a frame, in a unit with these arrays.
 #[inline(always)]

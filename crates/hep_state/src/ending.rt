@@ -10,6 +10,7 @@ ghost use Rattle.hep_state.specs.Words.{KeepsRoom, LeavesOthers, LivesOnBelow, S
 
 use crate::machine::{Machine, append};
 use hep_cells::Want;
+use hep_leaving::{Leaving, leave};
 use hep_machine::{Fault, Kind};
 use hep_proc::{Frames, Local};
 use hep_source::Value;
@@ -38,8 +39,8 @@ impl Machine {
         ensures lives { LivesOnBelow p self.old self.new }
     {
         let at = self.place(p);
-        let ended = self.processes[at].end_top();
-        self.frames.leave(ended.key);
+        let process = &mut self.processes[at];
+        leave(process, &mut self.frames, Leaving::Returned);
     }
 
     // The activation of a function on top of process p has ended with this value, which stands in the place of its reference: behind the
@@ -54,9 +55,7 @@ impl Machine {
     {
         let at = self.place(p);
         let process = &mut self.processes[at];
-        let ended = process.end_top();
-        self.frames.leave(ended.key);
-        process.take_value(value);
+        leave(process, &mut self.frames, Leaving::Answered(value));
     }
 
     // A fault has ended process p, in the statement with this initial line.

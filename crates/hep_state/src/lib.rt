@@ -19,8 +19,8 @@ mod resuming;
 mod turn;
 mod upcoming;
 
-pub use advancing::place;
 pub use calling::Called;
+pub use hep_tops::place;
 pub use machine::{Machine, Passing};
 pub use opening::fits;
 pub use turn::{TurnFault, Turned};

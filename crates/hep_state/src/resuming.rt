@@ -9,6 +9,7 @@ use crate::machine::{Machine, append};
 use hep_blocked::Roster;
 use hep_entries::History;
 use hep_image::Image;
+use hep_leaving::{Leaving, leave};
 use hep_proc::{Local, Process};
 use std::alloc::AllocError;
 
@@ -22,7 +23,8 @@ impl Machine {
         ensures made { self.new.made ≡ self.old.made + 1 }
     {
         let at = self.place(p);
-        let level = self.processes[at].end_top();
+        let parting = &mut self.processes[at];
+        let level = leave(parting, &mut self.frames, Leaving::Resumed);
         append(&mut process.levels, Local { index, ..level });
         self.admit(process);
     }

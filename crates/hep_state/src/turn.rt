@@ -7,7 +7,6 @@ ghost use Rattle.hep_state.specs.Words.{HasRoomForCreation, HasRoomForEntry, Has
 ghost use Rattle.hep_state.specs.Words.{IsTurn, IsUntaken, KeepsRollFor, KeepsWritten, LeavesAlone, LeavesBy, LeavesOthers, LeavesRest, ShowsSame};
 ghost use Rattle.hep_state.specs.Words.{StaysWaiting, snapshot_of};
 
-use crate::advancing::advance;
 use crate::calling::Called;
 use crate::laws;
 use crate::machine::Machine;
@@ -20,6 +19,7 @@ use hep_entries::History;
 use hep_image::Image;
 use hep_proc::Process;
 use hep_step::Effect;
+use hep_tops::advance;
 use std::alloc::{AllocError, Global};
 use thiserror::Error;
 

@@ -2,7 +2,7 @@
 use Rattle.std.specs.Prelude.{ℕ, List, ◌∷◌, map}
 use Rattle.hep_private.specs.Own.{Values, values_at}
 use Rattle.hep_private_laws.specs.Gone.{contents_with}
-use Rattle.hep_segments.specs.declared.ticket.Copied.{Copied}
+use Rattle.hep_segments.specs.Segments.{Copied}
 use Rattle.hep_segments.specs.declared.ticket.TicketId.{TicketId}
 use Rattle.hep_segments.specs.Segments.{SegmentValue, Start, TicketValue, ticket_value}
 use Rattle.hep_state.specs.Words.{HasLevels, Snapshot, frame_under, with_contents, with_stack}

@@ -15,7 +15,7 @@ mod starting;
 mod taking;
 mod top;
 
-pub use checking::{is_kept, is_made, is_next_private};
+pub use checking::{comes_next, is_kept, is_made, is_next_private};
 pub use hep_private_laws::laws::{others_leave_what_is_read, private_steps_are_turns};
 pub use hep_private_laws::{Table, Tabled, go_on, rests, tables_of};
 pub use own_cells::{OwnCells, Owned, own_cells_of};

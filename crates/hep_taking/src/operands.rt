@@ -1,17 +1,8 @@
 //! Operands in vectors.
-ghost use Rattle.std.specs.Prelude.{◌≡◌, ◌≤◌, IfOk, OnOk, length, vec_capacity};
+ghost use Rattle.std.specs.Prelude.{◌≡◌, ◌≤◌, OnOk, length, vec_capacity};
 
 use hep_source::Value;
-use std::alloc::{AllocError, Global};
-
-/// These values in a vector of their own.
-pub(crate) fn copy_of(alloc: Global, values: &[Value]) -> Result<Vec<Value>, AllocError>
-    ensures { IfOk result (λ copy. copy.items ≡ values.now) }
-{
-    let mut copy = Vec::with_capacity(alloc, values.len())?;
-    copy.extend_from_slice(values)?;
-    Ok(copy)
-}
+use std::alloc::AllocError;
 
 /// These values in the place of others.
 pub(crate) fn keep_operands(kept: &mut Vec<Value>, values: &[Value]) -> Result<(), AllocError>

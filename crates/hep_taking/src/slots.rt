@@ -1,5 +1,5 @@
 //! Slots of the arena, and what private steps store in them.
-ghost use Rattle.std.specs.Prelude.{◌≡◌, ◌<◌, ◌+◌, ◌++◌, ◌^◌, IfOk, OnOk, pos, slice_set};
+ghost use Rattle.std.specs.Prelude.{◌≡◌, ◌<◌, ◌+◌, ◌++◌, ◌^◌, OnOk, pos, slice_set};
 ghost use Rattle.hep_machine.specs.Words.{natural};
 ghost use Rattle.hep_image.specs.Finding.{cells_in};
 ghost use Rattle.hep_layout.specs.Words.{number};
@@ -14,7 +14,7 @@ use hep_machine::Slot;
 use hep_private::Record;
 use hep_segments::Copied;
 use hep_source::Value;
-use std::alloc::{AllocError, Global};
+use std::alloc::AllocError;
 
 // A cell has this value. Whether it is full stays.
 fn store(slots: &mut [Cell], at: usize, value: Value)
@@ -187,18 +187,17 @@ pub(crate) fn put_over(arena: &mut Arena, first: u32, cells: &[usize], kept: &[S
     put_slots(arena.slots_mut(), first, cells, kept);
 }
 
-/// Copies of these cells of a frame.
-pub(crate) fn copies_in(
-    alloc: Global,
+/// Copies of these cells of a frame, in the place of others.
+pub(crate) fn keep_copies(
+    copies: &mut Vec<Copied>,
     slots: &[Cell],
     first: u32,
     cells: &[usize],
-) -> Result<Vec<Copied>, AllocError>
-    ensures { IfOk result (λ copies. copies.items ≡ copies_of (values_at slots.now first) cells.now) }
+) -> Result<(), AllocError>
+    ensures { OnOk result (copies.new.items ≡ copies_of (values_at slots.now first) cells.now) }
 {
-    let mut copies = Vec::with_capacity(alloc, cells.len())?;
-    copy_cells(&mut copies, slots, first, cells)?;
-    Ok(copies)
+    copies.clear();
+    copy_cells(copies, slots, first, cells)
 }
 
 /// The slots of these cells of a frame, in the place of others.

@@ -6,19 +6,19 @@ use crate::own_cells::Owned;
 use crate::top::ticket_of;
 use hep_segments::{Ticket, TicketId};
 use hep_state::Machine;
-use std::alloc::{AllocError, Global};
+use std::alloc::AllocError;
 
-/// The ticket of a process whose turn it is: where its top activation is, its operands, and copies of the cells that it has for itself. The
-/// machine stays as it is.
+/// The ticket of a process whose turn it is: where its top activation is, its operands, and copies of the cells that it has for itself. It has
+/// the room of an older one. The machine stays as it is.
 ///
 /// # Errors
 ///
 /// Only where memory was refused.
 pub fn start(
-    alloc: Global,
     machine: &mut Machine,
     owned: &Owned<'_>,
     id: TicketId,
+    used: Ticket,
 ) -> Result<Ticket, AllocError>
     requires { CanStart owned.now id.process machine.old }
     ensures ticket { IfOk result (IsTicketOf owned.now.image.now id machine.old) }
@@ -26,5 +26,5 @@ pub fn start(
 {
     let at = machine.place(id.process);
     let process = &machine.processes[at];
-    ticket_of(alloc, process, &mut machine.frames, owned, id)
+    ticket_of(process, &mut machine.frames, owned, id, used)
 }

@@ -8,16 +8,16 @@ ghost use Rattle.hep_taking.specs.OwnCells.{own_cells_of};
 ghost use Rattle.hep_taking.specs.Saved.{saved_in};
 ghost use Rattle.hep_taking.specs.Tops.{HoldsOfStart, IsOwned, IsStanding, KeepsTop, RestoresCells, StandsWith, StoresIn};
 
-use crate::operands::{copy_of, keep_operands, refill};
+use crate::operands::{keep_operands, refill};
 use crate::own_cells::Owned;
 use crate::saving::Saved;
-use crate::slots::{apply_over, copies_in, keep_slots, put_over};
+use crate::slots::{apply_over, keep_copies, keep_slots, put_over};
 use hep_image::Image;
 use hep_proc::{Frames, Process};
 use hep_segments::{Place, Segment, Ticket, TicketId};
 use hep_source::Value;
 use hep_state::place;
-use std::alloc::{AllocError, Global};
+use std::alloc::AllocError;
 
 /// A segment begins where the activation is, and what its steps read before they stored it is there.
 pub(crate) fn is_kept(
@@ -80,15 +80,15 @@ pub(crate) fn is_next_private(process: &Process, frames: &mut Frames, image: &Im
     hep_segments::is_next_private(image, &place)
 }
 
-/// The ticket of the activation, with copies of its own cells.
+/// The ticket of the activation, with copies of its own cells, in the room of an older one.
 ///
 /// Fails only where memory was refused.
 pub(crate) fn ticket_of(
-    alloc: Global,
     process: &Process,
     frames: &mut Frames,
     owned: &Owned<'_>,
     id: TicketId,
+    used: Ticket,
 ) -> Result<Ticket, AllocError>
     requires { IsOwned owned.now process.now frames.old }
     ensures ticket { IfOk result (λ ticket. HoldsOfStart process.now frames.old (λ start.
@@ -98,8 +98,9 @@ pub(crate) fn ticket_of(
     let (_, frame, index) = place(process, frames, owned.image);
     let level = process.top();
     let cells = owned.cells(level.unit as usize);
-    let operands = copy_of(alloc, &process.operands)?;
-    let copies = copies_in(alloc, frames.arena.slots_mut(), frame.first, cells)?;
+    let (mut operands, mut copies) = used.into_parts();
+    keep_operands(&mut operands, &process.operands)?;
+    keep_copies(&mut copies, frames.arena.slots_mut(), frame.first, cells)?;
     Ok(Ticket::new(id, level.unit, index, operands, copies))
 }
 

@@ -1,5 +1,6 @@
 //! Calls of the crates, with memory and without, and with readers and writers that behave badly. Whole runs
 //! with their bytes are cases of the folder `tests` at the top of the repository.
+ghost use Rattle.hep_segments.specs.Segments.{IsMadeBy};
 
 mod cells;
 mod commits;
@@ -13,7 +14,7 @@ mod workers;
 
 use hep_check::check;
 use hep_copies::Syntax;
-use hep_core::{ChooseFault, CommitFault, Core, Segment, Ticket, Turn, Verdict};
+use hep_core::{ChooseFault, CommitFault, Core, Segment, Ticket, Turn, Verdict, compute};
 use hep_entries::History;
 use hep_image::Image;
 use hep_lower::lower;
@@ -51,6 +52,13 @@ fn checked_out(core: &mut Core, process: u64) -> Result<Ticket, ChooseFault> {
 
 fn committed(core: &mut Core, segment: &Segment) -> Result<Turn, CommitFault> {
     core.commit(segment)
+}
+
+// The segment of a ticket, by the image of a core.
+fn computed(core: &Core, ticket: &Ticket) -> Segment
+    ensures { IsMadeBy core.now.core.program result }
+{
+    compute(core.image(), ticket)
 }
 
 // So many entries of one step of process 1.

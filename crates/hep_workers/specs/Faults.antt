@@ -1,10 +1,18 @@
 -- Why a run by workers leaves no report: docs/MACHINE.md, "Workers".
-use Rattle.std.specs.Prelude.{◌≡◌, ℕ, Option, Some, None, IsSome}
+use Rattle.std.specs.Prelude.{◌≡◌, ◌⊎◌, ℕ, false, List, Option, Some, None, IsSome}
 use Rattle.hep_machine.specs.Words.{opening_layout, Units}
 use Rattle.hep_core.specs.declared.fault.NewFault.{NewFault}
 use Rattle.hep_core.specs.declared.fault.NewFault.TheVariants as new
+use Rattle.hep_core.specs.Commits.{most_tickets}
+use Rattle.hep_core.specs.Places.{Place, Placed}
+use Rattle.hep_core.specs.Value.{CoreValue, opening_of}
+use Rattle.hep_reports.specs.declared.fault.CloseFault.{CloseFault}
 use Rattle.hep_reports.specs.declared.fault.CloseFault.TheVariants as close
 use Rattle.hep_reports.specs.declared.options.WorkOptions.{WorkOptions}
+use Rattle.hep_reports.specs.Receipts.{are_of_workers}
+use Rattle.hep_reports.specs.Reports.{IsOfRun, IsUnclosed}
+use Rattle.hep_receipts.specs.declared.receipt.Receipt.{Receipt}
+use Rattle.hep_receipts.specs.Shared.{IsSharedFrom}
 use Rattle.hep_workers.specs.declared.fault.CrewFault.{CrewFault}
 use Rattle.hep_workers.specs.declared.fault.CrewFault.TheVariants as crew
 use Rattle.hep_workers.specs.declared.fault.WorkFault.{WorkFault}
@@ -31,8 +39,37 @@ number_of (Close close.NotRising) = Some 702
 number_of (Close close.NotTheRun) = Some 703
 number_of (Close close.StillRunning) = Some 705
 
+-- ---- what workers have met
+
+-- they have made a core of the opening that has given all tickets
+abbrev pub HasGivenAll : CoreValue → Type 0
+HasGivenAll opening = (core : Placed) × IsSharedFrom opening core × (core.core.given ≡ most_tickets)
+
+-- why a worker gave up: all tickets were given where it says so
+abbrev pub IsMet : CoreValue → CrewFault → Type 0
+IsMet opening crew.NoTicket = ∥ HasGivenAll opening ∥₁
+IsMet opening crew.NoMemory = Unit {0}
+IsMet opening crew.NoThread = Unit {0}
+
+-- workers have made this core of the opening
+abbrev pub IsSharedBy : Units → WorkOptions → CoreValue → Type 0
+IsSharedBy program options core =
+    (places : List (Option Place)) × ∥ IsSharedFrom (opening_of program options.arena options.steps) (record { core = core; places = places }) ∥₁
+
+-- what they left makes no report: it can't be closed, or some log isn't its worker's
+abbrev pub IsUnreported : CloseFault → CoreValue → Units → WorkOptions → List (List Receipt) → Type 0
+IsUnreported fault core program options logs =
+    IsUnclosed fault core program options logs
+    ⊎ ((fault ≡ close.NotTheEntries) × (are_of_workers options.workers logs ≡ false))
+
 -- why a run by workers leaves no report: the arena is full just where the main program's frame has no gap in it, and anything else, want of
--- memory too, comes only where it has
+-- memory too, comes only where it has; that no ticket is left or what they left is refused comes only of a core for which it is so
 abbrev pub IsWorkFault : WorkFault → Units → WorkOptions → Type 0
 IsWorkFault ArenaFull program options = opening_layout program options.arena ≡ None
-IsWorkFault _ program options = IsSome (opening_layout program options.arena)
+IsWorkFault NoTicket program options =
+    IsSome (opening_layout program options.arena) × IsMet (opening_of program options.arena options.steps) crew.NoTicket
+IsWorkFault (Close fault) program options =
+    IsSome (opening_layout program options.arena)
+    × ((core : CoreValue) × (logs : List (List Receipt)) × IsOfRun core program options × IsSharedBy program options core × IsUnreported fault core program options logs)
+IsWorkFault NoMemory program options = IsSome (opening_layout program options.arena)
+IsWorkFault NoThread program options = IsSome (opening_layout program options.arena)

@@ -15,6 +15,13 @@ pub enum CrewFault {
     NoThread,
 }
 
+// Why not all workers were started.
+#[derive(Clone, Copy, Debug, PartialEq, Eq)]
+pub enum StartFault {
+    NoMemory,
+    NoThread,
+}
+
 impl From<AllocError> for CrewFault {
     ghost use Rattle.std.specs.Prelude.{◌≡◌};
     ghost use Rattle.hep_workers.specs.declared.fault.CrewFault.TheVariants.{NoMemory};

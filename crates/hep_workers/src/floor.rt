@@ -1,17 +1,24 @@
 //! The workers at their work: threads that share a core under a lock.
-ghost use Rattle.std.specs.Prelude.{◌≤◌, IfErr, IfOk, IsSome, OnOk};
+ghost use Rattle.std.specs.Prelude.{◌≡◌, ◌≤◌, IfErr, IfOk, IsSome, OnOk, true};
 ghost use Rattle.hep_machine.specs.Words.{opening_layout};
+ghost use Rattle.hep_reports.specs.Receipts as receipts;
 ghost use Rattle.hep_reports.specs.Reports.{IsReport};
-ghost use Rattle.hep_workers.specs.Faults.{IsWorkFault};
+ghost use Rattle.hep_segments.specs.Segments.{IsMadeBy};
+ghost use Rattle.hep_receipts.specs.Shared.{IsOfOneRun, IsSharedFrom};
+ghost use Rattle.hep_workers.specs.Faults.{IsMet, IsSharedBy, IsUnreported, IsWorkFault};
 
 use crate::crossing::{cores_cross, images_cross};
-use crate::fault::{CrewFault, WorkFault};
+use crate::fault::{CrewFault, StartFault, WorkFault};
 use crate::gate::Gate;
-use hep_core::{ChooseFault, CommitFault, Core, Verdict};
+use crate::tied::{Halt, Known, Tied, Whole};
+use hep_core::{CommitFault, Core};
 use hep_image::Image;
-use hep_reports::{Log, Report, WorkOptions, close, worker_turn};
+use hep_receipts::Log;
+use hep_reports::{CloseFault, Report, WorkOptions, are_of_workers, close};
 use hep_segments::{Segment, Ticket};
 use std::alloc::Global;
+use std::marker::Brand;
+use std::mem::replace;
 use std::sync::atomic::{AtomicBool, AtomicU32, Ordering};
 use std::sync::{Condvar, Mutex, MutexGuard, Wait};
 use std::thread;
@@ -19,8 +26,8 @@ use std::thread::Threads;
 
 // What the workers share.
 #[derive(Drop)]
-struct Floor {
-    core: Mutex<Core>,
+struct Floor<K: Whole> {
+    core: Mutex<Tied<K>>,
     // Notified where a process is free for a worker that waits, and where the run is over.
     changed: Condvar,
     // How many workers wait. It changes under the lock.
@@ -29,12 +36,12 @@ struct Floor {
     ended: AtomicBool,
 }
 
-// What a worker has in hand: its number and how many turns it began, both counted from 1, its ticket, the segment that it makes of it,
-// and its log. A segment is made in the place of the one before.
+// What a worker has in hand: its number, its ticket, the segment that it makes of it, and its log, with a receipt for each of its turns. A
+// ticket and a segment have the room of those before.
 #[derive(Drop)]
 struct Hand {
+    alloc: Global,
     worker: u32,
-    turns: u64,
     ticket: Ticket,
     segment: Segment,
     log: Log,
@@ -42,9 +49,16 @@ struct Hand {
 
 // What a worker leaves.
 #[derive(Drop)]
-struct Work {
+struct Work<K: Whole> {
     log: Log,
-    outcome: Result<(), CrewFault>,
+    outcome: Result<(), Halt<K>>,
+}
+
+// What all workers leave that were started, and why not all were.
+#[derive(Drop)]
+struct Crew<K: Whole> {
+    works: Vec<Work<K>>,
+    started: Result<(), StartFault>,
 }
 
 /// Runs a program by several workers, until its run is over. Each worker takes the lock, checks out the process that comes next, gets its
@@ -65,66 +79,142 @@ pub fn run_workers<R: Threads + Wait + Sync, G: Gate + Sync>(
 ) -> Result<Report, WorkFault>
     ensures fits { OnOk result (IsSome (opening_layout image options.now.arena)) }
     ensures report { IfOk result (λ report. IsReport report.core image options.now report.logs) }
+    ensures numbered { IfOk result (λ report. receipts.are_of_workers options.now.workers report.logs ≡ true) }
+    ensures turns { IfOk result (λ report. IsSharedBy image options.now report.core) }
     ensures fault { IfErr result (λ fault. IsWorkFault fault image options.now) }
 {
     // A full arena is found before memory is asked for, and so before the image is copied.
     let core = Core::new(alloc, image, options.arena, options.steps)?;
     let image = core.image().copy(alloc)?;
-    let floor = Floor::new(core);
-    let logs = work_all(rt, alloc, &floor, &image, options.workers, gate)?;
-    let Floor { core, .. } = floor;
-    Ok(close(alloc, core.into_inner(), &image, options, logs)?)
+    let (core, logs) = share::<Brand, R, G>(rt, alloc, core, &image, options.workers, gate)?;
+    Ok(report(alloc, core, &image, options, logs)?)
 }
 
-// Starts the workers, waits for their ends, and gives their logs, or the first fault of one.
-fn work_all<R: Threads + Wait + Sync, G: Gate + Sync>(
+// The report of what the workers left, which is none where a log isn't its worker's.
+fn report(
+    alloc: Global,
+    core: Core,
+    image: &Image,
+    options: &WorkOptions,
+    logs: Vec<Log>,
+) -> Result<Report, CloseFault>
+    ensures kept { IfOk result (λ report. report.core ≡ core.core) }
+    ensures closed { IfOk result (λ report. IsReport report.core image.now options.now report.logs) }
+    ensures numbered { IfOk result (λ report. receipts.are_of_workers options.now.workers report.logs ≡ true) }
+    ensures unclosed { IfErr result (λ fault. IsUnreported fault core.core image.now options.now logs.items) }
+{
+    let report = close(alloc, core, image, options, logs)?;
+    if !are_of_workers(report.logs(), options.workers) {
+        return Err(CloseFault::NotTheEntries);
+    }
+    Ok(report)
+}
+
+// Has workers share a core of the run, and gives it with their logs once they have ended.
+fn share<K: Whole + Send + Sync, R: Threads + Wait + Sync, G: Gate + Sync>(
     rt: &R,
     alloc: Global,
-    floor: &Floor,
+    core: Core,
     image: &Image,
     workers: u32,
     gate: &G,
-) -> Result<Vec<Log>, CrewFault>
+) -> Result<(Core, Vec<Log>), CrewFault>
+    requires opening { core.core ≡ K.opening }
+    requires image { image.now ≡ K.opening.program }
+    requires few { workers ≤ 16 }
+    ensures run { IfOk result (λ left. IsOfOneRun K.opening left.0.core) }
+    ensures shared { IfOk result (λ left. ∥ IsSharedFrom K.opening left.0 ∥₁) }
+    ensures met { IfErr result (IsMet K.opening) }
+{
+    let floor: Floor<K> = Floor::new(Tied::new(core));
+    let known: Known<'_, K> = Known::new(image);
+    let crew = work_all(rt, alloc, &floor, &known, workers, gate);
+    let logs = logs_of(alloc, crew)?;
+    let Floor { core, .. } = floor;
+    Ok((core.into_inner().into_core(), logs))
+}
+
+// The logs of the workers, or why one of them couldn't be started, or the first fault of one.
+fn logs_of<K: Whole>(alloc: Global, crew: Crew<K>) -> Result<Vec<Log>, CrewFault>
+    ensures { IfErr result (IsMet K.opening) }
+{
+    let Crew { works, started } = crew;
+    match started {
+        Ok(()) => {}
+        Err(StartFault::NoMemory) => return Err(CrewFault::NoMemory),
+        Err(StartFault::NoThread) => return Err(CrewFault::NoThread),
+    }
+    let mut logs = Vec::new(alloc);
+    for work in works {
+        match logged(work) {
+            Ok(log) => {
+                if logs.push(log).is_err() {
+                    return Err(CrewFault::NoMemory);
+                }
+            }
+            Err(fault) => return Err(fault),
+        }
+    }
+    Ok(logs)
+}
+
+// The log of a worker, or why it gave up.
+fn logged<K: Whole>(work: Work<K>) -> Result<Log, CrewFault>
+    ensures { IfErr result (IsMet K.opening) }
+{
+    let Work { log, outcome } = work;
+    match outcome {
+        Ok(()) => Ok(log),
+        Err(Halt::NoMemory) => Err(CrewFault::NoMemory),
+        Err(Halt::NoTicket(_given)) => Err(CrewFault::NoTicket),
+    }
+}
+
+// Starts the workers, and waits for their ends.
+fn work_all<K: Whole + Send + Sync, R: Threads + Wait + Sync, G: Gate + Sync>(
+    rt: &R,
+    alloc: Global,
+    floor: &Floor<K>,
+    known: &Known<'_, K>,
+    workers: u32,
+    gate: &G,
+) -> Crew<K>
     requires { workers ≤ 16 }
 {
     thread::scope(thread::scope_env(), rt, |scope| {
         images_cross();
         cores_cross();
         let mut handles = Vec::new(alloc);
-        let mut logs = Vec::new(alloc);
-        let mut outcome = Ok(());
+        let mut works = Vec::new(alloc);
+        let mut started = Ok(());
         for worker in 0..workers {
-            if handles.reserve(1).is_err() || logs.reserve(1).is_err() {
-                outcome = Err(CrewFault::NoMemory);
+            if handles.reserve(1).is_err() || works.reserve(1).is_err() {
+                started = Err(StartFault::NoMemory);
                 break;
             }
-            match scope.spawn(move || floor.work(rt, alloc, image, worker + 1, gate)) {
+            match scope.spawn(move || floor.work(rt, alloc, known, worker + 1, gate)) {
                 Ok(handle) => handles.push_reserved(handle),
                 Err(_) => {
-                    outcome = Err(CrewFault::NoThread);
+                    started = Err(StartFault::NoThread);
                     break;
                 }
             }
         }
-        if outcome.is_err() {
+        if started.is_err() {
             floor.end(rt);
         }
         for handle in handles {
             let work = handle.join(rt);
-            if outcome.is_ok() {
-                outcome = work.outcome;
-            }
-            if logs.push(work.log).is_err() {
-                outcome = Err(CrewFault::NoMemory);
+            if works.push(work).is_err() {
+                started = Err(StartFault::NoMemory);
             }
         }
-        outcome?;
-        Ok(logs)
+        Crew { works, started }
     })
 }
 
-impl Floor {
-    fn new(core: Core) -> Floor {
+impl<K: Whole> Floor<K> {
+    fn new(core: Tied<K>) -> Self {
         Floor {
             core: Mutex::new(core),
             changed: Condvar::new(),
@@ -145,19 +235,19 @@ impl Floor {
         &self,
         rt: &R,
         alloc: Global,
-        image: &Image,
+        known: &Known<'_, K>,
         worker: u32,
         gate: &G,
-    ) -> Work {
+    ) -> Work<K> {
         let log = Log::new(alloc);
-        let work = match self.check_out(rt, self.core.lock(rt)) {
+        let work = match self.check_out(rt, self.core.lock(rt), Ticket::blank(alloc)) {
             Ok(Some(ticket)) => self.work_on(
                 rt,
-                image,
+                known,
                 gate,
                 Hand {
+                    alloc,
                     worker,
-                    turns: 0,
                     ticket,
                     segment: Segment::new(),
                     log,
@@ -179,10 +269,16 @@ impl Floor {
     }
 
     // The turns of a worker that has its first ticket.
-    fn work_on<R: Wait, G: Gate>(&self, rt: &R, image: &Image, gate: &G, hand: Hand) -> Work {
+    fn work_on<R: Wait, G: Gate>(
+        &self,
+        rt: &R,
+        known: &Known<'_, K>,
+        gate: &G,
+        hand: Hand,
+    ) -> Work<K> {
         let mut hand = hand;
         for _ in rt.forever() {
-            match self.turn(rt, image, gate, &mut hand) {
+            match self.turn(rt, known, gate, &mut hand) {
                 Ok(true) => {}
                 Ok(false) => {
                     return Work {
@@ -201,20 +297,20 @@ impl Floor {
         unreachable!()
     }
 
-    // A turn of a worker, which has the next ticket then. False where the run is over.
+    // A turn of a worker, which has the next ticket then. False where the run is over. The gate's calls are counted by the receipts.
     fn turn<R: Wait, G: Gate>(
         &self,
         rt: &R,
-        image: &Image,
+        known: &Known<'_, K>,
         gate: &G,
         hand: &mut Hand,
-    ) -> Result<bool, CrewFault> {
+    ) -> Result<bool, Halt<K>> {
         hand.log.reserve()?;
-        hand.turns = hand.turns.wrapping_add(1);
+        let turn = hand.log.receipts().len() as u64 + 1;
         gate.segment_into(
             hand.worker,
-            hand.turns,
-            image,
+            turn,
+            known.image,
             &hand.ticket,
             &mut hand.segment,
         );
@@ -222,7 +318,8 @@ impl Floor {
         if !self.commit(&mut core, hand)? {
             return Ok(false);
         }
-        match self.check_out(rt, core)? {
+        let used = replace(&mut hand.ticket, Ticket::blank(hand.alloc));
+        match self.check_out(rt, core, used)? {
             Some(ticket) => {
                 hand.ticket = ticket;
                 Ok(true)
@@ -232,15 +329,17 @@ impl Floor {
     }
 
     // Commits the segment that a worker has in hand, and notes its receipt. False where the run is over.
-    fn commit(&self, core: &mut Core, hand: &mut Hand) -> Result<bool, CrewFault> {
-        match worker_turn(core, hand.worker, &hand.segment) {
+    fn commit(&self, core: &mut Tied<K>, hand: &mut Hand) -> Result<bool, Halt<K>>
+        requires { IsMadeBy K.opening.program hand.old.segment }
+    {
+        match core.turn(hand.worker, &hand.segment) {
             Ok(receipt) => {
                 hand.log.push(receipt)?;
                 Ok(true)
             }
             Err(CommitFault::NoMemory) => {
-                let _ = core.cancel(&hand.ticket);
-                Err(CrewFault::NoMemory)
+                core.cancel(&hand.ticket);
+                Err(Halt::NoMemory)
             }
             Err(CommitFault::Stopped(_)) => {
                 self.changed.notify_all();
@@ -254,20 +353,21 @@ impl Floor {
         }
     }
 
-    // A ticket for the process that comes next, once there is one. None where the run is over.
+    // A ticket for the process that comes next, once there is one, in the room of an older one. None where the run is over.
     fn check_out<R: Wait>(
         &self,
         rt: &R,
-        core: MutexGuard<'_, Core>,
-    ) -> Result<Option<Ticket>, CrewFault> {
+        core: MutexGuard<'_, Tied<K>>,
+        used: Ticket,
+    ) -> Result<Option<Ticket>, Halt<K>> {
         let mut core = self.wait(rt, core);
-        let ticket = self.next_ticket(&mut core);
+        let ticket = self.next_ticket(&mut core, used);
         self.wake(&core);
         ticket
     }
 
     // Waits until a process is free or the run is over.
-    fn wait<'a, R: Wait>(&self, rt: &R, core: MutexGuard<'a, Core>) -> MutexGuard<'a, Core> {
+    fn wait<'a, R: Wait>(&self, rt: &R, core: MutexGuard<'a, Tied<K>>) -> MutexGuard<'a, Tied<K>> {
         if self.is_over(&core) || core.next_ready().is_some() {
             return core;
         }
@@ -280,28 +380,23 @@ impl Floor {
     }
 
     // The run is over, or the workers are to end.
-    fn is_over(&self, core: &Core) -> bool {
-        self.ended.load(Ordering::SeqCst) || core.verdict() != Verdict::Running
+    fn is_over(&self, core: &Tied<K>) -> bool {
+        self.ended.load(Ordering::SeqCst) || core.is_over()
     }
 
     // A ticket for the process that comes next. None where the run is over.
-    fn next_ticket(&self, core: &mut Core) -> Result<Option<Ticket>, CrewFault> {
+    fn next_ticket(&self, core: &mut Tied<K>, used: Ticket) -> Result<Option<Ticket>, Halt<K>> {
         if self.is_over(core) {
             return Ok(None);
         }
-        let Some(process) = core.next_ready() else {
-            return Ok(None);
-        };
-        match core.check_out(process) {
-            Ok(ticket) => Ok(Some(ticket)),
-            Err(ChooseFault::NoMemory) => Err(CrewFault::NoMemory),
-            Err(ChooseFault::NoTicket) => Err(CrewFault::NoTicket),
-            Err(_) => Ok(None),
+        match core.next_ready() {
+            Some(process) => core.check_out(process, used),
+            None => Ok(None),
         }
     }
 
     // Wakes all workers where the run is over, and one that waits where another process is free. That one wakes the next one.
-    fn wake(&self, core: &Core) {
+    fn wake(&self, core: &Tied<K>) {
         if self.is_over(core) {
             self.changed.notify_all();
         } else if 0 < self.idle.load(Ordering::SeqCst) && core.next_ready().is_some() {

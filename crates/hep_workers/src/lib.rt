@@ -5,9 +5,11 @@ mod crossing;
 mod fault;
 mod floor;
 mod gate;
+mod tied;
 
 pub use fault::WorkFault;
 pub use floor::run_workers;
 pub use gate::{Gate, NoGate};
 pub use hep_core::{Segment, Ticket, compute};
-pub use hep_reports::{CloseFault, Log, Receipt, Report, WorkOptions, close, worker_turn};
+pub use hep_receipts::{Log, Receipt, worker_turn};
+pub use hep_reports::{CloseFault, Report, WorkOptions, close};

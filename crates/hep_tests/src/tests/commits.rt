@@ -1,6 +1,6 @@
 //! Commits of segments with private steps.
 
-use super::image_from;
+use super::{computed, image_from};
 use hep_core::{ChoiceStop, ChooseFault, CommitFault, Core, Segment, Turn, Verdict, compute};
 use hep_image::Image;
 use std::alloc::Global;
@@ -112,4 +112,18 @@ fn stale_steps(rt: HostRuntime) {
     assert!(rt; core.commit(&taken) == Err(CommitFault::Stale));
     assert!(rt; core.commit(&segment) == Err(CommitFault::Stale));
     assert!(rt; core.verdict() == Verdict::Done);
+}
+
+// What the core's own image makes is committed without being made again, and the next ticket has the room of the one before.
+#[test]
+fn known_steps(rt: HostRuntime) {
+    let (mut core, _image) = begun(&rt, rt.alloc(), PRINTING, 9, 9);
+    let first = core.check_out(1).expect(&rt, "no ticket");
+    let segment = computed(&core, &first);
+    assert!(rt; core.commit_known(&segment) == made(4));
+    let again = core.check_out_again(1, first).expect(&rt, "no ticket");
+    assert!(rt; again.id().number == 2);
+    let next = computed(&core, &again);
+    assert!(rt; core.commit_known(&next) == made(1));
+    assert!(rt; core.verdict() == Verdict::Done && core.history().len() == 2);
 }

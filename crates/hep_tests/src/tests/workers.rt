@@ -1,7 +1,7 @@
 //! Tickets, and workers that take turns.
 ghost use Rattle.std.specs.Prelude.{◌≤◌};
 
-use super::{checked_out, chosen, committed, core_of, image_from, source_of};
+use super::{checked_out, chosen, committed, computed, core_of, image_from, source_of};
 use hep_core::{ChoiceStop, ChooseFault, CommitFault, Core, Segment, Ticket, Verdict, compute};
 use hep_image::Image;
 use hep_source::Value;
@@ -178,7 +178,7 @@ pub fn closing(rt: &impl Abort, alloc: Global) {
 
     let mut core = core_of(rt, alloc, source, 7);
     let ticket = ticket_of(rt, &mut core, 1);
-    let segment = compute(&image, &ticket);
+    let segment = computed(&core, &ticket);
     let receipt = worker_turn(&mut core, 1, &segment).expect(rt, "no receipt");
     assert!(rt;
         receipt

@@ -1,5 +1,5 @@
 use Rattle.std.proofs.Common.{◌≡◌, ◌-◌, ◌≤◌, List, [], ◌∷◌, true, drop, refl, sym, ◌∙◌, arith, length, length-drop}
-use Rattle.hep_reports.specs.declared.receipt.Receipt.{Receipt}
+use Rattle.hep_receipts.specs.declared.receipt.Receipt.{Receipt}
 use Rattle.hep_reports.specs.Receipts.{rises}
 use Rattle.hep_reports.proofs.report.rises.Goals as goal
 

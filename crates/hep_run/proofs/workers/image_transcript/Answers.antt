@@ -1,6 +1,6 @@
 use Rattle.std.proofs.Common.{rules, ap, inl, inr, subst, sym, ◌∙◌}
 use Rattle.hep_workers.specs.Reports.{IsReport}
-use Rattle.hep_workers.specs.Faults.{IsWorkFault}
+use Rattle.hep_workers.specs.Faults.{IsSharedBy, IsWorkFault}
 use Rattle.hep_outcome.specs.Outcome.{full_with}
 use Rattle.hep_outcome.specs.Transcripts.{outcome_of}
 use Rattle.hep_outcome.proofs.Wanted.{noted-full, on-err-anyway, on-err-so}
@@ -14,7 +14,8 @@ returns-in-Ok-clause-made g c =
     let core = c.into_parts-core.result.0.core in
     let same = sym c.into_parts-core.ensures.core in
     let is-report = subst (λ v. IsReport v c.args.image c.args.asked.now.options.now report.logs) same c.in-Ok.ensures.report in
-    IfOk-weaker c.ended_transcript.result _ _ (λ r is. outcome-worked c.args.asked.now.long c.args.image c.args.asked.now.options.now core report.logs (outcome_of r) is-report c.headline.ensures.legal c.headline.ensures.named is) c.ended_transcript.ensures
+    let is-shared = subst (IsSharedBy c.args.image c.args.asked.now.options.now) same c.in-Ok.ensures.turns in
+    IfOk-weaker c.ended_transcript.result _ _ (λ r is. outcome-worked c.args.asked.now.long c.args.image c.args.asked.now.options.now core report.logs (outcome_of r) is-report is-shared c.headline.ensures.legal c.headline.ensures.named is) c.ended_transcript.ensures
 
 pub returns-in-Ok-clause-unmade : goal.returns-in-Ok-clause-unmade
 returns-in-Ok-clause-unmade g c = on-err-anyway c.ended_transcript.result (inr c.in-Ok.ensures.fits)
@@ -38,4 +39,6 @@ returns-clause-unmade g c = inr (fits-else c.in-Err.fault c.args.image c.args.as
 pub returns-in-Some-clause-made : goal.returns-in-Some-clause-made
 returns-in-Some-clause-made g c =
     let fits = fits-by-number c.in-Err.fault c.in-Some.number c.args.image c.args.asked.now.options.now (sym c.number.ensures ∙ c.in-Some.is) c.in-Err.ensures.fault in
-    IfOk-weaker c.workers_transcript.result _ _ (λ r is. inr (inl (fits, c.in-Some.number, is-refusal c.in-Err.fault c.in-Some.number (sym c.number.ensures ∙ c.in-Some.is), is))) c.workers_transcript.ensures
+    let named = sym c.number.ensures ∙ c.in-Some.is in
+    let refused = is-refusal c.in-Err.fault c.in-Some.number c.args.image c.args.asked.now.options.now c.in-Err.ensures.fault named in
+    IfOk-weaker c.workers_transcript.result _ _ (λ r is. inr (inl (fits, c.in-Err.fault, c.in-Some.number, (c.in-Err.ensures.fault, named, refused), is))) c.workers_transcript.ensures

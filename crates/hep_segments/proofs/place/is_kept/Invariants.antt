@@ -1,5 +1,5 @@
 use Rattle.std.proofs.Common.{◌↔◌, drop}
-use Rattle.hep_private.specs.Reads.{HaveRead}
+use Rattle.hep_repeating.specs.Reads.{HaveRead}
 use Rattle.hep_segments.specs.Places.{start_at}
 use Rattle.hep_segments.proofs.place.is_kept.Given as goal
 

@@ -1,7 +1,6 @@
-use Rattle.std.proofs.Common.{◌≡◌, ◌∙◌, ap, length, subst}
+use Rattle.std.proofs.Common.{◌∙◌, length, subst}
 use Rattle.hep_segments.specs.Places.{start_at}
-use Rattle.hep_segments.specs.Progress.{HasTaken}
-use Rattle.hep_segments.specs.Segments.{Start}
+use Rattle.hep_repeating.specs.Taken.{HasTaken}
 use Rattle.hep_segments.proofs.Again.{again-made, made-again}
 use Rattle.hep_segments.proofs.place.is_made.Goals as goal
 

@@ -1,14 +1,14 @@
-use Rattle.std.proofs.Common.{◌≡◌, ◌∙◌, [], Option, Some, None, ap, subst, sym}
+use Rattle.std.proofs.Common.{◌∙◌, [], Option, ap, subst, sym}
 use Rattle.std.specs.Option.{is_some}
 use Rattle.hep_machine.specs.Words.{unit_at}
 use Rattle.hep_image.specs.Private.{private_cells}
 use Rattle.hep_step.specs.Simulation.{unit_code}
-use Rattle.hep_private.specs.Own.{begun}
+use Rattle.hep_repeating.specs.Own.{begun}
 use Rattle.hep_segments.specs.Places.{start_at}
-use Rattle.hep_segments.specs.Progress.{HasFound, own_behind}
-use Rattle.hep_segments.specs.declared.performing.Deed.{Deed}
-use Rattle.hep_segments.proofs.Coded as coded
-use Rattle.hep_segments.proofs.Steps.{none-next, one-next}
+use Rattle.hep_repeating.specs.Progress.{HasFound, own_behind}
+use Rattle.hep_repeating.specs.Deed.{Deed}
+use Rattle.hep_repeating.proofs.Coded as coded
+use Rattle.hep_repeating.proofs.Steps.{none-next, one-next}
 use Rattle.hep_segments.proofs.place.is_next_private.Goals as goal
 use Rattle.hep_segments.proofs.place.is_next_private.Goals.{After-deed_behind}
 

@@ -1,5 +1,5 @@
 use Rattle.std.proofs.Common.{◌∙◌}
-use Rattle.hep_segments.specs.declared.progress.Progress.{Progress}
+use Rattle.hep_repeating.specs.Made.{Progress}
 use Rattle.hep_segments.proofs.Finished.{computed, is-segment}
 use Rattle.hep_segments.proofs.segment.compute_into.Goals as goal
 use Rattle.hep_segments.proofs.segment.compute_into.Goals.{After-take_steps}

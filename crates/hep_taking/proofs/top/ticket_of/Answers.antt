@@ -23,7 +23,7 @@ pub new-requires : goal.new-requires
 new-requires c =
     let r = c.requires.1 in
     let at = c.place-index.ensures r.l r.ls r.operands r.pending r.stack in
-    omega (arith, ap length (c.in_ok-operands.ensures ∙ (c.deref.ensures.value ∙ operands-are c.args.process.now r.l r.ls r.operands r.pending r.stack)), r.few, at.code.operands, at.code.few_operands, ap deepest at.code.code)
+    omega (arith, ap length (c.in_ok-keep_operands.ensures ∙ (c.deref.ensures.value ∙ operands-are c.args.process.now r.l r.ls r.operands r.pending r.stack)), r.few, at.code.operands, at.code.few_operands, ap deepest at.code.code)
 
 pub returns-clause-ticket : goal.returns-clause-ticket
 returns-clause-ticket c l ls operands pending is =
@@ -31,6 +31,6 @@ returns-clause-ticket c l ls operands pending is =
     let at = c.place-index.ensures l ls operands pending is in
     let top = c.top-level.ensures l ls operands pending is in
     let cells = c.cells-cells.ensures ∙ ap (λ (k : Local). own_cells_of image k.unit) top in
-    let values = c.in_ok-operands.ensures ∙ (c.deref.ensures.value ∙ operands-are c.args.process.now l ls operands pending is) in
-    let copies = c.in_ok-copies.ensures ∙ (λ i. copies_of (values_at (c.slots_mut.ensures.value i) (at.framed i).first) (cells i)) in
+    let values = c.in_ok-keep_operands.ensures ∙ (c.deref.ensures.value ∙ operands-are c.args.process.now l ls operands pending is) in
+    let copies = c.in_ok-keep_copies.ensures ∙ (λ i. copies_of (values_at (c.slots_mut.ensures.value i) (at.framed i).first) (cells i)) in
     c.new.ensures ∙ (λ i. ticket_value c.args.id (top i).unit (at.at i) (values i) (copies i))

@@ -15,7 +15,7 @@ use Rattle.hep_core.proofs.scheduler.Core.commit_alone.Goals.{After-put_aside-ou
 use Rattle.hep_core.proofs.scheduler.Core.commit_alone.Goals as goal
 
 pub returns-then-not-is_next-clause-committed : goal.returns-then-not-is_next-clause-committed
-returns-then-not-is_next-clause-committed c = (c.requires.going, not-good c.args.self.now c.args.segment.now c.if-not-is_next.ensures.next, c.is_next.ensures.same)
+returns-then-not-is_next-clause-committed c = (c.requires.out.0, not-good c.args.self.now c.args.segment.now c.if-not-is_next.ensures.next, c.is_next.ensures.same)
 
 -- the core from which the tickets were put aside
 aside : (c : After-turn) → c.put_aside-out.new.self.core ≡ with_out c.args.self.now.core []
@@ -52,7 +52,7 @@ returns-in-Ok-clause-committed c =
     let at = (goal.at.returns-in-Ok-clause-committed c).After-come_back in
     let s = c.args.segment.now in
     let next = c.if-not-is_next.ensures.next in
-    let good : IsGoodAt c.args.self.now s next.0 = ((c.requires.going, c.requires.lives, c.requires.ticket), next.1, next.2) in
+    let good : IsGoodAt c.args.self.now s next.0 = ((c.requires.out.0, c.requires.out.1, c.requires.out.2), next.1, next.2) in
     let back = c.put_back.ensures ∙ ap (λ ts. with_core c.turn.new.self (with_out c.turn.new.self.core ts)) (left at) in
     subst (IsCommitted c.args.self.now s (Ok c.in-Ok.turn)) (sym back) (alone-made c.args.self.now s next.0 good c.requires.none c.turn.new.self c.in-Ok.turn (chosen at))
 

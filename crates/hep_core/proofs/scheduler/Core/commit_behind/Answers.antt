@@ -28,43 +28,46 @@ use Rattle.hep_state.proofs.Histories.{still-after, turned-at, unturned-at}
 use Rattle.hep_core.specs.Waking.{GoAlongTurn}
 use Rattle.hep_core.proofs.Kept.{AreSeen, in-arena, made-step, risen}
 use Rattle.hep_core.proofs.Returning.{not-good}
-use Rattle.hep_core.proofs.Underway.{IsUnderway, can-restore, left-placed, out-in, refused-so, saved-for, settled-by, turn-in, underway}
-use Rattle.hep_core.proofs.scheduler.Core.commit_behind.Goals.{After-is_made-arg-2-1, After-keep, After-is_next_private-arg-1, After-len-arg-1}
+use Rattle.hep_core.proofs.Underway.{IsUnderway, can-restore, known-in, left-placed, out-in, refused-so, saved-for, settled-by, turn-in, underway}
+use Rattle.hep_core.proofs.scheduler.Core.commit_behind.Goals.{After-comes_next-arg-2-1, After-keep, After-is_next_private-arg-1, After-len-arg-1}
 use Rattle.hep_core.proofs.scheduler.Core.commit_behind.Goals as goal
 
 -- ---- what is known from the beginning on
 
-own : (c : After-is_made-arg-2-1) → c.ticket-p.result.process ≡ c.args.segment.now.id.process
+own : (c : After-comes_next-arg-2-1) → c.ticket-p.result.process ≡ c.args.segment.now.id.process
 own c = ap (λ id. id.process) c.ticket-p.ensures
 
-tops : (c : After-is_made-arg-2-1) → AreTopsRunning c.self.inside.image
+tops : (c : After-comes_next-arg-2-1) → AreTopsRunning c.self.inside.image
 tops c = tops-of c.self.inside.image _ c.tops_are_running.ensures.running c.is_runnable.ensures.accepted c.is_runnable.ensures.main
 
-laws : (c : After-is_made-arg-2-1) → AreTurnsIn c.self.inside.image
+laws : (c : After-comes_next-arg-2-1) → AreTurnsIn c.self.inside.image
 laws c = turns-of c.self.inside.image _ c.private_steps_are_turns.ensures c.is_runnable.ensures.accepted c.is_runnable.ensures.main
 
-reads : (c : After-is_made-arg-2-1) → DependOnReads
+reads : (c : After-comes_next-arg-2-1) → DependOnReads
 reads c = record { kept = c.segments_depend_on_reads.ensures.kept; made = c.segments_depend_on_reads.ensures.made }
 
-seen : (c : After-is_made-arg-2-1) → AreSeen c.self.inside.image c.self.inside.cells
+seen : (c : After-comes_next-arg-2-1) → AreSeen c.self.inside.image c.self.inside.cells
 seen c choices n = c.views_are_of_states.ensures c.self.inside.image c.self.inside.cells choices n c.is_runnable.ensures.accepted c.is_runnable.ensures.main
 
-settled : (c : After-is_made-arg-2-1) → IsSettledIn c.self.inside c.args.segment.now.id.process c.settle.new.self
+settled : (c : After-comes_next-arg-2-1) → IsSettledIn c.self.inside c.args.segment.now.id.process c.settle.new.self
 settled c =
-    settled-by c.self.inside c.self.invariant c.args.self.now c.self.view_is c.requires.going c.args.segment.now.id.process c.requires.lives c.ticket-p.result.process (ap (λ id. id.process) c.ticket-p.ensures) c.settle.new.self c.settle.ensures.after c.settle.ensures.top
+    settled-by c.self.inside c.self.invariant c.args.self.now c.self.view_is c.requires.out.0 c.args.segment.now.id.process c.requires.out.1 c.ticket-p.result.process (ap (λ id. id.process) c.ticket-p.ensures) c.settle.new.self c.settle.ensures.after c.settle.ensures.top
     c.settle.ensures.made
 
-out : (c : After-is_made-arg-2-1) → IsOutBy (core_value c.self.inside) c.args.segment.now
-out c = out-in c.self.inside c.args.self.now c.args.segment.now c.self.view_is c.requires.going c.requires.lives c.requires.ticket
+out : (c : After-comes_next-arg-2-1) → IsOutBy (core_value c.self.inside) c.args.segment.now
+out c = out-in c.self.inside c.args.self.now c.args.segment.now c.self.view_is c.requires.out
 
-many : (c : After-is_made-arg-2-1) → length c.args.segment.now.records ≡ suc (length c.args.segment.now.records - 1)
+many : (c : After-comes_next-arg-2-1) → length c.args.segment.now.records ≡ suc (length c.args.segment.now.records - 1)
 many c = one-less (length c.args.segment.now.records) c.requires.some
 
 pub settle-requires : goal.settle-requires
-settle-requires c = turn-in c.self.inside c.self.invariant c.args.self.now c.self.view_is c.requires.going c.args.segment.now.id.process c.requires.lives c.ticket-p.result.process (ap (λ id. id.process) c.ticket-p.ensures)
+settle-requires c = turn-in c.self.inside c.self.invariant c.args.self.now c.self.view_is c.requires.out.0 c.args.segment.now.id.process c.requires.out.1 c.ticket-p.result.process (ap (λ id. id.process) c.ticket-p.ensures)
 
-pub is_made-requires : goal.is_made-requires
-is_made-requires c = (settled c).turn
+pub comes_next-requires-clause-turn : goal.comes_next-requires-clause-turn
+comes_next-requires-clause-turn c = (settled c).turn
+
+pub comes_next-requires-clause-known : goal.comes_next-requires-clause-known
+comes_next-requires-clause-known c = known-in c.self.inside c.args.self.now c.args.segment.now c.self.view_is c.args.known c.requires.known
 
 -- ---- the segment's steps don't come next
 
@@ -73,25 +76,25 @@ invariant_of-self c =
     let i = c.self.inside in
     let k = c.self.invariant in
     let q = c.args.segment.now.id.process in
-    let is = subst (IsSettledIn i q) (sym c.is_made.ensures.same) (settled (goal.at.invariant_of-self c).After-is_made-arg-2-1) in
-    left-kept i k i.history refl c.is_made.new.machine is.after i.roster (roll-same i.roster) (settled-room i k q c.is_made.new.machine is) i.saved i.stop k.named
+    let is = subst (IsSettledIn i q) (sym c.comes_next.ensures.same) (settled (goal.at.invariant_of-self c).After-comes_next-arg-2-1) in
+    left-kept i k i.history refl c.comes_next.new.machine is.after i.roster (roll-same i.roster) (settled-room i k q c.comes_next.new.machine is) i.saved i.stop k.named
 
-pub returns-then-not-is_made-clause-committed : goal.returns-then-not-is_made-clause-committed
-returns-then-not-is_made-clause-committed c =
+pub returns-then-not-comes_next-clause-committed : goal.returns-then-not-comes_next-clause-committed
+returns-then-not-comes_next-clause-committed c =
     let i = c.self.inside in
     let k = c.self.invariant in
     let s = c.args.segment.now in
-    let at = (goal.at.returns-then-not-is_made-clause-committed c).After-is_made-arg-2-1 in
-    let is = subst (IsSettledIn i s.id.process) (sym c.is_made.ensures.same) (settled at) in
-    let other = whether-next i s.id.process c.settle.new.self (settled at) (tops at) (reads at) s refl false c.if-not-is_made.ensures.made in
-    rw (← c.self.view_is) ((out at).0, not-good (placed_value i) s other, left-placed i k i.history refl c.is_made.new.machine is.after is.places (seen at) i.stop)
+    let at = (goal.at.returns-then-not-comes_next-clause-committed c).After-comes_next-arg-2-1 in
+    let is = subst (IsSettledIn i s.id.process) (sym c.comes_next.ensures.same) (settled at) in
+    let other = whether-next i s.id.process c.settle.new.self (settled at) (tops at) (reads at) s refl false c.if-not-comes_next.ensures.made in
+    rw (← c.self.view_is) ((out at).0, not-good (placed_value i) s other, left-placed i k i.history refl c.comes_next.new.machine is.after is.places (seen at) i.stop)
 
 -- ---- they do, and the history is full
 
-first-underway : (c : After-len-arg-1) → IsUnderway c.self.inside c.args.segment.now c.is_made.new.machine
+first-underway : (c : After-len-arg-1) → IsUnderway c.self.inside c.args.segment.now c.comes_next.new.machine
 first-underway c =
-    underway c.self.inside c.args.segment.now c.settle.new.self c.is_made.new.machine (settled-by c.self.inside c.self.invariant c.args.self.now c.self.view_is c.requires.going c.args.segment.now.id.process c.requires.lives c.ticket-p.result.process (ap (λ id. id.process) c.ticket-p.ensures) c.settle.new.self c.settle.ensures.after c.settle.ensures.top c.settle.ensures.made)
-    (tops-of c.self.inside.image _ c.tops_are_running.ensures.running c.is_runnable.ensures.accepted c.is_runnable.ensures.main) (record { kept = c.segments_depend_on_reads.ensures.kept; made = c.segments_depend_on_reads.ensures.made }) c.if-not-is_made.ensures.made c.is_made.ensures.same
+    underway c.self.inside c.args.segment.now c.settle.new.self c.comes_next.new.machine (settled-by c.self.inside c.self.invariant c.args.self.now c.self.view_is c.requires.out.0 c.args.segment.now.id.process c.requires.out.1 c.ticket-p.result.process (ap (λ id. id.process) c.ticket-p.ensures) c.settle.new.self c.settle.ensures.after c.settle.ensures.top c.settle.ensures.made)
+    (tops-of c.self.inside.image _ c.tops_are_running.ensures.running c.is_runnable.ensures.accepted c.is_runnable.ensures.main) (record { kept = c.segments_depend_on_reads.ensures.kept; made = c.segments_depend_on_reads.ensures.made }) c.if-not-comes_next.ensures.made c.comes_next.ensures.same
 
 pub invariant_of-self-then-self-len : goal.invariant_of-self-then-self-len
 invariant_of-self-then-self-len c =
@@ -100,7 +103,7 @@ invariant_of-self-then-self-len c =
     let at = goal.at.invariant_of-self-then-self-len c in
     let is = (first-underway at.After-len-arg-1).is in
     let full : length i.history.items ≡ i.limit = omega (arith, c.len.ensures.count, c.if-self-len.true, k.legal.within) in
-    left-kept i k i.history refl c.is_made.new.machine is.after i.roster (roll-same i.roster) (settled-room i k c.args.segment.now.id.process c.is_made.new.machine is) i.saved (Some StepLimit) ((out at.After-is_made-arg-2-1).0.1, full)
+    left-kept i k i.history refl c.comes_next.new.machine is.after i.roster (roll-same i.roster) (settled-room i k c.args.segment.now.id.process c.comes_next.new.machine is) i.saved (Some StepLimit) ((out at.After-comes_next-arg-2-1).0.1, full)
 
 pub returns-then-self-len-clause-committed : goal.returns-then-self-len-clause-committed
 returns-then-self-len-clause-committed c =
@@ -111,20 +114,20 @@ returns-then-self-len-clause-committed c =
     let now = first-underway at.After-len-arg-1 in
     let full : length i.history.items ≡ i.limit = omega (arith, c.len.ensures.count, c.if-self-len.true, k.legal.within) in
     rw (← c.self.view_is) (
-    answer-full i s (out at.After-is_made-arg-2-1) c.is_made.new.machine now.is (tops at.After-is_made-arg-2-1) (reads at.After-is_made-arg-2-1) now.made _ (many at.After-is_made-arg-2-1) _ full (
-    left-placed i k i.history refl c.is_made.new.machine now.is.after now.is.places (seen at.After-is_made-arg-2-1) (Some StepLimit)))
+    answer-full i s (out at.After-comes_next-arg-2-1) c.comes_next.new.machine now.is (tops at.After-comes_next-arg-2-1) (reads at.After-comes_next-arg-2-1) now.made _ (many at.After-comes_next-arg-2-1) _ full (
+    left-placed i k i.history refl c.comes_next.new.machine now.is.after now.is.places (seen at.After-comes_next-arg-2-1) (Some StepLimit)))
 
 -- ---- what its process has for itself is kept, and there is room for an entry
 
 pub keep-requires : goal.keep-requires
 keep-requires c =
     let at = goal.at.keep-requires c in
-    (subst (AreOwnCells c.self.inside.image) (sym c.deref.ensures.value) c.self.invariant.owned, subst (λ p. IsItsTurn c.self.inside.image p c.is_made.new.machine) (sym (own at.After-is_made-arg-2-1)) (first-underway at.After-len-arg-1).is.turn)
+    (subst (AreOwnCells c.self.inside.image) (sym c.deref.ensures.value) c.self.invariant.owned, subst (λ p. IsItsTurn c.self.inside.image p c.comes_next.new.machine) (sym (own at.After-comes_next-arg-2-1)) (first-underway at.After-len-arg-1).is.turn)
 
 kept-underway : (c : After-keep) → IsUnderway c.self.inside c.args.segment.now c.keep.new.machine
 kept-underway c =
-    underway c.self.inside c.args.segment.now c.settle.new.self c.keep.new.machine (settled-by c.self.inside c.self.invariant c.args.self.now c.self.view_is c.requires.going c.args.segment.now.id.process c.requires.lives c.ticket-p.result.process (ap (λ id. id.process) c.ticket-p.ensures) c.settle.new.self c.settle.ensures.after c.settle.ensures.top c.settle.ensures.made)
-    (tops-of c.self.inside.image _ c.tops_are_running.ensures.running c.is_runnable.ensures.accepted c.is_runnable.ensures.main) (record { kept = c.segments_depend_on_reads.ensures.kept; made = c.segments_depend_on_reads.ensures.made }) c.if-not-is_made.ensures.made (c.keep.ensures.same ∙ c.is_made.ensures.same)
+    underway c.self.inside c.args.segment.now c.settle.new.self c.keep.new.machine (settled-by c.self.inside c.self.invariant c.args.self.now c.self.view_is c.requires.out.0 c.args.segment.now.id.process c.requires.out.1 c.ticket-p.result.process (ap (λ id. id.process) c.ticket-p.ensures) c.settle.new.self c.settle.ensures.after c.settle.ensures.top c.settle.ensures.made)
+    (tops-of c.self.inside.image _ c.tops_are_running.ensures.running c.is_runnable.ensures.accepted c.is_runnable.ensures.main) (record { kept = c.segments_depend_on_reads.ensures.kept; made = c.segments_depend_on_reads.ensures.made }) c.if-not-comes_next.ensures.made (c.keep.ensures.same ∙ c.comes_next.ensures.same)
 
 room : (c : After-keep) → length c.self.inside.history.items < c.self.inside.limit
 room c = omega (arith, c.len.ensures.count, c.if-self-len.false)
@@ -144,8 +147,8 @@ returns-in_err-keep-clause-committed c =
     let now = kept-underway at.After-keep in
     let room : length i.history.items < i.limit = omega (arith, c.len.ensures.count, c.if-self-len.false) in
     rw (← c.self.view_is) (refused-so (placed_value i) s _ c.from_residual.result c.from_residual.ensures.1 (
-    answer-refused i s (out at.After-is_made-arg-2-1) c.keep.new.machine now.is (tops at.After-is_made-arg-2-1) (reads at.After-is_made-arg-2-1) now.made _ (many at.After-is_made-arg-2-1) room _ (
-    left-placed i c.self.invariant i.history refl c.keep.new.machine now.is.after now.is.places (seen at.After-is_made-arg-2-1) i.stop)))
+    answer-refused i s (out at.After-comes_next-arg-2-1) c.keep.new.machine now.is (tops at.After-comes_next-arg-2-1) (reads at.After-comes_next-arg-2-1) now.made _ (many at.After-comes_next-arg-2-1) room _ (
+    left-placed i c.self.invariant i.history refl c.keep.new.machine now.is.after now.is.places (seen at.After-comes_next-arg-2-1) i.stop)))
 
 pub invariant_of-self-in_err-reserve : goal.invariant_of-self-in_err-reserve
 invariant_of-self-in_err-reserve c =
@@ -162,8 +165,8 @@ returns-in_err-reserve-clause-committed c =
     let now = kept-underway at.After-keep in
     let room : length i.history.items < i.limit = omega (arith, c.len.ensures.count, c.if-self-len.false) in
     rw (← c.self.view_is) (refused-so (placed_value i) s _ c.from_residual-in_err-reserve.result c.from_residual-in_err-reserve.ensures.1 (
-    answer-refused i s (out at.After-is_made-arg-2-1) c.keep.new.machine now.is (tops at.After-is_made-arg-2-1) (reads at.After-is_made-arg-2-1) now.made _ (many at.After-is_made-arg-2-1) room _ (
-    left-placed i c.self.invariant c.reserve.new.self c.reserve.ensures.items c.keep.new.machine now.is.after now.is.places (seen at.After-is_made-arg-2-1) i.stop)))
+    answer-refused i s (out at.After-comes_next-arg-2-1) c.keep.new.machine now.is (tops at.After-comes_next-arg-2-1) (reads at.After-comes_next-arg-2-1) now.made _ (many at.After-comes_next-arg-2-1) room _ (
+    left-placed i c.self.invariant c.reserve.new.self c.reserve.ensures.items c.keep.new.machine now.is.after now.is.places (seen at.After-comes_next-arg-2-1) i.stop)))
 
 -- ---- the steps are made and noted
 
@@ -191,7 +194,7 @@ many-noted : (c : After-is_next_private-arg-1) → length c.records.result.now �
 many-noted c = ap (λ rs. length rs) c.records.ensures.records ∙ one-less (length c.args.segment.now.records) c.requires.some
 
 out-then : (c : After-is_next_private-arg-1) → IsOutBy (core_value c.self.inside) c.args.segment.now
-out-then c = out-in c.self.inside c.args.self.now c.args.segment.now c.self.view_is c.requires.going c.requires.lives c.requires.ticket
+out-then c = out-in c.self.inside c.args.self.now c.args.segment.now c.self.view_is c.requires.out
 
 tops-then : (c : After-is_next_private-arg-1) → AreTopsRunning c.self.inside.image
 tops-then c = tops-of c.self.inside.image _ c.tops_are_running.ensures.running c.is_runnable.ensures.accepted c.is_runnable.ensures.main
@@ -201,8 +204,8 @@ reads-then c = record { kept = c.segments_depend_on_reads.ensures.kept; made = c
 
 now-then : (c : After-is_next_private-arg-1) → IsUnderway c.self.inside c.args.segment.now c.keep.new.machine
 now-then c =
-    underway c.self.inside c.args.segment.now c.settle.new.self c.keep.new.machine (settled-by c.self.inside c.self.invariant c.args.self.now c.self.view_is c.requires.going c.args.segment.now.id.process c.requires.lives c.ticket-p.result.process (ap (λ id. id.process) c.ticket-p.ensures) c.settle.new.self c.settle.ensures.after c.settle.ensures.top c.settle.ensures.made)
-    (tops-of c.self.inside.image _ c.tops_are_running.ensures.running c.is_runnable.ensures.accepted c.is_runnable.ensures.main) (record { kept = c.segments_depend_on_reads.ensures.kept; made = c.segments_depend_on_reads.ensures.made }) c.if-not-is_made.ensures.made (c.keep.ensures.same ∙ c.is_made.ensures.same)
+    underway c.self.inside c.args.segment.now c.settle.new.self c.keep.new.machine (settled-by c.self.inside c.self.invariant c.args.self.now c.self.view_is c.requires.out.0 c.args.segment.now.id.process c.requires.out.1 c.ticket-p.result.process (ap (λ id. id.process) c.ticket-p.ensures) c.settle.new.self c.settle.ensures.after c.settle.ensures.top c.settle.ensures.made)
+    (tops-of c.self.inside.image _ c.tops_are_running.ensures.running c.is_runnable.ensures.accepted c.is_runnable.ensures.main) (record { kept = c.segments_depend_on_reads.ensures.kept; made = c.segments_depend_on_reads.ensures.made }) c.if-not-comes_next.ensures.made (c.keep.ensures.same ∙ c.comes_next.ensures.same)
 
 room-then : (c : After-is_next_private-arg-1) → length c.self.inside.history.items < c.self.inside.limit
 room-then c = omega (arith, c.len.ensures.count, c.if-self-len.false)
@@ -250,7 +253,7 @@ invariant_of-self-then-is_next_private c =
     let i = c.self.inside in
     let k = c.self.invariant in
     let at = goal.at.invariant_of-self-then-is_next_private c in
-    let b = at.After-is_made-arg-2-1 in
+    let b = at.After-comes_next-arg-2-1 in
     let z = at.After-is_next_private-arg-1 in
     let m = c.is_next_private.new.machine in
     let t = asked z m c.is_next_private.ensures.same in
@@ -264,7 +267,7 @@ returns-then-is_next_private-clause-committed c =
     let k = c.self.invariant in
     let s = c.args.segment.now in
     let at = goal.at.returns-then-is_next_private-clause-committed c in
-    let b = at.After-is_made-arg-2-1 in
+    let b = at.After-comes_next-arg-2-1 in
     let z = at.After-is_next_private-arg-1 in
     let m = c.is_next_private.new.machine in
     let private = whether z (kept-underway at.After-keep) true c.if-is_next_private.ensures.private in
@@ -281,7 +284,7 @@ turn-requires c =
     let k = c.self.invariant in
     let q = c.args.segment.now.id.process in
     let at = goal.at.turn-requires c in
-    let b = at.After-is_made-arg-2-1 in
+    let b = at.After-comes_next-arg-2-1 in
     let z = at.After-is_next_private-arg-1 in
     let m = c.is_next_private.new.machine in
     let t = asked z m c.is_next_private.ensures.same in
@@ -296,7 +299,7 @@ pub invariant_of-self-in-Waits : goal.invariant_of-self-in-Waits
 invariant_of-self-in-Waits c =
     let i = c.self.inside in
     let at = goal.at.invariant_of-self-in-Waits c in
-    let b = at.After-is_made-arg-2-1 in
+    let b = at.After-comes_next-arg-2-1 in
     let z = at.After-is_next_private-arg-1 in
     let m = c.is_next_private.new.machine in
     let t = asked z m c.is_next_private.ensures.same in
@@ -313,7 +316,7 @@ returns-in-Waits-clause-committed c =
     let i = c.self.inside in
     let s = c.args.segment.now in
     let at = goal.at.returns-in-Waits-clause-committed c in
-    let b = at.After-is_made-arg-2-1 in
+    let b = at.After-comes_next-arg-2-1 in
     let z = at.After-is_next_private-arg-1 in
     let m = c.is_next_private.new.machine in
     let t = asked z m c.is_next_private.ensures.same in
@@ -333,7 +336,7 @@ invariant_of-self-in-Err-ArenaFull c =
     let i = c.self.inside in
     let k = c.self.invariant in
     let at = goal.at.invariant_of-self-in-Err-ArenaFull c in
-    let b = at.After-is_made-arg-2-1 in
+    let b = at.After-comes_next-arg-2-1 in
     let z = at.After-is_next_private-arg-1 in
     let m = c.is_next_private.new.machine in
     let t = asked z m c.is_next_private.ensures.same in
@@ -348,7 +351,7 @@ returns-in-Err-ArenaFull-clause-committed c =
     let i = c.self.inside in
     let s = c.args.segment.now in
     let at = goal.at.returns-in-Err-ArenaFull-clause-committed c in
-    let b = at.After-is_made-arg-2-1 in
+    let b = at.After-comes_next-arg-2-1 in
     let z = at.After-is_next_private-arg-1 in
     let m = c.is_next_private.new.machine in
     let t = asked z m c.is_next_private.ensures.same in
@@ -405,7 +408,7 @@ invariant_of-self-in_default c =
     let k = c.self.invariant in
     let s = c.args.segment.now in
     let at = goal.at.invariant_of-self-in_default c in
-    let b = at.After-is_made-arg-2-1 in
+    let b = at.After-comes_next-arg-2-1 in
     let z = at.After-is_next_private-arg-1 in
     let m = c.is_next_private.new.machine in
     let t = asked z m c.is_next_private.ensures.same in
@@ -425,7 +428,7 @@ returns-in_default-clause-committed c =
     let k = c.self.invariant in
     let s = c.args.segment.now in
     let at = goal.at.returns-in_default-clause-committed c in
-    let b = at.After-is_made-arg-2-1 in
+    let b = at.After-comes_next-arg-2-1 in
     let z = at.After-is_next_private-arg-1 in
     let m = c.is_next_private.new.machine in
     let t = asked z m c.is_next_private.ensures.same in
@@ -447,14 +450,14 @@ pub put_back-requires : goal.put_back-requires
 put_back-requires c =
     let i = c.self.inside in
     let at = goal.at.put_back-requires c in
-    let b = at.After-is_made-arg-2-1 in
+    let b = at.After-comes_next-arg-2-1 in
     let z = at.After-is_next_private-arg-1 in
     let m = c.is_next_private.new.machine in
     let now = kept-underway at.After-keep in
     let t = asked z m c.is_next_private.ensures.same in
     let left-alone = subst (λ p. LeavesAlone i.image c.note.new.history.items p m c.turn.new.self) (own b) c.in-Err-NoMemory.ensures.refused in
     let from = subst (HasTakenIn c.args.segment.now c.keep.new.machine) (sym c.is_next_private.ensures.same) c.take_private.ensures.taken in
-    let kept = saved-for i.image c.ticket-p.result.process c.args.segment.now.id.process c.is_made.new.machine c.keep.new.machine (saved_in c.keep.new.self) (own b) c.keep.ensures.same c.in_ok-keep.ensures.kept now.is.turn.living in
+    let kept = saved-for i.image c.ticket-p.result.process c.args.segment.now.id.process c.comes_next.new.machine c.keep.new.machine (saved_in c.keep.new.self) (own b) c.keep.ensures.same c.in_ok-keep.ensures.kept now.is.turn.living in
     let turn = turn-there c.lists_go_along_with_steps.ensures i c.self.invariant c.args.segment.now (out b) c.keep.new.machine now (tops b) (reads b) _ (many b) (room at.After-keep) (few-enough z) m t c.note.new.history.items (entry z) c.restored_machines_are_as_before.ensures from c.turn.new.self left-alone in
     let fits = room-there c.lists_go_along_with_steps.ensures i c.self.invariant c.args.segment.now (out b) c.keep.new.machine now (tops b) (reads b) _ (many b) (room at.After-keep) (few-enough z) m t c.note.new.history.items (entry z) c.restored_machines_are_as_before.ensures from c.turn.new.self left-alone (saved_in c.keep.new.self) kept in
     let tables = subst (AreOwnCells i.image) (sym c.deref.ensures.value) c.self.invariant.owned in
@@ -466,14 +469,14 @@ invariant_of-self-in-Err-NoMemory c =
     let k = c.self.invariant in
     let s = c.args.segment.now in
     let at = goal.at.invariant_of-self-in-Err-NoMemory c in
-    let b = at.After-is_made-arg-2-1 in
+    let b = at.After-comes_next-arg-2-1 in
     let z = at.After-is_next_private-arg-1 in
     let m = c.is_next_private.new.machine in
     let now = kept-underway at.After-keep in
     let t = asked z m c.is_next_private.ensures.same in
     let left-alone = subst (λ p. LeavesAlone i.image c.note.new.history.items p m c.turn.new.self) (own b) c.in-Err-NoMemory.ensures.refused in
     let from = subst (HasTakenIn s c.keep.new.machine) (sym c.is_next_private.ensures.same) c.take_private.ensures.taken in
-    let kept = saved-for i.image c.ticket-p.result.process s.id.process c.is_made.new.machine c.keep.new.machine (saved_in c.keep.new.self) (own b) c.keep.ensures.same c.in_ok-keep.ensures.kept now.is.turn.living in
+    let kept = saved-for i.image c.ticket-p.result.process s.id.process c.comes_next.new.machine c.keep.new.machine (saved_in c.keep.new.self) (own b) c.keep.ensures.same c.in_ok-keep.ensures.kept now.is.turn.living in
     let put = subst (λ p. HasRestored i.image p (saved_in c.keep.new.self) c.turn.new.self c.put_back.new.machine) (own b) c.put_back.ensures.restored in
     let after = restored-after c.lists_go_along_with_steps.ensures i k s (out b) c.keep.new.machine now (tops b) (reads b) _ (many b) (room at.After-keep) (few-enough z) m t c.note.new.history.items (entry z) c.restored_machines_are_as_before.ensures from c.turn.new.self left-alone (saved_in c.keep.new.self) kept c.put_back.new.machine put c.put_back.ensures.rooms in
     let items = popped i.history.items c.turn.new.history.items c.pop.new.self.items s.id.process _ c.pop.result (c.turn.ensures.entry.entries ∙ entry z) c.pop.ensures.items in
@@ -486,14 +489,14 @@ returns-in-Err-NoMemory-clause-committed c =
     let k = c.self.invariant in
     let s = c.args.segment.now in
     let at = goal.at.returns-in-Err-NoMemory-clause-committed c in
-    let b = at.After-is_made-arg-2-1 in
+    let b = at.After-comes_next-arg-2-1 in
     let z = at.After-is_next_private-arg-1 in
     let m = c.is_next_private.new.machine in
     let now = kept-underway at.After-keep in
     let t = asked z m c.is_next_private.ensures.same in
     let left-alone = subst (λ p. LeavesAlone i.image c.note.new.history.items p m c.turn.new.self) (own b) c.in-Err-NoMemory.ensures.refused in
     let from = subst (HasTakenIn s c.keep.new.machine) (sym c.is_next_private.ensures.same) c.take_private.ensures.taken in
-    let kept = saved-for i.image c.ticket-p.result.process s.id.process c.is_made.new.machine c.keep.new.machine (saved_in c.keep.new.self) (own b) c.keep.ensures.same c.in_ok-keep.ensures.kept now.is.turn.living in
+    let kept = saved-for i.image c.ticket-p.result.process s.id.process c.comes_next.new.machine c.keep.new.machine (saved_in c.keep.new.self) (own b) c.keep.ensures.same c.in_ok-keep.ensures.kept now.is.turn.living in
     let put = subst (λ p. HasRestored i.image p (saved_in c.keep.new.self) c.turn.new.self c.put_back.new.machine) (own b) c.put_back.ensures.restored in
     let after = restored-after c.lists_go_along_with_steps.ensures i k s (out b) c.keep.new.machine now (tops b) (reads b) _ (many b) (room at.After-keep) (few-enough z) m t c.note.new.history.items (entry z) c.restored_machines_are_as_before.ensures from c.turn.new.self left-alone (saved_in c.keep.new.self) kept c.put_back.new.machine put c.put_back.ensures.rooms in
     let items = popped i.history.items c.turn.new.history.items c.pop.new.self.items s.id.process _ c.pop.result (c.turn.ensures.entry.entries ∙ entry z) c.pop.ensures.items in
@@ -565,7 +568,7 @@ returns-in_default-clause-others c =
     let s = c.args.segment.now in
     let q = s.id.process in
     let at = goal.at.returns-in_default-clause-others c in
-    let b = at.After-is_made-arg-2-1 in
+    let b = at.After-comes_next-arg-2-1 in
     let z = at.After-is_next_private-arg-1 in
     let m = c.is_next_private.new.machine in
     let same = c.is_next_private.ensures.same in

@@ -3,15 +3,18 @@ use Rattle.hep_core.specs.Commits.{IsWhetherNext}
 use Rattle.hep_core.specs.Places.{Placed}
 use Rattle.hep_core.proofs.Behind.{left-kept, roll-same, settled-room}
 use Rattle.hep_core.proofs.Committing.{IsSettledIn, tops-of, whether-next}
-use Rattle.hep_core.proofs.Underway.{left-placed, settled-by, turn-in}
+use Rattle.hep_core.proofs.Underway.{known-in, left-placed, settled-by, turn-in}
 use Rattle.hep_core.proofs.scheduler.Core.is_next.Goals as goal
 
 pub settle-requires : goal.settle-requires
 settle-requires c = turn-in c.self.inside c.self.invariant c.args.self.now c.self.view_is c.requires.going c.args.segment.now.id.process c.requires.lives c.ticket.result.process (ap (λ id. id.process) c.ticket.ensures)
 
-pub is_made-requires : goal.is_made-requires
-is_made-requires c =
+pub comes_next-requires-clause-turn : goal.comes_next-requires-clause-turn
+comes_next-requires-clause-turn c =
     (settled-by c.self.inside c.self.invariant c.args.self.now c.self.view_is c.requires.going c.args.segment.now.id.process c.requires.lives c.ticket.result.process (ap (λ id. id.process) c.ticket.ensures) c.settle.new.self c.settle.ensures.after c.settle.ensures.top c.settle.ensures.made).turn
+
+pub comes_next-requires-clause-known : goal.comes_next-requires-clause-known
+comes_next-requires-clause-known c = known-in c.self.inside c.args.self.now c.args.segment.now c.self.view_is c.args.known c.requires.known
 
 pub invariant_of-self : goal.invariant_of-self
 invariant_of-self c =
@@ -19,8 +22,8 @@ invariant_of-self c =
     let k = c.self.invariant in
     let q = c.args.segment.now.id.process in
     let first = settled-by i k c.args.self.now c.self.view_is c.requires.going q c.requires.lives c.ticket.result.process (ap (λ id. id.process) c.ticket.ensures) c.settle.new.self c.settle.ensures.after c.settle.ensures.top c.settle.ensures.made in
-    let is = subst (IsSettledIn i q) (sym c.is_made.ensures.same) first in
-    left-kept i k i.history refl c.is_made.new.machine is.after i.roster (roll-same i.roster) (settled-room i k q c.is_made.new.machine is) i.saved i.stop k.named
+    let is = subst (IsSettledIn i q) (sym c.comes_next.ensures.same) first in
+    left-kept i k i.history refl c.comes_next.new.machine is.after i.roster (roll-same i.roster) (settled-room i k q c.comes_next.new.machine is) i.saved i.stop k.named
 
 pub returns-clause-next : goal.returns-clause-next
 returns-clause-next c =
@@ -29,8 +32,8 @@ returns-clause-next c =
     let first =
     settled-by i c.self.invariant c.args.self.now c.self.view_is c.requires.going s.id.process c.requires.lives c.ticket.result.process (ap (λ id. id.process) c.ticket.ensures) c.settle.new.self c.settle.ensures.after c.settle.ensures.top c.settle.ensures.made in
     let tops = tops-of i.image _ c.tops_are_running.ensures.running c.is_runnable.ensures.accepted c.is_runnable.ensures.main in
-    subst (λ (v : Placed). IsWhetherNext c.is_made.result v s) c.self.view_is (
-    whether-next i s.id.process c.settle.new.self first tops (record { kept = c.segments_depend_on_reads.ensures.kept; made = c.segments_depend_on_reads.ensures.made }) s refl c.is_made.result c.is_made.ensures.made)
+    subst (λ (v : Placed). IsWhetherNext c.comes_next.result v s) c.self.view_is (
+    whether-next i s.id.process c.settle.new.self first tops (record { kept = c.segments_depend_on_reads.ensures.kept; made = c.segments_depend_on_reads.ensures.made }) s refl c.comes_next.result c.comes_next.ensures.made)
 
 pub returns-clause-same : goal.returns-clause-same
 returns-clause-same c =
@@ -38,5 +41,5 @@ returns-clause-same c =
     let k = c.self.invariant in
     let q = c.args.segment.now.id.process in
     let first = settled-by i k c.args.self.now c.self.view_is c.requires.going q c.requires.lives c.ticket.result.process (ap (λ id. id.process) c.ticket.ensures) c.settle.new.self c.settle.ensures.after c.settle.ensures.top c.settle.ensures.made in
-    let is = subst (IsSettledIn i q) (sym c.is_made.ensures.same) first in
-    left-placed i k i.history refl c.is_made.new.machine is.after is.places (λ choices n. c.views_are_of_states.ensures i.image i.cells choices n c.is_runnable.ensures.accepted c.is_runnable.ensures.main) i.stop ∙ c.self.view_is
+    let is = subst (IsSettledIn i q) (sym c.comes_next.ensures.same) first in
+    left-placed i k i.history refl c.comes_next.new.machine is.after is.places (λ choices n. c.views_are_of_states.ensures i.image i.cells choices n c.is_runnable.ensures.accepted c.is_runnable.ensures.main) i.stop ∙ c.self.view_is

@@ -3,6 +3,7 @@ use Rattle.hep_code.specs.Words.{deepest}
 use Rattle.hep_step.specs.Simulation.{unit_code}
 use Rattle.hep_proc.specs.declared.process.Local.{Local}
 use Rattle.hep_proc.specs.declared.process.Process.{Process}
+use Rattle.hep_proc.specs.Nodes.{nodes_of}
 use Rattle.hep_proc.specs.Stacks.{Stack, stack_of}
 use Rattle.hep_state.specs.declared.machine.Machine.{Machine}
 use Rattle.hep_state.specs.Words.{HasRoom, snapshot_of, stacks_of}
@@ -15,8 +16,9 @@ use Rattle.hep_state.proofs.machine.Machine.part.Goals as goal
 pub place-at-requires : goal.place-at-requires
 place-at-requires c = record { numbers = c.requires.numbers; living = c.requires.levels }
 
-pub end_top-level-requires : goal.end_top-level-requires
-end_top-level-requires c = some-levels-at (process-at c.args.self.now c.args.p c.requires.numbers c.place-at.ensures c.requires.levels.kept c.index_mut.ensures.value)
+pub leave-level-requires : goal.leave-level-requires
+leave-level-requires c =
+    record { some = some-levels-at (process-at c.args.self.now c.args.p c.requires.numbers c.place-at.ensures c.requires.levels.kept c.index_mut-parting.ensures.value); out = tt }
 
 -- the process that is made, and its one level
 module _ (c : After-admit) where
@@ -24,7 +26,7 @@ module _ (c : After-admit) where
   made = record c.args.process { levels = c.append.new.items }
 
   abbrev pub level : Local
-  level = record c.end_top-level.result { index = c.args.index }
+  level = record c.leave-level.result { index = c.args.index }
 
   pub alone : made.levels.items ≡ level ∷ []
   alone = c.append.ensures ∙ ap (λ (ls : List Local). ls ++ level ∷ []) c.requires.empty.0
@@ -32,26 +34,27 @@ module _ (c : After-admit) where
 pub returns-clause-parted : goal.returns-clause-parted
 returns-clause-parted c levels =
     let old = c.args.self.now in
-    let r = c.end_top-level.new.self in
-    let it = process-at old c.args.p c.requires.numbers c.place-at.ensures levels.kept c.index_mut.ensures.value in
-    let same = c.end_top-level.ensures.level levels.level levels.below levels.operands levels.pending it.stack in
-    let same_number = c.end_top-level.ensures.number in
-    let own = stacks-set old c.args.p r (record { levels = levels.below; operands = []; pending = levels.pending }) c.requires.numbers it same_number (c.end_top-level.ensures.stack levels.level levels.below levels.operands levels.pending it.stack) in
+    let r = c.leave-level.new.process in
+    let it = process-at old c.args.p c.requires.numbers c.place-at.ensures levels.kept c.index_mut-parting.ensures.value in
+    let same = c.leave-level.ensures.level levels.level levels.below levels.operands levels.pending it.stack in
+    let same_number = c.leave-level.ensures.number in
+    let own = stacks-set old c.args.p r (record { levels = levels.below; operands = []; pending = levels.pending }) c.requires.numbers it same_number (c.leave-level.ensures.stack levels.level levels.below levels.operands levels.pending it.stack) in
     let last : Stack = record { levels = record levels.level { index = c.args.index } ∷ []; operands = []; pending = [] } in
     let fresh : stack_of (made c) ≡ last =
     λ i. record { levels = (ap reverse (alone c) ∙ ap (λ (l : Local). record l { index = c.args.index } ∷ []) same) i; operands = c.requires.empty.1 i; pending = c.requires.empty.2 i } in
     let rest = slice_set old.processes.items c.place-at.result r in
     let stacks = (λ i. stacks_of (c.admit.ensures.added i) (c.admit.ensures.made i)) ∙ (more-stacks rest old.made (made c) last (numbered-set old c.args.p r c.requires.numbers it same_number) c.requires.next fresh ∙ ap (λ (ks : List Stack). ks ++ last ∷ []) own) in
-    ap snapshot_of c.admit.ensures.others ∙ (λ i. record (snapshot_of old) { processes = stacks i })
+    let frames = c.leave-level.ensures.frames in
+    ap snapshot_of c.admit.ensures.others ∙ (λ i. record (snapshot_of old) { arena = (frames i).arena; nodes = nodes_of (frames i).nodes; processes = stacks i })
 
 pub returns-clause-rooms : goal.returns-clause-rooms
 returns-clause-rooms c program cells h levels deep =
     let old = c.args.self.now in
-    let q = c.index_mut.result.now in
-    let r = c.end_top-level.new.self in
-    let it = process-at old c.args.p c.requires.numbers c.place-at.ensures levels.kept c.index_mut.ensures.value in
-    let same = c.end_top-level.ensures.level levels.level levels.below levels.operands levels.pending it.stack in
-    let others = all-set (HasRoom program) old.processes.items c.place-at.result r h.room (room-fewer program q r c.end_top-level.result c.end_top-level.ensures.fewer (omega (arith, c.end_top-level.ensures.capacity)) (h.room c.place-at.result q it.there)) in
+    let q = c.index_mut-parting.result.now in
+    let r = c.leave-level.new.process in
+    let it = process-at old c.args.p c.requires.numbers c.place-at.ensures levels.kept c.index_mut-parting.ensures.value in
+    let same = c.leave-level.ensures.level levels.level levels.below levels.operands levels.pending it.stack in
+    let others = all-set (HasRoom program) old.processes.items c.place-at.result r h.room (room-fewer program q r c.leave-level.result c.leave-level.ensures.fewer c.leave-level.ensures.capacity (h.room c.place-at.result q it.there)) in
     let enough : deepest (unit_code program (level c).unit) ≤ vec_capacity (made c).operands = omega (arith, ap (λ (l : Local). deepest (unit_code program l.unit)) same, deep) in
     rooms-more program cells old c.admit.new.self (slice_set old.processes.items c.place-at.result r) (made c) c.admit.ensures.added c.admit.ensures.made c.requires.next (ap (λ (m : Machine). m.passing) c.admit.ensures.others)
-    (numbered-set old c.args.p r c.requires.numbers it c.end_top-level.ensures.number) others (room-alone program (made c) (level c) (alone c) enough) h
+    (numbered-set old c.args.p r c.requires.numbers it c.leave-level.ensures.number) others (room-alone program (made c) (level c) (alone c) enough) h

@@ -1,0 +1,10 @@
+pub mod Deeds
+pub mod Progress
+pub use Rattle.hep_reading.specs.Records
+pub use Rattle.hep_reading.specs.Own
+pub use Rattle.hep_reading.specs.Recorded
+pub use Rattle.hep_reading.specs.Reads
+pub use Rattle.hep_reading.specs.Record
+pub use Rattle.hep_reading.specs.Bases
+pub use Rattle.hep_reading.specs.Stores
+pub use Rattle.hep_reading.specs.declared.copied.Copied

@@ -1,0 +1,18 @@
+use Rattle.std.proofs.Common.{◌≡◌, ◌∙◌, true≢false, refl, sym, ap}
+use Rattle.hep_core.specs.Tickets.{has_ticket}
+use Rattle.hep_core.proofs.Beside.{committed-good}
+use Rattle.hep_core.proofs.scheduler.Core.commit_by.Goals as goal
+
+pub returns-then-not-has_ticket-clause-committed : goal.returns-then-not-has_ticket-clause-committed
+returns-then-not-has_ticket-clause-committed c = (
+  c.in_default.ensures.none,
+  (λ good. true≢false (sym good.1.0.2 ∙ (ap (λ id. has_ticket id c.args.self.now.core.out) (sym c.ticket.ensures) ∙ sym c.if-not-has_ticket.ensures.ticket))),
+  refl,
+)
+
+pub returns-then-is_empty-clause-kept : goal.returns-then-is_empty-clause-kept
+returns-then-is_empty-clause-kept c =
+    committed-good c.args.self.now c.args.segment.now c.commit_alone.result c.commit_alone.new.self c.commit_alone.ensures.committed c.commit_alone.ensures.others
+
+pub returns-clause-kept : goal.returns-clause-kept
+returns-clause-kept c = committed-good c.args.self.now c.args.segment.now c.commit_behind.result c.commit_behind.new.self c.commit_behind.ensures.committed c.commit_behind.ensures.others

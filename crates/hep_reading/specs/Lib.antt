@@ -1,0 +1,9 @@
+pub mod Records
+pub mod Bases
+pub mod Stored
+pub mod Stores
+pub mod Recent
+pub use Rattle.hep_private.specs.Own
+pub use Rattle.hep_private.specs.Recorded
+pub use Rattle.hep_private.specs.Reads
+pub use Rattle.hep_private.specs.declared.record.Record

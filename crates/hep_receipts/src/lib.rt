@@ -1,0 +1,8 @@
+//! The turn of a worker, under the lock of the core that it shares with others, and what it notes of it.
+#![tactic(auto)]
+
+mod receipt;
+mod turn;
+
+pub use receipt::{Log, Receipt};
+pub use turn::worker_turn;

@@ -1,0 +1,10 @@
+//! As many private steps as are asked for.
+#![tactic(auto)]
+
+pub mod taking;
+
+pub use hep_advancing::{
+    Base, Copied, MOST_RECORDS, Operands, Progress, Record, Records, Source, assign, deed_behind,
+    has_room, private_steps_depend_on_reads,
+};
+pub use taking::{take_steps, unit_of};

@@ -1,0 +1,2 @@
+mod Shared
+mod Reasons

@@ -1,0 +1,20 @@
+use Rattle.std.proofs.Common.{◌∙◌}
+use Rattle.std.proofs.Math.Logic.{∥∥₁_map}
+use Rattle.hep_receipts.specs.Shared.{cancelled}
+use Rattle.hep_receipts.proofs.Shared.{of-one-run}
+use Rattle.hep_workers.proofs.Shared.{here}
+use Rattle.hep_workers.proofs.tied.Tied.cancel.Goals as goal
+
+pub invariant_of-self : goal.invariant_of-self
+invariant_of-self g c =
+    let was = c.args.self.now in
+    let id = c.args.ticket.now.id in
+    let new = c.cancel.new.self in
+    let call = c.cancel.ensures.cancelled in
+    let one = of-one-run was.core.core new (cancelled was.core new id c.cancel.result (here was.core) call) in
+    record {
+      program = one.program ∙ was.program;
+      cells = one.cells ∙ was.cells;
+      limit = one.limit ∙ was.limit;
+      shared = ∥∥₁_map was.shared (λ before. cancelled was.core new id c.cancel.result before call);
+    }
