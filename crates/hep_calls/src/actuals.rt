@@ -10,7 +10,7 @@ use hep_source::{Expr, Name, Node, ValueType};
 use hep_types::{KnownType, type_of_tree};
 
 /// What an actual argument is (15.9.2).
-#[derive(Clone, Copy, PartialEq, Eq)]
+#[derive(Clone, Copy)]
 pub enum ActualClass {
     /// An expression; the name of a constant is one. Its type is open where it is the name of a function (309).
     Value(KnownType),

@@ -74,7 +74,12 @@ pub(crate) fn are_references_given(
 ) -> bool
     ensures { result ≡ list_all (conditions.is_reference_given (function_types program.now) symbols.now) (map listed references.now) }
 {
-    references.iter().all(|reference| is_reference_given(program, symbols, reference))
+    for reference in references {
+        if !is_reference_given(program, symbols, reference) {
+            return false;
+        }
+    }
+    true
 }
 
 /// What is purged is an asynchronous variable, array or element, and no named constant.
@@ -90,7 +95,12 @@ pub fn is_purgeable(symbols: &Symbols, target: &Target) -> bool
 fn are_purgeable(symbols: &Symbols, targets: &[Target]) -> bool
     ensures { result ≡ list_all (passes.is_purgeable symbols.now) targets.now }
 {
-    targets.iter().all(|target| is_purgeable(symbols, target))
+    for target in targets {
+        if !is_purgeable(symbols, target) {
+            return false;
+        }
+    }
+    true
 }
 
 // A statement purges nothing else.

@@ -6,3 +6,4 @@ pub mod Crossed
 pub mod Alone
 pub mod Ahead
 pub mod Looped
+pub mod Pushed

@@ -9,13 +9,24 @@ use std::alloc::{AllocError, Global};
 use std::marker::Model;
 
 /// A block IF: where it begins, its ELSE IF and ELSE statements, and its END IF, if any.
-#[derive(Drop)]
 pub(crate) struct BlockIf {
     pub start: usize,
     // The first one first.
     pub divisions: Vec<usize>,
     pub has_else: bool,
     pub end: Option<usize>,
+}
+
+// Written out, so that a caller's proof has one call of it at each exit.
+impl Drop for BlockIf {
+    fn drop(self) {
+        let BlockIf {
+            start,
+            divisions,
+            has_else,
+            end,
+        } = self;
+    }
 }
 
 /// The block IFs of the statements that were read, and the statements that fit none. Contracts see

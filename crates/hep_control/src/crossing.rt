@@ -24,7 +24,10 @@ use std::alloc::{AllocError, Global};
 pub(crate) fn line_at(unit: &[Statement], index: usize) -> u32
     ensures { result ≡ units.line_at unit.now index }
 {
-    unit.get(index).map_or(0, |statement| statement.line)
+    match unit.get(index) {
+        Some(statement) => statement.line,
+        None => 0,
+    }
 }
 
 // The least line of a DO or a block IF that isn't nested in the ranges and blocks around it.
@@ -61,11 +64,11 @@ pub(crate) fn add_crossing(
 {
     let closed = blocks.closed();
     let crossed = events_of_ranges(alloc, unit, ranges)?;
-    let by_block = events_of_blocks(alloc, unit, ranges, closed)?;
-    let by_range = events_in_blocks(alloc, unit, ranges, closed)?;
     add_met(lines, alloc, crossed)?;
     add_shared(lines, alloc, unit, ranges)?;
+    let by_block = events_of_blocks(alloc, unit, ranges, closed)?;
     add_met(lines, alloc, by_block)?;
+    let by_range = events_in_blocks(alloc, unit, ranges, closed)?;
     add_met(lines, alloc, by_range)?;
     Ok(())
 }
@@ -79,14 +82,23 @@ fn events_of_ranges(
     ensures { IfOk result (λ events. events.items ≡ map spec.value_of_range ranges.now
         ++ map (spec.question_of_range unit.now) ranges.now) }
 {
-    let values = ranges
-        .iter()
-        .map(|range| value(range.start, range.terminal));
-    let questions = ranges.iter().map(|range| {
-        let line = line_at(unit, range.start);
-        question(range.start, range.start, range.terminal, line)
-    });
-    values.chain(questions).collect(alloc)
+    let mut events = Vec::new(alloc);
+    add_ranges(&mut events, ranges)?;
+    for range in ranges {
+        let (start, terminal) = (range.start, range.terminal);
+        events.push(question(start, start, terminal, line_at(unit, start)))?;
+    }
+    Ok(events)
+}
+
+// Adds where the ranges begin and end.
+fn add_ranges(events: &mut Vec<Event>, ranges: &[DoRange]) -> Result<(), AllocError>
+    ensures { OnOk result (events.new.items ≡ events.old.items ++ map spec.value_of_range ranges.now) }
+{
+    for range in ranges {
+        events.push(value(range.start, range.terminal))?;
+    }
+    Ok(())
 }
 
 // The ranges, and the same of each block IF.
@@ -99,14 +111,13 @@ fn events_of_blocks(
     ensures { IfOk result (λ events. events.items ≡ map spec.value_of_range ranges.now
         ++ map (spec.question_of_block unit.now) blocks.now) }
 {
-    let values = ranges
-        .iter()
-        .map(|range| value(range.start, range.terminal));
-    let questions = blocks.iter().map(|block| {
-        let line = line_at(unit, block.start);
-        question(block.start, block.start, block.end.unwrap_or(0), line)
-    });
-    values.chain(questions).collect(alloc)
+    let mut events = Vec::new(alloc);
+    add_ranges(&mut events, ranges)?;
+    for block in blocks {
+        let (start, end) = (block.start, block.end.unwrap_or(0));
+        events.push(question(start, start, end, line_at(unit, start)))?;
+    }
+    Ok(events)
 }
 
 // Where blocks end, and of each range whether one of a block IF that begins before it ends in it.
@@ -158,10 +169,12 @@ fn least_shared(
 ) -> Result<Option<u32>, AllocError>
     ensures { IfOk result (λ line. line ≡ spec.least_shared unit.now (λ x. None) (map do_range ranges.now)) }
 {
-    let mut last = IndexMap::new(alloc);
+    let mut last = LastTerminals {
+        map: IndexMap::new(alloc),
+    };
     let mut least = None;
     for range in ranges {
-        let is_reported = is_shared(&mut last, range)?;
+        let is_reported = is_shared(&mut last.map, range)?;
         least = lesser(least, line_when(is_reported, line_at(unit, range.start)));
     }
     Ok(least)
@@ -177,12 +190,26 @@ fn add_shared(
     ensures { OnOk result (lines.new.items ≡ lines.old.items
         ++ spec.lines_shared unit.now (λ x. None) (map do_range ranges.now)) }
 {
-    let mut last = IndexMap::new(alloc);
+    let mut last = LastTerminals {
+        map: IndexMap::new(alloc),
+    };
     for range in ranges {
-        let is_reported = is_shared(&mut last, range)?;
+        let is_reported = is_shared(&mut last.map, range)?;
         add_line(lines, line_when(is_reported, line_at(unit, range.start)))?;
     }
     Ok(())
+}
+
+// For each variable, the last terminal statement of its ranges that were met.
+struct LastTerminals {
+    map: IndexMap<Name, usize>,
+}
+
+// Written out, so that a caller's proof has one call of it at each exit.
+impl Drop for LastTerminals {
+    fn drop(self) {
+        let LastTerminals { map } = self;
+    }
 }
 
 // Whether a range of this variable that was met has this DO in it; from now on this one is met too.
@@ -200,11 +227,17 @@ fn is_shared(last: &mut IndexMap<Name, usize>, range: &DoRange) -> Result<bool, 
 fn later(before: Option<usize>, terminal: usize) -> usize
     ensures { result ≡ spec.later before terminal }
 {
-    before.map_or(terminal, |before| before.max(terminal))
+    match before {
+        Some(before) => before.max(terminal),
+        None => terminal,
+    }
 }
 
 fn reaches(terminal: Option<usize>, index: usize) -> bool
     ensures { result ≡ spec.reaches terminal index }
 {
-    terminal.is_some_and(|terminal| index <= terminal)
+    match terminal {
+        Some(terminal) => index <= terminal,
+        None => false,
+    }
 }

@@ -46,10 +46,10 @@ pub fn jump_lines(alloc: Global, labels: &Labels) -> Result<Vec<u32>, AllocError
 {
     let regions = regions_of(alloc, labels)?;
     let jumps = jumps_of(alloc, labels)?;
-    let late = events_by_start(alloc, &regions, &jumps)?;
-    let early = events_by_end(alloc, &regions, &jumps)?;
     let mut lines = Vec::new(alloc);
+    let late = events_by_start(alloc, &regions, &jumps)?;
     add_met(&mut lines, alloc, late)?;
+    let early = events_by_end(alloc, &regions, &jumps)?;
     add_met(&mut lines, alloc, early)?;
     add_to_division(&mut lines, labels.unit(), &jumps)?;
     Ok(lines)
@@ -137,16 +137,22 @@ fn events_by_start(
 ) -> Result<Vec<Event>, AllocError>
     ensures { IfOk result (λ events. events.items ≡ map spec.value_by_start regions.now ++ map spec.question_by_start jumps.now) }
 {
-    let values = regions
-        .iter()
-        .map(|region| value(region.after, region.before));
-    let questions = jumps.iter().map(|jump| question(
-        jump.to,
-        jump.to + 1,
-        jump.from + 1,
-        jump.line,
-    ));
-    values.chain(questions).collect(alloc)
+    let mut events = Vec::new(alloc);
+    add_starts(&mut events, regions)?;
+    for jump in jumps {
+        events.push(question(jump.to, jump.to + 1, jump.from + 1, jump.line))?;
+    }
+    Ok(events)
+}
+
+// Adds the regions by where they begin.
+fn add_starts(events: &mut Vec<Event>, regions: &[Region]) -> Result<(), AllocError>
+    ensures { OnOk result (events.new.items ≡ events.old.items ++ map spec.value_by_start regions.now) }
+{
+    for region in regions {
+        events.push(value(region.after, region.before))?;
+    }
+    Ok(())
 }
 
 // Asks of each jump whether it comes into a region from before the region's start: some region ends after
@@ -158,16 +164,22 @@ fn events_by_end(
 ) -> Result<Vec<Event>, AllocError>
     ensures { IfOk result (λ events. events.items ≡ map spec.value_by_end regions.now ++ map spec.question_by_end jumps.now) }
 {
-    let values = regions
-        .iter()
-        .map(|region| value(usize::MAX - region.before, region.after));
-    let questions = jumps.iter().map(|jump| question(
-        usize::MAX - jump.to,
-        jump.from,
-        jump.to,
-        jump.line,
-    ));
-    values.chain(questions).collect(alloc)
+    let mut events = Vec::new(alloc);
+    add_ends(&mut events, regions)?;
+    for jump in jumps {
+        events.push(question(usize::MAX - jump.to, jump.from, jump.to, jump.line))?;
+    }
+    Ok(events)
+}
+
+// Adds the regions by where they end, the last one first.
+fn add_ends(events: &mut Vec<Event>, regions: &[Region]) -> Result<(), AllocError>
+    ensures { OnOk result (events.new.items ≡ events.old.items ++ map spec.value_by_end regions.now) }
+{
+    for region in regions {
+        events.push(value(usize::MAX - region.before, region.after))?;
+    }
+    Ok(())
 }
 
 // The least line of a jump to an ELSE IF or ELSE.

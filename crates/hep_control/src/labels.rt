@@ -117,10 +117,12 @@ pub fn label_lines(alloc: Global, labels: &Labels) -> Result<Vec<u32>, AllocErro
     ensures { IfOk result (λ lines. (test : ℕ → Bool) → list_any test lines.items
         ≡ list_any (λ (v : PureViolation). test v.line) (label_violations labels.now)) }
 {
-    let mut seen = IndexSet::new(alloc);
+    let mut seen = SeenLabels {
+        set: IndexSet::new(alloc),
+    };
     let mut lines = Vec::new(alloc);
     for statement in labels.unit() {
-        let is_repeated = is_repeated(&mut seen, statement.label)?;
+        let is_repeated = is_repeated(&mut seen.set, statement.label)?;
         let is_absent = goes_nowhere(labels, &statement.form);
         add_line(&mut lines, line_when(is_repeated, statement.line))?;
         add_line(&mut lines, line_when(is_absent, statement.line))?;
@@ -146,10 +148,7 @@ fn goes_nowhere(labels: &Labels, form: &Form) -> bool
 {
     match form {
         Form::GoTo(label) => labels.is_absent(*label),
-        Form::ComputedGoTo(targets, _) => targets
-            .as_slice()
-            .iter()
-            .any(|label| labels.is_absent(*label)),
+        Form::ComputedGoTo(targets, _) => is_any_absent(labels, targets.as_slice()),
         Form::ArithmeticIf(_, signs) => {
             labels.is_absent(signs.negative)
                 || labels.is_absent(signs.zero)
@@ -160,17 +159,42 @@ fn goes_nowhere(labels: &Labels, form: &Form) -> bool
     }
 }
 
+fn is_any_absent(labels: &Labels, targets: &[u32]) -> bool
+    ensures { result ≡ list_any (passes.is_absent labels.now) targets.now }
+{
+    for label in targets {
+        if labels.is_absent(*label) {
+            return true;
+        }
+    }
+    false
+}
+
 // The least line of a statement whose label a statement before it has.
 fn least_repeated(alloc: Global, unit: &[Statement]) -> Result<Option<u32>, AllocError>
     ensures { IfOk result (λ line. line ≡ passes.least_repeated (λ l. false) unit.now) }
 {
-    let mut seen = IndexSet::new(alloc);
+    let mut seen = SeenLabels {
+        set: IndexSet::new(alloc),
+    };
     let mut least = None;
     for statement in unit {
-        let is_reported = is_repeated(&mut seen, statement.label)?;
+        let is_reported = is_repeated(&mut seen.set, statement.label)?;
         least = lesser(least, line_when(is_reported, statement.line));
     }
     Ok(least)
+}
+
+// Labels that were seen.
+struct SeenLabels {
+    set: IndexSet<u32>,
+}
+
+// Written out, so that a caller's proof has one call of it at each exit.
+impl Drop for SeenLabels {
+    fn drop(self) {
+        let SeenLabels { set } = self;
+    }
 }
 
 // Whether a label is among those that were seen; from now on it is.

@@ -5,7 +5,7 @@ ghost use Rattle.std.specs.Prelude.{◌≡◌, ◌<◌, ◌≤◌};
 use hep_source::Name;
 
 /// A DO: its index, that of its terminal statement, and its variable.
-#[derive(Drop)]
+#[derive(Clone, Copy)]
 pub(crate) struct DoRange {
     pub start: usize,
     pub terminal: usize,
@@ -15,7 +15,7 @@ pub(crate) struct DoRange {
 }
 
 // The statements from after one up to before another: a DO range or an IF block.
-#[derive(Drop)]
+#[derive(Clone, Copy)]
 pub(crate) struct Region {
     pub after: usize,
     pub before: usize,
@@ -32,7 +32,7 @@ impl Region {
 }
 
 // A statement that may go to another one.
-#[derive(Drop)]
+#[derive(Clone, Copy)]
 pub(crate) struct Jump {
     pub from: usize,
     pub to: usize,

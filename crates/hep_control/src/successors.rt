@@ -17,7 +17,6 @@ pub(crate) struct Successors {
 }
 
 /// What stands from a statement on. Contracts see the innermost block IFs first.
-#[derive(Drop)]
 struct Ahead {
     executable: usize,
     // The same, past a block that ends there.
@@ -27,6 +26,18 @@ struct Ahead {
     alternatives: Vec<usize>,
     // The index past the last statement.
     past: usize,
+}
+
+impl Drop for Ahead {
+    fn drop(self) {
+        let Ahead {
+            executable,
+            next,
+            end_ifs,
+            alternatives,
+            past,
+        } = self;
+    }
 }
 
 impl Model for Ahead {

@@ -10,7 +10,7 @@ use std::alloc::{AllocError, Global};
 use std::collections::BTreeSet;
 
 // A value, or a question for values, in an order by their keys.
-#[derive(Drop)]
+#[derive(Clone, Copy)]
 pub(crate) enum Event {
     Value {
         key: usize,

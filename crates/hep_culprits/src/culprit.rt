@@ -15,7 +15,7 @@ use hep_source::{Name, Occurrence, Statement};
 use std::alloc::{AllocError, Global};
 
 /// What in a statement violates a condition.
-#[derive(Clone, Copy, Debug, PartialEq, Eq)]
+#[derive(Clone, Copy)]
 pub enum Culprit {
     /// A name where it stands.
     Name(Occurrence),

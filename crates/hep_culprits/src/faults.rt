@@ -17,7 +17,19 @@ use std::marker::Model;
 /// see the program.
 pub struct Faults<'a> {
     program: &'a ProgramSymbols<'a>,
-    names: IndexMap<u32, Name>,
+    names: NamesByLine,
+}
+
+// Names by lines.
+struct NamesByLine {
+    map: IndexMap<u32, Name>,
+}
+
+// Written out, so that a caller's proof has one call of it at each exit.
+impl Drop for NamesByLine {
+    fn drop(self) {
+        let NamesByLine { map } = self;
+    }
 }
 
 impl<'a> Drop for Faults<'a> {
@@ -41,7 +53,7 @@ impl<'a> Model for Faults<'a> {
 
     ghost view = { λ s. s.program.now };
 
-    ghost invariant = { λ s. (line : ℕ) → get nat_eq s.names line ≡ name_at line (ambiguities s.program.now) };
+    ghost invariant = { λ s. (line : ℕ) → get nat_eq s.names.map line ≡ name_at line (ambiguities s.program.now) };
 }
 
 // Notes the name of a line, unless the line has one.
@@ -71,9 +83,11 @@ impl<'a> Faults<'a> {
         ensures { IfOk result (λ faults. faults ≡ program.now) }
     {
         let found = ambiguities(alloc, program)?;
-        let mut names = IndexMap::new(alloc);
+        let mut names = NamesByLine {
+            map: IndexMap::new(alloc),
+        };
         for ambiguity in &found {
-            note_ambiguity(&mut names, ambiguity)?;
+            note_ambiguity(&mut names.map, ambiguity)?;
         }
         Ok(Faults { program, names })
     }
@@ -89,7 +103,7 @@ impl<'a> Faults<'a> {
     pub(crate) fn name_at(&self, line: u32) -> Option<Name>
         ensures { result ≡ words.name_at line (ambiguities self.now) }
     {
-        self.names.get(&line).copied()
+        self.names.map.get(&line).copied()
     }
 }
 

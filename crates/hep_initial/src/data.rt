@@ -34,7 +34,12 @@ fn is_value(constants: &Constants, value: &DataValue) -> bool
 fn is_any_no_value(constants: &Constants, values: &[DataValue]) -> bool
     ensures { result ≡ list_any (λ (v : PureValue). not (conditions.is_value constants.now v)) values.now }
 {
-    values.iter().any(|value| !is_value(constants, value))
+    for value in values {
+        if !is_value(constants, value) {
+            return true;
+        }
+    }
+    false
 }
 
 // A value as often as it is given, by its type.
@@ -59,10 +64,11 @@ fn runs_given(
 ) -> Result<Vec<Option<Run>>, AllocError>
     ensures { IfOk result (λ runs. runs.items ≡ map (groups.run_given constants.now) values.now) }
 {
-    values
-        .iter()
-        .map(|value| run_of(constants, value))
-        .collect(alloc)
+    let mut runs = Vec::new(alloc);
+    for value in values {
+        runs.push(run_of(constants, value))?;
+    }
+    Ok(runs)
 }
 
 // What each name stands for.
@@ -84,10 +90,21 @@ fn named_all(
     Ok(named)
 }
 
+fn is_outside(named: &Named) -> bool
+    ensures { result ≡ lists.is_outside_named named.now }
+{
+    matches!(named, Named::Outside)
+}
+
 fn is_any_outside(named: &[Named]) -> bool
     ensures { result ≡ list_any lists.is_outside_named named.now }
 {
-    named.iter().any(|one| matches!(one, Named::Outside))
+    for one in named {
+        if is_outside(one) {
+            return true;
+        }
+    }
+    false
 }
 
 fn is_forbidden(symbols: &Symbols, name: &Name) -> bool
@@ -99,9 +116,12 @@ fn is_forbidden(symbols: &Symbols, name: &Name) -> bool
 fn is_any_forbidden(symbols: &Symbols, targets: &[Target]) -> bool
     ensures { result ≡ list_any (λ (t : PureTarget). conditions.is_forbidden symbols.now t.occurrence.name) targets.now }
 {
-    targets
-        .iter()
-        .any(|target| is_forbidden(symbols, &target.occurrence.name))
+    for target in targets {
+        if is_forbidden(symbols, &target.occurrence.name) {
+            return true;
+        }
+    }
+    false
 }
 
 // What a name stands for, by its type and as often as it has elements.
@@ -129,10 +149,11 @@ fn runs_named(
 ) -> Result<Vec<Option<Run>>, AllocError>
     ensures { IfOk result (λ runs. runs.items ≡ map (lists.run_named symbols.now) named.now) }
 {
-    named
-        .iter()
-        .map(|one| run_named(symbols, one))
-        .collect(alloc)
+    let mut runs = Vec::new(alloc);
+    for one in named {
+        runs.push(run_named(symbols, one))?;
+    }
+    Ok(runs)
 }
 
 // Runs up to the first that isn't known.

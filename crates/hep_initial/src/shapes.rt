@@ -19,10 +19,16 @@ use indexmap::IndexMap;
 use std::alloc::{AllocError, Global};
 
 /// The bounds of an array, and how many elements it has; none where its last bound is open.
-#[derive(Drop)]
 pub struct ArrayShape {
     pub bounds: Vec<Bound>,
     pub count: Option<u32>,
+}
+
+// Written out, so that a caller's proof has one call of it at each exit.
+impl Drop for ArrayShape {
+    fn drop(self) {
+        let ArrayShape { bounds, count } = self;
+    }
 }
 
 /// What a name in DATA stands for.
@@ -38,7 +44,11 @@ pub enum Named {
 fn is_within(bound: &Bound, subscript: i64) -> bool
     ensures { result ≡ is_within bound.now subscript }
 {
-    bound.lower <= subscript && bound.upper.is_none_or(|upper| subscript <= upper)
+    bound.lower <= subscript
+        && match bound.upper {
+            Some(upper) => subscript <= upper,
+            None => true,
+        }
 }
 
 // Each subscript is within its bounds.
@@ -190,8 +200,8 @@ impl ShapeTable {
         if !symbols.is_array(name) {
             return Ok(scalar(*name, subscripts.is_empty()));
         }
-        let integers = integers(alloc, symbols, constants, subscripts)?;
         self.prepare(alloc, symbols, name)?;
+        let integers = integers(alloc, symbols, constants, subscripts)?;
         match self.shapes.get(name) {
             Some(shape) => Ok(array(*name, shape, subscripts.is_empty(), integers)),
             None => Ok(Named::Open),

@@ -1,5 +1,7 @@
 -- Declarators that give no dimensions are of no consequence for arrays.
-use Rattle.std.proofs.Common.{◌≡◌, Bool, true, false, ◌&&◌, if◌then◌else◌, Option, Some, List, [], ◌∷◌, refl, ap, sym, ◌∙◌}
+use Rattle.std.proofs.Common.{◌≡◌, Bool, true, false, ◌&&◌, if◌then◌else◌, Option, Some, List, [], ◌∷◌, ◌++◌, refl, ap, sym, ◌∙◌}
+use Rattle.std.proofs.lemmas.List.{append_assoc}
+use Rattle.std.proofs.lemmas.List.Elements.{filter-append}
 use Rattle.std.specs.List.{list_all}
 use Rattle.hep_machine.specs.Words.{Declarator, Name, same_name, declarator_among, is_nonempty}
 use Rattle.hep_names.specs.Tables.{arrays_among}
@@ -29,3 +31,9 @@ all_arrays test h (d ∷ ds) = by (is_nonempty d.dimensions) refl (all_arrays te
     by : (t : Bool) → is_nonempty d.dimensions ≡ t → list_all test (arrays_among ds) ≡ list_all test ds → list_all test (if t then d ∷ arrays_among ds else arrays_among ds) ≡ (test d && list_all test ds)
     by true e i = ap (λ b. test d && b) i
     by false e i = i ∙ rw (h d e) refl
+
+-- one turn of a loop over declarators: those that give dimensions are added
+pub arrays-turn : (found ds rest : List Declarator) → found ++ arrays_among ds ++ arrays_among rest ≡ found ++ arrays_among (ds ++ rest)
+arrays-turn found ds rest =
+    append_assoc found (arrays_among ds) (arrays_among rest)
+    ∙ ap (λ more. found ++ more) (sym (filter-append (λ (d : Declarator). is_nonempty d.dimensions) ds rest))

@@ -3,8 +3,8 @@ ghost use Rattle.std.specs.Prelude.{◌≡◌, IfOk};
 ghost use Rattle.hep_machine.specs.Declarations as declarations;
 
 use crate::specification::arrays;
+use crate::table::Table;
 use hep_source::{Declarator, Dimension, Name, Statement};
-use indexmap::IndexMap;
 use std::alloc::{AllocError, Global};
 use std::marker::Model;
 
@@ -12,7 +12,7 @@ use std::marker::Model;
 /// the statements of the unit.
 pub(crate) struct Arrays<'a> {
     statements: &'a [Statement],
-    declarators: IndexMap<Name, &'a Declarator>,
+    declarators: Table<&'a Declarator>,
 }
 
 impl<'a> Drop for Arrays<'a> {
@@ -41,7 +41,7 @@ impl<'a> Model for Arrays<'a> {
 
     ghost view = { λ a. a.statements.now };
 
-    ghost invariant = { λ a. (x : PureName) → seen (get name_eq a.declarators x) ≡ declarator_among x (declarators_of a.statements.now) };
+    ghost invariant = { λ a. (x : PureName) → seen (get name_eq a.declarators.map x) ≡ declarator_among x (declarators_of a.statements.now) };
 }
 
 impl<'a> Arrays<'a> {
@@ -66,7 +66,7 @@ impl<'a> Arrays<'a> {
     pub(crate) fn dimensions(&self, name: &Name) -> &'a [Dimension]
         ensures { result.now ≡ declarations.dimensions_of self.now name.now }
     {
-        match self.declarators.get(name) {
+        match self.declarators.map.get(name) {
             Some(declarator) => declarator.dimensions.as_slice(),
             None => &[],
         }

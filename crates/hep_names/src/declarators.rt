@@ -11,7 +11,10 @@ use std::alloc::{AllocError, Global};
 pub fn block_of(list: &CommonBlock) -> Option<Name>
     ensures { result ≡ declarations.block_of list.now }
 {
-    list.block.map(|occurrence| occurrence.name)
+    match list.block {
+        Some(occurrence) => Some(occurrence.name),
+        None => None,
+    }
 }
 
 /// The lists of a COMMON statement, each with its block; any other statement has none (8.3).

@@ -115,11 +115,13 @@ fn add_referenced(
 fn referenced_names(alloc: Global, arrays: &Arrays) -> Result<NameSet, AllocError>
     ensures { IfOk result (λ names. (x : PureName) → contains name_eq names.set x ≡ is_referenced arrays.now x) }
 {
-    let mut names = IndexSet::new(alloc);
+    let mut names = NameSet {
+        set: IndexSet::new(alloc),
+    };
     for statement in arrays.statements() {
-        add_referenced(alloc, arrays, &mut names, statement)?;
+        add_referenced(alloc, arrays, &mut names.set, statement)?;
     }
-    Ok(NameSet { set: names })
+    Ok(names)
 }
 
 impl<'a> Listed<'a> {

@@ -4,6 +4,7 @@ ghost use Rattle.std.specs.List.{flat_map};
 ghost use Rattle.hep_machine.specs.Words.{trees_of, trees_in_declarator, entries_of_blocks};
 ghost use Rattle.hep_conditions.specs.Statements as statements;
 ghost use Rattle.hep_names.specs.Lists.{listed};
+ghost use Rattle.hep_names.specs.Parts as rows;
 
 use crate::parts::{Part, parts_of};
 use hep_source::{CommonBlock, Declarator, Expr, Form, Node, Occurrence, Statement};
@@ -96,6 +97,20 @@ fn may_have_expressions(statement: &Statement) -> bool
     }
 }
 
+// The names with lists in the expressions among these parts.
+fn in_parts<'a>(alloc: Global, parts: &[Part<'a>]) -> Result<Vec<NameWithList<'a>>, AllocError>
+    ensures { IfOk result (λ found. map listed found.items
+        ≡ flat_map statements.names_with_lists_in (flat_map rows.tree_in (map rows.part parts.now))) }
+{
+    let mut found = Vec::new(alloc);
+    for part in parts {
+        if let Part::Expression(expression) = part {
+            add_in(&mut found, expression)?;
+        }
+    }
+    Ok(found)
+}
+
 /// The names with lists in the expressions of a statement, in the order of its text.
 ///
 /// # Errors
@@ -108,15 +123,9 @@ pub fn names_with_lists(
 ) -> Result<Vec<NameWithList<'_>>, AllocError>
     ensures { IfOk result (λ found. map listed found.items ≡ statements.names_with_lists statement.now) }
 {
-    let mut found = Vec::new(alloc);
     if !may_have_expressions(statement) {
-        return Ok(found);
+        return Ok(Vec::new(alloc));
     }
     let parts = parts_of(alloc, statement)?;
-    for part in &parts {
-        if let Part::Expression(expression) = part {
-            add_in(&mut found, expression)?;
-        }
-    }
-    Ok(found)
+    in_parts(alloc, &parts)
 }

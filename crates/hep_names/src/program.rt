@@ -85,11 +85,13 @@ fn subroutines(alloc: Global, program: &[Symbols]) -> Result<Table<usize>, Alloc
     ensures { IfOk result (λ table. (x : PureName)
         → get name_eq table.map x ≡ tables.called_from units.subroutine_name 0 x program.now) }
 {
-    let mut numbers = IndexMap::with_capacity(alloc, program.len())?;
+    let mut numbers = Table {
+        map: IndexMap::with_capacity(alloc, program.len())?,
+    };
     for (number, unit) in program.iter().enumerate() {
-        note_unit(&mut numbers, subroutine_name(unit.statements()), number)?;
+        note_unit(&mut numbers.map, subroutine_name(unit.statements()), number)?;
     }
-    Ok(Table { map: numbers })
+    Ok(numbers)
 }
 
 // The index of the function that each name refers to: the first of those with the name.
@@ -97,11 +99,13 @@ fn functions(alloc: Global, program: &[Symbols]) -> Result<Table<usize>, AllocEr
     ensures { IfOk result (λ table. (x : PureName)
         → get name_eq table.map x ≡ tables.called_from units.function_name 0 x program.now) }
 {
-    let mut numbers = IndexMap::new(alloc);
+    let mut numbers = Table {
+        map: IndexMap::new(alloc),
+    };
     for (number, unit) in program.iter().enumerate() {
-        note_unit(&mut numbers, function_name(unit.statements()), number)?;
+        note_unit(&mut numbers.map, function_name(unit.statements()), number)?;
     }
-    Ok(Table { map: numbers })
+    Ok(numbers)
 }
 
 fn tables_of<'a>(alloc: Global, program: &'a [Unit]) -> Result<Vec<Symbols<'a>>, AllocError>

@@ -74,11 +74,13 @@ pub(crate) fn declared_types(
 ) -> Result<Table<ValueType>, AllocError>
     ensures { IfOk result (λ types. (x : PureName) → get name_eq types.map x ≡ declarations.declared_type x unit.now) }
 {
-    let mut types = IndexMap::new(alloc);
+    let mut types = Table {
+        map: IndexMap::new(alloc),
+    };
     for statement in unit {
-        note_types_by(&mut types, &statement.form)?;
+        note_types_by(&mut types.map, &statement.form)?;
     }
-    Ok(Table { map: types })
+    Ok(types)
 }
 
 // Says whether all names are new.
@@ -146,16 +148,15 @@ pub(crate) fn common_names(alloc: Global, unit: &[Statement]) -> Result<CommonNa
         → get name_eq names.blocks.map x ≡ tables.first_in (tables.block_by_form x) unit.now) }
     ensures once { IfOk result (λ names. names.are_once ≡ tables.are_new (λ x. false) (tables.names_in_common unit.now)) }
 {
-    let mut blocks = IndexMap::with_capacity(alloc, common_count(unit))?;
+    let mut blocks = Table {
+        map: IndexMap::with_capacity(alloc, common_count(unit))?,
+    };
     let mut are_once = true;
     for statement in unit {
-        let are_new = note_blocks(&mut blocks, blocks_in(&statement.form))?;
+        let are_new = note_blocks(&mut blocks.map, blocks_in(&statement.form))?;
         are_once &= are_new;
     }
-    Ok(CommonNames {
-        blocks: Table { map: blocks },
-        are_once,
-    })
+    Ok(CommonNames { blocks, are_once })
 }
 
 fn add_constants(constants: &mut IndexSet<Name>, given: &[NamedConstant]) -> Result<(), AllocError>
@@ -173,24 +174,28 @@ pub(crate) fn constant_names(alloc: Global, unit: &[Statement]) -> Result<NameSe
     ensures { IfOk result (λ constants. (x : PureName)
         → contains name_eq constants.set x ≡ tables.any_in (tables.constant_by_form x) unit.now) }
 {
-    let mut constants = IndexSet::new(alloc);
+    let mut constants = NameSet {
+        set: IndexSet::new(alloc),
+    };
     for statement in unit {
         if let Form::Parameter(given) = &statement.form {
-            add_constants(&mut constants, given.as_slice())?;
+            add_constants(&mut constants.set, given.as_slice())?;
         }
     }
-    Ok(NameSet { set: constants })
+    Ok(constants)
 }
 
 // The index of each dummy argument, the first where it stands twice (15.6.1).
 fn numbered(alloc: Global, dummies: &[Occurrence]) -> Result<Table<usize>, AllocError>
     ensures { IfOk result (λ table. (x : PureName) → get name_eq table.map x ≡ tables.index_from 0 x dummies.now) }
 {
-    let mut table = IndexMap::new(alloc);
+    let mut table = Table {
+        map: IndexMap::new(alloc),
+    };
     for (index, dummy) in dummies.iter().enumerate() {
-        note(&mut table, dummy.name, index)?;
+        note(&mut table.map, dummy.name, index)?;
     }
-    Ok(Table { map: table })
+    Ok(table)
 }
 
 // The dummy arguments of a unit: those of its header (15.6.1).
@@ -238,18 +243,19 @@ fn note_arrays<'a>(
 }
 
 // The declarator that gives each array its dimensions (5.1, 8.1, 8.3 and 8.4).
-
 pub(crate) fn arrays<'a>(
     alloc: Global,
     unit: &'a [Statement],
-) -> Result<IndexMap<Name, &'a Declarator>, AllocError>
-    ensures { IfOk result (λ arrays. (x : PureName) → tables.seen (get name_eq arrays x)
+) -> Result<Table<&'a Declarator>, AllocError>
+    ensures { IfOk result (λ arrays. (x : PureName) → tables.seen (get name_eq arrays.map x)
         ≡ tables.first_in (tables.declarator_by_form x) unit.now) }
 {
-    let mut arrays = IndexMap::new(alloc);
+    let mut arrays = Table {
+        map: IndexMap::new(alloc),
+    };
     for statement in unit {
         let declarators = array_declarators(alloc, &statement.form)?;
-        note_arrays(&mut arrays, &declarators)?;
+        note_arrays(&mut arrays.map, &declarators)?;
     }
     Ok(arrays)
 }

@@ -9,6 +9,7 @@ ghost use Rattle.hep_storage.specs.Agreement as agreement;
 ghost use Rattle.hep_storage.specs.Table.{block_at, summed_in, entry_at};
 
 use crate::blocks::read_blocks;
+use crate::contents::Noted;
 use crate::table::{Table, settle};
 use hep_conditions::Violation;
 use hep_conditions::reported::{lesser, reported};
@@ -16,6 +17,24 @@ use hep_names::ProgramSymbols;
 use hep_source::Name;
 use indexmap::{IndexMap, IndexSet};
 use std::alloc::{AllocError, Global};
+
+// What is met while units are read: the blocks of all so far, the names of those that the unit has, and the names in its blocks.
+struct MetBlocks {
+    table: Table,
+    named: Vec<Option<Name>>,
+    noted: Noted,
+}
+
+// Written out, so that a caller's proof has one call of it at each exit.
+impl Drop for MetBlocks {
+    fn drop(self) {
+        let MetBlocks {
+            table,
+            named,
+            noted,
+        } = self;
+    }
+}
 
 // The least line of the blocks of a unit, which all have their names here, that differ.
 fn least_in_unit(table: &mut Table, named: &[Option<Name>]) -> Option<u32>
@@ -37,15 +56,23 @@ fn least_in_unit(table: &mut Table, named: &[Option<Name>]) -> Option<u32>
 fn least_differing(alloc: Global, program: &ProgramSymbols) -> Result<Option<u32>, AllocError>
     ensures { IfOk result (λ line. line ≡ agreement.least_of_blocks (blocks_of program.now) (λ b. agreement.nothing_summed) program.now) }
 {
-    let mut table = IndexMap::new(alloc);
-    let mut named = Vec::new(alloc);
-    let mut noted = IndexSet::new(alloc);
+    let mut met = MetBlocks {
+        table: IndexMap::new(alloc),
+        named: Vec::new(alloc),
+        noted: IndexSet::new(alloc),
+    };
     let mut least = None;
     for symbols in program.units() {
-        read_blocks(alloc, symbols, &mut table, &mut named, &mut noted)?;
-        least = lesser(least, least_in_unit(&mut table, &named));
-        named.clear();
-        noted.clear();
+        read_blocks(
+            alloc,
+            symbols,
+            &mut met.table,
+            &mut met.named,
+            &mut met.noted,
+        )?;
+        least = lesser(least, least_in_unit(&mut met.table, &met.named));
+        met.named.clear();
+        met.noted.clear();
     }
     Ok(least)
 }
@@ -105,15 +132,23 @@ pub fn common_lines(alloc: Global, program: &ProgramSymbols) -> Result<Vec<u32>,
     ensures { IfOk result (λ lines. (test : ℕ → Bool) → list_any test lines.items
         ≡ list_any (λ (v : PureViolation). test v.line) (conditions.common_violations program.now)) }
 {
-    let mut table = IndexMap::new(alloc);
-    let mut named = Vec::new(alloc);
-    let mut noted = IndexSet::new(alloc);
+    let mut met = MetBlocks {
+        table: IndexMap::new(alloc),
+        named: Vec::new(alloc),
+        noted: IndexSet::new(alloc),
+    };
     let mut lines = Vec::new(alloc);
     for symbols in program.units() {
-        read_blocks(alloc, symbols, &mut table, &mut named, &mut noted)?;
-        add_in_unit(&mut lines, &mut table, &named)?;
-        named.clear();
-        noted.clear();
+        read_blocks(
+            alloc,
+            symbols,
+            &mut met.table,
+            &mut met.named,
+            &mut met.noted,
+        )?;
+        add_in_unit(&mut lines, &mut met.table, &met.named)?;
+        met.named.clear();
+        met.noted.clear();
     }
     Ok(lines)
 }

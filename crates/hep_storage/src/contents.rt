@@ -137,9 +137,10 @@ fn is_same_block(first: Option<Name>, second: Option<Name>) -> bool
 fn is_held(symbols: &Symbols, block: Option<Name>, name: &Name) -> bool
     ensures { result ≡ blocks.is_first_block symbols.now block name.now }
 {
-    symbols
-        .common_block(name)
-        .is_some_and(|first| is_same_block(block, first))
+    match symbols.common_block(name) {
+        Some(first) => is_same_block(block, first),
+        None => false,
+    }
 }
 
 // Notes a name, and says whether its first place in COMMON is here.

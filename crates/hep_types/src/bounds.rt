@@ -28,22 +28,34 @@ fn is_adjusting(symbols: &Symbols, name: &Name) -> bool
     is_plain_integer_scalar(symbols, name) && (is_dummy(symbols, name) || symbols.is_common(name))
 }
 
+// A constant, or such a scalar.
+fn is_constant_or_adjusting(symbols: &Symbols, constants: &Constants, name: &Name) -> bool
+    ensures { result ≡ (is_some (value_among constants.now name.now) || conditions.is_adjusting symbols.now name.now) }
+{
+    constants.get(name).is_some() || is_adjusting(symbols, name)
+}
+
 fn are_adjusting(symbols: &Symbols, constants: &Constants, occurrences: &[Occurrence]) -> bool
     ensures { result ≡ list_all (λ (p : PureOccurrence). is_some (value_among constants.now p.name)
         || conditions.is_adjusting symbols.now p.name) occurrences.now }
 {
-    occurrences.iter().all(|occurrence| {
-        let name = &occurrence.name;
-        constants.get(name).is_some() || is_adjusting(symbols, name)
-    })
+    for occurrence in occurrences {
+        if !is_constant_or_adjusting(symbols, constants, &occurrence.name) {
+            return false;
+        }
+    }
+    true
 }
 
 fn is_any_adjusted(constants: &Constants, occurrences: &[Occurrence]) -> bool
     ensures { result ≡ list_any (λ (p : PureOccurrence). is_none (value_among constants.now p.name)) occurrences.now }
 {
-    occurrences
-        .iter()
-        .any(|occurrence| constants.get(&occurrence.name).is_none())
+    for occurrence in occurrences {
+        if constants.get(&occurrence.name).is_none() {
+            return true;
+        }
+    }
+    false
 }
 
 // A bound that such scalars adjust, with constants alone beside them and without a reference of a function.
@@ -188,9 +200,10 @@ pub fn are_bounds_open(scope: &Scope, declarator: &Declarator) -> Result<bool, A
 fn is_shape_if_known(bounds: &Option<Vec<Bound>>) -> bool
     ensures { result ≡ conditions.is_shape_if_known (option_map vec_items bounds.now) }
 {
-    bounds
-        .as_ref()
-        .is_none_or(|bounds| Shape::new(bounds).is_some())
+    match bounds {
+        Some(bounds) => Shape::new(bounds).is_some(),
+        None => true,
+    }
 }
 
 // Right dimensions make a shape, unless a bound is open.

@@ -41,9 +41,12 @@ fn are_targets_typed(
 ) -> bool
     ensures { result ≡ list_all (types.is_target_typed (functions_of functions.entry) symbols.now) targets.now }
 {
-    targets
-        .iter()
-        .all(|target| is_target_typed(functions, symbols, target))
+    for target in targets {
+        if !is_target_typed(functions, symbols, target) {
+            return false;
+        }
+    }
+    true
 }
 
 fn is_scalar_target(symbols: &Symbols, target: &Target) -> bool
@@ -134,9 +137,12 @@ fn are_items_typed(
 ) -> bool
     ensures { result ≡ list_all (types.is_item_typed (functions_of functions.entry) symbols.now) items.now }
 {
-    items
-        .iter()
-        .all(|item| is_item_typed(functions, symbols, item))
+    for item in items {
+        if !is_item_typed(functions, symbols, item) {
+            return false;
+        }
+    }
+    true
 }
 
 // A type statement gives a function that the unit refers to the type that it has (15.5.1).

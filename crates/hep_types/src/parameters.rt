@@ -86,9 +86,12 @@ impl Parameters {
 fn are_given(parameters: &Parameters, occurrences: &[Occurrence]) -> bool
     ensures { result ≡ list_all (λ (p : PureOccurrence). conditions.is_given parameters.now p.name) occurrences.now }
 {
-    occurrences
-        .iter()
-        .all(|occurrence| parameters.is_given(&occurrence.name))
+    for occurrence in occurrences {
+        if !parameters.is_given(&occurrence.name) {
+            return false;
+        }
+    }
+    true
 }
 
 fn is_pure(symbols: &Symbols, name: &NameWithList) -> bool
@@ -104,7 +107,12 @@ fn are_pure(symbols: &Symbols, names: &[NameWithList]) -> bool
     ensures { result ≡ list_all (λ (r : PureReference). conditions.is_pure (listed_meaning symbols.now r.occurrence.name))
         (map listed names.now) }
 {
-    names.iter().all(|name| is_pure(symbols, name))
+    for name in names {
+        if !is_pure(symbols, name) {
+            return false;
+        }
+    }
+    true
 }
 
 /// Constants, names that were given a value before, and references of pure functions alone: docs/LANGUAGE.md,

@@ -34,7 +34,7 @@ pub enum KnownShape<'a> {
 /// the unit.
 pub struct Shapes<'a> {
     statements: &'a [Statement],
-    shapes: IndexMap<Name, Option<Shape>>,
+    shapes: Table,
 }
 
 impl<'a> Drop for Shapes<'a> {
@@ -61,13 +61,25 @@ impl<'a> Model for Shapes<'a> {
 
     ghost view = { λ a. a.statements.now };
 
-    ghost invariant = { λ a. (x : PureName) → shape_by (get name_eq a.shapes x) ≡ known_shape a.statements.now x };
+    ghost invariant = { λ a. (x : PureName) → shape_by (get name_eq a.shapes.map x) ≡ known_shape a.statements.now x };
 }
 
-type Table = IndexMap<Name, Option<Shape>>;
+type Map = IndexMap<Name, Option<Shape>>;
+
+// A table of shapes.
+struct Table {
+    map: Map,
+}
+
+// Written out, so that a caller's proof has one call of it at each exit.
+impl Drop for Table {
+    fn drop(self) {
+        let Table { map } = self;
+    }
+}
 
 // The shape that a declarator gives its name, where it gives dimensions and is the first that does.
-fn note_shape(scope: &Scope, declarator: &Declarator, shapes: &mut Table) -> Result<(), AllocError>
+fn note_shape(scope: &Scope, declarator: &Declarator, shapes: &mut Map) -> Result<(), AllocError>
     ensures { OnOk result ((x : PureName) → get name_eq shapes.new x
         ≡ option_or (get name_eq shapes.old x)
         (tables.shape_by_declarator scope.now.symbols.now scope.now.parameters.now declarator.now x)) }
@@ -82,7 +94,7 @@ fn note_shape(scope: &Scope, declarator: &Declarator, shapes: &mut Table) -> Res
 fn note_shapes(
     scope: &Scope,
     declarators: &[&Declarator],
-    shapes: &mut Table,
+    shapes: &mut Map,
 ) -> Result<(), AllocError>
     ensures { OnOk result ((x : PureName) → get name_eq shapes.new x
         ≡ option_or (get name_eq shapes.old x)
@@ -95,9 +107,11 @@ fn note_shapes(
 }
 
 fn shapes_of(alloc: Global, symbols: &Symbols) -> Result<Table, AllocError>
-    ensures { IfOk result (λ shapes. (x : PureName) → tables.shape_by (get name_eq shapes x) ≡ conditions.known_shape symbols.now x) }
+    ensures { IfOk result (λ shapes. (x : PureName) → tables.shape_by (get name_eq shapes.map x) ≡ conditions.known_shape symbols.now x) }
 {
-    let mut shapes = IndexMap::new(alloc);
+    let mut shapes = Table {
+        map: IndexMap::new(alloc),
+    };
     let mut parameters = Parameters::new(alloc);
     for statement in symbols.statements() {
         let declarators = array_declarators(alloc, &statement.form)?;
@@ -106,7 +120,7 @@ fn shapes_of(alloc: Global, symbols: &Symbols) -> Result<Table, AllocError>
             symbols: &*symbols,
             parameters: &parameters,
         };
-        note_shapes(&scope, &declarators, &mut shapes)?;
+        note_shapes(&scope, &declarators, &mut shapes.map)?;
         parameters.add_all(alloc, symbols, constants_in(&statement.form))?;
     }
     Ok(shapes)
@@ -132,7 +146,7 @@ impl<'a> Shapes<'a> {
     pub fn known_shape(&self, name: &Name) -> KnownShape
         ensures { known result ≡ conditions.known_shape self.now name.now }
     {
-        match self.shapes.get(name) {
+        match self.shapes.map.get(name) {
             Some(Some(shape)) => KnownShape::Array(shape),
             Some(None) => KnownShape::Unknown,
             None => KnownShape::Scalar,

@@ -16,7 +16,7 @@ use hep_source::{Expr, Name, Node, Operator, StateFunction, Value, ValueType};
 pub type KnownType = Option<Option<ValueType>>;
 
 // An expression as an operand.
-#[derive(Clone, Copy, PartialEq, Eq)]
+#[derive(Clone, Copy)]
 struct Operand {
     // Its own type.
     known_type: KnownType,

@@ -57,9 +57,9 @@ pub fn loop_variables(
 ) -> Result<Vec<bool>, AllocError>
     ensures { IfOk result (λ variables. variables.items ≡ walks.loop_variables (function_types program.now) symbols.now) }
 {
-    symbols
-        .statements()
-        .iter()
-        .map(|statement| has_loop_variable(program, symbols, &statement.form))
-        .collect(alloc)
+    let mut variables = Vec::new(alloc);
+    for statement in symbols.statements() {
+        variables.push(has_loop_variable(program, symbols, &statement.form))?;
+    }
+    Ok(variables)
 }

@@ -23,12 +23,12 @@ use std::alloc::{AllocError, Global};
 fn are_conditions(program: &ProgramSymbols, symbols: &Symbols, conditions: &[Expr]) -> bool
     ensures { result ≡ list_all (types.is_typed_as (function_types program.now) symbols.now ValueType.Logical) conditions.now }
 {
-    conditions.iter().all(|condition| is_typed_as(
-        Some(program),
-        symbols,
-        ValueType::Logical,
-        condition,
-    ))
+    for condition in conditions {
+        if !is_typed_as(Some(program), symbols, ValueType::Logical, condition) {
+            return false;
+        }
+    }
+    true
 }
 
 fn are_bounded(scope: &Scope, declarators: &[&Declarator]) -> Result<bool, AllocError>

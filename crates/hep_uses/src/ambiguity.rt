@@ -11,7 +11,7 @@ ghost use Rattle.hep_uses.specs.Ambiguous.{least_named};
 
 use crate::ambiguous::is_of_the_language;
 use crate::letters::{add_overlapping, letter_ranges};
-use crate::repeated::{add, lines_by_name};
+use crate::repeated::{SeenNames, add, lines_by_name};
 use crate::uses::{Use, Way, uses_in_program, uses_of};
 use hep_names::{ProgramSymbols, Symbols};
 use hep_source::{Form, Name, Statement};
@@ -19,7 +19,7 @@ use indexmap::{IndexMap, IndexSet};
 use std::alloc::{AllocError, Global};
 
 /// What is ambiguous at a line: a name, or letters of IMPLICIT, which have none.
-#[derive(Clone, Copy, PartialEq, Eq)]
+#[derive(Clone, Copy)]
 pub struct Ambiguity {
     /// The name.
     pub name: Option<Name>,
@@ -46,9 +46,11 @@ pub(crate) fn add_when(
 fn add_repeated(found: &mut Vec<Ambiguity>, alloc: Global, uses: &[Use]) -> Result<(), AllocError>
     ensures { OnOk result (found.new.items ≡ found.old.items ++ spec.repeated_names uses.now) }
 {
-    let mut seen = IndexSet::new(alloc);
+    let mut seen = SeenNames {
+        set: IndexSet::new(alloc),
+    };
     for (name, line) in uses {
-        let is_repeated = add(&mut seen, *name)?;
+        let is_repeated = add(&mut seen.set, *name)?;
         add_when(found, is_repeated, Some(*name), *line)?;
     }
     Ok(())
@@ -58,7 +60,10 @@ fn add_repeated(found: &mut Vec<Ambiguity>, alloc: Global, uses: &[Use]) -> Resu
 fn is_by(other: Option<u32>, line: u32) -> bool
     ensures { result ≡ spec.is_by other line }
 {
-    other.is_some_and(|other| other <= line)
+    match other {
+        Some(other) => other <= line,
+        None => false,
+    }
 }
 
 // Adds each use whose name the table has by its line.
@@ -86,7 +91,7 @@ fn add_met_by(
     ensures { OnOk result (found.new.items ≡ found.old.items ++ spec.met_from (least_named one.now) other.now) }
 {
     let lines = lines_by_name(alloc, one)?;
-    add_met(found, &lines, other)?;
+    add_met(found, &lines.map, other)?;
     Ok(())
 }
 

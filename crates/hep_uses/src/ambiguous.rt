@@ -82,7 +82,7 @@ fn least_misused(
     let mut least = None;
     for way in ways {
         let uses = uses_of(alloc, program, symbols, *way)?;
-        least = lesser(least, least_met(&lines, &uses));
+        least = lesser(least, least_met(&lines.map, &uses));
     }
     Ok(least)
 }

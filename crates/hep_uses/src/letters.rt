@@ -1,6 +1,6 @@
 //! Letters that the IMPLICIT statements of a unit name twice (X3.9-1978, 8.5).
 ghost use Rattle.std.specs.Prelude.{◌≡◌, ◌<◌, ◌++◌, None, length, get_or, slice_set, IfOk, OnOk};
-ghost use Rattle.std.specs.List.{flat_map};
+ghost use Rattle.std.specs.List.{flat_map, list_any};
 ghost use Rattle.hep_source.specs.declared.declaration.ImplicitGroup.{ImplicitGroup as PureGroup};
 ghost use Rattle.hep_conditions.specs.Names as conditions;
 ghost use Rattle.hep_uses.specs.Ambiguities as spec;
@@ -60,22 +60,37 @@ type LastLetters = [Option<u8>; 256];
 fn reaches(letter: u8, last: Option<u8>) -> bool
     ensures { result ≡ passes.reaches letter last }
 {
-    last.is_some_and(|last| letter <= last)
+    match last {
+        Some(last) => letter <= last,
+        None => false,
+    }
+}
+
+fn is_any_reaching(letter: u8, lasts: &[Option<u8>]) -> bool
+    ensures { result ≡ list_any (passes.reaches letter) lasts.now }
+{
+    for last in lasts {
+        if reaches(letter, *last) {
+            return true;
+        }
+    }
+    false
 }
 
 // A letter of the range is in one of the others.
 fn meets(lasts: &LastLetters, range: &LetterRange) -> bool
     ensures { result ≡ passes.meets lasts.now range.now }
 {
-    lasts[..usize::from(range.last) + 1]
-        .iter()
-        .any(|last| reaches(range.first, *last))
+    is_any_reaching(range.first, &lasts[..usize::from(range.last) + 1])
 }
 
 fn later_letter(other: Option<u8>, last: u8) -> Option<u8>
     ensures { result ≡ passes.later_letter other last }
 {
-    Some(other.map_or(last, |other| other.max(last)))
+    match other {
+        Some(other) => Some(other.max(last)),
+        None => Some(last),
+    }
 }
 
 fn note(lasts: &mut LastLetters, range: &LetterRange)

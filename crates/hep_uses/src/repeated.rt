@@ -13,6 +13,30 @@ use hep_source::Name;
 use indexmap::{IndexMap, IndexSet};
 use std::alloc::{AllocError, Global};
 
+/// Names that were seen.
+pub(crate) struct SeenNames {
+    pub(crate) set: IndexSet<Name>,
+}
+
+// Written out, so that a caller's proof has one call of it at each exit.
+impl Drop for SeenNames {
+    fn drop(self) {
+        let SeenNames { set } = self;
+    }
+}
+
+/// The lines of names.
+pub(crate) struct LinesByName {
+    pub(crate) map: IndexMap<Name, u32>,
+}
+
+// Written out, so that a caller's proof has one call of it at each exit.
+impl Drop for LinesByName {
+    fn drop(self) {
+        let LinesByName { map } = self;
+    }
+}
+
 /// Adds a name to those seen, and says whether it was there.
 pub(crate) fn add(seen: &mut IndexSet<Name>, name: Name) -> Result<bool, AllocError>
     ensures added { OnOk result ((x : PureName) → contains name_eq seen.new x ≡ (same_name x name || contains name_eq seen.old x)) }
@@ -25,10 +49,11 @@ pub(crate) fn add(seen: &mut IndexSet<Name>, name: Name) -> Result<bool, AllocEr
 pub(crate) fn least_repeated(alloc: Global, uses: &[Use]) -> Result<Option<u32>, AllocError>
     ensures { IfOk result (λ line. line ≡ passes.least_repeated_name uses.now) }
 {
-    let mut seen = IndexSet::with_capacity(alloc, uses.len())?;
+    let set = IndexSet::with_capacity(alloc, uses.len())?;
+    let mut seen = SeenNames { set };
     let mut least = None;
     for (name, line) in uses {
-        let is_repeated = add(&mut seen, *name)?;
+        let is_repeated = add(&mut seen.set, *name)?;
         least = lesser(least, line_when(is_repeated, *line));
     }
     Ok(least)
@@ -37,7 +62,10 @@ pub(crate) fn least_repeated(alloc: Global, uses: &[Use]) -> Result<Option<u32>,
 fn lesser_line(other: Option<u32>, line: u32) -> u32
     ensures { Some result ≡ reported.least_line other (Some line) }
 {
-    other.map_or(line, |other| line.min(other))
+    match other {
+        Some(other) => line.min(other),
+        None => line,
+    }
 }
 
 // Keeps the lesser of a name's lines.
@@ -51,12 +79,14 @@ fn note_line(lines: &mut IndexMap<Name, u32>, name: Name, line: u32) -> Result<(
 }
 
 /// The least line at which each name is used.
-pub(crate) fn lines_by_name(alloc: Global, uses: &[Use]) -> Result<IndexMap<Name, u32>, AllocError>
-    ensures { IfOk result (λ lines. (x : PureName) → get name_eq lines x ≡ passes.least_named uses.now x) }
+pub(crate) fn lines_by_name(alloc: Global, uses: &[Use]) -> Result<LinesByName, AllocError>
+    ensures { IfOk result (λ lines. (x : PureName) → get name_eq lines.map x ≡ passes.least_named uses.now x) }
 {
-    let mut lines = IndexMap::new(alloc);
+    let mut lines = LinesByName {
+        map: IndexMap::new(alloc),
+    };
     for (name, line) in uses {
-        note_line(&mut lines, *name, *line)?;
+        note_line(&mut lines.map, *name, *line)?;
     }
     Ok(lines)
 }
@@ -65,7 +95,10 @@ pub(crate) fn lines_by_name(alloc: Global, uses: &[Use]) -> Result<IndexMap<Name
 fn later_line(lines: &IndexMap<Name, u32>, name: &Name, line: u32) -> Option<u32>
     ensures { result ≡ passes.later_line (get name_eq lines.now) (name.now, line) }
 {
-    lines.get(name).map(|other| line.max(*other))
+    match lines.get(name) {
+        Some(other) => Some(line.max(*other)),
+        None => None,
+    }
 }
 
 /// The least of the later lines of two uses of a name, one that the map has and one of these.
@@ -87,5 +120,5 @@ pub(crate) fn least_both_ways(
 ) -> Result<Option<u32>, AllocError>
     ensures { IfOk result (λ line. line ≡ passes.least_both_ways one.now other.now) }
 {
-    Ok(least_met(&lines_by_name(alloc, one)?, other))
+    Ok(least_met(&lines_by_name(alloc, one)?.map, other))
 }

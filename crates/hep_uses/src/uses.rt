@@ -62,19 +62,28 @@ type Names = Result<Vec<Name>, AllocError>;
 fn names_of(alloc: Global, occurrences: &[Occurrence]) -> Names
     ensures { IfOk result (λ names. names.items ≡ units.names_of_occurrences occurrences.now) }
 {
-    occurrences
-        .iter()
-        .map(|occurrence| occurrence.name)
-        .collect(alloc)
+    let mut names = Vec::new(alloc);
+    for occurrence in occurrences {
+        names.push(occurrence.name)?;
+    }
+    Ok(names)
+}
+
+fn add_declared(names: &mut Vec<Name>, declarators: &[Declarator]) -> Result<(), AllocError>
+    ensures { OnOk result (names.new.items ≡ names.old.items ++ declarations.names_declared declarators.now) }
+{
+    for declarator in declarators {
+        names.push(declarator.occurrence.name)?;
+    }
+    Ok(())
 }
 
 fn declared(alloc: Global, declarators: &[Declarator]) -> Names
     ensures { IfOk result (λ names. names.items ≡ declarations.names_declared declarators.now) }
 {
-    declarators
-        .iter()
-        .map(|declarator| declarator.occurrence.name)
-        .collect(alloc)
+    let mut names = Vec::new(alloc);
+    add_declared(&mut names, declarators)?;
+    Ok(names)
 }
 
 fn has_bounds(declarator: &Declarator) -> bool
@@ -115,15 +124,6 @@ fn bounded_in_blocks(alloc: Global, blocks: &[CommonBlock]) -> Names
     Ok(names)
 }
 
-fn add_declared(names: &mut Vec<Name>, declarators: &[Declarator]) -> Result<(), AllocError>
-    ensures { OnOk result (names.new.items ≡ names.old.items ++ declarations.names_declared declarators.now) }
-{
-    for declarator in declarators {
-        names.push(declarator.occurrence.name)?;
-    }
-    Ok(())
-}
-
 fn entries(alloc: Global, blocks: &[CommonBlock]) -> Names
     ensures { IfOk result (λ names. names.items
         ≡ flat_map (λ (b : PureBlock). declarations.names_declared b.entries) blocks.now) }
@@ -135,33 +135,45 @@ fn entries(alloc: Global, blocks: &[CommonBlock]) -> Names
     Ok(names)
 }
 
+// Adds a name, if there is one.
+fn add_if_any(names: &mut Vec<Name>, name: Option<Name>) -> Result<(), AllocError>
+    ensures { OnOk result (names.new.items ≡ names.old.items ++ option_to_list name) }
+{
+    if let Some(name) = name {
+        names.push(name)?;
+    }
+    Ok(())
+}
+
 // Blank COMMON has no name.
 fn names_of_blocks(alloc: Global, blocks: &[CommonBlock]) -> Names
     ensures { IfOk result (λ names. names.items
         ≡ flat_map (λ (b : PureBlock). option_to_list (declarations.block_of b)) blocks.now) }
 {
-    blocks
-        .iter()
-        .flat_map(|block| block_of(block))
-        .collect(alloc)
+    let mut names = Vec::new(alloc);
+    for block in blocks {
+        add_if_any(&mut names, block_of(block))?;
+    }
+    Ok(names)
 }
 
 fn constants(alloc: Global, constants: &[NamedConstant]) -> Names
     ensures { IfOk result (λ names. names.items ≡ declarations.names_of_constants constants.now) }
 {
-    constants
-        .iter()
-        .map(|constant| constant.occurrence.name)
-        .collect(alloc)
+    let mut names = Vec::new(alloc);
+    for constant in constants {
+        names.push(constant.occurrence.name)?;
+    }
+    Ok(names)
 }
 
-fn targets(alloc: Global, targets: &[Target]) -> Names
-    ensures { IfOk result (λ names. names.items ≡ conditions.names_of_targets targets.now) }
+fn add_targets(names: &mut Vec<Name>, targets: &[Target]) -> Result<(), AllocError>
+    ensures { OnOk result (names.new.items ≡ names.old.items ++ conditions.names_of_targets targets.now) }
 {
-    targets
-        .iter()
-        .map(|target| target.occurrence.name)
-        .collect(alloc)
+    for target in targets {
+        names.push(target.occurrence.name)?;
+    }
+    Ok(())
 }
 
 #[tactic(auto, using(crate::proofs::Used::targets_append))]
@@ -170,7 +182,7 @@ fn targets_of_groups(alloc: Global, groups: &[DataGroup]) -> Names
 {
     let mut names = Vec::new(alloc);
     for group in groups {
-        names.extend_from_slice(&targets(alloc, group.targets.as_slice())?)?;
+        add_targets(&mut names, group.targets.as_slice())?;
     }
     Ok(names)
 }
@@ -284,7 +296,9 @@ fn names_in(alloc: Global, symbols: &Symbols, statement: &Statement) -> Names
 fn at_most_one(alloc: Global, name: Option<Name>) -> Names
     ensures { IfOk result (λ names. names.items ≡ option_to_list name) }
 {
-    name.into_iter().collect(alloc)
+    let mut names = Vec::new(alloc);
+    add_if_any(&mut names, name)?;
+    Ok(names)
 }
 
 fn header_name(form: &Form) -> Option<Name>

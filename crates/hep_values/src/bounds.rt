@@ -42,7 +42,10 @@ pub fn integers(
 fn as_integer(value: Option<Value>) -> Option<i64>
     ensures { result ≡ option_map arithmetic.integer_of value }
 {
-    value.map(|value| integer_of(value))
+    match value {
+        Some(value) => Some(integer_of(value)),
+        None => None,
+    }
 }
 
 // A lower bound is 1 where there is none.
@@ -66,7 +69,10 @@ fn lower_value(
 fn closed_at(upper: Option<i64>) -> Option<Option<i64>>
     ensures { result ≡ option_map Some upper }
 {
-    upper.map(|upper| Some(upper))
+    match upper {
+        Some(upper) => Some(Some(upper)),
+        None => None,
+    }
 }
 
 fn upper_value(

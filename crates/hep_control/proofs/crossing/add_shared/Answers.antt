@@ -14,7 +14,7 @@ loop-range-preserved c =
     let i = c.loop-range.range-index in
     let r = c.range-item.result in
     let found = c.loop-range.lines.items in
-    lines-shared-next unit (get name_eq c.loop-range.last) (get name_eq c.is_shared.new.last) found _ _ (do_range r) (map do_range (drop (i + 1) ranges)) (map do_range (drop i ranges))
+    lines-shared-next unit (get name_eq c.loop-range.last.map) (get name_eq c.is_shared.new.last) found _ _ (do_range r) (map do_range (drop (i + 1) ranges)) (map do_range (drop i ranges))
     c.in_ok-is_reported.ensures.met (ap (map do_range) (drop_at ranges i r c.loop-range-test.true c.range-item.is)) c.loop-range.invariant
     (c.in_ok-add_line.ensures
     ∙ (ap (λ o. found ++ option_to_list o) c.line_when.ensures

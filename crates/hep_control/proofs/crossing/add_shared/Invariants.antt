@@ -7,5 +7,5 @@ use Rattle.hep_control.proofs.crossing.add_shared.Given as goal
 
 abbrev pub invariant-loop-range : goal.invariant-loop-range
 invariant-loop-range l =
-    l.lines.items ++ lines_shared l.unit (get name_eq l.last) (map do_range (drop l.range-index l.ranges))
+    l.lines.items ++ lines_shared l.unit (get name_eq l.last.map) (map do_range (drop l.range-index l.ranges))
     ≡ l.initial.lines.items ++ lines_shared l.unit (λ x. None) (map do_range l.ranges)

@@ -12,13 +12,13 @@ returns c =
     let rs = c.args.ranges.now in
     let cs = c.closed-closed.result.now in
     let crossed : c.in_ok-crossed.crossed ≡ least_met (map value_of_range rs ++ map (question_of_range unit) rs) =
-    cc (c.in_ok-crossed.ensures, c.in_ok-events_of_ranges.ensures) in
+    c.in_ok-crossed.ensures ∙ ap least_met c.in_ok-events_of_ranges.ensures in
     let by_block : c.in_ok-by_block.by_block ≡ least_met (map value_of_range rs ++ map (question_of_block unit) cs) =
-    cc (c.in_ok-by_block.ensures, c.in_ok-events_of_blocks.ensures) in
+    c.in_ok-by_block.ensures ∙ ap least_met c.in_ok-events_of_blocks.ensures in
     let by_range : c.in_ok-by_range.by_range ≡ least_met (flat_map values_in cs ++ map (question_in_range unit) rs) =
-    cc (c.in_ok-by_range.ensures, c.in_ok-events_in_blocks.ensures) in
+    c.in_ok-by_range.ensures ∙ ap least_met c.in_ok-events_in_blocks.ensures in
     let line : c.lesser-3.result ≡ least_line (least_line c.in_ok-crossed.crossed c.in_ok-shared.shared) (least_line c.in_ok-by_block.by_block c.in_ok-by_range.by_range) =
-    cc (c.lesser-3.ensures, c.lesser-2.ensures, c.lesser.ensures) in
+    c.lesser-3.ensures ∙ (λ i. least_line (c.lesser.ensures i) (c.lesser-2.ensures i)) in
     ap (reported 307) line
     ∙ reported-crossing unit rs cs c.requires.ranges (c.closed-closed.ensures ∙ ap (λ b. b.closed) c.requires.blocks)
     c.in_ok-crossed.crossed c.in_ok-shared.shared c.in_ok-by_block.by_block c.in_ok-by_range.by_range crossed c.in_ok-shared.ensures by_block by_range

@@ -8,4 +8,4 @@ use Rattle.hep_control.proofs.crossing.least_shared.Given as goal
 
 abbrev pub invariant-loop-range : goal.invariant-loop-range
 invariant-loop-range l =
-    least_line l.least (least_shared l.unit (get name_eq l.last) (map do_range (drop l.range-index l.ranges))) ≡ least_shared l.unit (λ x. None) (map do_range l.ranges)
+    least_line l.least (least_shared l.unit (get name_eq l.last.map) (map do_range (drop l.range-index l.ranges))) ≡ least_shared l.unit (λ x. None) (map do_range l.ranges)

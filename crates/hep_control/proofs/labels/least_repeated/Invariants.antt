@@ -6,4 +6,4 @@ use Rattle.hep_control.proofs.labels.least_repeated.Given as goal
 
 abbrev pub invariant-loop-statement : goal.invariant-loop-statement
 invariant-loop-statement l =
-    least_line l.least (least_repeated (contains nat_eq l.seen) (drop l.statement-index l.unit)) ≡ least_repeated (λ k. false) l.unit
+    least_line l.least (least_repeated (contains nat_eq l.seen.set) (drop l.statement-index l.unit)) ≡ least_repeated (λ k. false) l.unit

@@ -14,7 +14,7 @@ loop-statement-preserved c = λ x.
     let i = c.loop-statement.statement-index in
     let s = c.statement-item.result in
     let rest = drop (i + 1) ss in
-    let old = contains name_eq c.loop-statement.names x in
+    let old = contains name_eq c.loop-statement.names.set x in
     let next = drop_at ss i s c.loop-statement-test.true c.statement-item.is in
     let parts = sym (among-append x (names_listed_by s) (names_listed rest)) ∙ ap (λ us. is_among x (names_listed us)) (sym next) in
     left-turn (may_refer unit x) (is_among x (names_listed_by s)) (is_among x (names_listed rest)) old _ _ (c.in_ok-add_referenced.ensures x)
@@ -27,7 +27,7 @@ returns c = λ x.
     let i = c.loop-statement.statement-index in
     let e = c.loop-statement-test.false in
     let k : length ss ≤ i = omega arith in
-    let found = contains name_eq c.loop-statement.names x in
+    let found = contains name_eq c.loop-statement.names.set x in
     let m = may_refer unit x in
     sym (none-left m found)
     ∙ (ap (λ us. either found (m && is_among x (names_listed us))) (sym (drop_all i ss k))

@@ -5,4 +5,4 @@ use Rattle.hep_names.specs.Tables.{either, may_refer}
 use Rattle.hep_names.proofs.listed.referenced_names.Given as goal
 
 abbrev pub invariant-loop-statement : goal.invariant-loop-statement
-invariant-loop-statement l = (x : Name) → either (contains name_eq l.names x) (may_refer l.arrays x && is_among x (names_listed (drop l.statement-index l.statement-items))) ≡ (may_refer l.arrays x && is_among x (names_listed l.arrays))
+invariant-loop-statement l = (x : Name) → either (contains name_eq l.names.set x) (may_refer l.arrays x && is_among x (names_listed (drop l.statement-index l.statement-items))) ≡ (may_refer l.arrays x && is_among x (names_listed l.arrays))

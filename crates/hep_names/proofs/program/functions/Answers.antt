@@ -11,6 +11,6 @@ pub returns : goal.returns
 returns c = λ x.
     let program = c.args.program.now in
     let i = c.loop-number.number in
-    let table = get name_eq c.loop-number.numbers x in
+    let table = get name_eq c.loop-number.numbers.map x in
     let k : length program ≤ i = omega arith in
     sym (or-none table) ∙ (ap (λ us. option_or table (called_from function_name i x us)) (sym (drop_all i program k)) ∙ c.loop-number.invariant x)

@@ -15,7 +15,7 @@ loop-statement-preserved c = λ x.
     let i = c.loop-statement.statement-index in
     let s = c.statement-item.result in
     let says = declarator_by_form x in
-    let old = seen (get name_eq c.loop-statement.arrays x) in
+    let old = seen (get name_eq c.loop-statement.arrays.map x) in
     let given : declarator_among x (rest_after c.deref.result.now) ≡ says s.form =
     ap (declarator_among x) (ap rest_after c.deref.ensures.value ∙ c.in_ok-declarators.ensures) ∙ among_arrays x (declarators_in s.form) in
     ap (λ o. option_or o (first_in says (drop (i + 1) xs))) (c.in_ok-note_arrays.ensures x ∙ ap (option_or old) given)

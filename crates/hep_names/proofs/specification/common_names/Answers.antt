@@ -16,7 +16,7 @@ loop-statement-preserved c =
     let s = c.statement-item.result in
     let rest = drop (i + 1) ss in
     let next = drop_at ss i s c.loop-statement-test.true c.statement-item.is in
-    let old = get name_eq c.loop-statement.blocks in
+    let old = get name_eq c.loop-statement.blocks.map in
     let new = get name_eq c.note_blocks.new.blocks in
     let named = c.blocks_in.result.now in
     record {
@@ -35,7 +35,7 @@ pub returns-clause-blocks : goal.returns-clause-blocks
 returns-clause-blocks c = λ x.
     let e = c.loop-statement-test.false in
     let k : length c.args.unit.now ≤ c.loop-statement.statement-index = omega arith in
-    let found = get name_eq c.loop-statement.blocks x in
+    let found = get name_eq c.loop-statement.blocks.map x in
     sym (or-none found)
     ∙ (ap (λ ss. option_or found (tables.first_in (tables.block_by_form x) ss)) (sym (drop_all c.loop-statement.statement-index c.args.unit.now k)) ∙ c.loop-statement.invariant.noted x)
 
@@ -43,6 +43,6 @@ pub returns-clause-once : goal.returns-clause-once
 returns-clause-once c =
     let e = c.loop-statement-test.false in
     let k : length c.args.unit.now ≤ c.loop-statement.statement-index = omega arith in
-    let seen = get name_eq c.loop-statement.blocks in
+    let seen = get name_eq c.loop-statement.blocks.map in
     sym (and-true c.loop-statement.are_once)
     ∙ (ap (λ ss. c.loop-statement.are_once && tables.are_new (λ x. is_some (seen x)) (tables.names_in_common ss)) (sym (drop_all c.loop-statement.statement-index c.args.unit.now k)) ∙ c.loop-statement.invariant.new)

@@ -5,4 +5,4 @@ use Rattle.hep_names.specs.Tables.{either, any_in, constant_by_form}
 use Rattle.hep_names.proofs.specification.constant_names.Given as goal
 
 abbrev pub invariant-loop-statement : goal.invariant-loop-statement
-invariant-loop-statement l = (x : Name) → either (contains name_eq l.constants x) (any_in (constant_by_form x) (drop l.statement-index l.unit)) ≡ any_in (constant_by_form x) l.unit
+invariant-loop-statement l = (x : Name) → either (contains name_eq l.constants.set x) (any_in (constant_by_form x) (drop l.statement-index l.unit)) ≡ any_in (constant_by_form x) l.unit

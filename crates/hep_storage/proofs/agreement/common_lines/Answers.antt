@@ -8,7 +8,7 @@ use Rattle.hep_storage.proofs.agreement.common_lines.Goals as goal
 
 pub loop-symbols-preserved : goal.loop-symbols-preserved
 loop-symbols-preserved c =
-    let before = entry_at c.loop-symbols.table in
+    let before = entry_at c.loop-symbols.met.table in
     let read = entry_at c.read_blocks.new.table in
     let after = entry_at c.add_in_unit.new.table in
     record {
@@ -29,5 +29,5 @@ returns c = λ test.
     let e = c.loop-symbols-test.false in
     let n = ap length c.units-symbols-items.ensures in
     let k : length c.args.program.now ≤ c.loop-symbols.symbols-index = omega (arith, e, n) in
-    units-done test (blocks_of c.args.program.now) (λ b. summed_in (entry_at c.loop-symbols.table b)) c.args.program.now c.loop-symbols.symbols-index (list_any test c.loop-symbols.lines.items) _ k (c.loop-symbols.invariant.lines test)
+    units-done test (blocks_of c.args.program.now) (λ b. summed_in (entry_at c.loop-symbols.met.table b)) c.args.program.now c.loop-symbols.symbols-index (list_any test c.loop-symbols.lines.items) _ k (c.loop-symbols.invariant.lines test)
     ∙ told-common test c.args.program.now

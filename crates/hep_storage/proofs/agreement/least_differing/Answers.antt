@@ -8,7 +8,7 @@ use Rattle.hep_storage.proofs.agreement.least_differing.Goals as goal
 
 pub loop-symbols-preserved : goal.loop-symbols-preserved
 loop-symbols-preserved c =
-    let before = entry_at c.loop-symbols.table in
+    let before = entry_at c.loop-symbols.met.table in
     let read = entry_at c.read_blocks.new.table in
     let after = entry_at c.least_in_unit.new.table in
     record {
@@ -29,4 +29,4 @@ returns c =
     let e = c.loop-symbols-test.false in
     let n = ap length c.units-symbols-items.ensures in
     let k : length c.args.program.now ≤ c.loop-symbols.symbols-index = omega (arith, e, n) in
-    units-end (blocks_of c.args.program.now) (λ b. summed_in (entry_at c.loop-symbols.table b)) c.args.program.now c.loop-symbols.symbols-index _ _ k c.loop-symbols.invariant.least
+    units-end (blocks_of c.args.program.now) (λ b. summed_in (entry_at c.loop-symbols.met.table b)) c.args.program.now c.loop-symbols.symbols-index _ _ k c.loop-symbols.invariant.least

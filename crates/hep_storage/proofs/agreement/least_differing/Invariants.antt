@@ -9,8 +9,8 @@ use Rattle.hep_storage.proofs.agreement.least_differing.Given as goal
 abbrev pub invariant-loop-symbols : goal.invariant-loop-symbols
 invariant-loop-symbols l =
     record {
-      least : least_line l.least (least_of_blocks (blocks_of l.program) (λ b. summed_in (entry_at l.table b)) (drop l.symbols-index l.program))
+      least : least_line l.least (least_of_blocks (blocks_of l.program) (λ b. summed_in (entry_at l.met.table b)) (drop l.symbols-index l.program))
           ≡ least_of_blocks (blocks_of l.program) (λ b. nothing_summed) l.program;
-      none : (b : BlockName) → block_at (entry_at l.table b) ≡ None;
-      unread : (x : Name) → contains name_eq l.noted x ≡ false;
+      none : (b : BlockName) → block_at (entry_at l.met.table b) ≡ None;
+      unread : (x : Name) → contains name_eq l.met.noted x ≡ false;
     }

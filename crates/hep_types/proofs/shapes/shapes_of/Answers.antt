@@ -16,7 +16,7 @@ loop-statement-preserved c = λ x.
     let xs = c.statements-statement-items.result.now in
     let i = c.loop-statement.statement-index in
     let form = c.statement-item.result.form in
-    let old = get name_eq c.loop-statement.shapes x in
+    let old = get name_eq c.loop-statement.shapes.map x in
     let given : declarator_among x (rest_after c.deref.result.now) ≡ declarator_among x (declarators_in form) =
     ap (declarator_among x) (ap rest_after c.deref.ensures.value ∙ c.in_ok-declarators.ensures) ∙ among_arrays x (declarators_in form) in
     next-shape unit c.loop-statement.parameters c.add_all.new.self x (declarators_in form) old (get name_eq c.note_shapes.new.shapes x) c.statement-item.result (drop i xs) (drop (i + 1) xs) _

@@ -8,5 +8,5 @@ use Rattle.hep_uses.proofs.ambiguity.add_met_by.Goals as goal
 pub returns : goal.returns
 returns c =
     let us = c.args.one.now in
-    let same = met_from-same (get name_eq c.in_ok-lines.lines) (least_named us) c.in_ok-lines.ensures c.args.other.now in
+    let same = met_from-same (get name_eq c.in_ok-lines.lines.map) (least_named us) c.in_ok-lines.ensures c.args.other.now in
     c.in_ok-add_met.ensures ∙ ap (λ fs. c.args.found.now.items ++ fs) same

@@ -6,4 +6,4 @@ use Rattle.hep_uses.proofs.ambiguity.add_repeated.Given as goal
 
 abbrev pub invariant-loop-name : goal.invariant-loop-name
 invariant-loop-name l =
-    l.found.items ++ repeated_from same_name its_name (contains name_eq l.seen) (drop l.name-index l.uses) ≡ l.initial.found.items ++ repeated_names l.uses
+    l.found.items ++ repeated_from same_name its_name (contains name_eq l.seen.set) (drop l.name-index l.uses) ≡ l.initial.found.items ++ repeated_names l.uses

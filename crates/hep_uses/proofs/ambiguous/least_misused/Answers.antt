@@ -10,8 +10,8 @@ use Rattle.hep_uses.proofs.ambiguous.least_misused.Goals as goal
 pub loop-way-preserved : goal.loop-way-preserved
 loop-way-preserved c =
     let unit = c.args.symbols.now in
-    let table = get name_eq c.in_ok-lines.lines in
-    let known : (x : Name) → get name_eq c.in_ok-lines.lines x ≡ least_named (uses_of (function_types c.args.program.now) c.args.one unit) x =
+    let table = get name_eq c.in_ok-lines.lines.map in
+    let known : (x : Name) → get name_eq c.in_ok-lines.lines.map x ≡ least_named (uses_of (function_types c.args.program.now) c.args.one unit) x =
     λ x. c.in_ok-lines.ensures x ∙ ap (λ us. least_named us x) (c.deref-2.ensures.value ∙ c.in_ok-named.ensures) in
     least-turn (least_of_two_ways (function_types c.args.program.now) unit c.args.one) c.args.ways.now c.loop-way.way-index _ c.loop-way.least c.lesser-least.result _ c.least_met.result
     c.loop-way-test.true c.loop-way.invariant c.lesser-least.ensures

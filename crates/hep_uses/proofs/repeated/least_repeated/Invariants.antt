@@ -6,4 +6,4 @@ use Rattle.hep_uses.specs.Ambiguous as passes
 use Rattle.hep_uses.proofs.repeated.least_repeated.Given as goal
 
 abbrev pub invariant-loop-name : goal.invariant-loop-name
-invariant-loop-name l = least_line l.least (passes.least_repeated same_name (contains name_eq l.seen) (drop l.name-index l.uses)) ≡ passes.least_repeated_name l.uses
+invariant-loop-name l = least_line l.least (passes.least_repeated same_name (contains name_eq l.seen.set) (drop l.name-index l.uses)) ≡ passes.least_repeated_name l.uses

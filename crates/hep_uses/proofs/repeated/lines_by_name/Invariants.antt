@@ -6,4 +6,4 @@ use Rattle.hep_uses.specs.Ambiguous as passes
 use Rattle.hep_uses.proofs.repeated.lines_by_name.Given as goal
 
 abbrev pub invariant-loop-name : goal.invariant-loop-name
-invariant-loop-name l = (x : Name) → least_line (get name_eq l.lines x) (passes.least_named (drop l.name-index l.uses) x) ≡ passes.least_named l.uses x
+invariant-loop-name l = (x : Name) → least_line (get name_eq l.lines.map x) (passes.least_named (drop l.name-index l.uses) x) ≡ passes.least_named l.uses x

@@ -6,4 +6,4 @@ use Rattle.hep_culprits.proofs.faults.Faults.new.Given as goal
 
 abbrev pub invariant-loop-ambiguity : goal.invariant-loop-ambiguity
 invariant-loop-ambiguity l =
-    (line : ℕ) → option_or (get nat_eq l.names line) (name_at line (drop l.ambiguity-index l.ambiguity-items)) ≡ name_at line l.ambiguity-items
+    (line : ℕ) → option_or (get nat_eq l.names.map line) (name_at line (drop l.ambiguity-index l.ambiguity-items)) ≡ name_at line l.ambiguity-items
