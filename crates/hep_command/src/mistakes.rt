@@ -1,6 +1,5 @@
 //! What is said of words that `clap` refuses: its own text, and more where that says too little.
 
-use crate::job::{MOST_ARENA, MOST_RUNS, MOST_SEED, MOST_STEPS, MOST_WORKERS};
 use clap::Error;
 use clap::error::ErrorKind;
 use std::alloc::{AllocError, Global};
@@ -22,82 +21,105 @@ fn is_like_a_path(word: &str) -> bool {
     word.find('.').is_some() || word.find('/').is_some()
 }
 
+// Adds how this is run.
+fn add_run(text: &mut String, word: &str) -> Result<(), AllocError> {
+    text.push_str("Did you mean: hepf run ")?;
+    text.push_str(word)?;
+    text.push_str("\n")?;
+    Ok(())
+}
+
 // The text of an unknown command: where it looks like a file, how that is run.
 fn with_run<S: AsStr>(text: String, words: &[S]) -> Result<String, AllocError> {
     let mut all = text;
     match command_word(words) {
-        Some(word) if is_like_a_path(word) => {
-            all.push_str("Did you mean: hepf run ")?;
-            all.push_str(word)?;
-            all.push_str("\n")?;
-        }
+        Some(word) if is_like_a_path(word) => add_run(&mut all, word)?,
         _ => {}
     }
     Ok(all)
 }
 
-// The least number of an option.
-fn least_of(option: &str) -> u64 {
-    if option == "at" { 0 } else { 1 }
-}
-
-// The greatest number of an option; those that aren't named here count entries or processes.
-fn most_of(option: &str) -> u64 {
+// The numbers of an option; one that isn't named here counts entries or processes.
+fn range_of(option: &str) -> &'static str {
     if option == "arena" {
-        return u64::from(MOST_ARENA);
+        return "1 to 16777216";
     }
     if option == "workers" {
-        return MOST_WORKERS;
-    }
-    if option == "seed" {
-        return MOST_SEED;
+        return "1 to 16";
     }
     if option == "runs" {
-        return MOST_RUNS;
+        return "1 to 1000000";
     }
-    MOST_STEPS
+    if option == "at" {
+        return "0 to 4294967296";
+    }
+    "1 to 4294967296"
 }
 
-// The text with its reason replaced: which numbers the option takes, which is given with the letter that stands for them.
-fn with_numbers(
-    alloc: Global,
-    before: &str,
-    given: &str,
-    behind: &str,
-) -> Result<String, AllocError> {
-    let option = match given.split_once(" <") {
+// The option of what is given, which has the letter that stands for a number behind it.
+fn option_in(given: &str) -> &str {
+    match given.split_once(" <") {
         Some((option, _)) => option,
         None => given,
-    };
-    let (least, most) = (least_of(option), most_of(option));
-    format!(in alloc; "{before}' for '--{given}>': it takes a number, {least} to {most}\n{behind}")
-}
-
-// The text of an option's value that isn't taken: where it doesn't say which numbers are, it comes to.
-fn with_range(alloc: Global, text: String) -> Result<String, AllocError> {
-    let Some((before, rest)) = text.as_str().split_once("' for '--") else {
-        return Ok(text);
-    };
-    let Some((given, rest)) = rest.split_once(">': ") else {
-        return Ok(text);
-    };
-    match rest.split_once("\n") {
-        Some((reason, behind)) if reason.find(" is not in ").is_none() => with_numbers(
-            alloc, before, given, behind,
-        ),
-        _ => Ok(text),
     }
 }
 
-// The text of an option that isn't there, without the advice to pass it as a file.
-fn with_options(alloc: Global, text: String) -> Result<String, AllocError> {
-    let Some((before, rest)) = text.as_str().split_once(AS_A_VALUE) else {
-        return Ok(text);
+// What a text says before an option, of it and behind the reason, where the reason doesn't say which numbers it takes.
+fn without_reason(text: &str) -> Option<(&str, &str, &str)> {
+    let (before, rest) = text.split_once("' for '--")?;
+    let (given, rest) = rest.split_once(">': ")?;
+    let (reason, behind) = rest.split_once("\n")?;
+    if reason.find(" is not in ").is_some() {
+        return None;
+    }
+    Some((before, given, behind))
+}
+
+// Adds which numbers the option takes that is given, and what stands behind that.
+fn add_range(text: &mut String, given: &str, behind: &str) -> Result<(), AllocError> {
+    text.push_str("' for '--")?;
+    text.push_str(given)?;
+    text.push_str(">': it takes a number, ")?;
+    text.push_str(range_of(option_in(given)))?;
+    text.push_str("\n")?;
+    text.push_str(behind)?;
+    Ok(())
+}
+
+// The text of an option's value that isn't taken, where it doesn't say which numbers are: with these.
+fn with_range(alloc: Global, text: &str) -> Result<Option<String>, AllocError> {
+    let Some((before, given, behind)) = without_reason(text) else {
+        return Ok(None);
     };
-    let Some((_, behind)) = rest.split_once("\n") else {
-        return Ok(text);
+    let mut all = String::from_str(alloc, before)?;
+    add_range(&mut all, given, behind)?;
+    Ok(Some(all))
+}
+
+// What a text says before the advice to pass an option as a file, and behind it.
+fn without_advice(text: &str) -> Option<(&str, &str)> {
+    let (before, rest) = text.split_once(AS_A_VALUE)?;
+    let (_, behind) = rest.split_once("\n")?;
+    Some((before, behind))
+}
+
+// The text of an option that isn't there, with other advice.
+fn with_options(alloc: Global, text: &str) -> Result<Option<String>, AllocError> {
+    let Some((before, behind)) = without_advice(text) else {
+        return Ok(None);
     };
-    format!(in alloc; "{before}  tip: '--help' shows the options that there are\n{behind}")
+    let mut all = String::from_str(alloc, before)?;
+    all.push_str("  tip: '--help' shows the options that there are\n")?;
+    all.push_str(behind)?;
+    Ok(Some(all))
+}
+
+// The text in the place of another one, where there is one.
+fn replaced(text: String, other: Option<String>) -> String {
+    match other {
+        Some(other) => other,
+        None => text,
+    }
 }
 
 /// What is said of these words, which `clap` refuses so.
@@ -113,8 +135,14 @@ pub(crate) fn said<S: AsStr>(
     let text = format!(in alloc; "{error}")?;
     match error.kind() {
         ErrorKind::InvalidSubcommand => with_run(text, words),
-        ErrorKind::ValueValidation => with_range(alloc, text),
-        ErrorKind::UnknownArgument => with_options(alloc, text),
+        ErrorKind::ValueValidation => {
+            let other = with_range(alloc, text.as_str())?;
+            Ok(replaced(text, other))
+        }
+        ErrorKind::UnknownArgument => {
+            let other = with_options(alloc, text.as_str())?;
+            Ok(replaced(text, other))
+        }
         _ => Ok(text),
     }
 }

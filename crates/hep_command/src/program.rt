@@ -1,7 +1,7 @@
 //! The commands of the table, as `clap` reads them and shows them in its help.
 
 ghost use Rattle.std.specs.Prelude.{◌≡◌, true, IfOk};
-ghost use Rattle.clap.specs.Words.{App, Rule, with_rule, with_subcommand};
+ghost use Rattle.clap.specs.Words.{App, with_rule, with_subcommand};
 ghost use Rattle.hep_command.specs.Program.{IsArgument, IsCommand};
 ghost use Rattle.hep_command.specs.Program as spec;
 ghost use Rattle.hep_command.specs.Table.{app_of_command, rule_of_word, with_commands, with_words};
@@ -18,6 +18,8 @@ const ABOUT: &str = "Compiles and runs HEP FORTRAN.";
 
 const EXAMPLES: &str =
     "No command runs standard input. `hepf COMMAND --help` and `man hepf` have more.";
+
+const NO_WORDS: &[&str] = &[];
 
 // The argument of a word, as `clap` has it.
 fn argument_of<'a>(alloc: Global, word: &Word) -> Arg<'a>
@@ -51,15 +53,15 @@ fn argument_of<'a>(alloc: Global, word: &Word) -> Arg<'a>
     }
 }
 
-// A command with one argument more, unless memory was refused for it.
-fn with_argument<'a>(
+// A command with one word more, unless memory was refused for it.
+fn with_word<'a>(
+    alloc: Global,
     whole: Result<Command<'a>, AllocError>,
-    part: Arg<'a>,
+    word: &Word,
 ) -> Result<Command<'a>, AllocError>
-    ensures { (app : App) (rule : Rule) → IfOk whole.entry (IsCommand app) → IsArgument rule part.entry
-        → IfOk result (IsCommand (with_rule app rule)) }
+    ensures { (app : App) → IfOk whole.entry (IsCommand app) → IfOk result (IsCommand (with_rule app (rule_of_word word.now))) }
 {
-    whole?.arg(part)
+    whole?.arg(argument_of(alloc, word))
 }
 
 // A command with these words more, unless memory was refused for one.
@@ -72,11 +74,7 @@ fn with_words<'a>(
 {
     match words {
         [] => whole,
-        [first, others @ ..] => with_words(
-            alloc,
-            with_argument(whole, argument_of(alloc, first)),
-            others,
-        ),
+        [first, others @ ..] => with_words(alloc, with_word(alloc, whole, first), others),
     }
 }
 
@@ -89,6 +87,12 @@ fn command_of<'a>(alloc: Global, described: &Described) -> Result<Command<'a>, A
     with_words(alloc, Ok(bare), described.words)
 }
 
+// Lets a command go, by `clap` itself: a drop here would be proved for all that a command can have, and takes longer to
+// prove than all else of this crate. It is called only where memory was refused, and the program ends then.
+fn let_go(command: Command<'_>) {
+    let _ = command.try_get_matches_from(NO_WORDS);
+}
+
 // A command with one more, unless memory was refused for it.
 fn with_command<'a>(
     alloc: Global,
@@ -98,8 +102,14 @@ fn with_command<'a>(
     ensures { (app : App) → IfOk whole.entry (IsCommand app)
         → IfOk result (IsCommand (with_subcommand app (app_of_command described.now).top)) }
 {
-    let part = command_of(alloc, described)?;
-    whole?.subcommand(part)
+    let command = whole?;
+    match command_of(alloc, described) {
+        Ok(part) => command.subcommand(part),
+        Err(refused) => {
+            let_go(command);
+            Err(refused)
+        }
+    }
 }
 
 // A command with these more, unless memory was refused for one.

@@ -47,7 +47,7 @@ is-refusal NoMemory number program options met is = absurd (none-some number is)
 is-refusal ArenaFull number program options met is = absurd (none-some number is)
 is-refusal NoTicket number program options met is = let same : 506 ≡ number = cc in subst (λ n. is_refusal_of_workers n ≡ true) same refl
 is-refusal NoThread number program options met is = let same : 704 ≡ number = cc in subst (λ n. is_refusal_of_workers n ≡ true) same refl
-is-refusal (Close fault) number program options (fits, core, logs, run, shared, left) is = other-number fault core program options logs run left number is
+is-refusal (Close fault) number program options (fits, (core, logs, run, shared, left)) is = other-number fault core program options logs run left number is
 
 -- where anything else than a full arena is the reason, the main program's frame has a gap
 pub fits-else : (fault : WorkFault) (program : Units) (options : WorkOptions) → fault ≢ ArenaFull → IsWorkFault fault program options → IsSome (opening_layout program options.arena)

@@ -30,7 +30,12 @@ fn is_comment(line: &[u8]) -> bool
 fn all_blank(columns: &[u8]) -> bool
     ensures { result ≡ list_all is_blank columns.now }
 {
-    columns.iter().all(|byte| *byte == b' ')
+    for byte in columns {
+        if *byte != b' ' {
+            return false;
+        }
+    }
+    true
 }
 
 // What stands behind so many columns.

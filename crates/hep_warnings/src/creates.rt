@@ -25,7 +25,12 @@ struct Site {
 fn is_variable(around: &[Loop], name: &Name) -> bool
     ensures { result ≡ creates.is_variable around.now name.now }
 {
-    around.iter().any(|one| one.variable == *name)
+    for one in around {
+        if one.variable == *name {
+            return true;
+        }
+    }
+    false
 }
 
 // Adds a warning of an actual argument, if it is the variable of one of these DOs.

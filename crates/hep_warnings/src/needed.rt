@@ -17,9 +17,12 @@ use std::alloc::{AllocError, Global};
 fn has_asynchronous(occurrences: &[Occurrence]) -> bool
     ensures { result ≡ list_any once.is_asynchronous occurrences.now }
 {
-    occurrences
-        .iter()
-        .any(|occurrence| occurrence.name.asynchronous)
+    for occurrence in occurrences {
+        if occurrence.name.asynchronous {
+            return true;
+        }
+    }
+    false
 }
 
 // One of these refers to a function of the program.

@@ -11,7 +11,7 @@ use itoa::Buffer;
 use std::alloc::{AllocError, Global};
 
 /// What a warning says of its line.
-#[derive(Clone, Copy, Debug, PartialEq, Eq)]
+#[derive(Clone, Copy)]
 pub enum Kind {
     /// Something stands behind column 72, which doesn't count.
     Behind,
@@ -30,7 +30,7 @@ pub enum Kind {
 }
 
 /// A warning: a line of the source, counted from 1, and what is said of it.
-#[derive(Clone, Copy, Debug, PartialEq, Eq)]
+#[derive(Clone, Copy)]
 pub struct Warning {
     pub line: u32,
     pub kind: Kind,
@@ -67,13 +67,28 @@ fn append_name(text: &mut Vec<u8>, name: &Name) -> Result<(), AllocError>
     append_letters(text, &name.letters)
 }
 
-// Appends a name and what is said of it.
-fn append_about(text: &mut Vec<u8>, name: &Name, said: &[u8]) -> Result<(), AllocError>
-    ensures { OnOk result (text.new.items ≡ text.old.items ++ (codes "NAME " ++ spelling name.now ++ said.now)) }
+// Appends a name with what stands before it and behind it.
+fn append_about(
+    text: &mut Vec<u8>,
+    before: &[u8],
+    name: &Name,
+    behind: &[u8],
+) -> Result<(), AllocError>
+    ensures { OnOk result (text.new.items ≡ text.old.items ++ (before.now ++ spelling name.now ++ behind.now)) }
 {
-    text.extend_from_slice(b"NAME ")?;
+    text.extend_from_slice(before)?;
     append_name(text, name)?;
-    text.extend_from_slice(said)?;
+    text.extend_from_slice(behind)?;
+    Ok(())
+}
+
+// Appends what is said of a label.
+fn append_label(text: &mut Vec<u8>, label: u32) -> Result<(), AllocError>
+    ensures { OnOk result (text.new.items ≡ text.old.items ++ (codes "LABEL " ++ decimal label ++ codes " UNUSED")) }
+{
+    text.extend_from_slice(b"LABEL ")?;
+    append_number(text, label)?;
+    text.extend_from_slice(b" UNUSED")?;
     Ok(())
 }
 
@@ -82,29 +97,20 @@ fn append_kind(text: &mut Vec<u8>, kind: &Kind) -> Result<(), AllocError>
     ensures { OnOk result (text.new.items ≡ text.old.items ++ lines.kind_text kind.now) }
 {
     match kind {
-        Kind::Behind => text.extend_from_slice(b"BEHIND COLUMN 72")?,
-        Kind::Label(label) => {
-            text.extend_from_slice(b"LABEL ")?;
-            append_number(text, *label)?;
-            text.extend_from_slice(b" UNUSED")?;
+        Kind::Behind => {
+            text.extend_from_slice(b"BEHIND COLUMN 72")?;
+            Ok(())
         }
-        Kind::Unit(name) => {
-            text.extend_from_slice(b"UNIT ")?;
-            append_name(text, name)?;
-            text.extend_from_slice(b" UNUSED")?;
-        }
+        Kind::Label(label) => append_label(text, *label),
+        Kind::Unit(name) => append_about(text, b"UNIT ", name, b" UNUSED"),
         Kind::Create(subroutine, variable) => {
-            text.extend_from_slice(b"CREATE ")?;
-            append_name(text, subroutine)?;
-            text.extend_from_slice(b" PASSES ")?;
-            append_name(text, variable)?;
-            text.extend_from_slice(b" OF A DO")?;
+            append_about(text, b"CREATE ", subroutine, b" PASSES ")?;
+            append_about(text, b"", variable, b" OF A DO")
         }
-        Kind::Once(name) => append_about(text, name, b" USED ONCE")?,
-        Kind::NeverFilled(name) => append_about(text, name, b" NEVER FILLED")?,
-        Kind::NeverRead(name) => append_about(text, name, b" NEVER READ")?,
+        Kind::Once(name) => append_about(text, b"NAME ", name, b" USED ONCE"),
+        Kind::NeverFilled(name) => append_about(text, b"NAME ", name, b" NEVER FILLED"),
+        Kind::NeverRead(name) => append_about(text, b"NAME ", name, b" NEVER READ"),
     }
-    Ok(())
 }
 
 // Appends the line of a warning.

@@ -6,11 +6,11 @@ use Rattle.hep_command.proofs.TableLemmas.{is_plain}
 use Rattle.hep_command.proofs.program.with_command.Goals as goal
 use Rattle.std.proofs.lemmas.Bool.{not-true}
 
-pub returns : goal.returns
-returns c = λ app whole.
-    let whole_is : app_of c.in_ok-whole.field-0 ≡ app = search (rules, whole) in
-    let part_is = c.in_ok-part.ensures in
-    let plain_part : (app_of c.in_ok-part.part).top.is_plain ≡ true = ap (λ (a : App). a.top.is_plain) part_is ∙ is_plain c.args.described.now in
+pub returns-in-Ok : goal.returns-in-Ok
+returns-in-Ok c = λ app whole.
+    let whole_is : app_of c.in_ok-command.command ≡ app = search (rules, whole) in
+    let part_is = c.in-Ok.ensures in
+    let plain_part : (app_of c.in-Ok.part).top.is_plain ≡ true = ap (λ (a : App). a.top.is_plain) part_is ∙ is_plain c.args.described.now in
     let rest = (both _ _ plain_part).1 in
     let later = (both _ _ rest).1 in
     let no_globals = not-true _ (both _ _ later).0 in
