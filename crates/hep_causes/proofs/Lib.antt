@@ -6,3 +6,6 @@ pub mod Found
 pub mod Beginning
 mod Quiet
 mod Moved
+pub mod Turning
+mod Remade
+mod Begun

@@ -1,5 +1,6 @@
 -- Turns of one process in a row which fill and empty nothing, made again, with what watches have seen.
-use Rattle.std.proofs.Common.{◌≡◌, ℕ, zero, suc, ◌<◌, ◌&&◌, Bool, true, false, true≢false, List, [], ◌∷◌, ◌++◌, length, not, Option, Some, None, refl, sym, ap, ◌∙◌, subst, arith, IsSome, if◌then◌else◌, nat_le, slice_get}
+use Rattle.std.proofs.Common.{◌≡◌, ℕ, zero, suc, ◌<◌, ◌≤◌, ◌&&◌, Bool, true, false, true≢false, List, [], ◌∷◌, ◌++◌, length, not, Option, Some, None, refl, sym, ap, ◌∙◌, subst, arith, IsSome, if◌then◌else◌, nat_le, slice_get}
+use Rattle.std.proofs.lemmas.Bool.Decides.{nat_tests}
 use Rattle.std.proofs.lemmas.Option.{none-some, same_Some}
 use Rattle.hep_core.proofs.Histories.{schedule-stepped, state-is}
 use Rattle.hep_core.specs.Going.{entries_along}
@@ -36,6 +37,10 @@ unchanged-so at s t same = by (is_there s at) refl
     by : (b : Bool) → is_there s at ≡ b → (b && not (same_logical (s.store at).full (t.store at).full)) ≡ false
     by true e = ap (λ f. not (same_logical (s.store at).full f)) (same e) ∙ ap not (same-self (s.store at).full)
     by false e = refl
+
+-- what is there where no more activations were made was there
+there-back : (s t : State) (at : Location) → length t.activations ≤ length s.activations → is_there t at ≡ true → is_there s at ≡ true
+there-back s t at few there = grind (arith, nat_tests, few, there)
 
 module _ (program : Units) (p : ℕ) (at : Location) where
   -- it is as full after a turn as before it, if it was there
@@ -125,6 +130,17 @@ module _ (whole : Whole) (history : List Entry) (p : ℕ) (ts left : List (ℕ �
             latest = ap (λ o. latest_along whole.program at t o left) same ∙ latest;
           }
       by false e = record { watch = a.watch; full = λ h. absurd (true≢false (sym h ∙ e)); latest = latest }
+
+  -- and one that hasn't, where no activation was made
+  pub unlooked-quiet : (w : Watch) (at : Location) → length t.activations ≤ length s.activations → AreQuiet whole.program p at history (length ts)
+      → IsAlong whole history (ts ++ left) w at → IsAlong whole after left w at
+  unlooked-quiet w at few quiet a = record {
+    watch = a.watch;
+    full = λ there.
+        let before = there-back s t at few there in
+        a.full before ∙ sym (quiet-full whole.program p at (length ts) history quiet before);
+    latest = sym (quiet-latest whole.program p at ts left history w.latest are quiet) ∙ a.latest;
+  }
 
 -- ---- a core
 
@@ -229,6 +245,24 @@ module _ (whole : Whole) (core : CoreValue) (p : ℕ) (ts left : List (ℕ × �
           let is : looked (state_after whole.program history_after) a.0 made change v.0 ≡ w = same_Some _ w (sym (looks.each i v.0 a.0 v.1 (kept-after v.0 a.0 a.1)) ∙ e) in
           let quiet = quiet-all whole p ts left core.history a.0 v.0.cell are unwatched a.1.watch.kept unchanged in
           (a.0, subst (λ (x : Watch). IsAlong whole history_after left x a.0) is (looked-quiet whole core.history p ts left are v.0 a.0 made change made_is quiet a.1))
+
+  -- many turns that fill and empty nothing, and make no activation
+  pub along-unlooked : (new : CoreValue) → new ≡ core_after whole p history_after → length (state_of new).activations ≤ length (state_of core).activations
+      → AreUnchanged whole p core.history (length ts) → AreAlong whole new left ws
+  along-unlooked new e few unchanged =
+      subst (λ (c : CoreValue). AreAlong whole c left ws) (sym e) (record { is = refl; turns = base.turns; steps = base.steps; laid = h.laid; few = base.few; each = each })
+    where
+      few-so : length (state_after whole.program history_after).activations ≤ length (state_after whole.program core.history).activations
+      few-so =
+          let made = ap (λ (c : CoreValue). length (state_of c).activations) e in
+          let made_before = ap (λ (c : CoreValue). length (state_after c.program core.history).activations) h.is in
+          omega (arith, few, made, made_before)
+
+      each : (i : ℕ) (w : Watch) → slice_get ws i ≡ Some w → (at : Location) × IsAlong whole history_after left w at
+      each i w f =
+          let a = h.each i w f in
+          let quiet = quiet-all whole p ts left core.history a.0 w.cell are unwatched a.1.watch.kept unchanged in
+          (a.0, unlooked-quiet whole core.history p ts left are w a.0 few-so quiet a.1)
 
   -- many turns that fill and empty nothing, and then one look
   pub along-many : (new : CoreValue) (made : ℕ) (change : Option Change) (watches : List Watch) → new ≡ core_after whole p history_after

@@ -2,7 +2,6 @@
 use Rattle.std.specs.Prelude.{◌≡◌, ◌≢◌, ◌+◌, ◌⊎◌, ◌<◌, ◌≤◌, ℕ, zero, suc, true, false, ◌&&◌, not, nat_le, if◌then◌else◌, List, [], ◌∷◌, ◌++◌, length, map, Option, Some, None, IsSome, slice_get}
 use Rattle.std.specs.Option.{option_map, option_to_list}
 use Rattle.hep_core.specs.Value.{CoreValue, listed_after, state_of}
-use Rattle.hep_core.specs.Going.{entries_along}
 use Rattle.hep_history.specs.Progress.{IsStanding, turn_entry}
 use Rattle.hep_history.specs.Replays.{HaveGaps, most_entries, replayed, standing}
 use Rattle.hep_layout.specs.Words.{address}
@@ -12,7 +11,8 @@ use Rattle.hep_reasons.specs.Changes.{is_there, latest_along, latest_change, own
 use Rattle.hep_reasons.specs.Reasons.{reason_with}
 use Rattle.hep_reasons.specs.declared.reason.Change.{Change}
 use Rattle.hep_reasons.specs.declared.reason.Reason.{Reason}
-use Rattle.hep_state.specs.Words.{Changes}
+use Rattle.hep_state.specs.declared.machine.Machine.{Machine}
+use Rattle.hep_state.specs.Words.{IsMachineAfter}
 use Rattle.hep_views.specs.declared.listed.Listed.{Listed}
 use Rattle.hep_causes.specs.declared.watch.Watch.{Watch}
 
@@ -73,6 +73,10 @@ pub record IsKeptOnceThere (core : CoreValue) (w : Watch) (at : Location) : Type
 abbrev pub AreKeptOnceThere : CoreValue → List Watch → Type 0
 AreKeptOnceThere core ws = (i : ℕ) (w : Watch) → slice_get ws i ≡ Some w → (at : Location) × IsKeptOnceThere core w at
 
+-- a machine keeps the state after a core's history
+abbrev pub IsMachineOf : CoreValue → Machine → Type 0
+IsMachineOf core m = IsMachineAfter core.program core.cells (schedule_of core.history) m
+
 -- a watch that has looked at its storage unit after a step, before which so many activations were made, and which is this as a change
 abbrev pub looked : State → Location → ℕ → Option Change → Watch → Watch
 looked s at made change w =
@@ -87,6 +91,14 @@ looked s at made change w =
 pub record HaveLooked (core : CoreValue) (made : ℕ) (change : Option Change) (old new : List Watch) : Type 0 where
   pub each : (i : ℕ) (w : Watch) (at : Location) → slice_get old i ≡ Some w → IsKeptOnceThere core w at → slice_get new i ≡ Some (looked (state_of core) at made change w)
   pub same : WaitTheSame old new
+
+-- a machine keeps the state after the history of some core, in which the storage units of all are kept so
+abbrev pub CanLook : Machine → List Watch → Type 0
+CanLook m ws = (core : CoreValue) × IsMachineOf core m × AreKeptOnceThere core ws
+
+-- in each such core
+abbrev pub Looks : Machine → ℕ → Option Change → List Watch → List Watch → Type 0
+Looks m made change old new = (core : CoreValue) → IsMachineOf core m → AreKeptOnceThere core old → HaveLooked core made change old new
 
 -- ---- making turns again
 
@@ -124,18 +136,6 @@ pub record AreAlong (whole : Whole) (core : CoreValue) (left : List (ℕ × ℕ)
 abbrev pub AreOf : ℕ → List (ℕ × ℕ) → Type 0
 AreOf p [] = Unit {0}
 AreOf p (t ∷ ts) = (t.1 ≡ p) × AreOf p ts
-
--- so many turns of process p, of which the first one is told by an entry
-pub record AreTurnsOf (p entry most : ℕ) (ts : List (ℕ × ℕ)) : Type 0 where
-  pub each : AreOf p ts
-  pub many : length ts ≡ most
-  pub others : List (ℕ × ℕ)
-  pub begin : ts ≡ (entry, p) ∷ others
-
--- p has made so many turns: one, or more that fill and empty nothing
-pub record HasMoved (old : CoreValue) (p made : ℕ) (new : CoreValue) : Type 0 where
-  pub is : new ≡ standing old.program old.cells (entries_along old.history p made)
-  pub so : (made ≡ 1) ⊎ ((k : ℕ) → k < made → Changes old.program old.cells (schedule_of (entries_along old.history p k)) p None)
 
 -- the turns of so many entries of one step of process p, of which the first one has this number
 abbrev pub turns_in_row : ℕ → ℕ → ℕ → List (ℕ × ℕ)

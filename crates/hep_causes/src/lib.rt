@@ -1,6 +1,7 @@
 //! Why processes wait, read from a history that is made again.
 #![tactic(auto)]
 
+mod again;
 mod looking;
 pub mod making;
 pub mod reading;

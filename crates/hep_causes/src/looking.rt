@@ -1,15 +1,18 @@
 //! What processes wait for, and whether it is full.
-ghost use Rattle.std.specs.Prelude.{◌≡◌, ◌++◌, ◌&&◌, IfOk, OnOk, if◌then◌else◌, length, map, nat_le, not};
+ghost use Rattle.std.specs.Prelude.{◌≡◌, ◌⊎◌, ◌≤◌, ◌++◌, ◌&&◌, ℕ, List, IfOk, IsSome, None, OnOk, Some, if◌then◌else◌, length, map, nat_le, not};
 ghost use Rattle.std.specs.Option.{option_to_list};
-ghost use Rattle.hep_core.specs.Value.{listed_after, state_of};
-ghost use Rattle.hep_machine.specs.Words.{Location, same_logical, schedule_of};
+ghost use Rattle.hep_core.specs.Value.{CoreValue, listed_after, state_of};
+ghost use Rattle.hep_machine.specs.Words.{Location, living, run, same_logical, schedule_of};
 ghost use Rattle.hep_reasons.specs.Changes as words;
-ghost use Rattle.hep_causes.specs.Watches.{AreKeptOnceThere, AreNewWatches, HaveLooked, IsKeptIn, IsKeptOnceThere, IsWatchOf, listed_from, looked};
+ghost use Rattle.hep_state.specs.Words.{IsMachineAfter};
+ghost use Rattle.hep_causes.specs.Watches.{AreNewWatches, CanLook, IsKeptIn, IsKeptOnceThere, IsMachineOf, IsWatchOf, Looks, listed_from, looked};
 
 use crate::watch::Watch;
 use hep_core::Core;
+use hep_image::Image;
 use hep_reasons::Change;
-use hep_views::finding::listed;
+use hep_state::Machine;
+use hep_views::finding::{listed, whereabouts};
 use std::alloc::{AllocError, Global};
 
 // Process p, if it was found waiting and waits since.
@@ -60,29 +63,25 @@ pub(crate) fn all_watches(alloc: Global, core: &Core) -> Result<Vec<Watch>, Allo
     Ok(watches)
 }
 
-/// The next step of process p, which is told by an entry, as a change.
-pub(crate) fn change_by(core: &Core, p: u64, entry: u64) -> Option<Change>
-    ensures { result ≡ words.change_by core.now.core.program entry p (state_of core.now.core) }
+/// The next step of process p, which lives, and which is told by an entry, as a change.
+pub(crate) fn change_by(machine: &Machine, image: &Image, p: u64, entry: u64) -> Change
+    requires { (cells : ℕ) × (choices : List ℕ) × IsMachineAfter image.now cells choices machine.now
+        × IsSome (living (run image.now choices) p) }
+    ensures { (cells : ℕ) (choices : List ℕ) → IsMachineAfter image.now cells choices machine.now → IsSome (living (run image.now choices) p)
+        → words.change_by image.now entry p (run image.now choices) ≡ Some result }
 {
-    match core.whereabouts(p) {
-        Some(place) => Some(Change { entry, place }),
-        None => None,
+    Change {
+        entry,
+        place: whereabouts(machine, image, p),
     }
 }
 
-/// How many activations were made.
-pub(crate) fn activations(core: &Core) -> u64
-    ensures { result ≡ length (state_of core.now.core).activations }
-{
-    core.machine().activations
-}
-
 // Whether the storage unit is full that is kept in a cell.
-fn is_full(core: &Core, cell: u32) -> bool
-    requires { (at : Location) × IsKeptIn core.now.core at cell }
-    ensures { (at : Location) → IsKeptIn core.now.core at cell → result ≡ ((state_of core.now.core).store at).full }
+fn is_full(machine: &Machine, cell: u32) -> bool
+    requires { (core : CoreValue) × (at : Location) × IsMachineOf core machine.now × IsKeptIn core at cell }
+    ensures { (core : CoreValue) (at : Location) → IsMachineOf core machine.now → IsKeptIn core at cell → result ≡ ((state_of core).store at).full }
 {
-    core.machine().frames.get(cell).full
+    machine.frames.get(cell).full
 }
 
 // The latest change of a watch, where its storage unit is this full after a step, which is this as a change.
@@ -97,15 +96,16 @@ fn latest(watch: Watch, made: u64, full: bool, change: Option<Change>) -> Option
 }
 
 // A watch that has looked at its storage unit.
-fn look_once(core: &Core, watch: Watch, made: u64, change: Option<Change>) -> Watch
-    requires { (at : Location) × IsKeptOnceThere core.now.core watch at }
-    ensures { (at : Location) → IsKeptOnceThere core.now.core watch at → result ≡ looked (state_of core.now.core) at made change watch }
+fn look_once(machine: &Machine, watch: Watch, made: u64, change: Option<Change>) -> Watch
+    requires { (core : CoreValue) × (at : Location) × IsMachineOf core machine.now × IsKeptOnceThere core watch at }
+    ensures { (core : CoreValue) (at : Location) → IsMachineOf core machine.now → IsKeptOnceThere core watch at
+        → result ≡ looked (state_of core) at made change watch }
 {
-    let made_now = activations(core);
+    let made_now = machine.activations;
     if made_now < watch.listed.owner {
         return watch;
     }
-    let full = is_full(core, watch.cell);
+    let full = is_full(machine, watch.cell);
     Watch {
         listed: watch.listed,
         cell: watch.cell,
@@ -115,11 +115,24 @@ fn look_once(core: &Core, watch: Watch, made: u64, change: Option<Change>) -> Wa
 }
 
 /// Looks at the storage units of all watches after a step, before which so many activations were made, and which is this as a change.
-pub(crate) fn look(core: &Core, watches: &mut Vec<Watch>, made: u64, change: Option<Change>)
-    requires { AreKeptOnceThere core.now.core watches.old.items }
-    ensures { HaveLooked core.now.core made change watches.old.items watches.new.items }
+pub(crate) fn look(machine: &Machine, watches: &mut Vec<Watch>, made: u64, change: Option<Change>)
+    requires { CanLook machine.now watches.old.items }
+    ensures { Looks machine.now made change watches.old.items watches.new.items }
 {
     for index in 0..watches.len() {
-        watches[index] = look_once(core, watches[index], made, change);
+        watches[index] = look_once(machine, watches[index], made, change);
     }
+}
+
+/// Looks at them after steps that fill and empty nothing, before which so many activations were made, where any was made since.
+pub(crate) fn look_at_new(machine: &Machine, watches: &mut Vec<Watch>, made: u64)
+    requires { CanLook machine.now watches.old.items }
+    ensures { Looks machine.now made None watches.old.items watches.new.items
+        ⊎ ((machine.now.activations ≤ made) × (watches.new.items ≡ watches.old.items)) }
+{
+    let made_now = machine.activations;
+    if made_now <= made {
+        return;
+    }
+    look(machine, watches, made, None);
 }

@@ -1,15 +1,19 @@
 //! Turns of a history, made again, while the storage units of watches are looked at.
-ghost use Rattle.std.specs.Prelude.{◌≡◌, ◌+◌, ◌^◌, ◌<◌, ◌≤◌, ◌∷◌, ◌++◌, [], drop, false, replicate, ℕ, List, IfOk, OnOk};
+ghost use Rattle.std.specs.Prelude.{◌≡◌, ◌+◌, ◌-◌, ◌^◌, ◌<◌, ◌≤◌, ◌∷◌, [], false, replicate, IfOk, OnOk};
 ghost use Rattle.hep_entries.specs.Runs.{entry_of};
+ghost use Rattle.hep_history.specs.First.{first_of};
 ghost use Rattle.hep_history.specs.Progress.{longer, turn_entry};
 ghost use Rattle.hep_reasons.specs.Changes.{turns_from, turns_of};
-ghost use Rattle.hep_causes.specs.Watches.{AreAlong, AreTurnsOf, CanTurn, HasMoved, WaitTheSame, Whole, turns_in_row};
+ghost use Rattle.hep_causes.specs.Making.{CanRemake, Remakes};
+ghost use Rattle.hep_causes.specs.Watches.{CanTurn, WaitTheSame, turns_in_row};
 
-use crate::looking::{activations, change_by, look};
+use crate::again::Again;
+use crate::looking::{change_by, look, look_at_new};
 use crate::watch::Watch;
 use hep_core::{ChooseFault, Core};
 use hep_entries::Run;
-use hep_history::History;
+use hep_going::Tabled;
+use hep_history::First;
 use hep_machine::Entry;
 use std::alloc::AllocError;
 
@@ -31,122 +35,125 @@ pub fn step(core: &mut Core, p: u64) -> Result<(), AllocError>
     }
 }
 
+// So many turns of a process, each of which is told by an entry of its own, the first one by the entry with this number.
+#[derive(Clone, Copy)]
+struct Row {
+    process: u64,
+    number: u64,
+    count: u64,
+}
+
 // A turn of process p, which is told by an entry.
 fn make_turn(
-    core: &mut Core,
+    again: &mut Again,
+    tabled: &Tabled<'_>,
     watches: &mut Vec<Watch>,
     p: u64,
     entry: u64,
 ) -> Result<(), AllocError>
-    requires { (whole : Whole) × (left : List (ℕ × ℕ)) × AreAlong whole core.old.core ((entry, p) ∷ left) watches.old.items }
-    ensures along { OnOk result ((whole : Whole) (left : List (ℕ × ℕ)) → AreAlong whole core.old.core ((entry, p) ∷ left) watches.old.items
-        → AreAlong whole core.new.core left watches.new.items) }
+    requires { CanRemake tabled.now again.old ((entry, p) ∷ []) watches.old.items }
+    ensures along { OnOk result (Remakes tabled.now again.old ((entry, p) ∷ []) watches.old.items again.new [] watches.new.items) }
     ensures same { OnOk result (WaitTheSame watches.old.items watches.new.items) }
 {
-    let made = activations(core);
-    let change = change_by(core, p, entry);
-    step(core, p)?;
-    look(core, watches, made, change);
+    let made = again.machine.activations;
+    let change = change_by(&again.machine, tabled.image, p, entry);
+    again.turn(tabled.image, p)?;
+    look(&again.machine, watches, made, Some(change));
     Ok(())
 }
 
 // The turns of the entry with this number.
 fn make_entry(
-    core: &mut Core,
+    again: &mut Again,
+    tabled: &Tabled<'_>,
     watches: &mut Vec<Watch>,
     number: u64,
     entry: Entry,
 ) -> Result<(), AllocError>
-    requires { (whole : Whole) × (left : List (ℕ × ℕ)) × AreAlong whole core.old.core (turns_of number entry ++ left) watches.old.items }
-    ensures along { OnOk result ((whole : Whole) (left : List (ℕ × ℕ)) → AreAlong whole core.old.core (turns_of number entry ++ left) watches.old.items
-        → AreAlong whole core.new.core left watches.new.items) }
+    requires { CanRemake tabled.now again.old (turns_of number entry) watches.old.items }
+    ensures along { OnOk result (Remakes tabled.now again.old (turns_of number entry) watches.old.items again.new [] watches.new.items) }
     ensures same { OnOk result (WaitTheSame watches.old.items watches.new.items) }
 {
     for _ in 0..entry.steps {
-        make_turn(core, watches, entry.process, number)?;
+        make_turn(again, tabled, watches, entry.process, number)?;
     }
     Ok(())
 }
 
-// Turns of process p, up to so many, and how many were made: as many as fill and empty nothing, and else one.
-fn go_on(core: &mut Core, p: u64, most: u64) -> Result<u64, AllocError>
-    requires can { CanTurn core.old.core p }
-    requires some { 1 ≤ most }
-    ensures moved { IfOk result (λ made. HasMoved core.old.core p made core.new.core) }
-    ensures some { IfOk result (λ made. 1 ≤ made) }
-    ensures few { IfOk result (λ made. made ≤ most) }
-{
-    match core.go_on(p, most) {
-        Ok(turns) => Ok(turns.made),
-        Err(ChooseFault::NoMemory) => Err(AllocError),
-        Err(ChooseFault::Stopped(_)) => unreachable!(),
-        Err(ChooseFault::NoSuchProcess) => unreachable!(),
-        Err(ChooseFault::IsOut | ChooseFault::NoTicket) => unreachable!(),
-    }
-}
-
-// The first ones of so many turns of process p, of which the first one is told by an entry, and how many were made.
+// The first ones of so many turns, and how many were made: as many as only move the process, and else one. Only a turn that may do more, or one
+// that begins an activation, is looked at.
 fn make_turns(
-    core: &mut Core,
+    again: &mut Again,
+    tabled: &Tabled<'_>,
     watches: &mut Vec<Watch>,
-    p: u64,
-    entry: u64,
-    most: u64,
+    row: Row,
 ) -> Result<u64, AllocError>
-    requires { (whole : Whole) × (ts : List (ℕ × ℕ)) × (left : List (ℕ × ℕ)) × AreTurnsOf p entry most ts × AreAlong whole core.old.core (ts ++ left) watches.old.items }
-    ensures along { IfOk result (λ made. (whole : Whole) (ts left : List (ℕ × ℕ)) → AreTurnsOf p entry most ts
-        → AreAlong whole core.old.core (ts ++ left) watches.old.items → AreAlong whole core.new.core (drop made ts ++ left) watches.new.items) }
+    requires along { CanRemake tabled.now again.old (turns_in_row row.number row.process row.count) watches.old.items }
+    requires some { 1 ≤ row.count }
+    ensures along { IfOk result (λ made. Remakes tabled.now again.old (turns_in_row row.number row.process row.count) watches.old.items
+        again.new (turns_in_row (row.number + made) row.process (row.count - made)) watches.new.items) }
     ensures same { OnOk result (WaitTheSame watches.old.items watches.new.items) }
     ensures some { IfOk result (λ made. 1 ≤ made) }
-    ensures few { IfOk result (λ made. made ≤ most) }
+    ensures few { IfOk result (λ made. made ≤ row.count) }
 {
-    let activations = activations(core);
-    let change = change_by(core, p, entry);
-    let made = go_on(core, p, most)?;
-    look(core, watches, activations, change);
+    let activations = again.machine.activations;
+    let made = again.go_on(tabled, row.process, row.count)?;
+    if made == 0 {
+        make_turn(again, tabled, watches, row.process, row.number)?;
+        return Ok(1);
+    }
+    look_at_new(&again.machine, watches, activations);
     Ok(made)
 }
 
-// The turns of so many entries of one step of process p, of which the first one has this number.
+// So many turns.
 fn make_row(
-    core: &mut Core,
+    again: &mut Again,
+    tabled: &Tabled<'_>,
     watches: &mut Vec<Watch>,
-    p: u64,
-    number: u64,
-    count: u64,
+    row: Row,
 ) -> Result<(), AllocError>
-    requires along { (whole : Whole) × (left : List (ℕ × ℕ)) × AreAlong whole core.old.core (turns_in_row number p count ++ left) watches.old.items }
-    requires few { number + count < 2 ^ 64 }
-    ensures along { OnOk result ((whole : Whole) (left : List (ℕ × ℕ)) → AreAlong whole core.old.core (turns_in_row number p count ++ left) watches.old.items
-        → AreAlong whole core.new.core left watches.new.items) }
+    requires along { CanRemake tabled.now again.old (turns_in_row row.number row.process row.count) watches.old.items }
+    requires few { row.number + row.count < 2 ^ 64 }
+    ensures along { OnOk result (Remakes tabled.now again.old (turns_in_row row.number row.process row.count) watches.old.items again.new [] watches.new.items) }
     ensures same { OnOk result (WaitTheSame watches.old.items watches.new.items) }
 {
     let mut made = 0;
-    while made < count {
-        made += make_turns(core, watches, p, number + made, count - made)?;
+    while made < row.count {
+        let left = Row {
+            process: row.process,
+            number: row.number + made,
+            count: row.count - made,
+        };
+        made += make_turns(again, tabled, watches, left)?;
     }
     Ok(())
 }
 
 // The turns of a run of equal entries, of which the first one has this number.
 fn make_run(
-    core: &mut Core,
+    again: &mut Again,
+    tabled: &Tabled<'_>,
     watches: &mut Vec<Watch>,
     number: u64,
     run: Run,
 ) -> Result<(), AllocError>
-    requires along { (whole : Whole) × (left : List (ℕ × ℕ)) × AreAlong whole core.old.core (turns_from number (replicate run.count (entry_of run)) ++ left) watches.old.items }
+    requires along { CanRemake tabled.now again.old (turns_from number (replicate run.count (entry_of run))) watches.old.items }
     requires few { number + run.count < 2 ^ 64 }
-    ensures along { OnOk result ((whole : Whole) (left : List (ℕ × ℕ)) → AreAlong whole core.old.core (turns_from number (replicate run.count (entry_of run)) ++ left) watches.old.items
-        → AreAlong whole core.new.core left watches.new.items) }
+    ensures along { OnOk result (Remakes tabled.now again.old (turns_from number (replicate run.count (entry_of run))) watches.old.items again.new [] watches.new.items) }
     ensures same { OnOk result (WaitTheSame watches.old.items watches.new.items) }
 {
     if run.steps == 1 {
-        make_row(core, watches, run.process, number, run.count as u64)?;
+        let row = Row {
+            process: run.process,
+            number,
+            count: run.count as u64,
+        };
+        make_row(again, tabled, watches, row)?;
         return Ok(());
     }
     for before in 0..run.count {
-        make_entry(core, watches, number + before as u64, run.entry())?;
+        make_entry(again, tabled, watches, number + before as u64, run.entry())?;
     }
     Ok(())
 }
@@ -157,23 +164,30 @@ fn make_run(
 ///
 /// Only where memory was refused.
 pub(crate) fn make_entries(
-    core: &mut Core,
+    again: &mut Again,
+    tabled: &Tabled<'_>,
     watches: &mut Vec<Watch>,
-    entries: &History,
+    entries: &First<'_>,
 ) -> Result<(), AllocError>
-    requires { (whole : Whole) × AreAlong whole core.old.core (turns_from 1 entries.now.items) watches.old.items }
-    ensures along { OnOk result ((whole : Whole) → AreAlong whole core.old.core (turns_from 1 entries.now.items) watches.old.items
-        → AreAlong whole core.new.core [] watches.new.items) }
+    requires { CanRemake tabled.now again.old (turns_from 1 (first_of entries.now)) watches.old.items }
+    ensures along { OnOk result (Remakes tabled.now again.old (turns_from 1 (first_of entries.now)) watches.old.items again.new [] watches.new.items) }
     ensures same { OnOk result (WaitTheSame watches.old.items watches.new.items) }
 {
-    let mut runs = entries.runs();
+    let count = entries.len();
+    let mut runs = entries.history.runs();
     let mut before = 0;
-    while before < entries.len() {
+    while before < count {
         let Some(run) = runs.next() else {
             return Ok(());
         };
-        make_run(core, watches, before + 1, run)?;
-        before += run.count as u64;
+        let some = u64::from(run.count).min(count - before) as u32;
+        let first = Run {
+            process: run.process,
+            steps: run.steps,
+            count: some,
+        };
+        make_run(again, tabled, watches, before + 1, first)?;
+        before += some as u64;
     }
     Ok(())
 }

@@ -1,17 +1,20 @@
 //! Why processes wait after a history.
 ghost use Rattle.std.specs.Prelude.{◌≡◌, [], IfOk, OnOk};
 ghost use Rattle.hep_core.specs.Value.{state_of};
+ghost use Rattle.hep_history.specs.First.{first_of};
 ghost use Rattle.hep_history.specs.Replays.{standing};
 ghost use Rattle.hep_machine.specs.Words.{schedule_of};
 ghost use Rattle.hep_reasons.specs.Reasons as words;
 ghost use Rattle.hep_causes.specs.Watches.{AreFound, AreNewWatches, IsReplayed, WaitTheSame, reasons_for as all_reasons};
 
+use crate::again::Again;
 use crate::looking::{all_watches, look};
 use crate::making::make_entries;
 use crate::watch::Watch;
 use hep_core::{Core, NewFault};
-use hep_history::History;
+use hep_going::{Tabled, tables_of};
 use hep_history::replays::MOST_ENTRIES;
+use hep_history::{First, History};
 use hep_reasons::{Reason, append_reasons};
 use hep_states::append_head;
 use std::alloc::{AllocError, Global};
@@ -38,20 +41,26 @@ fn find_changes(
     alloc: Global,
     core: &Core,
     watches: &mut Vec<Watch>,
-    entries: &History,
+    entries: &First<'_>,
 ) -> Result<(), AllocError>
-    requires replayed { IsReplayed core.now.core entries.now.items }
+    requires replayed { IsReplayed core.now.core (first_of entries.now) }
     requires watches { AreNewWatches core.now.core.program core.now.core.cells (schedule_of core.now.core.history) watches.old.items }
-    ensures found { OnOk result (AreFound core.now.core entries.now.items watches.new.items) }
+    ensures found { OnOk result (AreFound core.now.core (first_of entries.now) watches.new.items) }
     ensures same { OnOk result (WaitTheSame watches.old.items watches.new.items) }
 {
     if watches.is_empty() {
         return Ok(());
     }
     core.headline();
-    let mut again = begin_again(alloc, core, entries)?;
-    look(&again, watches, 0, None);
-    make_entries(&mut again, watches, entries)?;
+    let image = core.image();
+    let tables = tables_of(alloc, image)?;
+    let tabled = Tabled {
+        image,
+        tables: &tables,
+    };
+    let mut again = Again::open(alloc, image, core.cells())?;
+    look(&again.machine, watches, 0, None);
+    make_entries(&mut again, &tabled, watches, entries)?;
     Ok(())
 }
 
@@ -81,9 +90,9 @@ fn reasons_for(alloc: Global, core: &Core, watches: &[Watch]) -> Result<Vec<Reas
 }
 
 // Why processes wait after the history of a core that has made these entries.
-fn find_reasons(alloc: Global, core: &Core, entries: &History) -> Result<Vec<Reason>, AllocError>
-    requires { IsReplayed core.now.core entries.now.items }
-    ensures { IfOk result (λ reasons. reasons.items ≡ words.reasons_of core.now.core.program entries.now.items) }
+fn find_reasons(alloc: Global, core: &Core, entries: &First<'_>) -> Result<Vec<Reason>, AllocError>
+    requires { IsReplayed core.now.core (first_of entries.now) }
+    ensures { IfOk result (λ reasons. reasons.items ≡ words.reasons_of core.now.core.program (first_of entries.now)) }
 {
     let mut watches = all_watches(alloc, core)?;
     find_changes(alloc, core, &mut watches, entries)?;
@@ -96,9 +105,9 @@ fn find_reasons(alloc: Global, core: &Core, entries: &History) -> Result<Vec<Rea
 /// # Errors
 ///
 /// Only where memory was refused.
-pub fn why_text(alloc: Global, core: &Core, entries: &History) -> Result<Vec<u8>, AllocError>
-    requires { IsReplayed core.now.core entries.now.items }
-    ensures { IfOk result (λ text. text.items ≡ words.why_text core.now.core.program entries.now.items) }
+pub fn why_text(alloc: Global, core: &Core, entries: &First<'_>) -> Result<Vec<u8>, AllocError>
+    requires { IsReplayed core.now.core (first_of entries.now) }
+    ensures { IfOk result (λ text. text.items ≡ words.why_text core.now.core.program (first_of entries.now)) }
 {
     let reasons = find_reasons(alloc, core, entries)?;
     let mut text = Vec::new(alloc);

@@ -5,6 +5,7 @@ use Rattle.std.proofs.lemmas.List.{length-map, replicate-append-replicate}
 use Rattle.std.proofs.lemmas.Option.{none-some}
 use Rattle.hep_blocked.proofs.Living.{waits-idle}
 use Rattle.hep_causes.proofs.Found.{begin-along, opened, processes-all, whole}
+use Rattle.hep_causes.proofs.Turning.{who-steps-lives, who-steps-runs}
 use Rattle.hep_causes.specs.Changes.{turns_from}
 use Rattle.hep_causes.specs.Replays.{most_entries, standing}
 use Rattle.hep_causes.specs.Watches.{AreAlong, HaveLooked, IsReplayed}
@@ -14,14 +15,12 @@ use Rattle.hep_core.specs.Value.{CoreValue}
 use Rattle.hep_entries.specs.declared.run.Run.{Run}
 use Rattle.hep_entries.specs.Runs.{entries_of, entry_of}
 use Rattle.hep_machine.specs.declared.event.Entry.{Entry}
-use Rattle.hep_machine.specs.Step.{state_made, step_result_of_top}
-use Rattle.hep_machine.specs.Words.{AreSteps, IsLegal, State, Units, is_held, layout_of, living, run, run_from, schedule_of, state_after, state_after_turn, step, step_result_of}
+use Rattle.hep_machine.specs.Words.{AreSteps, IsLegal, State, Units, is_held, layout_of, run, run_from, schedule_of, state_after, state_after_turn}
 use Rattle.hep_quick.specs.UnitTables.{AreTables}
 use Rattle.hep_state.proofs.Runs.{laid-before}
 use Rattle.hep_state.proofs.Unchanged.{carry}
 use Rattle.hep_state.specs.declared.turn.TurnFault.TheVariants.{ArenaFull}
-use Rattle.hep_state.specs.declared.turn.Turned.{Turned}
-use Rattle.hep_state.specs.declared.turn.Turned.TheVariants.{Purged, Stepped, Waits}
+use Rattle.hep_state.specs.declared.turn.Turned.TheVariants.{Waits}
 use Rattle.hep_state.specs.declared.machine.Machine.{Machine}
 use Rattle.hep_state.specs.Words.{HasLevels, HasTurned, IsMachineAfter, IsUnturned, snapshot_of}
 use Rattle.hep_views.proofs.Waiting.{living-top}
@@ -33,28 +32,6 @@ use Rattle.hep_counting.proofs.Tallied.{counted-behind, counted-none, run-on}
 use Rattle.hep_coverage.specs.Coverage.{counted_in}
 use Rattle.hep_coverage.specs.Remaking.{Aim, IsRemade}
 use Rattle.hep_coverage.specs.declared.again.Again.{Again}
-
--- ---- who has a step
-
-module _ (program : Units) (p : ℕ) (s : State) where
-  dead-steps : living s p ≡ None → step program p s ≡ None
-  unfolding step_result_of
-  dead-steps e = by s.halted where
-    by : (b : Bool) → (if b then None else state_made (step_result_of_top program s p (living s p))) ≡ None
-    by true = refl
-    by false = ap (λ t. state_made (step_result_of_top program s p t)) e
-
-  lives : step program p s ≢ None → IsSome (living s p)
-  lives some = by (living s p) refl where
-    by : (o : Option _) → living s p ≡ o → is_some o ≡ true
-    by None e = absurd (some (dead-steps e))
-    by (Some top) e = refl
-
-  goes : step program p s ≢ None → s.halted ≡ false
-  goes some = by s.halted refl where
-    by : (b : Bool) → s.halted ≡ b → b ≡ false
-    by true e = absurd (some (ap (λ b. if b then None else state_made (step_result_of program p s)) e))
-    by false e = refl
 
 steps-behind : (program : Units) (s : State) (ps qs : List ℕ) → AreSteps program s (ps ++ qs) → AreSteps program (run_from program s ps) qs
 unfolding run_from
@@ -74,10 +51,10 @@ module _ (aim : Aim) (marked : Marked) (again : Again) (p : ℕ) (left : List �
   s = run program choices
 
   pub running-now : again.machine.halted ≡ false
-  running-now = h.after.after.shows.halted ∙ goes program p s h.steps.0
+  running-now = h.after.after.shows.halted ∙ who-steps-runs program p s h.steps.0
 
   pub living-now : HasLevels (snapshot_of again.machine) p
-  living-now = (living-top program aim.cells choices again.machine h.after p (lives program p s h.steps.0)).is_top.levels
+  living-now = (living-top program aim.cells choices again.machine h.after p (who-steps-lives program p s h.steps.0)).is_top.levels
 
   -- as many as a history may have, this one too
   pub few-now : length choices + 1 ≤ most_entries
@@ -93,12 +70,6 @@ module _ (aim : Aim) (marked : Marked) (again : Again) (p : ℕ) (left : List �
   -- its frame has a gap
   pub not-full : IsUnturned ArenaFull program aim.cells choices p → ⊥
   not-full none = true≢false (sym laid-next ∙ ap is_some none.full)
-
--- a turn that was a step
-pub stepped : (us : Units) (cells : ℕ) (before : List ℕ) (p : ℕ) (turned : Turned) (new : Machine) → ((want : Want) → turned ≢ Waits want) → HasTurned us cells before p turned new → IsMachineAfter us cells (before ++ p ∷ []) new
-stepped us cells before p (Stepped changed) new other h = h.1
-stepped us cells before p Purged new other h = h.1
-stepped us cells before p (Waits want) new other h = absurd (other want refl)
 
 -- ---- turns that were made
 

@@ -1,5 +1,5 @@
 -- Runs of entries that are left, and the places of their entries; and the lines of a run.
-use Rattle.std.proofs.Common.{◌≡◌, ℕ, zero, suc, ◌+◌, ◌-◌, ◌<◌, ◌≤◌, List, [], ◌∷◌, ◌++◌, Some, length, length-append, min, replicate, drop, take, refl, sym, ap, ◌∙◌, arith, slice_get, append_assoc}
+use Rattle.std.proofs.Common.{◌≡◌, ℕ, zero, suc, ◌+◌, ◌-◌, ◌<◌, ◌≤◌, List, [], ◌∷◌, ◌++◌, Some, length, min, replicate, drop, take, refl, sym, ap, ◌∙◌, arith, slice_get, append_assoc}
 use Rattle.std.proofs.lemmas.Grind.{flat_map-append}
 use Rattle.std.proofs.lemmas.List.{append-nil, drop-drop, length-drop, length-replicate, replicate-append-replicate}
 use Rattle.hep_machine.specs.declared.event.Entry.{Entry}
@@ -14,15 +14,6 @@ module _ (entries : List Entry) (at : ℕ) (run : Run) (rest : List Run) (place 
   pub run_here : (k : ℕ) → k < run.count → slice_get entries (at + k) ≡ Some (entry_of run)
   run_here k lt = slice_get-behind at k entries ∙ ap (λ es. slice_get es k) place ∙ run_has run.count k (entry_of run) (entries_of rest) lt
 
-  -- they are among all
-  pub run_within : at ≤ length entries → at + run.count ≤ length entries
-  run_within le =
-      let left = length-drop at entries in
-      let some = ap length place in
-      let parts = length-append (replicate run.count (entry_of run)) (entries_of rest) in
-      let count = length-replicate run.count (entry_of run) in
-      omega arith
-
   -- what is left behind it
   pub run_after : drop (at + run.count) entries ≡ entries_of rest
   run_after =
@@ -32,12 +23,12 @@ module _ (entries : List Entry) (at : ℕ) (run : Run) (rest : List Run) (place 
       ∙ drop_past run.count run.count (entry_of run) (entries_of rest) (omega arith)
       ∙ ap (λ k. drop k (entries_of rest)) none
 
--- where no run is left
-pub runs_past : (entries : List Entry) (at : ℕ) (runs : List Run) → drop at entries ≡ entries_of runs → at ≤ length entries → runs ≡ [] → at ≡ length entries
-runs_past entries at runs place le none =
+-- where no run is left, no entry is
+pub none_past : (entries : List Entry) (at : ℕ) (runs : List Run) → drop at entries ≡ entries_of runs → runs ≡ [] → at < length entries → ⊥
+none_past entries at runs place none less =
     let left = length-drop at entries in
     let nothing : length (drop at entries) ≡ 0 = ap length (place ∙ ap (λ rs. entries_of rs) none) in
-    omega arith
+    omega (arith, left, nothing, less)
 
 -- one line more
 pub line_more : (n : ℕ) (e : Entry) → history_text (replicate n e) ++ entry_text e ≡ history_text (replicate (n + 1) e)
@@ -64,11 +55,7 @@ take_run (suc n) (suc c) x xs =
     ap (λ ys. x ∷ ys) (take_run n c x xs)
     ∙ in_both x xs (suc (min n c)) (min (suc n) (suc c)) (n - min n c) (suc n - min (suc n) (suc c)) (omega arith) (omega arith)
 
--- so many first entries of a run and of those behind it, after others
-pub front_more : (front more : List Entry) (run : Run) (rest : List Run) (n k : ℕ) → k ≡ min n run.count → more ≡ front ++ replicate k (entry_of run)
-    → more ++ take (n - k) (entries_of rest) ≡ front ++ take n (entries_of (run ∷ rest))
-front_more front more run rest n k least is =
-    ap (λ es. es ++ take (n - k) (entries_of rest)) is
-    ∙ append_assoc front (replicate k (entry_of run)) (take (n - k) (entries_of rest))
-    ∙ ap (λ j. front ++ (replicate j (entry_of run) ++ take (n - j) (entries_of rest))) least
-    ∙ ap (λ es. front ++ es) (sym (take_run n run.count (entry_of run) (entries_of rest)))
+-- so many first entries of a run and of those behind it
+pub front_cut : (run : Run) (rest : List Run) (n k : ℕ) → k ≡ min n run.count → take n (entries_of (run ∷ rest)) ≡ replicate k (entry_of run) ++ take (n - k) (entries_of rest)
+front_cut run rest n k least =
+    take_run n run.count (entry_of run) (entries_of rest) ∙ ap (λ j. replicate j (entry_of run) ++ take (n - j) (entries_of rest)) (sym least)

@@ -4,6 +4,7 @@ pub use Rattle.hep_core.proofs.Going
 pub mod Readings
 pub mod Digits
 pub mod InRuns
+pub mod Fronts
 pub mod Turns
 mod Choosing
 mod Worked

@@ -10,5 +10,6 @@ pub mod Lines
 pub mod Choices
 pub mod Histories
 pub mod Given
+pub mod First
 pub mod Replays
 pub mod Progress

@@ -16,7 +16,7 @@ pub mod replays;
 
 pub use choices::{Choices, read_choices};
 pub use fault::ReplayFault;
-pub use first::first_entries;
+pub use first::First;
 pub use given::{choices_of_history, read_given};
 /// Why a text is refused: 601 for a history, 602 for choices, with the first bad line, and line 0
 /// where the text is too long. Neither is about a name.
@@ -24,4 +24,4 @@ pub use hep_base::Refusal as HistFault;
 pub use hep_core::{ChoiceStop, ChooseFault, Core, Fault, NewFault, Verdict};
 pub use hep_entries::History;
 pub use history::{read_text, write_text};
-pub use replays::replay;
+pub use replays::{make_run, replay, replay_first};

@@ -1,10 +1,12 @@
 //! Histories made again, choice by choice.
 ghost use Rattle.std.specs.Prelude.{◌≡◌, ◌≤◌, length, IfOk, IfErr, OnOk, IsSome};
 ghost use Rattle.hep_machine.specs.Words.{opening_layout, schedule_of};
+ghost use Rattle.hep_history.specs.First.{first_of};
 ghost use Rattle.hep_history.specs.Replays.{most_entries, replayed, ArePossible, IsUnmade};
 ghost use Rattle.hep_history.specs.Progress.{EntryMade, IsStanding, RunMade, SomeMade, SomeStepsMade, StepsMade, TurnMade};
 
 use crate::fault::ReplayFault;
+use crate::first::First;
 use hep_core::{ChooseFault, Core};
 use hep_entries::History;
 use hep_image::Image;
@@ -100,8 +102,13 @@ fn make_some(core: &mut Core, entry: Entry, most: u32) -> Result<u32, ReplayFaul
     }
 }
 
-// Makes an entry so many times, and says how often: fewer times where it isn't possible after those.
-fn make_run(core: &mut Core, entry: Entry, count: u32) -> Result<u32, ReplayFault>
+/// Makes an entry so many times, on a core that was made by `replay` or as it makes one, and says how often: fewer times where it isn't possible
+/// after those.
+///
+/// # Errors
+///
+/// Only where memory was refused.
+pub fn make_run(core: &mut Core, entry: Entry, count: u32) -> Result<u32, ReplayFault>
     requires standing { IsStanding core.old.core }
     requires within { length core.old.core.history ≤ most_entries }
     ensures made { RunMade core.old.core entry count result core.new.core }
@@ -118,6 +125,50 @@ fn make_run(core: &mut Core, entry: Entry, count: u32) -> Result<u32, ReplayFaul
         made += more;
     }
     Ok(made)
+}
+
+/// The core of an image and an arena of so many cells, 1 to 16,777,216, that has made the first entries of a history, one step at
+/// a time: its history has an entry of one step for each step, and the entries of none. Nothing is looked at of the others.
+///
+/// # Errors
+///
+/// `ArenaFull` where the main program's frame has no gap in the arena; `Refused` with 603 and the
+/// first of these entries that isn't possible, also where a frame that it makes has no gap; `NoMemory`.
+pub fn replay_first(
+    alloc: Global,
+    image: Image,
+    cells: u32,
+    entries: &First<'_>,
+) -> Result<Core, ReplayFault>
+    requires some { 1 ≤ cells }
+    requires few { cells ≤ 16777216 }
+    ensures made { IfOk result (λ made. made.core ≡ replayed image cells (first_of entries.now)) }
+    ensures expanded { IfOk result (λ made. schedule_of made.core.history ≡ schedule_of (first_of entries.now)) }
+    ensures fits { OnOk result (IsSome (opening_layout image cells)) }
+    ensures possible { OnOk result (ArePossible image cells (first_of entries.now) (length (first_of entries.now))) }
+    ensures unmade { IfErr result (IsUnmade image cells (first_of entries.now)) }
+{
+    let mut core = Core::new(alloc, image, cells, MOST_ENTRIES)?;
+    let count = entries.len();
+    let mut runs = entries.history.runs();
+    let mut at = 0;
+    while at < count {
+        let Some(run) = runs.next() else {
+            unreachable!()
+        };
+        let some = u64::from(run.count).min(count - at) as u32;
+        let made = make_run(&mut core, run.entry(), some)?;
+        if made < some {
+            return Err(ReplayFault::Refused {
+                number: 603,
+                entry: at + u64::from(made) + 1,
+            });
+        }
+        // A core's history is legal, so each frame had its gap.
+        core.headline();
+        at += u64::from(made);
+    }
+    Ok(core)
 }
 
 /// The core of an image and an arena of so many cells, 1 to 16,777,216, that has made these entries, one step at
@@ -141,20 +192,9 @@ pub fn replay(
     ensures possible { OnOk result (ArePossible image cells entries.now.items (length entries.now.items)) }
     ensures unmade { IfErr result (IsUnmade image cells entries.now.items) }
 {
-    let mut core = Core::new(alloc, image, cells, MOST_ENTRIES)?;
-    let mut runs = entries.runs();
-    let mut at = 0;
-    while let Some(run) = runs.next() {
-        let made = make_run(&mut core, run.entry(), run.count)?;
-        if made < run.count {
-            return Err(ReplayFault::Refused {
-                number: 603,
-                entry: at + u64::from(made) + 1,
-            });
-        }
-        // A core's history is legal, so each frame had its gap.
-        core.headline();
-        at += u64::from(made);
-    }
-    Ok(core)
+    let all = First {
+        history: entries,
+        count: entries.len(),
+    };
+    replay_first(alloc, image, cells, &all)
 }

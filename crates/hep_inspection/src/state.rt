@@ -1,6 +1,7 @@
 //! The bytes of a source and of a history to what everything holds after the history's first entries.
 ghost use Rattle.std.specs.Prelude.{◌≡◌, ◌≤◌, false, IfErr, IfOk, OnErr, OnOk};
 ghost use Rattle.hep_inspection.specs.declared.state.Telling.TheVariants.{State, Trace, Why};
+ghost use Rattle.hep_history.specs.First.{first_of};
 ghost use Rattle.hep_run.specs.Delivery.{LeavesOfSource, status_alone};
 ghost use Rattle.hep_run.specs.Memory.{MayReadOn, RefusesLargeSource};
 ghost use Rattle.hep_inspection.specs.States.{CanBeTold, IsFirstOutcome, IsSourceTold, told};
@@ -9,7 +10,7 @@ ghost use Rattle.hep_turns.specs.Making.{IsUntold};
 
 use hep_base::Refusal;
 use hep_causes::why_text;
-use hep_history::{History, ReplayFault, first_entries, read_text, replay};
+use hep_history::{First, ReplayFault, read_text, replay_first};
 use hep_image::Image;
 use hep_run::deliver::deliver_made;
 use hep_run::front::image_of_source;
@@ -57,15 +58,15 @@ fn state_told(
     alloc: Global,
     image: Image,
     arena: u32,
-    entries: &History,
+    entries: &First<'_>,
 ) -> Result<Vec<u8>, ReplayFault>
     requires some { 1 ≤ arena }
     requires few { arena ≤ 16777216 }
-    ensures told { IfOk result (λ text. text.items ≡ told State image entries.now.items) }
-    ensures possible { OnOk result (CanBeTold image arena entries.now.items) }
-    ensures untold { IfErr result (IsUntold image arena entries.now.items) }
+    ensures told { IfOk result (λ text. text.items ≡ told State image (first_of entries.now)) }
+    ensures possible { OnOk result (CanBeTold image arena (first_of entries.now)) }
+    ensures untold { IfErr result (IsUntold image arena (first_of entries.now)) }
 {
-    let core = replay(alloc, image, arena, entries)?;
+    let core = replay_first(alloc, image, arena, entries)?;
     match state_text(alloc, &core, entries.len()) {
         Ok(text) => Ok(text),
         Err(_) => Err(ReplayFault::NoMemory),
@@ -77,15 +78,15 @@ fn why_told(
     alloc: Global,
     image: Image,
     arena: u32,
-    entries: &History,
+    entries: &First<'_>,
 ) -> Result<Vec<u8>, ReplayFault>
     requires some { 1 ≤ arena }
     requires few { arena ≤ 16777216 }
-    ensures told { IfOk result (λ text. text.items ≡ told Why image entries.now.items) }
-    ensures possible { OnOk result (CanBeTold image arena entries.now.items) }
-    ensures untold { IfErr result (IsUntold image arena entries.now.items) }
+    ensures told { IfOk result (λ text. text.items ≡ told Why image (first_of entries.now)) }
+    ensures possible { OnOk result (CanBeTold image arena (first_of entries.now)) }
+    ensures untold { IfErr result (IsUntold image arena (first_of entries.now)) }
 {
-    let core = replay(alloc, image, arena, entries)?;
+    let core = replay_first(alloc, image, arena, entries)?;
     match why_text(alloc, &core, entries) {
         Ok(text) => Ok(text),
         Err(_) => Err(ReplayFault::NoMemory),
@@ -97,14 +98,14 @@ fn trace_told(
     alloc: Global,
     image: Image,
     arena: u32,
-    entries: &History,
+    entries: &First<'_>,
     page: Page<'_>,
 ) -> Result<Vec<u8>, ReplayFault>
     requires some { 1 ≤ arena }
     requires few { arena ≤ 16777216 }
-    ensures told { IfOk result (λ text. text.items ≡ told (Trace page.entry) image entries.now.items) }
-    ensures possible { OnOk result (CanBeTold image arena entries.now.items) }
-    ensures untold { IfErr result (IsUntold image arena entries.now.items) }
+    ensures told { IfOk result (λ text. text.items ≡ told (Trace page.entry) image (first_of entries.now)) }
+    ensures possible { OnOk result (CanBeTold image arena (first_of entries.now)) }
+    ensures untold { IfErr result (IsUntold image arena (first_of entries.now)) }
 {
     trace_history(alloc, image, arena, entries, &page)
 }
@@ -114,11 +115,11 @@ fn told_text(
     alloc: Global,
     image: Image,
     asked: &AskedState<'_>,
-    entries: &History,
+    entries: &First<'_>,
 ) -> Result<Vec<u8>, ReplayFault>
-    ensures told { IfOk result (λ text. text.items ≡ told asked.now.telling image entries.now.items) }
-    ensures possible { OnOk result (CanBeTold image asked.now.arena entries.now.items) }
-    ensures untold { IfErr result (IsUntold image asked.now.arena entries.now.items) }
+    ensures told { IfOk result (λ text. text.items ≡ told asked.now.telling image (first_of entries.now)) }
+    ensures possible { OnOk result (CanBeTold image asked.now.arena (first_of entries.now)) }
+    ensures untold { IfErr result (IsUntold image asked.now.arena (first_of entries.now)) }
 {
     match asked.telling {
         Telling::State => state_told(alloc, image, asked.arena, entries),
@@ -143,7 +144,10 @@ fn image_state(
             return history_transcript(alloc, number, u64::from(line));
         }
     };
-    let first = first_entries(alloc, &entries, asked.entries)?;
+    let first = First {
+        history: &entries,
+        count: asked.entries,
+    };
     let notes = opening_notes_when(alloc, &image, asked.arena, asked.long)?;
     match told_text(alloc, image, asked, &first) {
         Ok(text) => Ok(text_transcript(alloc, text)),

@@ -1,8 +1,8 @@
 -- Entries that are left behind those that were made, and the lines of all.
 use Rattle.std.proofs.Common.{◌≡◌, ℕ, zero, suc, ◌+◌, ◌-◌, ◌<◌, ◌≤◌, true, false, ◌&&◌, if◌then◌else◌, List, [], ◌∷◌, ◌++◌, Some, Ok, length, length-take-le, take, drop, refl, sym, ap, ◌∙◌, subst, arith, append_assoc, append-nil, slice_get, nat_le}
 use Rattle.std.proofs.lemmas.Bool.{lt-leb}
-use Rattle.std.proofs.lemmas.List.{take_more}
-use Rattle.std.proofs.lemmas.Option.{get_or_from_slice_get, none-some, slice_get_within}
+use Rattle.std.proofs.lemmas.List.{length-take, take-take, take_more}
+use Rattle.std.proofs.lemmas.Option.{get_or_from_slice_get, none-some, same_Some, slice_get_within}
 use Rattle.hep_causes.proofs.Found.{few-singles, progress-singles}
 use Rattle.hep_core.specs.Value.{CoreValue}
 use Rattle.hep_core.proofs.Histories.{progress-last}
@@ -10,6 +10,7 @@ use Rattle.hep_history.specs.Progress.{EntryMade}
 use Rattle.hep_history.specs.Replays.{ArePossible, HaveGaps, IsFirstImpossible, IsPossible, IsUnmade, most_entries, replayed, single_entries}
 use Rattle.hep_history.specs.declared.fault.ReplayFault.{ReplayFault}
 use Rattle.hep_history.specs.declared.fault.ReplayFault.TheVariants.{NoMemory, ArenaFull, Refused}
+use Rattle.hep_history.proofs.Fronts.{first-of-front, front-same, possible-front}
 use Rattle.hep_history.proofs.Turns.{HaveReplayed, expand_singles, one_replayed, run_refused}
 use Rattle.hep_machine.specs.declared.event.Entry.{Entry}
 use Rattle.hep_machine.specs.Words.{Progress, Units, opening, progress_after, progress_after_entry, progress_from}
@@ -33,6 +34,19 @@ behind-is (suc k) (x ∷ es) e behind is =
 front-more : (k : ℕ) (es : List Entry) (e : Entry) → slice_get es k ≡ Some e → take (k + 1) es ≡ take k es ++ e ∷ []
 front-more k es e at =
     take_more es k e (slice_get_within es k e at) ∙ ap (λ (x : Entry). take k es ++ x ∷ []) (get_or_from_slice_get es k e e at)
+
+left-at : (k : ℕ) (es : List Entry) (e : Entry) → slice_get es k ≡ Some e → drop k es ≡ e ∷ drop (k + 1) es
+left-at zero [] e at = absurd (none-some e at)
+left-at zero (x ∷ es) e at = ap (λ (y : Entry). y ∷ es) (same_Some x e at)
+left-at (suc k) [] e at = absurd (none-some e at)
+left-at (suc k) (x ∷ es) e at =
+    let count : suc (k + 1) ≡ suc k + 1 = omega arith in
+    left-at k es e at ∙ ap (λ m. e ∷ drop m (x ∷ es)) count
+
+-- the first of those that are left is the first that is left of so many
+pub front-left : (k n : ℕ) (es : List Entry) (e : Entry) (behind : List Entry) → k < length (take n es) → drop k es ≡ e ∷ behind
+    → drop k (take n es) ≡ e ∷ drop (k + 1) (take n es)
+front-left k n es e behind less is = left-at k (take n es) e ((front-same n k es (omega (arith, less, length-take n es))).0 ∙ front-is k es e behind is)
 
 -- ---- it is made, or isn't possible
 
@@ -142,42 +156,6 @@ module _ (program : Units) (shown : Shown) where
 
 -- ---- the beginning
 
--- of the first entries those at the front are the first ones
-front-same : (k j : ℕ) (es : List Entry) → j < k → (slice_get (take k es) j ≡ slice_get es j) × (take j (take k es) ≡ take j es)
-front-same zero j es less = absurd (omega (arith, less))
-front-same (suc k) j [] less = (refl, refl)
-front-same (suc k) zero (x ∷ es) less = (refl, refl)
-front-same (suc k) (suc j) (x ∷ es) less =
-    let rest = front-same k j es (omega (arith, less)) in
-    (rest.0, ap (λ (xs : List Entry). x ∷ xs) rest.1)
-
-front-within : (k j : ℕ) (es : List Entry) (e : Entry) → slice_get (take k es) j ≡ Some e → j < k
-front-within zero j es e at = absurd (none-some e at)
-front-within (suc k) j [] e at = absurd (none-some e at)
-front-within (suc k) zero (x ∷ es) e at = omega arith
-front-within (suc k) (suc j) (x ∷ es) e at = omega (arith, front-within k j es e at)
-
--- so what is possible of them is possible
-possible-front : (program : Units) (cells k : ℕ) (entries : List Entry) (m : ℕ) → m ≤ k → ArePossible program cells (take k entries) m → ArePossible program cells entries m
-possible-front program cells k entries m few possible j e less at =
-    let same = front-same k j entries (omega (arith, few, less)) in
-    subst (λ (es : List Entry). IsPossible program cells es e) same.1 (possible j e less (same.0 ∙ at))
-
--- and what isn't is not
-first-of-front : (program : Units) (cells k : ℕ) (entries : List Entry) (number : ℕ) → IsFirstImpossible program cells (take k entries) number
-    → IsFirstImpossible program cells entries number
-first-of-front program cells k entries number bad =
-    let less : bad.place < k = front-within k bad.place entries bad.entry bad.here in
-    let same = front-same k bad.place entries less in
-    record {
-      place = bad.place;
-      entry = bad.entry;
-      counted = bad.counted;
-      here = sym same.0 ∙ bad.here;
-      before = possible-front program cells k entries bad.place (omega (arith, less)) bad.before;
-      impossible = λ possible. bad.impossible (subst (λ (es : List Entry). IsPossible program cells es bad.entry) (sym same.1) possible);
-    }
-
 pub untold-front : (program : Units) (cells : ℕ) (front : List Entry) (k : ℕ) (entries : List Entry) (fault : ReplayFault) → front ≡ take k entries
     → IsUnmade program cells front fault → IsUntold program cells entries fault
 untold-front program cells front k entries NoMemory are unmade = tt
@@ -187,6 +165,10 @@ untold-front program cells front k entries (Refused number entry) are unmade = (
   unmade.1,
   first-of-front program cells k entries entry (subst (λ (es : List Entry). IsFirstImpossible program cells es entry) are unmade.2),
 )
+
+-- of the first entries the first ones are those of all
+pub first-front : (k n : ℕ) (entries : List Entry) → k ≤ length (take n entries) → take k entries ≡ take k (take n entries)
+first-front k n entries within = sym (take-take k n entries (omega (arith, within, length-take n entries)))
 
 pub made-first : (core : CoreValue) (program : Units) (cells : ℕ) (front entries : List Entry) (k : ℕ) → core ≡ replayed program cells front → front ≡ take k entries
     → k ≤ length entries → ArePossible program cells front (length front) → length core.history ≤ core.limit → HasMade core entries k

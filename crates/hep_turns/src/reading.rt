@@ -1,5 +1,6 @@
 //! What each step of a history did.
 ghost use Rattle.std.specs.Prelude.{◌≡◌, ◌≤◌, IfErr, IfOk, IsSome, OnOk, length};
+ghost use Rattle.hep_history.specs.First.{first_of};
 ghost use Rattle.hep_history.specs.Replays.{ArePossible};
 ghost use Rattle.hep_machine.specs.Words.{opening_layout};
 ghost use Rattle.hep_traces.specs.Traces as words;
@@ -9,7 +10,7 @@ ghost use Rattle.hep_turns.specs.Pages.{shown_on};
 use crate::page::Page;
 use crate::telling::{Teller, tell_entries};
 use hep_core::Core;
-use hep_history::{History, ReplayFault, first_entries, replay};
+use hep_history::{First, ReplayFault, replay_first};
 use hep_image::Image;
 use hep_sites::Variables;
 use std::alloc::Global;
@@ -19,28 +20,29 @@ fn begin_after(
     alloc: Global,
     image: Image,
     cells: u32,
-    entries: &History,
+    entries: &First<'_>,
     made: u64,
 ) -> Result<Core, ReplayFault>
     requires some { 1 ≤ cells }
     requires few { cells ≤ 16777216 }
-    requires within { made ≤ length entries.now.items }
-    ensures made { IfOk result (λ core. HasMade core.core entries.now.items made) }
+    requires within { made ≤ length (first_of entries.now) }
+    ensures made { IfOk result (λ core. HasMade core.core (first_of entries.now) made) }
     ensures same { IfOk result (λ core. (core.core.program ≡ image) × (core.core.cells ≡ cells)) }
     ensures fits { OnOk result (IsSome (opening_layout image cells)) }
-    ensures untold { IfErr result (IsUntold image cells entries.now.items) }
+    ensures untold { IfErr result (IsUntold image cells (first_of entries.now)) }
 {
-    let Ok(front) = first_entries(alloc, entries, made) else {
-        return Err(ReplayFault::NoMemory);
+    let front = First {
+        history: entries.history,
+        count: made,
     };
-    let core = replay(alloc, image, cells, &front)?;
+    let core = replay_first(alloc, image, cells, &front)?;
     // A core's history is legal, so it has no more entries than it may have.
     core.headline();
     Ok(core)
 }
 
-/// What each step of entries does which an image makes in an arena of so many cells, 1 to 16,777,216, as a text with the lines that are
-/// shown. The entries are made once: those before the first line as a replay makes them, and the others step by step.
+/// What each step of the first entries of a history does which an image makes in an arena of so many cells, 1 to 16,777,216, as a text with the
+/// lines that are shown. The entries are made once: those before the first line as a replay makes them, and the others step by step.
 ///
 /// # Errors
 ///
@@ -49,15 +51,15 @@ pub fn trace_history(
     alloc: Global,
     image: Image,
     cells: u32,
-    entries: &History,
+    entries: &First<'_>,
     page: &Page<'_>,
 ) -> Result<Vec<u8>, ReplayFault>
     requires some { 1 ≤ cells }
     requires few { cells ≤ 16777216 }
-    ensures told { IfOk result (λ text. text.items ≡ words.trace_text image (shown_on page.now) entries.now.items) }
+    ensures told { IfOk result (λ text. text.items ≡ words.trace_text image (shown_on page.now) (first_of entries.now)) }
     ensures fits { OnOk result (IsSome (opening_layout image cells)) }
-    ensures possible { OnOk result (ArePossible image cells entries.now.items (length entries.now.items)) }
-    ensures untold { IfErr result (IsUntold image cells entries.now.items) }
+    ensures possible { OnOk result (ArePossible image cells (first_of entries.now) (length (first_of entries.now))) }
+    ensures untold { IfErr result (IsUntold image cells (first_of entries.now)) }
 {
     let made = page.first.saturating_sub(1).min(entries.len());
     let mut core = begin_after(alloc, image, cells, entries, made)?;

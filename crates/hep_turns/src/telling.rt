@@ -1,6 +1,7 @@
 //! Turns and entries that are made and told of.
 ghost use Rattle.std.specs.Prelude.{◌≡◌, ◌+◌, ◌++◌, ◌<◌, ◌≤◌, IfOk, Ok, drop, length, take, true};
 ghost use Rattle.hep_glances.specs.Sights.{IsTurnMade};
+ghost use Rattle.hep_history.specs.First.{first_of};
 ghost use Rattle.hep_history.specs.Progress.{EntryMade, IsStanding, StepsMade, TurnMade};
 ghost use Rattle.hep_history.specs.Replays.{ArePossible, IsFirstImpossible};
 ghost use Rattle.hep_machine.specs.Words.{progress_after};
@@ -12,7 +13,7 @@ ghost use Rattle.hep_turns.specs.Pages.{shown_on};
 use crate::page::Page;
 use hep_core::{ChooseFault, Core};
 use hep_glances::{append_line, look};
-use hep_history::History;
+use hep_history::First;
 use hep_machine::Entry;
 use hep_sites::Variables;
 use std::alloc::{AllocError, Global};
@@ -157,20 +158,20 @@ pub(crate) fn tell_entries(
     core: &mut Core,
     text: &mut Vec<u8>,
     teller: &Teller<'_>,
-    entries: &History,
+    entries: &First<'_>,
     made: u64,
 ) -> Result<u64, AllocError>
     requires variables { AreVariablesOf core.old.core.program teller.now.variables.now }
-    requires made { HasMade core.old.core entries.now.items made }
-    ensures few { IfOk result (λ all. all ≤ length entries.now.items) }
-    ensures possible { IfOk result (λ all. ArePossible core.old.core.program core.old.core.cells entries.now.items all) }
-    ensures refused { IfOk result (λ all. all < length entries.now.items
-        → IsFirstImpossible core.old.core.program core.old.core.cells entries.now.items (all + 1)) }
-    ensures told { IfOk result (λ all. all ≡ length entries.now.items → text.new.items ≡ text.old.items
+    requires made { HasMade core.old.core (first_of entries.now) made }
+    ensures few { IfOk result (λ all. all ≤ length (first_of entries.now)) }
+    ensures possible { IfOk result (λ all. ArePossible core.old.core.program core.old.core.cells (first_of entries.now) all) }
+    ensures refused { IfOk result (λ all. all < length (first_of entries.now)
+        → IsFirstImpossible core.old.core.program core.old.core.cells (first_of entries.now) (all + 1)) }
+    ensures told { IfOk result (λ all. all ≡ length (first_of entries.now) → text.new.items ≡ text.old.items
         ++ words.trace_from core.old.core.program (shown_on teller.now.page.now)
-        (made + 1) (progress_after core.old.core.program (take made entries.now.items)) (drop made entries.now.items)) }
+        (made + 1) (progress_after core.old.core.program (take made (first_of entries.now))) (drop made (first_of entries.now))) }
 {
-    let mut rest = entries.iter();
+    let mut rest = entries.history.iter();
     rest.pass(made);
     for before in made..entries.len() {
         let Some(entry) = rest.next() else {

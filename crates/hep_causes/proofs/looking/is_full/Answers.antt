@@ -7,11 +7,10 @@ use Rattle.hep_machine.specs.declared.slot.Slot.{Slot}
 use Rattle.hep_machine.specs.Words.{Location, State, is_held, run, schedule_of}
 use Rattle.hep_proc.specs.Keeping.{frames_in}
 use Rattle.hep_state.specs.declared.machine.Machine.{Machine}
-use Rattle.hep_state.specs.Words.{IsMachineAfter}
-use Rattle.hep_causes.specs.Watches.{IsKeptIn}
+use Rattle.hep_causes.specs.Watches.{IsKeptIn, IsMachineOf}
 use Rattle.hep_causes.proofs.looking.is_full.Goals as goal
 
-module _ (core : CoreValue) (m : Machine) (after : IsMachineAfter core.program core.cells (schedule_of core.history) m) (at : Location) (cell : ℕ) (kept : IsKeptIn core at cell) where
+module _ (core : CoreValue) (m : Machine) (after : IsMachineOf core m) (at : Location) (cell : ℕ) (kept : IsKeptIn core at cell) where
   out : (cell < length m.frames.arena.contents) × IsOut cell m.frames.arena.holes
   out =
       let memory = after.after.shows.keeps.memory in
@@ -19,15 +18,14 @@ module _ (core : CoreValue) (m : Machine) (after : IsMachineAfter core.program c
       (found.0, subst (IsOut cell) (sym memory.holes_are) found.1)
 
 pub get-requires-clause-inside : goal.get-requires-clause-inside
-get-requires-clause-inside c = (out c.args.core.now.core c.machine.result.now c.machine.ensures.after c.requires.0 c.args.cell c.requires.1).0
+get-requires-clause-inside c = (out c.requires.0 c.args.machine.now c.requires.2 c.requires.1 c.args.cell c.requires.3).0
 
 pub get-requires-clause-out : goal.get-requires-clause-out
-get-requires-clause-out c = (out c.args.core.now.core c.machine.result.now c.machine.ensures.after c.requires.0 c.args.cell c.requires.1).1
+get-requires-clause-out c = (out c.requires.0 c.args.machine.now c.requires.2 c.requires.1 c.args.cell c.requires.3).1
 
 pub returns : goal.returns
-returns c at kept =
-    let core = c.args.core.now.core in
+returns c core at of kept =
     let s : State = run core.program (schedule_of core.history) in
-    let after = c.machine.ensures.after.after in
+    let after = of.after in
     ap (λ (slot : Slot). slot.full) (c.get.ensures.unit (frames_in core.program s (is_held s) after.layout) at after.shows.keeps (kept after.layout after.laid))
     ∙ ap (λ (u : State). (u.store at).full) (sym (state-is core.program core.history))

@@ -1,11 +1,13 @@
 use Rattle.std.proofs.Common.{◌≡◌, ◌<◌, ◌≤◌, ◌∙◌, ◌&&◌, ℕ, Bool, true, false, Option, ap, sym, not, length, nat_le, if◌then◌else◌, arith}
 use Rattle.std.proofs.lemmas.Bool.Decides.{nat_tests}
+use Rattle.hep_core.proofs.Histories.{state-is}
 use Rattle.hep_core.specs.Value.{CoreValue, state_of}
 use Rattle.hep_machine.specs.Words.{Location, State, same_logical}
 use Rattle.hep_reasons.specs.Changes.{is_there}
 use Rattle.hep_reasons.specs.declared.reason.Change.{Change}
+use Rattle.hep_state.specs.declared.machine.Machine.{Machine}
 use Rattle.hep_causes.specs.declared.watch.Watch.{Watch}
-use Rattle.hep_causes.specs.Watches.{IsKeptOnceThere, looked}
+use Rattle.hep_causes.specs.Watches.{IsKeptOnceThere, IsMachineOf, looked}
 use Rattle.hep_causes.proofs.looking.look_once.Goals as goal
 
 -- it isn't there
@@ -36,19 +38,25 @@ looked-so s at made change w full latest e full_is latest_is =
       latest = if nat_le w.listed.owner made && not (same_logical w.full (s.store at).full) then change else w.latest;
     } else w)
 
+activations-are : (core : CoreValue) (m : Machine) → IsMachineOf core m → m.activations ≡ length (state_of core).activations
+activations-are core m of = of.after.shows.activations ∙ ap (λ (s : State). length s.activations) (sym (state-is core.program core.history))
+
 pub is_full-full-requires : goal.is_full-full-requires
 is_full-full-requires c =
-    let core = c.args.core.now.core in
-    let h = c.requires.1 in
-    (c.requires.0, h.kept (there core c.args.watch c.requires.0 c.activations-made_now.result h c.activations-made_now.ensures c.if-made_now-watch.false))
+    let core = c.requires.0 in
+    let at = c.requires.1 in
+    let of = c.requires.2 in
+    let h = c.requires.3 in
+    let m = c.args.machine.now in
+    (core, at, of, h.kept (there core c.args.watch at m.activations h (activations-are core m of) c.if-made_now-watch.false))
 
 pub returns-then-made_now-watch : goal.returns-then-made_now-watch
-returns-then-made_now-watch c at h =
-    let core = c.args.core.now.core in
-    unlooked (state_of core) at c.args.made c.args.change c.args.watch (not-there core c.args.watch at c.activations-made_now.result h c.activations-made_now.ensures c.if-made_now-watch.true)
+returns-then-made_now-watch c core at of h =
+    let m = c.args.machine.now in
+    unlooked (state_of core) at c.args.made c.args.change c.args.watch (not-there core c.args.watch at m.activations h (activations-are core m of) c.if-made_now-watch.true)
 
 pub returns : goal.returns
-returns c at h =
-    let core = c.args.core.now.core in
-    let here = there core c.args.watch at c.activations-made_now.result h c.activations-made_now.ensures c.if-made_now-watch.false in
-    looked-so (state_of core) at c.args.made c.args.change c.args.watch c.is_full-full.result c.latest.result here (c.is_full-full.ensures at (h.kept here)) c.latest.ensures
+returns c core at of h =
+    let m = c.args.machine.now in
+    let here = there core c.args.watch at m.activations h (activations-are core m of) c.if-made_now-watch.false in
+    looked-so (state_of core) at c.args.made c.args.change c.args.watch c.is_full-full.result c.latest.result here (c.is_full-full.ensures core at of (h.kept here)) c.latest.ensures

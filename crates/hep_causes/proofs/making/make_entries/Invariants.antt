@@ -1,17 +1,19 @@
-use Rattle.std.proofs.Common.{◌≡◌, ◌+◌, suc, length}
+use Rattle.std.proofs.Common.{◌≤◌, ◌-◌, suc, length, take}
 use Rattle.hep_entries.specs.Runs.{entries_of}
+use Rattle.hep_history.specs.First.{first_of}
 use Rattle.hep_reasons.specs.Changes.{turns_from}
-use Rattle.hep_causes.specs.Watches.{AreAlong, WaitTheSame, Whole}
+use Rattle.hep_causes.specs.Making.{CanRemake, Remakes}
+use Rattle.hep_causes.specs.Watches.{WaitTheSame}
 use Rattle.hep_causes.proofs.making.make_entries.Given as goal
 
 abbrev pub invariant-loop-before : goal.invariant-loop-before
 invariant-loop-before l =
     record {
-      there : (whole : Whole) × AreAlong whole l.core.core (turns_from (suc l.before) (entries_of l.runs)) l.watches.items;
-      along : (whole : Whole) → AreAlong whole l.fn.core.core (turns_from 1 l.entries.items) l.fn.watches.items
-          → AreAlong whole l.core.core (turns_from (suc l.before) (entries_of l.runs)) l.watches.items;
+      there : CanRemake l.tabled l.again (turns_from (suc l.before) (take (l.count - l.before) (entries_of l.runs))) l.watches.items;
+      along : Remakes l.tabled l.fn.again (turns_from 1 (first_of l.entries)) l.fn.watches.items
+          l.again (turns_from (suc l.before) (take (l.count - l.before) (entries_of l.runs))) l.watches.items;
       same : WaitTheSame l.fn.watches.items l.watches.items;
-      count : l.before + length (entries_of l.runs) ≡ length l.entries.items;
+      within : l.before ≤ l.count;
     }
 
 abbrev pub decreases-loop-before : goal.decreases-loop-before

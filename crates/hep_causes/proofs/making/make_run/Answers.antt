@@ -1,9 +1,10 @@
-use Rattle.std.proofs.Common.{◌≡◌, ◌+◌, ◌-◌, ◌<◌, ◌≤◌, ◌++◌, ℕ, suc, List, replicate, sym, ap, ◌∙◌, subst, refl, arith, append_assoc}
+use Rattle.std.proofs.Common.{◌≡◌, ◌+◌, ◌-◌, ◌<◌, ◌++◌, [], ℕ, suc, List, replicate, sym, ap, ◌∙◌, subst, refl, arith, append_assoc}
 use Rattle.hep_entries.specs.declared.run.Run.{Run}
 use Rattle.hep_entries.specs.Runs.{entry_of}
 use Rattle.hep_machine.specs.declared.event.Entry.{Entry}
 use Rattle.hep_reasons.specs.Changes.{turns_from, turns_of}
-use Rattle.hep_causes.specs.Watches.{AreAlong, Whole, turns_in_row}
+use Rattle.hep_causes.specs.Making.{CanRemake, IsRemade, Remakes}
+use Rattle.hep_causes.specs.Watches.{turns_in_row}
 use Rattle.hep_causes.proofs.Along.{same-both}
 use Rattle.hep_causes.proofs.Moved.{row-of}
 use Rattle.hep_causes.proofs.making.make_run.Goals as goal
@@ -28,42 +29,40 @@ one-so : (n i number : ℕ) (e x : Entry) (left : List (ℕ × ℕ)) → i < n �
 one-so n i number e x left less is =
     one n i number e left less ∙ ap (λ y. turns_of (number + i) y ++ (turns_from (number + (i + 1)) (replicate (n - (i + 1)) e) ++ left)) (sym is)
 
-none : (n i number : ℕ) (e : Entry) (left : List (ℕ × ℕ)) → n ≤ i → turns_from (number + i) (replicate (n - i) e) ++ left ≡ left
-none n i number e left few =
-    let count : n - i ≡ 0 = omega (arith, few) in
-    ap (λ k. turns_from (number + i) (replicate k e) ++ left) count
-
 row-so : (run : Run) (number : ℕ) → run.steps ≡ 1 → turns_from number (replicate run.count (entry_of run)) ≡ turns_in_row number run.process run.count
 row-so run number one = row-of run.count number (entry_of run) one
 
 pub make_row-requires-clause-along : goal.make_row-requires-clause-along
 make_row-requires-clause-along c =
-    let r = c.requires.along in
-    (r.0, r.1, subst (λ (ts : List (ℕ × ℕ)). AreAlong r.0 c.args.core.now.core (ts ++ r.1) c.args.watches.now.items) (row-so c.args.run c.args.number c.if-run-eq1.true) r.2)
+    subst (λ (ts : List (ℕ × ℕ)). CanRemake c.args.tabled.now c.args.again.now ts c.args.watches.now.items) (row-so c.args.run c.args.number c.if-run-eq1.true) c.requires.along
 
 pub returns-then-run-eq1-clause-along : goal.returns-then-run-eq1-clause-along
-returns-then-run-eq1-clause-along c whole left h =
-    c.in_ok-make_row.ensures.along whole left
-    (subst (λ (ts : List (ℕ × ℕ)). AreAlong whole c.args.core.now.core (ts ++ left) c.args.watches.now.items) (row-so c.args.run c.args.number c.if-run-eq1.true) h)
+returns-then-run-eq1-clause-along c =
+    subst (λ (ts : List (ℕ × ℕ)). Remakes c.args.tabled.now c.args.again.now ts c.args.watches.now.items c.make_row.new.again [] c.make_row.new.watches.items)
+    (sym (row-so c.args.run c.args.number c.if-run-eq1.true)) c.in_ok-make_row.ensures.along
 
 pub loop-before-init : goal.loop-before-init
 loop-before-init c =
     let e = entry_of c.args.run in
     let n = c.args.run.count in
-    let r = c.requires.along in
+    let again = c.args.again.now in
+    let ws = c.args.watches.now.items in
     record {
-      there = (r.0, r.1, subst (λ (ts : List (ℕ × ℕ)). AreAlong r.0 c.args.core.now.core (ts ++ r.1) c.args.watches.now.items) (all n c.args.number e) r.2);
-      along = λ whole left h. subst (λ (ts : List (ℕ × ℕ)). AreAlong whole c.args.core.now.core (ts ++ left) c.args.watches.now.items) (all n c.args.number e) h;
+      there = subst (λ (ts : List (ℕ × ℕ)). CanRemake c.args.tabled.now again ts ws) (all n c.args.number e) c.requires.along;
+      along = subst (λ (ts : List (ℕ × ℕ)). Remakes c.args.tabled.now again (turns_from c.args.number (replicate n e)) ws again ts ws) (all n c.args.number e) (λ whole left h. h);
       same = λ i. refl;
     }
 
 pub make_entry-requires : goal.make_entry-requires
 make_entry-requires c =
-    let there = c.loop-before.invariant.there in (
+    let there = c.loop-before.invariant.there in
+    let e = entry_of c.args.run in
+    let n = c.args.run.count in
+    let i = c.loop-before.before in (
       there.0,
-      _,
-      subst (λ (ts : List (ℕ × ℕ)). AreAlong there.0 c.loop-before.core.core ts c.loop-before.watches.items)
-          (one-so c.args.run.count c.loop-before.before c.args.number (entry_of c.args.run) c.entry.result there.1 c.loop-before-test.true c.entry.ensures) there.2,
+      turns_from (c.args.number + (i + 1)) (replicate (n - (i + 1)) e) ++ there.1,
+      subst (λ (ts : List (ℕ × ℕ)). IsRemade there.0 c.args.tabled.now c.loop-before.again ts c.loop-before.watches.items)
+          (one-so n i c.args.number e c.entry.result there.1 c.loop-before-test.true c.entry.ensures) there.2,
     )
 
 pub loop-before-preserved : goal.loop-before-preserved
@@ -71,9 +70,10 @@ loop-before-preserved c =
     let e = entry_of c.args.run in
     let n = c.args.run.count in
     let i = c.loop-before.before in
-    let next : (whole : Whole) (left : List (ℕ × ℕ)) → AreAlong whole c.loop-before.core.core (turns_from (c.args.number + i) (replicate (n - i) e) ++ left) c.loop-before.watches.items
-    → AreAlong whole c.make_entry.new.core.core (turns_from (c.args.number + (i + 1)) (replicate (n - (i + 1)) e) ++ left) c.make_entry.new.watches.items =
-    λ whole left h. c.in_ok-make_entry.ensures.along whole _ (subst (λ (ts : List (ℕ × ℕ)). AreAlong whole c.loop-before.core.core ts c.loop-before.watches.items)
+    let tabled = c.args.tabled.now in
+    let rest : List (ℕ × ℕ) = turns_from (c.args.number + (i + 1)) (replicate (n - (i + 1)) e) in
+    let next : Remakes tabled c.loop-before.again (turns_from (c.args.number + i) (replicate (n - i) e)) c.loop-before.watches.items c.make_entry.new.again rest c.make_entry.new.watches.items =
+    λ whole left h. c.in_ok-make_entry.ensures.along whole (rest ++ left) (subst (λ (ts : List (ℕ × ℕ)). IsRemade whole tabled c.loop-before.again ts c.loop-before.watches.items)
     (one-so n i c.args.number e c.entry.result left c.loop-before-test.true c.entry.ensures) h) in
     let there = c.loop-before.invariant.there in
     record {
@@ -83,9 +83,10 @@ loop-before-preserved c =
     }
 
 pub returns-clause-along : goal.returns-clause-along
-returns-clause-along c whole left h =
-    subst (λ (ts : List (ℕ × ℕ)). AreAlong whole c.loop-before.core.core ts c.loop-before.watches.items)
-    (none c.args.run.count c.loop-before.before c.args.number (entry_of c.args.run) left (omega (arith, c.loop-before-test.false))) (c.loop-before.invariant.along whole left h)
+returns-clause-along c =
+    let none : c.args.run.count - c.loop-before.before ≡ 0 = omega (arith, c.loop-before-test.false) in
+    subst (λ k. Remakes c.args.tabled.now c.args.again.now (turns_from c.args.number (replicate c.args.run.count (entry_of c.args.run))) c.args.watches.now.items
+    c.loop-before.again (turns_from (c.args.number + c.loop-before.before) (replicate k (entry_of c.args.run))) c.loop-before.watches.items) none c.loop-before.invariant.along
 
 pub returns-clause-same : goal.returns-clause-same
 returns-clause-same c = c.loop-before.invariant.same

@@ -1,10 +1,15 @@
-use Rattle.std.proofs.Common.{◌≡◌, ◌∙◌, [], List, arith, refl, sym, ap, slice_get}
+use Rattle.std.proofs.Common.{◌≡◌, ◌∙◌, [], List, arith, refl, sym, subst, ap, slice_get}
 use Rattle.std.proofs.lemmas.Bool.Decides.{nat_tests}
 use Rattle.std.proofs.lemmas.List.{nil_from_length}
 use Rattle.std.proofs.lemmas.Option.{none-some}
+use Rattle.hep_history.specs.First.{first_of}
+use Rattle.hep_history.specs.Replays.{standing}
+use Rattle.hep_quick.specs.declared.tabled.Tabled.{Tabled}
+use Rattle.hep_quick.specs.UnitTables.{AreTables}
 use Rattle.hep_causes.specs.declared.watch.Watch.{Watch}
 use Rattle.hep_causes.proofs.Along.{same-both}
-use Rattle.hep_causes.proofs.Found.{begin-along, can-look, end-found, whole}
+use Rattle.hep_causes.proofs.Begun.{begun-like, remade-begins}
+use Rattle.hep_causes.proofs.Found.{can-look, end-found, whole}
 use Rattle.hep_causes.proofs.reading.find_changes.Goals as goal
 
 pub returns-then-is_empty-clause-found : goal.returns-then-is_empty-clause-found
@@ -15,22 +20,48 @@ returns-then-is_empty-clause-found c i w e =
 pub returns-then-is_empty-clause-same : goal.returns-then-is_empty-clause-same
 returns-then-is_empty-clause-same c = λ i. refl
 
+pub open-requires-clause-some : goal.open-requires-clause-some
+open-requires-clause-some c = omega (arith, c.requires.replayed.some, c.cells.ensures)
+
+pub open-requires-clause-few : goal.open-requires-clause-few
+open-requires-clause-few c = omega (arith, c.requires.replayed.few, c.cells.ensures)
+
 pub look-requires : goal.look-requires
 look-requires c =
-    can-look c.args.core.now.core c.args.entries.now.items c.requires.replayed c.headline.ensures.legal c.in_ok-again.again.core c.args.watches.now.items c.in_ok-again.ensures c.requires.watches
+    let core = c.args.core.now.core in (
+      standing core.program core.cells [],
+      begun-like core c.image-image.result.now c.cells.result c.in_ok-again.again.machine c.image-image.ensures c.cells.ensures c.in_ok-again.ensures.opened,
+      can-look core (first_of c.args.entries.now) c.requires.replayed c.headline.ensures.legal (standing core.program core.cells []) c.args.watches.now.items refl c.requires.watches,
+    )
 
 pub make_entries-requires : goal.make_entries-requires
-make_entries-requires c = (
-  whole c.args.core.now.core c.args.entries.now.items c.requires.replayed,
-  begin-along c.args.core.now.core c.args.entries.now.items c.requires.replayed c.headline.ensures.legal c.in_ok-again.again.core c.args.watches.now.items c.look.new.watches.items c.in_ok-again.ensures c.requires.watches c.look.ensures,
-)
+make_entries-requires c =
+    let core = c.args.core.now.core in
+    let entries = first_of c.args.entries.now in
+    let tabled : Tabled = record { image = c.image-image.result; tables = c.deref.result } in (
+      whole core entries c.requires.replayed,
+      [],
+      remade-begins core entries c.requires.replayed c.headline.ensures.legal tabled c.in_ok-again.again c.cells.result c.args.watches.now.items c.look.new.watches.items c.image-image.ensures
+          (subst (AreTables c.image-image.result.now) (sym c.deref.ensures.value) c.in_ok-tables.ensures) c.cells.ensures c.in_ok-again.ensures.opened c.in_ok-again.ensures.begun c.in_ok-again.ensures.room
+          c.requires.watches c.look.ensures,
+    )
 
 pub returns-clause-found : goal.returns-clause-found
 returns-clause-found c =
     let core = c.args.core.now.core in
-    let entries = c.args.entries.now.items in
-    let begun = begin-along core entries c.requires.replayed c.headline.ensures.legal c.in_ok-again.again.core c.args.watches.now.items c.look.new.watches.items c.in_ok-again.ensures c.requires.watches c.look.ensures in
-    end-found core entries c.requires.replayed c.make_entries.new.core.core c.make_entries.new.watches.items (c.in_ok-make_entries.ensures.along (whole core entries c.requires.replayed) begun)
+    let entries = first_of c.args.entries.now in
+    let tabled : Tabled = record { image = c.image-image.result; tables = c.deref.result } in
+    let begun =
+    remade-begins core entries c.requires.replayed c.headline.ensures.legal tabled c.in_ok-again.again c.cells.result c.args.watches.now.items c.look.new.watches.items c.image-image.ensures
+    (subst (AreTables c.image-image.result.now) (sym c.deref.ensures.value) c.in_ok-tables.ensures) c.cells.ensures c.in_ok-again.ensures.opened c.in_ok-again.ensures.begun c.in_ok-again.ensures.room
+    c.requires.watches c.look.ensures in
+    let made = c.in_ok-make_entries.ensures.along (whole core entries c.requires.replayed) [] begun in
+    end-found core entries c.requires.replayed _ c.make_entries.new.watches.items made.along
 
 pub returns-clause-same : goal.returns-clause-same
-returns-clause-same c = same-both c.args.watches.now.items c.look.new.watches.items c.make_entries.new.watches.items c.look.ensures.same c.in_ok-make_entries.ensures.same
+returns-clause-same c =
+    let core = c.args.core.now.core in
+    let none = standing core.program core.cells [] in
+    let of = begun-like core c.image-image.result.now c.cells.result c.in_ok-again.again.machine c.image-image.ensures c.cells.ensures c.in_ok-again.ensures.opened in
+    let kept = can-look core (first_of c.args.entries.now) c.requires.replayed c.headline.ensures.legal none c.args.watches.now.items refl c.requires.watches in
+    same-both c.args.watches.now.items c.look.new.watches.items c.make_entries.new.watches.items (c.look.ensures none of kept).same c.in_ok-make_entries.ensures.same

@@ -1,6 +1,7 @@
 use Rattle.std.proofs.Common.{◌∙◌, ap, List}
 use Rattle.std.proofs.lemmas.Result.{IfOk-weaker}
 use Rattle.hep_core.specs.Value.{state_of}
+use Rattle.hep_history.specs.First.{first_of}
 use Rattle.hep_causes.specs.declared.watch.Watch.{Watch}
 use Rattle.hep_causes.specs.Watches.{reasons_for}
 use Rattle.hep_causes.proofs.Found.{reasons-are}
@@ -11,4 +12,4 @@ returns c =
     let core = c.args.core.now.core in
     IfOk-weaker c.reasons_for.result _ _ (λ reasons told.
     told ∙ ap (λ (ws : List Watch). reasons_for (state_of core) ws) c.deref.ensures.value
-    ∙ reasons-are core c.args.entries.now.items c.requires c.in_ok-watches.watches.items c.find_changes.new.watches.items c.in_ok-watches.ensures.listed c.in_ok-find_changes.ensures.same c.in_ok-find_changes.ensures.found) c.reasons_for.ensures
+    ∙ reasons-are core (first_of c.args.entries.now) c.requires c.in_ok-watches.watches.items c.find_changes.new.watches.items c.in_ok-watches.ensures.listed c.in_ok-find_changes.ensures.same c.in_ok-find_changes.ensures.found) c.reasons_for.ensures

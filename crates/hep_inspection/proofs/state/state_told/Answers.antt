@@ -1,4 +1,5 @@
 use Rattle.std.proofs.Common.{◌∙◌, ap}
+use Rattle.hep_history.specs.First.{first_of}
 use Rattle.hep_states.specs.States.{state_text}
 use Rattle.hep_inspection.proofs.Told.{state-told}
 use Rattle.hep_inspection.proofs.state.state_told.Goals as goal
@@ -6,7 +7,7 @@ use Rattle.hep_inspection.proofs.state.state_told.Goals as goal
 pub returns-in-Ok-clause-told : goal.returns-in-Ok-clause-told
 returns-in-Ok-clause-told c =
     let core = c.in_ok-core.core.core in
-    let entries = c.args.entries.now.items in
+    let entries = first_of c.args.entries.now in
     c.in-Ok.ensures
     ∙ ap (λ n. state_text core.program n core.history) c.len.ensures.count
     ∙ state-told core c.args.image c.args.arena entries c.in_ok-core.ensures.made

@@ -1,5 +1,6 @@
 use Rattle.std.proofs.Common.{◌≤◌, ◌∙◌, IsSome, ap, subst, sym}
 use Rattle.hep_core.specs.Value.{CoreValue}
+use Rattle.hep_history.specs.First.{first_of}
 use Rattle.hep_history.specs.Replays.{replayed}
 use Rattle.hep_machine.specs.Words.{opening_layout}
 use Rattle.hep_causes.specs.Reasons.{why_text}
@@ -7,7 +8,7 @@ use Rattle.hep_inspection.proofs.state.why_told.Goals as goal
 
 pub why_text-requires : goal.why_text-requires
 why_text-requires c =
-    let entries = c.args.entries.now.items in
+    let entries = first_of c.args.entries.now in
     let made = c.in_ok-core.ensures.made in
     record {
       made = made ∙ ap (λ (x : CoreValue). replayed x.program x.cells entries) (sym made);
@@ -17,4 +18,4 @@ why_text-requires c =
     }
 
 pub returns-in-Ok-clause-told : goal.returns-in-Ok-clause-told
-returns-in-Ok-clause-told c = c.in-Ok.ensures ∙ ap (λ (x : CoreValue). why_text x.program c.args.entries.now.items) c.in_ok-core.ensures.made
+returns-in-Ok-clause-told c = c.in-Ok.ensures ∙ ap (λ (x : CoreValue). why_text x.program (first_of c.args.entries.now)) c.in_ok-core.ensures.made

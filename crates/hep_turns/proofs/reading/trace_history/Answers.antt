@@ -1,4 +1,5 @@
 use Rattle.std.proofs.Common.{◌≡◌, ◌∙◌, ◌+◌, ◌++◌, arith, drop, length, refl, subst, take}
+use Rattle.hep_history.specs.First.{first_of}
 use Rattle.hep_history.specs.Replays.{ArePossible, IsFirstImpossible}
 use Rattle.hep_machine.specs.Words.{Units, progress_after}
 use Rattle.hep_sites.specs.Variables.{AreVariablesOf}
@@ -16,7 +17,7 @@ tell_entries-requires-clause-variables c = subst (λ (u : Units). AreVariablesOf
 pub returns-then-all-len-clause-untold : goal.returns-then-all-len-clause-untold
 returns-then-all-len-clause-untold c =
     let core = c.in_ok-core.core.core in
-    let entries = c.args.entries.now.items in
+    let entries = first_of c.args.entries.now in
     let all = c.in-Ok-tell_entries.all in
     let same = c.in_ok-core.ensures.same in (
       c.in_ok-core.ensures.fits,
@@ -28,7 +29,7 @@ returns-then-all-len-clause-untold c =
 pub returns-clause-possible : goal.returns-clause-possible
 returns-clause-possible c =
     let core = c.in_ok-core.core.core in
-    let entries = c.args.entries.now.items in
+    let entries = first_of c.args.entries.now in
     let same = c.in_ok-core.ensures.same in
     let all : c.in-Ok-tell_entries.all ≡ length entries = omega (arith, c.if-all-len.false, c.len-2.ensures.count, c.in-Ok-tell_entries.ensures.few) in
     of-same (λ program cells. ArePossible program cells entries (length entries)) core.program c.args.image core.cells c.args.cells same.0 same.1 (
@@ -37,7 +38,7 @@ returns-clause-possible c =
 pub returns-clause-told : goal.returns-clause-told
 returns-clause-told c =
     let program = c.args.image in
-    let entries = c.args.entries.now.items in
+    let entries = first_of c.args.entries.now in
     let shown = shown_on c.args.page.now in
     let k = c.min-made.result in
     let same = c.in_ok-core.ensures.same.0 in

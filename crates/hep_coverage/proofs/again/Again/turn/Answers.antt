@@ -7,7 +7,8 @@ use Rattle.hep_state.specs.declared.turn.TurnFault.{TurnFault}
 use Rattle.hep_state.specs.declared.turn.Turned.{Turned}
 use Rattle.hep_state.specs.Words.{HasTurned, IsUnturned, snapshot_of}
 use Rattle.hep_counting.proofs.Tallied.{counted-one}
-use Rattle.hep_coverage.proofs.Remade.{few-now, living-now, not-full, not-waiting, remade-on, running-now, schedule-many, stepped}
+use Rattle.hep_causes.proofs.Turning.{stepped}
+use Rattle.hep_coverage.proofs.Remade.{few-now, living-now, not-full, not-waiting, remade-on, running-now, schedule-many}
 use Rattle.hep_coverage.proofs.again.Again.turn.Goals as goal
 
 pub begun-line-requires : goal.begun-line-requires
