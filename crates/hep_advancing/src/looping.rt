@@ -73,6 +73,7 @@ pub fn enter_loop(here: &Here<'_>, entered: Loop) -> Option<Deed>
 }
 
 // The iterations that are left of a DO, 0 where it wasn't begun, and whether no step has stored them.
+#[inline(always)]
 fn count_at(here: &Here<'_>, cells: u32) -> (bool, i64)
     ensures first { result.0 ≡ is_first (here_own here.now) cells }
     ensures count { result.1 ≡ pos (count_in (here_own here.now).values cells) }
@@ -85,6 +86,7 @@ fn count_at(here: &Here<'_>, cells: u32) -> (bool, i64)
 }
 
 // Its increment, 1 where it wasn't begun, and whether no step has stored it.
+#[inline(always)]
 fn increment_at(here: &Here<'_>, cells: u32) -> (bool, i64)
     ensures first { result.0 ≡ is_first (here_own here.now) (suc cells) }
     ensures increment { result.1 ≡ increment_in (here_own here.now).values cells }
@@ -97,6 +99,7 @@ fn increment_at(here: &Here<'_>, cells: u32) -> (bool, i64)
 }
 
 // A value and an increment, if the sum is an integer.
+#[inline(always)]
 fn raised_by(value: Value, increment: i64) -> Option<i64>
     ensures { result ≡ if_ok (arithmetic.integer_or_overflow (integer_of value +ℤ increment)) }
 {
@@ -104,6 +107,7 @@ fn raised_by(value: Value, increment: i64) -> Option<i64>
 }
 
 // What the end of an iteration makes, where the variable has this value.
+#[inline(always)]
 fn raise(
     here: &Here<'_>,
     ended: Loop,
@@ -138,6 +142,7 @@ fn raise(
 }
 
 /// Ends an iteration of a DO.
+#[inline(always)]
 pub fn end_loop(here: &Here<'_>, ended: Loop) -> Option<Deed>
     ensures { option_map (made_of_deed here.now.operands.now) result
         ≡ made_of_end_of here.now.memory.private.now (here_own here.now) ended.operation ended.variable ended.cells }

@@ -37,6 +37,7 @@ impl Operands {
     }
 
     /// The operands.
+    #[inline(always)]
     pub fn as_slice(&self) -> &[Value]
         ensures operands { result.now ≡ self.now }
         ensures few { length result.now ≤ most_operands }
@@ -45,6 +46,7 @@ impl Operands {
     }
 
     /// Puts a value behind them, if there is room for it.
+    #[inline(always)]
     pub fn push(&mut self, value: Value) -> bool
         ensures room { result ≡ nat_lt (length self.old) most_operands }
         ensures operands { self.new ≡ (if result then self.old ++ value ∷ [] else self.old) }
@@ -58,6 +60,7 @@ impl Operands {
     }
 
     /// Puts a value in the place of all but so many of them, the first ones, if there is room for it.
+    #[inline(always)]
     pub fn replace(&mut self, kept: usize, value: Value) -> bool
         ensures room { result ≡ nat_lt (length (take kept self.old)) most_operands }
         ensures operands { self.new ≡ (if result then take kept self.old ++ value ∷ [] else self.old) }
@@ -72,6 +75,7 @@ impl Operands {
     }
 
     /// Keeps so many of them at most, the first ones.
+    #[inline(always)]
     pub fn truncate(&mut self, count: usize)
         ensures { self.new ≡ take count self.old }
     {

@@ -29,6 +29,7 @@ pub struct Deed {
 }
 
 // The record of a value that was read or computed.
+#[inline(always)]
 fn note_of(here: &Here<'_>, evaluation: Evaluation, value: Value) -> Record
     ensures { result ≡ recorded.note_of (here_own here.now) evaluation value }
 {
@@ -47,6 +48,7 @@ fn note_of(here: &Here<'_>, evaluation: Evaluation, value: Value) -> Record
     }
 }
 
+#[inline(always)]
 fn evaluate(here: &Here<'_>, evaluation: Evaluation) -> Option<Deed>
     requires { here.now.index + 1 < 2 ^ 64 }
     ensures { option_map (made_of_deed here.now.operands.now) result
@@ -64,6 +66,7 @@ fn evaluate(here: &Here<'_>, evaluation: Evaluation) -> Option<Deed>
     })
 }
 
+#[inline(always)]
 fn store(here: &Here<'_>, variable: Variable, next: u32) -> Option<Deed>
     ensures { option_map (made_of_deed here.now.operands.now) result
         ≡ made_by here.now.memory.private.now (here_own here.now) (operations.Store variable 0 next) [] }
@@ -94,6 +97,7 @@ fn store(here: &Here<'_>, variable: Variable, next: u32) -> Option<Deed>
 }
 
 // The step only chooses where the activation goes on.
+#[inline(always)]
 fn lead(here: &Here<'_>, operation: Operation, entries: &[Instruction]) -> Deed
     requires { here.now.index + 1 < 2 ^ 64 }
     ensures { made_of_deed here.now.operands.now result ≡ made_of_choice (here_own here.now) operation entries.now }
@@ -105,6 +109,7 @@ fn lead(here: &Here<'_>, operation: Operation, entries: &[Instruction]) -> Deed
     }
 }
 
+#[inline(always)]
 fn perform(here: &Here<'_>, operation: Operation, entries: &[Instruction]) -> Option<Deed>
     requires { here.now.index + 1 < 2 ^ 64 }
     ensures { option_map (made_of_deed here.now.operands.now) result
@@ -148,6 +153,7 @@ fn perform(here: &Here<'_>, operation: Operation, entries: &[Instruction]) -> Op
 }
 
 /// What the operation makes at which an activation is, if its step is private.
+#[inline(always)]
 pub fn deed_ahead(here: &Here<'_>, code: &[Instruction]) -> Option<Deed>
     ensures { option_map (made_of_deed here.now.operands.now) result
         ≡ made_ahead here.now.memory.private.now (here_own here.now) (drop here.now.index code.now) }

@@ -31,6 +31,7 @@ pub struct Source<'a> {
 }
 
 // The constant at an index of the code, if one stands there.
+#[inline(always)]
 fn constant_at(code: &[Instruction], index: usize) -> Option<Value>
     ensures value { result ≡ constant_ahead (drop index code.now) }
     ensures there { IfSome result (λ v. index < length code.now) }
@@ -42,6 +43,7 @@ fn constant_at(code: &[Instruction], index: usize) -> Option<Value>
 }
 
 // Puts the constants that stand ahead behind the operands, and says where the operation is; none where they have no room.
+#[inline(always)]
 fn settle(code: &[Instruction], operands: &mut Operands, index: usize) -> Option<usize>
     ensures { HasSettled code.now operands.old index result operands.new }
 {
@@ -56,6 +58,7 @@ fn settle(code: &[Instruction], operands: &mut Operands, index: usize) -> Option
 }
 
 /// The next step behind those with these records, if it is private. The constants that stand ahead are operands then.
+#[inline(always)]
 pub fn deed_behind(
     source: &Source<'_>,
     records: Option<&Records>,
@@ -84,6 +87,7 @@ pub fn deed_behind(
 }
 
 // The next step of a segment, if it is private.
+#[inline(always)]
 fn next_deed(source: &Source<'_>, progress: &mut Progress) -> Option<Deed>
     ensures found { HasFound source.now.private.now source.now.code.now (own_of (values_of source.now.base) progress.old)
         result progress.new.operands }
@@ -109,6 +113,7 @@ pub fn has_room(operands: &Operands, deed: Deed) -> bool
 }
 
 // Makes a step, if its operands have room, and says whether they have. Else so many of the operands stay, the first ones.
+#[inline(always)]
 fn make(deed: Deed, kept: usize, progress: &mut Progress) -> bool
     requires { length progress.old.records < most_records }
     ensures { HasMade deed kept progress.old result progress.new }
@@ -130,6 +135,7 @@ fn make(deed: Deed, kept: usize, progress: &mut Progress) -> bool
 }
 
 /// Makes the next step, if it is private, and says whether it did. Else nothing changes.
+#[inline(always)]
 pub fn advance(source: &Source<'_>, progress: &mut Progress) -> bool
     requires { length progress.old.records < most_records }
     ensures { HasAdvanced (next_made source.now.private.now source.now.code.now (own_of (values_of source.now.base) progress.old))

@@ -21,6 +21,7 @@ pub enum Leaving {
 /// function stands behind the operands that the activation below keeps, which has them again.
 ///
 /// There is room for these and the value.
+#[inline(always)]
 pub fn leave(process: &mut Process, frames: &mut Frames, why: Leaving) -> Local
     requires some { 0 < vec_len process.old.levels }
     requires out { CanLeave why process.old frames.old }

@@ -14,6 +14,7 @@ pub struct Parameters {
 }
 
 // How far the limit is from the initial value, and an increment more.
+#[inline(always)]
 fn distance(initial: i64, limit: i64, increment: i64) -> i128
     ensures value { result ≡ (limit -ℤ initial) +ℤ increment }
     ensures few { nat_abs result < 2 ^ 66 }
@@ -22,6 +23,7 @@ fn distance(initial: i64, limit: i64, increment: i64) -> i128
 }
 
 #[tactic(auto, using(crate::proofs::IterationCounts::quotient_fits))]
+#[inline(always)]
 fn quotient(dividend: i128, divisor: i128) -> i128
     requires some { divisor ≢ pos 0 }
     requires few { nat_abs dividend < 2 ^ 66 }
@@ -31,6 +33,7 @@ fn quotient(dividend: i128, divisor: i128) -> i128
 }
 
 // So many iterations, none where the number is negative.
+#[inline(always)]
 fn count_of(number: i128) -> Result<i64, Kind>
     ensures value { result ≡ integer_or_overflow (pos (natural number)) }
     ensures some { IfOk result (λ count. pos 0 ≤ℤ count) }
@@ -46,6 +49,7 @@ fn count_of(number: i128) -> Result<i64, Kind>
 /// # Errors
 ///
 /// `Step` where the increment is 0, `Overflow` where the count is no 64-bit integer.
+#[inline(always)]
 pub fn iterations(parameters: Parameters) -> Result<i64, Kind>
     ensures value { result ≡ machine.iterations parameters.initial parameters.limit parameters.increment }
     ensures some { IfOk result (λ count. pos 0 ≤ℤ count) }

@@ -30,6 +30,7 @@ pub struct Memory<'a> {
 }
 
 #[tactic(auto, using(hep_source::proofs::Tests::drop_at))]
+#[inline(never)]
 fn copied(copies: &[Copied], cell: usize) -> Option<Value>
     ensures { result ≡ value_copied copies.now cell }
 {
@@ -53,6 +54,7 @@ fn held(slots: &[Cell], first: usize, cell: usize) -> Option<Value>
 
 impl Base<'_> {
     /// The value of a cell, if it has one.
+    #[inline(always)]
     pub fn value(self, cell: usize) -> Option<Value>
         ensures { result ≡ values_of self.entry cell }
     {
@@ -89,6 +91,7 @@ fn stored_by_loop(store: LoopStore, cell: usize) -> Option<Value>
 }
 
 /// So many iterations, none where the number is negative.
+#[inline(always)]
 pub fn iterations(number: i64) -> i64
     ensures { result ≡ pos (natural number) }
 {
@@ -96,6 +99,7 @@ pub fn iterations(number: i64) -> i64
 }
 
 /// One less of them, if there is one.
+#[inline(always)]
 pub fn one_less(number: i64) -> i64
     ensures { result ≡ pos (natural number - 1) }
 {
@@ -176,6 +180,7 @@ fn stored_by(note: Record, cell: usize) -> Option<Value>
 
 /// What the last one of these steps that stored in a cell has stored there, looked for from the last one back.
 #[tactic(auto, using(crate::proofs::Along::stored_last))]
+#[inline(never)]
 pub fn stored(records: &[Record], cell: usize) -> Option<Value>
     ensures { result ≡ stored_in records.now cell }
 {
@@ -191,6 +196,7 @@ pub fn stored(records: &[Record], cell: usize) -> Option<Value>
 
 impl Memory<'_> {
     /// A private scalar of the unit has this cell.
+    #[inline(always)]
     pub fn is_private(&self, cell: u32) -> bool
         ensures { result ≡ is_number_among cell self.now.private.now }
     {
@@ -198,6 +204,7 @@ impl Memory<'_> {
     }
 
     // What was stored last in a cell.
+    #[inline(always)]
     fn stored(&self, cell: usize) -> Option<Value>
         ensures { result ≡ stored_in (records_among self.now.records) cell }
     {
@@ -209,6 +216,7 @@ impl Memory<'_> {
 
     /// The value of a cell, and whether no step has stored in it.
     #[tactic(auto, using(crate::proofs::Along::value_along, crate::proofs::Along::written_here))]
+    #[inline(always)]
     pub fn read(&self, cell: usize) -> (bool, Option<Value>)
         ensures first { result.0 ≡ not (is_number_among cell (written_now self.now)) }
         ensures value { result.1 ≡ values_now self.now cell }

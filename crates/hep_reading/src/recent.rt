@@ -30,6 +30,7 @@ pub fn nothing() -> Recent
 }
 
 /// What stands at the place of a cell.
+#[inline(always)]
 pub fn recent_at(recent: &Recent, cell: usize) -> Option<Stored>
     ensures { result ≡ slice_index_or recent.now (place_of cell) None }
 {
@@ -37,6 +38,7 @@ pub fn recent_at(recent: &Recent, cell: usize) -> Option<Stored>
 }
 
 // A value was stored in a cell.
+#[inline(always)]
 fn put(recent: &mut Recent, cell: usize, value: Value)
     ensures { recent.new ≡ slice_set recent.old (place_of cell) (Some (record { cell = cell; value = value })) }
 {
@@ -44,6 +46,7 @@ fn put(recent: &mut Recent, cell: usize, value: Value)
 }
 
 // A step of a DO has stored.
+#[inline(always)]
 fn put_loop(recent: &mut Recent, store: LoopStore)
     ensures { recent.new ≡ with_recent recent.old (stores_of_store store) }
 {
@@ -54,6 +57,7 @@ fn put_loop(recent: &mut Recent, store: LoopStore)
 }
 
 /// A step has stored.
+#[inline(always)]
 pub fn put_stores(recent: &mut Recent, note: Record)
     ensures { recent.new ≡ with_recent recent.old (stores_of note) }
 {

@@ -45,6 +45,7 @@ impl Records {
     }
 
     /// The records.
+    #[inline(always)]
     pub fn as_slice(&self) -> &[Record]
         ensures records { result.now ≡ self.now }
         ensures few { length result.now ≤ most_records }
@@ -53,6 +54,7 @@ impl Records {
     }
 
     /// How many they are.
+    #[inline(always)]
     pub fn len(&self) -> usize
         ensures { result ≡ length self.now }
     {
@@ -60,6 +62,7 @@ impl Records {
     }
 
     /// What the last one of these steps that stored in a cell has stored there.
+    #[inline(always)]
     pub fn stored(&self, cell: usize) -> Option<Value>
         ensures { result ≡ stored_in self.now cell }
     {
@@ -76,6 +79,7 @@ impl Records {
     }
 
     /// Puts a record behind them.
+    #[inline(always)]
     pub fn push(&mut self, note: Record)
         requires { length self.old < most_records }
         ensures { self.new ≡ self.old ++ note ∷ [] }

@@ -12,6 +12,7 @@ use hep_machine::values::{combined_value, negated_value, signed_value};
 use hep_source::Value;
 
 /// The operand at an index, if there is one; no accepted program lacks one.
+#[inline(always)]
 pub fn operand(operands: &[Value], index: usize) -> Value
     ensures { result ≡ unwrap_or (slice_get operands.now index) no_value }
 {
@@ -19,6 +20,7 @@ pub fn operand(operands: &[Value], index: usize) -> Value
 }
 
 /// The value of an operation with these operands, if its step is private.
+#[inline(always)]
 pub fn value_of(memory: &Memory<'_>, evaluation: Evaluation, operands: &[Value]) -> Option<Value>
     ensures { result ≡ recorded.value_of memory.now.private.now (values_now memory.now) evaluation operands.now }
 {

@@ -10,6 +10,7 @@ use std::alloc::{AllocError, Global};
 use std::mem::replace;
 
 /// Where the top activation of a process is: its unit, its frame in the arena, and its index in the unit's code.
+#[inline(always)]
 pub fn place<'a>(
     process: &Process,
     frames: &Frames,
@@ -36,6 +37,7 @@ pub fn place<'a>(
 /// # Errors
 ///
 /// Only where memory was refused for a record; nothing is changed then.
+#[inline(always)]
 pub fn advance(
     process: &mut Process,
     frames: &mut Frames,

@@ -9,7 +9,7 @@ ghost use Rattle.hep_workers.specs.Faults.{HasGivenAll};
 
 use hep_core::{ChooseFault, CommitFault, Core, Verdict};
 use hep_image::Image;
-use hep_receipts::{Receipt, worker_turn};
+use hep_receipts::{Receipt, known_turn};
 use hep_segments::{Segment, Ticket};
 use std::alloc::AllocError;
 use std::marker::{Brand, PhantomData};
@@ -108,7 +108,7 @@ impl<K: Whole> Tied<K> {
     pub(crate) fn turn(&mut self, worker: u32, segment: &Segment) -> Result<Receipt, CommitFault>
         requires { IsMadeBy K.opening.program segment.now }
     {
-        worker_turn(&mut self.core, worker, segment)
+        known_turn(&mut self.core, worker, segment)
     }
 
     /// A ticket is out no more.

@@ -10,7 +10,7 @@ returns-clause-named c =
     let process = sym (ap (λ id. id.process) c.ticket-process.ensures) in (
       refl,
       c.len-index.ensures.count ∙ ap length c.history.ensures,
-      one-entry old c.commit_known.new.self c.args.segment.now turn c.in_ok-turn.ensures.committed
+      one-entry old c.commit.new.self c.args.segment.now turn c.in_ok-turn.ensures.committed
           ∙ (λ i. old.core.history ++ record { process = process i; steps = turn.steps } ∷ []),
     )
 
@@ -19,8 +19,8 @@ returns-clause-made c = (c.in_ok-turn.turn, refl, c.in_ok-turn.ensures.committed
 
 pub returns-in_err-turn-clause-unmade : goal.returns-in_err-turn-clause-unmade
 returns-in_err-turn-clause-unmade c =
-    fault-so c.from_residual.result c.in_err-turn.field-0.0 (λ fault. IsCommitted c.args.core.now c.args.segment.now (Err fault) c.commit_known.new.self) c.from_residual.ensures.1 c.in_err-turn.ensures.committed
+    fault-so c.from_residual.result c.in_err-turn.field-0.0 (λ fault. IsCommitted c.args.core.now c.args.segment.now (Err fault) c.commit.new.self) c.from_residual.ensures.1 c.in_err-turn.ensures.committed
 
 pub returns-in_err-turn-clause-kept : goal.returns-in_err-turn-clause-kept
 returns-in_err-turn-clause-kept c =
-    err-so c.from_residual.result c.from_residual.ensures.0 (no-entry c.args.core.now c.commit_known.new.self c.args.segment.now c.in_err-turn.field-0.0 c.in_err-turn.ensures.committed)
+    err-so c.from_residual.result c.from_residual.ensures.0 (no-entry c.args.core.now c.commit.new.self c.args.segment.now c.in_err-turn.field-0.0 c.in_err-turn.ensures.committed)
