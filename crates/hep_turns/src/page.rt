@@ -1,5 +1,5 @@
 //! Which lines are shown.
-ghost use Rattle.std.specs.Prelude.{◌≡◌};
+ghost use Rattle.std.specs.Prelude.{◌≡◌, ◌+◌, ◌<◌, ◌≤◌, false, ℕ};
 ghost use Rattle.hep_traces.specs.Traces.{is_of, is_shown};
 ghost use Rattle.hep_turns.specs.Pages.{shown_on};
 
@@ -21,6 +21,23 @@ impl<'a> Page<'a> {
             Some(shown) => shown == process,
             None => true,
         }
+    }
+
+    // How many entries of this process in a row aren't shown, of which the first one has this number, up to so many: none where that one is shown.
+    pub(crate) fn hidden(&self, entry: u64, process: u64, most: u32) -> u32
+        ensures hidden { (k : ℕ) → k < result → is_shown (shown_on self.now) (entry + k) process ≡ false }
+        ensures few { result ≤ most }
+    {
+        if !self.is_of(process) {
+            return most;
+        }
+        if self.last < entry {
+            return most;
+        }
+        if self.first <= entry {
+            return 0;
+        }
+        (self.first - entry).min(u64::from(most)) as u32
     }
 
     // Whether the lines of the entry with this number are shown, which is of this process.

@@ -42,7 +42,7 @@ fn begin_after(
 }
 
 /// What each step of the first entries of a history does which an image makes in an arena of so many cells, 1 to 16,777,216, as a text with the
-/// lines that are shown. The entries are made once: those before the first line as a replay makes them, and the others step by step.
+/// lines that are shown. The entries are made once: step by step where they are shown, and else in runs, as a replay makes them.
 ///
 /// # Errors
 ///

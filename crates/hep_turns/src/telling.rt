@@ -1,8 +1,9 @@
 //! Turns and entries that are made and told of.
-ghost use Rattle.std.specs.Prelude.{◌≡◌, ◌+◌, ◌++◌, ◌<◌, ◌≤◌, IfOk, Ok, drop, length, take, true};
+ghost use Rattle.std.specs.Prelude.{◌≡◌, ◌+◌, ◌^◌, ◌++◌, ◌<◌, ◌≤◌, IfOk, Ok, drop, length, replicate, take, true};
+ghost use Rattle.hep_entries.specs.Runs.{entry_of};
 ghost use Rattle.hep_glances.specs.Sights.{IsTurnMade};
 ghost use Rattle.hep_history.specs.First.{first_of};
-ghost use Rattle.hep_history.specs.Progress.{EntryMade, IsStanding, StepsMade, TurnMade};
+ghost use Rattle.hep_history.specs.Progress.{EntryMade, IsStanding, RunMade, StepsMade, TurnMade};
 ghost use Rattle.hep_history.specs.Replays.{ArePossible, IsFirstImpossible};
 ghost use Rattle.hep_machine.specs.Words.{progress_after};
 ghost use Rattle.hep_sites.specs.Variables.{AreVariablesOf};
@@ -12,8 +13,9 @@ ghost use Rattle.hep_turns.specs.Pages.{shown_on};
 
 use crate::page::Page;
 use hep_core::{ChooseFault, Core};
+use hep_entries::Run;
 use hep_glances::{append_line, look};
-use hep_history::First;
+use hep_history::{First, make_run};
 use hep_machine::Entry;
 use hep_sites::Variables;
 use std::alloc::{AllocError, Global};
@@ -149,6 +151,47 @@ fn tell_entry(
     }
 }
 
+// Entries in a row that are equal, behind so many others, and their lines where they are shown: how many of them were made, which are fewer than all
+// where the next one isn't possible. Those that aren't shown are made as a replay makes them.
+fn tell_run(
+    core: &mut Core,
+    text: &mut Vec<u8>,
+    teller: &Teller<'_>,
+    before: u64,
+    run: Run,
+) -> Result<u32, AllocError>
+    requires variables { AreVariablesOf core.old.core.program teller.now.variables.now }
+    requires replaying { IsReplaying core.old.core }
+    requires few { before + run.count < 2 ^ 64 }
+    ensures made { IfOk result (λ made. RunMade core.old.core (entry_of run) run.count (Ok made) core.new.core) }
+    ensures few { IfOk result (λ made. made ≤ run.count) }
+    ensures told { IfOk result (λ made. made ≡ run.count → text.new.items ≡ text.old.items
+        ++ words.trace_from core.old.core.program (shown_on teller.now.page.now) (before + 1) (progress_of core.old.core) (replicate run.count (entry_of run))) }
+{
+    let mut made = 0;
+    while made < run.count {
+        // A core's history is legal, so each frame had its gap.
+        core.headline();
+        let number = before + 1 + made as u64;
+        let hidden = teller.page.hidden(number, run.process, run.count - made);
+        if hidden == 0 {
+            if !tell_entry(core, text, teller, run.entry(), number)? {
+                return Ok(made);
+            }
+            made += 1;
+        } else {
+            let Ok(more) = make_run(core, run.entry(), hidden) else {
+                return Err(AllocError);
+            };
+            made += more;
+            if more < hidden {
+                return Ok(made);
+            }
+        }
+    }
+    Ok(made)
+}
+
 /// The entries that are left after so many, on a core that has made those, and their lines: how many of all are possible.
 ///
 /// # Errors
@@ -171,17 +214,29 @@ pub(crate) fn tell_entries(
         ++ words.trace_from core.old.core.program (shown_on teller.now.page.now)
         (made + 1) (progress_after core.old.core.program (take made (first_of entries.now))) (drop made (first_of entries.now))) }
 {
-    let mut rest = entries.history.iter();
-    rest.pass(made);
-    for before in made..entries.len() {
-        let Some(entry) = rest.next() else {
+    let count = entries.len();
+    let mut runs = entries.history.runs();
+    let mut at = 0;
+    while at < count {
+        let Some(run) = runs.next() else {
             unreachable!()
         };
-        if !tell_entry(core, text, teller, entry, before + 1)? {
-            return Ok(before);
+        let end = count.min(at + run.count as u64);
+        let from = made.max(at);
+        if from < end {
+            let left = Run {
+                process: run.process,
+                steps: run.steps,
+                count: (end - from) as u32,
+            };
+            let more = tell_run(core, text, teller, from, left)?;
+            if more < left.count {
+                return Ok(from + more as u64);
+            }
+            // A core's history is legal, so each frame had its gap.
+            core.headline();
         }
-        // A core's history is legal, so each frame had its gap.
-        core.headline();
+        at = end;
     }
-    Ok(entries.len())
+    Ok(count)
 }
