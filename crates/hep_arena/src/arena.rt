@@ -58,6 +58,7 @@ const UNSET: Slot = Slot {
 };
 
 // Makes n cells empty, without values.
+#[inline(always)]
 fn clear(slots: &mut [Cell], at: u32, n: u32)
     requires { at + n ≤ length slots.old }
     ensures cleared { (k : ℕ) → at ≤ k → k < at + n → slice_get slots.new k ≡ Some unset_cell }
@@ -118,6 +119,7 @@ impl Arena {
 
     /// Some hole has n cells, so that a block of n can be taken. This costs the logarithm of how many
     /// cells there are.
+    #[inline(always)]
     pub fn fits(&self, n: u32) -> bool
         ensures { result ≡ is_some (first_fit n self.now.holes) }
     {
@@ -129,6 +131,7 @@ impl Arena {
     ///
     /// None where no hole has n cells. This costs the logarithm of how many cells there are, and a time
     /// for each cell of the block.
+    #[inline(always)]
     pub fn take(&mut self, n: u32) -> Option<Block>
         requires { 1 ≤ n }
         ensures block { MatchOption result (first_fit n self.old.holes ≡ None) (λ b. (first_fit n self.old.holes ≡ Some b.at)
@@ -147,6 +150,7 @@ impl Arena {
     /// Gives a block back: its cells are free, and one hole with those that they touch.
     ///
     /// The block has to be out. This costs the logarithm of how many cells there are.
+    #[inline(always)]
     pub fn give(&mut self, block: Block)
         requires inside { block.at + block.len ≤ length self.old.contents }
         requires out { (k : ℕ) → block.at ≤ k → k < block.at + block.len → IsOut k self.old.holes }
@@ -162,6 +166,7 @@ impl Arena {
     /// The slot of a cell.
     ///
     /// The cell has to be out.
+    #[inline(always)]
     pub fn get(&self, at: u32) -> Slot
         requires inside { at < length self.now.contents }
         requires out { IsOut at self.now.holes }

@@ -15,6 +15,7 @@ use hep_step::Given;
 /// The frame of a new activation enters, and what is given is written to the cells of its dummy arguments. Answers the key of its node.
 ///
 /// There is room for a node, and a gap of so many cells, in which a header and the dummy arguments fit.
+#[inline(always)]
 pub fn begin(frames: &mut Frames, entrant: Entrant, given: &[Given]) -> usize
     requires { CanBeginWith frames.old entrant given.now }
     ensures vacant { nodes_of frames.old.nodes result ≡ None }

@@ -15,6 +15,7 @@ use hep_proc::Frames;
 use hep_source::Value;
 use hep_step::Given;
 
+#[inline(always)]
 pub(crate) fn number(value: i64) -> Slot
     ensures { result ≡ slot_of_number value }
 {
@@ -25,6 +26,7 @@ pub(crate) fn number(value: i64) -> Slot
 }
 
 // Writes what is given to the two cells of a dummy argument, of which the second one has no value yet.
+#[inline(always)]
 fn put(frames: &mut Frames, at: u32, given: Given)
     requires few { length frames.old.arena.contents ≤ 16777216 }
     requires inside { at + 2 ≤ length frames.old.arena.contents }
@@ -51,6 +53,7 @@ fn put(frames: &mut Frames, at: u32, given: Given)
 /// Writes what is given to the cells of a new activation's dummy arguments, whose frame begins at a cell.
 ///
 /// The frame is out, and has a header and two cells for each that is given.
+#[inline(always)]
 pub fn bind(frames: &mut Frames, first: u32, given: &[Given])
     requires few { length frames.old.arena.contents ≤ 16777216 }
     requires inside { first + (1 + 2 * length given.now) ≤ length frames.old.arena.contents }

@@ -97,6 +97,7 @@ fn shape_one(frames: &mut Frames, at: u32, shape_of_one: &Option<Shape>) -> u32
 
 // Writes the bounds of all adjustable arrays of a new activation to their cells, which begin at a cell, those of one dummy argument
 // after the other.
+#[inline(always)]
 fn shape_from(frames: &mut Frames, at: u32, shapes: &[Option<Shape>])
     requires few { length frames.old.arena.contents ≤ 16777216 }
     requires inside { at + cells_of_shapes shapes.now ≤ length frames.old.arena.contents }
@@ -118,6 +119,7 @@ fn shape_from(frames: &mut Frames, at: u32, shapes: &[Option<Shape>])
 /// of one dummy argument after the other, two cells for the bounds of each dimension (X3.9-1978, 5.5.1).
 ///
 /// The frame has so many cells at least.
+#[inline(always)]
 pub fn shape_all(frames: &mut Frames, key: usize, shapes: &[Option<Shape>])
     requires few { length frames.old.arena.contents ≤ 16777216 }
     requires there { ContainsKey frames.old.nodes key }

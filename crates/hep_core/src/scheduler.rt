@@ -293,8 +293,7 @@ impl Core {
     // moves it. It sets no stop. It fails only where the history has no room for so many entries; nothing has changed then.
     #[inline(always)]
     fn move_on(&mut self, p: u64, most: u64, rounds: bool) -> Result<u64, AllocError>
-        requires ready { CanMove rounds p self.old.core }
-        requires once { most < 2 ^ 32 }
+        requires { CanMove rounds p self.old.core × (most < 2 ^ 32) }
         ensures chosen { IfOk result (λ n. AreMoves rounds p self.old.core n self.new.core) }
         ensures few { IfOk result (λ n. n ≤ most) }
         ensures all { IfOk result (λ n. rounds ≡ false → n < most → IsAtRest self.new.core p) }
@@ -343,8 +342,7 @@ impl Core {
     // The same of process p alone. It has a function of its own, so that the loop of rounds is one apart from it.
     #[inline(never)]
     fn move_alone(&mut self, p: u64, most: u64) -> Result<u64, AllocError>
-        requires home { is_out p self.old.core.out ≡ false }
-        requires once { most < 2 ^ 32 }
+        requires { CanMove false p self.old.core × (most < 2 ^ 32) }
         ensures chosen { IfOk result (λ n. AreChoices p self.old.core n self.new.core) }
         ensures few { IfOk result (λ n. n ≤ most) }
         ensures all { IfOk result (λ n. n < most → IsAtRest self.new.core p) }

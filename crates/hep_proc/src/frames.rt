@@ -72,6 +72,7 @@ impl Frames {
     }
 
     /// There is a gap of so many cells.
+    #[inline(always)]
     pub fn fits(&self, cells: u32) -> bool
         ensures fit { result ≡ is_some (first_fit cells self.now.arena.holes) }
         ensures opening { (program : Units) → IsUnused (common_cells program) self.now.arena (nodes_of self.now.nodes)
@@ -85,6 +86,7 @@ impl Frames {
     /// Makes room for one node more.
     ///
     /// Fails where memory was refused; nothing has changed then.
+    #[inline(always)]
     pub fn reserve(&mut self) -> Result<(), AllocError>
         ensures room { OnOk result (HasRoomFor self.new.nodes 1) }
         ensures made { HasRoomFor self.old.nodes 1 → IsOk result }
@@ -118,6 +120,7 @@ impl Frames {
     /// The frame of a new activation enters. Answers the key of its node.
     ///
     /// There is room for a node, and a gap of so many cells, one at least.
+    #[inline(always)]
     pub fn enter(&mut self, entrant: Entrant) -> usize
         requires { CanEnter entrant self.old }
         ensures vacant { nodes_of self.old.nodes result ≡ None }
@@ -145,6 +148,7 @@ impl Frames {
     }
 
     // A node that has no children, and its block.
+    #[inline(always)]
     fn add(&mut self, activation: u64, unit: u32, cells: u32, parent: Option<usize>) -> usize
         requires { HasPlaceFor cells self.old }
         ensures vacant { nodes_of self.old.nodes result ≡ None }
@@ -175,6 +179,7 @@ impl Frames {
 
     /// The activation under a key has ended: its frame goes back where no child of it is out, and so on
     /// upwards.
+    #[inline(always)]
     pub fn leave(&mut self, key: usize)
         requires there { ContainsKey self.old.nodes key }
         requires kept { AreOfSomeState self.old.arena (nodes_of self.old.nodes) }
@@ -220,6 +225,7 @@ impl Frames {
     }
 
     // Gives the frame under a key back, and answers its parent's key.
+    #[inline(always)]
     fn give(&mut self, key: usize) -> Option<usize>
         requires { CanGoBack key self.old }
         ensures parent { (n : FrameNode) → nodes_of self.old.nodes key ≡ Some n → result ≡ n.parent }
@@ -239,6 +245,7 @@ impl Frames {
     }
 
     /// The first cell of the frame under a key.
+    #[inline(always)]
     pub fn first(&self, key: usize) -> u32
         requires { ContainsKey self.now.nodes key }
         ensures { (n : FrameNode) → nodes_of self.now.nodes key ≡ Some n → result ≡ n.first }
@@ -247,6 +254,7 @@ impl Frames {
     }
 
     /// How many cells the frame under a key has.
+    #[inline(always)]
     pub fn cells(&self, key: usize) -> u32
         requires { ContainsKey self.now.nodes key }
         ensures { (n : FrameNode) → nodes_of self.now.nodes key ≡ Some n → result ≡ n.cells }

@@ -6,6 +6,7 @@ use crate::process::Process;
 use hep_source::Value;
 
 // The first operands, so many, are pending, behind what is so; and there are none. There is room for them.
+#[inline(always)]
 pub(crate) fn keep_back(operands: &mut Vec<Value>, pending: &mut Vec<Value>, kept: usize)
     requires few { kept ≤ vec_len operands.old }
     requires room { vec_len pending.old + kept ≤ vec_capacity pending.old }
@@ -18,6 +19,7 @@ pub(crate) fn keep_back(operands: &mut Vec<Value>, pending: &mut Vec<Value>, kep
 }
 
 // The last ones of what is pending, so many, are operands, of which there were none. There is room for them.
+#[inline(always)]
 fn bring_back(operands: &mut Vec<Value>, pending: &mut Vec<Value>, kept: usize)
     requires none { operands.old.items ≡ [] }
     requires room { kept ≤ vec_capacity operands.old }
@@ -33,6 +35,7 @@ fn bring_back(operands: &mut Vec<Value>, pending: &mut Vec<Value>, kept: usize)
 impl Process {
     /// A function that was above it has ended: its top activation, if it has one, has the operands back that it keeps, and behind them the
     /// value. There is room for them.
+    #[inline(always)]
     pub fn take_value(&mut self, value: Value)
         requires none { self.old.operands.items ≡ [] }
         requires room { HasRoomForValue self.old }

@@ -20,6 +20,7 @@ pub(crate) struct Node {
 }
 
 // The activation under a key has ended.
+#[inline(always)]
 pub(crate) fn end(nodes: &mut Slab<Node>, key: usize)
     ensures ended { (k : ℕ) → nodes_of nodes.new k ≡ with_ended (nodes_of nodes.old) key k }
 {
@@ -29,6 +30,7 @@ pub(crate) fn end(nodes: &mut Slab<Node>, key: usize)
 }
 
 // One child less of the frame under a key is out.
+#[inline(always)]
 pub(crate) fn lose_child(nodes: &mut Slab<Node>, key: usize)
     requires { HasChildren (nodes_of nodes.old) key }
     ensures fewer { (k : ℕ) → nodes_of nodes.new k ≡ with_fewer (nodes_of nodes.old) key k }
@@ -40,6 +42,7 @@ pub(crate) fn lose_child(nodes: &mut Slab<Node>, key: usize)
 }
 
 // One child more of the frame under a key is out.
+#[inline(always)]
 pub(crate) fn gain_child(nodes: &mut Slab<Node>, key: usize)
     requires { CanCount (nodes_of nodes.old) key }
     ensures more { (k : ℕ) → nodes_of nodes.new k ≡ with_more (nodes_of nodes.old) key k }

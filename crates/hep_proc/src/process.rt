@@ -38,6 +38,7 @@ impl Process {
     }
 
     /// The level of its top activation.
+    #[inline(always)]
     pub fn top(&self) -> Local
         requires { 0 < vec_len self.now.levels }
         ensures { HasTop self.now result }
@@ -46,6 +47,7 @@ impl Process {
     }
 
     /// Its top activation is at an index.
+    #[inline(always)]
     pub fn stand_at(&mut self, index: usize)
         requires { 0 < vec_len self.old.levels }
         ensures stack { StandsAt self.old index self.new }
@@ -59,20 +61,20 @@ impl Process {
     }
 
     // Another level is in the place of that of its top activation.
+    #[inline(always)]
     fn put_top(&mut self, level: Local)
         requires { 0 < vec_len self.old.levels }
         ensures stack { PutsTop self.old level self.new }
-        ensures number { self.new.number ≡ self.old.number }
         ensures count { vec_len self.new.levels ≡ vec_len self.old.levels }
         ensures capacity { vec_capacity self.new.levels ≡ vec_capacity self.old.levels }
-        ensures operands { self.new.operands ≡ self.old.operands }
-        ensures pending { self.new.pending ≡ self.old.pending }
+        ensures others { self.new ≡ record self.old { levels = self.new.levels } }
     {
         let top = self.levels.len() - 1;
         self.levels[top] = level;
     }
 
     /// Its top activation is to go on at an index.
+    #[inline(always)]
     pub fn go_on(&mut self, index: usize)
         requires { 0 < vec_len self.old.levels }
         ensures stack { GoesOnAt self.old index self.new }
@@ -86,9 +88,9 @@ impl Process {
     }
 
     /// Its top activation keeps its first operands, so many, and is to go on at an index, and a new one is above it.
+    #[inline(always)]
     pub fn put_above(&mut self, kept: u32, index: usize, level: Local)
-        requires some { 0 < vec_len self.old.levels }
-        requires room { vec_len self.old.levels < vec_capacity self.old.levels }
+        requires levels { (0 < vec_len self.old.levels) × (vec_len self.old.levels < vec_capacity self.old.levels) }
         requires few { kept ≤ vec_len self.old.operands }
         requires pending { vec_len self.old.pending + kept ≤ vec_capacity self.old.pending }
         ensures stack { PutsAbove self.old kept index level self.new }
@@ -106,6 +108,7 @@ impl Process {
     }
 
     /// Its top activation has ended: the level is taken off, and the one below it has no operands.
+    #[inline(always)]
     pub fn end_top(&mut self) -> Local
         requires { 0 < vec_len self.old.levels }
         ensures level { HasTop self.old result }
@@ -119,6 +122,7 @@ impl Process {
     }
 
     /// Room for a level more, for so many operands at once, and for so many more that are pending.
+    #[inline(always)]
     pub fn reserve(&mut self, operands: u32, kept: u32) -> Result<(), AllocError>
         ensures level { OnOk result (vec_len self.new.levels < vec_capacity self.new.levels) }
         ensures operands { OnOk result (operands ≤ vec_capacity self.new.operands) }

@@ -71,3 +71,7 @@ pub record LeavesAlone (program : Units) (history : List Entry) (p : ℕ) (old n
   pub same : IsSeenSame (snapshot_of old) (snapshot_of new)
   pub top : IsSameButTop program p (snapshot_of old) (snapshot_of new)
   pub made : new.made ≡ old.made
+
+-- so it is where a turn isn't taken, for this
+abbrev pub IsRefused : Units → List Entry → ℕ → Machine → Machine → TurnFault → Type 0
+IsRefused program history p old new fault = IsUntaken program history p old fault × LeavesAlone program history p old new

@@ -1,5 +1,5 @@
 -- What a core keeps before the first step: docs/MACHINE.md, "The opening and runs".
-use Rattle.std.specs.Prelude.{◌≡◌, ℕ, false, List, [], ◌∷◌, length, nat_eq, slice_get, Some, vec_capacity}
+use Rattle.std.specs.Prelude.{◌≡◌, ◌≤◌, ℕ, false, List, [], ◌∷◌, length, nat_eq, slice_get, Some, IsSome, vec_capacity}
 use Rattle.std.specs.Option.{option_map}
 use Rattle.hep_machine.specs.Words.{Units, main_unit, unset_cell, Layout, opening_layout, cell_given, run, State}
 use Rattle.hep_arena.specs.Space.{Space}
@@ -7,11 +7,17 @@ use Rattle.hep_layout.specs.Words.{FrameNode, Nodes}
 use Rattle.hep_code.specs.Words.{deepest}
 use Rattle.hep_image.specs.declared.data.DataRow.{DataRow}
 use Rattle.hep_image.specs.Data.{value_in_rows}
+use Rattle.hep_image.specs.Image.{most_cells}
 use Rattle.hep_step.specs.Simulation.{unit_code}
 use Rattle.hep_proc.specs.declared.process.Process.{Process}
 use Rattle.hep_proc.specs.Keeping.{Keeps, frames_in}
 use Rattle.hep_state.specs.declared.machine.Machine.{Machine}
 use Rattle.hep_state.specs.Snapshots.{Snapshot}
+
+-- a machine of a program can be opened with an arena of so many cells: one at least, and no more than it may have, and COMMON and the
+-- frame of the main program fit
+abbrev pub CanOpen : Units → ℕ → Type 0
+CanOpen program cells = (1 ≤ cells) × (cells ≤ most_cells) × IsSome (opening_layout program cells)
 
 -- the opening before DATA gives values
 abbrev pub unset_opening : Units → State

@@ -34,7 +34,7 @@ use Rattle.hep_state.specs.declared.upcoming.CallAhead.{CallAhead}
 use Rattle.hep_state.specs.declared.upcoming.PurgeAhead.{PurgeAhead}
 use Rattle.hep_state.specs.Calls.{HasEntered, IsMaking, Makes, state_made}
 use Rattle.hep_state.specs.CallsAhead.{HasCallAhead, HasPurgeAhead, IsWithoutCall, ranges_ahead}
-use Rattle.hep_state.specs.Outcomes.{Changes, HasTurned}
+use Rattle.hep_state.specs.Outcomes.{Changes, HasTurned, StaysWaiting}
 use Rattle.hep_state.specs.Rooms.{HasRoomAt, HaveRoom, HoldsOfProcess, IsMachineAfter}
 use Rattle.hep_state.specs.Snapshots.{AreNumbered, snapshot_of}
 use Rattle.hep_state.specs.Taking.{IsLeft, IsToEnd}
@@ -106,6 +106,11 @@ abbrev pub ChangesNext : Units → ℕ → Machine → Option Want → Type 0
 ChangesNext program p old changed =
     AfterTurns program old (λ cells choices. Changes program cells choices p changed)
 
+-- it was performed, with this effect; and where the process waits by it, the same is shown as before
+abbrev pub Performs : Units → ℕ → Machine → Machine → Performed → Type 0
+Performs program p old new effect =
+    LeavesBy program p old new effect × StaysWaiting effect (snapshot_of old) (snapshot_of new)
+
 -- what was written, how many processes were made, and the room that there was
 pub record KeepsWritten (program : Units) (old new : Machine) : Type 0 where
   pub rooms : KeepsRoomOf program old new
@@ -117,6 +122,11 @@ pub record KeepsWritten (program : Units) (old new : Machine) : Type 0 where
 abbrev pub IsLeftWithRoom : Performed → ℕ → Machine → Type 0
 IsLeftWithRoom effect p m =
     (program : Units) × (cells : ℕ) × (choices : List ℕ) × IsLeft program cells choices p (snapshot_of m) effect × HaveRoom program cells m
+
+-- and for a record and a fault
+abbrev pub CanEndTurn : Performed → ℕ → Machine → Type 0
+CanEndTurn effect p m =
+    IsLeftWithRoom effect p m × (vec_len m.records < vec_capacity m.records) × (vec_len m.faults < vec_capacity m.faults)
 
 -- where that was its effect, the step was made
 abbrev pub StepsAfter : Performed → ℕ → Machine → Machine → Type 0

@@ -14,7 +14,7 @@ unfoldable pub use Rattle.hep_state.specs.Tops.{frames_before, HasMadeTurn, Have
 pub use Rattle.hep_state.specs.Tops.{HasLevels, HoldsInTurn, IsTurning, TurnOf}
 unfoldable pub use Rattle.hep_state.specs.Calls.{call_in, entered_level, HasResultBy, snapshot_made_by, stacks_made_by, state_made}
 pub use Rattle.hep_state.specs.Calls.{HasEntered, IsAfterCall, IsMaking, IsUnit, Makes}
-unfoldable pub use Rattle.hep_state.specs.Openings.{snapshot_opened, unset_opening}
+unfoldable pub use Rattle.hep_state.specs.Openings.{CanOpen, snapshot_opened, unset_opening}
 pub use Rattle.hep_state.specs.Openings.{HasOneProcess, IsEntered, IsGiven, IsQuiet}
 unfoldable pub use Rattle.hep_state.specs.Rooms.{HasRoom, HasRoomAt, HoldsOfProcess}
 pub use Rattle.hep_state.specs.Rooms.{HasRoomToPass, HaveRoom, IsMachineAfter, IsRoomToPass}
@@ -30,16 +30,16 @@ unfoldable pub use Rattle.hep_state.specs.Outcomes.{HasTurned, LeavesRest, Stays
 pub use Rattle.hep_state.specs.Outcomes.{Changes, HasPurged}
 pub use Rattle.hep_state.specs.Known.{AreRunning, IsKnown, IsMadeOf}
 unfoldable pub use Rattle.hep_state.specs.Stacks.{CanSettle, HasBehind, IsInCode, Settles}
-unfoldable pub use Rattle.hep_state.specs.Parts.{AfterTurns, Begins, ChangesNext, EmptiesTargets, EndsBy, FailsAtCall, FailsAtPurge}
+unfoldable pub use Rattle.hep_state.specs.Parts.{AfterTurns, Begins, CanEndTurn, ChangesNext, EmptiesTargets, EndsBy, FailsAtCall, FailsAtPurge}
 unfoldable pub use Rattle.hep_state.specs.Parts.{HaveFramesLeft, IsAtCallAhead, IsAtPurgeAhead, IsEndingBy, IsEndingWithRoom, IsGivenBy}
 unfoldable pub use Rattle.hep_state.specs.Parts.{IsLeftWithRoom, IsReached, IsWhetherLives, KeepsRoomAt, KeepsRoomOf, KeepsRoomParting}
-unfoldable pub use Rattle.hep_state.specs.Parts.{KeepsRoomWith, KeepsState, LeavesBy, NamesRanges, PartsAt, StepsAfter, StepsByCall}
+unfoldable pub use Rattle.hep_state.specs.Parts.{KeepsRoomWith, KeepsState, LeavesBy, NamesRanges, PartsAt, Performs, StepsAfter, StepsByCall}
 unfoldable pub use Rattle.hep_state.specs.Parts.{StepsByCreation, TurnsByPurge, WaitsAfter}
 pub use Rattle.hep_state.specs.Parts.{CanBegin, CanCall, CanCreate, CanEmpty, CanPart, IsAtOperation, IsItsTurn, KeepsWritten}
 unfoldable pub use Rattle.hep_state.specs.Reserving.{KeepsRoom}
 pub use Rattle.hep_state.specs.Reserving.{CanBeMore, HasRoomForCreation, HasRoomForEntry, HasRoomForLevel, HasRoomForProcess, IsEmptyProcess, KeepsRollFor}
 pub use Rattle.hep_state.specs.Reserving.{ShowsSame}
-unfoldable pub use Rattle.hep_state.specs.Histories.{IsAfterHistory, IsTurn, IsUntaken, cells_of}
+unfoldable pub use Rattle.hep_state.specs.Histories.{IsAfterHistory, IsRefused, IsTurn, IsUntaken, cells_of}
 pub use Rattle.hep_state.specs.Histories.{CanTakeCall, CanTakeOperation, CanTakeResume, CanTurn, LeavesAlone}
 unfoldable pub use Rattle.hep_state.specs.LivingOn.{HasLivedOn, IsToEndBy, LivesOnBelow, StepsBy}
 pub use Rattle.hep_state.specs.LivingOn.{CanAnswer, CanBeginCall, CanLiveOn, CanMakeCall, CanReturn, IsSettledTurn, LivesOn, StaysShown, StepsOn}

@@ -41,6 +41,7 @@ impl Machine {
     // The value with which the function on top of process p ends, whose END is ahead.
     //
     // Fails with Undefined where its variable has none.
+    #[inline(always)]
     pub(crate) fn answer(&self, image: &Image, p: u64, answer: AnswerAhead) -> Result<Value, Kind>
         requires { CanAnswer image.now p self.now answer }
         ensures value { IfOk result (λ value. IsToEndBy image.now p self.now (answers value)) }

@@ -21,6 +21,7 @@ impl Machine {
     // given to its dummy arguments and their shapes. Answers its level.
     //
     // There is a gap for the frame, and room for its node.
+    #[inline(always)]
     fn begin_activation(&mut self, p: u64, called: Called) -> Local
         requires { CanBegin p self.old called }
         ensures entered { Begins p called self.old result.key self.new }
@@ -56,6 +57,7 @@ impl Machine {
     // unit's activation has its frame, with what is given to its dummy arguments and their shapes, and is on top.
     //
     // There is a gap for the frame, and room for its node and for a level more, for the operands that are kept, and for the unit's own.
+    #[inline(always)]
     pub(crate) fn call(&mut self, p: u64, called: Called, kept: u32, index: usize)
         requires { CanCall p self.old called kept index }
         ensures stepped { StepsByCall p called kept index self.old self.new }

@@ -5,7 +5,7 @@ ghost use Rattle.hep_proc.specs.Nodes.{nodes_of};
 ghost use Rattle.hep_proc.specs.Stacks.{keys_of};
 ghost use Rattle.hep_step.specs.declared.effect.Effect.TheVariants.{Waits};
 ghost use Rattle.hep_step.specs.Effects.{answers, fails, returns};
-ghost use Rattle.hep_state.specs.Words.{EndsBy, HaveFramesLeft, IsEndingBy, IsEndingWithRoom, IsLeftWithRoom};
+ghost use Rattle.hep_state.specs.Words.{CanEndTurn, EndsBy, HaveFramesLeft, IsEndingBy, IsEndingWithRoom};
 ghost use Rattle.hep_state.specs.Words.{KeepsRoom, LeavesOthers, LivesOnBelow, StepsAfter, WaitsAfter, snapshot_of};
 
 use crate::machine::{Machine, append};
@@ -30,6 +30,7 @@ fn leave_all(frames: &mut Frames, levels: &mut Vec<Local>)
 
 impl Machine {
     // The top activation of process p has ended, by RETURN or END of its unit.
+    #[inline(always)]
     pub(crate) fn finish(&mut self, p: u64)
         requires { IsEndingBy returns p self.old }
         ensures stepped { EndsBy returns p self.old self.new }
@@ -45,6 +46,7 @@ impl Machine {
 
     // The activation of a function on top of process p has ended with this value, which stands in the place of its reference: behind the
     // operands that the one below it keeps, which it has again. There is room for them.
+    #[inline(always)]
     pub(crate) fn hand_down(&mut self, p: u64, value: Value)
         requires { IsEndingWithRoom (answers value) p self.old }
         ensures stepped { EndsBy (answers value) p self.old self.new }
@@ -63,10 +65,9 @@ impl Machine {
         requires ending { IsEndingBy (fails line kind) p self.old }
         requires room { vec_len self.old.faults < vec_capacity self.old.faults }
         ensures stepped { EndsBy (fails line kind) p self.old self.new }
-        ensures passing { self.new.passing ≡ self.old.passing }
         ensures rooms { KeepsRoom self.old self.new }
-        ensures made { self.new.made ≡ self.old.made }
         ensures others { LeavesOthers p (snapshot_of self.old) (snapshot_of self.new) }
+        ensures rest { self.new ≡ record self.old { frames = self.new.frames; processes = self.new.processes; faults = self.new.faults } }
     {
         let at = self.place(p);
         let process = &mut self.processes[at];
@@ -85,9 +86,7 @@ impl Machine {
 
     // Ends a turn of process p, whose operation came to this; or answers what the process waits for.
     pub(crate) fn end_turn(&mut self, p: u64, effect: Effect) -> Option<Want>
-        requires left { IsLeftWithRoom effect p self.old }
-        requires records { vec_len self.old.records < vec_capacity self.old.records }
-        requires faults { vec_len self.old.faults < vec_capacity self.old.faults }
+        requires { CanEndTurn effect p self.old }
         ensures ended { MatchOption result (StepsAfter effect p self.old self.new) (WaitsAfter effect p self.old self.new) }
         ensures waits { IfSome result (λ want. (effect ≡ Waits want) × (self.new ≡ self.old)) }
         ensures rooms { KeepsRoom self.old self.new }

@@ -12,6 +12,7 @@ use hep_step::Way;
 use std::alloc::AllocError;
 
 // The activation that is made is a process of its own.
+#[inline(always)]
 pub(crate) fn creates(way: Way) -> bool
     ensures { result ≡ is_creation way }
 {
@@ -26,6 +27,7 @@ impl Machine {
     // is a gap for its frame.
     //
     // Fails only where memory is refused; the same is shown then.
+    #[inline(always)]
     pub(crate) fn begin_call(
         &mut self,
         image: &Image,
@@ -52,6 +54,7 @@ impl Machine {
     }
 
     // Makes the CALL or reference ahead of process p, unless it is a fault, its frame has no gap, or memory is refused.
+    #[inline(always)]
     fn make_call(&mut self, image: &Image, p: u64, call: CallAhead) -> bool
         requires { CanMakeCall image.now p self.old call }
         ensures { HasLivedOn image.now p self.old result self.new }
@@ -68,6 +71,7 @@ impl Machine {
     }
 
     // Ends the top activation of process p, which is at RETURN or the END of a subroutine, unless none is below it.
+    #[inline(always)]
     fn make_return(&mut self, image: &Image, p: u64) -> bool
         requires { CanReturn image.now p self.old }
         ensures { HasLivedOn image.now p self.old result self.new }
@@ -83,6 +87,7 @@ impl Machine {
     }
 
     // Ends the function on top of process p, whose END is ahead, unless none is below it or its variable has no value.
+    #[inline(always)]
     fn make_answer(&mut self, image: &Image, p: u64, answer: AnswerAhead) -> bool
         requires { CanAnswer image.now p self.old answer }
         ensures { HasLivedOn image.now p self.old result self.new }
@@ -106,6 +111,7 @@ impl Machine {
     ///
     /// No value stands in front of the operation ahead of it. This costs less than a `turn`, since neither a record nor a fault, an entry or a
     /// process gets room.
+    #[inline(always)]
     pub fn turn_plainly(&mut self, image: &Image, p: u64) -> bool
         requires { CanLiveOn image.now p self.old }
         ensures { HasLivedOn image.now p self.old result self.new }

@@ -13,7 +13,7 @@ ghost use Rattle.hep_purging.specs.Room as room;
 ghost use Rattle.hep_purging.specs.Room.{most_of};
 ghost use Rattle.hep_binding.specs.Fitting as shaping;
 ghost use Rattle.hep_step.specs.Simulation.{unit_code};
-ghost use Rattle.hep_state.specs.Words.{AreOut, HasOneProcess, IsEntered, IsGiven, IsMachineAfter, IsQuiet, IsRoomToPass};
+ghost use Rattle.hep_state.specs.Words.{AreOut, CanOpen, HasOneProcess, IsEntered, IsGiven, IsMachineAfter, IsQuiet, IsRoomToPass};
 
 use crate::laws;
 use crate::machine::{Machine, Passing};
@@ -185,9 +185,7 @@ impl Machine {
     ///
     /// Only where memory was refused.
     pub fn open(alloc: Global, image: &Image, cells: u32) -> Result<Machine, AllocError>
-        requires some { 1 ≤ cells }
-        requires few { cells ≤ 16777216 }
-        requires fits { IsSome (opening_layout image.now cells) }
+        requires { CanOpen image.now cells }
         ensures opened { IfOk result (λ machine. IsMachineAfter image.now cells [] machine) }
         ensures alone { IfOk result (λ machine. machine.made ≡ 1) }
         ensures process { IfOk result (HasOneProcess image.now) }

@@ -13,6 +13,7 @@ use hep_source::Value;
 use hep_step::{AllPassed, give_actuals, in_front};
 
 // The operands behind the first ones, so many.
+#[inline(always)]
 fn past(operands: &[Value], first: usize) -> &[Value]
     requires { first ≤ length operands.now }
     ensures { result.now ≡ drop first operands.now }
@@ -21,6 +22,7 @@ fn past(operands: &[Value], first: usize) -> &[Value]
 }
 
 // The same number.
+#[inline(always)]
 fn narrowed(number: usize) -> u32
     requires { number ≤ 4294967295 }
     ensures { result ≡ number }
@@ -35,6 +37,7 @@ impl Machine {
     // Fails with Range where one of them is no element, and with Shape where a dummy argument has no shape or more elements than it is
     // given.
     // Nothing but `passing` changes.
+    #[inline(always)]
     pub(crate) fn give(&mut self, image: &Image, p: u64, call: CallAhead) -> Result<u32, Kind>
         requires at { IsAtCallAhead image.now p self.old call }
         ensures given { IfOk result (λ kept. IsGivenBy image.now p self.old call kept self.new.passing) }

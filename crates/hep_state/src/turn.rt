@@ -4,8 +4,8 @@ ghost use Rattle.hep_step.specs.Performed.{changed_in};
 ghost use Rattle.hep_blocked.specs.Rolls.{KeepsRoll};
 ghost use Rattle.hep_state.specs.Words.{AreNumbered, CanBeMore, CanTakeCall, CanTakeOperation, CanTurn, ChangesNext, HasLevels};
 ghost use Rattle.hep_state.specs.Words.{HasRoomForCreation, HasRoomForEntry, HasRoomForLevel, HasRoomForProcess, IsAtOperation, IsEmptyProcess};
-ghost use Rattle.hep_state.specs.Words.{IsTurn, IsUntaken, KeepsRollFor, KeepsWritten, LeavesAlone, LeavesBy, LeavesOthers, LeavesRest, ShowsSame};
-ghost use Rattle.hep_state.specs.Words.{StaysWaiting, snapshot_of};
+ghost use Rattle.hep_state.specs.Words.{IsRefused, IsTurn, KeepsRollFor, KeepsWritten, LeavesAlone, LeavesOthers, LeavesRest, Performs, ShowsSame};
+ghost use Rattle.hep_state.specs.Words.{snapshot_of};
 
 use crate::calling::Called;
 use crate::laws;
@@ -72,6 +72,7 @@ impl Machine {
     }
 
     // Room for an activation more of process p, with so many operands at once, and for so many of the one below it.
+    #[inline(always)]
     pub(crate) fn reserve_level(
         &mut self,
         p: u64,
@@ -138,10 +139,9 @@ impl Machine {
     // Performs the operation ahead of process p, which is neither CALL, CREATE nor a reference, and neither PURGE nor RESUME.
     fn advance(&mut self, alloc: Global, image: &Image, p: u64) -> Result<Effect, AllocError>
         requires { IsAtOperation image.now p self.old }
-        ensures left { IfOk result (LeavesBy image.now p self.old self.new) }
+        ensures performed { IfOk result (Performs image.now p self.old self.new) }
         ensures changed { IfOk result (λ effect. ChangesNext image.now p self.old (changed_in effect)) }
         ensures refused { OnErr result (snapshot_of self.new ≡ snapshot_of self.old) }
-        ensures waits { IfOk result (λ effect. StaysWaiting effect (snapshot_of self.old) (snapshot_of self.new)) }
         ensures others { LeavesOthers p (snapshot_of self.old) (snapshot_of self.new) }
         ensures kept { KeepsWritten image.now self.old self.new }
     {
@@ -190,8 +190,7 @@ impl Machine {
     ) -> Result<Turned, TurnFault>
         requires { CanTakeCall image.now history.old.items p self.old call roster.old }
         ensures turned { IfOk result (λ turned. IsTurn image.now history.old.items p self.old turned self.new) }
-        ensures unturned { IfErr result (IsUntaken image.now history.old.items p self.old) }
-        ensures refused { OnErr result (LeavesAlone image.now history.old.items p self.old self.new) }
+        ensures unturned { IfErr result (IsRefused image.now history.old.items p self.old self.new) }
         ensures rest { IfOk result (λ turned. LeavesRest turned image.now p (snapshot_of self.old) (snapshot_of self.new)) }
         ensures entry { HasRoomForEntry history.old result history.new }
         ensures roster { KeepsRollFor self.new roster.old roster.new }
@@ -244,8 +243,7 @@ impl Machine {
     ) -> Result<Turned, TurnFault>
         requires { CanTurn image.now history.old.items p self.old roster.old }
         ensures turned { IfOk result (λ turned. IsTurn image.now history.old.items p self.old turned self.new) }
-        ensures unturned { IfErr result (IsUntaken image.now history.old.items p self.old) }
-        ensures refused { OnErr result (LeavesAlone image.now history.old.items p self.old self.new) }
+        ensures unturned { IfErr result (IsRefused image.now history.old.items p self.old self.new) }
         ensures rest { IfOk result (λ turned. LeavesRest turned image.now p (snapshot_of self.old) (snapshot_of self.new)) }
         ensures entry { HasRoomForEntry history.old result history.new }
         ensures roster { KeepsRollFor self.new roster.old roster.new }

@@ -66,6 +66,7 @@ pub enum StepAhead {
 }
 
 // What an operation is that stands ahead, at an index of the code, in a statement with this initial line.
+#[inline(always)]
 fn as_ahead(line: u32, index: usize, operation: Operation) -> StepAhead
     requires { index < 2 ^ 63 }
     ensures { (behind : List AnInstruction) → IsInFront index (Step line operation ∷ behind) result }
@@ -101,6 +102,7 @@ fn as_ahead(line: u32, index: usize, operation: Operation) -> StepAhead
 }
 
 // What stands at an index of a unit's code.
+#[inline(always)]
 fn ahead_at(code: &[Instruction], index: usize) -> StepAhead
     requires { length code.now < 2 ^ 63 }
     ensures { IsInFront index (drop index code.now) result }
@@ -131,6 +133,7 @@ impl Machine {
     }
 
     // What stands ahead of process p, in front of whose next operation no value stands.
+    #[inline(always)]
     pub(crate) fn ahead_now(&self, image: &Image, p: u64) -> StepAhead
         requires { IsSettledTurn image.now p self.now }
         ensures { IsAhead image.now p self.now (snapshot_of self.now) result }

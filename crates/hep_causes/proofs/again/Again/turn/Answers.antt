@@ -42,7 +42,7 @@ unreachable-requires-in-Err-ArenaFull c =
     let program = c.args.image.now in
     not-full program c.args.p self h (
     subst (λ (e : TurnFault). IsUnturned e program h.cells (made_by self) c.args.p) c.in-Err-ArenaFull.field-0-is (
-    unturned-at program h.cells self.history.items self.machine h.after c.args.p c.in-Err-ArenaFull.field-0 c.in-Err-ArenaFull.ensures.unturned))
+    unturned-at program h.cells self.history.items self.machine h.after c.args.p c.in-Err-ArenaFull.field-0 c.in-Err-ArenaFull.ensures.unturned.0))
 
 pub returns-in_default : goal.returns-in_default
 returns-in_default c =

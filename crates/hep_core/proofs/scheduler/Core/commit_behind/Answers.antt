@@ -341,7 +341,7 @@ invariant_of-self-in-Err-ArenaFull c =
     let m = c.is_next_private.new.machine in
     let t = asked z m c.is_next_private.ensures.same in
     let es = c.note.new.history.items in
-    let after = still-after i.image i.cells es m (noted z m c.is_next_private.ensures.same) c.ticket-p.result.process c.turn.new.self c.in-Err-ArenaFull.ensures.refused in
+    let after = still-after i.image i.cells es m (noted z m c.is_next_private.ensures.same) c.ticket-p.result.process c.turn.new.self c.in-Err-ArenaFull.ensures.unturned.1 in
     let noted-room = left-room c.lists_go_along_with_steps.ensures i k c.args.segment.now (out b) c.keep.new.machine (kept-underway at.After-keep) (tops b) (reads b) _ (many b) (room at.After-keep) (few-enough z) m t es (entry z) c.turn.new.self after c.turn.new.roster c.turn.ensures.roster in
     left-invariant c.lists_go_along_with_steps.ensures i k c.args.segment.now (out b) c.keep.new.machine (kept-underway at.After-keep) (tops b) (reads b) _ (many b) (room at.After-keep) (few-enough z) m t es (entry z) c.turn.new.self after c.turn.new.history
     c.turn.ensures.entry.entries c.come_back-in-Err-ArenaFull.new.out (backs z c.come_back-in-Err-ArenaFull.new.out.items c.come_back-in-Err-ArenaFull.ensures) c.turn.new.roster c.turn.ensures.roster.kept noted-room c.keep.new.self
@@ -357,8 +357,8 @@ returns-in-Err-ArenaFull-clause-committed c =
     let t = asked z m c.is_next_private.ensures.same in
     let es = c.note.new.history.items in
     let before = noted z m c.is_next_private.ensures.same in
-    let after = still-after i.image i.cells es m before c.ticket-p.result.process c.turn.new.self c.in-Err-ArenaFull.ensures.refused in
-    let gap = subst (λ e. IsUnturned e i.image i.cells (schedule_of es) c.ticket-p.result.process) c.in-Err-ArenaFull.field-0-is (unturned-at i.image i.cells es m before c.ticket-p.result.process c.in-Err-ArenaFull.field-0 c.in-Err-ArenaFull.ensures.unturned) in
+    let after = still-after i.image i.cells es m before c.ticket-p.result.process c.turn.new.self c.in-Err-ArenaFull.ensures.unturned.1 in
+    let gap = subst (λ e. IsUnturned e i.image i.cells (schedule_of es) c.ticket-p.result.process) c.in-Err-ArenaFull.field-0-is (unturned-at i.image i.cells es m before c.ticket-p.result.process c.in-Err-ArenaFull.field-0 c.in-Err-ArenaFull.ensures.unturned.0) in
     let answer =
     left-answer c.lists_go_along_with_steps.ensures i c.self.invariant s (out b) c.keep.new.machine (kept-underway at.After-keep) (tops b) (reads b) _ (many b) (room at.After-keep) (few-enough z) m t es (entry z) c.turn.new.self after c.turn.new.history
     c.turn.ensures.entry.entries c.come_back-in-Err-ArenaFull.new.out (backs z c.come_back-in-Err-ArenaFull.new.out.items c.come_back-in-Err-ArenaFull.ensures) (seen b) c.turn.new.roster c.keep.new.self (inr (inr (subst (HasNoGap i.image i.cells (schedule_of es)) (own b) gap))) c.made_steps-in-Err-ArenaFull.result (c.made_steps-in-Err-ArenaFull.ensures ∙ λ j. record { steps = many-noted z j; blocked = false }) in
@@ -455,7 +455,7 @@ put_back-requires c =
     let m = c.is_next_private.new.machine in
     let now = kept-underway at.After-keep in
     let t = asked z m c.is_next_private.ensures.same in
-    let left-alone = subst (λ p. LeavesAlone i.image c.note.new.history.items p m c.turn.new.self) (own b) c.in-Err-NoMemory.ensures.refused in
+    let left-alone = subst (λ p. LeavesAlone i.image c.note.new.history.items p m c.turn.new.self) (own b) c.in-Err-NoMemory.ensures.unturned.1 in
     let from = subst (HasTakenIn c.args.segment.now c.keep.new.machine) (sym c.is_next_private.ensures.same) c.take_private.ensures.taken in
     let kept = saved-for i.image c.ticket-p.result.process c.args.segment.now.id.process c.comes_next.new.machine c.keep.new.machine (saved_in c.keep.new.self) (own b) c.keep.ensures.same c.in_ok-keep.ensures.kept now.is.turn.living in
     let turn = turn-there c.lists_go_along_with_steps.ensures i c.self.invariant c.args.segment.now (out b) c.keep.new.machine now (tops b) (reads b) _ (many b) (room at.After-keep) (few-enough z) m t c.note.new.history.items (entry z) c.restored_machines_are_as_before.ensures from c.turn.new.self left-alone in
@@ -474,7 +474,7 @@ invariant_of-self-in-Err-NoMemory c =
     let m = c.is_next_private.new.machine in
     let now = kept-underway at.After-keep in
     let t = asked z m c.is_next_private.ensures.same in
-    let left-alone = subst (λ p. LeavesAlone i.image c.note.new.history.items p m c.turn.new.self) (own b) c.in-Err-NoMemory.ensures.refused in
+    let left-alone = subst (λ p. LeavesAlone i.image c.note.new.history.items p m c.turn.new.self) (own b) c.in-Err-NoMemory.ensures.unturned.1 in
     let from = subst (HasTakenIn s c.keep.new.machine) (sym c.is_next_private.ensures.same) c.take_private.ensures.taken in
     let kept = saved-for i.image c.ticket-p.result.process s.id.process c.comes_next.new.machine c.keep.new.machine (saved_in c.keep.new.self) (own b) c.keep.ensures.same c.in_ok-keep.ensures.kept now.is.turn.living in
     let put = subst (λ p. HasRestored i.image p (saved_in c.keep.new.self) c.turn.new.self c.put_back.new.machine) (own b) c.put_back.ensures.restored in
@@ -494,7 +494,7 @@ returns-in-Err-NoMemory-clause-committed c =
     let m = c.is_next_private.new.machine in
     let now = kept-underway at.After-keep in
     let t = asked z m c.is_next_private.ensures.same in
-    let left-alone = subst (λ p. LeavesAlone i.image c.note.new.history.items p m c.turn.new.self) (own b) c.in-Err-NoMemory.ensures.refused in
+    let left-alone = subst (λ p. LeavesAlone i.image c.note.new.history.items p m c.turn.new.self) (own b) c.in-Err-NoMemory.ensures.unturned.1 in
     let from = subst (HasTakenIn s c.keep.new.machine) (sym c.is_next_private.ensures.same) c.take_private.ensures.taken in
     let kept = saved-for i.image c.ticket-p.result.process s.id.process c.comes_next.new.machine c.keep.new.machine (saved_in c.keep.new.self) (own b) c.keep.ensures.same c.in_ok-keep.ensures.kept now.is.turn.living in
     let put = subst (λ p. HasRestored i.image p (saved_in c.keep.new.self) c.turn.new.self c.put_back.new.machine) (own b) c.put_back.ensures.restored in
@@ -558,8 +558,8 @@ returns-in-Err-ArenaFull-clause-others c =
     let m = c.is_next_private.new.machine in
     let same = c.is_next_private.ensures.same in
     let es = c.note.new.history.items in
-    let after = still-after i.image i.cells es m (noted z m same) c.ticket-p.result.process c.turn.new.self c.in-Err-ArenaFull.ensures.refused in
-    rw (← c.self.view_is) (noted-next z _ es (entry z) c.turn.new.self after (left-beside z m c.turn.new.self same c.in-Err-ArenaFull.ensures.refused.top) (core_value (record i { history = c.turn.new.history; machine = c.turn.new.self; out = c.come_back-in-Err-ArenaFull.new.out })) (ap (state_after i.image) c.turn.ensures.entry.entries))
+    let after = still-after i.image i.cells es m (noted z m same) c.ticket-p.result.process c.turn.new.self c.in-Err-ArenaFull.ensures.unturned.1 in
+    rw (← c.self.view_is) (noted-next z _ es (entry z) c.turn.new.self after (left-beside z m c.turn.new.self same c.in-Err-ArenaFull.ensures.unturned.1.top) (core_value (record i { history = c.turn.new.history; machine = c.turn.new.self; out = c.come_back-in-Err-ArenaFull.new.out })) (ap (state_after i.image) c.turn.ensures.entry.entries))
 
 pub returns-in_default-clause-others : goal.returns-in_default-clause-others
 returns-in_default-clause-others c =

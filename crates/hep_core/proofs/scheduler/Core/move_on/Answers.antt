@@ -61,7 +61,7 @@ loop-done-init c =
     let i = c.self.inside in
     let k = c.self.invariant in
     let none-stops = no-stop (goal.at.loop-done-init c).After-lives in
-    let can = c.requires.ready in
+    let can = c.requires.0 in
     let is = c.in_ok-reserve.ensures in
     let history = c.reserve.new.self in
     let items = c.reserve.ensures.items in
@@ -117,7 +117,7 @@ within c =
 home : (c : After-note_all) → is_out c.loop-done.next c.loop-done.self-inside.out.items ≡ false
 home c =
     let inv = c.loop-done.invariant in
-    subst (λ out. is_out c.loop-done.next out ≡ false) (sym inv.out) (home-so c.args.rounds c.args.p c.loop-done.next c.args.self.now.core (core_value c.loop-done.self-inside) c.requires.ready inv.next)
+    subst (λ out. is_out c.loop-done.next out ≡ false) (sym inv.out) (home-so c.args.rounds c.args.p c.loop-done.next c.args.self.now.core (core_value c.loop-done.self-inside) c.requires.0 inv.next)
 
 kept : (c : After-note_all) → (history : Kept) → history.items ≡ entries_along c.loop-done.self-inside.history.items c.loop-done.next c.go_on-made.result
     → CoreInvariant (core_along c.loop-done.self-inside history c.go_on-made.new.machine)
@@ -234,7 +234,7 @@ loop-done-preserved c =
     let round : c.args.rounds ≡ true = search rules in
     let once : made ≡ 1 = omega (arith, c.at_once-each.ensures.rounds round, c.go_on-made.ensures.few) in
     let found = c.in-Some.ensures in
-    let nobody : i.out.items ≡ [] = inv.out ∙ nobody-out c.args.rounds c.args.p c.args.self.now.core round c.requires.ready in
+    let nobody : i.out.items ≡ [] = inv.out ∙ nobody-out c.args.rounds c.args.p c.args.self.now.core round c.requires.0 in
     let last : last_process history.items ≡ c.loop-done.next = ap last_process items ∙ last-along i.history.items c.loop-done.next made (omega (arith, once)) in
     let same = c.lists_are_those_of_definitions.ensures.ready i.image i.cells i.roster.last (schedule_of history.items) (progress_after i.image history.items) (want_of i.roster.waiting) i.roster.ready keeps.listed c.other_next.ensures.rising in
     let many : length history.items ≡ length i.history.items + made = ap length items ∙ entries-more i.history.items c.loop-done.next made in

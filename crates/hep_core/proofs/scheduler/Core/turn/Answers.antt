@@ -129,15 +129,15 @@ pub invariant_of-self-in-Err-NoMemory : goal.invariant_of-self-in-Err-NoMemory
 invariant_of-self-in-Err-NoMemory c =
     let i = c.self.inside in
     let k = c.self.invariant in
-    unturned (goal.at.invariant_of-self-in-Err-NoMemory c).After-turn (still-after i.image i.cells i.history.items i.machine k.after c.args.p c.turn.new.self c.in-Err-NoMemory.ensures.refused) i.stop k.named
+    unturned (goal.at.invariant_of-self-in-Err-NoMemory c).After-turn (still-after i.image i.cells i.history.items i.machine k.after c.args.p c.turn.new.self c.in-Err-NoMemory.ensures.unturned.1) i.stop k.named
 
 pub returns-in-Err-NoMemory-clause-chosen : goal.returns-in-Err-NoMemory-clause-chosen
 returns-in-Err-NoMemory-clause-chosen c =
     let at = goal.at.returns-in-Err-NoMemory-clause-chosen c in
     let i = c.self.inside in
     let h = i.history.items in
-    let after = still-after i.image i.cells h i.machine c.self.invariant.after c.args.p c.turn.new.self c.in-Err-NoMemory.ensures.refused in
-    let gapped = subst (λ e. IsUnturned e i.image i.cells (schedule_of h) c.args.p) c.in-Err-NoMemory.field-0-is (unturned-at i.image i.cells h i.machine c.self.invariant.after c.args.p c.in-Err-NoMemory.field-0 c.in-Err-NoMemory.ensures.unturned) in
+    let after = still-after i.image i.cells h i.machine c.self.invariant.after c.args.p c.turn.new.self c.in-Err-NoMemory.ensures.unturned.1 in
+    let gapped = subst (λ e. IsUnturned e i.image i.cells (schedule_of h) c.args.p) c.in-Err-NoMemory.field-0-is (unturned-at i.image i.cells h i.machine c.self.invariant.after c.args.p c.in-Err-NoMemory.field-0 c.in-Err-NoMemory.ensures.unturned.0) in
     rw (← c.self.view_is) ((going-on at.After-lives, is-alive at.After-len, at-home at.After-lives), is-asked at.After-turn, (λ gap. gapped gap.full), unturned-value at.After-turn after i.stop)
 
 pub invariant_of-self-in-Err-ArenaFull : goal.invariant_of-self-in-Err-ArenaFull
@@ -146,16 +146,16 @@ invariant_of-self-in-Err-ArenaFull c =
     let i = c.self.inside in
     let h = i.history.items in
     let k = c.self.invariant in
-    let gap = subst (λ e. IsUnturned e i.image i.cells (schedule_of h) c.args.p) c.in-Err-ArenaFull.field-0-is (unturned-at i.image i.cells h i.machine k.after c.args.p c.in-Err-ArenaFull.field-0 c.in-Err-ArenaFull.ensures.unturned) in
-    unturned at.After-turn (still-after i.image i.cells h i.machine k.after c.args.p c.turn.new.self c.in-Err-ArenaFull.ensures.refused) (Some ArenaFull) ((going-on at.After-lives).1, (c.args.p, gap))
+    let gap = subst (λ e. IsUnturned e i.image i.cells (schedule_of h) c.args.p) c.in-Err-ArenaFull.field-0-is (unturned-at i.image i.cells h i.machine k.after c.args.p c.in-Err-ArenaFull.field-0 c.in-Err-ArenaFull.ensures.unturned.0) in
+    unturned at.After-turn (still-after i.image i.cells h i.machine k.after c.args.p c.turn.new.self c.in-Err-ArenaFull.ensures.unturned.1) (Some ArenaFull) ((going-on at.After-lives).1, (c.args.p, gap))
 
 pub returns-in-Err-ArenaFull-clause-chosen : goal.returns-in-Err-ArenaFull-clause-chosen
 returns-in-Err-ArenaFull-clause-chosen c =
     let at = goal.at.returns-in-Err-ArenaFull-clause-chosen c in
     let i = c.self.inside in
     let h = i.history.items in
-    let after = still-after i.image i.cells h i.machine c.self.invariant.after c.args.p c.turn.new.self c.in-Err-ArenaFull.ensures.refused in
-    let gap = subst (λ e. IsUnturned e i.image i.cells (schedule_of h) c.args.p) c.in-Err-ArenaFull.field-0-is (unturned-at i.image i.cells h i.machine c.self.invariant.after c.args.p c.in-Err-ArenaFull.field-0 c.in-Err-ArenaFull.ensures.unturned) in
+    let after = still-after i.image i.cells h i.machine c.self.invariant.after c.args.p c.turn.new.self c.in-Err-ArenaFull.ensures.unturned.1 in
+    let gap = subst (λ e. IsUnturned e i.image i.cells (schedule_of h) c.args.p) c.in-Err-ArenaFull.field-0-is (unturned-at i.image i.cells h i.machine c.self.invariant.after c.args.p c.in-Err-ArenaFull.field-0 c.in-Err-ArenaFull.ensures.unturned.0) in
     rw (← c.self.view_is) (inr (inr ((going-on at.After-lives, is-alive at.After-len, at-home at.After-lives), is-asked at.After-turn, gap, refl, unturned-value at.After-turn after (Some ArenaFull))))
 
 -- ---- a turn that made a step
@@ -422,10 +422,10 @@ pub returns-then-self-len-clause-places : goal.returns-then-self-len-clause-plac
 returns-then-self-len-clause-places c = ap (λ (v : Placed). v.places) c.self.view_is
 
 pub returns-in-Err-NoMemory-clause-places : goal.returns-in-Err-NoMemory-clause-places
-returns-in-Err-NoMemory-clause-places c = places-left (goal.at.returns-in-Err-NoMemory-clause-places c).After-turn c.in-Err-NoMemory.ensures.refused.top
+returns-in-Err-NoMemory-clause-places c = places-left (goal.at.returns-in-Err-NoMemory-clause-places c).After-turn c.in-Err-NoMemory.ensures.unturned.1.top
 
 pub returns-in-Err-ArenaFull-clause-places : goal.returns-in-Err-ArenaFull-clause-places
-returns-in-Err-ArenaFull-clause-places c = places-left (goal.at.returns-in-Err-ArenaFull-clause-places c).After-turn c.in-Err-ArenaFull.ensures.refused.top
+returns-in-Err-ArenaFull-clause-places c = places-left (goal.at.returns-in-Err-ArenaFull-clause-places c).After-turn c.in-Err-ArenaFull.ensures.unturned.1.top
 
 pub returns-in_err-block-in-Waits-clause-places : goal.returns-in_err-block-in-Waits-clause-places
 returns-in_err-block-in-Waits-clause-places c =
@@ -452,11 +452,11 @@ places-next c top history stop state =
 
 pub returns-in-Err-NoMemory-clause-others : goal.returns-in-Err-NoMemory-clause-others
 returns-in-Err-NoMemory-clause-others c =
-    places-next (goal.at.returns-in-Err-NoMemory-clause-others c).After-turn c.in-Err-NoMemory.ensures.refused.top c.turn.new.history c.self.inside.stop (ap (state_after c.self.inside.image) c.turn.ensures.entry.entries)
+    places-next (goal.at.returns-in-Err-NoMemory-clause-others c).After-turn c.in-Err-NoMemory.ensures.unturned.1.top c.turn.new.history c.self.inside.stop (ap (state_after c.self.inside.image) c.turn.ensures.entry.entries)
 
 pub returns-in-Err-ArenaFull-clause-others : goal.returns-in-Err-ArenaFull-clause-others
 returns-in-Err-ArenaFull-clause-others c =
-    places-next (goal.at.returns-in-Err-ArenaFull-clause-others c).After-turn c.in-Err-ArenaFull.ensures.refused.top c.turn.new.history (Some ArenaFull) (ap (state_after c.self.inside.image) c.turn.ensures.entry.entries)
+    places-next (goal.at.returns-in-Err-ArenaFull-clause-others c).After-turn c.in-Err-ArenaFull.ensures.unturned.1.top c.turn.new.history (Some ArenaFull) (ap (state_after c.self.inside.image) c.turn.ensures.entry.entries)
 
 -- where it was found waiting
 waits-top : (c : After-block) → IsSameButTop c.self.inside.image c.args.p (snapshot_of c.self.inside.machine) (snapshot_of c.turn.new.self)

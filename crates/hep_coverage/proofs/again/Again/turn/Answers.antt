@@ -73,7 +73,7 @@ unreachable-requires-in-Err-ArenaFull c =
     let choices = schedule_of self.history.items in
     not-full aim marked self c.args.p c.requires.1 c.args.counts.now.items h (
     subst (λ (e : TurnFault). IsUnturned e program aim.cells choices c.args.p) c.in-Err-ArenaFull.field-0-is (
-    unturned-at program aim.cells self.history.items self.machine h.after c.args.p c.in-Err-ArenaFull.field-0 c.in-Err-ArenaFull.ensures.unturned))
+    unturned-at program aim.cells self.history.items self.machine h.after c.args.p c.in-Err-ArenaFull.field-0 c.in-Err-ArenaFull.ensures.unturned.0))
 
 pub returns-in_default : goal.returns-in_default
 returns-in_default c aim left h =

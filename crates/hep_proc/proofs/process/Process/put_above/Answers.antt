@@ -2,6 +2,7 @@ use Rattle.std.proofs.Common.{arith, ◌≡◌, ◌≤◌, ◌+◌, List, subst,
 use Rattle.std.proofs.lemmas.List.{reverse-append}
 use Rattle.hep_machine.specs.Words.{Value}
 use Rattle.hep_proc.specs.declared.process.Local.{Local}
+use Rattle.hep_proc.specs.declared.process.Process.{Process}
 use Rattle.hep_proc.proofs.process.Process.put_above.Goals as goal
 use Rattle.hep_proc.specs.Stacks.{Stack, stack_of, stack_with}
 
@@ -21,7 +22,7 @@ pub returns-clause-stack : goal.returns-clause-stack
 returns-clause-stack c = stack-is c
 
 pub keep_back-requires : goal.keep_back-requires
-keep_back-requires c = record { few = subst (λ v. c.args.kept ≤ vec_len v) (sym c.put_top.ensures.operands) c.requires.few; room = subst (λ v. vec_len v + c.args.kept ≤ vec_capacity v) (sym c.put_top.ensures.pending) c.requires.pending }
+keep_back-requires c = record { few = subst (λ v. c.args.kept ≤ vec_len v) (sym (ap (λ (q : Process). q.operands) c.put_top.ensures.others)) c.requires.few; room = subst (λ v. vec_len v + c.args.kept ≤ vec_capacity v) (sym (ap (λ (q : Process). q.pending) c.put_top.ensures.others)) c.requires.pending }
 
 pub push_reserved-requires : goal.push_reserved-requires
-push_reserved-requires c = omega (arith, c.requires.room, c.put_top.ensures.count, c.put_top.ensures.capacity)
+push_reserved-requires c = omega (arith, c.requires.levels.1, c.put_top.ensures.count, c.put_top.ensures.capacity)

@@ -130,10 +130,14 @@ returns c =
     let changed = changed_at (unit_code program l.unit) (unit_arrays program l.unit) (node_under m.nodes l.key).first m.arena.contents vs l.index in
     let shown = shown-now old p r c.advance.new.frames l ls a.left ws a.next c.requires.after.2.numbers it done.same.number a.stack done.holes done.nodes in
     record {
-      left = IfOk-weaker c.advance.result _ _ (λ effect is cells choices h.
-          let turn = turning p h.after e.levels c.requires.running in
-          let simulated = ahead-simulated turn.1 (law (turn_with program cells choices e.levels turn.0) accepted main turn.1) e.past e.plain in
-          subst (λ (n : Snapshot). IsLeft program cells choices p n effect) (sym shown) (left-over turn.1 ahead changed effect after simulated done.cells is)) a.performed;
+      performed = IfOk-weaker c.advance.result _ _ (λ effect is. (
+        λ cells choices h.
+            let turn = turning p h.after e.levels c.requires.running in
+            let simulated = ahead-simulated turn.1 (law (turn_with program cells choices e.levels turn.0) accepted main turn.1) e.past e.plain in
+            subst (λ (n : Snapshot). IsLeft program cells choices p n effect) (sym shown) (left-over turn.1 ahead changed effect after simulated done.cells is),
+        let turn = turning p c.requires.after.2.after e.levels c.requires.running in
+            stays-shown effect m _ (λ same. shown ∙ (ap (with_performed turn.1) same ∙ unperformed turn.1)) (stays ahead changed (performed.snapshot m.arena.contents vs l.index) effect after is),
+      )) a.performed;
       changed = IfOk-weaker c.advance.result _ _ (λ effect is cells choices h.
           let turn = turning p h.after e.levels c.requires.running in
           let told = changes-only turn.1 (law (turn_with program cells choices e.levels turn.0) accepted main turn.1) e.past e.plain in
@@ -141,9 +145,6 @@ returns c =
       refused = on_err_weaker c.advance.result (λ is.
           let turn = turning p c.requires.after.2.after e.levels c.requires.running in
           shown ∙ (ap (with_performed turn.1) is ∙ unperformed turn.1)) a.refused;
-      waits = IfOk-weaker c.advance.result _ _ (λ effect is.
-          let turn = turning p c.requires.after.2.after e.levels c.requires.running in
-          stays-shown effect m _ (λ same. shown ∙ (ap (with_performed turn.1) same ∙ unperformed turn.1)) (stays ahead changed (performed.snapshot m.arena.contents vs l.index) effect after is)) a.performed;
       others = beside-set p old r c.requires.after.2.numbers it e.levels.kept done.same.number;
       kept = record {
         rooms = λ cells h. rooms-set program cells old _ r it done.same.number refl refl refl (room-moved program q r l a.next ls vs a.left ws it.stack a.stack done.same.room (h.room c.place-at.result q it.there)) h;

@@ -36,8 +36,7 @@ put_above-requires c =
     let there = ap (λ qs. slice_get qs c.place-at.result) (sym same) ∙ it.there in
     let e = c.requires.calling.5.making in
     record {
-      some = some-levels-at it;
-      room = c.requires.level c.place-at.result c.index_mut.result.now there it.number;
+      levels = (some-levels-at it, c.requires.level c.place-at.result c.index_mut.result.now there it.number);
       few = omega (arith, e.holds.after.few, ap length (operands-are c.index_mut.result.now e.levels.level e.levels.below e.levels.operands e.levels.pending it.stack));
       pending = c.requires.pending c.place-at.result c.index_mut.result.now there it.number;
     }

@@ -96,7 +96,7 @@ returns-clause-opened c =
     subst (λ n. n ≤ vec_capacity process.operands) (main.operands ∙ ap deepest (main.code ∙ ap (unit_code program) found)) (omega (arith, c.in_ok-process.ensures.room)) in
     machine-opened program c.args.cells key unit.entry _ process index found (
     record { alone = c.in_ok-vec.ensures.items; made = refl; number = c.in_ok-process.ensures.number; levels = c.in_ok-process.ensures.levels; operands = c.in_ok-process.ensures.operands; pending = c.in_ok-process.ensures.pending; activations = refl; records = c.new-2.ensures.items; faults = c.new-3.ensures.items; running = refl })
-    enough c.requires.few (room-enough program _ c.in_ok-room_to_pass.ensures) (subst (λ (nodes : Nodes). IsAfter program c.args.cells [] (snapshot_opened program key unit.entry given.arena nodes)) (sym c.give_rows.ensures.nodes) after)
+    enough c.requires.1 (room-enough program _ c.in_ok-room_to_pass.ensures) (subst (λ (nodes : Nodes). IsAfter program c.args.cells [] (snapshot_opened program key unit.entry given.arena nodes)) (sym c.give_rows.ensures.nodes) after)
 
 pub returns-clause-process : goal.returns-clause-process
 returns-clause-process c =

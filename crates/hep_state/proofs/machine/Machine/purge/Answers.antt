@@ -63,7 +63,7 @@ returns-in-Err-clause-purged c cells choices h at =
       ranges = λ u index line count next inside there. let room = had.to_pass.ranges u index line count next inside there in omega (arith, room, c.clear.ensures.capacity);
     } in
     let rooms = c.fail.ensures.rooms program cells (record { few = had.few; to_pass = to_pass; room = had.room; numbers = had.numbers }) in
-    let none = ap (λ (ps : Passing). ps.ranges.items) c.fail.ensures.passing ∙ c.clear.ensures.items in (
+    let none = ap (λ (m : Machine). m.passing.ranges.items) c.fail.ensures.rest ∙ c.clear.ensures.items in (
       stepped.stepped,
       machine-of program cells (choices ++ p ∷ []) new stepped.after rooms,
       subst (HasPurged program cells choices p) (sym none) (c.purges_are_shown.ensures.nothing (turn_of ends) line kind ends.holds),

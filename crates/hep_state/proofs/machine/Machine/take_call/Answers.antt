@@ -10,11 +10,11 @@ use Rattle.hep_step.specs.Effects.{fails}
 use Rattle.hep_step.specs.Simulation.{unit_code}
 use Rattle.hep_state.specs.declared.calling.Called.{Called}
 use Rattle.hep_state.specs.declared.machine.Machine.{Machine}
-use Rattle.hep_state.specs.Words.{AreNumbered, HasStepped, HoldsInTurn, IsAtCallAhead, IsMaking, IsTurn, IsUnit, IsUntaken, LeavesAlone, Makes, ShowsSame, Changes, HaveRoom, Snapshot, snapshot_of, IsToEnd, HasGaps, cells_of, turn_of}
+use Rattle.hep_state.specs.Words.{AreNumbered, HasStepped, HoldsInTurn, IsAtCallAhead, IsMaking, IsRefused, IsTurn, IsUnit, LeavesAlone, Makes, ShowsSame, Changes, HaveRoom, Snapshot, snapshot_of, IsToEnd, HasGaps, cells_of, turn_of}
 use Rattle.hep_state.specs.declared.turn.Turned.TheVariants.{Stepped}
 use Rattle.hep_state.proofs.Beside.{beside-again, beside-shown}
 use Rattle.hep_state.proofs.Given.{can-begin, stepped-given}
-use Rattle.hep_state.proofs.Unchanged.{alone, carry, on-err, rooms-of, rooms-written, shown-written, turned-so, without-memory}
+use Rattle.hep_state.proofs.Unchanged.{alone, carry, rooms-of, rooms-written, shown-written, turned-so, without-memory}
 use Rattle.hep_state.proofs.machine.Machine.take_call.Goals.{After-fits, After-reserve}
 use Rattle.hep_state.proofs.machine.Machine.take_call.Goals as goal
 use Rattle.hep_source.proofs.Tests.{none-from-not}
@@ -31,15 +31,12 @@ module _ (c : After-reserve) where
 
 pub returns-in_err-reserve-in-Err-clause-unturned : goal.returns-in_err-reserve-in-Err-clause-unturned
 returns-in_err-reserve-in-Err-clause-unturned c =
+    let before = (goal.at.returns-in_err-reserve-in-Err-clause-unturned c).After-reserve in
     let ends = c.in-Err.ensures.fault (cells_of c.args.self.now) (schedule_of c.args.history.now.items) c.requires.after c.requires.at in
-    without-memory (IsUntaken c.args.image.now c.args.history.now.items c.args.p c.args.self.now) c.from_residual.result c.from_residual.ensures.1 (
-    c.gaps_are_told.ensures.fault (turn_of ends) c.args.call.line c.in-Err.kind ends.holds)
-
-pub returns-in_err-reserve-in-Err-clause-refused : goal.returns-in_err-reserve-in-Err-clause-refused
-returns-in_err-reserve-in-Err-clause-refused c =
-    let before = (goal.at.returns-in_err-reserve-in-Err-clause-refused c).After-reserve in
-    on-err c.from_residual.result c.from_residual.ensures.0 (
-    alone c.args.image.now c.args.history.now.items c.args.p c.args.self.now c.reserve.new.self (reserved-shown before) (reserved-rooms before (cells_of c.args.self.now)) c.requires.after)
+    without-memory (IsRefused c.args.image.now c.args.history.now.items c.args.p c.args.self.now c.reserve.new.self) c.from_residual.result c.from_residual.ensures.1 (
+      c.gaps_are_told.ensures.fault (turn_of ends) c.args.call.line c.in-Err.kind ends.holds,
+      alone c.args.image.now c.args.history.now.items c.args.p c.args.self.now c.reserve.new.self (reserved-shown before) (reserved-rooms before (cells_of c.args.self.now)) c.requires.after,
+    )
 
 pub returns-in-Err-clause-turned : goal.returns-in-Err-clause-turned
 returns-in-Err-clause-turned c =
@@ -154,13 +151,10 @@ module _ (c : After-fits) where
 pub returns-then-not-fits-clause-unturned : goal.returns-then-not-fits-clause-unturned
 returns-then-not-fits-clause-unturned c =
     let before = (goal.at.returns-then-not-fits-clause-unturned c).After-fits in
-    let unit = c.unit-unit.result.now in
-    c.gaps_are_told.ensures.none c.args.call.way (turn_of (made before)) c.args.call.unit unit.cells unit.entry c.in-Ok.kept c.args.call.next c.give.new.self.passing.given.items c.give.new.self.passing.shapes.items (made before).holds (called before) (none-from-not (first_fit unit.cells c.args.self.now.frames.arena.holes) (sym (fits-so before) ∙ c.if-not-fits.true))
-
-pub returns-then-not-fits-clause-refused : goal.returns-then-not-fits-clause-refused
-returns-then-not-fits-clause-refused c =
-    let before = (goal.at.returns-then-not-fits-clause-refused c).After-fits in
-    alone c.args.image.now c.args.history.now.items c.args.p c.args.self.now c.give.new.self (given-shown before) (c.give.ensures.rooms (cells_of c.args.self.now)) c.requires.after
+    let unit = c.unit-unit.result.now in (
+      c.gaps_are_told.ensures.none c.args.call.way (turn_of (made before)) c.args.call.unit unit.cells unit.entry c.in-Ok.kept c.args.call.next c.give.new.self.passing.given.items c.give.new.self.passing.shapes.items (made before).holds (called before) (none-from-not (first_fit unit.cells c.args.self.now.frames.arena.holes) (sym (fits-so before) ∙ c.if-not-fits.true)),
+      alone c.args.image.now c.args.history.now.items c.args.p c.args.self.now c.give.new.self (given-shown before) (c.give.ensures.rooms (cells_of c.args.self.now)) c.requires.after,
+    )
 
 -- ---- CALL, or a reference
 
@@ -178,27 +172,19 @@ begin_call-requires c =
 
 pub returns-in_err-reserve-clause-unturned : goal.returns-in_err-reserve-clause-unturned
 returns-in_err-reserve-clause-unturned c =
+    let before = (goal.at.returns-in_err-reserve-clause-unturned c).After-fits in
     let r = c.from_residual-in_err-reserve in
-    without-memory (IsUntaken c.args.image.now c.args.history.now.items c.args.p c.args.self.now) r.result r.ensures.1 (
-    gaps-there (goal.at.returns-in_err-reserve-clause-unturned c).After-fits c.if-not-fits.false)
-
-pub returns-in_err-reserve-clause-refused : goal.returns-in_err-reserve-clause-refused
-returns-in_err-reserve-clause-refused c =
-    let before = (goal.at.returns-in_err-reserve-clause-refused c).After-fits in
-    let r = c.from_residual-in_err-reserve in
-    on-err r.result r.ensures.0 (
-    alone c.args.image.now c.args.history.now.items c.args.p c.args.self.now c.give.new.self (given-shown before) (c.give.ensures.rooms (cells_of c.args.self.now)) c.requires.after)
+    without-memory (IsRefused c.args.image.now c.args.history.now.items c.args.p c.args.self.now c.give.new.self) r.result r.ensures.1 (
+      gaps-there before c.if-not-fits.false,
+      alone c.args.image.now c.args.history.now.items c.args.p c.args.self.now c.give.new.self (given-shown before) (c.give.ensures.rooms (cells_of c.args.self.now)) c.requires.after,
+    )
 
 pub returns-in_err-begin_call-clause-unturned : goal.returns-in_err-begin_call-clause-unturned
 returns-in_err-begin_call-clause-unturned c =
+    let before = (goal.at.returns-in_err-begin_call-clause-unturned c).After-fits in
     let r = c.from_residual-in_err-begin_call in
-    without-memory (IsUntaken c.args.image.now c.args.history.now.items c.args.p c.args.self.now) r.result r.ensures.1 (
-    gaps-there (goal.at.returns-in_err-begin_call-clause-unturned c).After-fits c.if-not-fits.false)
-
-pub returns-in_err-begin_call-clause-refused : goal.returns-in_err-begin_call-clause-refused
-returns-in_err-begin_call-clause-refused c =
-    let r = c.from_residual-in_err-begin_call in
-    on-err r.result r.ensures.0 (left-alone (goal.at.returns-in_err-begin_call-clause-refused c).After-fits c.begin_call.new.self c.in_err-begin_call.ensures.refused)
+    without-memory (IsRefused c.args.image.now c.args.history.now.items c.args.p c.args.self.now c.begin_call.new.self) r.result r.ensures.1 (
+    (gaps-there before c.if-not-fits.false, left-alone before c.begin_call.new.self c.in_err-begin_call.ensures.refused))
 
 pub returns-in_ok-begin_call-clause-turned : goal.returns-in_ok-begin_call-clause-turned
 returns-in_ok-begin_call-clause-turned c =
@@ -215,14 +201,10 @@ creation Refers e = absurd cc
 
 pub returns-in_err-process-clause-unturned : goal.returns-in_err-process-clause-unturned
 returns-in_err-process-clause-unturned c =
+    let before = (goal.at.returns-in_err-process-clause-unturned c).After-fits in
     let r = c.from_residual-in_err-process in
-    without-memory (IsUntaken c.args.image.now c.args.history.now.items c.args.p c.args.self.now) r.result r.ensures.1 (
-    gaps-there (goal.at.returns-in_err-process-clause-unturned c).After-fits c.if-not-fits.false)
-
-pub returns-in_err-process-clause-refused : goal.returns-in_err-process-clause-refused
-returns-in_err-process-clause-refused c =
-    let r = c.from_residual-in_err-process in
-    on-err r.result r.ensures.0 (left-alone (goal.at.returns-in_err-process-clause-refused c).After-fits c.reserve_creation.new.self c.reserve_creation.ensures.same)
+    without-memory (IsRefused c.args.image.now c.args.history.now.items c.args.p c.args.self.now c.reserve_creation.new.self) r.result r.ensures.1 (
+    (gaps-there before c.if-not-fits.false, left-alone before c.reserve_creation.new.self c.reserve_creation.ensures.same))
 
 pub reserve_creation-requires : goal.reserve_creation-requires
 reserve_creation-requires c =

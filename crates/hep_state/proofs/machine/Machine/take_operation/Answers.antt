@@ -1,9 +1,9 @@
-use Rattle.std.proofs.Common.{◌≡◌, ℕ, List, [], ◌∷◌, ◌++◌, ◌∙◌, ap, subst, sym}
+use Rattle.std.proofs.Common.{◌≡◌, ◌<◌, ℕ, List, [], ◌∷◌, ◌++◌, ◌∙◌, ap, subst, sym, vec_capacity, vec_len}
 use Rattle.hep_machine.specs.Words.{schedule_of}
 use Rattle.hep_step.specs.declared.effect.Effect.{Effect}
 use Rattle.hep_state.specs.Words.{Changes, HaveRoom, IsWithoutCall, IsMachineAfter, Snapshot, StaysWaiting, cells_of, snapshot_of}
 use Rattle.hep_state.proofs.Beside.{beside-again, beside-shown}
-use Rattle.hep_state.proofs.Unchanged.{alone, machine-of, machine-written, on-err, rooms-of, shown-written, top-shown}
+use Rattle.hep_state.proofs.Unchanged.{alone, carry, machine-of, machine-written, on-err, rooms-of, shown-written, top-shown}
 use Rattle.hep_state.proofs.machine.Machine.take_operation.Goals.{After-reserve}
 use Rattle.hep_state.proofs.machine.Machine.take_operation.Goals as goal
 
@@ -45,23 +45,27 @@ advance-requires c =
       plain = subst (IsWithoutCall c.args.image.now c.args.p) (sym (reserved-shown before)) c.requires.plain;
     }
 
-pub end_turn-requires-clause-left : goal.end_turn-requires-clause-left
-end_turn-requires-clause-left c =
-    let before = (goal.at.end_turn-requires-clause-left c).After-reserve in
-    (c.args.image.now, cells before, choices before, c.in_ok-effect.ensures.left (cells before) (choices before) (reserved before), c.advance.ensures.kept.rooms (cells before) (reserved-rooms before))
+pub end_turn-requires : goal.end_turn-requires
+end_turn-requires c =
+    let before = (goal.at.end_turn-requires c).After-reserve in
+    let kept = c.advance.ensures.kept in (
+      (c.args.image.now, cells before, choices before, c.in_ok-effect.ensures.performed.0 (cells before) (choices before) (reserved before), kept.rooms (cells before) (reserved-rooms before)),
+      carry (λ i. vec_len (sym kept.records i) < vec_capacity (sym kept.records i)) c.in_ok-reserve.ensures.records,
+      carry (λ i. vec_len (sym kept.faults i) < vec_capacity (sym kept.faults i)) c.in_ok-reserve.ensures.faults,
+    )
 
 pub returns-in-Some-clause-turned : goal.returns-in-Some-clause-turned
 returns-in-Some-clause-turned c =
     let program = c.args.image.now in
     let before = (goal.at.returns-in-Some-clause-turned c).After-reserve in
-    let waited = c.in-Some.ensures.ended program (cells before) (choices before) (c.in_ok-effect.ensures.left (cells before) (choices before) (reserved before)) in
+    let waited = c.in-Some.ensures.ended program (cells before) (choices before) (c.in_ok-effect.ensures.performed.0 (cells before) (choices before) (reserved before)) in
     let rooms = c.end_turn.ensures.rooms program (cells before) (c.advance.ensures.kept.rooms (cells before) (reserved-rooms before)) in
     (waited, machine-of program (cells before) (choices before) c.end_turn.new.self waited.after rooms)
 
 pub returns-in-Some-clause-rest : goal.returns-in-Some-clause-rest
 returns-in-Some-clause-rest c =
     let before = (goal.at.returns-in-Some-clause-rest c).After-reserve in
-    let stays = subst (λ (e : Effect). StaysWaiting e (snapshot_of c.reserve.new.self) (snapshot_of c.advance.new.self)) c.in-Some.ensures.waits.0 c.in_ok-effect.ensures.waits in
+    let stays = subst (λ (e : Effect). StaysWaiting e (snapshot_of c.reserve.new.self) (snapshot_of c.advance.new.self)) c.in-Some.ensures.waits.0 c.in_ok-effect.ensures.performed.1 in
     top-shown c.args.p c.args.image.now (snapshot_of c.args.self.now) (snapshot_of c.end_turn.new.self) (ap snapshot_of c.in-Some.ensures.waits.1 ∙ stays ∙ reserved-shown before)
 
 pub returns-in-None-clause-turned : goal.returns-in-None-clause-turned
@@ -69,7 +73,7 @@ returns-in-None-clause-turned c =
     let program = c.args.image.now in
     let p = c.args.p in
     let before = (goal.at.returns-in-None-clause-turned c).After-reserve in
-    let stepped = c.in-None.ensures.ended program (cells before) (choices before) (c.in_ok-effect.ensures.left (cells before) (choices before) (reserved before)) in
+    let stepped = c.in-None.ensures.ended program (cells before) (choices before) (c.in_ok-effect.ensures.performed.0 (cells before) (choices before) (reserved before)) in
     let rooms = c.end_turn.ensures.rooms program (cells before) (c.advance.ensures.kept.rooms (cells before) (reserved-rooms before)) in (
       stepped.stepped,
       machine-of program (cells before) (choices before ++ p ∷ []) c.end_turn.new.self stepped.after rooms,

@@ -1,15 +1,15 @@
 use Rattle.std.proofs.Common.{◌≡◌, ◌≤◌, ℕ, List, None, arith, refl, sym, ap, ◌∙◌, subst}
-use Rattle.std.proofs.lemmas.Result.{IfErr-weaker, IfOk-weaker, on_err_weaker}
+use Rattle.std.proofs.lemmas.Result.{IfErr-weaker, IfOk-weaker}
 use Rattle.hep_machine.specs.Words.{schedule_of}
 use Rattle.hep_blocked.specs.Rolls.{Roll}
 use Rattle.hep_step.specs.Effects.{returns}
 use Rattle.hep_state.specs.declared.machine.Machine.{Machine}
 use Rattle.hep_state.specs.declared.turn.Turned.{Turned}
 use Rattle.hep_state.specs.declared.turn.Turned.TheVariants.{Stepped}
-use Rattle.hep_state.specs.Words.{Changes, HasCallAhead, HasLevels, HasPurgeAhead, HasResumeAhead, HasTurned, IsAtAnswer, IsAtReturn, IsMachineAfter, IsSameButTop, IsSeenSame, IsToEnd, IsTurn, IsUntaken, IsUnturned, KeepsRollFor, LeavesAlone, LeavesOthers, LeavesRest, Snapshot, cells_of, snapshot_of, turn_of}
+use Rattle.hep_state.specs.Words.{Changes, HasCallAhead, HasLevels, HasPurgeAhead, HasResumeAhead, HasTurned, IsAtAnswer, IsAtReturn, IsMachineAfter, IsRefused, IsSameButTop, IsSeenSame, IsToEnd, IsTurn, IsUnturned, KeepsRollFor, LeavesAlone, LeavesOthers, LeavesRest, Snapshot, cells_of, snapshot_of, turn_of}
 use Rattle.hep_state.proofs.Beside.{beside-again, beside-shown, beside-top, rest-again}
 use Rattle.hep_state.proofs.Returning.{IsRunningAlways, ends-there, running-always, untouched-there}
-use Rattle.hep_state.proofs.Unchanged.{alone-after, as-large, machine-written, on-err, own-size, rooms-of, seen-again, seen-shown, settled-same, shown-written, top-again, top-shown, without-memory, as-many, turned-so}
+use Rattle.hep_state.proofs.Unchanged.{alone-after, as-large, machine-written, own-size, rooms-of, seen-again, seen-shown, settled-same, shown-written, top-again, top-shown, without-memory, as-many, turned-so}
 use Rattle.hep_state.proofs.machine.Machine.turn.Goals.{After-reserve, After-step_ahead}
 use Rattle.hep_state.proofs.machine.Machine.turn.Goals as goal
 
@@ -64,11 +64,10 @@ returns-in-Call-clause-turned c =
 pub returns-in-Call-clause-unturned : goal.returns-in-Call-clause-unturned
 returns-in-Call-clause-unturned c =
     let before = (goal.at.returns-in-Call-clause-unturned c).After-step_ahead in
-    IfErr-weaker c.take_call.result _ _ (λ e told. subst (λ n. IsUnturned e c.args.image.now n (choices before) c.args.p) (large before) told) c.take_call.ensures.unturned
-
-pub returns-in-Call-clause-refused : goal.returns-in-Call-clause-refused
-returns-in-Call-clause-refused c =
-    on_err_weaker c.take_call.result (alone-after c.args.image.now c.args.history.now.items c.args.p c.args.self.now c.step_ahead.new.self c.take_call.new.self c.in-Call.ensures.same (settled-same c.args.p c.args.image.now (snapshot_of c.args.self.now) (snapshot_of c.step_ahead.new.self) c.in-Call.ensures.top)) c.take_call.ensures.refused
+    IfErr-weaker c.take_call.result _ _ (λ e told. (
+      subst (λ n. IsUnturned e c.args.image.now n (choices before) c.args.p) (large before) told.0,
+      alone-after c.args.image.now c.args.history.now.items c.args.p c.args.self.now c.step_ahead.new.self c.take_call.new.self c.in-Call.ensures.same (settled-same c.args.p c.args.image.now (snapshot_of c.args.self.now) (snapshot_of c.step_ahead.new.self) c.in-Call.ensures.top) told.1,
+    )) c.take_call.ensures.unturned
 
 -- ---- an operation
 
@@ -85,13 +84,10 @@ pub returns-in_err-take_operation-in-Other-clause-unturned : goal.returns-in_err
 returns-in_err-take_operation-in-Other-clause-unturned c =
     let before = (goal.at.returns-in_err-take_operation-in-Other-clause-unturned c).After-step_ahead in
     let r = c.from_residual-in_err-take_operation-in-Other in
-    without-memory (IsUntaken c.args.image.now c.args.history.now.items c.args.p c.args.self.now) r.result r.ensures.1 (
-    c.other_steps_find_gaps.ensures c.args.image.now (cells before) (choices before) (snapshot_of c.step_ahead.new.self) c.args.p c.is_runnable.ensures.accepted c.is_runnable.ensures.main (looked before).after (c.in-Other.ensures.same.halted ∙ c.requires.running) c.in-Other.ensures.ahead)
-
-pub returns-in_err-take_operation-in-Other-clause-refused : goal.returns-in_err-take_operation-in-Other-clause-refused
-returns-in_err-take_operation-in-Other-clause-refused c =
-    let r = c.from_residual-in_err-take_operation-in-Other in
-    on-err r.result r.ensures.0 (alone-after c.args.image.now c.args.history.now.items c.args.p c.args.self.now c.step_ahead.new.self c.take_operation.new.self c.in-Other.ensures.same (settled-same c.args.p c.args.image.now (snapshot_of c.args.self.now) (snapshot_of c.step_ahead.new.self) c.in-Other.ensures.top) c.in_err-take_operation-in-Other.ensures.refused)
+    without-memory (IsRefused c.args.image.now c.args.history.now.items c.args.p c.args.self.now c.take_operation.new.self) r.result r.ensures.1 (
+      c.other_steps_find_gaps.ensures c.args.image.now (cells before) (choices before) (snapshot_of c.step_ahead.new.self) c.args.p c.is_runnable.ensures.accepted c.is_runnable.ensures.main (looked before).after (c.in-Other.ensures.same.halted ∙ c.requires.running) c.in-Other.ensures.ahead,
+      alone-after c.args.image.now c.args.history.now.items c.args.p c.args.self.now c.step_ahead.new.self c.take_operation.new.self c.in-Other.ensures.same (settled-same c.args.p c.args.image.now (snapshot_of c.args.self.now) (snapshot_of c.step_ahead.new.self) c.in-Other.ensures.top) c.in_err-take_operation-in-Other.ensures.refused,
+    )
 
 pub returns-in_ok-take_operation-in-Other-clause-turned : goal.returns-in_ok-take_operation-in-Other-clause-turned
 returns-in_ok-take_operation-in-Other-clause-turned c =
@@ -136,13 +132,12 @@ purge-requires-clause-at c =
 
 pub returns-in_err-reserve-in-Purge-clause-unturned : goal.returns-in_err-reserve-in-Purge-clause-unturned
 returns-in_err-reserve-in-Purge-clause-unturned c =
+    let before = (goal.at.returns-in_err-reserve-in-Purge-clause-unturned c).After-step_ahead in
     let at = c.in-Purge.ensures.ahead (cells_of c.args.self.now) (schedule_of c.args.history.now.items) c.requires.after in
-    without-memory (IsUntaken c.args.image.now c.args.history.now.items c.args.p c.args.self.now) c.from_residual.result c.from_residual.ensures.1 (
-    c.purges_are_shown.ensures.gaps (turn_of at) c.in-Purge.purge c.is_runnable.ensures.accepted c.is_runnable.ensures.main at.holds)
-
-pub returns-in_err-reserve-in-Purge-clause-refused : goal.returns-in_err-reserve-in-Purge-clause-refused
-returns-in_err-reserve-in-Purge-clause-refused c =
-    on-err c.from_residual.result c.from_residual.ensures.0 (reserved-alone (goal.at.returns-in_err-reserve-in-Purge-clause-refused c).After-step_ahead c.reserve.new.self c.reserve.ensures.others c.reserve.ensures.written)
+    without-memory (IsRefused c.args.image.now c.args.history.now.items c.args.p c.args.self.now c.reserve.new.self) c.from_residual.result c.from_residual.ensures.1 (
+      c.purges_are_shown.ensures.gaps (turn_of at) c.in-Purge.purge c.is_runnable.ensures.accepted c.is_runnable.ensures.main at.holds,
+      reserved-alone before c.reserve.new.self c.reserve.ensures.others c.reserve.ensures.written,
+    )
 
 pub returns-in_ok-reserve-in-Purge-clause-turned : goal.returns-in_ok-reserve-in-Purge-clause-turned
 returns-in_ok-reserve-in-Purge-clause-turned c =
@@ -168,14 +163,10 @@ pub returns-in_err-reserve-in-Answer-clause-unturned : goal.returns-in_err-reser
 returns-in_err-reserve-in-Answer-clause-unturned c =
     let before = (goal.at.returns-in_err-reserve-in-Answer-clause-unturned c).After-step_ahead in
     let r = c.from_residual-in_err-reserve-in-Answer in
-    without-memory (IsUntaken c.args.image.now c.args.history.now.items c.args.p c.args.self.now) r.result r.ensures.1 (
-    c.other_steps_find_gaps.ensures c.args.image.now (cells before) (choices before) (snapshot_of c.step_ahead.new.self) c.args.p c.is_runnable.ensures.accepted c.is_runnable.ensures.main (looked before).after (c.in-Answer.ensures.same.halted ∙ c.requires.running) c.in-Answer.ensures.ahead.operation)
-
-pub returns-in_err-reserve-in-Answer-clause-refused : goal.returns-in_err-reserve-in-Answer-clause-refused
-returns-in_err-reserve-in-Answer-clause-refused c =
-    let before = (goal.at.returns-in_err-reserve-in-Answer-clause-refused c).After-step_ahead in
-    let r = c.from_residual-in_err-reserve-in-Answer in
-    on-err r.result r.ensures.0 (reserved-alone before c.reserve-in-Answer.new.self c.reserve-in-Answer.ensures.others c.reserve-in-Answer.ensures.written)
+    without-memory (IsRefused c.args.image.now c.args.history.now.items c.args.p c.args.self.now c.reserve-in-Answer.new.self) r.result r.ensures.1 (
+      c.other_steps_find_gaps.ensures c.args.image.now (cells before) (choices before) (snapshot_of c.step_ahead.new.self) c.args.p c.is_runnable.ensures.accepted c.is_runnable.ensures.main (looked before).after (c.in-Answer.ensures.same.halted ∙ c.requires.running) c.in-Answer.ensures.ahead.operation,
+      reserved-alone before c.reserve-in-Answer.new.self c.reserve-in-Answer.ensures.others c.reserve-in-Answer.ensures.written,
+    )
 
 pub returns-in_ok-reserve-in-Answer-clause-turned : goal.returns-in_ok-reserve-in-Answer-clause-turned
 returns-in_ok-reserve-in-Answer-clause-turned c =
@@ -199,13 +190,10 @@ pub returns-in_err-take_resume-in-Resume-clause-unturned : goal.returns-in_err-t
 returns-in_err-take_resume-in-Resume-clause-unturned c =
     let r = c.from_residual-in_err-take_resume-in-Resume in
     let at = c.in-Resume.ensures.ahead (cells_of c.args.self.now) (schedule_of c.args.history.now.items) c.requires.after in
-    without-memory (IsUntaken c.args.image.now c.args.history.now.items c.args.p c.args.self.now) r.result r.ensures.1 (
-    c.resumes_are_shown.ensures.gaps (turn_of at) c.in-Resume.next c.is_runnable.ensures.accepted c.is_runnable.ensures.main at.holds)
-
-pub returns-in_err-take_resume-in-Resume-clause-refused : goal.returns-in_err-take_resume-in-Resume-clause-refused
-returns-in_err-take_resume-in-Resume-clause-refused c =
-    let r = c.from_residual-in_err-take_resume-in-Resume in
-    on-err r.result r.ensures.0 (alone-after c.args.image.now c.args.history.now.items c.args.p c.args.self.now c.step_ahead.new.self c.take_resume.new.self c.in-Resume.ensures.same (settled-same c.args.p c.args.image.now (snapshot_of c.args.self.now) (snapshot_of c.step_ahead.new.self) c.in-Resume.ensures.top) c.in_err-take_resume-in-Resume.ensures.refused)
+    without-memory (IsRefused c.args.image.now c.args.history.now.items c.args.p c.args.self.now c.take_resume.new.self) r.result r.ensures.1 (
+      c.resumes_are_shown.ensures.gaps (turn_of at) c.in-Resume.next c.is_runnable.ensures.accepted c.is_runnable.ensures.main at.holds,
+      alone-after c.args.image.now c.args.history.now.items c.args.p c.args.self.now c.step_ahead.new.self c.take_resume.new.self c.in-Resume.ensures.same (settled-same c.args.p c.args.image.now (snapshot_of c.args.self.now) (snapshot_of c.step_ahead.new.self) c.in-Resume.ensures.top) c.in_err-take_resume-in-Resume.ensures.refused,
+    )
 
 pub returns-in_ok-take_resume-in-Resume-clause-turned : goal.returns-in_ok-take_resume-in-Resume-clause-turned
 returns-in_ok-take_resume-in-Resume-clause-turned c =
@@ -233,19 +221,15 @@ pub returns-in_err-reserve-in-Return-clause-unturned : goal.returns-in_err-reser
 returns-in_err-reserve-in-Return-clause-unturned c =
     let before = (goal.at.returns-in_err-reserve-in-Return-clause-unturned c).After-step_ahead in
     let r = c.from_residual-in_err-reserve-in-Return in
-    without-memory (IsUntaken c.args.image.now c.args.history.now.items c.args.p c.args.self.now) r.result r.ensures.1 (
-    c.other_steps_find_gaps.ensures c.args.image.now (cells before) (choices before) (snapshot_of c.step_ahead.new.self) c.args.p c.is_runnable.ensures.accepted c.is_runnable.ensures.main (looked before).after (c.in-Return.ensures.same.halted ∙ c.requires.running) c.in-Return.ensures.ahead.1.operation)
-
-pub returns-in_err-reserve-in-Return-clause-refused : goal.returns-in_err-reserve-in-Return-clause-refused
-returns-in_err-reserve-in-Return-clause-refused c =
-    let before = (goal.at.returns-in_err-reserve-in-Return-clause-refused c).After-step_ahead in
-    let r = c.from_residual-in_err-reserve-in-Return in
-    on-err r.result r.ensures.0 (record {
-      after = looked before;
-      same = c.in-Return.ensures.same;
-      top = settled-same c.args.p c.args.image.now (snapshot_of c.args.self.now) (snapshot_of c.step_ahead.new.self) c.in-Return.ensures.top;
-      made = as-many c.args.self.now c.step_ahead.new.self c.in-Return.ensures.same;
-    })
+    without-memory (IsRefused c.args.image.now c.args.history.now.items c.args.p c.args.self.now c.step_ahead.new.self) r.result r.ensures.1 (
+      c.other_steps_find_gaps.ensures c.args.image.now (cells before) (choices before) (snapshot_of c.step_ahead.new.self) c.args.p c.is_runnable.ensures.accepted c.is_runnable.ensures.main (looked before).after (c.in-Return.ensures.same.halted ∙ c.requires.running) c.in-Return.ensures.ahead.1.operation,
+      record {
+        after = looked before;
+        same = c.in-Return.ensures.same;
+        top = settled-same c.args.p c.args.image.now (snapshot_of c.args.self.now) (snapshot_of c.step_ahead.new.self) c.in-Return.ensures.top;
+        made = as-many c.args.self.now c.step_ahead.new.self c.in-Return.ensures.same;
+      },
+    )
 
 pub returns-in_ok-reserve-in-Return-clause-turned : goal.returns-in_ok-reserve-in-Return-clause-turned
 returns-in_ok-reserve-in-Return-clause-turned c =
