@@ -8,7 +8,7 @@ use hep_base::Refusal;
 use hep_check::{Checked, check};
 use hep_copies::Syntax;
 use hep_core::{
-    ChooseFault, CommitFault, Core, Entry, NewFault, Segment, Ticket, Verdict, compute,
+    ChooseFault, CommitFault, Core, Entry, Fault, NewFault, Segment, Ticket, Turn, Verdict, compute,
 };
 use hep_dump::dump_text;
 use hep_entries::History;
@@ -19,7 +19,7 @@ use hep_output::output_text;
 use hep_parse::parse;
 use hep_source::Program;
 use hep_text::statements;
-use hep_workers::{CloseFault, NoGate, WorkFault, WorkOptions, close, run_workers};
+use hep_workers::{CloseFault, NoGate, Report, WorkFault, WorkOptions, close, run_workers};
 use std::alloc::{AllocError, Global};
 use std::process::Abort;
 use std::sync::Wait;
@@ -350,25 +350,60 @@ fn dump_text_at(rt: &impl Abort, alloc: Global, number: usize) -> bool {
 // ---- whole runs of a core: each call once with the growth of one number refused, and where it wants memory once more
 
 // What is seen of a core.
-fn seen(core: &Core) -> ((u64, u32, usize, usize), (Verdict, Option<u64>)) {
-    let sizes = (
-        core.history().len(),
-        core.used(),
-        core.output().len(),
-        core.faults().len(),
-    );
-    (sizes, (core.verdict(), core.next_ready()))
+#[derive(Drop)]
+struct Seen {
+    history: History,
+    output: Vec<u8>,
+    faults: Vec<Fault>,
+    used: u32,
+    verdict: Verdict,
+    next: Option<u64>,
+}
+
+fn seen_of(rt: &impl Abort, alloc: Global, core: &Core) -> Seen {
+    let mut faults = Vec::new(alloc);
+    faults
+        .extend_from_slice(core.faults())
+        .expect(rt, "no memory");
+    Seen {
+        history: core.history().copy(alloc).expect(rt, "no memory"),
+        output: output_text(alloc, core.output()).expect(rt, "no memory"),
+        faults,
+        used: core.used(),
+        verdict: core.verdict(),
+        next: core.next_ready(),
+    }
+}
+
+// Nothing that is seen of a core has changed.
+fn is_unchanged(rt: &impl Abort, alloc: Global, core: &Core, before: &Seen) {
+    let now = seen_of(rt, alloc, core);
+    assert!(rt; now.history.same(&before.history));
+    assert!(rt; now.output.as_slice() == before.output.as_slice());
+    assert!(rt; now.faults.as_slice() == before.faults.as_slice());
+    assert!(rt; now.used == before.used && now.verdict == before.verdict);
+    assert!(rt; now.next == before.next);
+}
+
+// The last entry of a core's history is that of a turn.
+fn is_entered(rt: &impl Abort, core: &Core, process: u64, turn: Turn) {
+    let last = core.history().last().expect(rt, "no entry");
+    assert!(rt; last.process == process && last.steps == turn.steps);
 }
 
 fn chosen_at(rt: &impl Abort, alloc: Global, core: &mut Core, process: u64, number: usize) -> bool {
-    let before = seen(core);
+    let before = seen_of(rt, alloc, core);
     command(alloc, number);
     let answer = chosen(core, process);
     let refused = command(alloc, 0);
-    if given(rt, answer, refused).is_none() {
-        assert!(rt; seen(core) == before);
-        let _turn = chosen(core, process).expect(rt, "no turn");
-    }
+    let turn = match given(rt, answer, refused) {
+        Some(turn) => turn,
+        None => {
+            is_unchanged(rt, alloc, core, &before);
+            chosen(core, process).expect(rt, "no turn")
+        }
+    };
+    is_entered(rt, core, process, turn);
     refused
 }
 
@@ -382,6 +417,8 @@ fn choose_at(rt: &impl Abort, alloc: Global, number: usize) -> bool {
         refused |= chosen_at(rt, alloc, &mut core, process, number);
     }
     is_over(rt, alloc, &core);
+    let text = write_text(alloc, core.history()).expect(rt, "no text");
+    assert!(rt; text.as_slice() == sums_text(rt, alloc).as_slice());
     refused
 }
 
@@ -392,14 +429,14 @@ fn checked_out_at(
     process: u64,
     number: usize,
 ) -> (Ticket, bool) {
-    let before = seen(core);
+    let before = seen_of(rt, alloc, core);
     command(alloc, number);
     let answer = checked_out(core, process);
     let refused = command(alloc, 0);
     match given(rt, answer, refused) {
         Some(ticket) => (ticket, refused),
         None => {
-            assert!(rt; seen(core) == before);
+            is_unchanged(rt, alloc, core, &before);
             (checked_out(core, process).expect(rt, "no ticket"), refused)
         }
     }
@@ -413,14 +450,18 @@ fn committed_at(
     segment: &Segment,
     number: usize,
 ) -> bool {
-    let before = seen(core);
+    let before = seen_of(rt, alloc, core);
     command(alloc, number);
     let answer = committed(core, segment);
     let refused = command(alloc, 0);
-    if given(rt, answer, refused).is_none() {
-        assert!(rt; seen(core) == before);
-        let _turn = committed(core, segment).expect(rt, "not committed");
-    }
+    let turn = match given(rt, answer, refused) {
+        Some(turn) => turn,
+        None => {
+            is_unchanged(rt, alloc, core, &before);
+            committed(core, segment).expect(rt, "not committed")
+        }
+    };
+    is_entered(rt, core, segment.ticket().process, turn);
     refused
 }
 
@@ -454,6 +495,11 @@ struct Refused {
     of_commit: usize,
 }
 
+const NONE_REFUSED: Refused = Refused {
+    of_check_out: 0,
+    of_commit: 0,
+};
+
 // All that are ready are checked out and then committed.
 fn round_at(
     rt: &impl Abort,
@@ -469,7 +515,8 @@ fn round_at(
     refused
 }
 
-fn rounds_at(rt: &impl Abort, alloc: Global, numbers: Refused) -> bool {
+// The core after all rounds, and whether a growth was refused.
+fn rounds(rt: &impl Abort, alloc: Global, numbers: Refused) -> (Core, bool) {
     let image = sums_image(rt, alloc);
     let mut core = sums_core(rt, alloc);
     let mut refused = false;
@@ -479,7 +526,15 @@ fn rounds_at(rt: &impl Abort, alloc: Global, numbers: Refused) -> bool {
         }
         refused |= round_at(rt, alloc, &mut core, &image, numbers);
     }
+    (core, refused)
+}
+
+// The entries are those of rounds in which nothing is refused.
+fn rounds_at(rt: &impl Abort, alloc: Global, numbers: Refused) -> bool {
+    let (core, refused) = rounds(rt, alloc, numbers);
     is_over(rt, alloc, &core);
+    let (usual, _) = rounds(rt, alloc, NONE_REFUSED);
+    assert!(rt; core.history().same(usual.history()));
     refused
 }
 
@@ -509,6 +564,16 @@ fn options() -> WorkOptions {
     }
 }
 
+// The one worker has a receipt for each entry.
+fn has_one_log(rt: &impl Abort, report: &Report) {
+    let [log] = report.logs() else {
+        assert!(rt; false, "there is more than one log, or none");
+        return;
+    };
+    assert!(rt; log.is_of(1));
+    assert!(rt; log.receipts().len() as u64 == report.core().history().len());
+}
+
 fn run_workers_at<R: Abort + Threads + Wait + Sync>(rt: &R, alloc: Global, number: usize) -> bool {
     let image = sums_image(rt, alloc);
     command(alloc, number);
@@ -516,6 +581,7 @@ fn run_workers_at<R: Abort + Threads + Wait + Sync>(rt: &R, alloc: Global, numbe
     let refused = command(alloc, 0);
     if let Some(report) = given(rt, answer, refused) {
         is_over(rt, alloc, report.core());
+        has_one_log(rt, &report);
     }
     refused
 }
@@ -529,6 +595,7 @@ fn close_at<R: Abort + Threads + Wait + Sync>(rt: &R, alloc: Global, number: usi
     let refused = command(alloc, 0);
     if let Some(report) = given(rt, answer, refused) {
         is_over(rt, alloc, report.core());
+        has_one_log(rt, &report);
     }
     refused
 }

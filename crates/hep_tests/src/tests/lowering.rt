@@ -1,9 +1,11 @@
-//! Images: what is lowered of a program, and the sizes of what they and the arena are made of.
+//! Images: what is lowered of a program, and the sizes of what they, the arena and segments are made of.
 
 use super::image_from;
 use hep_arena::Cell;
 use hep_code::{Instruction, Operation, Variable};
 use hep_image::{DataRow, Image, UnitCode};
+use hep_private::Record;
+use hep_segments::Segment;
 use hep_source::Value;
 use std::alloc::Global;
 use std::mem::size_of;
@@ -66,10 +68,12 @@ pub fn names(rt: &impl Abort, alloc: Global) {
     assert!(rt; image.name(5).is_none());
 }
 
-/// A step reads an operation and some cells, so runs are as fast as these are small.
+/// A step reads an operation and some cells, and a private one leaves a record, so runs are as fast as these are small.
 pub fn sizes(rt: &impl Abort) {
     assert!(rt; size_of::<Variable>() == 8);
     assert!(rt; size_of::<Operation>() == 24);
     assert!(rt; size_of::<Instruction>() == 32);
     assert!(rt; size_of::<Cell>() == 16);
+    assert!(rt; size_of::<Record>() == 48);
+    assert!(rt; size_of::<Segment>() == 59_408);
 }

@@ -166,13 +166,13 @@ pub fn three_blocks(rt: &impl Abort, alloc: Global) {
     let second = arena.take(4).expect(rt, "no block");
     let third = arena.take(2).expect(rt, "no block");
     assert!(rt; first.at() == 0 && second.at() == 3 && third.at() == 7);
-    assert!(rt; arena.used() == 9);
+    assert!(rt; arena.used() == 9 && arena.fits(1) && !arena.fits(2));
     arena.give(second);
-    assert!(rt; arena.used() == 5);
+    assert!(rt; arena.used() == 5 && arena.fits(4) && !arena.fits(5));
     assert!(rt; arena.take(5).is_none());
     assert!(rt; arena.used() == 5);
     arena.give(first);
-    assert!(rt; arena.used() == 2);
+    assert!(rt; arena.used() == 2 && arena.fits(7) && !arena.fits(8));
     let fourth = arena.take(5).expect(rt, "no block");
     assert!(rt; fourth.at() == 0 && arena.used() == 7);
     assert!(rt; arena.fits(2) && !arena.fits(3));

@@ -49,6 +49,11 @@ fn is_stale(core: &mut Core, segment: &Segment) -> bool {
     committed(core, segment).err() == Some(CommitFault::Stale)
 }
 
+// The turn of a worker is refused as the commit is.
+fn is_no_turn(core: &mut Core, segment: &Segment) -> bool {
+    worker_turn(core, 1, segment).err() == Some(CommitFault::Stale)
+}
+
 // Why there is no report of a core without logs.
 fn unclosed(alloc: Global, core: Core, image: &Image, options: &WorkOptions) -> Option<CloseFault> {
     close(alloc, core, image, options, Vec::new(alloc)).err()
@@ -99,9 +104,11 @@ pub fn at_the_opening(rt: &impl Abort, alloc: Global) {
     for process in [99, 2] {
         assert!(rt; chosen(&mut core, process).err() == Some(ChooseFault::NoSuchProcess));
         assert!(rt; core.history().len() == 0);
+        assert!(rt; core.used() == 1 && core.next_ready() == Some(1));
     }
     let ticket = ticket_of(rt, &mut core, 1);
     assert!(rt; chosen(&mut core, 1).err() == Some(ChooseFault::IsOut));
+    assert!(rt; core.history().len() == 0);
     let first = compute(&image, &ticket);
     let second = compute(&image, &ticket);
     let turn = committed(&mut core, &first).expect(rt, "not committed");
@@ -141,12 +148,13 @@ pub fn foreign_segments(rt: &impl Abort, alloc: Global) {
     let _cancelled = cancelled_of(rt, &mut core, 1);
     let ticket = ticket_of(rt, &mut core, 1);
     for segment in [&of_another_source, &earlier, &later] {
-        assert!(rt; is_stale(&mut core, segment));
+        assert!(rt; is_stale(&mut core, segment) && is_no_turn(&mut core, segment));
         assert!(rt; core.history().len() == 0 && core.used() == 1 && core.next_ready().is_none());
     }
     let turn = committed(&mut core, &alike).expect(rt, "not committed");
     assert!(rt; turn.steps == 1);
     assert!(rt; is_stale(&mut core, &compute(&image, &ticket)));
+    assert!(rt; is_no_turn(&mut core, &alike));
     assert!(rt; core.history().len() == 1);
 }
 
