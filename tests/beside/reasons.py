@@ -1,16 +1,18 @@
 """Why processes wait after a history: who filled or emptied last what they wait for, and circles (docs/RUNS.md, "Why processes
 wait")."""
 import machine
-from states import subscripts
+from traces import listed
 
 
 class Process(machine.Process):
     """A process that keeps the places that its steps have accessed."""
 
-    # The latest one, for which it may still wait.
+    # The latest one, for which it may still wait, and what its unit calls that.
     pending = None
+    called = ""
 
     def place(self, node, values):
+        self.called = node.name + listed(values)
         self.pending = super().place(node, values)
         self.run.accessed.append(self.pending)
         return self.pending
@@ -56,22 +58,8 @@ class Run(machine.Run):
         return self.known.get(id(cell), (cell, False, None))[2]
 
 
-def own_name(process):
-    """What the unit of a process calls the position of COMMON for which it waits, or else `it`."""
-    block, found, position = process.wait.place.shown().rpartition("/#")
-    unit = process.top.unit
-    if not found or block[1:] not in unit.blocks:
-        return "it"
-    left = int(position) - 1
-    for variable in (unit.variables[name] for name in unit.blocks[block[1:]]):
-        if left < variable.size():
-            return f"{variable.name}({subscripts(variable.dimensions, left)})" if variable.bounds else variable.name
-        left -= variable.size()
-    return "it"
-
-
 def words_of(run, waiting, process):
-    change, name = run.latest(process), own_name(process)
+    change, name = run.latest(process), process.called
     if change is None:
         return f"nobody has filled or emptied {name}"
     entry, number, unit, line = change

@@ -8,7 +8,7 @@ ghost use Rattle.hep_advancing.specs.Deeds.{here_own, made_of_deed};
 
 use crate::looping::{Loop, end_loop, enter_loop};
 use hep_code::{Evaluation, Instruction, Operation, Variable, leading};
-use hep_reading::{Memory, Record, value_of};
+use hep_reading::{Memory, Record, operand, value_of};
 use hep_source::Value;
 
 /// Where an activation is in its unit's code, with its operands and its cells.
@@ -71,29 +71,25 @@ fn store(here: &Here<'_>, variable: Variable, next: u32) -> Option<Deed>
     ensures { option_map (made_of_deed here.now.operands.now) result
         ≡ made_by here.now.memory.private.now (here_own here.now) (operations.Store variable 0 next) [] }
 {
-    match (variable, here.operands) {
-        (
-            Variable::Local {
-                asynchronous: false,
-                cell,
-            },
-            [value],
-        ) => {
-            if !here.memory.is_private(cell) {
-                return None;
-            }
-            Some(Deed {
-                note: Record::Stores {
-                    cell,
-                    at: here.index,
-                    value: *value,
-                },
-                index: next as usize,
-                given: None,
-            })
-        }
-        _ => None,
+    let Variable::Local {
+        asynchronous: false,
+        cell,
+    } = variable
+    else {
+        return None;
+    };
+    if here.operands.len() > 1 || !here.memory.is_private(cell) {
+        return None;
     }
+    Some(Deed {
+        note: Record::Stores {
+            cell,
+            at: here.index,
+            value: operand(here.operands, 0),
+        },
+        index: next as usize,
+        given: None,
+    })
 }
 
 // The step only chooses where the activation goes on.

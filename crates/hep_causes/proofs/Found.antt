@@ -17,7 +17,7 @@ use Rattle.hep_reasons.specs.declared.reason.Change.{Change}
 use Rattle.hep_views.specs.declared.listed.Listed.{Listed}
 use Rattle.hep_views.specs.Listed.{listed_by}
 use Rattle.hep_causes.specs.declared.watch.Watch.{Watch}
-use Rattle.hep_causes.specs.Watches.{AreAlong, AreFound, AreKeptOnceThere, AreNewWatches, HaveLooked, IsAlong, IsKeptOnceThere, IsReplayed, IsWatch, WaitTheSame, Whole, listed_from, location_of, looked, processes, reasons_for}
+use Rattle.hep_causes.specs.Watches.{AreAlong, AreFound, AreKeptOnceThere, AreNewWatches, AreWaiting, HaveLooked, IsAlong, IsKeptOnceThere, IsReplayed, IsWatch, WaitTheSame, Whole, listed_from, location_of, looked, processes, reasons_for}
 use Rattle.hep_causes.proofs.Along.{same-there}
 use Rattle.hep_causes.proofs.Kept.{kept-then}
 
@@ -191,6 +191,15 @@ module _ (core : CoreValue) (entries : List Entry) (h : IsReplayed core entries)
 
   -- ---- reasons
 
+  some-wanted : (o : Option Wanted) (at : Location) → option_map (λ (x : Wanted). x.at) o ≡ Some at → IsSome o
+  some-wanted None at e = absurd (none-some at e)
+  some-wanted (Some w) at e = refl
+
+  pub all-waiting : (ws : List Watch) → AreFound core entries ws → AreWaiting core ws
+  all-waiting ws found i w e =
+      let f = found i w e in
+      subst (λ (t : State). IsSome (wanted_by core.program w.listed.process t)) (sym (state-is core.program core.history)) (some-wanted _ f.0 f.1)
+
   same-lists : (xs ys : List Listed) → ((i : ℕ) → slice_get xs i ≡ slice_get ys i) → xs ≡ ys
   same-lists [] [] same = refl
   same-lists [] (y ∷ ys) same = absurd (none-some y (same 0))
@@ -212,43 +221,43 @@ module _ (core : CoreValue) (entries : List Entry) (h : IsReplayed core entries)
 
   -- the reason of one that is listed
   one-reason : (p : ℕ) (l : Listed) (w : Watch) → listed_after core.program entries p ≡ Some l → w.listed ≡ l → HasReason w
-      → reason_of core.program entries p ≡ reason_with s w.listed w.latest ∷ []
+      → reason_of core.program entries p ≡ reason_with core.program s w.listed w.latest ∷ []
   one-reason p l w there same has =
       let number : w.listed.process ≡ p = ap (λ (x : Listed). x.process) same ∙ number-listed core.program entries p l there in
       by (wanted_by core.program p s) refl (ap (λ q. option_map (λ (x : Wanted). x.at) (wanted_by core.program q s)) (sym number) ∙ has.1)
     where
-      by : (o : Option Wanted) → wanted_by core.program p s ≡ o → option_map (λ (x : Wanted). x.at) o ≡ Some has.0 → reason_of core.program entries p ≡ reason_with s w.listed w.latest ∷ []
+      by : (o : Option Wanted) → wanted_by core.program p s ≡ o → option_map (λ (x : Wanted). x.at) o ≡ Some has.0 → reason_of core.program entries p ≡ reason_with core.program s w.listed w.latest ∷ []
       by None e f = absurd (none-some has.0 f)
       by (Some x) e f =
           let at : x.at ≡ has.0 = same_Some x.at has.0 f in
           (λ i. reason_by core.program entries (there i) (e i))
-          ∙ (λ i. reason_with s (sym same i) ((ap (latest_change core.program entries) at ∙ sym has.2) i) ∷ [])
+          ∙ (λ i. reason_with core.program s (sym same i) ((ap (latest_change core.program entries) at ∙ sym has.2) i) ∷ [])
 
   all-reasons : (p n : ℕ) (ws : List Watch) → listed ws ≡ listed_from core.program entries p n → ((i : ℕ) (w : Watch) → slice_get ws i ≡ Some w → HasReason w)
-      → reasons_for s ws ≡ reasons_from core.program entries p n
+      → reasons_for core.program s ws ≡ reasons_from core.program entries p n
   all-reasons p zero [] same has = refl
   all-reasons p zero (w ∷ ws) same has = absurd (omega (arith, ap length same))
   all-reasons p (suc n) ws same has = by (listed_after core.program entries p) refl same (λ vs. all-reasons (suc p) n vs)
     where
       by : (o : Option Listed) → listed_after core.program entries p ≡ o → listed ws ≡ option_to_list o ++ listed_from core.program entries (suc p) n
-          → ((vs : List Watch) → listed vs ≡ listed_from core.program entries (suc p) n → ((i : ℕ) (w : Watch) → slice_get vs i ≡ Some w → HasReason w) → reasons_for s vs ≡ reasons_from core.program entries (suc p) n)
-          → reasons_for s ws ≡ reason_of core.program entries p ++ reasons_from core.program entries (suc p) n
+          → ((vs : List Watch) → listed vs ≡ listed_from core.program entries (suc p) n → ((i : ℕ) (w : Watch) → slice_get vs i ≡ Some w → HasReason w) → reasons_for core.program s vs ≡ reasons_from core.program entries (suc p) n)
+          → reasons_for core.program s ws ≡ reason_of core.program entries p ++ reasons_from core.program entries (suc p) n
       by None e f further = further ws f has ∙ (λ i. reason_by core.program entries (sym e i) (wanted_by core.program p s) ++ reasons_from core.program entries (suc p) n)
       by (Some l) e f further = cut ws f has
         where
           cut : (vs : List Watch) → listed vs ≡ l ∷ listed_from core.program entries (suc p) n → ((i : ℕ) (w : Watch) → slice_get vs i ≡ Some w → HasReason w)
-              → reasons_for s vs ≡ reason_of core.program entries p ++ reasons_from core.program entries (suc p) n
+              → reasons_for core.program s vs ≡ reason_of core.program entries p ++ reasons_from core.program entries (suc p) n
           cut [] g has = absurd (omega (arith, ap length g))
           cut (w ∷ vs) g has =
               let first : w.listed ≡ l = same_Some w.listed l (ap (λ (xs : List Listed). slice_get xs 0) g) in
               let rest : listed vs ≡ listed_from core.program entries (suc p) n = same-lists (listed vs) _ (λ i. ap (λ (xs : List Listed). slice_get xs (suc i)) g) in
-              (λ i. reason_with s w.listed w.latest ∷ further vs rest (λ j u k. has (suc j) u k) i)
+              (λ i. reason_with core.program s w.listed w.latest ∷ further vs rest (λ j u k. has (suc j) u k) i)
               ∙ (λ i. sym (one-reason p l w e first (has 0 w refl)) i ++ reasons_from core.program entries (suc p) n)
 
   pub reasons-are : (old ws : List Watch) → listed old ≡ listed_from core.program core.history 1 (length (state_of core).processes) → WaitTheSame old ws → AreFound core entries ws
-      → reasons_for (state_of core) ws ≡ reasons_of core.program entries
+      → reasons_for core.program (state_of core) ws ≡ reasons_of core.program entries
   reasons-are old ws found same are =
-      ap (λ (t : State). reasons_for t ws) state-is-so
+      ap (λ (t : State). reasons_for core.program t ws) state-is-so
       ∙ all-reasons 1 (length s.processes) ws listed-so has
     where
       listed-so : listed ws ≡ listed_from core.program entries 1 (length s.processes)

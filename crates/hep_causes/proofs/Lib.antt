@@ -9,3 +9,4 @@ mod Moved
 pub mod Turning
 mod Remade
 mod Begun
+mod Naming

@@ -157,5 +157,9 @@ AreFound core entries ws =
     (i : ℕ) (w : Watch) → slice_get ws i ≡ Some w
     → (at : Location) × (location_of core.program (schedule_of core.history) w.listed.process ≡ Some at) × (w.latest ≡ latest_change core.program entries at)
 
-abbrev pub reasons_for : State → List Watch → List Reason
-reasons_for s ws = map (λ (w : Watch). reason_with s w.listed w.latest) ws
+-- each of their processes waits after a core's history
+abbrev pub AreWaiting : CoreValue → List Watch → Type 0
+AreWaiting core ws = (i : ℕ) (w : Watch) → slice_get ws i ≡ Some w → IsSome (wanted_by core.program w.listed.process (state_of core))
+
+abbrev pub reasons_for : Units → State → List Watch → List Reason
+reasons_for program s ws = map (λ (w : Watch). reason_with program s w.listed w.latest) ws

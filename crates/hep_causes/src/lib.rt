@@ -2,6 +2,7 @@
 #![tactic(auto)]
 
 mod again;
+mod calling;
 mod looking;
 pub mod making;
 pub mod reading;

@@ -1,13 +1,15 @@
 //! Why processes wait after a history.
-ghost use Rattle.std.specs.Prelude.{◌≡◌, [], IfOk, OnOk};
+ghost use Rattle.std.specs.Prelude.{◌≡◌, [], IfOk, IsSome, OnOk};
 ghost use Rattle.hep_core.specs.Value.{state_of};
 ghost use Rattle.hep_history.specs.First.{first_of};
 ghost use Rattle.hep_history.specs.Replays.{standing};
-ghost use Rattle.hep_machine.specs.Words.{schedule_of};
+ghost use Rattle.hep_machine.specs.Words.{schedule_of, wanted_by};
 ghost use Rattle.hep_reasons.specs.Reasons as words;
-ghost use Rattle.hep_causes.specs.Watches.{AreFound, AreNewWatches, IsReplayed, WaitTheSame, reasons_for as all_reasons};
+ghost use Rattle.hep_sites.specs.Variables.{AreVariablesOf};
+ghost use Rattle.hep_causes.specs.Watches.{AreFound, AreNewWatches, AreWaiting, IsReplayed, WaitTheSame, reasons_for as all_reasons};
 
 use crate::again::Again;
+use crate::calling::called;
 use crate::looking::{all_watches, look};
 use crate::making::make_entries;
 use crate::watch::Watch;
@@ -16,6 +18,7 @@ use hep_going::{Tabled, tables_of};
 use hep_history::replays::MOST_ENTRIES;
 use hep_history::{First, History};
 use hep_reasons::{Reason, append_reasons};
+use hep_sites::Variables;
 use hep_states::append_head;
 use std::alloc::{AllocError, Global};
 
@@ -65,26 +68,39 @@ fn find_changes(
 }
 
 // Why the process of a watch waits.
-fn reason_for(core: &Core, watch: &Watch) -> Reason
-    ensures { result ≡ words.reason_with (state_of core.now.core) watch.now.listed watch.now.latest }
+fn reason_for(
+    alloc: Global,
+    core: &Core,
+    variables: &Variables,
+    watch: &Watch,
+) -> Result<Reason, AllocError>
+    requires variables { AreVariablesOf core.now.core.program variables.now }
+    requires waits { IsSome (wanted_by core.now.core.program watch.now.listed.process (state_of core.now.core)) }
+    ensures { IfOk result (λ reason. reason
+        ≡ words.reason_with core.now.core.program (state_of core.now.core) watch.now.listed watch.now.latest) }
 {
     let lives = match watch.latest {
         Some(change) => core.lives(change.place.process),
         None => false,
     };
-    Reason {
+    let called = called(alloc, core, variables, watch.listed.process)?;
+    Ok(Reason {
         listed: watch.listed,
+        called,
         latest: watch.latest,
         lives,
-    }
+    })
 }
 
 fn reasons_for(alloc: Global, core: &Core, watches: &[Watch]) -> Result<Vec<Reason>, AllocError>
-    ensures { IfOk result (λ reasons. reasons.items ≡ all_reasons (state_of core.now.core) watches.now) }
+    requires { AreWaiting core.now.core watches.now }
+    ensures { IfOk result (λ reasons. reasons.items ≡ all_reasons core.now.core.program (state_of core.now.core) watches.now) }
 {
+    let variables = Variables::of_image(alloc, core.image())?;
     let mut reasons = Vec::new(alloc);
     for watch in watches {
-        reasons.push(reason_for(core, watch))?;
+        let reason = reason_for(alloc, core, &variables, watch)?;
+        reasons.push(reason)?;
     }
     Ok(reasons)
 }

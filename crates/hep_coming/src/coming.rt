@@ -1,5 +1,5 @@
 //! What comes next of a process.
-ghost use Rattle.std.specs.Prelude.{◌≡◌, ◌+◌, ◌≤◌, ◌∷◌, ℕ, List, IfOk, false, length, vec_capacity};
+ghost use Rattle.std.specs.Prelude.{◌≡◌, ◌+◌, ◌≤◌, ◌∷◌, ℕ, List, IfOk, length, vec_capacity};
 ghost use Rattle.hep_code.specs.declared.instruction.Instruction.TheVariants.{Step};
 ghost use Rattle.hep_state.specs.Words.{HasLevels, IsMachineAfter, snapshot_of};
 ghost use Rattle.hep_coming.specs.Coming.{HasStep, IsComingOf};
@@ -50,7 +50,7 @@ fn copied(alloc: Global, operands: &[Value], more: u32) -> Result<Vec<Value>, Al
     Ok(copy)
 }
 
-/// What comes next of process p, which lives, by what a core keeps.
+/// What comes next of process p, which lives, by what a core keeps, whether the processes were stopped or not.
 ///
 /// # Errors
 ///
@@ -62,7 +62,6 @@ pub fn coming_of<'a>(
     p: u64,
 ) -> Result<Coming<'a>, AllocError>
     requires levels { HasLevels (snapshot_of machine.now) p }
-    requires running { machine.now.halted ≡ false }
     requires after { (cells : ℕ) × (choices : List ℕ) × IsMachineAfter image.now cells choices machine.now }
     ensures { IfOk result (IsComingOf image.now machine.now p) }
 {

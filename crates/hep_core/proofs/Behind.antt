@@ -15,7 +15,7 @@ use Rattle.hep_step.specs.Simulation.{unit_code}
 use Rattle.hep_proc.specs.declared.process.Local.{Local}
 use Rattle.hep_proc.specs.Stacks.{stack_with}
 use Rattle.hep_purging.specs.Purged.{have_cell}
-use Rattle.hep_segments.specs.Segments.{IsMadeFrom, SegmentValue, Start}
+use Rattle.hep_taking.specs.Segments.{IsMadeFrom, SegmentValue, Start}
 use Rattle.hep_state.specs.declared.machine.Machine.{Machine}
 use Rattle.hep_state.specs.declared.turn.Turned.{Turned}
 use Rattle.hep_state.specs.declared.turn.Turned.TheVariants.{Stepped, Purged, Waits}

@@ -14,8 +14,8 @@ use Rattle.hep_taking.specs.Beside.{IsBeside, values_beside}
 use Rattle.hep_taking.specs.Gone.{own_of}
 use Rattle.hep_proc.specs.Stacks.{Stack, stack_with}
 use Rattle.hep_proc.specs.declared.process.Local.{Local}
-use Rattle.hep_segments.specs.declared.ticket.TicketId.{TicketId}
-use Rattle.hep_segments.specs.Segments.{IsComputed, IsKept, IsMadeFrom, IsMadeOf, SegmentValue, Start, TicketValue}
+use Rattle.hep_taking.specs.TicketId.{TicketId}
+use Rattle.hep_taking.specs.Segments.{IsComputed, IsKept, IsMadeFrom, IsMadeOf, SegmentValue, Start, TicketValue}
 use Rattle.hep_taking.specs.Levels.{ticket_of}
 use Rattle.hep_taking.specs.OwnCells.{own_cells_of}
 use Rattle.hep_step.specs.Simulation.{unit_code}

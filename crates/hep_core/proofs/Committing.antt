@@ -12,7 +12,7 @@ use Rattle.hep_private.specs.declared.record.Record.{Record}
 use Rattle.hep_private.specs.Recorded.{next_made, recorded}
 use Rattle.hep_taking.specs.Gone.{HaveGone, contents_with, own_of}
 use Rattle.hep_proc.specs.Stacks.{stack_with}
-use Rattle.hep_segments.specs.Segments.{IsKept, IsMadeFrom, IsMadeOf, SegmentValue, Start, is_next_private}
+use Rattle.hep_taking.specs.Segments.{IsKept, IsMadeFrom, IsMadeOf, SegmentValue, Start, is_next_private}
 use Rattle.hep_step.specs.Simulation.{unit_code}
 use Rattle.hep_state.specs.declared.machine.Machine.{Machine}
 use Rattle.hep_state.specs.Words.{HasLevels, HasSettledTop, IsAfter, IsItsTurn, IsMachineAfter, IsSameButTop, IsTopRunning, IsTurning, LeavesOthers, Snapshot, TurnOf, snapshot_of}

@@ -7,8 +7,8 @@ use Rattle.hep_machine.specs.Words.{is_waiting, progress_after, run, schedule_of
 use Rattle.hep_blocked.specs.Rolls.{KeepsRoll, Roll}
 use Rattle.hep_code.specs.Words.{deepest}
 use Rattle.hep_entries.specs.Entries.{Kept}
-use Rattle.hep_segments.specs.declared.ticket.TicketId.{TicketId}
-use Rattle.hep_segments.specs.Segments.{SegmentValue}
+use Rattle.hep_taking.specs.TicketId.{TicketId}
+use Rattle.hep_taking.specs.Segments.{SegmentValue}
 use Rattle.hep_step.specs.Simulation.{unit_code}
 use Rattle.hep_state.specs.declared.machine.Machine.{Machine}
 use Rattle.hep_state.specs.declared.turn.Turned.{Turned}

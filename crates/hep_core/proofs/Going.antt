@@ -21,7 +21,7 @@ use Rattle.hep_core.specs.Tickets.{is_out}
 use Rattle.hep_core.specs.Value.{CoreValue, HasNoStop, IsChoice, IsStop, free_of, next_ready_of, ready_of, stop_after}
 use Rattle.hep_core.specs.declared.stop.ChoiceStop.TheVariants.{Halted}
 use Rattle.hep_core.specs.declared.scheduler.Core.TheInside.{Inside}
-use Rattle.hep_segments.specs.declared.ticket.TicketId.{TicketId}
+use Rattle.hep_taking.specs.TicketId.{TicketId}
 use Rattle.hep_core.proofs.Histories.{legal-stepped, state-is}
 use Rattle.hep_core.proofs.Outs.{all_free}
 use Rattle.hep_core.proofs.Kept.{AreSeen, halted-is, listed-next, living-next, next, few-next, schedule-next, state-next, steps-on, view-is}

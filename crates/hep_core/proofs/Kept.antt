@@ -14,7 +14,7 @@ use Rattle.hep_core.specs.Invariant.{AreFew, AreLiving, CoreInvariant}
 use Rattle.hep_core.specs.Value.{IsStop, CoreValue, IsChoice}
 use Rattle.hep_core.specs.declared.scheduler.Core.TheInside.{Inside}
 use Rattle.hep_core.specs.declared.stop.ChoiceStop.{ChoiceStop}
-use Rattle.hep_segments.specs.declared.ticket.TicketId.{TicketId}
+use Rattle.hep_taking.specs.TicketId.{TicketId}
 use Rattle.hep_core.specs.Tickets.{is_out}
 use Rattle.hep_core.proofs.Staying.{living-stepped, living-waited}
 use Rattle.hep_core.proofs.Histories.{legal-stepped, legal-waited, progress-last, progress-stepped, schedule-stepped, schedule-waited, state-is, state-stepped, turned}

@@ -11,7 +11,7 @@ use Rattle.hep_blocked.proofs.Keeping.{listed-alike}
 use Rattle.hep_entries.specs.Entries.{Kept}
 use Rattle.hep_taking.specs.Going.{HasGone}
 use Rattle.hep_taking.proofs.Runs.{steps-are}
-use Rattle.hep_segments.specs.declared.ticket.TicketId.{TicketId}
+use Rattle.hep_taking.specs.TicketId.{TicketId}
 use Rattle.hep_state.specs.declared.machine.Machine.{Machine}
 use Rattle.hep_state.specs.Words.{IsAfter, IsMachineAfter, Snapshot, snapshot_of}
 use Rattle.hep_state.proofs.Numbered.{length-stacks}

@@ -6,7 +6,7 @@ use Rattle.hep_code.specs.declared.instruction.Instruction.{Instruction}
 use Rattle.hep_code.specs.declared.instruction.Instruction.TheVariants.{Push}
 use Rattle.hep_code.specs.Words.{IsPastPushes, left_to_do}
 use Rattle.hep_proc.specs.Stacks.{Stack, stack_with}
-use Rattle.hep_segments.specs.Segments.{Start}
+use Rattle.hep_taking.specs.Segments.{Start}
 use Rattle.hep_step.specs.Effects.{effect_ahead}
 use Rattle.hep_step.specs.Simulation.{unit_arrays, unit_code}
 use Rattle.hep_state.specs.declared.machine.Machine.{Machine}

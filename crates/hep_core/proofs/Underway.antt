@@ -1,13 +1,13 @@
 -- A commit of a segment on its way: from the core as it was to the machine in which constants ahead are operands, and nothing else has changed.
-use Rattle.std.proofs.Common.{◌≡◌, ◌≢◌, ◌≤◌, ◌⊎◌, ℕ, suc, Bool, true, false, List, [], ◌∷◌, ◌++◌, length, Result, Ok, Err, Option, Some, None, Global, refl, sym, ap, ◌∙◌, subst, arith}
+use Rattle.std.proofs.Common.{◌≡◌, ◌≢◌, ◌<◌, ◌≤◌, ◌⊎◌, ℕ, suc, Bool, true, false, List, [], ◌∷◌, ◌++◌, length, Result, Ok, Err, Option, Some, None, Global, refl, sym, ap, ◌∙◌, subst, arith}
 use Rattle.std.specs.declared.vec.Vec.{Vec}
 use Rattle.std.specs.Result.{IsErrAnd}
 use Rattle.std.proofs.lemmas.Result.{err_from_is_err_and}
 use Rattle.hep_machine.specs.Words.{Units, living, schedule_of}
 use Rattle.hep_code.specs.Words.{deepest}
 use Rattle.hep_entries.specs.Entries.{Kept}
-use Rattle.hep_segments.specs.declared.ticket.TicketId.{TicketId}
-use Rattle.hep_segments.specs.Segments.{IsMadeBy, IsMadeFrom, SegmentValue}
+use Rattle.hep_taking.specs.TicketId.{TicketId}
+use Rattle.hep_taking.specs.Segments.{IsMadeFrom, SegmentValue}
 use Rattle.hep_step.specs.Simulation.{unit_code}
 use Rattle.hep_state.specs.declared.machine.Machine.{Machine}
 use Rattle.hep_state.specs.Words.{HasLevels, HasSettledTop, IsItsTurn, IsMachineAfter, KeepsState, snapshot_of}
@@ -15,6 +15,8 @@ use Rattle.hep_taking.specs.Levels.{start_in}
 use Rattle.hep_taking.specs.OwnCells.{AreOwnCells, own_cells_of}
 use Rattle.hep_taking.specs.declared.own_cells.Owned.{Owned}
 use Rattle.hep_taking.specs.Saved.{SavedValue, saved_of}
+use Rattle.hep_taking.specs.Offers.{IsKnownOffer, offered}
+use Rattle.hep_taking.specs.declared.offer.Offer.{Offer}
 use Rattle.hep_taking.specs.Taking.{CanRestore, IsMadeIn, IsSavedOf}
 use Rattle.hep_taking.proofs.Standing.{its-levels}
 use Rattle.hep_views.specs.Seen.{machine_view}
@@ -49,12 +51,25 @@ module _ (i : Inside) (k : CoreInvariant i) (old : Placed) (view : placed_value 
     settled-by p own m after top made =
         settled-in i k going-in q levels-in m (after i.cells (schedule_of i.history.items) k.after) (subst (λ n. HasSettledTop i.image n (snapshot_of i.machine) (snapshot_of m)) own top) made
 
-pub out-in : (i : Inside) (old : Placed) (s : SegmentValue) → placed_value i ≡ old → IsOutBy old.core s → IsOutBy (core_value i) s
-out-in i old s view out = subst (λ (v : Placed). IsOutBy v.core s) (sym view) out
+-- what is offered is the same by the image
+module _ (i : Inside) (old : Placed) (view : placed_value i ≡ old) (offer : Offer) where
+  pub offered-in : offered i.image offer ≡ offered old.core.program offer
+  offered-in = ap (λ (v : Placed). offered v.core.program offer) view
 
--- what is known of a segment is so of the image
-pub known-in : (i : Inside) (old : Placed) (s : SegmentValue) → placed_value i ≡ old → (known : Bool) → (known ≡ true → IsMadeBy old.core.program s) → known ≡ true → IsMadeBy i.image s
-known-in i old s view known made is = subst (λ (v : Placed). IsMadeBy v.core.program s) (sym view) (made is)
+  pub known-in : IsKnownOffer old.core.program offer → IsKnownOffer i.image offer
+  known-in is = subst (λ (v : Placed). IsKnownOffer v.core.program offer) (sym view) is
+
+  pub made-offered : (b : Bool) (m : Machine) → IsMadeIn b i.image m (offered i.image offer) → IsMadeIn b i.image m (offered old.core.program offer)
+  made-offered b m is = subst (λ (s : SegmentValue). IsMadeIn b i.image m s) offered-in is
+
+  pub out-offered : IsOutBy old.core (offered old.core.program offer) → IsOutBy (core_value i) (offered i.image offer)
+  out-offered out = subst (λ (v : Placed). IsOutBy v.core (offered v.core.program offer)) (sym view) out
+
+  pub lives-offered : living (state_of old.core) (offered old.core.program offer).id.process ≢ None → living (state_of old.core) (offered i.image offer).id.process ≢ None
+  lives-offered lives = subst (λ (s : SegmentValue). living (state_of old.core) s.id.process ≢ None) (sym offered-in) lives
+
+  pub some-offered : 0 < length (offered old.core.program offer).records → 0 < length (offered i.image offer).records
+  some-offered some = subst (λ (s : SegmentValue). 0 < length s.records) (sym offered-in) some
 
 -- ---- a segment whose steps come next
 

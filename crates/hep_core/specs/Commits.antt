@@ -7,8 +7,8 @@ use Rattle.hep_step.specs.Simulation.{unit_code}
 use Rattle.hep_private.specs.declared.record.Record.{Record}
 use Rattle.hep_private.specs.Own.{Values, begun}
 use Rattle.hep_private.specs.Recorded.{recorded}
-use Rattle.hep_segments.specs.declared.ticket.TicketId.{TicketId}
-use Rattle.hep_segments.specs.Segments.{IsComputed, IsKept, IsMadeOf, SegmentValue, Start, TicketValue}
+use Rattle.hep_taking.specs.TicketId.{TicketId}
+use Rattle.hep_taking.specs.Segments.{IsComputed, IsKept, IsMadeOf, SegmentValue, Start, TicketValue}
 use Rattle.hep_state.specs.Words.{HasNoGap}
 use Rattle.hep_taking.specs.Levels.{ticket_of}
 use Rattle.hep_taking.specs.OwnCells.{own_cells_of}

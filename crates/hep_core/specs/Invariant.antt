@@ -13,7 +13,7 @@ use Rattle.hep_core.specs.Tickets.{is_out}
 use Rattle.hep_core.specs.Value.{CoreValue, IsStop}
 use Rattle.hep_core.specs.Waking.{HasRoomLeft}
 use Rattle.hep_core.specs.declared.scheduler.Core.TheInside.{Inside}
-use Rattle.hep_segments.specs.declared.ticket.TicketId.{TicketId}
+use Rattle.hep_taking.specs.TicketId.{TicketId}
 
 abbrev pub core_value : Inside → CoreValue
 core_value c =

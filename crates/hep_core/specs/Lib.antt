@@ -6,6 +6,7 @@ pub mod Tickets
 pub mod Value
 pub mod Places
 pub mod Going
+pub use Rattle.hep_taking.specs.Offers
 pub mod Commits
 pub mod Waking
 pub mod Invariant

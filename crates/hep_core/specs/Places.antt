@@ -9,7 +9,7 @@ use Rattle.hep_step.specs.Simulation.{unit_code}
 use Rattle.hep_private.specs.Own.{values_at}
 use Rattle.hep_proc.specs.declared.process.Local.{Local}
 use Rattle.hep_proc.specs.Stacks.{Stack}
-use Rattle.hep_segments.specs.Segments.{Start}
+use Rattle.hep_taking.specs.Segments.{Start}
 use Rattle.hep_state.specs.Words.{Snapshot, frame_under}
 use Rattle.hep_core.specs.Value.{CoreValue}
 

@@ -17,7 +17,7 @@ use Rattle.hep_core.specs.declared.fault.ChooseFault.{ChooseFault}
 use Rattle.hep_core.specs.declared.fault.ChooseFault.TheVariants as refused
 use Rattle.hep_core.specs.declared.fault.NewFault.{NewFault}
 use Rattle.hep_core.specs.declared.fault.NewFault.TheVariants as unmade
-use Rattle.hep_segments.specs.declared.ticket.TicketId.{TicketId}
+use Rattle.hep_taking.specs.TicketId.{TicketId}
 use Rattle.hep_core.specs.Tickets.{is_out}
 
 -- the program, the cells of the arena, the longest history, the history, the stop, what is seen of the state, the tickets that are out, and

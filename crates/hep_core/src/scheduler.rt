@@ -14,7 +14,7 @@ ghost use Rattle.hep_core.specs.Invariant.{AreLiving};
 ghost use Rattle.hep_core.specs.Places.{places_of, with_core};
 ghost use Rattle.hep_core.specs.declared.stop.Verdict.TheVariants.{Waiting};
 ghost use Rattle.hep_core.specs.Tickets.{has_ticket, is_out};
-ghost use Rattle.hep_segments.specs.Segments.{IsMadeBy};
+ghost use Rattle.hep_taking.specs.Offers.{IsKnownOffer, offered};
 ghost use Rattle.hep_core.specs.Going.{AreChoices, AreMoves, AreRounds, AreTurns, CanMove, IsAtRest, IsTurnOnce, entries_along};
 ghost use Rattle.hep_core.specs.Value.{IsIdle, common_cell, free_of, next_listed_of, verdict_of, next_ready_of, ready_of};
 
@@ -32,15 +32,13 @@ use hep_entries::History;
 use hep_image::Image;
 use hep_layout::laws::layouts_have_what_is_held;
 use hep_machine::{Entry, Fault, Record, Slot};
-use hep_segments::laws::segments_depend_on_reads;
-use hep_segments::{Segment, Ticket, TicketId};
 use hep_state::laws::tops_are_running;
 use hep_state::{Machine, TurnFault, Turned, fits};
 use hep_taking::laws::{restored_machines_are_as_before, tickets_have_what_is_read};
 use hep_taking::{
-    OwnCells, Owned, Saved, Table, Tabled, comes_next, go_on, is_next_private,
-    others_leave_what_is_read, own_cells_of, private_steps_are_turns, rests, start, tables_of,
-    take_private,
+    Offer, OwnCells, Owned, Saved, Segment, Table, Tabled, Ticket, TicketId, comes_next, go_on,
+    is_next_private, others_leave_what_is_read, own_cells_of, private_steps_are_turns, rests,
+    segments_depend_on_reads, start, tables_of, take_private,
 };
 use hep_tickets::come_back;
 use hep_views::finding::{listed, whereabouts};
@@ -529,54 +527,49 @@ impl Core {
         ensures committed { IsCommitted self.old segment.now result self.new }
         ensures kept { AreGoodStill self.old self.new }
     {
-        self.commit_by(segment, false)
+        self.commit_offer(&Offer::Recorded {
+            segment,
+            known: false,
+        })
     }
 
-    /// The same of a segment that is known to be made by the program of the core. So its steps aren't made again to see whether they are: it is looked
-    /// only whether the segment begins where its process is, and has read what is there.
+    /// The same of what a worker offers: a segment that may be known to be made by the program of the core, or a stretch that was made by it. Where that is
+    /// known, the steps aren't made again to see whether they are: it is looked only whether they begin where the process is, and have read what
+    /// is there.
     ///
     /// # Errors
     ///
     /// Those of `commit`, in the same order.
-    pub fn commit_known(&mut self, segment: &Segment) -> Result<Turn, CommitFault>
-        requires { IsMadeBy self.old.core.program segment.now }
-        ensures committed { IsCommitted self.old segment.now result self.new }
-        ensures kept { AreGoodStill self.old self.new }
-    {
-        self.commit_by(segment, true)
-    }
-
-    // The turn of a segment, which may be known to be made by the program of the core.
-    fn commit_by(&mut self, segment: &Segment, known: bool) -> Result<Turn, CommitFault>
-        requires { known ≡ true → IsMadeBy self.old.core.program segment.now }
-        ensures committed { IsCommitted self.old segment.now result self.new }
+    pub fn commit_offer(&mut self, offer: &Offer<'_>) -> Result<Turn, CommitFault>
+        requires { IsKnownOffer self.old.core.program offer.now }
+        ensures committed { IsCommitted self.old (offered self.old.core.program offer.now) result self.new }
         ensures kept { AreGoodStill self.old self.new }
     {
         if let Some(stop) = self.stop() {
             return Err(CommitFault::Stopped(stop));
         }
-        if !self.has_ticket(segment.ticket()) {
+        if !self.has_ticket(offer.ticket()) {
             return Err(CommitFault::Stale);
         }
-        if segment.records().is_empty() {
-            return self.commit_alone(segment, known);
+        if offer.steps() == 0 {
+            return self.commit_alone(offer);
         }
-        self.commit_behind(segment, known)
+        self.commit_behind(offer)
     }
 
     // The commit of a segment without steps, whose ticket is the one that is out for its process: a choice of that.
-    fn commit_alone(&mut self, segment: &Segment, known: bool) -> Result<Turn, CommitFault>
-        requires out { IsOutBy self.old.core segment.now }
-        requires known { known ≡ true → IsMadeBy self.old.core.program segment.now }
-        requires none { segment.now.records ≡ [] }
-        ensures committed { IsCommitted self.old segment.now result self.new }
-        ensures others { OnOk result (LeavesNext segment.now.id.process self.old self.new) }
+    fn commit_alone(&mut self, offer: &Offer<'_>) -> Result<Turn, CommitFault>
+        requires out { IsOutBy self.old.core (offered self.old.core.program offer.now) }
+        requires known { IsKnownOffer self.old.core.program offer.now }
+        requires none { (offered self.old.core.program offer.now).records ≡ [] }
+        ensures committed { IsCommitted self.old (offered self.old.core.program offer.now) result self.new }
+        ensures others { OnOk result (LeavesNext (offered self.old.core.program offer.now).id.process self.old self.new) }
     {
-        if !self.is_next(segment, known) {
+        if !self.is_next(offer) {
             return Err(CommitFault::Stale);
         }
         // The turn may end the process, and each one that is out lives.
-        let process = segment.ticket().process;
+        let process = offer.ticket().process;
         let mut out = self.put_aside();
         match self.turn(process) {
             Ok(turn) => {
@@ -597,30 +590,34 @@ impl Core {
     }
 
     // The steps of a segment are the private ones that come next of its process, which lives, by the image.
-    fn is_next(&mut self, segment: &Segment, known: bool) -> bool
+    fn is_next(&mut self, offer: &Offer<'_>) -> bool
         requires going { HasNoStop self.old.core }
-        requires lives { living (state_of self.old.core) segment.now.id.process ≢ None }
-        requires known { known ≡ true → IsMadeBy self.old.core.program segment.now }
-        ensures next { IsWhetherNext result self.old segment.now }
+        requires lives { living (state_of self.old.core) (offered self.old.core.program offer.now).id.process ≢ None }
+        requires known { IsKnownOffer self.old.core.program offer.now }
+        ensures next { IsWhetherNext result self.old (offered self.old.core.program offer.now) }
         ensures same { self.new ≡ self.old }
     {
         self.image.is_runnable();
         views_are_of_states();
         segments_depend_on_reads();
         tops_are_running();
-        self.machine.settle(&self.image, segment.ticket().process);
-        comes_next(&mut self.machine, &self.image, segment, known)
+        self.machine.settle(&self.image, offer.ticket().process);
+        let owned = Owned {
+            image: &self.image,
+            tables: &self.own,
+        };
+        comes_next(&mut self.machine, &owned, offer)
     }
 
     // The commit of a segment with steps, whose ticket is the one that is out for its process: these steps, and one turn more.
     //
     // What may be refused behind the steps is refused before anything else has changed, or the process gets back what it had for itself.
-    fn commit_behind(&mut self, segment: &Segment, known: bool) -> Result<Turn, CommitFault>
-        requires out { IsOutBy self.old.core segment.now }
-        requires known { known ≡ true → IsMadeBy self.old.core.program segment.now }
-        requires some { 0 < length segment.now.records }
-        ensures committed { IsCommitted self.old segment.now result self.new }
-        ensures others { OnOk result (LeavesNext segment.now.id.process self.old self.new) }
+    fn commit_behind(&mut self, offer: &Offer<'_>) -> Result<Turn, CommitFault>
+        requires out { IsOutBy self.old.core (offered self.old.core.program offer.now) }
+        requires known { IsKnownOffer self.old.core.program offer.now }
+        requires some { 0 < length (offered self.old.core.program offer.now).records }
+        ensures committed { IsCommitted self.old (offered self.old.core.program offer.now) result self.new }
+        ensures others { OnOk result (LeavesNext (offered self.old.core.program offer.now).id.process self.old self.new) }
     {
         self.image.is_runnable();
         views_are_of_states();
@@ -631,24 +628,24 @@ impl Core {
         private_steps_are_turns();
         others_leave_what_is_read();
         restored_machines_are_as_before();
-        let p = segment.ticket().process;
+        let p = offer.ticket().process;
         self.machine.settle(&self.image, p);
-        if !comes_next(&mut self.machine, &self.image, segment, known) {
+        let owned = Owned {
+            image: &self.image,
+            tables: &self.own,
+        };
+        if !comes_next(&mut self.machine, &owned, offer) {
             return Err(CommitFault::Stale);
         }
         if self.limit <= self.history.len() {
             self.stop = Some(ChoiceStop::StepLimit);
             return Err(CommitFault::Stopped(ChoiceStop::StepLimit));
         }
-        let owned = Owned {
-            image: &self.image,
-            tables: &self.own,
-        };
         self.saved.keep(&mut self.machine, &owned, p)?;
         self.history.reserve(1)?;
-        let steps = segment.records().len() as u32;
+        let steps = offer.steps();
         let made = self.machine.made;
-        take_private(&mut self.machine, &self.image, segment);
+        take_private(&mut self.machine, &owned, offer);
         note(&mut self.history, p, steps);
         if is_next_private(&mut self.machine, &self.image, p) {
             come_back(&mut self.out, p);

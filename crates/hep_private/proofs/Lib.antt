@@ -3,3 +3,4 @@ pub mod Along
 mod Dependence
 pub mod Cases
 mod Worked
+pub mod Changed

@@ -1,5 +1,5 @@
 -- Whether the step behind private ones is private, too.
-use Rattle.std.proofs.Common.{◌≡◌, ℕ, zero, suc, ◌+ℤ◌, Bool, true, false, ◌&&◌, nat_le, ◌-◌, List, [], ◌∷◌, ◌++◌, drop, length, Option, Some, None, is_some, refl, sym, ap, ◌∙◌, subst, option_and_then, if◌then◌else◌}
+use Rattle.std.proofs.Common.{◌≡◌, ℕ, zero, suc, ◌+ℤ◌, Bool, true, false, ◌&&◌, nat_le, ◌-◌, List, [], ◌∷◌, drop, length, Option, Some, None, is_some, refl, sym, ap, ◌∙◌, option_and_then, if◌then◌else◌}
 use Rattle.std.specs.Option.{option_map}
 use Rattle.std.proofs.lemmas.Option.{same_Some}
 use Rattle.hep_machine.specs.Words.{Value, integer_of, is_number_among}
@@ -11,10 +11,11 @@ use Rattle.hep_code.specs.declared.instruction.Operation.{Operation}
 use Rattle.hep_code.specs.declared.instruction.Operation.TheVariants.{Evaluate, Store, EnterLoop, EndLoop}
 use Rattle.hep_code.specs.declared.variable.Variable.{Variable}
 use Rattle.hep_code.specs.declared.variable.Variable.TheVariants.{Local}
-use Rattle.hep_code.specs.Words.{arity, most_operands}
+use Rattle.hep_code.specs.Words.{arity, first_operand, most_operands}
+use Rattle.hep_step.specs.Effects.{subscripts_in}
 use Rattle.hep_private.specs.declared.record.Record.{Record}
 use Rattle.hep_private.specs.Own.{Own, Values, begun, increment_in, settled}
-use Rattle.hep_private.specs.Recorded.{Made, has_room, if_room, made_ahead, made_by, made_of_end, made_of_end_by, made_of_end_of, made_of_entry_by, made_of_store, made_of_value, next_made, own_after, recorded, value_of}
+use Rattle.hep_private.specs.Recorded.{Made, has_room, if_room, made_ahead, made_by, made_of_end, made_of_end_by, made_of_end_of, made_of_entry_by, made_of_store, made_of_value, made_of_value_stored, next_made, own_after, recorded, value_of}
 use Rattle.hep_private.proofs.Along.{first-of}
 
 some-mapped : {A B : Type 0} (f : A → B) (o : Option A) → is_some (option_map f o) ≡ is_some o
@@ -53,8 +54,12 @@ module _ (cells : List ℕ) (code : List Instruction) where
     value-left e None = refl
     value-left e (Some v) = refl
 
+    stored-left : (c next : ℕ) (v : Value) (subscripts : List Value) → left_by (made_of_value_stored cells own c next v subscripts) ≡ left_by (made_of_value_stored cells other c next v subscripts)
+    stored-left c next v [] = refl
+    stored-left c next v (w ∷ ws) = refl
+
     store-left : (x : Variable) (next : ℕ) (vs : List Value) → left_by (made_of_store cells own x next vs) ≡ left_by (made_of_store cells other x next vs)
-    store-left (Local false c) next (v ∷ []) = refl
+    store-left (Local false c) next vs = stored-left c next (first_operand vs) (subscripts_in vs)
     store-left x next vs = refl
 
     entry-left : (o : Operation) (x : Variable) (d : ℕ) → left_by (made_of_entry_by cells own o x d) ≡ left_by (made_of_entry_by cells other o x d)

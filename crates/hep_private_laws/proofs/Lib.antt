@@ -7,10 +7,10 @@ mod Behind
 mod Turns
 mod Lists
 mod Stored
-mod Saved
+pub mod Saved
 mod Bare
 mod Kept
 mod Owned
-mod Ends
-mod WhatIsRead
+pub mod Ends
+pub mod WhatIsRead
 mod Beside

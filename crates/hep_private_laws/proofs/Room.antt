@@ -1,5 +1,5 @@
 -- The operands of a private step always have room, where the code of its unit asks for no more than there is.
-use Rattle.std.proofs.Common.{◌≡◌, ℕ, zero, suc, ◌+◌, ◌-◌, ◌≤◌, ◌&&◌, Bool, true, false, List, [], ◌∷◌, ◌++◌, take, length, length-append, nat_le, Option, Some, None, refl, ap, arith, if◌then◌else◌}
+use Rattle.std.proofs.Common.{◌≡◌, ℕ, zero, suc, ◌+◌, ◌-◌, ◌≤◌, ◌&&◌, Bool, true, false, List, [], ◌∷◌, take, length, length-append, nat_le, Option, Some, None, refl, ap, arith, if◌then◌else◌}
 use Rattle.std.proofs.lemmas.Bool.Decides.{nat_tests}
 use Rattle.std.proofs.lemmas.Option.{none-some}
 use Rattle.hep_machine.specs.Words.{Value}
@@ -38,7 +38,7 @@ module _ (space : Space) (arrays : List Array) (frame : Frame) (cells : List ℕ
   all-fit =
       record {
         values = λ e v value ready. omega (arith, value-few own e v, ready.1);
-        stores = λ c n next v among there ready. omega arith;
+        stores = λ c n next among there ready. omega arith;
         enters = λ c d inside behind n among count ready. omega arith;
         ends = λ c d inside behind v among value test ready. omega arith;
         jumps = λ next ready. omega arith;

@@ -1,9 +1,7 @@
 -- Private steps, one after the other, are plain turns.
-use Rattle.std.proofs.Common.{◌≡◌, ◌≢◌, ℕ, zero, suc, ◌+◌, ◌≤◌, true, List, [], ◌∷◌, ◌++◌, map, drop, length, Option, Some, None, refl, sym, ap, ◌∙◌, subst, arith, append_assoc, append-nil, slice_get, replicate}
-use Rattle.std.proofs.lemmas.Option.{none-some, same_Some}
-use Rattle.hep_machine.specs.Words.{Value, Units, AreSteps, State, opening, run, run_from, state_after_turn, step}
-use Rattle.hep_machine.specs.declared.slot.Slot.{Slot}
-use Rattle.hep_layout.proofs.HeldFrames.{run-last}
+use Rattle.std.proofs.Common.{◌≡◌, ◌≢◌, ℕ, zero, suc, ◌+◌, List, [], ◌∷◌, ◌++◌, map, drop, Some, refl, sym, ap, ◌∙◌, subst, arith, append_assoc, append-nil, slice_get, replicate}
+use Rattle.std.proofs.lemmas.Option.{same_Some}
+use Rattle.hep_machine.specs.Words.{Value, Units, AreSteps, State, opening, run, run_from, state_after_turn}
 use Rattle.hep_arena.specs.Holes.{Hole}
 use Rattle.hep_code.specs.declared.instruction.Instruction.{Instruction}
 use Rattle.hep_code.specs.declared.instruction.Instruction.TheVariants.{Push}
@@ -11,16 +9,17 @@ use Rattle.hep_code.specs.Words.{IsPastPushes, left_to_do, values_ahead}
 use Rattle.hep_image.specs.declared.array.Array.{Array}
 use Rattle.hep_step.specs.declared.frame.Frame.{Frame}
 use Rattle.hep_step.specs.Performed.{Snapshot, snapshot}
-use Rattle.hep_moves.specs.Moves.{CanGoOn, Goes, IsMove, IsSettledTo, settles, steps}
+use Rattle.hep_moves.specs.Moves.{CanGoOn, Goes, IsMove, settles, steps}
 use Rattle.hep_moves.proofs.Moved.{unchanged-ahead}
-use Rattle.hep_going.specs.Gone.{HasGone, IsPlainTurn, none, more}
+use Rattle.hep_going.specs.Gone.{HasGone, none, more}
 use Rattle.hep_private.specs.declared.record.Record.{Record}
 use Rattle.hep_private.specs.Own.{Own, contents_after, pushed_ahead, settled, values_after, values_at, written_after}
 use Rattle.hep_private.specs.Recorded.{Made, made_ahead, next_made, own_after, recorded}
+use Rattle.hep_private.proofs.Changed.{size-after, values-changed}
 use Rattle.hep_private.proofs.Along.{first-of, made-ahead}
 use Rattle.hep_private.proofs.Moves.{moved-ahead}
 use Rattle.hep_private_laws.specs.Gone.{contents_with}
-use Rattle.hep_private_laws.proofs.Inside.{inside-ahead, plain-ahead, size-after, values-changed}
+use Rattle.hep_private_laws.proofs.Inside.{inside-ahead, plain-ahead}
 
 -- ---- lists
 

@@ -11,14 +11,14 @@ use Rattle.hep_private.specs.declared.record.Record.TheVariants.{Goes, Gives, Re
 use Rattle.hep_private.specs.Own.{cells_of, contents_after, stores_of}
 use Rattle.hep_private_laws.specs.Gone.{contents_with}
 use Rattle.hep_private_laws.specs.Saved.{AreAmong, AreOf, put_back}
-use Rattle.hep_private_laws.proofs.Inside.{cells-set, next-test, size-after}
+use Rattle.hep_private.proofs.Changed.{cells-set, next-test, size-after}
 
 -- it is none of these cells of a frame
-abbrev IsOut : ℕ → List ℕ → ℕ → Type 0
+abbrev pub IsOut : ℕ → List ℕ → ℕ → Type 0
 IsOut first cells p = (c : ℕ) → is_number_among c cells ≡ true → nat_eq p (first + c) ≡ false
 
 -- the same but in these cells
-abbrev AreAlike : ℕ → List ℕ → List Slot → List Slot → Type 0
+abbrev pub AreAlike : ℕ → List ℕ → List Slot → List Slot → Type 0
 AreAlike first cells old new = (p : ℕ) → IsOut first cells p → cells_in new p ≡ cells_in old p
 
 cells-other : (xs : List Slot) (i p : ℕ) (slot : Slot) → nat_eq p i ≡ false → cells_in (slice_set xs i slot) p ≡ cells_in xs p
@@ -47,11 +47,11 @@ module _ (first : ℕ) (cells : List ℕ) where
   alike-after contents (Ends f g h c d at z count increment) among p out =
       loop-alike contents c d (Int z) (record { value = Some (Int (pos (natural count - 1))); full = false }) (record { value = Some (Int increment); full = false }) among p out
 
-  alike-with : (contents : List Slot) (records : List Record) → AreOf cells records → AreAlike first cells contents (contents_with first contents records)
+  pub alike-with : (contents : List Slot) (records : List Record) → AreOf cells records → AreAlike first cells contents (contents_with first contents records)
   alike-with contents [] of p out = refl
   alike-with contents (r ∷ rs) of p out = alike-with (contents_after first contents r) rs of.1 p out ∙ alike-after contents r of.0 p out
 
-size-with : (first : ℕ) (contents : List Slot) (records : List Record) → length (contents_with first contents records) ≡ length contents
+pub size-with : (first : ℕ) (contents : List Slot) (records : List Record) → length (contents_with first contents records) ≡ length contents
 size-with first contents [] = refl
 size-with first contents (r ∷ rs) = size-with first (contents_after first contents r) rs ∙ size-after first contents r
 
@@ -75,8 +75,9 @@ set-past [] i slot le = refl
 set-past (x ∷ xs) zero slot le = absurd (omega (arith, le))
 set-past (x ∷ xs) (suc i) slot le = ap (λ ys. x ∷ ys) (set-past xs i slot (omega (arith, le)))
 
+-- cells that are alike but in some get what stood in these
 module _ (first : ℕ) (old : List Slot) where
-  undone : (cells : List ℕ) (now : List Slot) → length now ≡ length old → AreAlike first cells old now → put_back first cells old now ≡ old
+  pub undone : (cells : List ℕ) (now : List Slot) → length now ≡ length old → AreAlike first cells old now → put_back first cells old now ≡ old
   undone [] now size alike = same-lists now old size (λ p. alike p (λ c among. absurd (grind (arith, among))))
   undone (c ∷ cs) now size alike =
       undone cs (slice_set now (first + c) (cells_in old (first + c))) (length-set now (first + c) _ ∙ size) (λ p out. by_place p out (nat_eq p (first + c)) refl) where

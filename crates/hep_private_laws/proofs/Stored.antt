@@ -35,7 +35,7 @@ module _ (cells all : List ℕ) (have : (c : ℕ) → is_number_among c cells �
   all-of own entries =
       record {
         values = λ e v value loops. value-of all own e v;
-        stores = λ c n next v among there loops. (have c among, tt);
+        stores = λ c n next among there loops. (have c among, tt);
         enters = λ c d inside behind n among count loops. (have c among, (loops.0, (loops.1, tt)));
         ends = λ c d inside behind v among value test loops. (have c among, (loops.0, (loops.1, tt)));
         jumps = λ next loops. tt;

@@ -1,5 +1,5 @@
 -- What private steps read is there still, where the cells of private scalars and those of DOs have the same.
-use Rattle.std.proofs.Common.{◌≡◌, ℕ, zero, suc, ℤ, pos, ◌+ℤ◌, ◌-◌, Bool, true, false, List, [], ◌∷◌, drop, length, Option, Some, None, refl, sym, ap, ◌∙◌, subst, if◌then◌else◌}
+use Rattle.std.proofs.Common.{◌≡◌, ℕ, zero, suc, pos, ◌+ℤ◌, ◌-◌, Bool, true, false, List, [], ◌∷◌, drop, length, Option, Some, None, refl, sym, ap, ◌∙◌, subst, if◌then◌else◌}
 use Rattle.std.specs.Option.{option_map}
 use Rattle.std.proofs.lemmas.Option.{none-some, same_Some}
 use Rattle.hep_machine.specs.Words.{Value, integer_of, is_number_among}
@@ -8,7 +8,6 @@ use Rattle.hep_code.specs.declared.instruction.Evaluation.TheVariants.{Load, Sig
 use Rattle.hep_code.specs.declared.instruction.Instruction.{Instruction}
 use Rattle.hep_code.specs.declared.instruction.Instruction.TheVariants.{Step}
 use Rattle.hep_code.specs.declared.instruction.Operation.{Operation}
-use Rattle.hep_code.specs.declared.variable.Variable.{Variable}
 use Rattle.hep_code.specs.declared.variable.Variable.TheVariants.{Local}
 use Rattle.hep_code.specs.Words.{arity}
 use Rattle.hep_private.specs.declared.record.Record.{Record}
@@ -58,7 +57,7 @@ module _ (cells : List ℕ) (IsLoop : ℕ → Type 0) (old new : Values) (alike 
   all-still own entries =
       record {
         values = λ e v value loops h. value-still own e v value h;
-        stores = λ c n next v among there loops h. tt;
+        stores = λ c n next among there loops h. tt;
         enters = λ c d inside behind n among count loops h. tt;
         ends = λ c d inside behind v among value test loop h. (
           where-first (is_first own c) (λ is. ap (λ (o : Option Value). option_map (λ w. integer_of w +ℤ increment_in own.values d) o) (alike.values c among) ∙ is) h.0,

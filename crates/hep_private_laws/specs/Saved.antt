@@ -1,5 +1,5 @@
 -- What stood in the cells in which private steps store, put back: docs/MACHINE.md, "Private steps".
-use Rattle.std.specs.Prelude.{◌≡◌, ◌+◌, ◌<◌, ℕ, suc, true, List, [], ◌∷◌, slice_set}
+use Rattle.std.specs.Prelude.{◌≡◌, ◌+◌, ℕ, suc, true, List, [], ◌∷◌, slice_set}
 use Rattle.hep_machine.specs.Words.{is_number_among}
 use Rattle.hep_machine.specs.declared.slot.Slot.{Slot}
 use Rattle.hep_image.specs.Finding.{cells_in}
@@ -23,11 +23,6 @@ AreAmong cells (c ∷ cs) = (is_number_among c cells ≡ true) × AreAmong cells
 abbrev pub AreOf : List ℕ → List Record → Type 0
 AreOf cells [] = Unit {0}
 AreOf cells (r ∷ rs) = AreAmong cells (cells_of (stores_of r)) × AreOf cells rs
-
--- cells of the frame lie in an arena of this size
-abbrev pub AreInside : ℕ → ℕ → List ℕ → Type 0
-AreInside first size [] = Unit {0}
-AreInside first size (c ∷ cs) = (first + c < size) × AreInside first size cs
 
 -- the two cells of a DO, at its entry and at its end
 abbrev pub HasLoopIn : List ℕ → Operation → Type 0

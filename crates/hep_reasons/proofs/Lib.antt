@@ -1,5 +1,6 @@
 mod Leading
 mod Listing
+pub mod Naming
 mod Processes
 mod Rising
 mod Telling

@@ -1,8 +1,8 @@
 -- The processes of reasons are in order.
 use Rattle.std.proofs.Common.{◌≡◌, ℕ, zero, suc, ◌≤◌, List, [], ◌∷◌, ◌++◌, length, Option, Some, None, refl, sym, ap, ◌∙◌, arith, slice_get}
 use Rattle.std.proofs.lemmas.Option.{none-some, same_Some}
-use Rattle.hep_dump.proofs.Histories.{number-listed}
-use Rattle.hep_dump.specs.Value.{listed_after}
+use Rattle.hep_traces.proofs.Histories.{number-listed}
+use Rattle.hep_traces.specs.Value.{listed_after}
 use Rattle.hep_machine.specs.declared.event.Entry.{Entry}
 use Rattle.hep_machine.specs.Words.{Units, Wanted, state_after, wanted_by}
 use Rattle.hep_views.specs.declared.listed.Listed.{Listed}

@@ -75,9 +75,9 @@ waits_for_each_other : why both (steps 1 3 ∷ steps 1 1 ∷ steps 2 1 ∷ steps
     ≡ text_of (
     "AFTER 5 ENTRIES"
     ∷ "WAITING 1 MAIN LINE 5 FOR FULL $A OF 1"
-    ∷ "      | process 2, which waits, emptied it at S LINE 9 in entry 3"
+    ∷ "      | process 2, which waits, emptied $A at S LINE 9 in entry 3"
     ∷ "WAITING 2 S LINE 9 FOR FULL $B OF 1"
-    ∷ "      | process 1, which waits, emptied it at MAIN LINE 5 in entry 2"
+    ∷ "      | process 1, which waits, emptied $Y at MAIN LINE 5 in entry 2"
     ∷ "CIRCLE 1 WAITS FOR WHAT WAS CHANGED BY 2, 1"
     ∷ [])
 unfolding why both
@@ -85,7 +85,7 @@ waits_for_each_other = refl
 
 -- a process that wasn't found waiting isn't told of
 not_found : why both (steps 1 3 ∷ steps 1 1 ∷ steps 2 1 ∷ steps 2 0 ∷ [])
-    ≡ text_of ("AFTER 4 ENTRIES" ∷ "WAITING 2 S LINE 9 FOR FULL $B OF 1" ∷ "      | process 1, which lives, emptied it at MAIN LINE 5 in entry 2" ∷ [])
+    ≡ text_of ("AFTER 4 ENTRIES" ∷ "WAITING 2 S LINE 9 FOR FULL $B OF 1" ∷ "      | process 1, which lives, emptied $Y at MAIN LINE 5 in entry 2" ∷ [])
 unfolding why both
 not_found = refl
 
@@ -116,3 +116,34 @@ by_its_own_names : why common (steps 1 2 ∷ steps 2 0 ∷ steps 1 0 ∷ [])
     ∷ [])
 unfolding why common
 by_its_own_names = refl
+
+-- an element of an adjustable array, by whose name its unit waits, and a position of COMMON by a dummy argument, though the unit has a name for it there too
+passed : List String
+passed =
+    "      COMMON /B/ $C"
+    ∷ "      INTEGER $A(2,2),$C"
+    ∷ "      CREATE S($A,$C,2)"
+    ∷ "      END"
+    ∷ "      SUBROUTINE S($R,$Q,N)"
+    ∷ "      COMMON /B/ $D"
+    ∷ "      INTEGER $D,$Q,$R(0:1,N)"
+    ∷ "      CREATE T($Q)"
+    ∷ "      I = $R(N-1,2)"
+    ∷ "      END"
+    ∷ "      SUBROUTINE T($Q)"
+    ∷ "      COMMON /B/ $D"
+    ∷ "      INTEGER $D,$Q"
+    ∷ "      I = $Q"
+    ∷ "      END"
+    ∷ []
+
+by_dummies : why passed (steps 1 1 ∷ steps 2 3 ∷ steps 2 0 ∷ steps 3 0 ∷ [])
+    ≡ text_of (
+    "AFTER 4 ENTRIES"
+    ∷ "WAITING 2 S LINE 9 FOR FULL $A#4 OF 1"
+    ∷ "      | nobody has filled or emptied $R(1,2)"
+    ∷ "WAITING 3 T LINE 14 FOR FULL /B/#1"
+    ∷ "      | nobody has filled or emptied $Q"
+    ∷ [])
+unfolding why passed
+by_dummies = refl

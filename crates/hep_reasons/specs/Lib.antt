@@ -1,3 +1,4 @@
+pub mod Called
 pub mod Changes
 pub mod Circles
 pub mod Lines

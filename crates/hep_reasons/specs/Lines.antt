@@ -1,15 +1,12 @@
 -- The lines of processes that wait and why: docs/RUNS.md, "Why processes wait".
-use Rattle.std.specs.Prelude.{ℕ, zero, suc, Bool, true, false, List, [], ◌∷◌, ◌++◌, codes, is_some, Option, Some, None, slice_get}
+use Rattle.std.specs.Prelude.{ℕ, Bool, true, false, List, [], ◌∷◌, ◌++◌, codes, is_some, Option, Some, None, slice_get}
 use Rattle.std.specs.Fmt.{decimal}
 use Rattle.std.specs.List.{flat_map}
-use Rattle.std.specs.Option.{unwrap_or}
-use Rattle.hep_machine.specs.Words.{Units, unit_at}
+use Rattle.hep_machine.specs.Words.{Units}
 use Rattle.hep_image.specs.Names.{names_in_order}
-use Rattle.hep_views.specs.declared.listed.Listed.{Listed}
 use Rattle.hep_notes.specs.Shown.{words_text}
-use Rattle.hep_dump.specs.Names.{name_found}
-use Rattle.hep_dump.specs.Waiting.{listed_text}
-use Rattle.hep_naming.specs.Naming.{own_name}
+use Rattle.hep_traces.specs.Names.{name_found}
+use Rattle.hep_traces.specs.Waiting.{listed_text}
 use Rattle.hep_reasons.specs.Circles.{circles_among, next_of}
 use Rattle.hep_reasons.specs.declared.reason.Change.{Change}
 use Rattle.hep_reasons.specs.declared.reason.Reason.{Reason}
@@ -31,19 +28,9 @@ abbrev pub deed_text : Bool → List ℕ
 deed_text true = codes "emptied"
 deed_text false = codes "filled"
 
--- what the unit of a process calls the position of COMMON for which it waits
-abbrev pub position_word : Units → Listed → List ℕ
-position_word program l =
-    unwrap_or (own_name (unit_at program l.unit) (name_found (slice_get (names_in_order program) l.name)) l.element) (codes "it")
-
--- a variable of an activation has its name in the line above
-abbrev pub own_word : Units → Listed → ℕ → List ℕ
-own_word program l zero = position_word program l
-own_word program l (suc a) = codes "it"
-
--- where a process was that did this, in a unit of this name, and by which entry it is told
+-- what was changed, where its process was, in a unit of this name, and by which entry it is told
 abbrev pub step_words : List ℕ → List ℕ → ℕ → ℕ → List ℕ
-step_words it unit line entry = codes " " ++ it ++ codes " at " ++ unit ++ codes " LINE " ++ decimal line ++ codes " in entry " ++ decimal entry
+step_words called unit line entry = codes " " ++ called ++ codes " at " ++ unit ++ codes " LINE " ++ decimal line ++ codes " in entry " ++ decimal entry
 
 -- who did it, of whom this has come; it is waited for what was changed to be full, or to be empty
 abbrev pub maker_words : ℕ → List ℕ → Bool → List ℕ
@@ -51,19 +38,19 @@ maker_words process fate full = codes "process " ++ decimal process ++ codes ", 
 
 -- units have these names by number
 abbrev pub change_words : List (List ℕ) → Bool → List ℕ → List ℕ → Change → List ℕ
-change_words names full it fate c =
-    maker_words c.place.process fate full ++ step_words it (name_found (slice_get names c.place.unit)) c.place.line c.entry
+change_words names full called fate c =
+    maker_words c.place.process fate full ++ step_words called (name_found (slice_get names c.place.unit)) c.place.line c.entry
 
 -- of whom this has come, if it was somebody
 abbrev pub latest_words : List (List ℕ) → Bool → List ℕ → List ℕ → Option Change → List ℕ
-latest_words names full it fate None = codes "nobody has filled or emptied " ++ it
-latest_words names full it fate (Some c) = change_words names full it fate c
+latest_words names full called fate None = codes "nobody has filled or emptied " ++ called
+latest_words names full called fate (Some c) = change_words names full called fate c
 
 -- the lines of one of those that wait, where the process that made the change waits or doesn't
 abbrev pub reason_lines : Units → Reason → Bool → List ℕ
 reason_lines program r waits =
     listed_text (names_in_order program) r.listed
-    ++ words_text (latest_words (names_in_order program) r.listed.full (own_word program r.listed r.listed.owner) (fate_text waits r.lives) r.latest)
+    ++ words_text (latest_words (names_in_order program) r.listed.full r.called (fate_text waits r.lives) r.latest)
 
 abbrev pub reason_text : Units → List Reason → Reason → List ℕ
 reason_text program reasons r = reason_lines program r (maker_waits reasons r)

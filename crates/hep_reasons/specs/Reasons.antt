@@ -3,9 +3,10 @@ use Rattle.std.specs.Prelude.{ℕ, zero, suc, Bool, false, List, [], ◌∷◌, 
 use Rattle.std.specs.Option.{option_map_or}
 use Rattle.hep_machine.specs.declared.event.Entry.{Entry}
 use Rattle.hep_machine.specs.Words.{State, Units, Wanted, living, state_after, wanted_by}
-use Rattle.hep_dump.specs.Value.{listed_after}
+use Rattle.hep_traces.specs.Value.{listed_after}
 use Rattle.hep_states.specs.Lines.{head_text}
 use Rattle.hep_views.specs.declared.listed.Listed.{Listed}
+use Rattle.hep_reasons.specs.Called.{called_by}
 use Rattle.hep_reasons.specs.Changes.{latest_change}
 use Rattle.hep_reasons.specs.Lines.{reasons_text}
 use Rattle.hep_reasons.specs.declared.reason.Change.{Change}
@@ -15,12 +16,12 @@ use Rattle.hep_reasons.specs.declared.reason.Reason.{Reason}
 abbrev pub maker_lives : State → Option Change → Bool
 maker_lives s latest = option_map_or (λ (c : Change). is_some (living s c.place.process)) latest false
 
--- a process that is listed, after a state, with the latest change of what it waits for
-abbrev pub reason_with : State → Listed → Option Change → Reason
-reason_with s l latest = record { listed = l; latest = latest; lives = maker_lives s latest }
+-- a process that is listed, after a state, with what its unit calls what it waits for, and the latest change of that
+abbrev pub reason_with : Units → State → Listed → Option Change → Reason
+reason_with program s l latest = record { listed = l; called = called_by program s l.process; latest = latest; lives = maker_lives s latest }
 
 abbrev pub reason_by : Units → List Entry → Option Listed → Option Wanted → List Reason
-reason_by program history (Some l) (Some w) = reason_with (state_after program history) l (latest_change program history w.at) ∷ []
+reason_by program history (Some l) (Some w) = reason_with program (state_after program history) l (latest_change program history w.at) ∷ []
 reason_by program history _ _ = []
 
 -- process p, if it is listed after a history

@@ -1,12 +1,19 @@
-//! Laws of circles.
+//! Laws of names and of circles.
 ghost use Rattle.std.specs.Prelude.{◌≡◌, ℕ, List, Option, Some, slice_get};
-ghost use Rattle.hep_machine.specs.Words.{Units};
+ghost use Rattle.hep_machine.specs.Words.{State, Units, Wanted, wanted_by};
 ghost use Rattle.hep_machine.specs.declared.event.Entry.{Entry};
+ghost use Rattle.hep_reasons.specs.Called.{IsNameOf, called_by};
 ghost use Rattle.hep_reasons.specs.Circles.{circle_from, circles_among, next_at, nexts_of};
 ghost use Rattle.hep_reasons.specs.Reasons.{reasons_of};
 ghost use Rattle.hep_reasons.specs.Rounds.{BeginsWithLeast, IsAmong, IsCircle, LeadBack, LeadsTo};
 ghost use Rattle.hep_reasons.specs.declared.reason.Change.{Change};
 ghost use Rattle.hep_reasons.specs.declared.reason.Reason.{Reason};
+
+/// What a process waits for is called by a name of its own unit, which stands for just that storage unit in the process's top activation.
+pub fn waits_have_names()
+    ensures { (program : Units) (s : State) (p : ℕ) (w : Wanted) → wanted_by program p s ≡ Some w
+        → IsNameOf program s p w.at (called_by program s p) }
+{}
 
 /// A circle that was found begins with the one for which it was looked, each one leads to the next, and the last one to the first.
 pub fn circles_lead_back()

@@ -7,5 +7,6 @@ pub mod lines;
 mod nexts;
 pub mod reason;
 
+pub use hep_traces::append_reference;
 pub use lines::append_reasons;
 pub use reason::{Change, Reason};

@@ -1,22 +1,19 @@
 //! The lines of processes that wait and why.
-ghost use Rattle.std.specs.Prelude.{◌≡◌, ◌++◌, IfOk, OnOk, codes, map, slice_get};
+ghost use Rattle.std.specs.Prelude.{◌≡◌, ◌++◌, OnOk, map, slice_get};
 ghost use Rattle.std.specs.List.{flat_map};
-ghost use Rattle.hep_dump.specs.Names.{name_found};
+ghost use Rattle.hep_traces.specs.Names.{name_found};
 ghost use Rattle.hep_image.specs.Names.{names_in_order};
-ghost use Rattle.hep_machine.specs.Words as machine;
 ghost use Rattle.hep_reasons.specs.Circles as circles;
 ghost use Rattle.hep_reasons.specs.Lines as words;
 
 use crate::circles::{circles_of, next_at};
 use crate::nexts::nexts_of;
 use crate::reason::Reason;
-use hep_dump::append_waiting;
 use hep_image::Image;
-use hep_naming::own_name;
 use hep_notes::append_words;
 use hep_output::append_number;
-use hep_source::{MAIN_NAME, Statement};
-use hep_views::Listed;
+use hep_source::MAIN_NAME;
+use hep_traces::append_waiting;
 use std::alloc::{AllocError, Global};
 
 fn fate_text(waits: bool, lives: bool) -> &'static [u8]
@@ -45,59 +42,18 @@ fn name_of(image: &Image, number: u32) -> &[u8]
     }
 }
 
-// The statements of a unit by its number.
-fn unit_at(image: &Image, unit: u32) -> &[Statement]
-    ensures { result.now ≡ machine.unit_at image.now unit }
-{
-    match image.program().as_slice().get(unit as usize) {
-        Some(unit) => unit.as_slice(),
-        None => &[],
-    }
-}
-
-fn it(alloc: Global) -> Result<Vec<u8>, AllocError>
-    ensures { IfOk result (λ word. word.items ≡ codes "it") }
-{
-    let mut word = Vec::new(alloc);
-    word.extend_from_slice(b"it")?;
-    Ok(word)
-}
-
-// What the unit of a process calls the position of COMMON for which it waits, or else `it`.
-fn position_word(alloc: Global, image: &Image, listed: &Listed) -> Result<Vec<u8>, AllocError>
-    ensures { IfOk result (λ word. word.items ≡ words.position_word image.now listed.now) }
-{
-    let unit = unit_at(image, listed.unit);
-    let block = name_of(image, listed.name);
-    match own_name(alloc, unit, block, listed.element)? {
-        Some(name) => Ok(name.into_vec()),
-        None => it(alloc),
-    }
-}
-
-// What is said for what a process waits for.
-fn own_word(alloc: Global, image: &Image, listed: &Listed) -> Result<Vec<u8>, AllocError>
-    ensures { IfOk result (λ word. word.items ≡ words.own_word image.now listed.now listed.now.owner) }
-{
-    if listed.owner == 0 {
-        position_word(alloc, image, listed)
-    } else {
-        it(alloc)
-    }
-}
-
 // What was changed, where, in a unit of this name, and by which entry it is told.
 fn append_step(
     text: &mut Vec<u8>,
-    it: &[u8],
+    called: &[u8],
     unit: &[u8],
     line: u32,
     entry: u64,
 ) -> Result<(), AllocError>
-    ensures { OnOk result (text.new.items ≡ text.old.items ++ words.step_words it.now unit.now line entry) }
+    ensures { OnOk result (text.new.items ≡ text.old.items ++ words.step_words called.now unit.now line entry) }
 {
     text.extend_from_slice(b" ")?;
-    text.extend_from_slice(it)?;
+    text.extend_from_slice(called)?;
     text.extend_from_slice(b" at ")?;
     text.extend_from_slice(unit)?;
     text.extend_from_slice(b" LINE ")?;
@@ -120,27 +76,27 @@ fn append_maker(text: &mut Vec<u8>, process: u64, fate: &[u8], full: bool) -> Re
     Ok(())
 }
 
-// The latest change of what one that waits waits for, which is called so, and what has come of the process that made it.
+// The latest change of what one that waits waits for, and what has come of the process that made it.
 fn append_latest(
     text: &mut Vec<u8>,
     image: &Image,
     reason: &Reason,
-    it: &[u8],
     fate: &[u8],
 ) -> Result<(), AllocError>
     ensures { OnOk result (text.new.items
-        ≡ text.old.items ++ words.latest_words (names_in_order image.now) reason.now.listed.full it.now fate.now reason.now.latest) }
+        ≡ text.old.items ++ words.latest_words (names_in_order image.now) reason.now.listed.full reason.now.called fate.now reason.now.latest) }
 {
+    let called = reason.called.as_slice();
     let Some(change) = reason.latest else {
         text.extend_from_slice(b"nobody has filled or emptied ")?;
-        text.extend_from_slice(it)?;
+        text.extend_from_slice(called)?;
         return Ok(());
     };
     let place = change.place;
     append_maker(text, place.process, fate, reason.listed.full)?;
     append_step(
         text,
-        it,
+        called,
         name_of(image, place.unit),
         place.line,
         change.entry,
@@ -157,15 +113,8 @@ fn append_reason(
 ) -> Result<(), AllocError>
     ensures { OnOk result (text.new.items ≡ text.old.items ++ words.reason_lines image.now reason.now waits) }
 {
-    let it = own_word(alloc, image, &reason.listed)?;
     let mut line = Vec::new(alloc);
-    append_latest(
-        &mut line,
-        image,
-        reason,
-        &it,
-        fate_text(waits, reason.lives),
-    )?;
+    append_latest(&mut line, image, reason, fate_text(waits, reason.lives))?;
     append_waiting(text, image, &reason.listed)?;
     append_words(text, &line)
 }

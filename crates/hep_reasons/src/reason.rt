@@ -1,5 +1,6 @@
 //! Why a process waits.
 
+use hep_base::Text;
 use hep_views::{Listed, Whereabouts};
 
 /// A step that filled or emptied a storage unit: the entry that tells it, counted from 1, and where its process was before it.
@@ -9,10 +10,12 @@ pub struct Change {
     pub place: Whereabouts,
 }
 
-/// A process that waits, with the latest change of what it waits for, if there was one, and whether the process lives that made it.
-#[derive(Clone, Copy)]
+/// A process that waits, with what its unit calls what it waits for, the latest change of that, if there was one, and whether the process
+/// lives that made it.
+#[derive(Drop)]
 pub struct Reason {
     pub listed: Listed,
+    pub called: Text,
     pub latest: Option<Change>,
     pub lives: bool,
 }

@@ -1,11 +1,11 @@
 //! A worker's turn, under the lock.
 ghost use Rattle.std.specs.Prelude.{◌≡◌, IfErr, IfOk, OnErr, Err};
 ghost use Rattle.hep_core.specs.Commits.{IsCommitted};
-ghost use Rattle.hep_segments.specs.Segments.{IsMadeBy};
+ghost use Rattle.hep_core.specs.Offers.{IsKnownOffer, offered};
 ghost use Rattle.hep_receipts.specs.Turns.{HasCommitted, IsReceipt};
 
 use crate::receipt::Receipt;
-use hep_core::{CommitFault, Core, Segment};
+use hep_core::{CommitFault, Core, Offer, Segment};
 
 /// Commits a worker's segment. The receipt names the one entry that the history has more.
 ///
@@ -18,32 +18,28 @@ pub fn worker_turn(core: &mut Core, worker: u32, segment: &Segment) -> Result<Re
     ensures unmade { IfErr result (λ fault. IsCommitted core.old segment.now (Err fault) core.new) }
     ensures kept { OnErr result (core.new.core.history ≡ core.old.core.history) }
 {
-    let index = core.history().len();
-    let process = segment.ticket().process;
-    let turn = core.commit(segment)?;
-    Ok(Receipt {
-        index,
-        process,
-        worker,
-        steps: turn.steps,
-    })
+    let offer = Offer::Recorded {
+        segment,
+        known: false,
+    };
+    offer_turn(core, worker, &offer)
 }
 
-/// The same of a segment that is known to be made by the core's program, by `Core::commit_known`.
+/// The same of what a worker offers, by `Core::commit_offer`.
 ///
 /// # Errors
 ///
-/// Those of `Core::commit_known`; the history is the same then.
-pub fn known_turn(core: &mut Core, worker: u32, segment: &Segment) -> Result<Receipt, CommitFault>
-    requires { IsMadeBy core.old.core.program segment.now }
+/// Those of `Core::commit_offer`; the history is the same then.
+pub fn offer_turn(core: &mut Core, worker: u32, offer: &Offer<'_>) -> Result<Receipt, CommitFault>
+    requires { IsKnownOffer core.old.core.program offer.now }
     ensures named { IfOk result (λ receipt. IsReceipt core.old.core.history worker receipt core.new.core.history) }
-    ensures made { IfOk result (λ receipt. HasCommitted core.old segment.now receipt core.new) }
-    ensures unmade { IfErr result (λ fault. IsCommitted core.old segment.now (Err fault) core.new) }
+    ensures made { IfOk result (λ receipt. HasCommitted core.old (offered core.old.core.program offer.now) receipt core.new) }
+    ensures unmade { IfErr result (λ fault. IsCommitted core.old (offered core.old.core.program offer.now) (Err fault) core.new) }
     ensures kept { OnErr result (core.new.core.history ≡ core.old.core.history) }
 {
     let index = core.history().len();
-    let process = segment.ticket().process;
-    let turn = core.commit_known(segment)?;
+    let process = offer.ticket().process;
+    let turn = core.commit_offer(offer)?;
     Ok(Receipt {
         index,
         process,

@@ -1,12 +1,13 @@
 -- Once its steps are made a segment is that of its ticket.
-use Rattle.std.proofs.Common.{◌≡◌, ℕ, List, refl, sym, subst}
+use Rattle.std.proofs.Common.{◌≡◌, ◌≤◌, ℕ, List, length, refl, sym, ◌∙◌, subst, arith}
 use Rattle.hep_machine.specs.Words.{Value, Units}
 use Rattle.hep_repeating.specs.Made.{Progress}
 use Rattle.hep_repeating.specs.Copied.{Copied}
 use Rattle.hep_segments.specs.declared.ticket.TicketId.{TicketId}
 use Rattle.hep_repeating.specs.Taken.{HasTaken, start_of}
+use Rattle.hep_repeating.specs.Own.{Values}
 use Rattle.hep_repeating.specs.Progress.{own_of}
-use Rattle.hep_segments.specs.Segments.{IsComputed, IsMadeOf, IsSegment, SegmentValue, TicketValue, segment_value}
+use Rattle.hep_segments.specs.Segments.{IsComputed, IsComputedFrom, IsMadeOf, IsSegment, SegmentValue, TicketValue, segment_value}
 use Rattle.hep_repeating.specs.Taken.{Start}
 use Rattle.hep_repeating.specs.Records.{most_records}
 use Rattle.hep_repeating.specs.Bases.{value_copied}
@@ -45,4 +46,33 @@ module _ (program : Units) (ticket : TicketValue) (id : TicketId) (unit index : 
         few = taken.few;
         made = record { end = own_of (value_copied ticket.copies) p; made = taken.along; index = refl; operands = refl };
         all = taken.all;
+      })
+
+-- and where steps from a place are made it is one from there
+module _ (program : Units) (start : Start) (most : ℕ) (few : most ≤ most_records) (id : TicketId) (operands : List Value) (values : Values) (first p : Progress)
+    (same_operands : operands ≡ start.operands) (there : first.index ≡ start.index) (having : first.operands ≡ start.operands) (same_values : values ≡ start.values)
+    (made-steps : HasTaken program (start_of start.unit values first) most p) where
+  from-there : HasTaken program start most p
+  from-there = subst (λ (s : Start). HasTaken program s most p) (λ i. record { unit = start.unit; index = there i; operands = having i; values = same_values i }) made-steps
+
+  abbrev made-from : SegmentValue
+  made-from = segment_value id start.unit start.index start.operands p.records p.index p.operands
+
+  by-steps : IsMadeOf program start.values made-from
+  by-steps = record { end = own_of start.values p; made = from-there.along; index = refl; operands = refl }
+
+  same-from : made-from ≡ segment_value id start.unit start.index operands p.records p.index p.operands
+  same-from = λ i. segment_value id start.unit start.index (sym same_operands i) p.records p.index p.operands
+
+  pub is-segment-from : IsSegment (segment_value id start.unit start.index operands p.records p.index p.operands)
+  is-segment-from = subst IsSegment same-from (record { few = omega (arith, from-there.few, few); program = program; values = start.values; made = by-steps })
+
+  pub computed-from : IsComputedFrom program start most (segment_value id start.unit start.index operands p.records p.index p.operands)
+  computed-from =
+      subst (IsComputedFrom program start most) same-from (
+      record {
+        begins = record { unit = refl; index = refl; operands = refl };
+        few = from-there.few;
+        made = record { end = own_of start.values p; made = from-there.along; index = refl; operands = refl };
+        all = from-there.all;
       })

@@ -1,4 +1,5 @@
+pub use Rattle.hep_repeating.proofs.Private
 mod Blank
 mod Finished
-mod Again
+pub mod Again
 mod Kept

@@ -11,7 +11,7 @@ mod place;
 mod segment;
 mod ticket;
 
-pub use hep_repeating::{Copied, Operands, Records};
+pub use hep_repeating::{Copied, MOST_RECORDS, Operands, Records, assign};
 pub use place::{Place, is_kept, is_made, is_next_private};
-pub use segment::{Segment, compute, compute_into};
+pub use segment::{Segment, compute, compute_from, compute_into};
 pub use ticket::{Ticket, TicketId};

@@ -73,7 +73,7 @@ fn has_come(progress: &Progress, segment: &Segment) -> bool
 }
 
 impl Place<'_> {
-    fn base(&self) -> Base<'_>
+    pub(crate) fn base(&self) -> Base<'_>
         ensures { values_of result ≡ (start_at self.now).values }
     {
         Base::Slots {

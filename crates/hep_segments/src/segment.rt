@@ -1,9 +1,11 @@
 //! Segments.
 ghost use Rattle.std.specs.Prelude.{◌≡◌, ◌≤◌, [], length};
 ghost use Rattle.hep_code.specs.Words.{most_operands};
-ghost use Rattle.hep_segments.specs.Segments.{IsComputed, IsSegment};
+ghost use Rattle.hep_segments.specs.Places.{start_at};
+ghost use Rattle.hep_segments.specs.Segments.{IsComputed, IsComputedFrom, IsSegment};
 ghost use Rattle.hep_repeating.specs.Records.{most_records};
 
+use crate::place::Place;
 use crate::ticket::{Ticket, TicketId};
 use hep_image::Image;
 use hep_repeating::{Base, MOST_RECORDS, Operands, Progress, Record, Records, assign, take_steps};
@@ -141,4 +143,30 @@ pub fn compute(image: &Image, ticket: &Ticket) -> Segment
     let mut segment = Segment::new();
     compute_into(image, ticket, &mut segment);
     segment
+}
+
+/// Makes the segment of a ticket in the place of another one, by an image, from where an activation is: so many of the private steps that come
+/// next there at most, and fewer only where the next one isn't private. This needs no core and takes no memory.
+#[cold]
+#[inline(never)]
+pub fn compute_from(
+    image: &Image,
+    id: TicketId,
+    place: &Place<'_>,
+    most: usize,
+    segment: &mut Segment,
+)
+    requires operands { length place.now.operands.now ≤ most_operands }
+    requires few { most ≤ most_records }
+    ensures ticket { segment.new.id ≡ id }
+    ensures computed { IsComputedFrom image.now (start_at place.now) most segment.new }
+{
+    segment.id = id;
+    segment.unit = place.unit;
+    segment.index = place.index;
+    assign(&mut segment.operands, place.operands);
+    segment.progress.records.clear();
+    segment.progress.index = place.index;
+    assign(&mut segment.progress.operands, place.operands);
+    take_steps(image, place.unit, place.base(), most, &mut segment.progress);
 }

@@ -68,7 +68,7 @@ module _ (cells : ℕ) (choices : List ℕ) (ahead : Ahead) (top : Level × Proc
             let behind : slice_get c.behind.now i ≡ Some entry = ap (λ xs. slice_get xs i) entries
             ∙ at-front (map (λ y. Pass (referred_argument (variable_of program unit) y)) targets) is.more i entry (slice_get-map (λ y. Pass (referred_argument (variable_of program unit) y)) targets i ∙ ap (option_map (λ y. Pass (referred_argument (variable_of program unit) y))) e) in
             let code = dropped-behind (code_in program levels.level.unit) k.index i (Step c.line c.operation) c.behind.now entry k.ahead behind in
-            placed_so program levels.level.unit (suc (k.index + i)) entry accepted (unit-inside m lives.after lives.running levels) code 0 (variable_of program unit x.0) refl;
+            placed_so program levels.level.unit (suc (k.index + i)) entry accepted (unit-inside m lives.after levels) code 0 (variable_of program unit x.0) refl;
       }
 
 -- what is left of the operands once those of one target are taken

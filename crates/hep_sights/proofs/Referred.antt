@@ -1,16 +1,14 @@
 -- Words for whose a storage unit is are those of the place of what is named.
-use Rattle.std.proofs.Common.{◌≡◌, ◌≢◌, ℕ, ◌<◌, ◌≤◌, ◌&&◌, true, List, length, Option, Some, None, Result, Ok, Err, refl, sym, ap, ◌∙◌, subst, arith, is_some, IsSome, nat_eq, if◌then◌else◌, slice_get}
+use Rattle.std.proofs.Common.{◌≡◌, ℕ, ◌<◌, ◌≤◌, ◌&&◌, true, List, length, Option, Some, None, Result, Ok, Err, refl, sym, ap, ◌∙◌, subst, arith, is_some, IsSome, nat_eq, if◌then◌else◌, slice_get}
 use Rattle.std.proofs.lemmas.Option.{same_Some}
 use Rattle.hep_code.specs.declared.variable.Variable.{Variable}
-use Rattle.hep_code.specs.declared.variable.Variable.TheVariants.{Absent}
 use Rattle.hep_code.specs.Words.{Addressing}
 use Rattle.hep_conditions.specs.Words.{IsAccepted}
 use Rattle.hep_image.specs.Names.{names_in_order, variable_number}
-use Rattle.hep_image.specs.Places.{variable_of}
 use Rattle.hep_image.proofs.Numbers.{number-of-variable}
 use Rattle.hep_layout.specs.Words.{address}
 use Rattle.hep_machine.specs.declared.event.Kind.{Kind}
-use Rattle.hep_machine.specs.Words.{Level, Location, Name, Process, Reference, State, Statement, Units, Value, is_among, location_of_name, main_among, names_of, run, scope_of, spelling, unit_at, unit_of}
+use Rattle.hep_machine.specs.Words.{Level, Location, Name, Process, Reference, State, Units, is_among, location_of_name, main_among, names_of, run, scope_of, spelling, unit_at, unit_of}
 use Rattle.hep_state.specs.declared.machine.Machine.{Machine}
 use Rattle.hep_state.specs.Words.{IsMachineAfter}
 use Rattle.hep_states.specs.States as states
@@ -113,16 +111,3 @@ sought-of program cells choices m p top lives after x at cell is kept =
       sought m after lives.running w x.0 x.1 at cell (
           subst (λ (z : Level × Process). location_of_name (scope_of program (run program choices) z.0.activation) x.0 x.1 ≡ Ok at) (sym (same-top there w)) is) kept,
     )
-
--- ---- what an operation names
-
--- a variable and subscripts that are those of a reference
-pub record IsNamedSo (program : Units) (unit : List Statement) (x : Reference) (v : Variable) (vs : List Value) : Type 0 where
-  pub variable : IsVariableOf program unit x.0 v
-  pub subscripts : vs ≡ x.1
-
-pub is-named : (program : Units) (unit : List Statement) (x : Reference) (v : Variable) (vs : List Value) → ◌≡◌ {A = Option (Variable × List Value)} (Some (v, vs)) (Some (variable_of program unit x.0, x.1)) → variable_of program unit x.0 ≢ Absent → IsNamedSo program unit x v vs
-is-named program unit x v vs e placed =
-    let same : ◌≡◌ {A = Variable × List Value} (v, vs) (variable_of program unit x.0, x.1) = same_Some (v, vs) (variable_of program unit x.0, x.1) e in
-    let variable : v ≡ variable_of program unit x.0 = ap (λ (z : Variable × List Value). z.0) same in
-    record { variable = (sym variable, λ absent. placed (sym variable ∙ absent)); subscripts = ap (λ (z : Variable × List Value). z.1) same }

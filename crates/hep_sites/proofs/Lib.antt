@@ -1,3 +1,4 @@
+pub mod AccessedAhead
 pub mod NamedAhead
 pub mod Placed
 pub mod Declared

@@ -1,7 +1,6 @@
 -- What comes next of a process names a variable by its operation.
-use Rattle.std.proofs.Common.{◌≡◌, ◌≢◌, ℕ, ◌-◌, false, List, [], drop, length, Option, Some, None, refl, sym, ap, ◌∙◌, subst}
+use Rattle.std.proofs.Common.{◌≡◌, ◌≢◌, ℕ, false, List, [], Option, Some, None, refl, sym, ap, ◌∙◌, subst}
 use Rattle.std.specs.Option.{option_map}
-use Rattle.std.proofs.Math.Seq.{drop-append_seam}
 use Rattle.hep_machine.specs.Evaluation.{reading}
 use Rattle.hep_machine.specs.Words.{Action, Name, Next, Redex, Reference, Statement, Units, Value, does, evaluating, function_name, referring, signing, negating, combining, applying, testing, wants}
 use Rattle.hep_machine.specs.Words.{assigning, jumping, choosing, branching, testing_condition, entering_block, entering_loop, ending_loop, calling, creating, purging, printing, continuing, leaving, resuming, stopping}
@@ -10,19 +9,19 @@ use Rattle.hep_code.specs.declared.instruction.Operation.TheVariants.{Answer}
 use Rattle.hep_code.specs.declared.instruction.Operation.{Operation}
 use Rattle.hep_code.specs.declared.variable.Variable.{Variable}
 use Rattle.hep_code.specs.declared.variable.Variable.TheVariants.{Absent}
-use Rattle.hep_code.specs.Words.{ending_of, evaluation_of, is_asynchronous}
+use Rattle.hep_code.specs.Words.{ending_of, is_asynchronous}
 use Rattle.hep_image.specs.Places.{variable_of}
-use Rattle.hep_step.specs.Effects.{subscripts_in}
-use Rattle.hep_step.specs.Simulation.{RunningTop, unit_addressed, unit_running, variable_in}
-use Rattle.hep_step.proofs.Replied.{in_front}
+use Rattle.hep_step.specs.Simulation.{RunningTop, addressed_on_top, unit_addressed, unit_running, variable_in}
 use Rattle.hep_step.proofs.Running.{Comes, coming}
 use Rattle.hep_state.specs.declared.machine.Machine.{Machine}
 use Rattle.hep_state.specs.Words.{HasLevels, IsMachineAfter, IsTopRunning, snapshot_of}
 use Rattle.hep_coming.specs.declared.coming.Coming.{Coming}
+use Rattle.hep_coming.specs.Access.{IsAccessed}
 use Rattle.hep_coming.specs.Coming.{IsComing}
 use Rattle.hep_coming.proofs.Answered as answered
 use Rattle.hep_coming.proofs.Standing.{settled-there, settled-turn}
 use Rattle.hep_sites.specs.Named.{IsNamed, named_by}
+use Rattle.hep_sites.proofs.AccessedAhead.{names-accessed}
 
 module _ {program : Units} {cells : ℕ} {choices : List ℕ} {p : ℕ} (m : Machine) (after : IsMachineAfter program cells choices m) (running : m.halted ≡ false)
     (levels : HasLevels (snapshot_of m) p) (c : Coming) (k : IsComing (unit_addressed program levels.level.unit) levels.operands levels.level.index c)
@@ -58,19 +57,18 @@ module _ {program : Units} {cells : ℕ} {choices : List ℕ} {p : ℕ} (m : Mac
   coming-so : (n : Next) → coming r ≡ n → Comes r n c.operation c.behind.now
   coming-so n next = subst (λ n. Comes r n c.operation c.behind.now) next (answered.comes m after running levels c k runs)
 
+  accessed : (n : Next) (x : Reference) → coming r ≡ n → IsAccessed n x → named_by c.operation operands ≡ Some (variables x.0, x.1)
+  accessed n x next = names-accessed (addressed_on_top program r.top) r.top.level.statement r.top.level.work operands r.index c.operation c.behind.now n x (coming-so n next)
+
   -- ---- a redex
 
   by-redex : (q : Redex) (x : Reference) → coming r ≡ wants (evaluating q) → IsNamed unit (wants (evaluating q)) x → IsFound x
   by-redex (reading y) x next same =
       let is = coming-so (wants (evaluating (reading y))) next in
-      let front = in_front (evaluation_of variables (reading y)) operands is.before y.1 refl is.operands_are in
-      let own : drop (length operands - length y.1) operands ≡ y.1 = ap (λ n. drop n operands) front ∙ ap (drop (length is.before)) is.operands_are ∙ drop-append_seam is.before y.1 in
-      subst IsFound (sym same) (found-by y (ap (λ o. named_by o operands) is.operation ∙ ap (λ vs. Some (variables y.0, vs)) own) (ap variable_in is.operation))
+      subst IsFound (sym same) (found-by y (accessed (wants (evaluating (reading y))) y next refl) (ap variable_in is.operation))
   by-redex (testing f y) x next same =
       let is = coming-so (wants (evaluating (testing f y))) next in
-      let front = in_front (evaluation_of variables (testing f y)) operands is.before y.1 refl is.operands_are in
-      let own : drop (length operands - length y.1) operands ≡ y.1 = ap (λ n. drop n operands) front ∙ ap (drop (length is.before)) is.operands_are ∙ drop-append_seam is.before y.1 in
-      subst IsFound (sym same) (found-by y (ap (λ o. named_by o operands) is.operation ∙ ap (λ vs. Some (variables y.0, vs)) own) (ap variable_in is.operation))
+      subst IsFound (sym same) (found-by y (accessed (wants (evaluating (testing f y))) y next refl) (ap variable_in is.operation))
   by-redex (signing s v) x next h = absurd h
   by-redex (negating v) x next h = absurd h
   by-redex (combining o v w) x next h = absurd h
@@ -81,7 +79,7 @@ module _ {program : Units} {cells : ℕ} {choices : List ℕ} {p : ℕ} (m : Mac
   by-action : (a : Action) (x : Reference) → coming r ≡ does a → IsNamed unit (does a) x → IsFound x
   by-action (assigning y v) x next same =
       let is = coming-so (does (assigning y v)) next in
-      subst IsFound (sym same) (found-by y (ap (λ o. named_by o operands) is.operation ∙ ap (λ vs. Some (variables y.0, subscripts_in vs)) is.operands_are) (ap variable_in is.operation))
+      subst IsFound (sym same) (found-by y (accessed (does (assigning y v)) y next refl) (ap variable_in is.operation))
   by-action (entering_loop y v n i) x next same =
       let is = coming-so (does (entering_loop y v n i)) next in
       subst IsFound (sym same) (found-by (y, []) (ap (λ o. named_by o operands) is.operation) (ap variable_in is.operation))

@@ -4,14 +4,29 @@ ghost use Rattle.hep_code.specs.declared.variable.Variable.TheVariants.{Absent};
 ghost use Rattle.hep_code.specs.Words.{is_asynchronous};
 ghost use Rattle.hep_conditions.specs.Words.{IsAccepted};
 ghost use Rattle.hep_coming.specs.declared.coming.Coming.{Coming as AComing};
+ghost use Rattle.hep_coming.specs.Access.{IsAccessed};
 ghost use Rattle.hep_coming.specs.Coming.{IsComingOf};
 ghost use Rattle.hep_image.specs.Places.{variable_of};
-ghost use Rattle.hep_machine.specs.Words.{Level, Process, Reference, Units, main_among, next_of, run, unit_at, unit_of};
+ghost use Rattle.hep_machine.specs.Words.{Level, Process, Reference, Units, living, main_among, next_of, run, unit_at, unit_of};
 ghost use Rattle.hep_state.specs.declared.machine.Machine.{Machine as AMachine};
+ghost use Rattle.hep_state.specs.Words.{IsMachineAfter};
 ghost use Rattle.hep_sites.specs.Named.{IsNamed, named_by};
 ghost use Rattle.hep_sites.specs.Sites.{LivesAfter};
 
+use hep_accepted_laws::code::variables_of_the_code_are_placed;
 use hep_state::laws::tops_are_running;
+
+/// Where an access to a variable or an element comes next of a process, whether the processes were stopped or not, its operation names that
+/// variable, with the same subscripts, which has storage units.
+pub fn accesses_name_variables()
+    ensures { (program : Units) (cells : ℕ) (choices : List ℕ) (m : AMachine) (p : ℕ) (top : Level × Process) (c : AComing) (x : Reference)
+        → IsAccepted program → IsMachineAfter program cells choices m → living (run program choices) p ≡ Some top → IsComingOf program m p c
+        → IsAccessed (next_of (unit_at program (unit_of (run program choices) top.0.activation)) top.0.work) x
+        → (named_by c.operation c.operands.items ≡ Some (variable_of program (unit_at program (unit_of (run program choices) top.0.activation)) x.0, x.1))
+        × (variable_of program (unit_at program (unit_of (run program choices) top.0.activation)) x.0 ≢ Absent) }
+{
+    variables_of_the_code_are_placed();
+}
 
 /// Where what comes next of a process names a variable or an element, its operation names that variable, with the same subscripts, which has
 /// storage units, and is asynchronous where its name is; and where the operation names one, so does what comes next.

@@ -1,5 +1,5 @@
 -- What was kept of a process, put back, gives back the whole machine.
-use Rattle.std.proofs.Common.{◌≡◌, ℕ, ◌+◌, ◌-◌, List, [], ◌∷◌, refl, sym, ap, ◌∙◌, subst, slice_set}
+use Rattle.std.proofs.Common.{◌≡◌, ℕ, ◌+◌, ◌-◌, List, [], ◌∷◌, refl, sym, ◌∙◌, subst, slice_set}
 use Rattle.hep_machine.specs.Words.{Units, with_numbered}
 use Rattle.hep_machine.specs.declared.slot.Slot.{Slot}
 use Rattle.hep_image.specs.Finding.{cells_in}
@@ -8,7 +8,7 @@ use Rattle.hep_private.specs.declared.record.Record.{Record}
 use Rattle.hep_private_laws.specs.Gone.{contents_with}
 use Rattle.hep_private_laws.specs.Saved.{AreOf, put_back}
 use Rattle.hep_proc.specs.Stacks.{Stack, stack_with}
-use Rattle.hep_segments.specs.Segments.{SegmentValue}
+use Rattle.hep_stretches.specs.Segments.{SegmentValue}
 use Rattle.hep_state.specs.Words.{HasLevels, IsSameButTop, Snapshot, frame_under}
 use Rattle.hep_state.proofs.Runs.{set-again, set-same}
 use Rattle.hep_state.proofs.Unchanged.{levels-same}
@@ -17,7 +17,7 @@ use Rattle.hep_taking.specs.Saved.{saved_of, slots_of, snapshot_restored, with_s
 
 -- ---- cells
 
-with-put : (first : ℕ) (cells : List ℕ) (saved now : List Slot) → with_slots first cells (slots_of first cells saved) now ≡ put_back first cells saved now
+pub with-put : (first : ℕ) (cells : List ℕ) (saved now : List Slot) → with_slots first cells (slots_of first cells saved) now ≡ put_back first cells saved now
 with-put first [] saved now = refl
 with-put first (c ∷ cs) saved now = with-put first cs saved (slice_set now (first + c) (cells_in saved (first + c)))
 

@@ -17,7 +17,7 @@ use Rattle.hep_proc.specs.Stacks.{Stack, stack_of, stack_with}
 use Rattle.hep_proc.specs.declared.frames.Frames.{Frames}
 use Rattle.hep_proc.specs.declared.process.Local.{Local}
 use Rattle.hep_proc.specs.declared.process.Process.{Process}
-use Rattle.hep_segments.specs.Segments.{IsMadeFrom, SegmentValue}
+use Rattle.hep_stretches.specs.Segments.{IsMadeFrom, SegmentValue}
 use Rattle.hep_state.specs.declared.machine.Machine.{Machine}
 use Rattle.hep_state.specs.Words.{AreNumbered, HasLevels, IsAfter, IsTurning, Snapshot, TurnOf, snapshot_moved, snapshot_of, turn_with, with_contents, with_stack}
 use Rattle.hep_state.proofs.Processes.{IsAt, stacks-set}

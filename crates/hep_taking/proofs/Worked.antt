@@ -1,4 +1,4 @@
--- Worked examples of own cells, of copies, and of slots that are put back.
+-- Worked examples of own cells, of copies, of slots that are put back, and of a stretch's start and end.
 use Rattle.std.proofs.Common.{◌≡◌, ℕ, pos, false, List, [], ◌∷◌, Some, None, refl}
 use Rattle.hep_machine.specs.Words.{Int, unset_cell}
 use Rattle.hep_machine.specs.declared.slot.Slot.{Slot}
@@ -7,6 +7,7 @@ use Rattle.hep_code.specs.declared.instruction.Instruction.TheVariants.{Push, St
 use Rattle.hep_code.specs.declared.instruction.Operation.TheVariants.{EnterLoop, EndLoop, Jump, Return}
 use Rattle.hep_code.specs.declared.variable.Variable.TheVariants.{Common, Local}
 use Rattle.hep_private.specs.Own.{values_at}
+use Rattle.hep_taking.specs.Fitting.{AreThere, slots_with}
 use Rattle.hep_taking.specs.Levels.{copies_of}
 use Rattle.hep_taking.specs.OwnCells.{own_cells_in}
 use Rattle.hep_taking.specs.Saved.{slots_of, with_slots}
@@ -41,3 +42,10 @@ worked-slots = refl
 
 worked-back : with_slots 1 (0 ∷ 2 ∷ []) (number 8 ∷ number 9 ∷ []) (number 7 ∷ number 1 ∷ number 2 ∷ number 3 ∷ []) ≡ number 7 ∷ number 8 ∷ number 2 ∷ number 9 ∷ []
 worked-back = refl
+
+-- the start of a stretch is there in two cells of the frame, of which one has no value
+worked-there : AreThere 1 contents (values_at (number 8 ∷ []) 0) (0 ∷ 1 ∷ [])
+worked-there = (refl, (refl, tt))
+
+worked-end : with_slots 1 (0 ∷ 2 ∷ []) (slots_with (values_at (number 1 ∷ number 2 ∷ number 3 ∷ []) 0) (0 ∷ 2 ∷ [])) contents ≡ number 7 ∷ number 1 ∷ unset_cell ∷ number 3 ∷ []
+worked-end = refl

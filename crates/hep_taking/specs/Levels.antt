@@ -2,9 +2,9 @@
 use Rattle.std.specs.Prelude.{ℕ, List, ◌∷◌, map}
 use Rattle.hep_private.specs.Own.{Values, values_at}
 use Rattle.hep_private_laws.specs.Gone.{contents_with}
-use Rattle.hep_segments.specs.Segments.{Copied}
-use Rattle.hep_segments.specs.declared.ticket.TicketId.{TicketId}
-use Rattle.hep_segments.specs.Segments.{SegmentValue, Start, TicketValue, ticket_value}
+use Rattle.hep_stretches.specs.Segments.{Copied}
+use Rattle.hep_stretches.specs.TicketId.{TicketId}
+use Rattle.hep_stretches.specs.Segments.{SegmentValue, Start, TicketValue, ticket_value}
 use Rattle.hep_state.specs.Words.{HasLevels, Snapshot, frame_under, with_contents, with_stack}
 
 -- the first cell of the frame of its top activation

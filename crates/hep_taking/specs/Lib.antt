@@ -1,3 +1,5 @@
+pub use Rattle.hep_stretches.specs.TicketId
+pub use Rattle.hep_stretches.specs.Segments
 pub use Rattle.hep_private_laws.specs.UnitTables
 pub use Rattle.hep_private_laws.specs.Going
 pub use Rattle.hep_private_laws.specs.Beside
@@ -7,3 +9,5 @@ pub mod Levels
 pub mod Saved
 pub mod Tops
 pub mod Taking
+pub mod Fitting
+pub mod Offers

@@ -3,8 +3,8 @@ use Rattle.std.specs.Prelude.{◌≡◌, ◌≤◌, ◌↔◌, IsTrue, ℕ, Bool
 use Rattle.hep_machine.specs.Words.{Units}
 use Rattle.hep_code.specs.Words.{deepest}
 use Rattle.hep_step.specs.Simulation.{unit_code}
-use Rattle.hep_segments.specs.declared.ticket.TicketId.{TicketId}
-use Rattle.hep_segments.specs.Segments.{IsKept, IsMadeFrom, SegmentValue, TicketValue, is_next_private}
+use Rattle.hep_stretches.specs.TicketId.{TicketId}
+use Rattle.hep_stretches.specs.Segments.{IsMadeFrom, SegmentValue, TicketValue, is_next_private}
 use Rattle.hep_state.specs.declared.machine.Machine.{Machine}
 use Rattle.hep_state.specs.Words.{HasLevels, IsItsTurn, snapshot_of}
 use Rattle.hep_taking.specs.Levels.{snapshot_taken, start_in, ticket_of}
@@ -25,11 +25,7 @@ IsTicketOf program id m ticket =
 
 -- ---- segments
 
--- a segment begins where its process is, and what its steps read before they stored it is there
-abbrev pub IsKeptIn : Bool → Machine → SegmentValue → Type 0
-IsKeptIn result m s = (levels : HasLevels (snapshot_of m) s.id.process) → IsTrue result ↔ IsKept (start_in levels) s
-
--- its steps are the private ones that come next of its process
+-- a segment's steps are the private ones that come next of its process
 abbrev pub IsMadeIn : Bool → Units → Machine → SegmentValue → Type 0
 IsMadeIn result program m s = (levels : HasLevels (snapshot_of m) s.id.process) → IsTrue result ↔ IsMadeFrom program (start_in levels) s
 

@@ -1,5 +1,5 @@
 -- The top activation of a process, and what is done to it by the steps of a segment.
-use Rattle.std.specs.Prelude.{◌≡◌, ◌≤◌, ℕ, List, length}
+use Rattle.std.specs.Prelude.{◌≡◌, ◌<◌, ◌≤◌, ℕ, List, length, vec_capacity}
 use Rattle.hep_machine.specs.Words.{Units, Value}
 use Rattle.hep_machine.specs.declared.slot.Slot.{Slot}
 use Rattle.hep_code.specs.Words.{deepest}
@@ -12,7 +12,7 @@ use Rattle.hep_proc.specs.declared.process.Local.{Local}
 use Rattle.hep_proc.specs.declared.process.Process.{Process}
 use Rattle.hep_proc.specs.Nodes.{nodes_of}
 use Rattle.hep_proc.specs.Stacks.{HoldsOfTop, stack_of, stack_with}
-use Rattle.hep_segments.specs.Segments.{Start}
+use Rattle.hep_stretches.specs.Segments.{SegmentValue, Start}
 use Rattle.hep_state.specs.Words.{IsThere, frame_under}
 use Rattle.hep_taking.specs.OwnCells.{AreOwnCells, own_cells_of}
 use Rattle.hep_taking.specs.Saved.{SavedValue, saved_value, slots_of, with_slots}
@@ -65,3 +65,8 @@ pub record IsStanding (program : Units) (q : Process) (frames : Frames) : Type 0
 -- and the tables are those of the image
 abbrev pub IsOwned : Owned → Process → Frames → Type 0
 IsOwned owned q frames = AreOwnCells owned.image.now owned.tables.now × IsStanding owned.image.now q frames
+
+-- a segment is of a unit that is there, and its operands at the end have room
+pub record IsFor (program : Units) (q : Process) (s : SegmentValue) : Type 0 where
+  pub inside : s.unit < length program
+  pub room : length s.end_operands ≤ vec_capacity q.operands

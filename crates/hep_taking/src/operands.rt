@@ -1,8 +1,23 @@
 //! Operands in vectors.
-ghost use Rattle.std.specs.Prelude.{◌≡◌, ◌≤◌, OnOk, length, vec_capacity};
+ghost use Rattle.std.specs.Prelude.{◌≡◌, ◌≤◌, ◌↔◌, IsTrue, OnOk, length, vec_capacity};
 
 use hep_source::Value;
 use std::alloc::AllocError;
+
+/// Two lists of values are one.
+pub(crate) fn same_operands(a: &[Value], b: &[Value]) -> bool
+    ensures { IsTrue result ↔ (a.now ≡ b.now) }
+{
+    if a.len() != b.len() {
+        return false;
+    }
+    for i in 0..a.len() {
+        if a[i] != b[i] {
+            return false;
+        }
+    }
+    true
+}
 
 /// These values in the place of others.
 pub(crate) fn keep_operands(kept: &mut Vec<Value>, values: &[Value]) -> Result<(), AllocError>

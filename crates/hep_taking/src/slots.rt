@@ -6,14 +6,15 @@ ghost use Rattle.hep_layout.specs.Words.{number};
 ghost use Rattle.hep_private.specs.Own.{contents_after, values_at};
 ghost use Rattle.hep_private_laws.specs.Gone.{contents_with};
 ghost use Rattle.hep_step.specs.Effects.{with_counts, with_value_at};
+ghost use Rattle.hep_taking.specs.Fitting.{slots_with};
 ghost use Rattle.hep_taking.specs.Levels.{copies_of};
 ghost use Rattle.hep_taking.specs.Saved.{slots_of, with_slots};
 
 use hep_arena::{Arena, Cell};
 use hep_machine::Slot;
 use hep_private::Record;
-use hep_segments::Copied;
 use hep_source::Value;
+use hep_stretches::Copied;
 use std::alloc::AllocError;
 
 // A cell has this value. Whether it is full stays.
@@ -99,8 +100,9 @@ fn apply_all(slots: &mut [Cell], first: u32, records: &[Record])
     }
 }
 
-// The slot of a cell of a frame; past the last one nothing was ever stored.
-fn slot_at(slots: &[Cell], first: u32, cell: usize) -> Slot
+/// The slot of a cell of a frame; past the last one nothing was ever stored.
+#[inline(always)]
+pub(crate) fn slot_at(slots: &[Cell], first: u32, cell: usize) -> Slot
     ensures { result ≡ cells_in slots.now (first + cell) }
 {
     const UNSET: Slot = Slot {
@@ -171,6 +173,16 @@ fn put_slots(slots: &mut [Cell], first: u32, cells: &[usize], kept: &[Slot])
     }
 }
 
+// Cells of a frame get the values of their copies, and aren't full.
+fn put_values(slots: &mut [Cell], first: u32, cells: &[usize], copies: &[Cell])
+    ensures { slots.new ≡ with_slots first cells.now (slots_with (values_at copies.now 0) cells.now) slots.old }
+{
+    for cell in cells {
+        let value = slot_at(copies, 0, *cell).value;
+        put_cell(slots, first, *cell, Slot { value, full: false });
+    }
+}
+
 /// What steps stored, where the frame begins at a cell of an arena.
 pub(crate) fn apply_over(arena: &mut Arena, first: u32, records: &[Record])
     ensures contents { arena.new.contents ≡ contents_with first arena.old.contents records.now }
@@ -185,6 +197,14 @@ pub(crate) fn put_over(arena: &mut Arena, first: u32, cells: &[usize], kept: &[S
     ensures holes { arena.new.holes ≡ arena.old.holes }
 {
     put_slots(arena.slots_mut(), first, cells, kept);
+}
+
+/// Cells of a frame get the values of their copies, and aren't full, where it begins at a cell of an arena.
+pub(crate) fn put_values_over(arena: &mut Arena, first: u32, cells: &[usize], copies: &[Cell])
+    ensures contents { arena.new.contents ≡ with_slots first cells.now (slots_with (values_at copies.now 0) cells.now) arena.old.contents }
+    ensures holes { arena.new.holes ≡ arena.old.holes }
+{
+    put_values(arena.slots_mut(), first, cells, copies);
 }
 
 /// Copies of these cells of a frame, in the place of others.

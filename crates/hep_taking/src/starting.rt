@@ -4,8 +4,8 @@ ghost use Rattle.hep_taking.specs.Taking.{CanStart, IsTicketOf};
 
 use crate::own_cells::Owned;
 use crate::top::ticket_of;
-use hep_segments::{Ticket, TicketId};
 use hep_state::Machine;
+use hep_stretches::{Ticket, TicketId};
 use std::alloc::AllocError;
 
 /// The ticket of a process whose turn it is: where its top activation is, its operands, and copies of the cells that it has for itself. It has

@@ -1,24 +1,29 @@
-//! The steps of a segment in the machine of a core.
+//! The steps of what is committed in the machine of a core.
 ghost use Rattle.std.specs.Prelude.{◌≡◌, length};
 ghost use Rattle.hep_private_laws.specs.Going.{MakesMoves};
+ghost use Rattle.hep_taking.specs.Offers.{IsKnownOffer, offered};
+ghost use Rattle.hep_taking.specs.OwnCells.{AreOwnCells};
 ghost use Rattle.hep_taking.specs.Taking.{CanTake, HasTakenIn};
 
+use crate::offer::Offer;
+use crate::own_cells::Owned;
 use crate::top::take;
-use hep_image::Image;
-use hep_segments::Segment;
 use hep_state::Machine;
 
-/// Makes the steps of a segment, which are the private ones that come next of its process, at once. Each is a step of the source machine,
-/// which fills and empties no storage unit, and makes and ends nothing. No memory is taken.
-pub fn take_private(machine: &mut Machine, image: &Image, segment: &Segment)
-    requires { CanTake image.now segment.now machine.old }
-    ensures taken { HasTakenIn segment.now machine.old machine.new }
-    ensures gone { MakesMoves image.now segment.now.id.process machine.old (length segment.now.records) machine.new }
+/// Makes the steps of what is committed, which are the private ones that come next of its process, at once. Each is a step of the source
+/// machine, which fills and empties no storage unit, and makes and ends nothing. No memory is taken.
+pub fn take_private(machine: &mut Machine, owned: &Owned<'_>, offer: &Offer<'_>)
+    requires tables { AreOwnCells owned.now.image.now owned.now.tables.now }
+    requires known { IsKnownOffer owned.now.image.now offer.now }
+    requires can { CanTake owned.now.image.now (offered owned.now.image.now offer.now) machine.old }
+    ensures taken { HasTakenIn (offered owned.now.image.now offer.now) machine.old machine.new }
+    ensures gone { MakesMoves owned.now.image.now (offered owned.now.image.now offer.now).id.process machine.old
+        (length (offered owned.now.image.now offer.now).records) machine.new }
     ensures others { machine.new ≡ record machine.old { frames = machine.new.frames; processes = machine.new.processes } }
 {
-    image.is_runnable();
+    owned.image.is_runnable();
     hep_private_laws::laws::private_steps_are_turns();
-    let at = machine.place(segment.ticket().process);
+    let at = machine.place(offer.ticket().process);
     let process = &mut machine.processes[at];
-    take(process, &mut machine.frames, image, segment)
+    take(process, &mut machine.frames, owned, offer)
 }

@@ -1,36 +1,40 @@
 //! The top activation of a process.
 ghost use Rattle.std.specs.Prelude.{◌≡◌, ◌≤◌, ◌<◌, ◌↔◌, IsTrue, IfOk, OnOk, length, vec_len, vec_capacity};
 ghost use Rattle.hep_proc.specs.Stacks.{IsSameProcess};
-ghost use Rattle.hep_segments.specs.Segments as segments;
-ghost use Rattle.hep_segments.specs.Segments.{IsKept, IsMadeFrom};
+ghost use Rattle.hep_stretches.specs.Segments as segments;
+ghost use Rattle.hep_stretches.specs.Segments.{IsMadeFrom};
 ghost use Rattle.hep_taking.specs.Levels as levels;
+ghost use Rattle.hep_taking.specs.Offers.{IsKnownOffer, offered};
 ghost use Rattle.hep_taking.specs.OwnCells.{own_cells_of};
 ghost use Rattle.hep_taking.specs.Saved.{saved_in};
-ghost use Rattle.hep_taking.specs.Tops.{HoldsOfStart, IsOwned, IsStanding, KeepsTop, RestoresCells, StandsWith, StoresIn};
+ghost use Rattle.hep_taking.specs.Tops.{HoldsOfStart, IsFor, IsOwned, IsStanding, KeepsTop, RestoresCells, StandsWith, StoresIn};
 
+use crate::offer::Offer;
 use crate::operands::{keep_operands, refill};
 use crate::own_cells::Owned;
 use crate::saving::Saved;
-use crate::slots::{apply_over, keep_copies, keep_slots, put_over};
+use crate::slots::{keep_copies, keep_slots, put_over};
 use hep_image::Image;
 use hep_proc::{Frames, Process};
-use hep_segments::{Place, Segment, Ticket, TicketId};
 use hep_source::Value;
 use hep_state::place;
+use hep_stretches::{Place, Ticket, TicketId};
 use std::alloc::AllocError;
 
-/// A segment begins where the activation is, and what its steps read before they stored it is there.
-pub(crate) fn is_kept(
+/// The steps of what is committed are the private ones that come next of the activation, by an image.
+pub(crate) fn is_next(
     process: &Process,
     frames: &mut Frames,
-    image: &Image,
-    segment: &Segment,
+    owned: &Owned<'_>,
+    offer: &Offer<'_>,
 ) -> bool
-    requires { IsStanding image.now process.now frames.old }
-    ensures kept { HoldsOfStart process.now frames.old (λ start. IsTrue result ↔ IsKept start segment.now) }
+    requires owned { IsOwned owned.now process.now frames.old }
+    requires known { IsKnownOffer owned.now.image.now offer.now }
+    ensures made { HoldsOfStart process.now frames.old (λ start.
+        IsTrue result ↔ IsMadeFrom owned.now.image.now start (offered owned.now.image.now offer.now)) }
     ensures same { frames.new ≡ frames.old }
 {
-    let (_, frame, index) = place(process, frames, image);
+    let (_, frame, index) = place(process, frames, owned.image);
     let place = Place {
         unit: process.top().unit,
         index,
@@ -38,29 +42,7 @@ pub(crate) fn is_kept(
         slots: frames.arena.slots_mut(),
         first: frame.first,
     };
-    hep_segments::is_kept(&place, segment)
-}
-
-/// The steps of a segment are the private ones that come next of the activation, by an image.
-pub(crate) fn is_made(
-    process: &Process,
-    frames: &mut Frames,
-    image: &Image,
-    segment: &Segment,
-) -> bool
-    requires { IsStanding image.now process.now frames.old }
-    ensures made { HoldsOfStart process.now frames.old (λ start. IsTrue result ↔ IsMadeFrom image.now start segment.now) }
-    ensures same { frames.new ≡ frames.old }
-{
-    let (_, frame, index) = place(process, frames, image);
-    let place = Place {
-        unit: process.top().unit,
-        index,
-        operands: &process.operands,
-        slots: frames.arena.slots_mut(),
-        first: frame.first,
-    };
-    hep_segments::is_made(image, &place, segment)
+    offer.is_next(&place, owned)
 }
 
 /// The next step of the activation is private, by an image.
@@ -77,7 +59,7 @@ pub(crate) fn is_next_private(process: &Process, frames: &mut Frames, image: &Im
         slots: frames.arena.slots_mut(),
         first: frame.first,
     };
-    hep_segments::is_next_private(image, &place)
+    hep_stretches::is_next_private(image, &place)
 }
 
 /// The ticket of the activation, with copies of its own cells, in the room of an older one.
@@ -142,19 +124,20 @@ fn stand_with(process: &mut Process, operands: &[Value], index: usize)
     process.stand_at(index);
 }
 
-/// The steps of a segment are made at once: what they stored is in the cells of the frame, and the activation is where they lead.
-pub(crate) fn take(process: &mut Process, frames: &mut Frames, image: &Image, segment: &Segment)
-    requires standing { IsStanding image.now process.old frames.old }
-    requires room { length segment.now.end_operands ≤ vec_capacity process.old.operands }
-    ensures stack { StandsWith process.old segment.now.end_operands segment.now.end_index process.new }
-    ensures cells { StoresIn process.old frames.old segment.now.records frames.new }
+/// The steps of what is committed are made at once: what they stored is in the cells of the frame, and the activation is where they lead.
+pub(crate) fn take(process: &mut Process, frames: &mut Frames, owned: &Owned<'_>, offer: &Offer<'_>)
+    requires owned { IsOwned owned.now process.old frames.old }
+    requires known { IsKnownOffer owned.now.image.now offer.now }
+    requires fits { IsFor owned.now.image.now process.old (offered owned.now.image.now offer.now) }
+    ensures stack { StandsWith process.old (offered owned.now.image.now offer.now).end_operands (offered owned.now.image.now offer.now).end_index process.new }
+    ensures cells { StoresIn process.old frames.old (offered owned.now.image.now offer.now).records frames.new }
     ensures nodes { frames.new.nodes ≡ frames.old.nodes }
     ensures holes { frames.new.arena.holes ≡ frames.old.arena.holes }
     ensures same { IsSameProcess process.old process.new }
 {
-    let (_, frame, _) = place(process, frames, image);
-    apply_over(&mut frames.arena, frame.first, segment.records());
-    stand_with(process, segment.end_operands(), segment.end_index());
+    let (_, frame, _) = place(process, frames, owned.image);
+    offer.store_over(&mut frames.arena, frame.first, owned);
+    stand_with(process, offer.end_operands(), offer.end_index());
 }
 
 /// What the activation had for itself is put back.

@@ -1,2 +1,3 @@
+pub use Rattle.hep_dump.proofs.Histories
 pub mod Deeds
 mod Worked

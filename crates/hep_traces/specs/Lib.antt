@@ -1,3 +1,6 @@
+pub use Rattle.hep_dump.specs.Value
+pub use Rattle.hep_dump.specs.Waiting
+pub use Rattle.hep_dump.specs.Names
 pub use Rattle.hep_dump.specs.Faults
 pub mod Values
 pub mod Lines

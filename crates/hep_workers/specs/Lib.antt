@@ -3,3 +3,4 @@ pub use Rattle.hep_reports.specs.declared.fault.CloseFault
 pub use Rattle.hep_reports.specs.declared.options.WorkOptions
 pub use Rattle.hep_reports.specs.Reports
 pub mod Faults
+pub mod Hands

@@ -5,6 +5,7 @@ ghost use Rattle.hep_image.specs.contracts.image.Image as image;
 ghost use Rattle.hep_source.specs.contracts.expression.Expr as expression;
 ghost use Rattle.hep_source.specs.contracts.program.Program as program;
 ghost use Rattle.hep_core.specs.contracts.scheduler.Core as core;
+ghost use Rattle.hep_stretches.specs.contracts.table.PrivateTable as tables;
 
 use hep_blocked::Roster;
 use hep_entries::History;
@@ -12,6 +13,7 @@ use hep_image::{BlockStart, DataRow, UnitCode};
 use hep_quick::Table;
 use hep_source::{Expr, Sequence, Text};
 use hep_state::Machine;
+use hep_stretches::PrivateTable;
 use hep_taking::{OwnCells, Saved};
 
 fn cross<T: Send + Sync>()
@@ -48,6 +50,14 @@ pub(crate) fn images_cross()
     cross::<Sequence<Text>>();
     cross::<Sequence<u32>>();
     cross::<Sequence<BlockStart>>();
+}
+
+/// The private code of units may be read by several threads.
+pub(crate) fn tables_cross()
+    ensures send { IsSend tables.the_row }
+    ensures sync { IsSync tables.the_row }
+{
+    cross::<PrivateTable>();
 }
 
 /// A core may be sent to another thread.

@@ -3,19 +3,20 @@ ghost use Rattle.std.specs.Prelude.{◌≡◌, ◌≤◌, IfErr, IfOk, IsSome, O
 ghost use Rattle.hep_machine.specs.Words.{opening_layout};
 ghost use Rattle.hep_reports.specs.Receipts as receipts;
 ghost use Rattle.hep_reports.specs.Reports.{IsReport};
-ghost use Rattle.hep_segments.specs.Segments.{IsMadeBy};
 ghost use Rattle.hep_receipts.specs.Shared.{IsOfOneRun, IsSharedFrom};
 ghost use Rattle.hep_workers.specs.Faults.{IsMet, IsSharedBy, IsUnreported, IsWorkFault};
+ghost use Rattle.hep_workers.specs.Hands.{HasMade};
 
-use crate::crossing::{cores_cross, images_cross};
+use crate::crossing::{cores_cross, images_cross, tables_cross};
 use crate::fault::{CrewFault, StartFault, WorkFault};
 use crate::gate::Gate;
 use crate::tied::{Halt, Known, Tied, Whole};
-use hep_core::{CommitFault, Core};
+use hep_core::{CommitFault, Core, Offer};
 use hep_image::Image;
 use hep_receipts::Log;
 use hep_reports::{CloseFault, Report, WorkOptions, are_of_workers, close};
 use hep_segments::{Segment, Ticket};
+use hep_stretches::{Ahead, Stretch, private_tables_of};
 use std::alloc::Global;
 use std::marker::Brand;
 use std::mem::replace;
@@ -36,13 +37,14 @@ struct Floor<K: Whole> {
     ended: AtomicBool,
 }
 
-// What a worker has in hand: its number, its ticket, the segment that it makes of it, and its log, with a receipt for each of its turns. A
-// ticket and a segment have the room of those before.
+// What a worker has in hand: its number, its ticket, the stretch or the segment that it makes of it, and its log, with a receipt for each of its
+// turns. They have the room of those before.
 #[derive(Drop)]
 struct Hand {
     alloc: Global,
     worker: u32,
     ticket: Ticket,
+    stretch: Stretch,
     segment: Segment,
     log: Log,
 }
@@ -86,7 +88,9 @@ pub fn run_workers<R: Threads + Wait + Sync, G: Gate + Sync>(
     // A full arena is found before memory is asked for, and so before the image is copied.
     let core = Core::new(alloc, image, options.arena, options.steps)?;
     let image = core.image().copy(alloc)?;
-    let (core, logs) = share::<Brand, R, G>(rt, alloc, core, &image, options.workers, gate)?;
+    let tables = private_tables_of(alloc, &image)?;
+    let ahead = Ahead::new(&image, &tables);
+    let (core, logs) = share::<Brand, R, G>(rt, alloc, core, ahead, options.workers, gate)?;
     Ok(report(alloc, core, &image, options, logs)?)
 }
 
@@ -115,19 +119,19 @@ fn share<K: Whole + Send + Sync, R: Threads + Wait + Sync, G: Gate + Sync>(
     rt: &R,
     alloc: Global,
     core: Core,
-    image: &Image,
+    ahead: Ahead<'_>,
     workers: u32,
     gate: &G,
 ) -> Result<(Core, Vec<Log>), CrewFault>
     requires opening { core.core ≡ K.opening }
-    requires image { image.now ≡ K.opening.program }
+    requires image { ahead ≡ K.opening.program }
     requires few { workers ≤ 16 }
     ensures run { IfOk result (λ left. IsOfOneRun K.opening left.0.core) }
     ensures shared { IfOk result (λ left. ∥ IsSharedFrom K.opening left.0 ∥₁) }
     ensures met { IfErr result (IsMet K.opening) }
 {
     let floor: Floor<K> = Floor::new(Tied::new(core));
-    let known: Known<'_, K> = Known::new(image);
+    let known: Known<'_, K> = Known::new(ahead);
     let crew = work_all(rt, alloc, &floor, &known, workers, gate);
     let logs = logs_of(alloc, crew)?;
     let Floor { core, .. } = floor;
@@ -182,6 +186,7 @@ fn work_all<K: Whole + Send + Sync, R: Threads + Wait + Sync, G: Gate + Sync>(
     requires { workers ≤ 16 }
 {
     thread::scope(thread::scope_env(), rt, |scope| {
+        tables_cross();
         images_cross();
         cores_cross();
         let mut handles = Vec::new(alloc);
@@ -213,6 +218,32 @@ fn work_all<K: Whole + Send + Sync, R: Threads + Wait + Sync, G: Gate + Sync>(
     })
 }
 
+impl Hand {
+    // Makes the private steps of the ticket, and says whether they have no records. The gate's turns are counted by the receipts.
+    fn make<K: Whole, G: Gate>(&mut self, known: &Known<'_, K>, gate: &G) -> bool
+        ensures { HasMade K.opening.program result self.new }
+    {
+        let turn = self.log.receipts().len() as u64 + 1;
+        if gate.stretch_into(
+            self.worker,
+            turn,
+            &known.ahead,
+            &self.ticket,
+            &mut self.stretch,
+        ) {
+            return true;
+        }
+        gate.segment_into(
+            self.worker,
+            turn,
+            known.ahead.image(),
+            &self.ticket,
+            &mut self.segment,
+        );
+        false
+    }
+}
+
 impl<K: Whole> Floor<K> {
     fn new(core: Tied<K>) -> Self {
         Floor {
@@ -240,32 +271,55 @@ impl<K: Whole> Floor<K> {
         gate: &G,
     ) -> Work<K> {
         let log = Log::new(alloc);
-        let work = match self.check_out(rt, self.core.lock(rt), Ticket::blank(alloc)) {
-            Ok(Some(ticket)) => self.work_on(
+        let work = match Stretch::new(alloc) {
+            Ok(stretch) => self.work_with(
                 rt,
                 known,
                 gate,
                 Hand {
                     alloc,
                     worker,
-                    ticket,
+                    ticket: Ticket::blank(alloc),
+                    stretch,
                     segment: Segment::new(),
                     log,
                 },
             ),
-            Ok(None) => Work {
+            Err(_) => Work {
                 log,
-                outcome: Ok(()),
-            },
-            Err(fault) => Work {
-                log,
-                outcome: Err(fault),
+                outcome: Err(Halt::NoMemory),
             },
         };
         if work.outcome.is_err() {
             self.end(rt);
         }
         work
+    }
+
+    // All turns of a worker, with the room that it has in hand.
+    fn work_with<R: Wait, G: Gate>(
+        &self,
+        rt: &R,
+        known: &Known<'_, K>,
+        gate: &G,
+        hand: Hand,
+    ) -> Work<K> {
+        let mut hand = hand;
+        let used = replace(&mut hand.ticket, Ticket::blank(hand.alloc));
+        match self.check_out(rt, self.core.lock(rt), used) {
+            Ok(Some(ticket)) => {
+                hand.ticket = ticket;
+                self.work_on(rt, known, gate, hand)
+            }
+            Ok(None) => Work {
+                log: hand.log,
+                outcome: Ok(()),
+            },
+            Err(fault) => Work {
+                log: hand.log,
+                outcome: Err(fault),
+            },
+        }
     }
 
     // The turns of a worker that has its first ticket.
@@ -297,7 +351,7 @@ impl<K: Whole> Floor<K> {
         unreachable!()
     }
 
-    // A turn of a worker, which has the next ticket then. False where the run is over. The gate's calls are counted by the receipts.
+    // A turn of a worker, which has the next ticket then. False where the run is over.
     fn turn<R: Wait, G: Gate>(
         &self,
         rt: &R,
@@ -306,16 +360,9 @@ impl<K: Whole> Floor<K> {
         hand: &mut Hand,
     ) -> Result<bool, Halt<K>> {
         hand.log.reserve()?;
-        let turn = hand.log.receipts().len() as u64 + 1;
-        gate.segment_into(
-            hand.worker,
-            turn,
-            known.image,
-            &hand.ticket,
-            &mut hand.segment,
-        );
+        let stretched = hand.make(known, gate);
         let mut core = self.core.lock(rt);
-        if !self.commit(&mut core, hand)? {
+        if !self.commit(&mut core, hand, stretched)? {
             return Ok(false);
         }
         let used = replace(&mut hand.ticket, Ticket::blank(hand.alloc));
@@ -328,11 +375,21 @@ impl<K: Whole> Floor<K> {
         }
     }
 
-    // Commits the segment that a worker has in hand, and notes its receipt. False where the run is over.
-    fn commit(&self, core: &mut Tied<K>, hand: &mut Hand) -> Result<bool, Halt<K>>
-        requires { IsMadeBy K.opening.program hand.old.segment }
+    // Commits what a worker has in hand, and notes its receipt. False where the run is over.
+    fn commit(&self, core: &mut Tied<K>, hand: &mut Hand, stretched: bool) -> Result<bool, Halt<K>>
+        requires { HasMade K.opening.program stretched hand.old }
     {
-        match core.turn(hand.worker, &hand.segment) {
+        let offer = if stretched {
+            Offer::Made {
+                stretch: &hand.stretch,
+            }
+        } else {
+            Offer::Recorded {
+                segment: &hand.segment,
+                known: true,
+            }
+        };
+        match core.turn(hand.worker, &offer) {
             Ok(receipt) => {
                 hand.log.push(receipt)?;
                 Ok(true)

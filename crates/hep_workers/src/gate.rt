@@ -1,10 +1,13 @@
-//! Where the segments are made.
+//! Where private steps are made.
+ghost use Rattle.std.specs.Prelude.{◌≡◌, true};
 ghost use Rattle.hep_segments.specs.Segments.{IsComputed};
+ghost use Rattle.hep_stretches.specs.Stretches.{IsStretchedFrom};
 
 use hep_image::Image;
 use hep_segments::{Segment, Ticket, compute, compute_into};
+use hep_stretches::{Ahead, Stretch, make_stretch};
 
-/// Makes the segments of workers, without the lock. Both numbers count from 1: the worker's, and that of its call.
+/// Makes the segments of workers, without the lock. Both numbers count from 1: the worker's, and that of its turn.
 ///
 /// A gate that holds a worker for a while brings about schedules that are rare otherwise.
 pub trait Gate {
@@ -24,9 +27,24 @@ pub trait Gate {
     {
         *segment = self.segment(worker, turn, image, ticket);
     }
+
+    /// The same steps without a record of each, which is what workers ask for first. A gate need not make any: where it answers false its
+    /// segment is asked for.
+    fn stretch_into(
+        &self,
+        worker: u32,
+        turn: u64,
+        ahead: &Ahead<'_>,
+        ticket: &Ticket,
+        stretch: &mut Stretch,
+    ) -> bool
+        ensures { result ≡ true → IsStretchedFrom ahead.now ticket.now stretch.new }
+    {
+        false
+    }
 }
 
-/// Makes the segment and holds nobody.
+/// Makes the steps and holds nobody.
 #[derive(Clone, Copy, Debug)]
 pub struct NoGate;
 
@@ -46,5 +64,17 @@ impl Gate for NoGate {
         segment: &mut Segment,
     ) {
         compute_into(image, ticket, segment);
+    }
+
+    #[inline(always)]
+    fn stretch_into(
+        &self,
+        _worker: u32,
+        _turn: u64,
+        ahead: &Ahead<'_>,
+        ticket: &Ticket,
+        stretch: &mut Stretch,
+    ) -> bool {
+        make_stretch(ahead, ticket, stretch)
     }
 }

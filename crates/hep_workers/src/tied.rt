@@ -3,14 +3,13 @@ ghost use Rattle.std.specs.Prelude.{◌≡◌, []};
 ghost use Rattle.std.specs.Coded.{Coded-set, codes};
 ghost use Rattle.hep_source.specs.contracts.expression.Expr as expression;
 ghost use Rattle.hep_core.specs.Value.{CoreValue, opening_of};
-ghost use Rattle.hep_segments.specs.Segments.{IsMadeBy};
+ghost use Rattle.hep_core.specs.Offers.{IsKnownOffer};
 ghost use Rattle.hep_receipts.specs.Shared.{IsOfOneRun, IsSharedFrom};
 ghost use Rattle.hep_workers.specs.Faults.{HasGivenAll};
 
-use hep_core::{ChooseFault, CommitFault, Core, Verdict};
-use hep_image::Image;
-use hep_receipts::{Receipt, known_turn};
-use hep_segments::{Segment, Ticket};
+use hep_core::{ChooseFault, CommitFault, Core, Offer, Ticket, Verdict};
+use hep_receipts::{Receipt, offer_turn};
+use hep_stretches::Ahead;
 use std::alloc::AllocError;
 use std::marker::{Brand, PhantomData};
 
@@ -54,21 +53,21 @@ impl<K: Whole> From<AllocError> for Halt<K> {
     }
 }
 
-/// The image of that run.
+/// The image of that run, with the private code of its units.
 #[derive(Drop)]
 pub(crate) struct Known<'a, K: Whole> {
-    pub(crate) image: &'a Image,
+    pub(crate) ahead: Ahead<'a>,
     of: PhantomData<K>,
-    ghost is: { image.now ≡ K.opening.program } by { Coded-set (Prim.hlevel (codes, expression.the_row.coded)) image.now K.opening.program },
+    ghost is: { ahead ≡ K.opening.program } by { Coded-set (Prim.hlevel (codes, expression.the_row.coded)) ahead K.opening.program },
 }
 
 impl<'a, K: Whole> Known<'a, K> {
     /// An image that is known to be the run's.
-    pub(crate) fn new(image: &'a Image) -> Self
-        requires { image.now ≡ K.opening.program }
+    pub(crate) fn new(ahead: Ahead<'a>) -> Self
+        requires { ahead ≡ K.opening.program }
     {
         Known {
-            image,
+            ahead,
             of: PhantomData,
         }
     }
@@ -104,11 +103,11 @@ impl<K: Whole> Tied<K> {
         self.core.next_ready()
     }
 
-    /// A turn of a worker, whose segment is made by the image of the run.
-    pub(crate) fn turn(&mut self, worker: u32, segment: &Segment) -> Result<Receipt, CommitFault>
-        requires { IsMadeBy K.opening.program segment.now }
+    /// A turn of a worker, whose private steps are made by the image of the run.
+    pub(crate) fn turn(&mut self, worker: u32, offer: &Offer<'_>) -> Result<Receipt, CommitFault>
+        requires { IsKnownOffer K.opening.program offer.now }
     {
-        known_turn(&mut self.core, worker, segment)
+        offer_turn(&mut self.core, worker, offer)
     }
 
     /// A ticket is out no more.

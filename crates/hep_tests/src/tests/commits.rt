@@ -1,7 +1,9 @@
 //! Commits of segments with private steps.
 
 use super::{computed, image_from};
-use hep_core::{ChoiceStop, ChooseFault, CommitFault, Core, Segment, Turn, Verdict, compute};
+use hep_core::{
+    ChoiceStop, ChooseFault, CommitFault, Core, Offer, Segment, Turn, Verdict, compute,
+};
 use hep_image::Image;
 use std::alloc::Global;
 use std::process::Abort;
@@ -120,10 +122,18 @@ fn known_steps(rt: HostRuntime) {
     let (mut core, _image) = begun(&rt, rt.alloc(), PRINTING, 9, 9);
     let first = core.check_out(1).expect(&rt, "no ticket");
     let segment = computed(&core, &first);
-    assert!(rt; core.commit_known(&segment) == made(4));
+    let offer = Offer::Recorded {
+        segment: &segment,
+        known: true,
+    };
+    assert!(rt; core.commit_offer(&offer) == made(4));
     let again = core.check_out_again(1, first).expect(&rt, "no ticket");
     assert!(rt; again.id().number == 2);
     let next = computed(&core, &again);
-    assert!(rt; core.commit_known(&next) == made(1));
+    let offer = Offer::Recorded {
+        segment: &next,
+        known: true,
+    };
+    assert!(rt; core.commit_offer(&offer) == made(1));
     assert!(rt; core.verdict() == Verdict::Done && core.history().len() == 2);
 }

@@ -5,4 +5,4 @@ use Rattle.hep_causes.proofs.reading.reasons_for.Given as goal
 
 abbrev pub invariant-loop-watch : goal.invariant-loop-watch
 invariant-loop-watch l =
-    l.reasons.items ++ reasons_for (state_of l.core.core) (drop l.watch-index l.watches) ≡ reasons_for (state_of l.core.core) l.watches
+    l.reasons.items ++ reasons_for l.core.core.program (state_of l.core.core) (drop l.watch-index l.watches) ≡ reasons_for l.core.core.program (state_of l.core.core) l.watches

@@ -10,7 +10,7 @@ use Rattle.hep_step.specs.Simulation.{unit_addressed, unit_code}
 use Rattle.hep_state.specs.Words.{HasLevels, snapshot_of}
 use Rattle.hep_state.proofs.Processes.{process-at, some-levels-at}
 use Rattle.hep_state.proofs.Unchanged.{carry}
-use Rattle.hep_coming.proofs.Standing.{room-there, stands-there, turn, unit-inside}
+use Rattle.hep_coming.proofs.Standing.{on-top, room-there, unit-inside}
 use Rattle.hep_coming.proofs.coming.coming_of.Goals.{After-settle}
 use Rattle.hep_coming.proofs.coming.coming_of.Goals as goal
 
@@ -25,7 +25,7 @@ unit-unit-requires c =
     let w = c.requires.levels in
     let it = process-at c.args.machine.now c.args.p c.requires.after.2.numbers c.place-at.ensures w.kept c.index-process.ensures in
     subst (λ (l : Local). l.unit < length c.args.image.now) (sym (c.top-unit.ensures w.level w.below w.operands w.pending it.stack)) (
-    unit-inside c.args.machine.now c.requires.after.2 c.requires.running w)
+    unit-inside c.args.machine.now c.requires.after.2 w)
 
 pub settle-requires : goal.settle-requires
 settle-requires c =
@@ -40,7 +40,7 @@ settle-requires c =
     let ahead : values_ahead (drop c.top-unit.result.index c.as_slice-code.result.now) ≡ values_ahead (drop w.level.index (unit_code program w.level.unit))
     = (λ i. values_ahead (drop (same i).index (code i))) in
     let depth = c.unit-unit.ensures.operands ∙ ap deepest unit in
-    omega (arith, count, ahead, ap length vs, depth, c.in_ok-operands.ensures.room, room-there c.args.machine.now c.requires.after.2 c.requires.running w)
+    omega (arith, count, ahead, ap length vs, depth, c.in_ok-operands.ensures.room, room-there c.args.machine.now c.requires.after.2 w)
 
 -- ---- what stands ahead once they are settled
 
@@ -66,13 +66,13 @@ module _ (c : After-settle) (w : HasLevels (snapshot_of c.args.machine.now) c.ar
 ahead : (c : After-settle) → (line : ℕ) × (o : Operation) × (behind : List Instruction) × (drop c.settle.new.index c.as_slice-code.result.now ≡ Step line o ∷ behind)
 ahead c =
     let w = c.requires.levels in
-    let top = turn c.args.machine.now c.requires.after.2 c.requires.running w in
+    let it = on-top c.args.machine.now c.requires.after.2 w in
     let code = same-code c w in
     let addressed = unit_addressed c.args.image.now w.level.unit in
-    let stands = settled c w top.0.0.statement top.0.0.work (stands-there c.args.machine.now c.requires.after.2 c.requires.running w) in
+    let stands = settled c w it.top.0.statement it.top.0.work it.stands.stands in
     let past = subst (λ (is : List Instruction). IsPastPushes is c.settle.new.index) code c.settle.ensures.settled in
-    let step = c.operations_stand_ahead.ensures.step addressed top.0.0.statement top.0.0.work c.settle.new.operands.items c.settle.new.index stands past in
-    (line_at (unit_at c.args.image.now w.level.unit) top.0.0.statement, step.0, step.1, ap (drop c.settle.new.index) code ∙ step.2)
+    let step = c.operations_stand_ahead.ensures.step addressed it.top.0.statement it.top.0.work c.settle.new.operands.items c.settle.new.index stands past in
+    (line_at (unit_at c.args.image.now w.level.unit) it.top.0.statement, step.0, step.1, ap (drop c.settle.new.index) code ∙ step.2)
 
 inside : (c : After-settle) → c.settle.new.index < length c.as_slice-code.result.now
 inside c = omega (arith, length-drop c.settle.new.index c.as_slice-code.result.now, ap length (ahead c).3)

@@ -22,11 +22,6 @@ coming_of-requires-clause-levels c =
     } in
     levels-of lives
 
-pub coming_of-requires-clause-running : goal.coming_of-requires-clause-running
-coming_of-requires-clause-running c =
-    let core = c.args.core.now.core in
-    halted-is core.program core.cells core.history (snapshot_of c.machine-machine.result.now) c.machine-machine.ensures.after.after ∙ c.requires.running
-
 pub look_ahead-requires-clause-ahead : goal.look_ahead-requires-clause-ahead
 look_ahead-requires-clause-ahead c =
     let core = c.args.core.now.core in

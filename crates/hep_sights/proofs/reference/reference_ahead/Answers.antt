@@ -4,8 +4,9 @@ use Rattle.hep_image.specs.Names.{variable_number}
 use Rattle.hep_layout.specs.Words.{address}
 use Rattle.hep_machine.specs.Words.{Value, location_of_name, run, scope_of, unit_at, unit_of}
 use Rattle.hep_sites.specs.Named.{named_by}
+use Rattle.hep_sites.proofs.AccessedAhead.{is-named}
 use Rattle.hep_sites.specs.Sites.{IsSite}
-use Rattle.hep_sights.proofs.Referred.{is-named, name-so, place-so}
+use Rattle.hep_sights.proofs.Referred.{name-so, place-so}
 use Rattle.hep_sights.proofs.reference.reference_ahead.Goals as goal
 
 pub returns-in_default : goal.returns-in_default

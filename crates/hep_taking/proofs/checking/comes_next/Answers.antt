@@ -1,14 +1,24 @@
-use Rattle.hep_taking.specs.Levels.{start_in}
+use Rattle.std.proofs.Common.{ap, sym}
+use Rattle.hep_state.proofs.Processes.{process-at}
+use Rattle.hep_taking.specs.Offers.{offered}
+use Rattle.hep_taking.proofs.Standing.{its-levels, its-place, standing}
 use Rattle.hep_taking.proofs.checking.comes_next.Goals as goal
 
--- what was made by the image comes next where it is kept
-pub returns-then-known-clause-made : goal.returns-then-known-clause-made
-returns-then-known-clause-made c levels =
-    let program = c.args.image.now in
-    let s = c.args.segment.now in
-    let law = c.segments_depend_on_reads.ensures in
-    let kept = c.is_kept.ensures.kept levels in
-    let known = c.requires.known c.if-known.true in (
-      λ is. law.made program known.0 (start_in levels) s known.1 (kept.0 is),
-      λ made. kept.1 (law.kept program (start_in levels) s made),
-    )
+pub place-at-requires : goal.place-at-requires
+place-at-requires c =
+    let turn = c.requires.can.1 in
+    record { numbers = turn.after.2.numbers; living = its-levels (sym (ap (λ id. id.process) (c.ticket.ensures c.args.owned.now.image.now))) turn.living }
+
+pub is_next-requires-clause-owned : goal.is_next-requires-clause-owned
+is_next-requires-clause-owned c = (
+  c.requires.can.0,
+  standing c.requires.can.1 (its-place (ap (λ id. id.process) (c.ticket.ensures c.args.owned.now.image.now)) c.place-at.ensures) c.index-process.ensures,
+)
+
+pub returns-clause-made : goal.returns-clause-made
+returns-clause-made c e =
+    let m = c.args.machine.now in
+    let program = c.args.owned.now.image.now in
+    let p = (offered program c.args.offer.now).id.process in
+    let it = process-at m p c.requires.can.1.after.2.numbers (its-place (ap (λ id. id.process) (c.ticket.ensures program)) c.place-at.ensures) e.kept c.index-process.ensures in
+    c.is_next.ensures.made e.level e.below e.operands e.pending it.stack

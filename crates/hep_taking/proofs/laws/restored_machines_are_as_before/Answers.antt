@@ -3,12 +3,12 @@ use Rattle.hep_private.specs.Own.{begun}
 use Rattle.hep_private_laws.specs.Saved.{AreOf}
 use Rattle.hep_taking.specs.Levels.{start_in}
 use Rattle.hep_taking.specs.OwnCells.{own_cells_of}
-use Rattle.hep_taking.proofs.Copies.{stored-by}
+use Rattle.hep_taking.proofs.OwnRead.{stored-by}
 use Rattle.hep_taking.proofs.Restored.{restored-moved}
 use Rattle.hep_taking.proofs.laws.restored_machines_are_as_before.Goals as goal
 
 pub returns : goal.returns
 returns c program m new p s levels after made moved =
     let of = subst (λ u. AreOf (own_cells_of program u) s.records) made.0.unit (
-    stored-by c.private_steps_store_in_own_cells.ensures program s.unit (length s.records) (begun s.index s.operands (start_in levels).values) s.records made.1.end made.1.made) in
+    stored-by program s.unit (length s.records) c.private_steps_store_in_own_cells.ensures (begun s.index s.operands (start_in levels).values) s.records made.1.end made.1.made) in
     restored-moved c.saved_cells_undo_stores.ensures program levels after s (own_cells_of program levels.level.unit) of moved

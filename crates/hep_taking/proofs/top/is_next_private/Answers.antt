@@ -1,6 +1,6 @@
 use Rattle.std.proofs.Common.{◌≡◌, ap, arith, length, subst, ◌∙◌}
 use Rattle.hep_code.specs.Words.{deepest}
-use Rattle.hep_segments.specs.Segments.{is_next_private}
+use Rattle.hep_stretches.specs.Segments.{is_next_private}
 use Rattle.hep_proc.proofs.Levels.{operands-are}
 use Rattle.hep_taking.proofs.Standing.{start-same}
 use Rattle.hep_taking.proofs.top.is_next_private.Goals as goal

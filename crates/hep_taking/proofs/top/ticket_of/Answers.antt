@@ -3,7 +3,7 @@ use Rattle.hep_code.specs.Words.{deepest}
 use Rattle.hep_private.specs.Own.{values_at}
 use Rattle.hep_proc.proofs.Levels.{operands-are, some-levels}
 use Rattle.hep_proc.specs.declared.process.Local.{Local}
-use Rattle.hep_segments.specs.Segments.{ticket_value}
+use Rattle.hep_stretches.specs.Segments.{ticket_value}
 use Rattle.hep_taking.specs.Levels.{copies_of}
 use Rattle.hep_taking.specs.OwnCells.{own_cells_of}
 use Rattle.hep_taking.proofs.top.ticket_of.Goals as goal

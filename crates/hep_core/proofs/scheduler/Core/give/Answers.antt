@@ -1,7 +1,7 @@
 use Rattle.std.proofs.Common.{◌≡◌, ◌≢◌, ◌++◌, ◌+◌, ◌∷◌, [], ℕ, List, None, Some, Option, true, inl, inr, refl, sym, ap, ◌∙◌, subst}
 use Rattle.hep_machine.specs.declared.event.Entry.{Entry}
 use Rattle.hep_machine.specs.Words.{Units, living, state_after}
-use Rattle.hep_segments.specs.declared.ticket.TicketId.{TicketId}
+use Rattle.hep_taking.specs.TicketId.{TicketId}
 use Rattle.hep_state.specs.declared.machine.Machine.{Machine}
 use Rattle.hep_taking.specs.OwnCells.{AreOwnCells}
 use Rattle.hep_core.specs.Commits.{IsGivenTo, core_after_ticket}

@@ -1,0 +1,9 @@
+mod Again
+mod Copies
+mod Ended
+pub mod Onward
+pub mod Plain
+pub mod Reached
+pub mod Same
+mod Stretched
+pub mod Unmade

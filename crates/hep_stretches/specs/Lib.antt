@@ -1,0 +1,5 @@
+pub use Rattle.hep_segments.specs.declared.ticket.TicketId
+pub use Rattle.hep_segments.specs.Places
+pub use Rattle.hep_segments.specs.Segments
+pub mod Private
+pub mod Stretches
