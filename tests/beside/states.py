@@ -1,5 +1,6 @@
 """What `hepf state` writes: what everything holds after the first entries of a history (docs/RUNS.md)."""
 import machine
+import coverage
 
 
 def shown_value(cell, name):
@@ -43,12 +44,20 @@ def lines_of(name, dimensions, cells):
     return lines
 
 
-def lines_of_process(process):
-    """A process, and the activations below its top one, each with the line at which it goes on."""
+def shown_line(source, number):
+    """The line of a source with this number, to column 80, with a question mark for a byte that can't be shown."""
+    line = coverage.lines_of(source)[number - 1][:80]
+    return f"{number:5} | {''.join(chr(byte) if 32 <= byte <= 126 else '?' for byte in line)}\n"
+
+
+def lines_of_process(process, source):
+    """A process, and the activations below its top one, each with the line at which it goes on, as the source has it."""
     wait = f" WAITING {process.wait.shown()}" if process.wait else ""
-    lines = [f"PROCESS {process.shown()} IN ACTIVATION {process.top.number}{wait}\n"]
+    lines = [f"PROCESS {process.shown()} IN ACTIVATION {process.top.number}{wait}\n", shown_line(source, process.line)]
     for above, activation in zip(process.stack[:0:-1], process.stack[-2::-1]):
-        lines.append(f"  BACK TO {activation.unit.name} LINE {line_behind(above, activation)} IN ACTIVATION {activation.number}\n")
+        line = line_behind(above, activation)
+        lines.append(f"  BACK TO {activation.unit.name} LINE {line} IN ACTIVATION {activation.number}\n")
+        lines.append(shown_line(source, line))
     return lines
 
 
@@ -84,7 +93,7 @@ def lines_of_activation(activation):
     return lines
 
 
-def text_of(program, arena, entries, count):
+def text_of(program, source, arena, entries, count):
     """What is written of the first entries of a history, all of them where it has no more."""
     entries = entries[:count]
     run = machine.Run(program, arena, machine.MOST_ENTRIES)
@@ -96,7 +105,7 @@ def text_of(program, arena, entries, count):
             return machine.refused(603, at)
     lines = [f"AFTER {len(entries)} ENTRIES\n"]
     for number in sorted(run.living):
-        lines += lines_of_process(run.living[number])
+        lines += lines_of_process(run.living[number], source)
     for block in program.common_cells:
         lines += lines_of_block(run, block)
     for number in sorted(run.held):

@@ -13,6 +13,7 @@ use Rattle.hep_proc.specs.Stacks.{stack_of, stack_with}
 use Rattle.hep_state.specs.Words.{AreThere, HasLevels, IsMachineAfter, snapshot_of}
 use Rattle.hep_proc.proofs.Levels.{levels-are}
 use Rattle.hep_states.specs.Lines as lines
+use Rattle.hep_states.specs.Lines.{LevelText}
 
 -- ---- the top one and those below it
 
@@ -58,10 +59,13 @@ are-there program cells choices m p levels h =
 
 -- ---- the lines
 
-pub joined : (old level waiting backs : List ℕ) (p : ℕ) → ((old ++ (codes "PROCESS " ++ decimal p ++ codes " " ++ level)) ++ (waiting ++ codes "\n")) ++ backs ≡ old ++ (lines.process_text p level waiting ++ backs)
+pub joined : (old : List ℕ) (level : LevelText) (waiting backs : List ℕ) (p : ℕ)
+    → (((old ++ (codes "PROCESS " ++ decimal p ++ codes " " ++ level.place)) ++ (waiting ++ codes "\n")) ++ level.statement) ++ backs ≡ old ++ (lines.process_text p level waiting ++ backs)
 joined old level waiting backs p =
-    let front : List ℕ = codes "PROCESS " ++ decimal p ++ codes " " ++ level in
+    let front : List ℕ = codes "PROCESS " ++ decimal p ++ codes " " ++ level.place in
     let end : List ℕ = waiting ++ codes "\n" in
-    ap (λ xs. xs ++ backs) (append_assoc old front end)
-    ∙ append_assoc old (front ++ end) backs
-    ∙ ap (λ xs. old ++ ((codes "PROCESS " ++ xs) ++ backs)) (sym (append_assoc (decimal p ++ codes " " ++ level) waiting (codes "\n")))
+    let behind : List ℕ = level.statement in
+    ap (λ xs. (xs ++ behind) ++ backs) (append_assoc old front end)
+    ∙ ap (λ xs. xs ++ backs) (append_assoc old (front ++ end) behind)
+    ∙ append_assoc old ((front ++ end) ++ behind) backs
+    ∙ ap (λ xs. old ++ (((codes "PROCESS " ++ xs) ++ behind) ++ backs)) (sym (append_assoc (decimal p ++ codes " " ++ level.place) waiting (codes "\n")))

@@ -8,16 +8,25 @@ use Rattle.hep_step.specs.Simulation.{unit_code}
 use Rattle.hep_proc.specs.declared.process.Local.{Local}
 use Rattle.hep_state.specs.Words.{node_under}
 use Rattle.hep_states.specs.Lines as lines
+use Rattle.hep_states.specs.Lines.{LevelText}
+
+-- the line on which the statement of a level begins, by the code of its unit
+abbrev pub line_seen : Units → Local → ℕ
+line_seen program l = line_ahead (drop l.index (unit_code program l.unit))
 
 module _ (program : Units) (nodes : Nodes) where
-  -- where a level goes on, by the code of its unit
-  abbrev pub level_seen : Local → List ℕ
-  level_seen l =
-      lines.level_text (unit_name (unit_at program l.unit)) (line_ahead (drop l.index (unit_code program l.unit))) (node_under nodes l.key).activation
+  -- where a level goes on
+  abbrev pub place_seen : Local → List ℕ
+  place_seen l = lines.place_text (unit_name (unit_at program l.unit)) (line_seen program l) (node_under nodes l.key).activation
 
   -- the front of the first line of a process that is at a level
   abbrev pub top_seen : ℕ → Local → List ℕ
-  top_seen p l = codes "PROCESS " ++ decimal p ++ codes " " ++ level_seen l
+  top_seen p l = codes "PROCESS " ++ decimal p ++ codes " " ++ place_seen l
+
+-- where lines of the source are shown so
+module _ (program : Units) (nodes : Nodes) (shown : ℕ → List ℕ) where
+  abbrev pub level_seen : Local → LevelText
+  level_seen l = lines.level_text shown (unit_name (unit_at program l.unit)) (line_seen program l) (node_under nodes l.key).activation
 
   -- the lines of those below the top one
   abbrev pub backs_seen : List Local → List ℕ

@@ -1,3 +1,4 @@
+pub use Rattle.hep_notes.specs.Shown
 pub mod Kept
 pub mod Variables
 pub mod Levels

@@ -1,19 +1,37 @@
 //! Where processes are.
-ghost use Rattle.std.specs.Prelude.{◌≡◌, ◌++◌, ℕ, List, OnOk, Some, codes, reverse};
+ghost use Rattle.std.specs.Prelude.{◌≡◌, ◌<◌, ◌++◌, ℕ, List, OnOk, Some, codes, length, reverse};
 ghost use Rattle.hep_machine.specs.Words.{Process, numbered, run};
 ghost use Rattle.hep_proc.specs.Nodes.{nodes_of};
 ghost use Rattle.hep_state.specs.Words.{AreThere, IsThere, IsMachineAfter, HasLevels, snapshot_of};
 ghost use Rattle.hep_states.specs.Lines as lines;
 ghost use Rattle.hep_states.specs.States as words;
-ghost use Rattle.hep_contents.specs.Levels.{backs_seen, level_seen, top_seen};
+ghost use Rattle.hep_contents.specs.Levels.{backs_seen, level_seen, line_seen, place_seen, top_seen};
+ghost use Rattle.hep_notes.specs.Shown.{line_shown};
 
 use hep_image::Image;
+use hep_notes::Listing;
 use hep_output::append_number;
 use hep_proc::{Frames, Local};
 use hep_state::Machine;
 use hep_states::append_level;
 use hep_views::finding::line_from;
 use std::alloc::AllocError;
+
+/// An image, and the lines of its source.
+#[derive(Clone, Copy)]
+pub struct Source<'a> {
+    pub image: &'a Image,
+    pub lines: &'a Listing<'a>,
+}
+
+// The line on which the statement of a level begins.
+fn line_of(image: &Image, level: Local) -> u32
+    requires { level.unit < length image.now }
+    ensures { result ≡ line_seen image.now level }
+{
+    let unit = image.unit(level.unit as usize);
+    line_from(unit.code.as_slice(), level.index)
+}
 
 // Where a level goes on.
 fn append_place(
@@ -23,27 +41,32 @@ fn append_place(
     level: Local,
 ) -> Result<(), AllocError>
     requires { IsThere image.now (nodes_of frames.now.nodes) level }
-    ensures { OnOk result (text.new.items ≡ text.old.items ++ level_seen image.now (nodes_of frames.now.nodes) level) }
+    ensures { OnOk result (text.new.items ≡ text.old.items ++ place_seen image.now (nodes_of frames.now.nodes) level) }
 {
-    let unit = image.unit(level.unit as usize);
-    let line = line_from(unit.code.as_slice(), level.index);
     let name = image.name(level.unit).unwrap();
-    append_level(text, name, line, frames.activation(level.key))
+    append_level(
+        text,
+        name,
+        line_of(image, level),
+        frames.activation(level.key),
+    )
 }
 
-// The line of a level below the top one.
+// The lines of a level below the top one.
 fn append_back(
     text: &mut Vec<u8>,
     frames: &Frames,
-    image: &Image,
+    source: &Source<'_>,
     level: Local,
 ) -> Result<(), AllocError>
-    requires { IsThere image.now (nodes_of frames.now.nodes) level }
-    ensures { OnOk result (text.new.items ≡ text.old.items ++ lines.back_text (level_seen image.now (nodes_of frames.now.nodes) level)) }
+    requires { IsThere source.now.image.now (nodes_of frames.now.nodes) level }
+    ensures { OnOk result (text.new.items
+        ≡ text.old.items ++ lines.back_text (level_seen source.now.image.now (nodes_of frames.now.nodes) (line_shown source.now.lines.now) level)) }
 {
     text.extend_from_slice(b"  BACK TO ")?;
-    append_place(text, frames, image, level)?;
+    append_place(text, frames, source.image, level)?;
     text.extend_from_slice(b"\n")?;
+    source.lines.append(text, line_of(source.image, level))?;
     Ok(())
 }
 
@@ -51,14 +74,15 @@ fn append_back(
 fn append_backs(
     text: &mut Vec<u8>,
     frames: &Frames,
-    image: &Image,
+    source: &Source<'_>,
     levels: &[Local],
 ) -> Result<(), AllocError>
-    requires { AreThere image.now (nodes_of frames.now.nodes) (reverse levels.now) }
-    ensures { OnOk result (text.new.items ≡ text.old.items ++ backs_seen image.now (nodes_of frames.now.nodes) (reverse levels.now)) }
+    requires { AreThere source.now.image.now (nodes_of frames.now.nodes) (reverse levels.now) }
+    ensures { OnOk result (text.new.items
+        ≡ text.old.items ++ backs_seen source.now.image.now (nodes_of frames.now.nodes) (line_shown source.now.lines.now) (reverse levels.now)) }
 {
     for index in 0..levels.len() {
-        append_back(text, frames, image, levels[levels.len() - 1 - index])?;
+        append_back(text, frames, source, levels[levels.len() - 1 - index])?;
     }
     Ok(())
 }
@@ -90,7 +114,8 @@ fn append_waiting(text: &mut Vec<u8>, waiting: &[u8]) -> Result<(), AllocError>
     Ok(())
 }
 
-/// Appends the lines of process p, which lives: where it is, with words for what it waits for, or none, and where it goes back to.
+/// Appends the lines of process p, which lives: where it is, with words for what it waits for, or none, and where it goes back to; behind each
+/// place the line of the source on which the statement begins.
 ///
 /// # Errors
 ///
@@ -98,21 +123,24 @@ fn append_waiting(text: &mut Vec<u8>, waiting: &[u8]) -> Result<(), AllocError>
 pub fn append_process(
     text: &mut Vec<u8>,
     machine: &Machine,
-    image: &Image,
+    source: &Source<'_>,
     p: u64,
     waiting: &[u8],
 ) -> Result<(), AllocError>
     requires levels { HasLevels (snapshot_of machine.now) p }
-    requires after { (cells : ℕ) × (choices : List ℕ) × IsMachineAfter image.now cells choices machine.now }
-    ensures { OnOk result ((cells : ℕ) (choices : List ℕ) (q : Process) → IsMachineAfter image.now cells choices machine.now
-        → numbered (run image.now choices).processes p ≡ Some q
-        → text.new.items ≡ text.old.items ++ words.stack_text image.now (run image.now choices) p waiting.now q) }
+    requires after { (cells : ℕ) × (choices : List ℕ) × IsMachineAfter source.now.image.now cells choices machine.now }
+    ensures { OnOk result ((cells : ℕ) (choices : List ℕ) (q : Process) → IsMachineAfter source.now.image.now cells choices machine.now
+        → numbered (run source.now.image.now choices).processes p ≡ Some q
+        → text.new.items
+        ≡ text.old.items ++ words.stack_text source.now.image.now (run source.now.image.now choices) (line_shown source.now.lines.now) p waiting.now q) }
 {
     let at = machine.place(p);
     let levels = machine.processes[at].levels.as_slice();
     let below = levels.len() - 1;
-    append_top(text, &machine.frames, image, p, levels[below])?;
+    let top = levels[below];
+    append_top(text, &machine.frames, source.image, p, top)?;
     append_waiting(text, waiting)?;
-    append_backs(text, &machine.frames, image, &levels[..below])?;
+    source.lines.append(text, line_of(source.image, top))?;
+    append_backs(text, &machine.frames, source, &levels[..below])?;
     Ok(())
 }

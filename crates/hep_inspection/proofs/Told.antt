@@ -10,6 +10,8 @@ use Rattle.hep_machine.specs.declared.event.Entry.{Entry}
 use Rattle.hep_machine.specs.Words.{Units, opening_layout, opening}
 use Rattle.hep_states.specs.Lines as lines
 use Rattle.hep_states.specs.States.{contents_text, state_text}
+use Rattle.hep_survey.specs.Shown.{line_shown}
+use Rattle.hep_text.specs.Line as rows_of
 use Rattle.hep_run.specs.declared.options.Run.{Run}
 use Rattle.hep_outcome.specs.declared.transcript.Transcript.{Transcript}
 use Rattle.hep_run.specs.Checks.{outcome_of_text}
@@ -23,29 +25,30 @@ use Rattle.hep_causes.proofs.Found.{progress-singles}
 use Rattle.hep_outcome.specs.Transcripts.{outcome_of}
 use Rattle.hep_run.specs.Transcripts.{LeavesMade}
 use Rattle.hep_run.proofs.Accepted.{left_alone}
-use Rattle.hep_run.proofs.Fronts.{source_left}
+use Rattle.hep_run.proofs.Fronts.{read_left, same_outcome}
 use Rattle.hep_run.proofs.Outcomes.{made_left}
 
-module _ (program : Units) where
-  text-same : (count : ℕ) (es : List Entry) → state_text program count (single_entries es) ≡ state_text program count es
+module _ (shown : ℕ → List ℕ) (program : Units) where
+  text-same : (count : ℕ) (es : List Entry) → state_text shown program count (single_entries es) ≡ state_text shown program count es
   text-same count es =
       let states = state_singles program es in
       let listed = progress-singles program (record { state = opening program; listed = [] }) es in
-      λ i. lines.head_text count ++ contents_text program (states i) (listed i).listed
+      λ i. lines.head_text count ++ contents_text program (states i) shown (listed i).listed
 
 -- what everything holds after the history of a core that has made entries again
-pub state-told : (core : CoreValue) (program : Units) (cells : ℕ) (entries : List Entry) → core ≡ replayed program cells entries
-    → state_text core.program (length entries) core.history ≡ told State program entries
-state-told core program cells entries made = ap (λ (x : CoreValue). state_text x.program (length entries) x.history) made ∙ text-same program (length entries) entries
+pub state-told : (core : CoreValue) (source : List ℕ) (program : Units) (cells : ℕ) (entries : List Entry) → core ≡ replayed program cells entries
+    → state_text (line_shown (rows_of.lines source)) core.program (length entries) core.history ≡ told State source program entries
+state-told core source program cells entries made =
+    ap (λ (x : CoreValue). state_text (line_shown (rows_of.lines source)) x.program (length entries) x.history) made ∙ text-same (line_shown (rows_of.lines source)) program (length entries) entries
 
 -- what is told of the first entries of a history
-pub first-told : (telling : Telling) (long : Bool) (text : List ℕ) (count cells : ℕ) (program : Units) (entries es : List Entry) (o : Outcome)
+pub first-told : (telling : Telling) (long : Bool) (text : List ℕ) (count cells : ℕ) (source : List ℕ) (program : Units) (entries es : List Entry) (o : Outcome)
     → AreLines entry_text IsAllowed text entries → es ≡ take count entries
     → IsSome (opening_layout program cells) → ArePossible program cells es (length es)
-    → o ≡ outcome_of_text (told telling program es)
-    → IsFirstOutcome telling long text count cells program o
-first-told telling long text count cells program entries es o read front fits possible is =
-    inr (entries, read, subst (λ fs. IsToldOutcome telling long program cells fs o) front (inr (fits, inr (possible, is))))
+    → o ≡ outcome_of_text (told telling source program es)
+    → IsFirstOutcome telling long text count cells source program o
+first-told telling long text count cells source program entries es o read front fits possible is =
+    inr (entries, read, subst (λ fs. IsToldOutcome telling long source program cells fs o) front (inr (fits, inr (possible, is))))
 
 module _ (telling : Telling) (long : Bool) (text : List ℕ) (count cells : ℕ) where
   keeps_none : (source : List ℕ) (o : Outcome) → IsSourceTold telling long text count cells source o → o.history ≡ []
@@ -61,6 +64,6 @@ module _ (telling : Telling) (long : Bool) (text : List ℕ) (count cells : ℕ)
       → LeavesMade r run output output' messages messages'
       → LeavesOfSource (IsSourceTold telling long text count cells) known left (status_alone run.status) output output' messages messages'
   state_left known left bytes source r run output output' messages messages' same taken end is made =
-      source_left long IsRefusedProgram IsRunnable (IsFirstOutcome telling long text count cells) known left bytes source (status_alone run.status) output output' messages messages' same taken end (
+      read_left (IsSourceTold telling long text count cells) (same_outcome long IsRefusedProgram IsRunnable (λ its. IsFirstOutcome telling long text count cells its)) known left bytes source (status_alone run.status) output output' messages messages' same taken end (
       left_alone (IsSourceTold telling long text count cells source) (keeps_none source) run output output' messages messages' (
       made_left (IsSourceTold telling long text count cells source) r run output output' messages messages' is made))

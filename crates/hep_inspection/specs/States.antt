@@ -7,6 +7,8 @@ use Rattle.hep_history.specs.Histories.{entry_text, IsAllowed}
 use Rattle.hep_history.specs.Replays.{ArePossible, IsFirstImpossible}
 use Rattle.hep_causes.specs.Reasons.{why_text}
 use Rattle.hep_states.specs.States.{state_text}
+use Rattle.hep_survey.specs.Shown.{line_shown}
+use Rattle.hep_text.specs.Line.{lines}
 use Rattle.hep_turns.specs.Traces.{trace_text}
 use Rattle.hep_turns.specs.Pages.{shown_on}
 use Rattle.hep_inspection.specs.declared.state.Telling.{Telling}
@@ -16,11 +18,11 @@ use Rattle.hep_outcome.specs.Outcome.{Outcome, outcome_of_full_arena}
 use Rattle.hep_run.specs.Outcome.{RunsTo}
 use Rattle.hep_outcome.specs.Replay.{outcome_of_refused_history}
 
--- what is told of entries: what everything holds after them, what each step did, or why processes wait
-abbrev pub told : Telling → Units → List Entry → List ℕ
-told State program entries = state_text program (length entries) entries
-told (Trace page) program entries = trace_text program (shown_on page) entries
-told Why program entries = why_text program entries
+-- what is told of entries of a source: what everything holds after them, what each step did, or why processes wait
+abbrev pub told : Telling → List ℕ → Units → List Entry → List ℕ
+told State source program entries = state_text (line_shown (lines source)) program (length entries) entries
+told (Trace page) source program entries = trace_text program (shown_on page) entries
+told Why source program entries = why_text program entries
 
 -- the main program's frame has a gap in an arena of so many cells, and each of these entries is possible after those before it
 abbrev pub CanBeTold : Units → ℕ → List Entry → Type 0
@@ -28,19 +30,19 @@ CanBeTold program cells entries = IsSome (opening_layout program cells) × ArePo
 
 -- what is written of these entries: what is told; or that COMMON and the main program's frame don't fit the arena, or the first entry that isn't
 -- possible
-abbrev pub IsToldOutcome : Telling → Bool → Units → ℕ → List Entry → Outcome → Type 0
-IsToldOutcome telling long program cells entries o =
+abbrev pub IsToldOutcome : Telling → Bool → List ℕ → Units → ℕ → List Entry → Outcome → Type 0
+IsToldOutcome telling long source program cells entries o =
     ((opening_layout program cells ≡ None) × (o ≡ outcome_of_full_arena long program cells))
     ⊎ (IsSome (opening_layout program cells) × (
     ((k : ℕ) × IsFirstImpossible program cells entries k × (o ≡ outcome_of_refused_history 603 k))
-    ⊎ (ArePossible program cells entries (length entries) × (o ≡ outcome_of_text (told telling program entries)))))
+    ⊎ (ArePossible program cells entries (length entries) × (o ≡ outcome_of_text (told telling source program entries)))))
 
 -- of the first entries of a text of a history, so many, or all where it has no more
-abbrev pub IsFirstOutcome : Telling → Bool → List ℕ → ℕ → ℕ → Units → Outcome → Type 0
-IsFirstOutcome telling long text count cells program o =
+abbrev pub IsFirstOutcome : Telling → Bool → List ℕ → ℕ → ℕ → List ℕ → Units → Outcome → Type 0
+IsFirstOutcome telling long text count cells source program o =
     ((k : ℕ) × IsRefusedText entry_text IsAllowed text k × (o ≡ outcome_of_refused_history 601 k))
-    ⊎ ((entries : List Entry) × AreLines entry_text IsAllowed text entries × IsToldOutcome telling long program cells (take count entries) o)
+    ⊎ ((entries : List Entry) × AreLines entry_text IsAllowed text entries × IsToldOutcome telling long source program cells (take count entries) o)
 
 -- of a source
 abbrev pub IsSourceTold : Telling → Bool → List ℕ → ℕ → ℕ → List ℕ → Outcome → Type 0
-IsSourceTold telling long text count cells source o = RunsTo long (IsFirstOutcome telling long text count cells) source o
+IsSourceTold telling long text count cells source o = RunsTo long (IsFirstOutcome telling long text count cells source) source o

@@ -1,15 +1,22 @@
 //! The bytes of a source and of a history to what everything holds after the history's first entries.
 ghost use Rattle.std.specs.Prelude.{◌≡◌, ◌≤◌, false, IfErr, IfOk, OnErr, OnOk};
-ghost use Rattle.hep_inspection.specs.declared.state.Telling.TheVariants.{State, Trace, Why};
+ghost use Rattle.hep_inspection.specs.declared.state.Telling.TheVariants.{State};
 ghost use Rattle.hep_history.specs.First.{first_of};
 ghost use Rattle.hep_run.specs.Delivery.{LeavesOfSource, status_alone};
 ghost use Rattle.hep_run.specs.Memory.{MayReadOn, RefusesLargeSource};
+ghost use Rattle.hep_states.specs.States as words;
+ghost use Rattle.hep_survey.specs.Shown.{line_shown};
+ghost use Rattle.hep_text.specs.Line.{lines};
 ghost use Rattle.hep_inspection.specs.States.{CanBeTold, IsFirstOutcome, IsSourceTold, told};
+ghost use Rattle.hep_causes.specs.Reasons as reasons;
+ghost use Rattle.hep_turns.specs.Traces as traces;
+ghost use Rattle.hep_turns.specs.Pages.{shown_on};
 ghost use Rattle.hep_outcome.specs.Transcripts.{outcome_of};
 ghost use Rattle.hep_turns.specs.Making.{IsUntold};
 
 use hep_base::Refusal;
 use hep_causes::why_text;
+use hep_core::Core;
 use hep_history::{First, ReplayFault, read_text, replay_first};
 use hep_image::Image;
 use hep_run::deliver::deliver_made;
@@ -21,7 +28,7 @@ use hep_run::transcript::{
     Transcript, fault_transcript, full_transcript, history_transcript, opening_notes_when,
     text_transcript,
 };
-use hep_survey::state_text;
+use hep_survey::{Listing, state_text};
 use hep_turns::{Page, trace_history};
 use std::alloc::{AllocError, Global};
 use std::io::{Read, Write};
@@ -53,21 +60,31 @@ pub struct AskedState<'a> {
     ghost few: { arena ≤ 16777216 },
 }
 
+// What everything holds after the history of a core, which was told in so many entries.
+fn core_told(alloc: Global, source: &[u8], core: &Core, entries: u64) -> Result<Vec<u8>, AllocError>
+    ensures { IfOk result (λ text. text.items
+        ≡ words.state_text (line_shown (lines source.now)) core.now.core.program entries core.now.core.history) }
+{
+    let lines = Listing::new(alloc, source)?;
+    state_text(alloc, core, &lines, entries)
+}
+
 // What everything holds after entries, which are made for it.
 fn state_told(
     alloc: Global,
+    source: &[u8],
     image: Image,
     arena: u32,
     entries: &First<'_>,
 ) -> Result<Vec<u8>, ReplayFault>
     requires some { 1 ≤ arena }
     requires few { arena ≤ 16777216 }
-    ensures told { IfOk result (λ text. text.items ≡ told State image (first_of entries.now)) }
+    ensures told { IfOk result (λ text. text.items ≡ told State source.now image (first_of entries.now)) }
     ensures possible { OnOk result (CanBeTold image arena (first_of entries.now)) }
     ensures untold { IfErr result (IsUntold image arena (first_of entries.now)) }
 {
     let core = replay_first(alloc, image, arena, entries)?;
-    match state_text(alloc, &core, entries.len()) {
+    match core_told(alloc, source, &core, entries.len()) {
         Ok(text) => Ok(text),
         Err(_) => Err(ReplayFault::NoMemory),
     }
@@ -82,7 +99,7 @@ fn why_told(
 ) -> Result<Vec<u8>, ReplayFault>
     requires some { 1 ≤ arena }
     requires few { arena ≤ 16777216 }
-    ensures told { IfOk result (λ text. text.items ≡ told Why image (first_of entries.now)) }
+    ensures told { IfOk result (λ text. text.items ≡ reasons.why_text image (first_of entries.now)) }
     ensures possible { OnOk result (CanBeTold image arena (first_of entries.now)) }
     ensures untold { IfErr result (IsUntold image arena (first_of entries.now)) }
 {
@@ -103,7 +120,7 @@ fn trace_told(
 ) -> Result<Vec<u8>, ReplayFault>
     requires some { 1 ≤ arena }
     requires few { arena ≤ 16777216 }
-    ensures told { IfOk result (λ text. text.items ≡ told (Trace page.entry) image (first_of entries.now)) }
+    ensures told { IfOk result (λ text. text.items ≡ traces.trace_text image (shown_on page.entry) (first_of entries.now)) }
     ensures possible { OnOk result (CanBeTold image arena (first_of entries.now)) }
     ensures untold { IfErr result (IsUntold image arena (first_of entries.now)) }
 {
@@ -113,16 +130,17 @@ fn trace_told(
 // What is told of entries, which are made once for it.
 fn told_text(
     alloc: Global,
+    source: &[u8],
     image: Image,
     asked: &AskedState<'_>,
     entries: &First<'_>,
 ) -> Result<Vec<u8>, ReplayFault>
-    ensures told { IfOk result (λ text. text.items ≡ told asked.now.telling image (first_of entries.now)) }
+    ensures told { IfOk result (λ text. text.items ≡ told asked.now.telling source.now image (first_of entries.now)) }
     ensures possible { OnOk result (CanBeTold image asked.now.arena (first_of entries.now)) }
     ensures untold { IfErr result (IsUntold image asked.now.arena (first_of entries.now)) }
 {
     match asked.telling {
-        Telling::State => state_told(alloc, image, asked.arena, entries),
+        Telling::State => state_told(alloc, source, image, asked.arena, entries),
         Telling::Trace(page) => trace_told(alloc, image, asked.arena, entries, page),
         Telling::Why => why_told(alloc, image, asked.arena, entries),
     }
@@ -131,11 +149,12 @@ fn told_text(
 // What is written of the first entries of a history of an accepted program.
 fn image_state(
     alloc: Global,
+    source: &[u8],
     image: Image,
     asked: &AskedState<'_>,
 ) -> Result<Transcript, AllocError>
     ensures { IfOk result (λ r.
-        IsFirstOutcome asked.now.telling asked.now.long asked.now.history.now asked.now.entries asked.now.arena image (outcome_of r)) }
+        IsFirstOutcome asked.now.telling asked.now.long asked.now.history.now asked.now.entries asked.now.arena source.now image (outcome_of r)) }
 {
     let entries = match read_text(alloc, asked.history) {
         Ok(entries) => entries,
@@ -149,7 +168,7 @@ fn image_state(
         count: asked.entries,
     };
     let notes = opening_notes_when(alloc, &image, asked.arena, asked.long)?;
-    match told_text(alloc, image, asked, &first) {
+    match told_text(alloc, source, image, asked, &first) {
         Ok(text) => Ok(text_transcript(alloc, text)),
         Err(ReplayFault::NoMemory) => Err(AllocError),
         Err(ReplayFault::ArenaFull) => full_transcript(alloc, &notes),
@@ -172,13 +191,13 @@ pub fn state_transcript(
     ensures unmade { OnErr result (MayReadOn asked.now.long source.now) }
 {
     match image_of_source(alloc, source, asked.long) {
-        Ok(image) => image_state(alloc, image, asked),
+        Ok(image) => image_state(alloc, source, image, asked),
         Err(fault) => fault_transcript(alloc, fault),
     }
 }
 
 /// Reads a source, makes the first entries of a history of it again, and writes to `output` what is told of them: what everything holds then,
-/// where each process is, and what each variable of COMMON and of the activations that are held has; what each of their steps did; or why
+/// where each process is, with the line of the source, and what each variable of COMMON and of the activations that are held has; what each of their steps did; or why
 /// processes wait; or to `messages` why there is no such state.
 ///
 /// The history's bytes were read before, as those of `replay_noted` are. The answer is the code of a `Status`.

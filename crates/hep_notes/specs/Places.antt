@@ -6,9 +6,12 @@ use Rattle.hep_text.specs.Line.{is_blank, is_blank_or_digit, is_printable, is_ta
 use Rattle.hep_text.specs.declared.statement.Span.{Span}
 use Rattle.hep_text.specs.declared.statement.Stmt.{Stmt}
 
--- the line with this number, counted from 1
+-- the one of lines with this number, counted from 1
+abbrev pub line_in : List (List ℕ) → ℕ → Option (List ℕ)
+line_in rows number = if nat_eq number 0 then None else slice_get rows (number - 1)
+
 abbrev pub line_at : List ℕ → ℕ → Option (List ℕ)
-line_at source number = if nat_eq number 0 then None else slice_get (lines source) (number - 1)
+line_at source number = line_in (lines source) number
 
 -- the first column whose byte passes the test, or the one behind the last
 abbrev pub first_column : (ℕ → Bool) → List ℕ → ℕ

@@ -2,6 +2,7 @@
 use Rattle.std.specs.Prelude.{ℕ, ◌-◌, List, [], ◌++◌, codes, if◌then◌else◌, length, map, replicate, take, Option, Some, None}
 use Rattle.std.specs.Fmt.{decimal}
 use Rattle.hep_text.specs.Line.{is_printable}
+use Rattle.hep_notes.specs.Places.{line_in}
 
 abbrev pub blanks : ℕ → List ℕ
 blanks count = replicate count 32
@@ -29,3 +30,7 @@ caret_text column words = margin [] ++ blanks (column - 1) ++ codes "^ " ++ word
 abbrev pub line_text_of : ℕ → Option (List ℕ) → List ℕ
 line_text_of number None = []
 line_text_of number (Some line) = line_text number line
+
+-- the one of lines with this number, or nothing where there is none
+abbrev pub line_shown : List (List ℕ) → ℕ → List ℕ
+line_shown rows number = line_text_of number (line_in rows number)

@@ -10,8 +10,17 @@ head_text entries = codes "AFTER " ++ decimal entries ++ codes " ENTRIES\n"
 -- ---- processes
 
 -- in an activation of the unit of this name
-abbrev pub level_text : List ℕ → ℕ → ℕ → List ℕ
-level_text unit line activation = unit ++ codes " LINE " ++ decimal line ++ codes " IN ACTIVATION " ++ decimal activation
+abbrev pub place_text : List ℕ → ℕ → ℕ → List ℕ
+place_text unit line activation = unit ++ codes " LINE " ++ decimal line ++ codes " IN ACTIVATION " ++ decimal activation
+
+-- where a level of a process is, and the line of the source on which its statement begins, as it is shown
+pub record LevelText : Type 0 where
+  pub place : List ℕ
+  pub statement : List ℕ
+
+-- by how lines are shown
+abbrev pub level_text : (ℕ → List ℕ) → List ℕ → ℕ → ℕ → LevelText
+level_text shown unit line activation = record { place = place_text unit line activation; statement = shown line }
 
 -- a process waits until what has this name is full, or is empty
 abbrev pub waiting_text : Bool → List ℕ → List ℕ
@@ -28,12 +37,12 @@ abbrev pub block_name : List ℕ → List ℕ
 block_name name = codes "/" ++ name ++ codes "/"
 
 -- a process at a level, with what it waits for, if it does
-abbrev pub process_text : ℕ → List ℕ → List ℕ → List ℕ
-process_text process level waiting = codes "PROCESS " ++ decimal process ++ codes " " ++ level ++ waiting ++ codes "\n"
+abbrev pub process_text : ℕ → LevelText → List ℕ → List ℕ
+process_text process level waiting = codes "PROCESS " ++ decimal process ++ codes " " ++ level.place ++ waiting ++ codes "\n" ++ level.statement
 
 -- a level to which it comes back
-abbrev pub back_text : List ℕ → List ℕ
-back_text level = codes "  BACK TO " ++ level ++ codes "\n"
+abbrev pub back_text : LevelText → List ℕ
+back_text level = codes "  BACK TO " ++ level.place ++ codes "\n" ++ level.statement
 
 -- ---- storage
 

@@ -8,6 +8,7 @@ use Rattle.hep_machine.specs.Words.{Name, Statement, spelling, Units, unit_at, u
 use Rattle.hep_machine.specs.Words.{Activation, Level, Process, State, Location, local, common, Store, unit_of, Wanted, wanted_by, level_after_statement, is_held, is_number_among}
 use Rattle.hep_machine.specs.Words.{Scope, StorageSequence, own_storage, storage_of, scope_of, CellView, cells_at, is_owned, progress_after, state_after}
 use Rattle.hep_states.specs.Lines as lines
+use Rattle.hep_states.specs.Lines.{LevelText}
 use Rattle.hep_states.specs.Contents.{variable_text}
 
 -- the cells of storage units in a row, as the view has them
@@ -37,18 +38,18 @@ module _ (program : Units) (s : State) where
   abbrev pub unit_in : ℕ → List Statement
   unit_in a = unit_at program (unit_of s a)
 
-  -- ---- processes
+  -- ---- processes, where lines of the source are shown so
 
-  abbrev pub level_text : Level → List ℕ
-  level_text level = lines.level_text (unit_name (unit_in level.activation)) (line_at (unit_in level.activation) level.statement) level.activation
+  abbrev pub level_text : (ℕ → List ℕ) → Level → LevelText
+  level_text shown level = lines.level_text shown (unit_name (unit_in level.activation)) (line_at (unit_in level.activation) level.statement) level.activation
 
   -- below one of a unit
-  abbrev pub back_text : List Statement → Level → List ℕ
-  back_text above level = lines.back_text (level_text (level_behind (unit_in level.activation) (function_name above) level))
+  abbrev pub back_text : (ℕ → List ℕ) → List Statement → Level → List ℕ
+  back_text shown above level = lines.back_text (level_text shown (level_behind (unit_in level.activation) (function_name above) level))
 
-  abbrev pub levels_text : List Statement → List Level → List ℕ
-  levels_text above [] = []
-  levels_text above (level ∷ levels) = back_text above level ++ levels_text (unit_in level.activation) levels
+  abbrev pub levels_text : (ℕ → List ℕ) → List Statement → List Level → List ℕ
+  levels_text shown above [] = []
+  levels_text shown above (level ∷ levels) = back_text shown above level ++ levels_text shown (unit_in level.activation) levels
 
   abbrev pub place_text : Location → List ℕ
   place_text (local a x i) = lines.owned_text (if is_array (unit_in a) x then lines.element_text (spelling x) i else spelling x) a
@@ -59,21 +60,21 @@ module _ (program : Units) (s : State) where
   waiting_text (Some w) = lines.waiting_text w.full (place_text w.at)
 
   -- the lines of a process that lives, with the words for what it waits for, or none
-  abbrev pub stack_text : ℕ → List ℕ → Process → List ℕ
-  stack_text p waiting [] = []
-  stack_text p waiting (level ∷ levels) = lines.process_text p (level_text level) waiting ++ levels_text (unit_in level.activation) levels
+  abbrev pub stack_text : (ℕ → List ℕ) → ℕ → List ℕ → Process → List ℕ
+  stack_text shown p waiting [] = []
+  stack_text shown p waiting (level ∷ levels) = lines.process_text p (level_text shown level) waiting ++ levels_text shown (unit_in level.activation) levels
 
   -- what it waits for is told where it is listed
   abbrev pub wait_text : ℕ → Bool → List ℕ
   wait_text p listed = if listed then waiting_text (wanted_by program p s) else []
 
-  abbrev pub process_text : ℕ → Bool → Process → List ℕ
-  process_text p listed q = stack_text p (wait_text p listed) q
+  abbrev pub process_text : (ℕ → List ℕ) → ℕ → Bool → Process → List ℕ
+  process_text shown p listed q = stack_text shown p (wait_text p listed) q
 
   -- those of processes by their numbers, of which the first one has this number
-  abbrev pub processes_text : List ℕ → ℕ → List Process → List ℕ
-  processes_text listed p [] = []
-  processes_text listed p (q ∷ qs) = process_text p (is_number_among p listed) q ++ processes_text listed (suc p) qs
+  abbrev pub processes_text : (ℕ → List ℕ) → List ℕ → ℕ → List Process → List ℕ
+  processes_text shown listed p [] = []
+  processes_text shown listed p (q ∷ qs) = process_text shown p (is_number_among p listed) q ++ processes_text shown listed (suc p) qs
 
   -- ---- storage
 
@@ -112,11 +113,11 @@ module _ (program : Units) (s : State) where
 
   -- ---- all of it, where these processes are listed as waiting
 
-  abbrev pub contents_text : List ℕ → List ℕ
-  contents_text listed =
-      processes_text listed 1 s.processes ++ flat_map block_text (blocks_of program) ++ activations_text 1 s.activations
+  abbrev pub contents_text : (ℕ → List ℕ) → List ℕ → List ℕ
+  contents_text shown listed =
+      processes_text shown listed 1 s.processes ++ flat_map block_text (blocks_of program) ++ activations_text 1 s.activations
 
--- what everything holds after a history, which was told in so many entries
-abbrev pub state_text : Units → ℕ → List Entry → List ℕ
-state_text program entries history =
-    lines.head_text entries ++ contents_text program (state_after program history) (progress_after program history).listed
+-- what everything holds after a history, which was told in so many entries, where lines of the source are shown so
+abbrev pub state_text : (ℕ → List ℕ) → Units → ℕ → List Entry → List ℕ
+state_text shown program entries history =
+    lines.head_text entries ++ contents_text program (state_after program history) shown (progress_after program history).listed

@@ -31,7 +31,7 @@ pub fn append_level(
     line: u32,
     activation: u64,
 ) -> Result<(), AllocError>
-    ensures { OnOk result (text.new.items ≡ text.old.items ++ words.level_text unit.now line activation) }
+    ensures { OnOk result (text.new.items ≡ text.old.items ++ words.place_text unit.now line activation) }
 {
     text.extend_from_slice(unit)?;
     text.extend_from_slice(b" LINE ")?;

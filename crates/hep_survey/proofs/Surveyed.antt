@@ -13,22 +13,22 @@ use Rattle.hep_contents.specs.Waits.{IsTextOfWait}
 use Rattle.hep_states.specs.States as words
 
 -- a process that has ended has no lines
-pub ended : (program : Units) (s : State) (p : ℕ) (listed : Bool) (q : Process) → numbered s.processes p ≡ Some q → is_some (living s p) ≡ false → [] ≡ words.process_text program s p listed q
-ended program s p listed [] e none = refl
-ended program s p listed (level ∷ levels) e none = absurd (true≢false (ap (λ o. is_some (top_of o)) (sym e) ∙ none))
+pub ended : (program : Units) (s : State) (shown : ℕ → List ℕ) (p : ℕ) (listed : Bool) (q : Process) → numbered s.processes p ≡ Some q → is_some (living s p) ≡ false → [] ≡ words.process_text program s shown p listed q
+ended program s shown p listed [] e none = refl
+ended program s shown p listed (level ∷ levels) e none = absurd (true≢false (ap (λ o. is_some (top_of o)) (sym e) ∙ none))
 
-module _ (program : Units) (s : State) (listed : List ℕ) (i : ℕ) (less : i < length s.processes) where
+module _ (program : Units) (s : State) (shown : ℕ → List ℕ) (listed : List ℕ) (i : ℕ) (less : i < length s.processes) where
   abbrev q : Process
   q = get_or s.processes i []
 
   pub process-there : numbered s.processes (i + 1) ≡ Some q
   process-there = ap (numbered s.processes) (let next : i + 1 ≡ suc i = omega arith in next) ∙ slice_get-get_or s.processes i [] less
 
-  pub next-process : words.processes_text program s listed (suc i) (drop i s.processes)
-      ≡ words.process_text program s (i + 1) (is_number_among (i + 1) listed) q ++ words.processes_text program s listed (suc (i + 1)) (drop (i + 1) s.processes)
+  pub next-process : words.processes_text program s shown listed (suc i) (drop i s.processes)
+      ≡ words.process_text program s shown (i + 1) (is_number_among (i + 1) listed) q ++ words.processes_text program s shown listed (suc (i + 1)) (drop (i + 1) s.processes)
   next-process =
-      ap (words.processes_text program s listed (suc i)) (drop_more s.processes i [] less)
-      ∙ ap (λ n. words.process_text program s n (is_number_among n listed) q ++ words.processes_text program s listed (suc n) (drop (i + 1) s.processes)) (let next : suc i ≡ i + 1 = omega arith in next)
+      ap (words.processes_text program s shown listed (suc i)) (drop_more s.processes i [] less)
+      ∙ ap (λ n. words.process_text program s shown n (is_number_among n listed) q ++ words.processes_text program s shown listed (suc n) (drop (i + 1) s.processes)) (let next : suc i ≡ i + 1 = omega arith in next)
 
 -- ---- by a core's machine
 
@@ -50,16 +50,16 @@ unfolding state_after
 has-levels program history cells p m after lives = (living-top program cells (schedule_of history) m after p lives).is_top.levels
 
 -- the lines of a process are those of the state after the history
-pub process-so : (program : Units) (image : Units) (history : List Entry) (cells p : ℕ) (m : Machine) (q : Process) (old new words_of waiting : List ℕ) (listed : Bool) → image ≡ program
+pub process-so : (program : Units) (image : Units) (shown : ℕ → List ℕ) (history : List Entry) (cells p : ℕ) (m : Machine) (q : Process) (old new words_of waiting : List ℕ) (listed : Bool) → image ≡ program
     → IsMachineAfter program cells (schedule_of history) m → numbered (state_after program history).processes p ≡ Some q
-    → ((n : ℕ) (choices : List ℕ) (r : Process) → IsMachineAfter image n choices m → numbered (run image choices).processes p ≡ Some r → new ≡ old ++ words.stack_text image (run image choices) p words_of r)
+    → ((n : ℕ) (choices : List ℕ) (r : Process) → IsMachineAfter image n choices m → numbered (run image choices).processes p ≡ Some r → new ≡ old ++ words.stack_text image (run image choices) shown p words_of r)
     → words_of ≡ waiting → waiting ≡ words.wait_text program (state_after program history) p listed
-    → new ≡ old ++ words.process_text program (state_after program history) p listed q
+    → new ≡ old ++ words.process_text program (state_after program history) shown p listed q
 unfolding state_after
-process-so program image history cells p m q old new words_of waiting listed same after there text words_are waits =
-    let all = subst (λ (us : Units). (n : ℕ) (choices : List ℕ) (r : Process) → IsMachineAfter us n choices m → numbered (run us choices).processes p ≡ Some r → new ≡ old ++ words.stack_text us (run us choices) p words_of r) same text in
+process-so program image shown history cells p m q old new words_of waiting listed same after there text words_are waits =
+    let all = subst (λ (us : Units). (n : ℕ) (choices : List ℕ) (r : Process) → IsMachineAfter us n choices m → numbered (run us choices).processes p ≡ Some r → new ≡ old ++ words.stack_text us (run us choices) shown p words_of r) same text in
     all cells (schedule_of history) q after there
-    ∙ ap (λ (w : List ℕ). old ++ words.stack_text program (run program (schedule_of history)) p w q) (words_are ∙ waits)
+    ∙ ap (λ (w : List ℕ). old ++ words.stack_text program (run program (schedule_of history)) shown p w q) (words_are ∙ waits)
 
 -- the lines of COMMON and of the activations
 pub after-history : (program : Units) (image : Units) (history : List Entry) (cells : ℕ) (m : Machine) (P : Units → State → Type 0) → image ≡ program

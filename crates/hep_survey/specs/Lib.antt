@@ -1,1 +1,2 @@
+pub use Rattle.hep_contents.specs.Shown
 pub mod Frames

@@ -4,4 +4,5 @@
 mod frames;
 pub mod survey;
 
+pub use hep_contents::Listing;
 pub use survey::state_text;

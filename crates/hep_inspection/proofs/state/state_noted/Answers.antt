@@ -17,7 +17,7 @@ pub returns-in-Ok-clause-large : goal.returns-in-Ok-clause-large
 returns-in-Ok-clause-large g c =
     large-source c.args.asked.now.long _ _ c.in-Ok.bytes.items c.deref.result.now _ _ _ _ _ c.deref.ensures.value c.in-Ok.ensures.first c.in-Ok.ensures.all (
     large-status c.args.asked.now.long c.deref.result.now c.deliver_made.result _ _ _ _ (
-    large-left c.args.asked.now.long IsRefusedProgram IsRunnable (IsFirstOutcome c.args.asked.now.telling c.args.asked.now.long c.args.asked.now.history.now c.args.asked.now.entries c.args.asked.now.arena) c.deref.result.now c.state_transcript-made.result _ _ _ _ _ c.state_transcript-made.ensures.made c.state_transcript-made.ensures.unmade c.deliver_made.ensures))
+    large-left c.args.asked.now.long IsRefusedProgram IsRunnable (IsFirstOutcome c.args.asked.now.telling c.args.asked.now.long c.args.asked.now.history.now c.args.asked.now.entries c.args.asked.now.arena c.deref.result.now) c.deref.result.now c.state_transcript-made.result _ _ _ _ _ c.state_transcript-made.ensures.made c.state_transcript-made.ensures.unmade c.deliver_made.ensures))
 
 pub returns-in-Err-clause-large : goal.returns-in-Err-clause-large
 returns-in-Err-clause-large g c = λ short large. inl (Keeps-refl _, (c.in-Err.ensures.lost, _, c.say_unread.ensures))

@@ -1,6 +1,8 @@
 use Rattle.std.proofs.Common.{◌∙◌, ap}
 use Rattle.hep_history.specs.First.{first_of}
 use Rattle.hep_states.specs.States.{state_text}
+use Rattle.hep_survey.specs.Shown.{line_shown}
+use Rattle.hep_text.specs.Line.{lines}
 use Rattle.hep_inspection.proofs.Told.{state-told}
 use Rattle.hep_inspection.proofs.state.state_told.Goals as goal
 
@@ -9,5 +11,5 @@ returns-in-Ok-clause-told c =
     let core = c.in_ok-core.core.core in
     let entries = first_of c.args.entries.now in
     c.in-Ok.ensures
-    ∙ ap (λ n. state_text core.program n core.history) c.len.ensures.count
-    ∙ state-told core c.args.image c.args.arena entries c.in_ok-core.ensures.made
+    ∙ ap (λ n. state_text (line_shown (lines c.args.source.now)) core.program n core.history) c.len.ensures.count
+    ∙ state-told core c.args.source.now c.args.image c.args.arena entries c.in_ok-core.ensures.made

@@ -2,6 +2,7 @@ use Rattle.std.proofs.Common.{◌≡◌, ◌++◌, ◌∙◌, ℕ, List, ap, app
 use Rattle.std.specs.List.{flat_map}
 use Rattle.hep_core.specs.Value.{state_of}
 use Rattle.hep_machine.specs.Words.{State, Units, blocks_of, progress_after}
+use Rattle.hep_contents.specs.Shown.{line_shown}
 use Rattle.hep_states.specs.States as words
 use Rattle.hep_survey.proofs.Surveyed.{after-history}
 use Rattle.hep_survey.proofs.survey.append_contents.Goals as goal
@@ -13,7 +14,7 @@ returns c =
     let s = state_of core in
     let listed = (progress_after program core.history).listed in
     let old : List ℕ = c.args.text.now.items in
-    let processes : List ℕ = words.processes_text program s listed 1 s.processes in
+    let processes : List ℕ = words.processes_text program s (line_shown c.args.known.now.lines.now) listed 1 s.processes in
     let common : List ℕ = flat_map (words.block_text program s) (blocks_of program) in
     let activations : List ℕ = words.activations_text program s 1 s.activations in
     let first = c.append_processes.new.text.items in

@@ -1,4 +1,5 @@
 use Rattle.std.proofs.Common.{◌∙◌, sym}
+use Rattle.hep_contents.specs.Shown.{line_shown}
 use Rattle.hep_machine.specs.Words.{is_number_among, progress_after}
 use Rattle.hep_survey.proofs.Surveyed.{has-levels, process-so}
 use Rattle.hep_survey.proofs.survey.append_one.Goals as goal
@@ -11,5 +12,5 @@ append_process-requires-clause-levels c =
 pub returns : goal.returns
 returns c q there =
     let core = c.args.core.now.core in
-    process-so core.program c.image.result.now core.history core.cells c.args.p c.machine.result.now q c.args.text.now.items c.append_process.new.text.items c.deref.result.now c.in_ok-waiting.waiting.items
+    process-so core.program c.image.result.now (line_shown c.args.lines.now) core.history core.cells c.args.p c.machine.result.now q c.args.text.now.items c.append_process.new.text.items c.deref.result.now c.in_ok-waiting.waiting.items
     (is_number_among c.args.p (progress_after core.program core.history).listed) c.image.ensures c.machine.ensures.after there c.in_ok-append_process.ensures c.deref.ensures.value c.in_ok-waiting.ensures
