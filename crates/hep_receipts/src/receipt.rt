@@ -41,6 +41,13 @@ impl Log {
         }
     }
 
+    /// These receipts, in their order.
+    pub fn of(receipts: Vec<Receipt>) -> Log
+        ensures { result ≡ receipts.items }
+    {
+        Log { receipts }
+    }
+
     /// Room for one receipt more.
     ///
     /// # Errors

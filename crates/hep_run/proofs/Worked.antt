@@ -9,7 +9,7 @@ use Rattle.hep_workers.specs.declared.fault.WorkFault.{WorkFault}
 use Rattle.hep_workers.specs.declared.fault.WorkFault.TheVariants.{NoMemory, ArenaFull, NoTicket, NoThread, Close}
 use Rattle.hep_workers.specs.WorkOptions.{WorkOptions}
 use Rattle.hep_workers.specs.Receipt.{Receipt}
-use Rattle.hep_workers.specs.Reports.{IsOfRun, IsReport}
+use Rattle.hep_workers.specs.Reports.{IsReport}
 use Rattle.hep_workers.specs.Faults.{IsSharedBy, IsUnreported, IsWorkFault, number_of}
 use Rattle.hep_outcome.specs.Outcome.{Outcome, outcome_of_end, verdict_after}
 use Rattle.hep_run.specs.Workers.{IsImageWorked, is_refusal_of_workers}
@@ -32,22 +32,21 @@ outcome-worked long program options core logs o report shared legal named is =
       is ∙ (ap (λ (p : Units). outcome_of_end long p core.cells h core.stop) same ∙ ap (λ n. outcome_of_end long program n h core.stop) cells),
     ))
 
--- 703 isn't one of them: a core that workers made is that of the run
-other-number : (fault : CloseFault) (core : CoreValue) (program : Units) (options : WorkOptions) (logs : List (List Receipt)) → IsOfRun core program options
-    → IsUnreported fault core program options logs → (number : ℕ) → number_of (Close fault) ≡ Some number → is_refusal_of_workers number ≡ true
-other-number close.NoMemory core program options logs run left number is = absurd (none-some number is)
-other-number close.NotTheEntries core program options logs run left number is = let same : 701 ≡ number = cc in subst (λ n. is_refusal_of_workers n ≡ true) same refl
-other-number close.NotRising core program options logs run left number is = let same : 702 ≡ number = cc in subst (λ n. is_refusal_of_workers n ≡ true) same refl
-other-number close.NotTheRun core program options logs run (inl (entries, rising, other)) number is = absurd (other run)
-other-number close.NotTheRun core program options logs run (inr (which, unowned)) number is = absurd cc
-other-number close.StillRunning core program options logs run left number is = let same : 705 ≡ number = cc in subst (λ n. is_refusal_of_workers n ≡ true) same refl
+-- 701, 702 and 703 aren't among them: what workers leave under their lock is of the run, and their receipts are its entries
+other-number : (fault : CloseFault) (core : CoreValue) (program : Units) (options : WorkOptions) (logs : List (List Receipt)) → IsUnreported fault core program options logs
+    → (number : ℕ) → number_of (Close fault) ≡ Some number → is_refusal_of_workers number ≡ true
+other-number close.NoMemory core program options logs left number is = absurd (none-some number is)
+other-number close.NotTheEntries core program options logs left number is = absurd left
+other-number close.NotRising core program options logs left number is = absurd left
+other-number close.NotTheRun core program options logs left number is = absurd left
+other-number close.StillRunning core program options logs left number is = let same : 705 ≡ number = cc in subst (λ n. is_refusal_of_workers n ≡ true) same refl
 
 pub is-refusal : (fault : WorkFault) (number : ℕ) (program : Units) (options : WorkOptions) → IsWorkFault fault program options → number_of fault ≡ Some number → is_refusal_of_workers number ≡ true
 is-refusal NoMemory number program options met is = absurd (none-some number is)
 is-refusal ArenaFull number program options met is = absurd (none-some number is)
 is-refusal NoTicket number program options met is = let same : 506 ≡ number = cc in subst (λ n. is_refusal_of_workers n ≡ true) same refl
 is-refusal NoThread number program options met is = let same : 704 ≡ number = cc in subst (λ n. is_refusal_of_workers n ≡ true) same refl
-is-refusal (Close fault) number program options (fits, (core, logs, run, shared, left)) is = other-number fault core program options logs run left number is
+is-refusal (Close fault) number program options (fits, (core, logs, run, shared, left)) is = other-number fault core program options logs left number is
 
 -- where anything else than a full arena is the reason, the main program's frame has a gap
 pub fits-else : (fault : WorkFault) (program : Units) (options : WorkOptions) → fault ≢ ArenaFull → IsWorkFault fault program options → IsSome (opening_layout program options.arena)

@@ -27,9 +27,9 @@ pub record IsWorked (program : Units) (options : WorkOptions) (history : List En
   pub stopped : IsStop program options.arena options.steps history stop
   pub over : verdict_after program history stop ≢ Running
 
--- the numbers by which workers give up, or leave no report
+-- the numbers by which workers give up, or leave no report: all tickets were given, a thread couldn't be started, or the run goes on
 abbrev pub is_refusal_of_workers : ℕ → Bool
-is_refusal_of_workers number = list_any (nat_eq number) (506 ∷ 701 ∷ 702 ∷ 704 ∷ 705 ∷ [])
+is_refusal_of_workers number = list_any (nat_eq number) (506 ∷ 704 ∷ 705 ∷ [])
 
 -- the workers gave up, or left no report, for this reason
 abbrev pub workers_text : ℕ → List ℕ

@@ -1,2 +1,4 @@
 mod Shared
 mod Reasons
+mod Noting
+mod Lists

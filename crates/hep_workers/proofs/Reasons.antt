@@ -1,11 +1,18 @@
 -- Why a run by workers leaves no report, by what they have met.
-use Rattle.std.proofs.Common.{◌≡◌, IsSome, ap, ◌∙◌}
+use Rattle.std.proofs.Common.{◌≡◌, IsSome, List, ap, sym, ◌∙◌, true, true≢false}
+use Rattle.std.proofs.Math.Bool.{Bool-set}
+use Rattle.std.proofs.Math.Logic.{∥∥₁_elim}
 use Rattle.hep_machine.specs.Words.{opening_layout, Units}
 use Rattle.hep_core.specs.Value.{CoreValue, opening_of}
 use Rattle.hep_receipts.specs.Shared.{IsOfOneRun}
-use Rattle.hep_reports.specs.Reports.{IsOfRun}
+use Rattle.hep_receipts.specs.declared.receipt.Receipt.{Receipt}
+use Rattle.hep_reports.specs.Receipts.{are_of_workers}
+use Rattle.hep_reports.specs.Reports.{IsOfRun, IsUnclosed}
+use Rattle.hep_reports.specs.declared.fault.CloseFault.{CloseFault}
+use Rattle.hep_reports.specs.declared.fault.CloseFault.TheVariants as close
 use Rattle.hep_reports.specs.declared.options.WorkOptions.{WorkOptions}
-use Rattle.hep_workers.specs.Faults.{IsMet, IsWorkFault, of_crew}
+use Rattle.hep_workers.specs.Faults.{IsMet, IsUnreported, IsWorkFault, of_crew}
+use Rattle.hep_workers.specs.Lists.{AreLogsOf}
 use Rattle.hep_workers.specs.declared.fault.CrewFault.{CrewFault}
 use Rattle.hep_workers.specs.declared.fault.CrewFault.TheVariants.{NoMemory, NoThread, NoTicket}
 
@@ -22,3 +29,18 @@ crew-met NoTicket program options fits met = (fits, met)
 pub of-run : (opening core : CoreValue) (program : Units) (options : WorkOptions) → opening ≡ opening_for program options → IsOfOneRun opening core → IsOfRun core program options
 of-run opening core program options is one =
     (one.program ∙ ap (λ (v : CoreValue). v.program) is, one.cells ∙ ap (λ (v : CoreValue). v.cells) is, one.limit ∙ ap (λ (v : CoreValue). v.limit) is)
+
+-- ---- what workers leave
+
+-- logs under the lock are of their workers
+pub of-workers : (core : CoreValue) (options : WorkOptions) (logs : List (List Receipt)) → ∥ AreLogsOf options.workers core.history logs ∥₁ → are_of_workers options.workers logs ≡ true
+of-workers core options logs logged = ∥∥₁_elim logged (Bool-set _ _) (λ are. are.numbered)
+
+-- so they are refused only where the run goes on
+pub unreported : (fault : CloseFault) (core : CoreValue) (program : Units) (options : WorkOptions) (logs : List (List Receipt)) → IsOfRun core program options
+    → ∥ AreLogsOf options.workers core.history logs ∥₁ → IsUnclosed fault core program options logs → IsUnreported fault core program options logs
+unreported close.NoMemory core program options logs run logged un = tt
+unreported close.NotTheEntries core program options logs run logged un = ∥∥₁_elim logged (λ a b. absurd a) (λ are. un are.entries)
+unreported close.NotRising core program options logs run logged un = ∥∥₁_elim logged (λ a b. absurd a) (λ are. true≢false (sym are.rising ∙ un.1))
+unreported close.NotTheRun core program options logs run logged un = un.2 run
+unreported close.StillRunning core program options logs run logged un = (record { entries = un.0; rising = un.1; numbered = of-workers core options logs logged }, run, un.3)

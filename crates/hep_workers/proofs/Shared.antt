@@ -1,10 +1,14 @@
 -- What a call makes of a core that is shared.
-use Rattle.std.proofs.Common.{◌≡◌, Result, Ok, Err, IfOk, IfErr, refl}
-use Rattle.hep_segments.specs.Segments.{SegmentValue}
-use Rattle.hep_core.specs.Commits.{IsCommitted}
+use Rattle.std.proofs.Common.{◌≡◌, ℕ, Result, Ok, Err, IfOk, IfErr, inl, inr, refl, ap}
+use Rattle.hep_segments.specs.declared.ticket.TicketId.{TicketId}
+use Rattle.hep_segments.specs.Segments.{SegmentValue, TicketValue}
+use Rattle.hep_core.specs.Commits.{IsCancelled, IsCheckedOut, IsCommitted}
 use Rattle.hep_core.specs.Places.{Placed}
 use Rattle.hep_core.specs.Value.{CoreValue}
+use Rattle.hep_core.specs.declared.fault.ChooseFault.{ChooseFault}
+use Rattle.hep_core.specs.declared.fault.ChooseFault.TheVariants as choosing
 use Rattle.hep_core.specs.declared.fault.CommitFault.{CommitFault}
+use Rattle.hep_core.specs.declared.fault.CommitFault.TheVariants as committing
 use Rattle.hep_receipts.specs.declared.receipt.Receipt.{Receipt}
 use Rattle.hep_receipts.specs.Shared.{IsOfOneRun, IsSharedFrom, committed, opened}
 use Rattle.hep_receipts.specs.Turns.{HasCommitted}
@@ -17,3 +21,23 @@ turned opening old new s (Err fault) before made unmade = committed old new s (E
 -- from any core on
 pub here : (old : Placed) → IsSharedFrom old.core old
 here old = opened old refl
+
+-- ---- no entry
+
+abbrev pub HasSame : Placed → Placed → Type 0
+HasSame old new = new.core.history ≡ old.core.history
+
+pub checked-out-same : (old new : Placed) (p : ℕ) (answer : Result TicketValue ChooseFault) → IsCheckedOut old p answer new → HasSame old new
+checked-out-same old new p (Ok ticket) (free, left, room, given) = ap (λ (x : Placed). x.core.history) given.3
+checked-out-same old new p (Err (choosing.Stopped stop)) (inl (at, is)) = ap (λ (x : Placed). x.core.history) is
+checked-out-same old new p (Err (choosing.Stopped stop)) (inr (free, left, full, at, is)) = ap (λ (x : Placed). x.core.history) is
+checked-out-same old new p (Err choosing.NoSuchProcess) (going, none, is) = ap (λ (x : Placed). x.core.history) is
+checked-out-same old new p (Err choosing.IsOut) (going, lives, out, is) = ap (λ (x : Placed). x.core.history) is
+checked-out-same old new p (Err choosing.NoTicket) (free, none, is) = ap (λ (x : Placed). x.core.history) is
+checked-out-same old new p (Err choosing.NoMemory) (free, left, room, is) = ap (λ (x : Placed). x.core.history) is
+
+pub cancelled-same : (old new : Placed) (id : TicketId) (answer : Result (Unit {0}) CommitFault) → IsCancelled old id answer new → HasSame old new
+cancelled-same old new id (Ok done) (going, lives, ticket, is) = ap (λ (x : Placed). x.core.history) is
+cancelled-same old new id (Err (committing.Stopped stop)) (at, is) = ap (λ (x : Placed). x.core.history) is
+cancelled-same old new id (Err committing.Stale) (going, other, is) = ap (λ (x : Placed). x.core.history) is
+cancelled-same old new id (Err committing.NoMemory) none = absurd none

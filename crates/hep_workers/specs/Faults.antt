@@ -1,18 +1,19 @@
 -- Why a run by workers leaves no report: docs/MACHINE.md, "Workers".
-use Rattle.std.specs.Prelude.{◌≡◌, ◌⊎◌, ℕ, false, List, Option, Some, None, IsSome}
+use Rattle.std.specs.Prelude.{◌≡◌, ℕ, List, Option, Some, None, IsSome}
 use Rattle.hep_machine.specs.Words.{opening_layout, Units}
 use Rattle.hep_core.specs.declared.fault.NewFault.{NewFault}
 use Rattle.hep_core.specs.declared.fault.NewFault.TheVariants as new
 use Rattle.hep_core.specs.Commits.{most_tickets}
 use Rattle.hep_core.specs.Places.{Place, Placed}
-use Rattle.hep_core.specs.Value.{CoreValue, opening_of}
+use Rattle.hep_core.specs.Value.{CoreValue, opening_of, verdict_of}
+use Rattle.hep_core.specs.declared.stop.Verdict.TheVariants.{Running}
 use Rattle.hep_reports.specs.declared.fault.CloseFault.{CloseFault}
 use Rattle.hep_reports.specs.declared.fault.CloseFault.TheVariants as close
 use Rattle.hep_reports.specs.declared.options.WorkOptions.{WorkOptions}
-use Rattle.hep_reports.specs.Receipts.{are_of_workers}
-use Rattle.hep_reports.specs.Reports.{IsOfRun, IsUnclosed}
+use Rattle.hep_reports.specs.Reports.{IsOfRun}
 use Rattle.hep_receipts.specs.declared.receipt.Receipt.{Receipt}
 use Rattle.hep_receipts.specs.Shared.{IsSharedFrom}
+use Rattle.hep_workers.specs.Lists.{AreLogsOf}
 use Rattle.hep_workers.specs.declared.fault.CrewFault.{CrewFault}
 use Rattle.hep_workers.specs.declared.fault.CrewFault.TheVariants as crew
 use Rattle.hep_workers.specs.declared.fault.WorkFault.{WorkFault}
@@ -56,11 +57,15 @@ abbrev pub IsSharedBy : Units → WorkOptions → CoreValue → Type 0
 IsSharedBy program options core =
     (places : List (Option Place)) × ∥ IsSharedFrom (opening_of program options.arena options.steps) (record { core = core; places = places }) ∥₁
 
--- what they left makes no report: it can't be closed, or some log isn't its worker's
+-- what they left makes no report: memory was refused, or the run goes on. That the receipts aren't the entries of the history, each once, or don't
+-- rise, or aren't of their workers, or that the core is of another run, never comes
 abbrev pub IsUnreported : CloseFault → CoreValue → Units → WorkOptions → List (List Receipt) → Type 0
-IsUnreported fault core program options logs =
-    IsUnclosed fault core program options logs
-    ⊎ ((fault ≡ close.NotTheEntries) × (are_of_workers options.workers logs ≡ false))
+IsUnreported close.NoMemory core program options logs = Unit {0}
+IsUnreported close.NotTheEntries core program options logs = ⊥
+IsUnreported close.NotRising core program options logs = ⊥
+IsUnreported close.NotTheRun core program options logs = ⊥
+IsUnreported close.StillRunning core program options logs =
+    AreLogsOf options.workers core.history logs × IsOfRun core program options × (verdict_of core ≡ Running)
 
 -- why a run by workers leaves no report: the arena is full just where the main program's frame has no gap in it, and anything else, want of
 -- memory too, comes only where it has; that no ticket is left or what they left is refused comes only of a core for which it is so

@@ -4,3 +4,4 @@ pub use Rattle.hep_reports.specs.declared.options.WorkOptions
 pub use Rattle.hep_reports.specs.Reports
 pub mod Faults
 pub mod Hands
+pub mod Lists

@@ -6,11 +6,13 @@ ghost use Rattle.hep_source.specs.contracts.expression.Expr as expression;
 ghost use Rattle.hep_source.specs.contracts.program.Program as program;
 ghost use Rattle.hep_core.specs.contracts.scheduler.Core as core;
 ghost use Rattle.hep_stretches.specs.contracts.table.PrivateTable as tables;
+ghost use Rattle.hep_receipts.specs.contracts.receipt.Receipt as receipts;
 
 use hep_blocked::Roster;
 use hep_entries::History;
 use hep_image::{BlockStart, DataRow, UnitCode};
 use hep_quick::Table;
+use hep_receipts::Receipt;
 use hep_source::{Expr, Sequence, Text};
 use hep_state::Machine;
 use hep_stretches::PrivateTable;
@@ -58,6 +60,14 @@ pub(crate) fn tables_cross()
     ensures sync { IsSync tables.the_row }
 {
     cross::<PrivateTable>();
+}
+
+/// Receipts may be sent to another thread.
+pub(crate) fn receipts_cross()
+    ensures send { IsSend receipts.the_row }
+    ensures sync { IsSync receipts.the_row }
+{
+    cross::<Receipt>();
 }
 
 /// A core may be sent to another thread.

@@ -1,20 +1,20 @@
 //! The workers at their work: threads that share a core under a lock.
-ghost use Rattle.std.specs.Prelude.{◌≡◌, ◌≤◌, IfErr, IfOk, IsSome, OnOk, true};
+ghost use Rattle.std.specs.Prelude.{◌≡◌, IfErr, IfOk, IsSome, OnOk, true};
 ghost use Rattle.hep_machine.specs.Words.{opening_layout};
 ghost use Rattle.hep_reports.specs.Receipts as receipts;
 ghost use Rattle.hep_reports.specs.Reports.{IsReport};
-ghost use Rattle.hep_receipts.specs.Shared.{IsOfOneRun, IsSharedFrom};
-ghost use Rattle.hep_workers.specs.Faults.{IsMet, IsSharedBy, IsUnreported, IsWorkFault};
+ghost use Rattle.hep_workers.specs.Faults.{IsMet, IsSharedBy, IsWorkFault};
 ghost use Rattle.hep_workers.specs.Hands.{HasMade};
+ghost use Rattle.hep_workers.specs.Lists.{HasLeft, IsAtOpening};
 
-use crate::crossing::{cores_cross, images_cross, tables_cross};
+use crate::crossing::{cores_cross, images_cross, receipts_cross, tables_cross};
 use crate::fault::{CrewFault, StartFault, WorkFault};
 use crate::gate::Gate;
-use crate::tied::{Halt, Known, Tied, Whole};
+use crate::tied::{Halt, Known, Seat, Tied, Whole, blank_lists, logs_of};
 use hep_core::{CommitFault, Core, Offer};
 use hep_image::Image;
 use hep_receipts::Log;
-use hep_reports::{CloseFault, Report, WorkOptions, are_of_workers, close};
+use hep_reports::{Report, WorkOptions, close};
 use hep_segments::{Segment, Ticket};
 use hep_stretches::{Ahead, Stretch, private_tables_of};
 use std::alloc::Global;
@@ -37,29 +37,21 @@ struct Floor<K: Whole> {
     ended: AtomicBool,
 }
 
-// What a worker has in hand: its number, its ticket, the stretch or the segment that it makes of it, and its log, with a receipt for each of its
-// turns. They have the room of those before.
+// What a worker has in hand: the number of its turn, its ticket, and the stretch or the segment that it makes of it. They have the room of those
+// before.
 #[derive(Drop)]
 struct Hand {
     alloc: Global,
-    worker: u32,
+    turn: u64,
     ticket: Ticket,
     stretch: Stretch,
     segment: Segment,
-    log: Log,
 }
 
-// What a worker leaves.
-#[derive(Drop)]
-struct Work<K: Whole> {
-    log: Log,
-    outcome: Result<(), Halt<K>>,
-}
-
-// What all workers leave that were started, and why not all were.
+// How all workers ended that were started, and why not all were.
 #[derive(Drop)]
 struct Crew<K: Whole> {
-    works: Vec<Work<K>>,
+    outcomes: Vec<Result<(), Halt<K>>>,
     started: Result<(), StartFault>,
 }
 
@@ -71,7 +63,8 @@ struct Crew<K: Whole> {
 /// # Errors
 ///
 /// `ArenaFull` just where COMMON and the main program's frame don't fit the arena. Else `NoTicket` or `NoThread` where the workers gave up
-/// for it, and `NoMemory` where memory was refused to any of them; else `Close` where `close` refuses what they left.
+/// for it, and `NoMemory` where memory was refused to any of them; else `Close` where `close` refuses what they left, which is for want of memory, or
+/// since their run goes on.
 pub fn run_workers<R: Threads + Wait + Sync, G: Gate + Sync>(
     rt: &R,
     alloc: Global,
@@ -91,27 +84,7 @@ pub fn run_workers<R: Threads + Wait + Sync, G: Gate + Sync>(
     let tables = private_tables_of(alloc, &image)?;
     let ahead = Ahead::new(&image, &tables);
     let (core, logs) = share::<Brand, R, G>(rt, alloc, core, ahead, options.workers, gate)?;
-    Ok(report(alloc, core, &image, options, logs)?)
-}
-
-// The report of what the workers left, which is none where a log isn't its worker's.
-fn report(
-    alloc: Global,
-    core: Core,
-    image: &Image,
-    options: &WorkOptions,
-    logs: Vec<Log>,
-) -> Result<Report, CloseFault>
-    ensures kept { IfOk result (λ report. report.core ≡ core.core) }
-    ensures closed { IfOk result (λ report. IsReport report.core image.now options.now report.logs) }
-    ensures numbered { IfOk result (λ report. receipts.are_of_workers options.now.workers report.logs ≡ true) }
-    ensures unclosed { IfErr result (λ fault. IsUnreported fault core.core image.now options.now logs.items) }
-{
-    let report = close(alloc, core, image, options, logs)?;
-    if !are_of_workers(report.logs(), options.workers) {
-        return Err(CloseFault::NotTheEntries);
-    }
-    Ok(report)
+    Ok(close(alloc, core, &image, options, logs)?)
 }
 
 // Has workers share a core of the run, and gives it with their logs once they have ended.
@@ -123,55 +96,47 @@ fn share<K: Whole + Send + Sync, R: Threads + Wait + Sync, G: Gate + Sync>(
     workers: u32,
     gate: &G,
 ) -> Result<(Core, Vec<Log>), CrewFault>
-    requires opening { core.core ≡ K.opening }
+    requires begun { IsAtOpening K.opening core.core }
     requires image { ahead ≡ K.opening.program }
-    requires few { workers ≤ 16 }
-    ensures run { IfOk result (λ left. IsOfOneRun K.opening left.0.core) }
-    ensures shared { IfOk result (λ left. ∥ IsSharedFrom K.opening left.0 ∥₁) }
+    requires workers { workers ≡ K.workers }
+    ensures left { IfOk result (λ left. HasLeft K.opening K.workers left.0 left.1.items) }
     ensures met { IfErr result (IsMet K.opening) }
 {
-    let floor: Floor<K> = Floor::new(Tied::new(core));
+    let Ok(lists) = blank_lists(alloc, workers) else {
+        return Err(CrewFault::NoMemory);
+    };
+    let Ok(seats) = Seat::all(alloc, workers) else {
+        return Err(CrewFault::NoMemory);
+    };
+    let floor: Floor<K> = Floor::new(Tied::new(core, lists));
     let known: Known<'_, K> = Known::new(ahead);
-    let crew = work_all(rt, alloc, &floor, &known, workers, gate);
-    let logs = logs_of(alloc, crew)?;
+    ended(work_all(rt, alloc, &floor, &known, seats, gate))?;
     let Floor { core, .. } = floor;
-    Ok((core.into_inner().into_core(), logs))
+    let (core, lists) = core.into_inner().into_parts();
+    let Ok(logs) = logs_of(alloc, lists) else {
+        return Err(CrewFault::NoMemory);
+    };
+    Ok((core, logs))
 }
 
-// The logs of the workers, or why one of them couldn't be started, or the first fault of one.
-fn logs_of<K: Whole>(alloc: Global, crew: Crew<K>) -> Result<Vec<Log>, CrewFault>
+// Why one of the workers couldn't be started, or the first fault of one.
+fn ended<K: Whole>(crew: Crew<K>) -> Result<(), CrewFault>
     ensures { IfErr result (IsMet K.opening) }
 {
-    let Crew { works, started } = crew;
+    let Crew { outcomes, started } = crew;
     match started {
         Ok(()) => {}
         Err(StartFault::NoMemory) => return Err(CrewFault::NoMemory),
         Err(StartFault::NoThread) => return Err(CrewFault::NoThread),
     }
-    let mut logs = Vec::new(alloc);
-    for work in works {
-        match logged(work) {
-            Ok(log) => {
-                if logs.push(log).is_err() {
-                    return Err(CrewFault::NoMemory);
-                }
-            }
-            Err(fault) => return Err(fault),
+    for outcome in outcomes {
+        match outcome {
+            Ok(()) => {}
+            Err(Halt::NoMemory) => return Err(CrewFault::NoMemory),
+            Err(Halt::NoTicket(_given)) => return Err(CrewFault::NoTicket),
         }
     }
-    Ok(logs)
-}
-
-// The log of a worker, or why it gave up.
-fn logged<K: Whole>(work: Work<K>) -> Result<Log, CrewFault>
-    ensures { IfErr result (IsMet K.opening) }
-{
-    let Work { log, outcome } = work;
-    match outcome {
-        Ok(()) => Ok(log),
-        Err(Halt::NoMemory) => Err(CrewFault::NoMemory),
-        Err(Halt::NoTicket(_given)) => Err(CrewFault::NoTicket),
-    }
+    Ok(())
 }
 
 // Starts the workers, and waits for their ends.
@@ -180,24 +145,23 @@ fn work_all<K: Whole + Send + Sync, R: Threads + Wait + Sync, G: Gate + Sync>(
     alloc: Global,
     floor: &Floor<K>,
     known: &Known<'_, K>,
-    workers: u32,
+    seats: Vec<Seat<K>>,
     gate: &G,
-) -> Crew<K>
-    requires { workers ≤ 16 }
-{
+) -> Crew<K> {
     thread::scope(thread::scope_env(), rt, |scope| {
         tables_cross();
         images_cross();
         cores_cross();
+        receipts_cross();
         let mut handles = Vec::new(alloc);
-        let mut works = Vec::new(alloc);
+        let mut outcomes = Vec::new(alloc);
         let mut started = Ok(());
-        for worker in 0..workers {
-            if handles.reserve(1).is_err() || works.reserve(1).is_err() {
+        for seat in seats {
+            if handles.reserve(1).is_err() || outcomes.reserve(1).is_err() {
                 started = Err(StartFault::NoMemory);
                 break;
             }
-            match scope.spawn(move || floor.work(rt, alloc, known, worker + 1, gate)) {
+            match scope.spawn(move || floor.work(rt, alloc, known, seat, gate)) {
                 Ok(handle) => handles.push_reserved(handle),
                 Err(_) => {
                     started = Err(StartFault::NoThread);
@@ -209,24 +173,23 @@ fn work_all<K: Whole + Send + Sync, R: Threads + Wait + Sync, G: Gate + Sync>(
             floor.end(rt);
         }
         for handle in handles {
-            let work = handle.join(rt);
-            if works.push(work).is_err() {
+            let outcome = handle.join(rt);
+            if outcomes.push(outcome).is_err() {
                 started = Err(StartFault::NoMemory);
             }
         }
-        Crew { works, started }
+        Crew { outcomes, started }
     })
 }
 
 impl Hand {
-    // Makes the private steps of the ticket, and says whether they have no records. The gate's turns are counted by the receipts.
-    fn make<K: Whole, G: Gate>(&mut self, known: &Known<'_, K>, gate: &G) -> bool
+    // Makes the private steps of the ticket, and says whether they have no records.
+    fn make<K: Whole, G: Gate>(&mut self, known: &Known<'_, K>, worker: u32, gate: &G) -> bool
         ensures { HasMade K.opening.program result self.new }
     {
-        let turn = self.log.receipts().len() as u64 + 1;
         if gate.stretch_into(
-            self.worker,
-            turn,
+            worker,
+            self.turn,
             &known.ahead,
             &self.ticket,
             &mut self.stretch,
@@ -234,8 +197,8 @@ impl Hand {
             return true;
         }
         gate.segment_into(
-            self.worker,
-            turn,
+            worker,
+            self.turn,
             known.ahead.image(),
             &self.ticket,
             &mut self.segment,
@@ -267,33 +230,29 @@ impl<K: Whole> Floor<K> {
         rt: &R,
         alloc: Global,
         known: &Known<'_, K>,
-        worker: u32,
+        seat: Seat<K>,
         gate: &G,
-    ) -> Work<K> {
-        let log = Log::new(alloc);
-        let work = match Stretch::new(alloc) {
+    ) -> Result<(), Halt<K>> {
+        let outcome = match Stretch::new(alloc) {
             Ok(stretch) => self.work_with(
                 rt,
                 known,
                 gate,
+                &seat,
                 Hand {
                     alloc,
-                    worker,
+                    turn: 1,
                     ticket: Ticket::blank(alloc),
                     stretch,
                     segment: Segment::new(),
-                    log,
                 },
             ),
-            Err(_) => Work {
-                log,
-                outcome: Err(Halt::NoMemory),
-            },
+            Err(_) => Err(Halt::NoMemory),
         };
-        if work.outcome.is_err() {
+        if outcome.is_err() {
             self.end(rt);
         }
-        work
+        outcome
     }
 
     // All turns of a worker, with the room that it has in hand.
@@ -302,23 +261,17 @@ impl<K: Whole> Floor<K> {
         rt: &R,
         known: &Known<'_, K>,
         gate: &G,
+        seat: &Seat<K>,
         hand: Hand,
-    ) -> Work<K> {
+    ) -> Result<(), Halt<K>> {
         let mut hand = hand;
         let used = replace(&mut hand.ticket, Ticket::blank(hand.alloc));
-        match self.check_out(rt, self.core.lock(rt), used) {
-            Ok(Some(ticket)) => {
+        match self.check_out(rt, self.core.lock(rt), used)? {
+            Some(ticket) => {
                 hand.ticket = ticket;
-                self.work_on(rt, known, gate, hand)
+                self.work_on(rt, known, gate, seat, hand)
             }
-            Ok(None) => Work {
-                log: hand.log,
-                outcome: Ok(()),
-            },
-            Err(fault) => Work {
-                log: hand.log,
-                outcome: Err(fault),
-            },
+            None => Ok(()),
         }
     }
 
@@ -328,24 +281,13 @@ impl<K: Whole> Floor<K> {
         rt: &R,
         known: &Known<'_, K>,
         gate: &G,
+        seat: &Seat<K>,
         hand: Hand,
-    ) -> Work<K> {
+    ) -> Result<(), Halt<K>> {
         let mut hand = hand;
         for _ in rt.forever() {
-            match self.turn(rt, known, gate, &mut hand) {
-                Ok(true) => {}
-                Ok(false) => {
-                    return Work {
-                        log: hand.log,
-                        outcome: Ok(()),
-                    };
-                }
-                Err(fault) => {
-                    return Work {
-                        log: hand.log,
-                        outcome: Err(fault),
-                    };
-                }
+            if !self.turn(rt, known, gate, seat, &mut hand)? {
+                return Ok(());
             }
         }
         unreachable!()
@@ -357,12 +299,12 @@ impl<K: Whole> Floor<K> {
         rt: &R,
         known: &Known<'_, K>,
         gate: &G,
+        seat: &Seat<K>,
         hand: &mut Hand,
     ) -> Result<bool, Halt<K>> {
-        hand.log.reserve()?;
-        let stretched = hand.make(known, gate);
+        let stretched = hand.make(known, seat.number, gate);
         let mut core = self.core.lock(rt);
-        if !self.commit(&mut core, hand, stretched)? {
+        if !self.commit(&mut core, seat, hand, stretched)? {
             return Ok(false);
         }
         let used = replace(&mut hand.ticket, Ticket::blank(hand.alloc));
@@ -375,8 +317,14 @@ impl<K: Whole> Floor<K> {
         }
     }
 
-    // Commits what a worker has in hand, and notes its receipt. False where the run is over.
-    fn commit(&self, core: &mut Tied<K>, hand: &mut Hand, stretched: bool) -> Result<bool, Halt<K>>
+    // Commits what a worker has in hand. False where the run is over.
+    fn commit(
+        &self,
+        core: &mut Tied<K>,
+        seat: &Seat<K>,
+        hand: &mut Hand,
+        stretched: bool,
+    ) -> Result<bool, Halt<K>>
         requires { HasMade K.opening.program stretched hand.old }
     {
         let offer = if stretched {
@@ -389,9 +337,9 @@ impl<K: Whole> Floor<K> {
                 known: true,
             }
         };
-        match core.turn(hand.worker, &offer) {
-            Ok(receipt) => {
-                hand.log.push(receipt)?;
+        match core.turn(seat, &offer) {
+            Ok(_receipt) => {
+                hand.turn = hand.turn.saturating_add(1);
                 Ok(true)
             }
             Err(CommitFault::NoMemory) => {

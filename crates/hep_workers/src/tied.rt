@@ -1,36 +1,103 @@
-//! The core under the lock and the image beside it, which are known to be of one run: so a commit need not make the steps of a segment again.
-ghost use Rattle.std.specs.Prelude.{◌≡◌, []};
+//! What is under the lock, and the image beside it. They are known to be of one run, so a commit need not make the steps of a segment again; and
+//! the workers' receipts are known to be the entries of the core's history.
+ghost use Rattle.std.specs.Prelude.{◌≡◌, ◌≤◌, IfOk, ℕ, [], replicate, vec_len};
 ghost use Rattle.std.specs.Coded.{Coded-set, codes};
 ghost use Rattle.hep_source.specs.contracts.expression.Expr as expression;
 ghost use Rattle.hep_core.specs.Value.{CoreValue, opening_of};
 ghost use Rattle.hep_core.specs.Offers.{IsKnownOffer};
-ghost use Rattle.hep_receipts.specs.Shared.{IsOfOneRun, IsSharedFrom};
+ghost use Rattle.hep_receipts.specs.Shared.{IsSharedFrom};
 ghost use Rattle.hep_workers.specs.Faults.{HasGivenAll};
+ghost use Rattle.hep_workers.specs.Lists.{AreLogsOf, HasLeft, IsAtOpening, lists_of};
 
 use hep_core::{ChooseFault, CommitFault, Core, Offer, Ticket, Verdict};
-use hep_receipts::{Receipt, offer_turn};
+use hep_receipts::{Log, Receipt, offer_turn};
 use hep_stretches::Ahead;
-use std::alloc::AllocError;
+use std::alloc::{AllocError, Global};
 use std::marker::{Brand, PhantomData};
 
-/// The opening of a run. Each run picks it.
+/// The opening of a run, and how many workers share it. Each run picks them.
 pub(crate) trait Whole {
     ghost opening: { CoreValue };
+
+    ghost workers: { ℕ };
 }
 
 impl Whole for Brand {
     ghost opening = { opening_of [] 1 0 };
+
+    ghost workers = { 0 };
 }
 
-/// The core of that run: check-outs, commits and cancellations have made it of the opening.
+/// The number of a worker.
+#[derive(Drop)]
+pub(crate) struct Seat<K: Whole> {
+    pub(crate) number: u32,
+    of: PhantomData<K>,
+    ghost some: { 1 ≤ number },
+    ghost few: { number ≤ K.workers },
+}
+
+impl<K: Whole> Seat<K> {
+    fn new(number: u32) -> Self
+        requires some { 1 ≤ number }
+        requires few { number ≤ K.workers }
+    {
+        Seat {
+            number,
+            of: PhantomData,
+        }
+    }
+
+    /// The numbers of all workers.
+    pub(crate) fn all(alloc: Global, workers: u32) -> Result<Vec<Seat<K>>, AllocError>
+        requires { workers ≡ K.workers }
+    {
+        let mut seats = Vec::new(alloc);
+        for worker in 0..workers {
+            seats.push(Seat::new(worker + 1))?;
+        }
+        Ok(seats)
+    }
+}
+
+/// A list for each worker, to be filled with its receipts.
+#[tactic(auto, using(crate::proofs::Lists::one_more))]
+pub(crate) fn blank_lists(alloc: Global, workers: u32) -> Result<Vec<Vec<Receipt>>, AllocError>
+    ensures many { IfOk result (λ lists. vec_len lists ≡ workers) }
+    ensures blank { IfOk result (λ lists. lists_of lists.items ≡ replicate workers []) }
+{
+    let mut lists = Vec::new(alloc);
+    for _worker in 0..workers {
+        lists.push(Vec::new(alloc))?;
+    }
+    Ok(lists)
+}
+
+/// The logs that the lists have become.
+#[tactic(auto, using(crate::proofs::Lists::one_log_more))]
+pub(crate) fn logs_of(alloc: Global, lists: Vec<Vec<Receipt>>) -> Result<Vec<Log>, AllocError>
+    ensures { IfOk result (λ logs. logs.items ≡ lists_of lists.items) }
+{
+    let mut logs = Vec::new(alloc);
+    for receipts in lists {
+        logs.push(Log::of(receipts))?;
+    }
+    Ok(logs)
+}
+
+/// The core of that run, which check-outs, commits and cancellations have made of the opening, with the receipts of each worker: together they are
+/// the entries of its history.
 #[derive(Drop)]
 pub(crate) struct Tied<K: Whole> {
     core: Core,
+    lists: Vec<Vec<Receipt>>,
     of: PhantomData<K>,
     ghost program: { core.core.program ≡ K.opening.program } by { Coded-set (Prim.hlevel (codes, expression.the_row.coded)) core.core.program K.opening.program },
     ghost cells: { core.core.cells ≡ K.opening.cells },
     ghost limit: { core.core.limit ≡ K.opening.limit },
     ghost shared: { ∥ IsSharedFrom K.opening core ∥₁ },
+    ghost many: { vec_len lists ≡ K.workers },
+    ghost logged: { ∥ AreLogsOf K.workers core.core.history (lists_of lists.items) ∥₁ },
 }
 
 /// All tickets of the run were given.
@@ -75,22 +142,24 @@ impl<'a, K: Whole> Known<'a, K> {
 
 impl<K: Whole> Tied<K> {
     /// The core at the opening.
-    pub(crate) fn new(core: Core) -> Self
-        requires { core.core ≡ K.opening }
+    pub(crate) fn new(core: Core, lists: Vec<Vec<Receipt>>) -> Self
+        requires begun { IsAtOpening K.opening core.core }
+        requires many { vec_len lists ≡ K.workers }
+        requires blank { lists_of lists.items ≡ replicate K.workers [] }
     {
         Tied {
             core,
+            lists,
             of: PhantomData,
         }
     }
 
-    /// The core, once the workers have ended.
-    pub(crate) fn into_core(self) -> Core
-        ensures run { IsOfOneRun K.opening result.core }
-        ensures shared { ∥ IsSharedFrom K.opening result ∥₁ }
+    /// The core and the receipts, once the workers have ended.
+    pub(crate) fn into_parts(self) -> (Core, Vec<Vec<Receipt>>)
+        ensures { HasLeft K.opening K.workers result.0 (lists_of result.1.items) }
     {
-        let Tied { core, of: _ } = self;
-        core
+        let Tied { core, lists, of: _ } = self;
+        (core, lists)
     }
 
     /// The run is over.
@@ -103,11 +172,23 @@ impl<K: Whole> Tied<K> {
         self.core.next_ready()
     }
 
-    /// A turn of a worker, whose private steps are made by the image of the run.
-    pub(crate) fn turn(&mut self, worker: u32, offer: &Offer<'_>) -> Result<Receipt, CommitFault>
+    /// A turn of a worker, whose private steps are made by the image of the run. Its receipt is put behind the worker's others; `NoMemory` comes
+    /// for want of room for it too, before anything is committed.
+    pub(crate) fn turn(&mut self, seat: &Seat<K>, offer: &Offer<'_>) -> Result<Receipt, CommitFault>
         requires { IsKnownOffer K.opening.program offer.now }
     {
-        offer_turn(&mut self.core, worker, offer)
+        let Tied { core, lists, of: _ } = self;
+        let receipts = &mut lists[seat.number as usize - 1];
+        if receipts.reserve(1).is_err() {
+            return Err(CommitFault::NoMemory);
+        }
+        match offer_turn(core, seat.number, offer) {
+            Ok(receipt) => {
+                receipts.push_reserved(receipt);
+                Ok(receipt)
+            }
+            Err(fault) => Err(fault),
+        }
     }
 
     /// A ticket is out no more.

@@ -439,3 +439,75 @@ fn two_workers_meet(rt: HostRuntime) {
     assert!(rt; gate.met.load(Ordering::SeqCst));
     has_stored(&rt, report.core());
 }
+
+// A main program that creates four processes.
+const CREATING: [&[u8]; 9] = [
+    b"      PROGRAM P",
+    b"      DO 10 I=1,4",
+    b"      CREATE S",
+    b"   10 CONTINUE",
+    b"      END",
+    b"      SUBROUTINE S",
+    b"      COMMON N",
+    b"      N=1",
+    b"      END",
+];
+
+// Where four workers come together: each that has another process than the first one waits until four have. The main program is held at each
+// of its turns, so that workers without a process wait by then for the next one to be created.
+#[derive(Drop)]
+struct Gathering<'a, R> {
+    rt: &'a R,
+    inside: AtomicU32,
+    gathered: AtomicBool,
+    polls: AtomicU64,
+}
+
+impl<'a, R: Clock> Gathering<'a, R> {
+    fn new(rt: &'a R) -> Self {
+        Gathering {
+            rt,
+            inside: AtomicU32::new(0),
+            gathered: AtomicBool::new(false),
+            polls: AtomicU64::new(0),
+        }
+    }
+
+    fn come(&self) {
+        if self.inside.fetch_add(1, Ordering::SeqCst) == 3 {
+            self.gathered.store(true, Ordering::SeqCst);
+        }
+        for _poll in 0..MOST_POLLS {
+            if self.gathered.load(Ordering::SeqCst)
+                || MOST_POLLS <= self.polls.fetch_add(1, Ordering::SeqCst)
+            {
+                return;
+            }
+            sleep(self.rt, Duration::from_micros(100));
+        }
+    }
+}
+
+impl<R: Clock> Gate for Gathering<'_, R> {
+    fn segment(&self, _worker: u32, _turn: u64, image: &Image, ticket: &Ticket) -> Segment {
+        if ticket.id().process == 1 {
+            sleep(self.rt, Duration::from_millis(20));
+        } else {
+            self.come();
+        }
+        compute(image, ticket)
+    }
+}
+
+// A worker that waits is woken for each process that is created: else the four never come together.
+#[test]
+fn waiting_workers_are_woken(rt: HostRuntime) {
+    let alloc = rt.alloc();
+    let image = image_from(&rt, alloc, &source_of(&rt, alloc, &CREATING));
+    let gate = Gathering::new(&rt);
+    let options = options_of(10_000, 4);
+    let report = run_workers(&rt, alloc, image, &options, &gate).expect(&rt, "no report");
+    assert!(rt; gate.polls.load(Ordering::SeqCst) < MOST_POLLS);
+    assert!(rt; gate.gathered.load(Ordering::SeqCst));
+    assert!(rt; report.core().verdict() == Verdict::Done);
+}

@@ -1,9 +1,11 @@
-use Rattle.std.proofs.Common.{◌∙◌, Err, subst}
+use Rattle.std.proofs.Common.{◌∙◌, Err, List, sym, subst}
 use Rattle.std.proofs.Math.Logic.{∥∥₁_map}
 use Rattle.hep_core.specs.Commits.{IsCheckedOut}
 use Rattle.hep_receipts.specs.Shared.{checked_out}
 use Rattle.hep_receipts.proofs.Shared.{of-one-run}
-use Rattle.hep_workers.proofs.Shared.{here}
+use Rattle.hep_machine.specs.declared.event.Entry.{Entry}
+use Rattle.hep_workers.specs.Lists.{AreLogsOf, lists_of}
+use Rattle.hep_workers.proofs.Shared.{checked-out-same, here}
 use Rattle.hep_workers.proofs.tied.Tied.check_out.Goals as goal
 
 pub invariant_of-self : goal.invariant_of-self
@@ -18,6 +20,8 @@ invariant_of-self g c =
       cells = one.cells ∙ was.cells;
       limit = one.limit ∙ was.limit;
       shared = ∥∥₁_map was.shared (λ before. checked_out was.core new p c.check_out_again.result before call);
+      many = was.many;
+      logged = ∥∥₁_map was.logged (λ are. subst (λ (h : List Entry). AreLogsOf g.K.Whole.workers h (lists_of was.lists.items)) (sym (checked-out-same was.core new p c.check_out_again.result call)) are);
     }
 
 pub invariant_of-result : goal.invariant_of-result

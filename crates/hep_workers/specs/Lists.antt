@@ -1,0 +1,29 @@
+-- The receipts of workers, as they are kept under the lock: docs/MACHINE.md, "Workers".
+use Rattle.std.specs.Prelude.{◌≡◌, ℕ, true, List, [], map}
+use Rattle.std.specs.Global.{Vec}
+use Rattle.hep_machine.specs.declared.event.Entry.{Entry}
+use Rattle.hep_core.specs.Places.{Placed}
+use Rattle.hep_core.specs.Value.{CoreValue}
+use Rattle.hep_receipts.specs.Shared.{IsOfOneRun, IsSharedFrom}
+use Rattle.hep_receipts.specs.declared.receipt.Receipt.{Receipt}
+use Rattle.hep_reports.specs.Receipts.{AreEntries, all_rise, are_of_workers, receipts_of}
+
+-- there is a log for each of so many workers, with receipts of that worker alone, which rise; all together are the history's entries, each once
+pub record AreLogsOf (workers : ℕ) (history : List Entry) (logs : List (List Receipt)) : Type 0 where
+  pub entries : AreEntries history (receipts_of logs)
+  pub rising : all_rise logs ≡ true
+  pub numbered : are_of_workers workers logs ≡ true
+
+-- those of each worker
+abbrev pub lists_of : List (Vec Receipt) → List (List Receipt)
+lists_of lists = map (λ (v : Vec Receipt). v.items) lists
+
+-- a core at an opening, which has made no step
+abbrev pub IsAtOpening : CoreValue → CoreValue → Type 0
+IsAtOpening opening core = (core ≡ opening) × (core.history ≡ [])
+
+-- what so many workers leave: a core of the opening's run, which they have made of it, and the logs of its history
+pub record HasLeft (opening : CoreValue) (workers : ℕ) (left : Placed) (logs : List (List Receipt)) : Type 0 where
+  pub run : IsOfOneRun opening left.core
+  pub shared : ∥ IsSharedFrom opening left ∥₁
+  pub logged : ∥ AreLogsOf workers left.core.history logs ∥₁
