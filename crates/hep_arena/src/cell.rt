@@ -142,7 +142,9 @@ impl Cell {
         self.full = slot.full;
         match slot.value {
             None => self.hold(Holding::Nothing, 0),
-            Some(value) => self.store(value),
+            Some(Value::Int(integer)) => self.hold(Holding::Integer, integer),
+            Some(Value::Truth(false)) => self.hold(Holding::False, 0),
+            Some(Value::Truth(true)) => self.hold(Holding::True, 0),
         }
     }
 }

@@ -14,7 +14,10 @@ pub(crate) fn keep_back(operands: &mut Vec<Value>, pending: &mut Vec<Value>, kep
     ensures none { operands.new.items ≡ [] }
     ensures capacity { vec_capacity operands.new ≡ vec_capacity operands.old }
 {
-    let _ = pending.extend_from_slice(&operands[..kept]);
+    // Most CALLs leave none.
+    if kept > 0 {
+        let _ = pending.extend_from_slice(&operands[..kept]);
+    }
     operands.clear();
 }
 
@@ -27,6 +30,9 @@ fn bring_back(operands: &mut Vec<Value>, pending: &mut Vec<Value>, kept: usize)
     ensures pending { pending.new.items ≡ take (length pending.old.items - kept) pending.old.items }
     ensures capacity { vec_capacity operands.old ≤ vec_capacity operands.new }
 {
+    if kept == 0 {
+        return;
+    }
     let first = pending.len().saturating_sub(kept);
     let _ = operands.extend_from_slice(&pending[first..]);
     pending.truncate(first);
