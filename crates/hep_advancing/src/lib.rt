@@ -9,4 +9,4 @@ pub mod progress;
 pub use hep_reading::{Base, Copied, MOST_RECORDS, Record, Records, private_steps_depend_on_reads};
 pub use operands::{Operands, assign};
 pub use performing::{Deed, Here};
-pub use progress::{Progress, Source, advance, deed_behind, has_room};
+pub use progress::{Progress, Source, advance, is_first_private};

@@ -1,5 +1,6 @@
 //! Private steps, one after the other.
-ghost use Rattle.std.specs.Prelude.{◌≡◌, ◌<◌, [], drop, length, nat_le, IfSome};
+ghost use Rattle.std.specs.Prelude.{◌≡◌, ◌<◌, ◌≤◌, [], drop, length, nat_le, IfSome, None};
+ghost use Rattle.std.specs.Option.{is_some};
 ghost use Rattle.hep_code.specs.Words.{most_operands};
 ghost use Rattle.hep_reading.specs.Recorded.{next_made};
 ghost use Rattle.hep_reading.specs.Bases.{values_of};
@@ -8,7 +9,7 @@ ghost use Rattle.hep_advancing.specs.Deeds.{HasSettled, constant_ahead, operands
 ghost use Rattle.hep_advancing.specs.Progress.{HasAdvanced, HasFound, HasMade, own_behind, own_of};
 ghost use Rattle.hep_reading.specs.Records.{most_records};
 
-use crate::operands::{MOST_OPERANDS, Operands};
+use crate::operands::{MOST_OPERANDS, Operands, assign};
 use crate::performing::{Deed, Here, deed_ahead};
 use hep_code::Instruction;
 use hep_reading::{Base, Memory, Records};
@@ -57,9 +58,9 @@ fn settle(code: &[Instruction], operands: &mut Operands, index: usize) -> Option
     Some(at)
 }
 
-/// The next step behind those with these records, if it is private. The constants that stand ahead are operands then.
+// The next step behind those with these records, if it is private. The constants that stand ahead are operands then.
 #[inline(always)]
-pub fn deed_behind(
+fn deed_behind(
     source: &Source<'_>,
     records: Option<&Records>,
     operands: &mut Operands,
@@ -102,13 +103,64 @@ fn next_deed(source: &Source<'_>, progress: &mut Progress) -> Option<Deed>
     )
 }
 
-/// What a step gives has room behind the operands that it leaves.
-pub fn has_room(operands: &Operands, deed: Deed) -> bool
+// What a step gives has room behind the operands that it leaves.
+fn has_room(operands: &[Value], deed: Deed) -> bool
     ensures { result ≡ nat_le (length (operands_left operands.now deed.given)) most_operands }
 {
     match deed.given {
-        Some((kept, _)) => kept.min(operands.as_slice().len()) < MOST_OPERANDS,
+        Some((kept, _)) => kept.min(operands.len()) < MOST_OPERANDS,
         None => true,
+    }
+}
+
+// What the operation at an index makes, behind no step, if it is private.
+#[inline(always)]
+fn deed_at(source: &Source<'_>, operands: &[Value], index: usize) -> Option<Deed>
+    requires few { length operands.now ≤ most_operands }
+    requires none { constant_ahead (drop index source.now.code.now) ≡ None }
+    ensures { HasFound source.now.private.now source.now.code.now (own_behind (values_of source.now.base) [] operands.now index)
+        result operands.now }
+{
+    let memory = Memory {
+        private: source.private,
+        base: source.base,
+        records: None,
+    };
+    let here = Here {
+        memory,
+        operands,
+        index,
+    };
+    deed_ahead(&here, source.code)
+}
+
+// The first step is private, by its operands and the constants that stand ahead.
+#[cold]
+#[inline(never)]
+fn is_behind_constants(source: &Source<'_>, operands: &[Value], index: usize) -> bool
+    requires { length operands.now ≤ most_operands }
+    ensures { result ≡ is_some (next_made source.now.private.now source.now.code.now (own_behind (values_of source.now.base) [] operands.now index)) }
+{
+    let mut settled = Operands::new();
+    assign(&mut settled, operands);
+    match deed_behind(source, None, &mut settled, index) {
+        Some(deed) => has_room(settled.as_slice(), deed),
+        None => false,
+    }
+}
+
+/// The first step is private, with these operands.
+pub fn is_first_private(source: &Source<'_>, operands: &[Value], index: usize) -> bool
+    requires { length operands.now ≤ most_operands }
+    ensures { result ≡ is_some (next_made source.now.private.now source.now.code.now (own_behind (values_of source.now.base) [] operands.now index)) }
+{
+    // Where an operation stands ahead, the operands needn't be copied.
+    if constant_at(source.code, index).is_some() {
+        return is_behind_constants(source, operands, index);
+    }
+    match deed_at(source, operands, index) {
+        Some(deed) => has_room(operands, deed),
+        None => false,
     }
 }
 

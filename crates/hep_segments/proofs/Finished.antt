@@ -1,5 +1,5 @@
 -- Once its steps are made a segment is that of its ticket.
-use Rattle.std.proofs.Common.{◌≡◌, ◌≤◌, ℕ, List, length, refl, sym, ◌∙◌, subst, arith}
+use Rattle.std.proofs.Common.{◌≡◌, ◌≤◌, ℕ, List, refl, sym, subst, arith}
 use Rattle.hep_machine.specs.Words.{Value, Units}
 use Rattle.hep_repeating.specs.Made.{Progress}
 use Rattle.hep_repeating.specs.Copied.{Copied}

@@ -17,7 +17,7 @@ use hep_arena::Cell;
 use hep_image::Image;
 use hep_machine::values::integer_of;
 use hep_repeating::{
-    Base, Operands, Progress, Record, Records, Source, assign, deed_behind, has_room, take_steps,
+    Base, Operands, Progress, Record, Records, Source, assign, is_first_private, take_steps,
     unit_of,
 };
 use hep_source::Value;
@@ -216,10 +216,5 @@ pub fn is_next_private(image: &Image, place: &Place<'_>) -> bool
         private: unit.private.as_slice(),
         base: place.base(),
     };
-    let mut operands = Operands::new();
-    assign(&mut operands, place.operands);
-    match deed_behind(&source, None, &mut operands, place.index) {
-        Some(deed) => has_room(&operands, deed),
-        None => false,
-    }
+    is_first_private(&source, place.operands, place.index)
 }

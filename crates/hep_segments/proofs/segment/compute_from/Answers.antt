@@ -1,4 +1,4 @@
-use Rattle.std.proofs.Common.{◌∙◌, refl}
+use Rattle.std.proofs.Common.{refl}
 use Rattle.hep_repeating.specs.Bases.{values_of}
 use Rattle.hep_repeating.specs.Made.{Progress}
 use Rattle.hep_segments.specs.Places.{start_at}
