@@ -14,6 +14,6 @@ pub use hep_segments::laws::segments_depend_on_reads;
 pub use hep_segments::{
     Copied, Place, Segment, Ticket, TicketId, compute, is_kept, is_made, is_next_private,
 };
-pub use making::{Ahead, make_stretch, segment_of};
+pub use making::{Ahead, make_behind, make_stretch, segment_of};
 pub use stretch::Stretch;
 pub use table::{PrivateTable, private_tables_of};

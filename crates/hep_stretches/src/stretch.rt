@@ -1,12 +1,12 @@
 //! Private steps without a record of each.
-ghost use Rattle.std.specs.Prelude.{◌≡◌, ◌≤◌, [], IfOk, length};
+ghost use Rattle.std.specs.Prelude.{◌≡◌, ◌≤◌, [], IfOk, length, nat_eq};
 ghost use Rattle.hep_code.specs.Words.{most_operands};
 ghost use Rattle.hep_segments.specs.Records.{most_records};
 ghost use Rattle.hep_stretches.specs.Stretches.{stretch_value};
 
 use crate::table::{MOST_CELLS, MOST_OPERANDS};
 use hep_arena::Cell;
-use hep_segments::{Operands, TicketId};
+use hep_segments::{MOST_RECORDS, Operands, TicketId};
 use hep_source::Value;
 use std::alloc::{AllocError, Global};
 use std::marker::Model;
@@ -73,6 +73,13 @@ impl Stretch {
         self.id
     }
 
+    /// It is of this ticket from now on, whose activation stands where it begins.
+    pub fn give_ticket(&mut self, id: TicketId)
+        ensures { self.new ≡ record self.old { id = id } }
+    {
+        self.id = id;
+    }
+
     /// The unit of the activation.
     pub fn unit(&self) -> u32
         ensures { result ≡ self.now.unit }
@@ -108,6 +115,13 @@ impl Stretch {
         ensures few { result ≤ most_records }
     {
         self.steps
+    }
+
+    /// It has as many steps as it may have.
+    pub fn is_full(&self) -> bool
+        ensures { result ≡ nat_eq self.now.steps most_records }
+    {
+        self.steps == MOST_RECORDS as u32
     }
 
     /// Where the activation is then.

@@ -1,8 +1,10 @@
 //! The workers at their work: threads that share a core under a lock.
 ghost use Rattle.std.specs.Prelude.{◌≡◌, IfErr, IfOk, IsSome, OnOk, true};
+ghost use Rattle.hep_core.specs.Offers.{IsKnownOffer};
 ghost use Rattle.hep_machine.specs.Words.{opening_layout};
 ghost use Rattle.hep_reports.specs.Receipts as receipts;
 ghost use Rattle.hep_reports.specs.Reports.{IsReport};
+ghost use Rattle.hep_stretches.specs.Stretches.{IsStretch};
 ghost use Rattle.hep_workers.specs.Faults.{IsMet, IsSharedBy, IsWorkFault};
 ghost use Rattle.hep_workers.specs.Hands.{HasMade};
 ghost use Rattle.hep_workers.specs.Lists.{HasLeft, IsAtOpening};
@@ -17,7 +19,8 @@ use hep_receipts::Log;
 use hep_reports::{Report, WorkOptions, close};
 use hep_segments::{Segment, Ticket};
 use hep_stretches::{Ahead, Stretch, private_tables_of};
-use std::alloc::Global;
+use std::alloc::{AllocError, Global};
+use std::hint::spin_loop;
 use std::marker::Brand;
 use std::mem::replace;
 use std::sync::atomic::{AtomicBool, AtomicU32, Ordering};
@@ -25,26 +28,49 @@ use std::sync::{Condvar, Mutex, MutexGuard, Wait};
 use std::thread;
 use std::thread::Threads;
 
+// So many private steps take longer than what is done under the lock beside them.
+const LONG: u32 = 256;
+
 // What the workers share.
 #[derive(Drop)]
 struct Floor<K: Whole> {
     core: Mutex<Tied<K>>,
     // Notified where a process is free for a worker that waits, and where the run is over.
     changed: Condvar,
-    // How many workers wait. It changes under the lock.
+    // How many workers wait, and how many others have begun. They change under the lock.
     idle: AtomicU32,
+    busy: AtomicU32,
     // The workers are to end. It is set under the lock, and never taken back.
     ended: AtomicBool,
 }
 
-// What a worker has in hand: the number of its turn, its ticket, and the stretch or the segment that it makes of it. They have the room of those
-// before.
+// So often a worker looks at the lock before it may fall asleep, where its turns are long beside what others do under it.
+const LOOKS: u32 = 1_000;
+
+// What a worker's turn was like: most of it was made beside other workers; or under the lock; or so, and another one had the lock meanwhile.
+#[derive(Clone, Copy, PartialEq, Eq)]
+enum Pace {
+    Apart,
+    Locked,
+    Crowded,
+}
+
+// Where a worker is: the number of its turn, and its ticket, which has the room of the one before.
 #[derive(Drop)]
-struct Hand {
+struct Stand {
     alloc: Global,
     turn: u64,
     ticket: Ticket,
-    stretch: Stretch,
+}
+
+// What a worker makes of its ticket: a segment; or a stretch, and up to three more, each of which follows the one before it. They have the room of
+// those of earlier turns.
+#[derive(Drop)]
+struct Hand {
+    first: Stretch,
+    second: Stretch,
+    third: Stretch,
+    fourth: Stretch,
     segment: Segment,
 }
 
@@ -182,29 +208,92 @@ fn work_all<K: Whole + Send + Sync, R: Threads + Wait + Sync, G: Gate + Sync>(
     })
 }
 
+impl Stand {
+    // The ticket, in whose place there is a blank one.
+    fn take_ticket(&mut self) -> Ticket {
+        replace(&mut self.ticket, Ticket::blank(self.alloc))
+    }
+}
+
 impl Hand {
-    // Makes the private steps of the ticket, and says whether they have no records.
-    fn make<K: Whole, G: Gate>(&mut self, known: &Known<'_, K>, worker: u32, gate: &G) -> bool
+    // Room for what a worker makes.
+    fn new(alloc: Global) -> Result<Hand, AllocError> {
+        Ok(Hand {
+            first: Stretch::new(alloc)?,
+            second: Stretch::new(alloc)?,
+            third: Stretch::new(alloc)?,
+            fourth: Stretch::new(alloc)?,
+            segment: Segment::new(),
+        })
+    }
+
+    // Makes the private steps of a ticket, and says how many stretches they are: none where they are a segment.
+    fn make<K: Whole, G: Gate>(
+        &mut self,
+        known: &Known<'_, K>,
+        worker: u32,
+        stand: &Stand,
+        gate: &G,
+    ) -> u32
         ensures { HasMade K.opening.program result self.new }
     {
-        if gate.stretch_into(
-            worker,
-            self.turn,
-            &known.ahead,
-            &self.ticket,
-            &mut self.stretch,
-        ) {
-            return true;
+        let Hand {
+            first,
+            second,
+            third,
+            fourth,
+            segment,
+        } = self;
+        let (turn, ticket) = (stand.turn, &stand.ticket);
+        if !gate.stretch_into(worker, turn, &known.ahead, ticket, first) {
+            gate.segment_into(worker, turn, known.ahead.image(), ticket, segment);
+            return 0;
         }
-        gate.segment_into(
-            worker,
-            self.turn,
-            known.ahead.image(),
-            &self.ticket,
-            &mut self.segment,
-        );
-        false
+        let call = Call { worker, turn };
+        if !follows(known, gate, call.after(1), first, second) {
+            return 1;
+        }
+        if !follows(known, gate, call.after(2), second, third) {
+            return 2;
+        }
+        if !follows(known, gate, call.after(3), third, fourth) {
+            return 3;
+        }
+        4
     }
+}
+
+// A call of a gate: of which worker, and of which turn of its.
+#[derive(Clone, Copy)]
+struct Call {
+    worker: u32,
+    turn: u64,
+}
+
+impl Call {
+    // That of the worker's turn so many turns later.
+    fn after(self, turns: u64) -> Call {
+        Call {
+            worker: self.worker,
+            turn: self.turn.saturating_add(turns),
+        }
+    }
+}
+
+// Makes the stretch that follows another one, where that has as many steps as it may have. False where there is none, or it has no step: a commit
+// makes the next step behind private ones where it isn't private too.
+fn follows<K: Whole, G: Gate>(
+    known: &Known<'_, K>,
+    gate: &G,
+    call: Call,
+    before: &Stretch,
+    stretch: &mut Stretch,
+) -> bool
+    ensures { result ≡ true → IsStretch K.opening.program stretch.new }
+{
+    before.is_full()
+        && gate.stretch_behind(call.worker, call.turn, &known.ahead, before, stretch)
+        && 0 < stretch.steps()
 }
 
 impl<K: Whole> Floor<K> {
@@ -213,6 +302,7 @@ impl<K: Whole> Floor<K> {
             core: Mutex::new(core),
             changed: Condvar::new(),
             idle: AtomicU32::new(0),
+            busy: AtomicU32::new(0),
             ended: AtomicBool::new(false),
         }
     }
@@ -233,20 +323,16 @@ impl<K: Whole> Floor<K> {
         seat: Seat<K>,
         gate: &G,
     ) -> Result<(), Halt<K>> {
-        let outcome = match Stretch::new(alloc) {
-            Ok(stretch) => self.work_with(
-                rt,
-                known,
-                gate,
-                &seat,
-                Hand {
-                    alloc,
-                    turn: 1,
-                    ticket: Ticket::blank(alloc),
-                    stretch,
-                    segment: Segment::new(),
-                },
-            ),
+        let stand = Stand {
+            alloc,
+            turn: 1,
+            ticket: Ticket::blank(alloc),
+        };
+        let outcome = match Hand::new(alloc) {
+            Ok(hand) => {
+                let mut hand = hand;
+                self.work_with(rt, known, gate, &seat, &mut hand, stand)
+            }
             Err(_) => Err(Halt::NoMemory),
         };
         if outcome.is_err() {
@@ -255,38 +341,24 @@ impl<K: Whole> Floor<K> {
         outcome
     }
 
-    // All turns of a worker, with the room that it has in hand.
+    // All turns of a worker, with the room that it has.
     fn work_with<R: Wait, G: Gate>(
         &self,
         rt: &R,
         known: &Known<'_, K>,
         gate: &G,
         seat: &Seat<K>,
-        hand: Hand,
+        hand: &mut Hand,
+        stand: Stand,
     ) -> Result<(), Halt<K>> {
-        let mut hand = hand;
-        let used = replace(&mut hand.ticket, Ticket::blank(hand.alloc));
-        match self.check_out(rt, self.core.lock(rt), used)? {
-            Some(ticket) => {
-                hand.ticket = ticket;
-                self.work_on(rt, known, gate, seat, hand)
-            }
-            None => Ok(()),
+        let mut stand = stand;
+        let core = self.core.lock(rt);
+        self.busy.fetch_add(1, Ordering::SeqCst);
+        if !self.check_out(rt, core, &mut stand, Pace::Apart)? {
+            return Ok(());
         }
-    }
-
-    // The turns of a worker that has its first ticket.
-    fn work_on<R: Wait, G: Gate>(
-        &self,
-        rt: &R,
-        known: &Known<'_, K>,
-        gate: &G,
-        seat: &Seat<K>,
-        hand: Hand,
-    ) -> Result<(), Halt<K>> {
-        let mut hand = hand;
         for _ in rt.forever() {
-            if !self.turn(rt, known, gate, seat, &mut hand)? {
+            if !self.turn(rt, known, gate, seat, hand, &mut stand)? {
                 return Ok(());
             }
         }
@@ -301,49 +373,119 @@ impl<K: Whole> Floor<K> {
         gate: &G,
         seat: &Seat<K>,
         hand: &mut Hand,
+        stand: &mut Stand,
     ) -> Result<bool, Halt<K>> {
-        let stretched = hand.make(known, seat.number, gate);
-        let mut core = self.core.lock(rt);
-        if !self.commit(&mut core, seat, hand, stretched)? {
+        let made = hand.make(known, seat.number, stand, gate);
+        let long = made != 0 && LONG <= hand.first.steps();
+        let (mut core, waited) = self.lock(rt, long);
+        if !self.commit_all(&mut core, seat, hand, stand, made)? {
             return Ok(false);
         }
-        let used = replace(&mut hand.ticket, Ticket::blank(hand.alloc));
-        match self.check_out(rt, core, used)? {
-            Some(ticket) => {
-                hand.ticket = ticket;
-                Ok(true)
-            }
-            None => Ok(false),
-        }
+        let pace = if made == 0 || long {
+            Pace::Apart
+        } else if waited {
+            Pace::Crowded
+        } else {
+            Pace::Locked
+        };
+        self.check_out(rt, core, stand, pace)
     }
 
-    // Commits what a worker has in hand. False where the run is over.
-    fn commit(
+    // The lock, and whether another worker had it. One that has made a long stretch looks for a while before it may fall asleep: to be woken
+    // would take longer.
+    fn lock<R: Wait>(&self, rt: &R, long: bool) -> (MutexGuard<'_, Tied<K>>, bool) {
+        if let Some(core) = self.core.try_lock() {
+            return (core, false);
+        }
+        let looks = if long { LOOKS } else { 0 };
+        for _ in 0..looks {
+            spin_loop();
+            if let Some(core) = self.core.try_lock() {
+                return (core, true);
+            }
+        }
+        (self.core.lock(rt), true)
+    }
+
+    // Commits what a worker has made. False where the run is over.
+    fn commit_all(
         &self,
         core: &mut Tied<K>,
         seat: &Seat<K>,
         hand: &mut Hand,
-        stretched: bool,
+        stand: &mut Stand,
+        made: u32,
     ) -> Result<bool, Halt<K>>
-        requires { HasMade K.opening.program stretched hand.old }
+        requires { HasMade K.opening.program made hand.old }
     {
-        let offer = if stretched {
-            Offer::Made {
-                stretch: &hand.stretch,
-            }
-        } else {
-            Offer::Recorded {
-                segment: &hand.segment,
+        let Hand {
+            first,
+            second,
+            third,
+            fourth,
+            segment,
+        } = hand;
+        if made == 0 {
+            let offer = Offer::Recorded {
+                segment,
                 known: true,
-            }
+            };
+            return self.commit(core, seat, stand, &offer);
+        }
+        let offer = Offer::Made { stretch: first };
+        if !self.commit(core, seat, stand, &offer)? {
+            return Ok(false);
+        }
+        if 1 < made && !self.commit_behind(core, seat, stand, second)? {
+            return Ok(false);
+        }
+        if 2 < made && !self.commit_behind(core, seat, stand, third)? {
+            return Ok(false);
+        }
+        if 3 < made && !self.commit_behind(core, seat, stand, fourth)? {
+            return Ok(false);
+        }
+        Ok(true)
+    }
+
+    // Checks the process out again, though others may be free, and commits the stretch that follows. Nothing where it can't be checked out. False
+    // where the run is over.
+    fn commit_behind(
+        &self,
+        core: &mut Tied<K>,
+        seat: &Seat<K>,
+        stand: &mut Stand,
+        stretch: &mut Stretch,
+    ) -> Result<bool, Halt<K>>
+        requires { IsStretch K.opening.program stretch.old }
+    {
+        let process = stretch.ticket().process;
+        let used = stand.take_ticket();
+        let Some(ticket) = core.check_out(process, used)? else {
+            return Ok(true);
         };
-        match core.turn(seat, &offer) {
+        stretch.give_ticket(ticket.id());
+        stand.ticket = ticket;
+        self.commit(core, seat, stand, &Offer::Made { stretch })
+    }
+
+    // Commits a segment or a stretch. False where the run is over.
+    fn commit(
+        &self,
+        core: &mut Tied<K>,
+        seat: &Seat<K>,
+        stand: &mut Stand,
+        offer: &Offer<'_>,
+    ) -> Result<bool, Halt<K>>
+        requires { IsKnownOffer K.opening.program offer.now }
+    {
+        match core.turn(seat, offer) {
             Ok(_receipt) => {
-                hand.turn = hand.turn.saturating_add(1);
+                stand.turn = stand.turn.saturating_add(1);
                 Ok(true)
             }
             Err(CommitFault::NoMemory) => {
-                core.cancel(&hand.ticket);
+                core.cancel(&stand.ticket);
                 Err(Halt::NoMemory)
             }
             Err(CommitFault::Stopped(_)) => {
@@ -358,30 +500,52 @@ impl<K: Whole> Floor<K> {
         }
     }
 
-    // A ticket for the process that comes next, once there is one, in the room of an older one. None where the run is over.
+    // Takes a ticket for the process that comes next, once there is one, in the room of the one before. False where the run is over.
     fn check_out<R: Wait>(
         &self,
         rt: &R,
         core: MutexGuard<'_, Tied<K>>,
-        used: Ticket,
-    ) -> Result<Option<Ticket>, Halt<K>> {
-        let mut core = self.wait(rt, core);
+        stand: &mut Stand,
+        pace: Pace,
+    ) -> Result<bool, Halt<K>> {
+        let (mut core, woken) = self.wait(rt, core, pace);
+        let used = stand.take_ticket();
         let ticket = self.next_ticket(&mut core, used);
-        self.wake(&core);
-        ticket
+        self.wake(&core, woken || pace == Pace::Apart);
+        match ticket? {
+            Some(ticket) => {
+                stand.ticket = ticket;
+                Ok(true)
+            }
+            None => Ok(false),
+        }
     }
 
-    // Waits until a process is free or the run is over.
-    fn wait<'a, R: Wait>(&self, rt: &R, core: MutexGuard<'a, Tied<K>>) -> MutexGuard<'a, Tied<K>> {
-        if self.is_over(&core) || core.next_ready().is_some() {
-            return core;
+    // Waits until a process is free or the run is over, and says whether that took a wait. Where workers are in each other's way, and little is made
+    // without the lock, all but one leave the processes to that one, until it wakes them.
+    fn wait<'a, R: Wait>(
+        &self,
+        rt: &R,
+        core: MutexGuard<'a, Tied<K>>,
+        pace: Pace,
+    ) -> (MutexGuard<'a, Tied<K>>, bool) {
+        let leaves = pace == Pace::Crowded && 1 < self.busy.load(Ordering::SeqCst);
+        if self.is_over(&core) || (core.next_ready().is_some() && !leaves) {
+            return (core, false);
         }
         self.idle.fetch_add(1, Ordering::SeqCst);
+        self.busy.fetch_sub(1, Ordering::SeqCst);
+        let core = if leaves {
+            self.changed.wait(rt, core)
+        } else {
+            core
+        };
         let core = self.changed.wait_while(rt, core, |core| {
             !self.is_over(core) && core.next_ready().is_none()
         });
         self.idle.fetch_sub(1, Ordering::SeqCst);
-        core
+        self.busy.fetch_add(1, Ordering::SeqCst);
+        (core, true)
     }
 
     // The run is over, or the workers are to end.
@@ -400,11 +564,11 @@ impl<K: Whole> Floor<K> {
         }
     }
 
-    // Wakes all workers where the run is over, and one that waits where another process is free. That one wakes the next one.
-    fn wake(&self, core: &Tied<K>) {
+    // Wakes all workers where the run is over; and else, if it is to, one that waits where another process is free. That one wakes the next one.
+    fn wake(&self, core: &Tied<K>, another: bool) {
         if self.is_over(core) {
             self.changed.notify_all();
-        } else if 0 < self.idle.load(Ordering::SeqCst) && core.next_ready().is_some() {
+        } else if another && 0 < self.idle.load(Ordering::SeqCst) && core.next_ready().is_some() {
             self.changed.notify_one();
         }
     }

@@ -1,11 +1,11 @@
 //! Where private steps are made.
 ghost use Rattle.std.specs.Prelude.{◌≡◌, true};
 ghost use Rattle.hep_segments.specs.Segments.{IsComputed};
-ghost use Rattle.hep_stretches.specs.Stretches.{IsStretchedFrom};
+ghost use Rattle.hep_stretches.specs.Stretches.{IsMadeBehind, IsStretchedFrom};
 
 use hep_image::Image;
 use hep_segments::{Segment, Ticket, compute, compute_into};
-use hep_stretches::{Ahead, Stretch, make_stretch};
+use hep_stretches::{Ahead, Stretch, make_behind, make_stretch};
 
 /// Makes the segments of workers, without the lock. Both numbers count from 1: the worker's, and that of its turn.
 ///
@@ -39,6 +39,21 @@ pub trait Gate {
         stretch: &mut Stretch,
     ) -> bool
         ensures { result ≡ true → IsStretchedFrom ahead.now ticket.now stretch.new }
+    {
+        false
+    }
+
+    /// The stretch that follows one that this worker has made for the same process, and not committed yet. It is asked for where that one has as many
+    /// steps as it may have, so that several are committed at once. A gate need not make any.
+    fn stretch_behind(
+        &self,
+        worker: u32,
+        turn: u64,
+        ahead: &Ahead<'_>,
+        before: &Stretch,
+        stretch: &mut Stretch,
+    ) -> bool
+        ensures { result ≡ true → IsMadeBehind ahead.now before.now stretch.new }
     {
         false
     }
@@ -76,5 +91,17 @@ impl Gate for NoGate {
         stretch: &mut Stretch,
     ) -> bool {
         make_stretch(ahead, ticket, stretch)
+    }
+
+    #[inline(always)]
+    fn stretch_behind(
+        &self,
+        _worker: u32,
+        _turn: u64,
+        ahead: &Ahead<'_>,
+        before: &Stretch,
+        stretch: &mut Stretch,
+    ) -> bool {
+        make_behind(ahead, before, stretch)
     }
 }
