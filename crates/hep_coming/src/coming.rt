@@ -45,8 +45,10 @@ fn copied(alloc: Global, operands: &[Value], more: u32) -> Result<Vec<Value>, Al
     ensures items { IfOk result (λ copy. copy.items ≡ operands.now) }
     ensures room { IfOk result (λ copy. length operands.now + more ≤ vec_capacity copy) }
 {
-    let mut copy = operands.to_vec(alloc)?;
-    copy.reserve(more as usize)?;
+    // Asked for at once, since this is done for each line.
+    let mut copy = Vec::new(alloc);
+    copy.reserve(operands.len() + more as usize)?;
+    copy.extend_from_slice(operands)?;
     Ok(copy)
 }
 

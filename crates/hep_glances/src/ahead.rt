@@ -1,17 +1,17 @@
 //! What comes next of a process, as far as the line of its turn needs it before the turn.
-ghost use Rattle.std.specs.Prelude.{◌≡◌, ℕ, List, IfOk, Some};
-ghost use Rattle.hep_machine.specs.Words.{Level, Process as SourceProcess, Reference as SourceReference};
-ghost use Rattle.hep_sights.specs.References.{IsAhead, IsReferenceAhead, IsReferenceTo, top_after};
+ghost use Rattle.std.specs.Prelude.{◌≡◌, ℕ, List, IfOk};
+ghost use Rattle.hep_machine.specs.Words.{Level, Process as SourceProcess};
+ghost use Rattle.hep_sights.specs.References.{IsAhead, IsReferenceAhead, top_after};
 ghost use Rattle.hep_traces.specs.Cells as cells_of;
 ghost use Rattle.hep_traces.specs.Traces as traces;
 ghost use Rattle.hep_glances.specs.Sights as sights;
 
 use crate::laws::operations_come_next;
-use crate::purged::is_target;
+use crate::purged::{is_called, is_target};
 use hep_code::{Evaluation, Operation};
-use hep_sights::{Ahead, Reference, append_targets, has_name, value_ahead};
+use hep_sights::{Ahead, Reference, append_targets, value_ahead};
 use hep_sites::laws::operations_name_variables;
-use hep_sites::value_at;
+use hep_sites::{named, value_at};
 use hep_source::Value;
 use hep_state::Machine;
 use std::alloc::{AllocError, Global};
@@ -27,49 +27,36 @@ fn is_access(operation: Operation) -> bool
     }
 }
 
-// What is referred to goes by a name.
-fn is_called(ahead: &Ahead<'_>, reference: &Option<Reference>, name: &[u8]) -> bool
-    requires { (cells : ℕ) × (choices : List ℕ) × (top : Level × SourceProcess) × IsAhead cells choices ahead.now top }
-    ensures { (cells : ℕ) (choices : List ℕ) (top : Level × SourceProcess) (x : SourceReference) (found : Reference) → IsAhead cells choices ahead.now top
-        → reference.now ≡ Some found
-        → IsReferenceTo cells choices ahead.now (top_after ahead.now.image.now choices ahead.now.process top) x found
-        → result ≡ cells_of.has_name ahead.now.image.now (top_after ahead.now.image.now choices ahead.now.process top) name.now x }
-{
-    match reference {
-        Some(reference) => has_name(ahead, reference, name),
-        None => false,
-    }
-}
-
 // What comes next of a process accesses a variable of this name.
-fn touches(ahead: &Ahead<'_>, reference: &Option<Reference>, name: &[u8]) -> bool
+fn touches(ahead: &Ahead<'_>, name: &[u8]) -> bool
     requires { (cells : ℕ) × (choices : List ℕ) × (top : Level × SourceProcess) × IsAhead cells choices ahead.now top }
     ensures { (cells : ℕ) (choices : List ℕ) (top : Level × SourceProcess) → IsAhead cells choices ahead.now top
-        → IsReferenceAhead cells choices ahead.now (top_after ahead.now.image.now choices ahead.now.process top) reference.now
         → result ≡ cells_of.touches ahead.now.image.now (top_after ahead.now.image.now choices ahead.now.process top) name.now }
 {
     ahead.image.is_runnable();
     operations_come_next();
+    operations_name_variables();
     if let Operation::Purge { count, .. } = ahead.coming.operation {
         return is_target(ahead, count, name);
     }
-    is_access(ahead.coming.operation) && is_called(ahead, reference, name)
+    if !is_access(ahead.coming.operation) {
+        return false;
+    }
+    let Some((variable, subscripts)) = named(ahead.coming.operation, &ahead.coming.operands) else {
+        return false;
+    };
+    is_called(ahead, variable, subscripts, name)
 }
 
-/// Whether what comes next of a process accesses a variable of a name, where one is given.
-pub(crate) fn is_shown(
-    ahead: &Ahead<'_>,
-    reference: &Option<Reference>,
-    cell: Option<&[u8]>,
-) -> bool
+/// Whether what comes next of a process accesses a variable of a name, where one is given. Nothing is asked for memory.
+pub(crate) fn is_shown(ahead: &Ahead<'_>, cell: Option<&[u8]>) -> bool
     requires { (cells : ℕ) × (choices : List ℕ) × (top : Level × SourceProcess) × IsAhead cells choices ahead.now top }
     ensures { (cells : ℕ) (choices : List ℕ) (top : Level × SourceProcess) → IsAhead cells choices ahead.now top
-        → IsReferenceAhead cells choices ahead.now (top_after ahead.now.image.now choices ahead.now.process top) reference.now
         → result ≡ traces.is_accessed ahead.now.image.now (sights.name_sought cell.entry)
         (top_after ahead.now.image.now choices ahead.now.process top) }
 {
     match cell {
-        Some(name) => touches(ahead, reference, name),
+        Some(name) => touches(ahead, name),
         None => true,
     }
 }

@@ -4,7 +4,7 @@ ghost use Rattle.hep_core.specs.Value.{state_of};
 ghost use Rattle.hep_machine.specs.Words.{Level, Process as SourceProcess, schedule_of};
 ghost use Rattle.hep_sites.specs.Variables.{AreVariablesOf};
 ghost use Rattle.hep_traces.specs.Traces.{is_accessed};
-ghost use Rattle.hep_glances.specs.Sights.{IsAheadOf, IsShownBy, IsSight, name_sought};
+ghost use Rattle.hep_glances.specs.Sights.{IsAheadOf, IsBefore, IsShownBy, IsSight, name_sought};
 ghost use Rattle.hep_sights.specs.Freed.{top_in};
 
 use crate::ahead::{is_shown, targets, value_before};
@@ -17,7 +17,42 @@ use hep_sites::Variables;
 use hep_state::laws::activations_are_few;
 use std::alloc::{AllocError, Global};
 
-// What the line of the next turn of a process that lives needs; nothing where it isn't shown.
+// What the line of the next turn of a process that lives needs. It has a function of its own, so that nothing is made ready for it where there is no line.
+#[inline(never)]
+fn look_at(alloc: Global, core: &Core, ahead: &Ahead<'_>) -> Result<Before, AllocError>
+    requires ahead { (top : Level × SourceProcess) × IsAheadOf core.now.core ahead.now top }
+    requires few { length (schedule_of core.now.core.history) < 2 ^ 63 }
+    ensures { IfOk result (λ before. (top : Level × SourceProcess) → IsAheadOf core.now.core ahead.now top
+        → IsBefore core.now.core (top_in core.now.core ahead.now.process top) before) }
+{
+    ahead.image.is_runnable();
+    turns_are_told();
+    activations_are_few();
+    let Some(place) = core.whereabouts(ahead.process) else {
+        unreachable!()
+    };
+    let reference = reference_ahead(alloc, ahead)?;
+    let operands = ahead.coming.operands.as_slice().to_vec(alloc)?;
+    let list = targets(alloc, ahead)?;
+    let waiting = waiting_numbers(alloc, core)?;
+    let ancestry = ancestry(alloc, ahead)?;
+    let value = value_before(ahead, &reference);
+    Ok(Before {
+        unit: place.unit,
+        line: place.line,
+        operation: ahead.coming.operation,
+        operands,
+        reference,
+        value,
+        list,
+        numbers: numbers_before(ahead),
+        waiting,
+        ancestry,
+        faults: core.faults().len(),
+    })
+}
+
+// The same, or nothing where the turn has no line.
 fn look_ahead(
     alloc: Global,
     core: &Core,
@@ -30,34 +65,11 @@ fn look_ahead(
         → IsShownBy core.now.core (top_in core.now.core ahead.now.process top) before
         (is_accessed core.now.core.program (name_sought cell.entry) (top_in core.now.core ahead.now.process top))) }
 {
-    ahead.image.is_runnable();
-    turns_are_told();
-    activations_are_few();
-    let reference = reference_ahead(alloc, ahead)?;
-    if !is_shown(ahead, &reference, cell) {
+    if !is_shown(ahead, cell) {
         return Ok(None);
     }
-    let Some(place) = core.whereabouts(ahead.process) else {
-        unreachable!()
-    };
-    let operands = ahead.coming.operands.as_slice().to_vec(alloc)?;
-    let list = targets(alloc, ahead)?;
-    let waiting = waiting_numbers(alloc, core)?;
-    let ancestry = ancestry(alloc, ahead)?;
-    let value = value_before(ahead, &reference);
-    Ok(Some(Before {
-        unit: place.unit,
-        line: place.line,
-        operation: ahead.coming.operation,
-        operands,
-        reference,
-        value,
-        list,
-        numbers: numbers_before(ahead),
-        waiting,
-        ancestry,
-        faults: core.faults().len(),
-    }))
+    let before = look_at(alloc, core, ahead)?;
+    Ok(Some(before))
 }
 
 /// What the line of the next turn of process p needs of what is so before it, where the turns that access a variable of one name are

@@ -15,9 +15,14 @@ use hep_sites::site_of;
 use hep_source::Value;
 use hep_state::laws::tops_are_running;
 
-// A variable of the unit of the process, or its element with these subscripts, goes by a name: by the one that the unit has for it, or by the one
-// with which it is declared.
-fn is_called(ahead: &Ahead<'_>, variable: Variable, subscripts: &[Value], name: &[u8]) -> bool
+/// Whether a variable of the unit of the process, or its element with these subscripts, goes by a name: by the one that the unit has for it, or by
+/// the one with which it is declared.
+pub(crate) fn is_called(
+    ahead: &Ahead<'_>,
+    variable: Variable,
+    subscripts: &[Value],
+    name: &[u8],
+) -> bool
     requires { (cells : ℕ) × (choices : List ℕ) × (top : Level × SourceProcess) × (x : SourceName) × IsAhead cells choices ahead.now top
         × IsVariableOf ahead.now.image.now (unit_on_top ahead.now.image.now (top_after ahead.now.image.now choices ahead.now.process top)) x variable }
     ensures { (cells : ℕ) (choices : List ℕ) (top : Level × SourceProcess) (x : SourceName) → IsAhead cells choices ahead.now top

@@ -95,7 +95,7 @@ fn append_step(
         list: &list,
         numbers: before.numbers,
     };
-    append_told(alloc, text, &seen, before.operation, &before.operands)
+    append_told(text, &seen, before.operation, &before.operands)
 }
 
 // Appends what a turn did.

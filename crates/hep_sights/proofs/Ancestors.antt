@@ -1,9 +1,9 @@
 -- What holds of an activation with its ancestry, and that a turn gives back no other frames than those of its process's top activation and
 -- its ancestry.
-use Rattle.std.proofs.Common.{◌≡◌, inl, inr, ℕ, zero, suc, ◌+◌, ◌-◌, ◌≤◌, ◌&&◌, true, false, true≢false, not, List, [], ◌∷◌, ◌++◌, length, length-set, reverse, Option, Some, None, refl, sym, ap, ◌∙◌, subst, arith, nat_eq, slice_get}
+use Rattle.std.proofs.Common.{◌≡◌, inl, inr, ℕ, zero, suc, ◌+◌, ◌-◌, ◌≤◌, ◌&&◌, Bool, true, false, true≢false, not, List, [], ◌∷◌, ◌++◌, drop, length, length-set, reverse, Option, Some, None, refl, sym, ap, ◌∙◌, subst, arith, nat_eq, slice_get}
 use Rattle.std.specs.List.{filter}
 use Rattle.std.specs.Option.{option_map_or}
-use Rattle.std.proofs.lemmas.Bool.{cases_Bool, or_right}
+use Rattle.std.proofs.lemmas.Bool.{cases_Bool, eqb-false, eqb-true, or_right}
 use Rattle.std.proofs.lemmas.Bool.Decides.{eqb_tells}
 use Rattle.std.proofs.lemmas.Option.{none-some, same_Some, slice_get_within}
 use Rattle.hep_binding.proofs.Calls.{set-numbered}
@@ -16,16 +16,18 @@ use Rattle.hep_machine.proofs.Held.{among-cases, among-head, held_is}
 use Rattle.hep_machine.proofs.Others.{front_numbered, others_stay}
 use Rattle.hep_traces.specs.Traces.{freed, numbers_from}
 use Rattle.hep_sights.specs.Ancestry.{activation_on, ancestry}
+use Rattle.hep_sights.specs.Freed.{AreHeldUpwards}
 use Rattle.hep_sights.proofs.Lines.{AreAbove, lines, lines-numbered, parent-more, parent_in}
-use Rattle.hep_sights.proofs.Lists.{AreFalling, falling-are, filter-none, filter-reverse}
+use Rattle.hep_sights.proofs.Lists.{AreFalling, falling-are, filter-none, filter-reverse, none-above}
 use Rattle.hep_sights.proofs.Numbers.{filter-both-of-two}
 
--- just those of an ancestry are freed from one state to another that aren't held any more, and none where process p has the first one of
--- them on top, or one that was made later
+-- just those of an ancestry are freed from one state to another that aren't held any more, which are the first ones of it, and none where process p has
+-- the first one of them on top, or one that was made later
 pub record IsFreed (s t : State) (p a : ℕ) : Type 0 where
   pub some : 1 ≤ a
   pub all : freed s t ≡ reverse (filter (λ b. not (is_held t b)) (ancestry s a a))
   pub none : a ≤ activation_on (living t p) → freed s t ≡ []
+  pub upwards : AreHeldUpwards t (ancestry s a a)
 
 -- its first one
 pub ancestry-first : (s : State) (a : ℕ) → 1 ≤ a → slice_get (ancestry s a a) 0 ≡ Some a
@@ -85,6 +87,20 @@ module _ (s : State) where
       by None is rest = tt
       by (Some d) is rest = let older = older_parent s a d ages is in rest d older.0 (omega (arith, older.1))
 
+-- of those from an activation upwards, one that was made as late at least is that one itself
+pub first-among : (program : Units) (ps : List ℕ) (b a : ℕ) → 1 ≤ b → b ≤ a → is_number_among a (ancestry (run program ps) b b) ≡ nat_eq b a
+first-among program ps b a some le = by (nat_eq b a) refl where
+  s : State
+  s = run program ps
+
+  by : (t : Bool) → nat_eq b a ≡ t → is_number_among a (ancestry s b b) ≡ t
+  by true e =
+      let same : b ≡ a = eqb-true b a e in
+      ap (λ c. is_number_among c (ancestry s b b)) (sym same) ∙ itself s b b some (omega arith)
+  by false e =
+      let other = eqb-false b a e in
+      none-above a b (ancestry s b b) (falling s (aged program ps) b b b some (omega arith) (omega arith)) (omega (arith, le, other))
+
 -- all of them are held in a state in which the first one is, and in which their parents are the same
 all-held : (program : Units) (qs : List ℕ) (s : State) → ((c b : ℕ) → parent_of s c ≡ Some b → parent_of (run program qs) c ≡ Some b)
     → (n a : ℕ) → is_held (run program qs) a ≡ true → (b : ℕ) → is_number_among b (ancestry s n a) ≡ true → is_held (run program qs) b ≡ true
@@ -100,6 +116,73 @@ all-held program qs s parents (suc n) a held b among = by (parent_of s a) refl (
     | inl same ↦ subst (λ c. is_held (run program qs) c ≡ true) (sym same) held
     | inr behind ↦ rest d ((held_is program qs d).1 (inr (a, held, parents a d is))) behind
   ]
+
+-- what is held is the top activation of a process that lives, or in its ancestry
+pub record IsKept (s : State) (a : ℕ) : Type 0 where
+  pub process : ℕ
+  pub top : Level × Process
+  pub lives : living s process ≡ Some top
+  pub among : is_number_among a (ancestry s top.0.activation top.0.activation) ≡ true
+
+module _ (program : Units) (ps : List ℕ) where
+  abbrev now : State
+  now = run program ps
+
+  by-stack : (a p : ℕ) (q : Process) → numbered now.processes p ≡ Some q → is_number_among a (activations_on q) ≡ true → IsKept now a
+  by-stack a p [] there among = absurd (true≢false (sym among))
+  by-stack a p (level ∷ below) there among =
+      let b = level.activation in
+      let on = (held_is program ps b).1 (inl (p, level ∷ below, there, among-head b (activations_on below))) in
+      let old = held-made program ps b on in
+      record {
+        process = p;
+        top = (level, below);
+        lives = ap top_of there;
+        among = stacked-among now (aged program ps) b b (activations_on below) old.0 (omega arith) (lines-numbered now.activations now.processes p (level ∷ below) (lines program ps) there) a among;
+      }
+
+  kept-from : (n a : ℕ) → length now.activations ≤ n + a → is_held now a ≡ true → IsKept now a
+  kept-from zero a few held = elim ((held_is program ps a).0 held) [
+    | inl on ↦ by-stack a on.0 on.1 on.2 on.3
+    | inr child ↦ absurd (omega (arith, few, (held-made program ps child.0 child.1).1, (older_parent now child.0 a (aged program ps) child.2).1))
+  ]
+  kept-from (suc n) a few held = elim ((held_is program ps a).0 held) [
+    | inl on ↦ by-stack a on.0 on.1 on.2 on.3
+    | inr child ↦
+        let older = older_parent now child.0 a (aged program ps) child.2 in
+        let kept = kept-from n child.0 (omega (arith, few, older.1)) child.1 in
+        record {
+          process = kept.process;
+          top = kept.top;
+          lives = kept.lives;
+          among = closed now (aged program ps) kept.top.0.activation kept.top.0.activation (omega arith) child.0 a kept.among child.2;
+        }
+  ]
+
+  pub kept-by : (a : ℕ) → is_held now a ≡ true → IsKept now a
+  kept-by a held = kept-from (length now.activations) a (omega arith) held
+
+  -- and all of that is held
+  pub kept-held : (a : ℕ) → IsKept now a → is_held now a ≡ true
+  kept-held a kept =
+      let b = kept.top.0.activation in
+      let there = top-numbered now kept.process kept.top kept.lives in
+      let on = (held_is program ps b).1 (inl (kept.process, kept.top.0 ∷ kept.top.1, there, among-head b (activations_on kept.top.1))) in
+      all-held program ps now (λ c d e. e) b b on a kept.among
+
+-- where one of an ancestry is held from which the parents are the same, so are those behind it
+all-upwards : (program : Units) (qs : List ℕ) (s : State) → ((c b : ℕ) → parent_of s c ≡ Some b → parent_of (run program qs) c ≡ Some b)
+    → (n a i b : ℕ) → slice_get (ancestry s n a) i ≡ Some b → is_held (run program qs) b ≡ true → filter (λ c. not (is_held (run program qs) c)) (drop i (ancestry s n a)) ≡ []
+all-upwards program qs s parents zero a i b there held = absurd (none-some b there)
+all-upwards program qs s parents (suc n) a zero b there held =
+    filter-none (λ c. not (is_held (run program qs) c)) (ancestry s (suc n) a) (λ c among.
+    ap not (all-held program qs s parents (suc n) a (subst (λ d. is_held (run program qs) d ≡ true) (sym (same_Some a b there)) held) c among))
+all-upwards program qs s parents (suc n) a (suc i) b there held = by (parent_of s a) there (λ d e. all-upwards program qs s parents n d i b e held) where
+  by : (o : Option ℕ) → slice_get (option_map_or (λ d. ancestry s n d) o []) i ≡ Some b
+      → ((d : ℕ) → slice_get (ancestry s n d) i ≡ Some b → filter (λ c. not (is_held (run program qs) c)) (drop i (ancestry s n d)) ≡ [])
+      → filter (λ c. not (is_held (run program qs) c)) (drop i (option_map_or (λ d. ancestry s n d) o [])) ≡ []
+  by None e rest = absurd (none-some b e)
+  by (Some d) e rest = rest d e
 
 numbered-within : {A : Type 0} (xs : List A) (p : ℕ) (x : A) → numbered xs p ≡ Some x → p ≤ length xs
 numbered-within xs zero x e = absurd (none-some x e)
@@ -170,6 +253,7 @@ module _ (program : Units) (ps qs : List ℕ) (p : ℕ) (top : Level × Process)
         some = made.0;
         all = freed-are kept;
         none = λ le. none-freed kept (λ c b e. ap (λ (z : State). parent_of z c) still ∙ e) (ap (λ (z : State). is_held z a) still ∙ top-held);
+        upwards = all-upwards program qs s (λ c b e. ap (λ (z : State). parent_of z c) still ∙ e) a a;
       }
 
   module _ (stepped : step program p s ≡ Some t) where
@@ -267,4 +351,4 @@ module _ (program : Units) (ps qs : List ℕ) (p : ℕ) (top : Level × Process)
     pub freed-stepping : IsFreed s t p a
     freed-stepping =
         let kept = λ (b : ℕ) (held : is_held s b ≡ true) (out : is_number_among b chain ≡ false). others (length s.activations) b (omega arith) held out in
-        record { some = made.0; all = freed-are kept; none = λ le. none-freed kept parents (by-change le change) }
+        record { some = made.0; all = freed-are kept; none = λ le. none-freed kept parents (by-change le change); upwards = all-upwards program qs s parents a a }

@@ -1,14 +1,16 @@
 -- The activations of the nodes from one upwards are the ancestry of the first one.
-use Rattle.std.proofs.Common.{◌≡◌, ℕ, zero, suc, ◌<◌, ◌≤◌, List, [], ◌∷◌, ◌++◌, Option, Some, None, refl, sym, ap, ◌∙◌, subst, arith, append_assoc, append-nil}
+use Rattle.std.proofs.Common.{◌≡◌, ◌||◌, ℕ, zero, suc, ◌<◌, ◌≤◌, false, List, [], ◌∷◌, ◌++◌, Option, Some, None, refl, sym, ap, ◌∙◌, subst, arith, append_assoc, append-nil, nat_eq}
 use Rattle.std.specs.Option.{option_map, option_map_or, unwrap_or}
+use Rattle.std.proofs.lemmas.Bool.{ne_eqb}
 use Rattle.std.proofs.lemmas.Option.{none-some, same_Some}
 use Rattle.hep_layout.specs.Words.{FrameNode, IsFrameTree, Nodes, activation_under, is_stacked}
-use Rattle.hep_machine.specs.Words.{State, Units, is_held, parent_of, run}
+use Rattle.hep_machine.specs.Words.{State, Units, is_held, is_number_among, parent_of, run}
 use Rattle.hep_machine.proofs.Ages.{run_older}
 use Rattle.hep_proc.specs.Nodes.{nodes_of}
 use Rattle.hep_state.specs.declared.machine.Machine.{Machine}
 use Rattle.hep_state.specs.Words.{IsMachineAfter, node_under}
 use Rattle.hep_sights.specs.Ancestry.{ancestry}
+use Rattle.hep_sights.proofs.Ancestors.{first-among}
 
 -- the activations of the node under a key, if there is one, of its parent's node, and so on
 abbrev pub IsClimb : Nodes → Option ℕ → List ℕ → Type 0
@@ -44,6 +46,21 @@ climb-ends nodes key next found so_far none =
     let end : IsClimb nodes next [] = subst (λ (o : Option ℕ). IsClimb nodes o []) (sym none) tt in
     subst (IsClimb nodes (Some key)) (append-nil found) (so_far [] end)
 
+-- what is found from the node under a key upwards has a number where what is found from another one has it
+abbrev pub MeetsFrom : Nodes → ℕ → ℕ → Option ℕ → Type 0
+MeetsFrom nodes a key next =
+    (ns : List ℕ) → IsClimb nodes next ns → (ms : List ℕ) × IsClimb nodes (Some key) ms × (is_number_among a ms ≡ is_number_among a ns)
+
+pub meets-next : (nodes : Nodes) (a key at : ℕ) (next up : Option ℕ) (n : FrameNode) → MeetsFrom nodes a key next → next ≡ Some at → nodes at ≡ Some n → up ≡ n.parent
+    → (a ≡ n.activation → ⊥) → MeetsFrom nodes a key up
+meets-next nodes a key at next up n so_far next_is there up_is other ns h =
+    let own : IsClimb nodes (Some at) (n.activation ∷ ns) = (n, there, refl, subst (λ (o : Option ℕ). IsClimb nodes o ns) up_is h) in
+    let all = so_far (n.activation ∷ ns) (subst (λ (o : Option ℕ). IsClimb nodes o (n.activation ∷ ns)) (sym next_is) own) in
+    (all.0, all.1, all.2 ∙ ap (λ t. t || is_number_among a ns) (ne_eqb a n.activation other))
+
+pub meets-none : (nodes : Nodes) (a key : ℕ) (next : Option ℕ) → MeetsFrom nodes a key next → next ≡ None → (ms : List ℕ) × IsClimb nodes (Some key) ms × (is_number_among a ms ≡ false)
+meets-none nodes a key next so_far none = so_far [] (subst (λ (o : Option ℕ). IsClimb nodes o []) (sym none) tt)
+
 nothing-above : (nodes : Nodes) (ns : List ℕ) → IsClimb nodes None ns → ns ≡ []
 nothing-above nodes [] h = refl
 nothing-above nodes (a ∷ ns) h = absurd h
@@ -69,7 +86,7 @@ module _ (program : Units) (cells : ℕ) (choices : List ℕ) (m : Machine) (aft
 
   -- the parent of one that has a node has one too, and a lower number
   module _ (key : ℕ) (n : FrameNode) (there : nodes key ≡ Some n) where
-    above-there : (above : ℕ) → n.parent ≡ Some above → (m : FrameNode) × (nodes above ≡ Some m) × (m.activation < n.activation)
+    pub above-there : (above : ℕ) → n.parent ≡ Some above → (m : FrameNode) × (nodes above ≡ Some m) × (m.activation < n.activation)
     above-there above e = by (nodes above) refl (ap (activation_under nodes) (sym e) ∙ (tree.shown key n there).parent_is) where
       by : (o : Option FrameNode) → nodes above ≡ o → option_map (λ (z : FrameNode). Some z.activation) o ≡ Some (parent_of s n.activation)
           → (m : FrameNode) × (nodes above ≡ Some m) × (m.activation < n.activation)
@@ -90,6 +107,21 @@ module _ (program : Units) (cells : ℕ) (choices : List ℕ) (m : Machine) (aft
             let found = above-there above (sym e) in
             let same = activation-there nodes (Some above) above found.0 refl found.1 in
             omega (arith, found.2, same)
+
+  -- from each node all are found up to the last one
+  climb-from : (k key : ℕ) (n : FrameNode) → nodes key ≡ Some n → n.activation ≤ k → (ns : List ℕ) × IsClimb nodes (Some key) ns
+  climb-from zero key n there few = absurd (omega (arith, made key n there, few))
+  climb-from (suc k) key n there few = by n.parent refl (λ y z e le. climb-from k y z e le) where
+    by : (o : Option ℕ) → n.parent ≡ o → ((y : ℕ) (z : FrameNode) → nodes y ≡ Some z → z.activation ≤ k → (ns : List ℕ) × IsClimb nodes (Some y) ns)
+        → (ns : List ℕ) × IsClimb nodes (Some key) ns
+    by None e rest = (n.activation ∷ [], (n, there, refl, subst (λ (o : Option ℕ). IsClimb nodes o []) (sym e) tt))
+    by (Some y) e rest =
+        let up = above-there key n there y e in
+        let more = rest y up.0 up.1 (omega (arith, up.2, few)) in
+        (n.activation ∷ more.0, (n, there, refl, subst (λ (o : Option ℕ). IsClimb nodes o more.0) (sym e) more.1))
+
+  pub climb-there : (key : ℕ) (n : FrameNode) → nodes key ≡ Some n → (ns : List ℕ) × IsClimb nodes (Some key) ns
+  climb-there key n there = climb-from n.activation key n there (omega arith)
 
   -- ---- the ancestry
 
@@ -116,3 +148,24 @@ module _ (program : Units) (cells : ℕ) (choices : List ℕ) (m : Machine) (aft
 
   pub climbed : (key : ℕ) (x : FrameNode) (ns : List ℕ) → nodes key ≡ Some x → IsClimb nodes (Some key) ns → ns ≡ ancestry s x.activation x.activation
   climbed key x ns there h = climb-is ns x.activation key x there (omega arith) h
+
+  -- ---- whether one is among it
+
+  -- where the climb has met none of that number below a node whose activation is that one or was made before it
+  pub met-there : (a key at : ℕ) (next : Option ℕ) (x y : FrameNode) → MeetsFrom nodes a key next → next ≡ Some at → nodes at ≡ Some y → y.activation ≤ a → nodes key ≡ Some x
+      → nat_eq y.activation a ≡ is_number_among a (ancestry s x.activation x.activation)
+  met-there a key at next x y so_far is found le there =
+      let up = climb-there at y found in
+      let all = so_far up.0 (subst (λ (o : Option ℕ). IsClimb nodes o up.0) (sym is) up.1) in
+      sym (
+      ap (is_number_among a) (sym (climbed key x all.0 there all.1))
+      ∙ all.2
+      ∙ ap (is_number_among a) (climbed at y up.0 found up.1)
+      ∙ first-among program choices y.activation a (made at y found) le
+      )
+
+  pub met-nowhere : (a key : ℕ) (next : Option ℕ) (x : FrameNode) → MeetsFrom nodes a key next → next ≡ None → nodes key ≡ Some x
+      → false ≡ is_number_among a (ancestry s x.activation x.activation)
+  met-nowhere a key next x so_far none there =
+      let all = meets-none nodes a key next so_far none in
+      sym (ap (is_number_among a) (sym (climbed key x all.0 there all.1)) ∙ all.2)

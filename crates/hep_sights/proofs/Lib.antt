@@ -5,9 +5,9 @@ pub mod Referred
 pub mod Replied
 pub mod Purged
 pub mod Declares
-pub mod Keys
 pub mod Lines
 pub mod Lists
+pub mod Kept
 pub mod Ancestors
 pub mod Climbs
 pub mod Listed

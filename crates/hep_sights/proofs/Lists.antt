@@ -1,5 +1,5 @@
 -- Numbers that fall, as they are among all numbers, and what a test leaves of them.
-use Rattle.std.proofs.Common.{◌≡◌, ◌||◌, ℕ, zero, suc, ◌+◌, ◌-◌, ◌<◌, ◌≤◌, Bool, true, false, List, [], ◌∷◌, ◌++◌, reverse, refl, sym, ap, ◌∙◌, arith, append-nil, if◌then◌else◌, nat_eq}
+use Rattle.std.proofs.Common.{◌≡◌, ◌||◌, ℕ, zero, suc, ◌+◌, ◌-◌, ◌<◌, ◌≤◌, Bool, true, false, List, [], ◌∷◌, ◌++◌, Some, drop, length, reverse, slice_get, take, refl, sym, ap, ◌∙◌, arith, append-nil, if◌then◌else◌, nat_eq}
 use Rattle.std.specs.List.{filter}
 use Rattle.std.proofs.lemmas.Bool.{ne_eqb, or_right}
 use Rattle.std.proofs.lemmas.List.{reverse-append}
@@ -28,6 +28,15 @@ pub filter-none : (f : ℕ → Bool) (xs : List ℕ) → ((b : ℕ) → is_numbe
 filter-none f [] off = refl
 filter-none f (x ∷ xs) off =
     ap (λ t. if t then x ∷ filter f xs else filter f xs) (off x (among-head x xs)) ∙ filter-none f xs (λ b among. off b (or_right (nat_eq b x) (is_number_among b xs) among))
+
+-- the first ones, where each of these passes and none behind them
+pub filter-front : (f : ℕ → Bool) (xs : List ℕ) (n : ℕ) → n ≤ length xs → ((k a : ℕ) → k < n → slice_get xs k ≡ Some a → f a ≡ true) → filter f (drop n xs) ≡ [] → filter f xs ≡ take n xs
+filter-front f [] zero few front behind = refl
+filter-front f [] (suc n) few front behind = absurd (omega (arith, few))
+filter-front f (x ∷ xs) zero few front behind = behind
+filter-front f (x ∷ xs) (suc n) few front behind =
+    let rest = filter-front f xs n (omega (arith, few)) (λ k a less there. front (suc k) a (omega (arith, less)) there) behind in
+    ap (λ t. if t then x ∷ filter f xs else filter f xs) (front 0 x (omega arith) refl) ∙ ap (λ ys. x ∷ ys) rest
 
 -- of numbers that are counted, by what it says of these
 filter-counted : (f g : ℕ → Bool) (first n : ℕ) → ((b : ℕ) → b < first + n → f b ≡ g b) → filter f (numbers_from first n) ≡ filter g (numbers_from first n)
@@ -60,7 +69,7 @@ abbrev pub AreFalling : ℕ → List ℕ → Type 0
 AreFalling n [] = Unit {0}
 AreFalling n (a ∷ ns) = (1 ≤ a) × (a ≤ n) × AreFalling (a - 1) ns
 
-none-above : (b n : ℕ) (ns : List ℕ) → AreFalling n ns → n < b → is_number_among b ns ≡ false
+pub none-above : (b n : ℕ) (ns : List ℕ) → AreFalling n ns → n < b → is_number_among b ns ≡ false
 none-above b n [] h less = refl
 none-above b n (a ∷ ns) h less =
     let other : nat_eq b a ≡ false = ne_eqb b a (λ same. omega (arith, same, h.1, less)) in

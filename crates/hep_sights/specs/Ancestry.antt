@@ -1,7 +1,7 @@
 -- An activation with those that it can't do without: docs/MACHINE.md, "Layout".
-use Rattle.std.specs.Prelude.{◌≡◌, ℕ, zero, suc, List, [], ◌∷◌, Option, Some, None}
+use Rattle.std.specs.Prelude.{◌≡◌, ℕ, zero, suc, Bool, false, List, [], ◌∷◌, Option, Some, None}
 use Rattle.std.specs.Option.{option_map_or}
-use Rattle.hep_machine.specs.Words.{Level, Process, State, Top, parent_of}
+use Rattle.hep_machine.specs.Words.{Level, Process, State, Top, is_number_among, parent_of}
 
 -- an activation, its parent, the parent's parent and so on, so many of them at most
 abbrev pub ancestry : State → ℕ → ℕ → List ℕ
@@ -16,3 +16,8 @@ IsAncestryOf t activations = activations ≡ ancestry t.state t.level.activation
 abbrev pub activation_on : Option (Level × Process) → ℕ
 activation_on None = 0
 activation_on (Some top) = top.0.activation
+
+-- activation a is the top one of a process that lives, or in its ancestry
+abbrev pub has_above : State → ℕ → Option (Level × Process) → Bool
+has_above s a None = false
+has_above s a (Some top) = is_number_among a (ancestry s top.0.activation top.0.activation)

@@ -1,23 +1,21 @@
 //! Activations whose frames a turn gives back.
-ghost use Rattle.std.specs.Prelude.{◌≡◌, ◌++◌, ◌∷◌, [], ℕ, nat_le, IfOk, List, OnOk, Some, not, reverse, slice_get};
+ghost use Rattle.std.specs.Prelude.{◌≡◌, ◌≤◌, ◌++◌, ℕ, nat_le, IfOk, List, OnOk, Some, length, not, reverse, slice_get, take};
 ghost use Rattle.std.specs.List.{filter};
 ghost use Rattle.hep_core.specs.Value.{CoreValue, state_of};
 ghost use Rattle.hep_layout.specs.Words.{FrameNode};
 ghost use Rattle.hep_machine.specs.Words.{Level, Process as SourceProcess, Units, is_held, living, run};
 ghost use Rattle.hep_proc.specs.Nodes.{nodes_of};
-ghost use Rattle.hep_state.specs.declared.machine.Machine.{Machine as AMachine};
-ghost use Rattle.hep_state.specs.Words.{IsMachineAfter, snapshot_of};
-ghost use Rattle.hep_contents.specs.Keys.{AreHeldKeys};
+ghost use Rattle.hep_state.specs.Words.{IsMachineAfter};
 ghost use Rattle.hep_sights.specs.Ancestry as words;
 ghost use Rattle.hep_sights.specs.Ancestry.{IsAncestryOf, activation_on};
-ghost use Rattle.hep_sights.specs.Freed.{IsFreeing};
+ghost use Rattle.hep_sights.specs.Freed.{AreHeldUpwards, IsFreeing};
 ghost use Rattle.hep_sights.specs.References.{IsAhead, top_after};
 ghost use Rattle.hep_traces.specs.Lines as lines;
 ghost use Rattle.hep_traces.specs.Traces.{freed};
 
+use crate::held::is_held;
 use crate::reference::Ahead;
 use crate::tops::top_level;
-use hep_contents::held_keys;
 use hep_core::Core;
 use hep_state::Machine;
 use hep_traces::append_freed;
@@ -66,43 +64,27 @@ fn top_activation(machine: &Machine, p: u64) -> u64
     machine.frames.activation(top_level(machine, p).key)
 }
 
-// Activation a has a key.
-fn has_key(keys: &[Option<usize>], a: u64) -> bool
-    ensures { (program : Units) (cells : ℕ) (choices : List ℕ) (m : AMachine) → IsMachineAfter program cells choices m
-        → AreHeldKeys (snapshot_of m) keys.now → result ≡ is_held (run program choices) a }
+// How many of an ancestry aren't held, which are its first ones. Nothing is looked at behind the first one that is.
+fn count_unheld(core: &Core, activations: &[u64]) -> usize
+    requires { AreHeldUpwards (state_of core.now.core) activations.now }
+    ensures few { result ≤ length activations.now }
+    ensures first { filter (λ a. not (is_held (state_of core.now.core) a)) activations.now ≡ take result activations.now }
 {
-    if a == 0 {
-        return false;
+    for index in 0..activations.len() {
+        if is_held(core.machine(), activations[index]) {
+            return index;
+        }
     }
-    match keys.get((a - 1) as usize) {
-        Some(key) => key.is_some(),
-        None => false,
-    }
+    activations.len()
 }
 
-// Adds an activation, unless it is held.
-fn add_freed(numbers: &mut Vec<u64>, keys: &[Option<usize>], a: u64) -> Result<(), AllocError>
-    ensures { OnOk result ((program : Units) (cells : ℕ) (choices : List ℕ) (m : AMachine) → IsMachineAfter program cells choices m
-        → AreHeldKeys (snapshot_of m) keys.now
-        → numbers.new.items ≡ numbers.old.items ++ filter (λ b. not (is_held (run program choices) b)) (a ∷ [])) }
-{
-    if !has_key(keys, a) {
-        numbers.push(a)?;
-    }
-    Ok(())
-}
-
-// Those of some activations that aren't held, the last one first.
-//
-// This costs a step for each activation that was made.
+// Those of an ancestry that aren't held, the last one first.
 fn unheld(alloc: Global, core: &Core, activations: &[u64]) -> Result<Vec<u64>, AllocError>
+    requires { AreHeldUpwards (state_of core.now.core) activations.now }
     ensures { IfOk result (λ numbers. numbers.items ≡ reverse (filter (λ a. not (is_held (state_of core.now.core) a)) activations.now)) }
 {
-    let keys = held_keys(alloc, core.machine())?;
-    let mut numbers = Vec::new(alloc);
-    for number in activations {
-        add_freed(&mut numbers, &keys, *number)?;
-    }
+    let count = count_unheld(core, activations);
+    let mut numbers = activations[..count].to_vec(alloc)?;
     numbers.reverse();
     Ok(numbers)
 }
@@ -119,7 +101,8 @@ fn goes_on(core: &Core, p: u64, activations: &[u64]) -> bool
 
 /// Appends the activations whose frames a turn of process p gave back, whose top activation before it was the first of these, with its ancestry.
 ///
-/// This costs a step for each activation that was made, where the top activation has ended, and else a constant time.
+/// This costs a constant time where the top activation goes on. Where it has ended, it costs what `is_held` does for it, and for each of those
+/// that end with it.
 ///
 /// # Errors
 ///

@@ -4,6 +4,7 @@
 pub mod after;
 pub mod before;
 pub mod freed;
+mod held;
 pub mod laws;
 pub mod reference;
 pub mod targets;
@@ -17,6 +18,6 @@ pub use before::{called, numbers_before, unit_name};
 pub use freed::{ancestry, append_freed_of};
 pub use reference::{Ahead, Reference, number_of, reference_ahead};
 pub use targets::append_targets;
-pub use touching::{goes_by, has_name};
+pub use touching::goes_by;
 pub use value::value_ahead;
 pub use woken::{append_woken_of, waiting_numbers};

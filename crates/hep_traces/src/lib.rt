@@ -8,9 +8,10 @@ pub mod values;
 
 pub use hep_dump::append_waiting;
 pub use lines::{
-    append_accessed, append_answer, append_applied, append_branch, append_call, append_choice,
-    append_combined, append_condition, append_create, append_end, append_fault, append_freed,
-    append_head, append_jump, append_loop, append_negated, append_next, append_reference,
-    append_resume, append_signed, append_stop, append_tested, append_waits, append_woken,
+    Accessed, append_accessed, append_answer, append_applied, append_branch, append_call,
+    append_choice, append_combined, append_condition, append_create, append_end, append_fault,
+    append_freed, append_head, append_jump, append_loop, append_negated, append_next,
+    append_reference, append_resume, append_signed, append_stop, append_tested, append_waits,
+    append_woken,
 };
 pub use values::{append_list, append_value};

@@ -154,7 +154,15 @@ fn append_place(text: &mut Vec<u8>, place: Option<&[u8]>) -> Result<(), AllocErr
     Ok(())
 }
 
-/// Appends an access to a cell by its name in the unit, the value that was read or stored, and where the cell is, if that has to be told.
+/// A variable or an element: its name in the unit, the values of its subscripts, and where it is, if that has to be told.
+#[derive(Clone, Copy)]
+pub struct Accessed<'a> {
+    pub name: &'a [u8],
+    pub subscripts: &'a [Value],
+    pub place: Option<&'a [u8]>,
+}
+
+/// Appends an access to a variable or an element, and the value that was read or stored.
 ///
 /// # Errors
 ///
@@ -162,21 +170,21 @@ fn append_place(text: &mut Vec<u8>, place: Option<&[u8]>) -> Result<(), AllocErr
 pub fn append_accessed(
     text: &mut Vec<u8>,
     action: &[u8],
-    reference: &[u8],
+    accessed: &Accessed<'_>,
     value: Value,
-    place: Option<&[u8]>,
 ) -> Result<(), AllocError>
     ensures { OnOk result (text.new.items
-        ≡ text.old.items ++ words.accessed_text action.now reference.now value (option_map (λ place. place.now) place.entry)) }
+        ≡ text.old.items ++ words.accessed_text action.now (words.reference_text accessed.now.name.now accessed.now.subscripts.now) value
+        (option_map (λ place. place.now) accessed.now.place)) }
 {
     text.extend_from_slice(action)?;
-    text.extend_from_slice(reference)?;
+    append_reference(text, accessed.name, accessed.subscripts)?;
     append_given(text, value)?;
-    append_place(text, place)?;
+    append_place(text, accessed.place)?;
     Ok(())
 }
 
-/// Appends what FULL, EMPTY, VALUE, SETE or WAITF gave of a cell.
+/// Appends what FULL, EMPTY, VALUE, SETE or WAITF gave of a variable or an element.
 ///
 /// # Errors
 ///
@@ -184,20 +192,20 @@ pub fn append_accessed(
 pub fn append_tested(
     text: &mut Vec<u8>,
     function: StateFunction,
-    reference: &[u8],
+    accessed: &Accessed<'_>,
     value: Value,
-    place: Option<&[u8]>,
 ) -> Result<(), AllocError>
     ensures { OnOk result (text.new.items
-        ≡ text.old.items ++ words.tested_text function reference.now value (option_map (λ place. place.now) place.entry)) }
+        ≡ text.old.items ++ words.tested_text function (words.reference_text accessed.now.name.now accessed.now.subscripts.now) value
+        (option_map (λ place. place.now) accessed.now.place)) }
 {
     text.extend_from_slice(b"ask ")?;
     text.extend_from_slice(state_function_text(function))?;
     text.extend_from_slice(b"(")?;
-    text.extend_from_slice(reference)?;
+    append_reference(text, accessed.name, accessed.subscripts)?;
     text.extend_from_slice(b")")?;
     append_given(text, value)?;
-    append_place(text, place)?;
+    append_place(text, accessed.place)?;
     Ok(())
 }
 

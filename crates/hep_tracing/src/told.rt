@@ -1,5 +1,6 @@
 //! Steps of any operation, by what was seen of them.
-ghost use Rattle.std.specs.Prelude.{◌≡◌, ◌++◌, ◌-◌, drop, length, IfOk, OnOk};
+ghost use Rattle.std.specs.Prelude.{◌≡◌, ◌++◌, ◌-◌, drop, length, OnOk};
+ghost use Rattle.std.specs.Option.{option_map};
 ghost use Rattle.hep_code.specs.Words.{first_operand, is_asynchronous, second_operand};
 ghost use Rattle.hep_traces.specs.Deeds.{told_of};
 ghost use Rattle.hep_traces.specs.Lines as lines;
@@ -10,10 +11,9 @@ use crate::pure::{first, second};
 use hep_code::{Evaluation, Operation, Variable};
 use hep_source::{StateFunction, Value};
 use hep_traces::{
-    append_accessed, append_answer, append_jump, append_loop, append_next, append_reference,
-    append_tested,
+    Accessed, append_accessed, append_answer, append_jump, append_loop, append_next, append_tested,
 };
-use std::alloc::{AllocError, Global};
+use std::alloc::AllocError;
 
 /// What was seen of a step, as far as its operation wants it.
 #[derive(Clone, Copy)]
@@ -62,17 +62,21 @@ fn store_verb(asynchronous: bool) -> &'static [u8]
     if asynchronous { b"fill " } else { b"store " }
 }
 
-fn reference_text(alloc: Global, name: &[u8], subscripts: &[Value]) -> Result<Vec<u8>, AllocError>
-    ensures { IfOk result (λ text. text.items ≡ lines.reference_text name.now subscripts.now) }
+// The variable that the operation names, or its element with these subscripts.
+fn accessed<'a>(seen: &Seen<'a>, subscripts: &'a [Value]) -> Accessed<'a>
+    ensures name { result.name.now ≡ seen.now.variable.now }
+    ensures subscripts { result.subscripts.now ≡ subscripts.now }
+    ensures place { option_map (λ place. place.now) result.place ≡ words.place_seen seen.now }
 {
-    let mut text = Vec::new(alloc);
-    append_reference(&mut text, name, subscripts)?;
-    Ok(text)
+    Accessed {
+        name: seen.variable,
+        subscripts,
+        place: seen.place,
+    }
 }
 
 // What was read, if there was a value.
 fn append_load(
-    alloc: Global,
     text: &mut Vec<u8>,
     seen: &Seen<'_>,
     variable: Variable,
@@ -84,14 +88,12 @@ fn append_load(
     let Some(value) = seen.value else {
         return Ok(());
     };
-    let reference = reference_text(alloc, seen.variable, subscripts)?;
     let action = read_verb(variable.is_asynchronous());
-    append_accessed(text, action, &reference, value, seen.place)
+    append_accessed(text, action, &accessed(seen, subscripts), value)
 }
 
 // What FULL, EMPTY, VALUE, SETE or WAITF gave, if it gave something.
 fn append_test(
-    alloc: Global,
     text: &mut Vec<u8>,
     seen: &Seen<'_>,
     function: StateFunction,
@@ -103,13 +105,11 @@ fn append_test(
     let Some(value) = seen.value else {
         return Ok(());
     };
-    let reference = reference_text(alloc, seen.variable, subscripts)?;
-    append_tested(text, function, &reference, value, seen.place)
+    append_tested(text, function, &accessed(seen, subscripts), value)
 }
 
 // What was stored: the first operand, in the element of which the others are subscripts.
 fn append_store(
-    alloc: Global,
     text: &mut Vec<u8>,
     seen: &Seen<'_>,
     variable: Variable,
@@ -117,9 +117,13 @@ fn append_store(
 ) -> Result<(), AllocError>
     ensures { OnOk result (text.new.items ≡ text.old.items ++ words.store_text seen.now (is_asynchronous variable) operands.now) }
 {
-    let reference = reference_text(alloc, seen.variable, others(operands))?;
     let action = store_verb(variable.is_asynchronous());
-    append_accessed(text, action, &reference, first(operands), seen.place)
+    append_accessed(
+        text,
+        action,
+        &accessed(seen, others(operands)),
+        first(operands),
+    )
 }
 
 // The DO that begins, with its first three operands.
@@ -171,7 +175,6 @@ fn append_listed(text: &mut Vec<u8>, word: &[u8], list: &[u8]) -> Result<(), All
 ///
 /// Only where memory was refused.
 pub fn append_told(
-    alloc: Global,
     text: &mut Vec<u8>,
     seen: &Seen<'_>,
     operation: Operation,
@@ -185,15 +188,15 @@ pub fn append_told(
                 variable,
                 subscripts,
             },
-        ) => append_load(alloc, text, seen, variable, last(operands, subscripts)),
+        ) => append_load(text, seen, variable, last(operands, subscripts)),
         Operation::Evaluate(
             Evaluation::Test {
                 function,
                 subscripts,
                 ..
             },
-        ) => append_test(alloc, text, seen, function, last(operands, subscripts)),
-        Operation::Store { variable, .. } => append_store(alloc, text, seen, variable, operands),
+        ) => append_test(text, seen, function, last(operands, subscripts)),
+        Operation::Store { variable, .. } => append_store(text, seen, variable, operands),
         Operation::Jump { .. } => append_jump(text, seen.line),
         Operation::EnterLoop { .. } => append_entered(text, seen, operands),
         Operation::EndLoop { .. } => append_iteration(text, seen),

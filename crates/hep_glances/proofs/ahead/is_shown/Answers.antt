@@ -5,7 +5,7 @@ use Rattle.hep_glances.specs.Sights.{name_sought}
 use Rattle.hep_glances.proofs.ahead.is_shown.Goals as goal
 
 pub returns-in-Some : goal.returns-in-Some
-returns-in-Some c cells choices top ahead ref =
+returns-in-Some c cells choices top ahead =
     let program = c.args.ahead.now.image.now in
-    c.touches.ensures cells choices top ahead ref
+    c.touches.ensures cells choices top ahead
     ∙ ap (λ cell. is_accessed program (name_sought cell) (top_after program choices c.args.ahead.now.process top)) (sym c.in-Some.is)

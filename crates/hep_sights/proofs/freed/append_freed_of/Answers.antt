@@ -1,4 +1,4 @@
-use Rattle.std.proofs.Common.{◌≡◌, ◌≤◌, ◌++◌, ◌∙◌, ℕ, List, Some, append-nil, ap, arith, not, reverse, slice_get, sym}
+use Rattle.std.proofs.Common.{◌≡◌, ◌≤◌, ◌++◌, ◌∙◌, ℕ, List, Some, append-nil, ap, arith, not, reverse, slice_get, subst, sym}
 use Rattle.std.specs.List.{filter}
 use Rattle.std.proofs.lemmas.Bool.Decides.{nat_tests}
 use Rattle.std.proofs.lemmas.Result.{on_ok_weaker}
@@ -6,6 +6,7 @@ use Rattle.hep_core.specs.Value.{state_of}
 use Rattle.hep_machine.specs.Words.{is_held, living}
 use Rattle.hep_traces.specs.Lines as lines
 use Rattle.hep_sights.specs.Ancestry.{activation_on}
+use Rattle.hep_sights.specs.Freed.{AreHeldUpwards}
 use Rattle.hep_sights.proofs.Ancestors.{ancestry-first}
 use Rattle.hep_sights.proofs.Freeing.{freeing}
 use Rattle.hep_sights.proofs.freed.append_freed_of.Goals as goal
@@ -19,6 +20,14 @@ returns-then-goes_on c old top h =
     let test = sym (c.goes_on.ensures a first) ∙ c.if-goes_on.true in
     let le : a ≤ activation_on (living (state_of core) c.args.p) = grind (arith, nat_tests, test) in
     sym (append-nil c.args.text.now.items) ∙ ap (λ ns. c.args.text.now.items ++ lines.all_freed_text ns) (sym (it.none le))
+
+pub unheld-requires : goal.unheld-requires
+unheld-requires c =
+    let old = c.requires.0 in
+    let top = c.requires.1 in
+    let h = c.requires.2 in
+    let core = c.args.core.now.core in
+    subst (AreHeldUpwards (state_of core)) (sym h.1) (freeing old c.args.p top h.0 core h.2).upwards
 
 pub returns : goal.returns
 returns c =

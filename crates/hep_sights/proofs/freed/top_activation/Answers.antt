@@ -5,7 +5,6 @@ use Rattle.hep_source.proofs.Tests.{none-from-not}
 use Rattle.hep_views.proofs.Waiting.{living-top}
 use Rattle.hep_sights.specs.Ancestry.{activation_on}
 use Rattle.hep_sights.proofs.Topped.{there}
-use Rattle.hep_sights.proofs.freed.top_activation.Goals.{After-lives}
 use Rattle.hep_sights.proofs.freed.top_activation.Goals as goal
 
 pub returns-then-not-lives : goal.returns-then-not-lives
