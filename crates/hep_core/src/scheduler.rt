@@ -6,6 +6,7 @@ ghost use Rattle.hep_machine.specs.Words.{is_number_among, next_of_ready, progre
 ghost use Rattle.hep_blocked.specs.Listing.{IsBlocked};
 ghost use Rattle.hep_blocked.specs.Numbers.{AreRising};
 ghost use Rattle.hep_state.specs.Words.{IsMachineAfter, snapshot_of};
+ghost use Rattle.hep_unwatched.specs.Watches.{PassesFrom};
 ghost use Rattle.hep_views.specs.Standing.{whereabouts_by};
 ghost use Rattle.hep_core.specs.Value.{state_of, opening_of, IsNewFault, IsChoice, HasNoStop, IsStop};
 ghost use Rattle.hep_core.specs.Commits.{AreGoodStill, IsCancelled, IsCheckedOut, IsCommitted, IsFresh, IsGivenTo, IsOutBy, IsStoppedWhereFull};
@@ -41,6 +42,7 @@ use hep_taking::{
     segments_depend_on_reads, start, tables_of, take_private,
 };
 use hep_tickets::come_back;
+use hep_unwatched::{Watch, pass_on};
 use hep_views::finding::{listed, whereabouts};
 use hep_views::laws::views_are_of_states;
 use hep_views::{Listed, Whereabouts};
@@ -266,6 +268,23 @@ impl Core {
         }
     }
 
+    /// Chooses process p again and again, up to so many times, as long as it stands at an index of the code that isn't watched and each choice
+    /// makes a step that only moves it, as `go_on` has it. Answers how many choices were made: none where p is out.
+    pub fn pass_on(&mut self, p: u64, watches: &[Watch], most: u64) -> u64
+        ensures chosen { AreChoices p self.old.core result self.new.core }
+        ensures unwatched { PassesFrom self.old.core.program watches.now p (state_of self.old.core) result }
+        ensures few { result ≤ most }
+        ensures kept { AreGoodStill self.old self.new }
+    {
+        if self.is_out(p) {
+            return 0;
+        }
+        match self.move_past(p, watches, most.min(MOST_AT_ONCE)) {
+            Ok(made) => made,
+            Err(_) => 0,
+        }
+    }
+
     // The core is at no stop, process p lives, and the table says that no plain operation stands ahead of it.
     #[inline(always)]
     fn rests(&self, p: u64) -> bool
@@ -348,6 +367,40 @@ impl Core {
         ensures others { LeavesNext p self.old self.new }
     {
         self.move_on(p, most, false)
+    }
+
+    // Chooses process p up to so many times, 4,294,967,295 at most, as long as it stands where nothing is watched and each choice makes a step that
+    // only moves it, and says how often. Who waits and who is ready stays. It fails only where the history has no room for so many entries;
+    // nothing has changed then.
+    #[inline(never)]
+    fn move_past(&mut self, p: u64, watches: &[Watch], most: u64) -> Result<u64, AllocError>
+        requires { (is_out p self.old.core.out ≡ false) × (most < 2 ^ 32) }
+        ensures chosen { IfOk result (λ n. AreChoices p self.old.core n self.new.core) }
+        ensures unwatched { IfOk result (PassesFrom self.old.core.program watches.now p (state_of self.old.core)) }
+        ensures few { IfOk result (λ n. n ≤ most) }
+        ensures refused { OnErr result (self.new ≡ self.old) }
+        ensures others { LeavesNext p self.old self.new }
+    {
+        if self.stop.is_some() {
+            return Ok(0);
+        }
+        if !self.machine.lives(p) {
+            return Ok(0);
+        }
+        self.image.is_runnable();
+        views_are_of_states();
+        lists_go_along_with_steps();
+        others_leave_what_is_read();
+        segments_depend_on_reads();
+        let room = most.min(self.limit - self.history.len());
+        self.history.reserve(room as u32)?;
+        let tabled = Tabled {
+            image: &self.image,
+            tables: &self.tables,
+        };
+        let made = pass_on(&mut self.machine, &tabled, watches, p, room);
+        note_all(&mut self.history, p, made as u32);
+        Ok(made)
     }
 
     // A turn of process p, as `choose` has it.

@@ -1,21 +1,19 @@
 -- Steps that were counted, and the turns that they are.
-use Rattle.std.proofs.Common.{◌≡◌, ℕ, zero, suc, ◌+◌, List, [], ◌∷◌, ◌++◌, drop, replicate, Option, refl, sym, ap, ◌∙◌, subst, arith, append-nil, append_assoc}
+use Rattle.std.proofs.Common.{◌≡◌, ℕ, suc, ◌+◌, List, [], ◌∷◌, ◌++◌, drop, replicate, Option, refl, sym, ap, ◌∙◌, subst, arith}
 use Rattle.hep_code.specs.declared.instruction.Instruction.{Instruction}
 use Rattle.hep_image.specs.declared.array.Array.{Array}
-use Rattle.hep_machine.specs.Words.{State, Units, opening, run, run_from, state_after_turn}
+use Rattle.hep_machine.specs.Words.{State, Units, run, run_from, state_after_turn}
 use Rattle.hep_begins.specs.Begins.{begun}
 use Rattle.hep_moves.specs.Moves as moves
-use Rattle.hep_moves.specs.Moves.{Goes, IsMove, IsSettledTo}
+use Rattle.hep_moves.specs.Moves.{Goes}
 use Rattle.hep_step.specs.Performed.{Snapshot}
 use Rattle.hep_step.specs.Simulation.{unit_arrays, unit_code}
-use Rattle.hep_state.specs.Words as machines
-use Rattle.hep_state.specs.Words.{HasLevels, IsTurning, LivesOn, StaysShown, TurnOf, snapshot_of, top_frame}
+use Rattle.hep_state.specs.Words.{IsTurning, TurnOf, top_frame}
 use Rattle.hep_state.specs.declared.machine.Machine.{Machine}
-use Rattle.hep_state.proofs.Beside.{beside-again, beside-shown}
 use Rattle.std.proofs.lemmas.List.{replicate-append-replicate}
-use Rattle.hep_going.specs.Gone as gone
-use Rattle.hep_going.specs.Gone.{HasGone, MakesMoves}
+use Rattle.hep_going.specs.Gone.{MakesMoves}
 use Rattle.hep_going.proofs.Turns.{HasLaws, come-so, here, turn_at}
+use Rattle.hep_unwatched.proofs.Passed.{one-behind, state-on}
 use Rattle.hep_counting.specs.Counts.{counted, counted_along}
 use Rattle.hep_counting.specs.Marks.{mark}
 use Rattle.hep_counting.specs.Tallies.{CountsTurns, Tallies, stays, settles, steps}
@@ -54,25 +52,6 @@ module _ (operations : List ℕ) (code : List Instruction) (arrays : List Array)
 
 -- ---- turns of a process
 
-pub one-behind : (n p : ℕ) → replicate n p ++ p ∷ [] ≡ replicate (suc n) p
-one-behind zero p = refl
-one-behind (suc n) p = ap (λ ps. p ∷ ps) (one-behind n p)
-
--- the turns that were made
-pub turns-are : (program : Units) (cells p : ℕ) (choices : List ℕ) (n : ℕ) (after : List ℕ) → HasGone program cells p choices n after → after ≡ choices ++ replicate n p
-turns-are program cells p _ _ _ (gone.none choices) = sym (append-nil choices)
-turns-are program cells p _ _ _ (gone.more choices n after going is) =
-    ap (λ ps. ps ++ p ∷ []) (turns-are program cells p choices n after going) ∙ (append_assoc choices (replicate n p) (p ∷ []) ∙ ap (λ ps. choices ++ ps) (one-behind n p))
-
-run-behind : (program : Units) (s : State) (ps qs : List ℕ) → run_from program s (ps ++ qs) ≡ run_from program (run_from program s ps) qs
-unfolding run_from
-run-behind program s [] qs = refl
-run-behind program s (p ∷ ps) qs = run-behind program (state_after_turn program p s) ps qs
-
-pub run-on : (program : Units) (ps qs : List ℕ) → run program (ps ++ qs) ≡ run_from program (run program ps) qs
-unfolding run
-run-on program ps qs = run-behind program (opening program) ps qs
-
 module _ (program : Units) (operations : List ℕ) where
   -- what comes after turns is counted behind them
   pub counted-behind : (s : State) (ps qs : List ℕ) (counts : List (Option ℕ))
@@ -110,8 +89,7 @@ module _ (t : TurnOf) (operations : List ℕ) (known : HasLaws t) (turns : IsTur
       let p = t.process in
       let come = come-so t known turns n s (uncounted operations (unit_code t.program t.level.unit) (unit_arrays t.program t.level.unit) (top_frame t).first (here t) counts n s now tallied) in
       let line : mark operations (drop s.index (unit_code t.program t.level.unit)) ≡ begun t.program operations p (run t.program come.after) = begun-is (turn_at t come.after come.top s) come.turns operations in
-      let state : run t.program come.after ≡ run_from t.program (run t.program t.choices) (replicate n p) =
-      ap (run t.program) (turns-are t.program t.cells p t.choices n come.after come.gone) ∙ run-on t.program t.choices (replicate n p) in
+      let state = state-on t.program t.cells p t.choices n come.after come.gone in
       (λ i. counted ((line ∙ ap (begun t.program operations p) state) i) (tallied-so counts n s now tallied i))
       ∙ sym (counted-next t.program operations (run t.program t.choices) (replicate n p) p counts)
       ∙ ap (λ ps. counted_along t.program operations (run t.program t.choices) ps counts) (one-behind n p)
@@ -136,29 +114,8 @@ module _ (program : Units) (operations : List ℕ) (p : ℕ) where
   counts-more old mid n m before between now gone first then cells choices h =
       let a = gone cells choices h in
       let s = run program choices in
-      let state : run program a.0 ≡ run_from program s (replicate n p) = ap (run program) (turns-are program cells p choices n a.0 a.1) ∙ run-on program choices (replicate n p) in
+      let state = state-on program cells p choices n a.0 a.1 in
       then cells a.0 a.2
       ∙ (λ i. counted_along program operations (state i) (replicate m p) (first cells choices h i))
       ∙ sym (counted-behind program operations s (replicate n p) (replicate m p) before)
       ∙ ap (λ ps. counted_along program operations s ps before) (replicate-append-replicate n m p)
-
--- and p lives on
-pub lives-again : (p n m : ℕ) (old mid new : Machine) → LivesOn p n old mid → LivesOn p m mid new → LivesOn p (n + m) old new
-lives-again p n m old mid new first then =
-    record {
-      living = then.living;
-      running = then.running ∙ first.running;
-      made = then.made ∙ first.made;
-      counted = omega (arith, first.counted, then.counted);
-      others = beside-again p (snapshot_of old) (snapshot_of mid) (snapshot_of new) first.others then.others;
-    }
-
-pub lives-still : (program : Units) (p : ℕ) (old new : Machine) → HasLevels (snapshot_of old) p → StaysShown program old new → LivesOn p 0 old new
-lives-still program p old new living same =
-    record {
-      living = subst (λ m. HasLevels m p) (sym same.shown) living;
-      running = ap (λ (m : machines.Snapshot). m.halted) same.shown;
-      made = same.made;
-      counted = omega (arith, ap (λ (m : machines.Snapshot). m.activations) same.shown);
-      others = beside-shown p (snapshot_of old) (snapshot_of new) same.shown;
-    }

@@ -2,15 +2,16 @@
 ghost use Rattle.std.specs.Prelude.{◌≡◌, ◌≤◌, ℕ, length, vec_capacity};
 ghost use Rattle.hep_step.specs.Performed.{Snapshot, snapshot};
 ghost use Rattle.hep_moves.specs.Moves.{CanGoOn, Goes};
-ghost use Rattle.hep_quick.specs.Made.{HasMovedOn, IsTabled};
+ghost use Rattle.hep_quick.specs.Made.{IsTabled};
 ghost use Rattle.hep_counting.specs.Marks.{marks};
 ghost use Rattle.hep_counting.specs.Tallies.{HasTallied};
 
 use crate::counts::count;
 use crate::marks::mark_at;
 use hep_arena::Arena;
-use hep_quick::{Quick, move_by_table, step_by_table};
+use hep_quick::Quick;
 use hep_source::Value;
+use hep_unwatched::step_once;
 
 /// So many steps of an activation at most, with its table and what a step from each index of its code begins.
 #[derive(Clone, Copy)]
@@ -19,26 +20,6 @@ pub(crate) struct Walk<'a> {
     pub operations: &'a [usize],
     pub lines: &'a [Option<u32>],
     pub most: u64,
-}
-
-// A step that only moves the activation, or none: by the table where that has it.
-#[inline(always)]
-fn step(quick: &Quick<'_>, arena: &mut Arena, operands: &mut Vec<Value>, index: &mut usize) -> u64
-    requires tabled { IsTabled quick.now (length arena.old.contents) }
-    requires ready { (n : ℕ) (t : Snapshot)
-        → Goes quick.now.activation.code.now quick.now.activation.arrays.now quick.now.activation.frame.first
-        (snapshot arena.old.contents operands.old.items index.old) n t
-        → CanGoOn quick.now.activation.code.now quick.now.activation.arrays.now arena.old.holes quick.now.activation.frame (vec_capacity operands.old) t }
-    ensures moved { HasMovedOn quick.now.activation (snapshot arena.old.contents operands.old.items index.old) 1 result
-        (snapshot arena.new.contents operands.new.items index.new) }
-    ensures holes { arena.new.holes ≡ arena.old.holes }
-    ensures capacity { vec_capacity operands.old ≤ vec_capacity operands.new }
-{
-    let made = step_by_table(quick, arena, operands, index);
-    if made == 1 {
-        return made;
-    }
-    move_by_table(quick, arena, operands, index, 1)
 }
 
 /// Makes the steps of a walk, and says how many: fewer only where no plain operation stands ahead any more, or one that doesn't move the
@@ -65,7 +46,7 @@ pub(crate) fn walk_on(
     let mut done = 0;
     while done < walk.most {
         let before = *index;
-        let made = step(&walk.quick, arena, operands, index);
+        let made = step_once(&walk.quick, arena, operands, index);
         if made == 0 {
             return done;
         }

@@ -23,12 +23,13 @@ use Rattle.hep_state.specs.declared.turn.TurnFault.TheVariants.{ArenaFull}
 use Rattle.hep_state.specs.declared.turn.Turned.TheVariants.{Waits}
 use Rattle.hep_state.specs.declared.machine.Machine.{Machine}
 use Rattle.hep_state.specs.Words.{HasLevels, HasTurned, IsMachineAfter, IsUnturned, snapshot_of}
+use Rattle.hep_unwatched.proofs.Passed.{run-on}
 use Rattle.hep_views.proofs.Waiting.{living-top}
 use Rattle.hep_cells.specs.declared.want.Want.{Want}
 use Rattle.hep_counting.specs.Counts.{counted_along}
 use Rattle.hep_counting.specs.declared.marks.Marked.{Marked}
 use Rattle.hep_counting.specs.Marks.{AreMarks}
-use Rattle.hep_counting.proofs.Tallied.{counted-behind, counted-none, run-on}
+use Rattle.hep_counting.proofs.Tallied.{counted-behind, counted-none}
 use Rattle.hep_coverage.specs.Coverage.{counted_in}
 use Rattle.hep_coverage.specs.Remaking.{Aim, IsRemade}
 use Rattle.hep_coverage.specs.declared.again.Again.{Again}

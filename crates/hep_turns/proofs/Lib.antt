@@ -1,3 +1,4 @@
 mod Along
 mod Left
 mod Lined
+mod Silent

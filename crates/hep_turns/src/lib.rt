@@ -4,6 +4,7 @@
 pub mod page;
 pub mod reading;
 mod telling;
+mod watching;
 
 pub use page::Page;
 pub use reading::trace_history;

@@ -9,6 +9,7 @@ ghost use Rattle.hep_turns.specs.Pages.{shown_on};
 
 use crate::page::Page;
 use crate::telling::{Teller, tell_entries};
+use crate::watching::watches_for;
 use hep_core::Core;
 use hep_history::{First, ReplayFault, replay_first};
 use hep_image::Image;
@@ -66,10 +67,14 @@ pub fn trace_history(
     let Ok(variables) = Variables::of_image(alloc, core.image()) else {
         return Err(ReplayFault::NoMemory);
     };
+    let Ok(watches) = watches_for(alloc, core.image(), &variables, page) else {
+        return Err(ReplayFault::NoMemory);
+    };
     let teller = Teller {
         alloc,
         variables: &variables,
         page,
+        watches: &watches,
     };
     let mut text = Vec::new(alloc);
     let Ok(all) = tell_entries(&mut core, &mut text, &teller, entries, made) else {

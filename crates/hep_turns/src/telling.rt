@@ -1,15 +1,16 @@
 //! Turns and entries that are made and told of.
-ghost use Rattle.std.specs.Prelude.{◌≡◌, ◌+◌, ◌^◌, ◌++◌, ◌<◌, ◌≤◌, IfOk, Ok, drop, length, replicate, take, true};
+ghost use Rattle.std.specs.Prelude.{◌≡◌, ◌+◌, ◌^◌, ◌++◌, ◌<◌, ◌≤◌, ℕ, [], IfOk, Ok, drop, false, length, replicate, take, true};
+ghost use Rattle.hep_core.specs.Value.{state_of};
 ghost use Rattle.hep_entries.specs.Runs.{entry_of};
 ghost use Rattle.hep_glances.specs.Sights.{IsTurnMade};
 ghost use Rattle.hep_history.specs.First.{first_of};
-ghost use Rattle.hep_history.specs.Progress.{EntryMade, IsStanding, RunMade, StepsMade, TurnMade};
+ghost use Rattle.hep_history.specs.Progress.{AreMade, EntryMade, IsStanding, RunMade, StepsMade, TurnMade};
 ghost use Rattle.hep_history.specs.Replays.{ArePossible, IsFirstImpossible};
-ghost use Rattle.hep_machine.specs.Words.{progress_after};
-ghost use Rattle.hep_sites.specs.Variables.{AreVariablesOf};
+ghost use Rattle.hep_machine.specs.Words.{Progress as AProgress, progress_after};
 ghost use Rattle.hep_traces.specs.Traces as words;
 ghost use Rattle.hep_turns.specs.Making.{HasMade, IsReplaying, progress_of, shown_lines, shown_text};
 ghost use Rattle.hep_turns.specs.Pages.{shown_on};
+ghost use Rattle.hep_turns.specs.Tellers.{CanTell};
 
 use crate::page::Page;
 use hep_core::{ChooseFault, Core};
@@ -18,14 +19,18 @@ use hep_glances::{append_line, look};
 use hep_history::{First, make_run};
 use hep_machine::Entry;
 use hep_sites::Variables;
+use hep_unwatched::{Watch, stands_watched};
+use hep_watching::laws::unwatched_turns_access_nothing;
 use std::alloc::{AllocError, Global};
 
-/// What lines are made by: where memory comes from, which variables the names of units are, and which lines are shown.
+/// What lines are made by: where memory comes from, which variables the names of units are, which lines are shown, and at which indexes of the
+/// code a step may have one.
 #[derive(Clone, Copy)]
 pub(crate) struct Teller<'a> {
     pub(crate) alloc: Global,
     pub(crate) variables: &'a Variables,
     pub(crate) page: &'a Page<'a>,
+    pub(crate) watches: &'a [Watch],
 }
 
 // The line of a turn: of the entry with which number it is, and of which process, and whether it is shown.
@@ -51,7 +56,25 @@ fn make_turn(core: &mut Core, p: u64, waits: bool) -> Result<bool, AllocError>
     }
 }
 
-// A turn, whether it did what it should, and its line. At a stop there is none, and nothing is looked at.
+// The next turn of process p has no line: where it lives, and stands at an index of the code from which no variable is accessed by the name that is
+// sought.
+fn is_silent(core: &Core, teller: &Teller<'_>, p: u64) -> bool
+    requires teller { CanTell core.now.core.program teller.now }
+    requires running { (state_of core.now.core).halted ≡ false }
+    ensures { result ≡ true → (number : ℕ) (after : AProgress)
+        → words.line_text core.now.core.program (shown_on teller.now.page.now).cell number p (progress_of core.now.core) after ≡ [] }
+{
+    core.image().is_runnable();
+    unwatched_turns_access_nothing();
+    let machine = core.machine();
+    if !machine.lives(p) {
+        return false;
+    }
+    !stands_watched(machine, teller.watches, p)
+}
+
+// A turn, whether it did what it should, and its line. At a stop there is none. Nothing is looked at there, nor where the turn has no line by where
+// it begins.
 fn tell_turn(
     core: &mut Core,
     text: &mut Vec<u8>,
@@ -59,7 +82,7 @@ fn tell_turn(
     line: Line,
     waits: bool,
 ) -> Result<bool, AllocError>
-    requires variables { AreVariablesOf core.old.core.program teller.now.variables.now }
+    requires teller { CanTell core.old.core.program teller.now }
     requires replaying { IsReplaying core.old.core }
     ensures made { IfOk result (λ made. TurnMade core.old.core line.process waits (Ok made) core.new.core) }
     ensures told { IfOk result (λ made. made ≡ true → text.new.items ≡ text.old.items
@@ -67,6 +90,9 @@ fn tell_turn(
 {
     if core.stop().is_some() {
         return Ok(false);
+    }
+    if is_silent(core, teller, line.process) {
+        return make_turn(core, line.process, waits);
     }
     let sight = look(
         teller.alloc,
@@ -90,7 +116,7 @@ fn tell_shown(
     line: Line,
     waits: bool,
 ) -> Result<bool, AllocError>
-    requires variables { AreVariablesOf core.old.core.program teller.now.variables.now }
+    requires teller { CanTell core.old.core.program teller.now }
     requires replaying { IsReplaying core.old.core }
     ensures made { IfOk result (λ made. TurnMade core.old.core line.process waits (Ok made) core.new.core) }
     ensures told { IfOk result (λ made. made ≡ true → text.new.items ≡ text.old.items ++ shown_lines line.shown
@@ -111,7 +137,7 @@ fn tell_steps(
     line: Line,
     steps: u32,
 ) -> Result<bool, AllocError>
-    requires variables { AreVariablesOf core.old.core.program teller.now.variables.now }
+    requires teller { CanTell core.old.core.program teller.now }
     requires replaying { IsReplaying core.old.core }
     ensures made { IfOk result (λ made. StepsMade core.old.core line.process steps (Ok made) core.new.core) }
     ensures told { IfOk result (λ made. made ≡ true → text.new.items ≡ text.old.items ++ shown_lines line.shown
@@ -133,7 +159,7 @@ fn tell_entry(
     entry: Entry,
     number: u64,
 ) -> Result<bool, AllocError>
-    requires variables { AreVariablesOf core.old.core.program teller.now.variables.now }
+    requires teller { CanTell core.old.core.program teller.now }
     requires replaying { IsReplaying core.old.core }
     ensures made { IfOk result (λ made. EntryMade core.old.core entry (Ok made) core.new.core) }
     ensures told { IfOk result (λ made. made ≡ true → text.new.items ≡ text.old.items
@@ -151,8 +177,27 @@ fn tell_entry(
     }
 }
 
+// Entries in a row that are equal, of one step each, up to so many, as long as each only moves its process and has no line by where it begins:
+// how many were made.
+fn make_silent(core: &mut Core, teller: &Teller<'_>, run: Run, most: u32) -> u32
+    requires teller { CanTell core.old.core.program teller.now }
+    requires standing { IsStanding core.old.core }
+    ensures made { AreMade (entry_of run) core.old.core result core.new.core }
+    ensures silent { (number : ℕ) → words.trace_from core.old.core.program (shown_on teller.now.page.now) number (progress_of core.old.core)
+        (replicate result (entry_of run)) ≡ [] }
+    ensures few { result ≤ most }
+{
+    if run.steps != 1 {
+        return 0;
+    }
+    core.image().is_runnable();
+    unwatched_turns_access_nothing();
+    core.pass_on(run.process, teller.watches, u64::from(most)) as u32
+}
+
 // Entries in a row that are equal, behind so many others, and their lines where they are shown: how many of them were made, which are fewer than all
-// where the next one isn't possible. Those that aren't shown are made as a replay makes them.
+// where the next one isn't possible. Those that aren't shown are made as a replay makes them, and so, as far as they go on, are those that
+// have no line by where they begin.
 fn tell_run(
     core: &mut Core,
     text: &mut Vec<u8>,
@@ -160,7 +205,7 @@ fn tell_run(
     before: u64,
     run: Run,
 ) -> Result<u32, AllocError>
-    requires variables { AreVariablesOf core.old.core.program teller.now.variables.now }
+    requires teller { CanTell core.old.core.program teller.now }
     requires replaying { IsReplaying core.old.core }
     requires few { before + run.count < 2 ^ 64 }
     ensures made { IfOk result (λ made. RunMade core.old.core (entry_of run) run.count (Ok made) core.new.core) }
@@ -175,10 +220,14 @@ fn tell_run(
         let number = before + 1 + made as u64;
         let hidden = teller.page.hidden(number, run.process, run.count - made);
         if hidden == 0 {
-            if !tell_entry(core, text, teller, run.entry(), number)? {
-                return Ok(made);
+            let silent = make_silent(core, teller, run, run.count - made);
+            made += silent;
+            if silent == 0 {
+                if !tell_entry(core, text, teller, run.entry(), number)? {
+                    return Ok(made);
+                }
+                made += 1;
             }
-            made += 1;
         } else {
             let Ok(more) = make_run(core, run.entry(), hidden) else {
                 return Err(AllocError);
@@ -204,7 +253,7 @@ pub(crate) fn tell_entries(
     entries: &First<'_>,
     made: u64,
 ) -> Result<u64, AllocError>
-    requires variables { AreVariablesOf core.old.core.program teller.now.variables.now }
+    requires teller { CanTell core.old.core.program teller.now }
     requires made { HasMade core.old.core (first_of entries.now) made }
     ensures few { IfOk result (λ all. all ≤ length (first_of entries.now)) }
     ensures possible { IfOk result (λ all. ArePossible core.old.core.program core.old.core.cells (first_of entries.now) all) }

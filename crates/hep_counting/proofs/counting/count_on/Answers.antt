@@ -6,7 +6,8 @@ use Rattle.hep_state.specs.Words.{HasLivedOn, LivesOn, StaysShown, StepsOn, snap
 use Rattle.hep_going.proofs.Onward.{more-made, none-made, one-made}
 use Rattle.hep_going.specs.Gone.{CanTakeTurns, HasNoMoveAhead, MakesMoves}
 use Rattle.hep_counting.specs.Tallies.{CountsTurns}
-use Rattle.hep_counting.proofs.Tallied.{counted-one, counts-more, counts-none, lives-again, lives-still}
+use Rattle.hep_unwatched.proofs.Passed.{lives-again, lives-still}
+use Rattle.hep_counting.proofs.Tallied.{counted-one, counts-more, counts-none}
 use Rattle.hep_counting.proofs.counting.count_on.Goals.{After-count_moves-made, After-turn_plainly}
 use Rattle.hep_counting.proofs.counting.count_on.Goals as goal
 

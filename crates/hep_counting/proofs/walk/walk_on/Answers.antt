@@ -14,8 +14,8 @@ use Rattle.hep_counting.proofs.walk.walk_on.Goals as goal
 pub loop-done-init : goal.loop-done-init
 loop-done-init c = record { tallied = stays (snapshot c.args.arena.now.contents c.args.operands.now.items c.args.index.now) c.args.counts.now.items; few = omega arith; holes = refl; capacity = omega arith }
 
-pub step-made-requires : goal.step-made-requires
-step-made-requires c =
+pub step_once-made-requires : goal.step_once-made-requires
+step_once-made-requires c =
     let w = c.args.walk.now in
     let a = w.quick.activation in
     let start = snapshot c.args.arena.now.contents c.args.operands.now.items c.args.index.now in
@@ -39,10 +39,10 @@ returns-then-made-eq0-clause-tallied c =
     let a = w.quick.activation in
     let start = snapshot c.args.arena.now.contents c.args.operands.now.items c.args.index.now in
     let here = snapshot c.loop-done.arena.contents c.loop-done.operands.items c.loop-done.index in
-    let next = snapshot c.step-made.new.arena.contents c.step-made.new.operands.items c.step-made.new.index in
-    let moved = c.step-made.ensures.moved in
+    let next = snapshot c.step_once-made.new.arena.contents c.step_once-made.new.operands.items c.step_once-made.new.index in
+    let moved = c.step_once-made.ensures.moved in
     record {
-      tallied = still w.operations.now a.code.now a.arrays.now a.frame.first start c.args.counts.now.items c.loop-done.done here c.loop-done.counts.items c.loop-done.invariant.tallied c.step-made.result next moved.gone (omega (arith, c.if-made-eq0.true));
+      tallied = still w.operations.now a.code.now a.arrays.now a.frame.first start c.args.counts.now.items c.loop-done.done here c.loop-done.counts.items c.loop-done.invariant.tallied c.step_once-made.result next moved.gone (omega (arith, c.if-made-eq0.true));
       few = c.loop-done.invariant.few;
       all = λ fewer. moved.all (omega (arith, c.if-made-eq0.true));
     }
@@ -54,22 +54,22 @@ loop-done-preserved c =
     let operations = w.operations.now in
     let start = snapshot c.args.arena.now.contents c.args.operands.now.items c.args.index.now in
     let here = snapshot c.loop-done.arena.contents c.loop-done.operands.items c.loop-done.index in
-    let next = snapshot c.step-made.new.arena.contents c.step-made.new.operands.items c.step-made.new.index in
+    let next = snapshot c.step_once-made.new.arena.contents c.step_once-made.new.operands.items c.step_once-made.new.index in
     let counts = c.loop-done.counts.items in
     let done = c.loop-done.done in
-    let moved = c.step-made.ensures.moved in
+    let moved = c.step_once-made.ensures.moved in
     let inv = c.loop-done.invariant in
     let its : mark_at w.lines.now here.index ≡ mark operations (drop here.index a.code.now) = ap (λ ls. mark_at ls here.index) c.requires.marks ∙ mark-there operations a.code.now here.index in
     let now : c.count.new.counts.items ≡ counted (mark operations (drop here.index a.code.now)) counts = c.count.ensures ∙ ap (λ l. counted l counts) (c.mark_at.ensures ∙ its) in
     let more : suc done ≡ done + 1 = omega arith in
     let all : Tallies operations a.code.now a.arrays.now a.frame.first start c.args.counts.now.items (suc done) next (counted (mark operations (drop here.index a.code.now)) counts) =
-    one-more operations a.code.now a.arrays.now a.frame.first start c.args.counts.now.items done here counts inv.tallied c.step-made.result next moved.gone (omega (arith, moved.few, c.if-made-eq0.false)) in
+    one-more operations a.code.now a.arrays.now a.frame.first start c.args.counts.now.items done here counts inv.tallied c.step_once-made.result next moved.gone (omega (arith, moved.few, c.if-made-eq0.false)) in
     record {
       tallied = subst (λ n. Tallies operations a.code.now a.arrays.now a.frame.first start c.args.counts.now.items n next c.count.new.counts.items) more (
           subst (λ x. Tallies operations a.code.now a.arrays.now a.frame.first start c.args.counts.now.items (suc done) next x) (sym now) all);
       few = omega (arith, c.loop-done-test.true);
-      holes = c.step-made.ensures.holes ∙ inv.holes;
-      capacity = omega (arith, inv.capacity, c.step-made.ensures.capacity);
+      holes = c.step_once-made.ensures.holes ∙ inv.holes;
+      capacity = omega (arith, inv.capacity, c.step_once-made.ensures.capacity);
     }
 
 pub returns-clause-tallied : goal.returns-clause-tallied

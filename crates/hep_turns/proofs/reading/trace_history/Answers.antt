@@ -1,18 +1,28 @@
-use Rattle.std.proofs.Common.{◌≡◌, ◌∙◌, ◌+◌, ◌++◌, arith, drop, length, refl, subst, take}
+use Rattle.std.proofs.Common.{◌≡◌, ◌∙◌, ◌+◌, ◌++◌, arith, drop, length, refl, subst, sym, take}
 use Rattle.hep_history.specs.First.{first_of}
 use Rattle.hep_history.specs.Replays.{ArePossible, IsFirstImpossible}
 use Rattle.hep_machine.specs.Words.{Units, progress_after}
 use Rattle.hep_sites.specs.Variables.{AreVariablesOf}
 use Rattle.hep_traces.specs.Traces.{trace_from}
 use Rattle.hep_turns.specs.Pages.{shown_on}
+use Rattle.hep_turns.specs.Tellers.{AreWatchesFor}
 use Rattle.hep_turns.proofs.Left.{of-same, trace-skipped}
 use Rattle.hep_turns.proofs.reading.trace_history.Goals as goal
 
 pub begin_after-requires-clause-within : goal.begin_after-requires-clause-within
 begin_after-requires-clause-within c = omega (arith, c.min-made.ensures, c.len.ensures.count)
 
-pub tell_entries-requires-clause-variables : goal.tell_entries-requires-clause-variables
-tell_entries-requires-clause-variables c = subst (λ (u : Units). AreVariablesOf u c.in-Ok.variables) c.image.ensures c.in-Ok.ensures
+pub watches_for-requires : goal.watches_for-requires
+watches_for-requires c = subst (λ (u : Units). AreVariablesOf u c.in-Ok.variables) (c.image.ensures ∙ sym c.image-2.ensures) c.in-Ok.ensures
+
+pub tell_entries-requires-clause-teller : goal.tell_entries-requires-clause-teller
+tell_entries-requires-clause-teller c =
+    let watches = c.in-Ok-watches_for.watches.items in
+    let cell = (shown_on c.args.page.now).cell in
+    record {
+      variables = subst (λ (u : Units). AreVariablesOf u c.in-Ok.variables) c.image.ensures c.in-Ok.ensures;
+      watches = subst (AreWatchesFor c.in_ok-core.core.core.program cell) (sym c.deref.ensures.value) (subst (λ (u : Units). AreWatchesFor u cell watches) c.image-2.ensures c.in-Ok-watches_for.ensures);
+    }
 
 pub returns-then-all-len-clause-untold : goal.returns-then-all-len-clause-untold
 returns-then-all-len-clause-untold c =

@@ -11,13 +11,13 @@ use Rattle.hep_history.proofs.InRuns.{none_past, run_after}
 use Rattle.hep_history.proofs.Turns.{run_cut, run_whole}
 use Rattle.hep_machine.specs.declared.event.Entry.{Entry}
 use Rattle.hep_machine.specs.Words.{Units, progress_after}
-use Rattle.hep_sites.specs.Variables.{AreVariablesOf}
 use Rattle.hep_traces.specs.Traces.{trace_from}
 use Rattle.hep_turns.specs.Making.{HasMade}
 use Rattle.hep_turns.specs.Pages.{shown_on}
 use Rattle.hep_turns.proofs.Left.{of-same, replaying, trace-end}
 use Rattle.hep_turns.proofs.Lined.{AreAlike, alike-of, cells-made, cut-impossible, made-run, program-made, trace-run}
 use Rattle.hep_turns.proofs.telling.tell_entries.Goals.{In-Some}
+use Rattle.hep_turns.specs.Tellers.{CanTell}
 use Rattle.hep_turns.proofs.telling.tell_entries.Goals as goal
 
 pub loop-at-init : goal.loop-at-init
@@ -59,8 +59,8 @@ next-made c from first =
     let at : max c.loop-at.at c.args.made ≡ from = omega (arith, first) in
     subst (HasMade c.loop-at.core.core (first_of c.args.entries.now)) at c.loop-at.invariant.made
 
-pub tell_run-requires-clause-variables : goal.tell_run-requires-clause-variables
-tell_run-requires-clause-variables c = subst (λ (u : Units). AreVariablesOf u c.args.teller.now.variables.now) (sym c.loop-at.invariant.same) c.requires.variables
+pub tell_run-requires-clause-teller : goal.tell_run-requires-clause-teller
+tell_run-requires-clause-teller c = subst (λ (u : Units). CanTell u c.args.teller.now) (sym c.loop-at.invariant.same) c.requires.teller
 
 pub tell_run-requires-clause-replaying : goal.tell_run-requires-clause-replaying
 tell_run-requires-clause-replaying c =

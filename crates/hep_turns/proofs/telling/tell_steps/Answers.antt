@@ -5,11 +5,11 @@ use Rattle.hep_history.specs.Replays.{most_entries, standing}
 use Rattle.hep_history.proofs.Turns.{one, steps_end, steps_more}
 use Rattle.hep_machine.specs.declared.event.Entry.{Entry}
 use Rattle.hep_machine.specs.Words.{AreSteps, Units}
-use Rattle.hep_sites.specs.Variables.{AreVariablesOf}
 use Rattle.hep_traces.specs.Traces.{steps_text}
 use Rattle.hep_turns.specs.Making.{progress_of, shown_lines}
 use Rattle.hep_turns.specs.Pages.{shown_on}
 use Rattle.hep_turns.proofs.Along.{all-left, count-left, shown-end, shown-on, still-replaying}
+use Rattle.hep_turns.specs.Tellers.{CanTell}
 use Rattle.hep_turns.proofs.telling.tell_steps.Goals as goal
 
 pub loop-init : goal.loop-init
@@ -23,9 +23,9 @@ loop-init c =
       told = ap (λ (n : ℕ). c.args.text.now.items ++ shown_lines line.shown (steps_text core.program (shown_on c.args.teller.now.page.now).cell line.number line.process (progress_of core) n)) (sym (all-left c.args.steps));
     }
 
-pub tell_shown-requires-clause-variables : goal.tell_shown-requires-clause-variables
-tell_shown-requires-clause-variables c =
-    subst (λ (u : Units). AreVariablesOf u c.args.teller.now.variables.now) (sym (ap (λ (x : CoreValue). x.program) c.loop.invariant.made)) c.requires.variables
+pub tell_shown-requires-clause-teller : goal.tell_shown-requires-clause-teller
+tell_shown-requires-clause-teller c =
+    subst (λ (u : Units). CanTell u c.args.teller.now) (sym (ap (λ (x : CoreValue). x.program) c.loop.invariant.made)) c.requires.teller
 
 pub tell_shown-requires-clause-replaying : goal.tell_shown-requires-clause-replaying
 tell_shown-requires-clause-replaying c =

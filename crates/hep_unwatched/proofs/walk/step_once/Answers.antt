@@ -4,7 +4,7 @@ use Rattle.hep_moves.specs.Moves.{CanGoOn, Goes}
 use Rattle.hep_quick.specs.Made.{IsTabled}
 use Rattle.hep_quick.proofs.Onward.{as-many-cells, with-more-room}
 use Rattle.hep_quick.proofs.Steps.{goes-on}
-use Rattle.hep_counting.proofs.walk.step.Goals as goal
+use Rattle.hep_unwatched.proofs.walk.step_once.Goals as goal
 
 pub returns-then-made-eq1-clause-moved : goal.returns-then-made-eq1-clause-moved
 returns-then-made-eq1-clause-moved c =
