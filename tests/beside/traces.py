@@ -192,10 +192,16 @@ class Process(machine.Process):
         is_else = isinstance(unit.statements[division].form, tree.Else)
         return unit.executable(division + 1) if is_else else division
 
+    def passed(self, node, subscripts):
+        touched = self.touched
+        try:
+            return super().passed(node, subscripts)
+        finally:
+            # (what is passed isn't accessed, also where that is a fault)
+            self.touched = touched
+
     def bound(self, name, nodes):
         activation = yield from super().bound(name, nodes)
-        # (what is passed isn't accessed)
-        self.touched = frozenset()
         self.note(f"calls {name} as {activation.number}")
         return activation
 
