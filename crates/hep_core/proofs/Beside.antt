@@ -303,7 +303,7 @@ cancelled-good old id (Err (committing.Stopped stop)) new is = good-itself old n
 cancelled-good old id (Err committing.Stale) new is = good-itself old new is.2
 cancelled-good old id (Err committing.NoMemory) new is = absurd is
 
-last-ticket : (id : TicketId) (out : List TicketId) → has_ticket id (out ++ id ∷ []) ≡ true
+pub last-ticket : (id : TicketId) (out : List TicketId) → has_ticket id (out ++ id ∷ []) ≡ true
 last-ticket id [] = ap (λ b. b || false) (ap (λ b. b && nat_eq id.number id.number) (eq-eqb id.process id.process refl) ∙ eq-eqb id.number id.number refl)
 last-ticket id (t ∷ ts) = ap (λ b. (nat_eq t.process id.process && nat_eq t.number id.number) || b) (last-ticket id ts) ∙ or-true (nat_eq t.process id.process && nat_eq t.number id.number) where
   or-true : (b : Bool) → (b || true) ≡ true

@@ -16,4 +16,6 @@ pub mod Underway
 pub mod Exits
 pub mod Idle
 pub mod Beside
+pub mod AtOnce
+pub mod InPlace
 pub mod Commons

@@ -56,6 +56,22 @@ home-again p (t ∷ ts) = elim (cases_eq t.process p) [
   | inr other ↦ rw (ne_eqb t.process p other, ne_eqb t.process p other) (home-again p ts)
 ]
 
+-- without one that isn't out it is the same
+pub without-home : (p : ℕ) (out : List TicketId) → is_out p out ≡ false → without_process p out ≡ out
+without-home p [] home = refl
+without-home p (t ∷ ts) home = elim (cases_Bool (nat_eq t.process p)) [
+  | inl same ↦ absurd cc
+  | inr other ↦ rw other (ap (λ rest. t ∷ rest) (without-home p ts (rw other at home)))
+]
+
+-- a ticket more of one that isn't out, and without it again
+pub home-left : (p : ℕ) (id : TicketId) (out : List TicketId) → id.process ≡ p → is_out p out ≡ false → without_process p (out ++ id ∷ []) ≡ out
+home-left p id [] own home = rw (eq-eqb id.process p own) refl
+home-left p id (t ∷ ts) own home = elim (cases_Bool (nat_eq t.process p)) [
+  | inl same ↦ absurd cc
+  | inr other ↦ rw other (ap (λ rest. t ∷ rest) (home-left p id ts own (rw other at home)))
+]
+
 -- where nobody is out, all that are ready are free
 pub all_free : (ps : List ℕ) (out : List TicketId) → out ≡ [] → filter (λ p. not (is_out p out)) ps ≡ ps
 all_free ps out none = ap (λ ts. filter (λ p. not (is_out p ts)) ps) none ∙ whole ps where

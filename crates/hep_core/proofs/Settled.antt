@@ -1,18 +1,24 @@
 -- Where the processes of a core are, once constants that stood ahead of one are operands; and a place has one start.
-use Rattle.std.proofs.Common.{◌≡◌, ◌≢◌, ◌<◌, ◌≤◌, ◌-◌, ℕ, zero, suc, List, [], ◌∷◌, ◌++◌, map, drop, length, Option, Some, None, refl, sym, ap, ◌∙◌, subst, arith, slice_get, slice_set}
+use Rattle.std.proofs.Common.{◌≡◌, ◌≢◌, ◌<◌, ◌≤◌, ◌+◌, ◌-◌, ℕ, zero, suc, List, [], ◌∷◌, ◌++◌, map, drop, length, Option, Some, None, refl, sym, ap, ◌∙◌, subst, arith, slice_get, slice_set}
+use Rattle.std.proofs.lemmas.List.{append-nil}
 use Rattle.std.proofs.lemmas.Option.{none-some, same_Some}
 use Rattle.hep_machine.specs.Words.{Units, Value, numbered, with_numbered}
 use Rattle.hep_code.specs.declared.instruction.Instruction.{Instruction}
 use Rattle.hep_code.specs.declared.instruction.Instruction.TheVariants.{Push}
-use Rattle.hep_code.specs.Words.{IsPastPushes, left_to_do}
+use Rattle.hep_code.specs.Words.{IsPastPushes, left_to_do, values_ahead}
+use Rattle.hep_private.specs.Own as private
+use Rattle.hep_private.specs.Own.{Own, Values, begun, pushed_ahead, values_at}
+use Rattle.hep_private.specs.Recorded.{if_room, made_ahead, next_made}
 use Rattle.hep_proc.specs.Stacks.{Stack, stack_with}
 use Rattle.hep_taking.specs.Segments.{Start}
 use Rattle.hep_step.specs.Effects.{effect_ahead}
 use Rattle.hep_step.specs.Simulation.{unit_arrays, unit_code}
 use Rattle.hep_state.specs.declared.machine.Machine.{Machine}
-use Rattle.hep_state.specs.Words.{HasLevels, IsEffectOf, IsItsTurn, IsSameButTop, IsTopRunning, IsTurning, Snapshot, TurnOf, frame_under, top_frame}
+use Rattle.hep_state.specs.Words.{HasLevels, IsEffectOf, IsItsTurn, IsSameButTop, IsTopRunning, IsTurning, Snapshot, TurnOf, frame_under, snapshot_of, top_frame, turn_settled}
 use Rattle.hep_state.proofs.Taken.{ahead-simulated}
+use Rattle.hep_state.proofs.Tops.{settled}
 use Rattle.hep_taking.specs.Levels.{start_in}
+use Rattle.hep_taking.proofs.Runs.{left-same, past-here}
 use Rattle.hep_taking.proofs.Standing.{its-turn, turns}
 use Rattle.hep_core.specs.Places.{IsHere, Place, place_on, places_of}
 
@@ -84,6 +90,50 @@ ahead-there t turning runs past = by_ahead (drop t.level.index (unit_code t.prog
 pub here-at : {program : Units} {p : ℕ} {m : Machine} (turn : IsItsTurn program p m) → IsTopRunning (its-turn turn) (turns turn) → IsPastPushes (unit_code program turn.living.level.unit) turn.living.level.index
     → IsHere program (place_in program turn.living) (start_in turn.living)
 here-at turn runs past = record { unit = refl; left = refl; values = refl; past = past; inside = ahead-there (its-turn turn) (turns turn) runs past }
+
+-- ---- behind the constants that stand ahead of a process
+
+module _ {program : Units} {p : ℕ} {m : Machine} (turn : IsItsTurn program p m) (tops : (t : TurnOf) → t.program ≡ program → (turning : IsTurning t) → IsTopRunning t turning) where
+  abbrev code : List Instruction
+  code = unit_code program turn.living.level.unit
+
+  abbrev pub start-ahead : Start
+  start-ahead =
+      record {
+        unit = turn.living.level.unit;
+        index = turn.living.level.index + values_ahead (drop turn.living.level.index code);
+        operands = turn.living.operands ++ pushed_ahead (drop turn.living.level.index code);
+        values = values_at (snapshot_of m).arena.contents (frame_under (snapshot_of m).nodes turn.living.level.key).first;
+      }
+
+  pub here-ahead : IsHere program (place_in program turn.living) start-ahead
+  here-ahead =
+      let left = left-same code turn.living.operands turn.living.level.index in
+      let past = past-here code turn.living.operands turn.living.level.index in
+      let t = turn_settled (its-turn turn) start-ahead.operands start-ahead.index in
+      let turning : IsTurning t = settled (turns turn) start-ahead.operands start-ahead.index (λ k work stands. record { fits = stands.fits; rest = stands.rest; same = stands.same ∙ sym left }) in
+      record { unit = refl; left = left; values = refl; past = past; inside = ahead-there t turning (tops t refl turning) past }
+
+-- there the same step comes next
+module _ (cells : List ℕ) (code : List Instruction) (operands : List Value) (index : ℕ) (values : Values) where
+  abbrev put : Own
+  put = private.settled code (begun index operands values)
+
+  none : (pushed_ahead (drop put.index code) ≡ []) × (values_ahead (drop put.index code) ≡ 0)
+  none = by_ahead (drop put.index code) refl where
+    by_ahead : (is : List Instruction) → drop put.index code ≡ is → (pushed_ahead is ≡ []) × (values_ahead is ≡ 0)
+    by_ahead [] e = (refl, refl)
+    by_ahead (Push v ∷ is) e = absurd (past-here code operands index v (got-there code put.index (Push v) is e))
+    by_ahead (_ ∷ is) e = (refl, refl)
+
+  settled-again : private.settled code put ≡ put
+  settled-again =
+      let at : put.index + values_ahead (drop put.index code) ≡ put.index = omega (arith, none.1) in
+      let having : put.operands ++ pushed_ahead (drop put.index code) ≡ put.operands = ap (λ vs. put.operands ++ vs) none.0 ∙ append-nil put.operands in
+      λ i. record put { index = at i; operands = having i }
+
+  pub next-again : next_made cells code put ≡ next_made cells code (begun index operands values)
+  next-again = ap (λ (o : Own). if_room cells o (made_ahead cells o (drop o.index code))) settled-again
 
 -- ---- a place has one start
 

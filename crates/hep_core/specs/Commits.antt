@@ -6,20 +6,22 @@ use Rattle.hep_image.specs.Private.{private_cells}
 use Rattle.hep_step.specs.Simulation.{unit_code}
 use Rattle.hep_private.specs.declared.record.Record.{Record}
 use Rattle.hep_private.specs.Own.{Values, begun}
-use Rattle.hep_private.specs.Recorded.{recorded}
+use Rattle.hep_private.specs.Recorded.{next_made, recorded}
 use Rattle.hep_taking.specs.TicketId.{TicketId}
 use Rattle.hep_taking.specs.Segments.{IsComputed, IsKept, IsMadeOf, SegmentValue, Start, TicketValue}
 use Rattle.hep_state.specs.Words.{HasNoGap}
 use Rattle.hep_taking.specs.Levels.{ticket_of}
 use Rattle.hep_taking.specs.OwnCells.{own_cells_of}
+pub use Rattle.hep_taking.specs.Turning.{are_private}
 use Rattle.hep_core.specs.Places.{IsWhere, Placed, with_core}
-use Rattle.hep_core.specs.Value.{CoreValue, HasNoStop, IsChoice, IsFree, core_after_choice, state_of}
+use Rattle.hep_core.specs.Value.{CoreValue, HasNoStop, IsChoice, IsFree, core_after_choice, next_ready_of, state_of}
 use Rattle.hep_core.specs.declared.fault.ChooseFault.{ChooseFault}
 use Rattle.hep_core.specs.declared.fault.ChooseFault.TheVariants as choosing
 use Rattle.hep_core.specs.declared.fault.CommitFault.{CommitFault}
 use Rattle.hep_core.specs.declared.fault.CommitFault.TheVariants as committing
 use Rattle.hep_core.specs.declared.stop.ChoiceStop.TheVariants.{ArenaFull, StepLimit}
 use Rattle.hep_core.specs.declared.stop.Turn.{Turn}
+use Rattle.hep_core.specs.Going.{AreChoices}
 use Rattle.hep_core.specs.Tickets.{has_ticket, is_out, without_process}
 
 -- the core in which p isn't out any more
@@ -121,12 +123,6 @@ state_along core p n = run_from core.program (state_of core) (replicate n p)
 abbrev pub HasSteps : CoreValue → ℕ → ℕ → CoreValue → Type 0
 HasSteps old p n new = AreSteps old.program (state_of old) (replicate n p) × (new ≡ core_after_choice old p n (state_along old p n))
 
--- so many steps that come next at a start are private
-abbrev pub are_private : Units → Start → ℕ → Bool
-are_private program start n =
-    is_some (
-    recorded (private_cells (unit_at program start.unit)) (unit_code program start.unit) n (begun start.index start.operands start.values))
-
 -- the step behind those of the segment isn't private, and was made
 abbrev pub IsMadeBehind : CoreValue → Start → SegmentValue → Turn → CoreValue → Type 0
 IsMadeBehind old start s turn new =
@@ -163,6 +159,49 @@ IsCommitted old s (Err committing.Stale) new = HasNoStop old.core × (IsGood old
 IsCommitted old s (Err committing.NoMemory) new =
     IsGood old s × (length old.core.history < old.core.limit)
     × (s.records ≡ [] → HasNoGap old.core.program old.core.cells (schedule_of old.core.history) s.id.process → ⊥) × (new ≡ old)
+
+-- ---- turns in one
+
+-- p is at a start from which no private step comes, whatever the cells of its activation are
+abbrev pub StandsAlone : Placed → ℕ → Type 0
+StandsAlone old p =
+    (start : Start) × IsWhere old p start
+    × ((values : Values)
+    → next_made (private_cells (unit_at old.core.program start.unit)) (unit_code old.core.program start.unit) (begun start.index start.operands values)
+    ≡ None)
+
+-- p made so many private steps as a segment has, one at least, which come next at a start, and the next one, or left that out as a commit does
+abbrev pub IsMovedBehind : CoreValue → Start → SegmentValue → ℕ → CoreValue → Type 0
+IsMovedBehind old start s n new =
+    IsNextOf old s start × (0 < length s.records)
+    × (IsMadeBehind (core_after_return old s.id.process) start s (record { steps = n; blocked = false }) new
+    ⊎ IsLeftOut (core_after_return old s.id.process) start s (record { steps = n; blocked = false }) new)
+
+-- so with the segment of whichever ticket of p
+abbrev pub HasMovedBehind : Placed → ℕ → ℕ → Placed → Type 0
+HasMovedBehind old p n new =
+    (start : Start) × IsWhere old p start
+    × ((id : TicketId) → id.process ≡ p → (s : SegmentValue) × (s.id ≡ id) × IsMovedBehind old.core start s n new.core)
+
+-- p was chosen once where no private step comes next, and only moved; or private steps and the next one were made
+abbrev pub HasMovedAtOnce : Placed → ℕ → ℕ → Placed → Type 0
+HasMovedAtOnce old p n new =
+    ((n ≡ 1) × StandsAlone old p × AreChoices p old.core 1 new.core)
+    ⊎ ((length old.core.history < old.core.limit) × HasMovedBehind old p n new)
+
+-- the process that comes next was checked out, and a segment of its ticket was committed, which made so many steps. It has a step, unless no
+-- private one comes next
+pub record IsTurnAtOnce (old : Placed) (p n : ℕ) (new : Placed) : Type 0 where
+  pub next : next_ready_of old.core ≡ Some p
+  pub ticket : TicketValue
+  pub out : Placed
+  pub checked_out : IsCheckedOut old p (Ok ticket) out
+  pub segment : SegmentValue
+  pub of : segment.id ≡ ticket.id
+  pub alone : segment.records ≡ [] → StandsAlone old p
+  pub committed : IsCommitted out segment (Ok (record { steps = n; blocked = false })) new
+
+-- ---- tickets that are cancelled
 
 -- what came of cancelling this ticket
 abbrev pub IsCancelled : Placed → TicketId → Result (Unit {0}) CommitFault → Placed → Type 0

@@ -11,7 +11,7 @@ pub mod stop;
 
 pub use fault::{ChooseFault, CommitFault, NewFault};
 pub use hep_machine::{Entry, Fault, Kind};
-pub use hep_taking::{Offer, Segment, Ticket, TicketId, compute};
+pub use hep_taking::{Ahead, Offer, Segment, Ticket, TicketId, compute};
 pub use hep_views::{Listed, Whereabouts};
 pub use scheduler::Core;
-pub use stop::{ChoiceStop, Turn, Turns, Verdict};
+pub use stop::{ChoiceStop, Turn, TurnAtOnce, Turns, Verdict};

@@ -10,19 +10,20 @@ ghost use Rattle.hep_unwatched.specs.Watches.{PassesFrom};
 ghost use Rattle.hep_views.specs.Standing.{whereabouts_by};
 ghost use Rattle.hep_core.specs.Value.{state_of, opening_of, IsNewFault, IsChoice, HasNoStop, IsStop};
 ghost use Rattle.hep_core.specs.Commits.{AreGoodStill, IsCancelled, IsCheckedOut, IsCommitted, IsFresh, IsGivenTo, IsOutBy, IsStoppedWhereFull};
-ghost use Rattle.hep_core.specs.Commits.{IsWhetherNext, LeavesNext, core_after_return, most_tickets};
+ghost use Rattle.hep_core.specs.Commits.{HasMovedAtOnce, HasMovedBehind, IsTurnAtOnce, IsWhetherNext, LeavesNext, StandsAlone, core_after_return, most_tickets};
 ghost use Rattle.hep_core.specs.Invariant.{AreLiving};
 ghost use Rattle.hep_core.specs.Places.{places_of, with_core};
 ghost use Rattle.hep_core.specs.declared.stop.Verdict.TheVariants.{Waiting};
 ghost use Rattle.hep_core.specs.Tickets.{has_ticket, is_out};
 ghost use Rattle.hep_taking.specs.Offers.{IsKnownOffer, offered};
+ghost use Rattle.hep_taking.specs.Segments.{most_records};
 ghost use Rattle.hep_core.specs.Going.{AreChoices, AreMoves, AreRounds, AreTurns, CanMove, IsAtRest, IsTurnOnce, entries_along};
 ghost use Rattle.hep_core.specs.Value.{IsIdle, common_cell, free_of, next_listed_of, verdict_of, next_ready_of, ready_of};
 
 use crate::fault::{ChooseFault, CommitFault, NewFault};
 use crate::lists::{note_ready, note_step, wake_after};
 use crate::noting::{made_steps, note_more, stop_where};
-use crate::stop::{ChoiceStop, Turn, Turns, Verdict};
+use crate::stop::{ChoiceStop, Turn, TurnAtOnce, Turns, Verdict};
 use hep_blocked::laws::{
     lists_are_those_of_definitions, lists_go_along_with_purges, lists_go_along_with_steps,
     openings_list_nobody, waiting_processes_are_listed,
@@ -37,9 +38,10 @@ use hep_state::laws::tops_are_running;
 use hep_state::{Machine, TurnFault, Turned, fits};
 use hep_taking::laws::{restored_machines_are_as_before, tickets_have_what_is_read};
 use hep_taking::{
-    Offer, OwnCells, Owned, Saved, Segment, Table, Tabled, Ticket, TicketId, comes_next, go_on,
-    is_next_private, others_leave_what_is_read, own_cells_of, private_steps_are_turns, rests,
-    segments_depend_on_reads, start, tables_of, take_private,
+    Ahead, Offer, OwnCells, Owned, Prepared, Saved, Segment, Table, Tabled, Ticket, TicketId,
+    comes_next, go_on, is_next_private, others_leave_what_is_read, own_cells_of,
+    private_steps_are_turns, rests, segments_depend_on_reads, stands_alone, start, tables_of,
+    take_private, turn_by_table, turn_in_place,
 };
 use hep_tickets::come_back;
 use hep_unwatched::{Watch, pass_on};
@@ -734,6 +736,153 @@ impl Core {
                 Err(CommitFault::NoMemory)
             }
         }
+    }
+
+    /// A turn of the process that comes next, in one: what its check-out, and the commit of a segment of its ticket, come to. Its private steps are made
+    /// in place, up to so many, 1,023 at most. It is made only where the step behind them is one that only moves the process, or where they are 1,023 and
+    /// that is private too and left out; and without private steps only where none comes next, by the tables of private code. None where no turn was
+    /// made, and nothing has changed then.
+    ///
+    /// Such turns cost less than a check-out and a commit: there is no ticket, no cell is copied for it, and of memory there is only room for the entry and
+    /// for what a process has for itself.
+    pub fn turn_at_once(&mut self, ahead: &Ahead<'_>, most: u32) -> Option<TurnAtOnce>
+        requires program { ahead.now ≡ self.old.core.program }
+        requires few { most ≤ most_records }
+        ensures made { IfSome result (λ turn. IsTurnAtOnce self.old turn.process turn.steps self.new) }
+        ensures none { IfNone result (self.new ≡ self.old) }
+        ensures kept { AreGoodStill self.old self.new }
+    {
+        if let Some(_stop) = self.stop() {
+            return None;
+        }
+        if self.given() == u64::MAX {
+            return None;
+        }
+        let p = self.next_ready()?;
+        if self.is_out(p) || !self.lives(p) {
+            return None;
+        }
+        let steps = self.move_at_once(ahead, p, most);
+        if steps == 0 {
+            return None;
+        }
+        self.count_ticket();
+        Some(TurnAtOnce { process: p, steps })
+    }
+
+    // A turn of process p in one, as `turn_at_once` has it, without a ticket, and how many steps it has: 0 where there is none.
+    #[inline(always)]
+    fn move_at_once(&mut self, ahead: &Ahead<'_>, p: u64, most: u32) -> u32
+        requires program { ahead.now ≡ self.old.core.program }
+        requires home { is_out p self.old.core.out ≡ false }
+        requires going { HasNoStop self.old.core }
+        requires lives { living (state_of self.old.core) p ≢ None }
+        requires few { most ≤ most_records }
+        ensures made { 0 < result → HasMovedAtOnce self.old p result self.new }
+        ensures none { result ≡ 0 → self.new ≡ self.old }
+        ensures others { 0 < result → LeavesNext p self.old self.new }
+    {
+        if self.stands_alone(ahead, p) {
+            return self.move_once(p);
+        }
+        if most == 0 {
+            return 0;
+        }
+        self.move_behind(ahead, p, most)
+    }
+
+    // No private step of process p, which lives, comes next, by the tables of private code. It may be false where none does.
+    #[inline(always)]
+    fn stands_alone(&self, ahead: &Ahead<'_>, p: u64) -> bool
+        requires program { ahead.now ≡ self.now.core.program }
+        requires going { HasNoStop self.now.core }
+        requires lives { living (state_of self.now.core) p ≢ None }
+        ensures { result ≡ true → StandsAlone self.now p }
+    {
+        self.image.is_runnable();
+        tops_are_running();
+        stands_alone(&self.machine, ahead, p)
+    }
+
+    // Makes private steps of process p in place, up to so many, and the step behind them, as one entry, and says how many these are: 0 where that can't
+    // be done so, and nothing has changed then. Who waits and who is ready stays.
+    #[inline(never)]
+    fn move_behind(&mut self, ahead: &Ahead<'_>, p: u64, most: u32) -> u32
+        requires program { ahead.now ≡ self.old.core.program }
+        requires home { is_out p self.old.core.out ≡ false }
+        requires going { HasNoStop self.old.core }
+        requires lives { living (state_of self.old.core) p ≢ None }
+        requires few { most ≤ most_records }
+        ensures made { 0 < result → (length self.old.core.history < self.old.core.limit) × HasMovedBehind self.old p result self.new }
+        ensures none { result ≡ 0 → self.new ≡ self.old }
+        ensures others { 0 < result → LeavesNext p self.old self.new }
+    {
+        self.image.is_runnable();
+        views_are_of_states();
+        lists_go_along_with_steps();
+        tops_are_running();
+        others_leave_what_is_read();
+        segments_depend_on_reads();
+        if self.limit <= self.history.len() {
+            return 0;
+        }
+        if self.history.reserve(1).is_err() {
+            return 0;
+        }
+        self.machine.settle(&self.image, p);
+        let prepared = Prepared {
+            image: &self.image,
+            tables: &self.tables,
+            own: &self.own,
+            ahead,
+        };
+        let steps = turn_in_place(&mut self.machine, &prepared, &mut self.saved, p, most);
+        if steps == 0 {
+            return 0;
+        }
+        note(&mut self.history, p, steps);
+        steps
+    }
+
+    // Chooses process p once, where its table has the step, which only moves it, and says how often that was: never, and nothing has changed then, where
+    // it isn't so, or there was no room for the entry. Who waits and who is ready stays.
+    #[inline(always)]
+    fn move_once(&mut self, p: u64) -> u32
+        requires home { is_out p self.old.core.out ≡ false }
+        requires going { HasNoStop self.old.core }
+        requires lives { living (state_of self.old.core) p ≢ None }
+        ensures chosen { 0 < result → (result ≡ 1) × AreChoices p self.old.core 1 self.new.core }
+        ensures none { result ≡ 0 → self.new ≡ self.old }
+        ensures others { 0 < result → LeavesNext p self.old self.new }
+    {
+        self.image.is_runnable();
+        views_are_of_states();
+        lists_go_along_with_steps();
+        others_leave_what_is_read();
+        segments_depend_on_reads();
+        if self.limit <= self.history.len() {
+            return 0;
+        }
+        if self.history.reserve(1).is_err() {
+            return 0;
+        }
+        let tabled = Tabled {
+            image: &self.image,
+            tables: &self.tables,
+        };
+        if turn_by_table(&mut self.machine, &tabled, p) == 0 {
+            return 0;
+        }
+        note(&mut self.history, p, 1);
+        1
+    }
+
+    // One more ticket was given.
+    fn count_ticket(&mut self)
+        requires { self.old.core.given < most_tickets }
+        ensures { self.new ≡ with_core self.old (record self.old.core { given = self.old.core.given + 1 }) }
+    {
+        self.given += 1;
     }
 
     // The tickets that are out, which aren't any more.

@@ -49,6 +49,15 @@ set-again [] i x y = refl
 set-again (z ∷ xs) zero x y = refl
 set-again (z ∷ xs) (suc i) x y = ap (λ ys. z ∷ ys) (set-again xs i x y)
 
+-- ---- where no step was made, values that stood ahead may be operands, and nothing else has changed
+
+pub unmoved : (code : List Instruction) (arrays : List Array) (first : ℕ) (s : step.Snapshot) (n : ℕ) (t : step.Snapshot) → n ≡ 0 → Goes code arrays first s n t → IsSettledTo code s t
+unmoved code arrays first _ _ _ z (stays s) = record { contents = refl; same = refl }
+unmoved code arrays first _ _ _ z (settles s n t u gone is) =
+    let before = unmoved code arrays first s n t z gone in
+    record { contents = is.contents ∙ before.contents; same = is.same ∙ before.same }
+unmoved code arrays first _ _ _ z (steps s n t u gone is) = absurd (omega (arith, z))
+
 -- ---- a process on its way
 
 module _ (t : TurnOf) where

@@ -1,6 +1,6 @@
 //! Turns of a process, one after the other, by which it lives on and which fill and empty no cell.
 ghost use Rattle.std.specs.Prelude.{◌≡◌, ◌+◌, ◌^◌, ◌≤◌, ◌<◌, false, true};
-ghost use Rattle.hep_state.specs.Words.{LeavesOthers, LivesOn, snapshot_of};
+ghost use Rattle.hep_state.specs.Words.{IsSameButTop, LeavesOthers, LivesOn, snapshot_of};
 ghost use Rattle.hep_going.specs.Gone.{CanTakeTurns, HasNoMoveAhead, MakesMoves};
 
 use crate::top::{go_top, step_top, top_rests};
@@ -25,12 +25,14 @@ fn move_on(machine: &mut Machine, tabled: &Tabled<'_>, p: u64, most: u64) -> u64
     go_top(process, &mut machine.frames, tabled, most)
 }
 
-// A turn of process p, which lives, whose step its table has and only moves it, or none.
+/// One turn of process p at most, which lives, and how many they were: its step, where its table has that and it only moves p. Where none was made,
+/// no more has changed than that values which stood ahead of p are operands of it.
 #[inline(always)]
-fn move_once(machine: &mut Machine, tabled: &Tabled<'_>, p: u64) -> u64
+pub fn turn_by_table(machine: &mut Machine, tabled: &Tabled<'_>, p: u64) -> u64
     requires { CanTakeTurns tabled.now p machine.old }
     ensures gone { MakesMoves tabled.now.image.now p machine.old result machine.new }
     ensures few { result ≤ 1 }
+    ensures none { result ≡ 0 → IsSameButTop tabled.now.image.now p (snapshot_of machine.old) (snapshot_of machine.new) }
     ensures lives { LivesOn p 0 machine.old machine.new }
 {
     tabled.image.is_runnable();
@@ -78,7 +80,7 @@ fn go_once(machine: &mut Machine, tabled: &Tabled<'_>, p: u64) -> u64
     ensures halted { machine.new.halted ≡ false }
     ensures others { LeavesOthers p (snapshot_of machine.old) (snapshot_of machine.new) }
 {
-    let made = move_once(machine, tabled, p);
+    let made = turn_by_table(machine, tabled, p);
     if made == 1 {
         return made;
     }

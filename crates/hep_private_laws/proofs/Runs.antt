@@ -63,7 +63,7 @@ module _ (code : List Instruction) (operands : List Value) (index : ℕ) where
       ∙ (ap (λ is. map Push operands ++ (map Push (pushed_ahead ahead) ++ is)) (drop-plus code index (values_ahead ahead))
       ∙ ap (λ is. map Push operands ++ is) (front-is ahead)))
 
-  past-here : IsPastPushes code (index + values_ahead ahead)
+  pub past-here : IsPastPushes code (index + values_ahead ahead)
   past-here v e = past-front ahead v (sym (get-drop code index (values_ahead ahead)) ∙ e)
 
 -- ---- moves

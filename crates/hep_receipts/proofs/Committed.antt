@@ -2,7 +2,7 @@
 use Rattle.std.proofs.Common.{◌≡◌, ℕ, zero, suc, Bool, true, false, List, [], ◌∷◌, ◌++◌, length, Result, Ok, Err, IsErr, IfErr, OnErr, inl, inr, ap, subst, sym, ◌∙◌}
 use Rattle.std.specs.Result.{IsErrAnd}
 use Rattle.std.proofs.lemmas.Result.{err_from_is_err_and}
-use Rattle.hep_core.specs.Commits.{IsCommitted, IsTakenBy, core_after_return}
+use Rattle.hep_core.specs.Commits.{IsCommitted, IsTakenBy, IsTurnAtOnce, core_after_return}
 use Rattle.hep_core.specs.Places.{Placed}
 use Rattle.hep_core.specs.Value.{CoreValue, IsTurn}
 use Rattle.hep_core.specs.declared.fault.CommitFault.{CommitFault}
@@ -10,7 +10,8 @@ use Rattle.hep_core.specs.declared.fault.CommitFault.TheVariants.{NoMemory, Stal
 use Rattle.hep_core.specs.declared.stop.Turn.{Turn}
 use Rattle.hep_machine.specs.declared.event.Entry.{Entry}
 use Rattle.hep_private.specs.declared.record.Record.{Record}
-use Rattle.hep_segments.specs.Segments.{SegmentValue, Start}
+use Rattle.hep_segments.specs.declared.ticket.TicketId.{TicketId}
+use Rattle.hep_segments.specs.Segments.{SegmentValue, Start, TicketValue}
 
 -- ---- one entry more
 
@@ -44,6 +45,15 @@ module _ (old new : Placed) (s : SegmentValue) where
   no-entry (Stopped stop) (inr (inr (good, room, none, gap, at, same))) = ap (λ (x : Placed). x.core.history) same
   no-entry Stale (going, bad, same) = ap (λ (x : Placed). x.core.history) same
   no-entry NoMemory (good, room, gap, same) = ap (λ (x : Placed). x.core.history) same
+
+-- ---- turns in one
+
+pub at-once-entry : (old new : Placed) (p n : ℕ) → IsTurnAtOnce old p n new → HasEntry old.core p n new.core
+at-once-entry old new p n turn =
+    let given = turn.checked_out.3 in
+    let process : turn.segment.id.process ≡ p = ap (λ (id : TicketId). id.process) (turn.of ∙ ap (λ (t : TicketValue). t.id) given.2) in
+    let history : turn.out.core.history ≡ old.core.history = ap (λ (x : Placed). x.core.history) given.3 in
+    one-entry turn.out new turn.segment (record { steps = n; blocked = false }) turn.committed ∙ (λ i. history i ++ record { process = process i; steps = n } ∷ [])
 
 -- ---- faults that are passed on
 

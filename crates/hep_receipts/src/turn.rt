@@ -1,11 +1,12 @@
 //! A worker's turn, under the lock.
-ghost use Rattle.std.specs.Prelude.{◌≡◌, IfErr, IfOk, OnErr, Err};
-ghost use Rattle.hep_core.specs.Commits.{IsCommitted};
+ghost use Rattle.std.specs.Prelude.{◌≡◌, ◌≤◌, IfErr, IfNone, IfOk, IfSome, OnErr, Err};
+ghost use Rattle.hep_core.specs.Commits.{IsCommitted, IsTurnAtOnce};
 ghost use Rattle.hep_core.specs.Offers.{IsKnownOffer, offered};
+ghost use Rattle.hep_segments.specs.Segments.{most_records};
 ghost use Rattle.hep_receipts.specs.Turns.{HasCommitted, IsReceipt};
 
 use crate::receipt::Receipt;
-use hep_core::{CommitFault, Core, Offer, Segment};
+use hep_core::{Ahead, CommitFault, Core, Offer, Segment};
 
 /// Commits a worker's segment. The receipt names the one entry that the history has more.
 ///
@@ -43,6 +44,24 @@ pub fn offer_turn(core: &mut Core, worker: u32, offer: &Offer<'_>) -> Result<Rec
     Ok(Receipt {
         index,
         process,
+        worker,
+        steps: turn.steps,
+    })
+}
+
+/// A turn of the process that comes next, in one, by `Core::turn_at_once`. None where no turn was made, and nothing has changed then.
+pub fn turn_at_once(core: &mut Core, worker: u32, ahead: &Ahead<'_>, most: u32) -> Option<Receipt>
+    requires program { ahead.now ≡ core.old.core.program }
+    requires few { most ≤ most_records }
+    ensures named { IfSome result (λ receipt. IsReceipt core.old.core.history worker receipt core.new.core.history) }
+    ensures made { IfSome result (λ receipt. IsTurnAtOnce core.old receipt.process receipt.steps core.new) }
+    ensures none { IfNone result (core.new ≡ core.old) }
+{
+    let index = core.history().len();
+    let turn = core.turn_at_once(ahead, most)?;
+    Some(Receipt {
+        index,
+        process: turn.process,
         worker,
         steps: turn.steps,
     })

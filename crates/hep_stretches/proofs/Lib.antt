@@ -1,6 +1,7 @@
 mod Again
 mod Copies
 mod Ended
+mod InPlace
 pub mod Onward
 pub mod Plain
 pub mod Reached

@@ -8,4 +8,6 @@ pub mod Restored
 pub mod Stretched
 pub mod Standing
 pub mod Taken
+mod InPlace
+mod TurnInPlace
 mod Worked

@@ -116,7 +116,7 @@ module _ (first : ℕ) where
 
 -- ---- stretches
 
-count-of : (private : List ℕ) (code : List Instruction) (n : ℕ) (own : Own) (records : List Record) (end : Own) → recorded private code n own ≡ Some (records, end) → length records ≡ n
+pub count-of : (private : List ℕ) (code : List Instruction) (n : ℕ) (own : Own) (records : List Record) (end : Own) → recorded private code n own ≡ Some (records, end) → length records ≡ n
 count-of private code zero own records end is = sym (ap (λ (r : List Record × Own). length r.0) (same_Some ([], own) (records, end) is))
 count-of private code (suc n) own records end is =
     let made = first-of private code n own records end is in

@@ -1,5 +1,6 @@
 pub use Rattle.hep_stretches.specs.TicketId
 pub use Rattle.hep_stretches.specs.Segments
+pub use Rattle.hep_stretches.specs.Stretches
 pub use Rattle.hep_private_laws.specs.UnitTables
 pub use Rattle.hep_private_laws.specs.Going
 pub use Rattle.hep_private_laws.specs.Beside
@@ -9,5 +10,6 @@ pub mod Levels
 pub mod Saved
 pub mod Tops
 pub mod Taking
+pub mod Turning
 pub mod Fitting
 pub mod Offers

@@ -42,6 +42,11 @@ pub record CanTake (program : Units) (s : SegmentValue) (m : Machine) : Type 0 w
 abbrev pub HasTakenIn : SegmentValue → Machine → Machine → Type 0
 HasTakenIn s old new = (levels : HasLevels (snapshot_of old) s.id.process) → snapshot_of new ≡ snapshot_taken levels s
 
+-- so many private steps of a process were made, which are those of a segment of whichever ticket of it
+abbrev pub HasMadePrivate : Units → ℕ → Machine → ℕ → Machine → Type 0
+HasMadePrivate program p old n new =
+    (id : TicketId) → id.process ≡ p → (s : SegmentValue) × (s.id ≡ id) × (length s.records ≡ n) × CanTake program s old × HasTakenIn s old new
+
 -- ---- what is kept of a process
 
 -- this is what it has for itself

@@ -12,7 +12,8 @@ use Rattle.hep_proc.specs.declared.process.Local.{Local}
 use Rattle.hep_proc.specs.declared.process.Process.{Process}
 use Rattle.hep_proc.specs.Nodes.{nodes_of}
 use Rattle.hep_proc.specs.Stacks.{HoldsOfTop, stack_of, stack_with}
-use Rattle.hep_stretches.specs.Segments.{SegmentValue, Start}
+use Rattle.hep_stretches.specs.Segments.{IsMadeFrom, SegmentValue, Start, segment_value}
+use Rattle.hep_stretches.specs.TicketId.{TicketId}
 use Rattle.hep_state.specs.Words.{IsThere, frame_under}
 use Rattle.hep_taking.specs.OwnCells.{AreOwnCells, own_cells_of}
 use Rattle.hep_taking.specs.Saved.{SavedValue, saved_value, slots_of, with_slots}
@@ -31,6 +32,10 @@ start_under frames l operands =
 abbrev pub HoldsOfStart : Process → Frames → (Start → Type 0) → Type 0
 HoldsOfStart q frames IsSo = HoldsOfTop q (λ l _ operands _. IsSo (start_under frames l operands))
 
+-- the segment with these records of a ticket that begins there
+abbrev pub segment_from : TicketId → Start → List Record → ℕ → List Value → SegmentValue
+segment_from id start records index left = segment_value id start.unit start.index start.operands records index left
+
 -- it has other operands, and is at another index
 abbrev pub StandsWith : Process → List Value → ℕ → Process → Type 0
 StandsWith old left index new =
@@ -40,6 +45,16 @@ StandsWith old left index new =
 abbrev pub StoresIn : Process → Frames → List Record → Frames → Type 0
 StoresIn q old records new =
     HoldsOfTop q (λ l _ _ _. new.arena.contents ≡ contents_with (first_under old l) old.arena.contents records)
+
+-- so many private steps of its top activation were made in its frame, which lead there
+pub record MakesPrivate (program : Units) (old : Process) (before : Frames) (n : ℕ) (new : Process) (after : Frames) : Type 0 where
+  pub records : List Record
+  pub left : List Value
+  pub index : ℕ
+  pub count : length records ≡ n
+  pub made : (id : TicketId) → HoldsOfStart old before (λ start. IsMadeFrom program start (segment_from id start records index left))
+  pub stack : StandsWith old left index new
+  pub cells : StoresIn old before records after
 
 -- its own cells got these slots
 abbrev pub RestoresCells : Units → Process → Frames → List Slot → Frames → Type 0

@@ -1,14 +1,16 @@
 //! The steps of what is committed in the machine of a core.
-ghost use Rattle.std.specs.Prelude.{◌≡◌, length};
+ghost use Rattle.std.specs.Prelude.{◌≡◌, ◌≤◌, IfNone, IfSome, length};
 ghost use Rattle.hep_private_laws.specs.Going.{MakesMoves};
+ghost use Rattle.hep_state.specs.Words.{IsItsTurn};
 ghost use Rattle.hep_taking.specs.Offers.{IsKnownOffer, offered};
 ghost use Rattle.hep_taking.specs.OwnCells.{AreOwnCells};
-ghost use Rattle.hep_taking.specs.Taking.{CanTake, HasTakenIn};
+ghost use Rattle.hep_taking.specs.Taking.{CanTake, HasMadePrivate, HasTakenIn};
 
 use crate::offer::Offer;
 use crate::own_cells::Owned;
-use crate::top::take;
+use crate::top;
 use hep_state::Machine;
+use hep_stretches::Ahead;
 
 /// Makes the steps of what is committed, which are the private ones that come next of its process, at once. Each is a step of the source
 /// machine, which fills and empties no storage unit, and makes and ends nothing. No memory is taken.
@@ -25,5 +27,31 @@ pub fn take_private(machine: &mut Machine, owned: &Owned<'_>, offer: &Offer<'_>)
     hep_private_laws::laws::private_steps_are_turns();
     let at = machine.place(offer.ticket().process);
     let process = &mut machine.processes[at];
-    take(process, &mut machine.frames, owned, offer)
+    top::take(process, &mut machine.frames, owned, offer)
+}
+
+/// Makes private steps of process p at once in the cells of its frame, no more than `most`, and says how many. Each is a step of the source machine,
+/// which fills and empties no storage unit, and makes and ends nothing. No memory is taken.
+///
+/// `None` where the tables can't do it, as of a frame whose private scalars lie in more cells than they know; then all is as it was.
+pub fn make_private(
+    machine: &mut Machine,
+    owned: &Owned<'_>,
+    ahead: &Ahead<'_>,
+    p: u64,
+    most: u32,
+) -> Option<u32>
+    requires turn { IsItsTurn owned.now.image.now p machine.old }
+    requires ahead { ahead.now ≡ owned.now.image.now }
+    ensures few { IfSome result (λ n. n ≤ most) }
+    ensures taken { IfSome result (λ n. HasMadePrivate owned.now.image.now p machine.old n machine.new) }
+    ensures gone { IfSome result (λ n. MakesMoves owned.now.image.now p machine.old n machine.new) }
+    ensures none { IfNone result (machine.new ≡ machine.old) }
+    ensures others { machine.new ≡ record machine.old { frames = machine.new.frames; processes = machine.new.processes } }
+{
+    owned.image.is_runnable();
+    hep_private_laws::laws::private_steps_are_turns();
+    let at = machine.place(p);
+    let process = &mut machine.processes[at];
+    top::make_private(process, &mut machine.frames, owned, ahead, most)
 }

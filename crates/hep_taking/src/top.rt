@@ -1,24 +1,27 @@
 //! The top activation of a process.
-ghost use Rattle.std.specs.Prelude.{◌≡◌, ◌≤◌, ◌<◌, ◌↔◌, IsTrue, IfOk, OnOk, length, vec_len, vec_capacity};
+ghost use Rattle.std.specs.Prelude.{◌≡◌, ◌≤◌, ◌<◌, ◌↔◌, IsTrue, IfNone, IfOk, IfSome, OnOk, length, vec_len, vec_capacity};
 ghost use Rattle.hep_proc.specs.Stacks.{IsSameProcess};
+ghost use Rattle.hep_step.specs.Performed.{snapshot};
+ghost use Rattle.hep_stretches.specs.InPlace.{IsMadeInPlace};
 ghost use Rattle.hep_stretches.specs.Segments as segments;
 ghost use Rattle.hep_stretches.specs.Segments.{IsMadeFrom};
 ghost use Rattle.hep_taking.specs.Levels as levels;
 ghost use Rattle.hep_taking.specs.Offers.{IsKnownOffer, offered};
 ghost use Rattle.hep_taking.specs.OwnCells.{own_cells_of};
 ghost use Rattle.hep_taking.specs.Saved.{saved_in};
-ghost use Rattle.hep_taking.specs.Tops.{HoldsOfStart, IsFor, IsOwned, IsStanding, KeepsTop, RestoresCells, StandsWith, StoresIn};
+ghost use Rattle.hep_taking.specs.Tops.{HoldsOfStart, IsFor, IsOwned, IsStanding, KeepsTop, MakesPrivate, RestoresCells, StandsWith, StoresIn};
 
 use crate::offer::Offer;
 use crate::operands::{keep_operands, refill};
 use crate::own_cells::Owned;
 use crate::saving::Saved;
 use crate::slots::{keep_copies, keep_slots, put_over};
+use hep_arena::Arena;
 use hep_image::Image;
 use hep_proc::{Frames, Process};
 use hep_source::Value;
 use hep_state::place;
-use hep_stretches::{Place, Ticket, TicketId};
+use hep_stretches::{Ahead, InFrame, Place, Ticket, TicketId, make_in_place};
 use std::alloc::AllocError;
 
 /// The steps of what is committed are the private ones that come next of the activation, by an image.
@@ -138,6 +141,59 @@ pub(crate) fn take(process: &mut Process, frames: &mut Frames, owned: &Owned<'_>
     let (_, frame, _) = place(process, frames, owned.image);
     offer.store_over(&mut frames.arena, frame.first, owned);
     stand_with(process, offer.end_operands(), offer.end_index());
+}
+
+// Private steps of an activation are made in an arena, in the cells of its frame, no more than `most`, and how many they were. `None` where the
+// tables can't do it; then all is as it was.
+#[inline(always)]
+fn make_over(
+    activation: &InFrame<'_>,
+    arena: &mut Arena,
+    operands: &mut Vec<Value>,
+    index: &mut usize,
+    most: u32,
+) -> Option<u32>
+    ensures none { IfNone result ((arena.new ≡ arena.old) × (operands.new ≡ operands.old)) }
+    ensures few { IfSome result (λ n. n ≤ most) }
+    ensures made { IfSome result (λ n. IsMadeInPlace activation.now.ahead.now activation.now.unit activation.now.frame.first
+        (snapshot arena.old.contents operands.old.items index.old) n (snapshot arena.new.contents operands.new.items index.new)) }
+    ensures holes { arena.new.holes ≡ arena.old.holes }
+    ensures capacity { vec_capacity operands.old ≤ vec_capacity operands.new }
+{
+    make_in_place(activation, arena.slots_mut(), operands, index, most)
+}
+
+/// Private steps of the activation are made in the cells of its frame, no more than `most`, and how many they were. It is where they lead.
+///
+/// `None` where the tables can't do it; then all is as it was.
+pub(crate) fn make_private(
+    process: &mut Process,
+    frames: &mut Frames,
+    owned: &Owned<'_>,
+    ahead: &Ahead<'_>,
+    most: u32,
+) -> Option<u32>
+    requires standing { IsStanding owned.now.image.now process.old frames.old }
+    requires ahead { ahead.now ≡ owned.now.image.now }
+    ensures none { IfNone result ((process.new ≡ process.old) × (frames.new ≡ frames.old)) }
+    ensures few { IfSome result (λ n. n ≤ most) }
+    ensures made { IfSome result (λ n. MakesPrivate owned.now.image.now process.old frames.old n process.new frames.new) }
+    ensures nodes { frames.new.nodes ≡ frames.old.nodes }
+    ensures holes { frames.new.arena.holes ≡ frames.old.arena.holes }
+    ensures same { IsSameProcess process.old process.new }
+{
+    let (_, frame, mut index) = place(process, frames, owned.image);
+    let activation = InFrame {
+        ahead,
+        unit: process.top().unit,
+        frame,
+    };
+    let operands = &mut process.operands;
+    let Some(made) = make_over(&activation, &mut frames.arena, operands, &mut index, most) else {
+        return None;
+    };
+    process.stand_at(index);
+    Some(made)
 }
 
 /// What the activation had for itself is put back.

@@ -1,8 +1,8 @@
 -- What a call makes of a core that is shared.
-use Rattle.std.proofs.Common.{◌≡◌, ℕ, Result, Ok, Err, IfOk, IfErr, inl, inr, refl, ap}
+use Rattle.std.proofs.Common.{◌≡◌, ℕ, false, Result, Ok, Err, IfOk, IfErr, inl, inr, refl, ap}
 use Rattle.hep_segments.specs.declared.ticket.TicketId.{TicketId}
 use Rattle.hep_segments.specs.Segments.{SegmentValue, TicketValue}
-use Rattle.hep_core.specs.Commits.{IsCancelled, IsCheckedOut, IsCommitted}
+use Rattle.hep_core.specs.Commits.{IsCancelled, IsCheckedOut, IsCommitted, IsTurnAtOnce}
 use Rattle.hep_core.specs.Places.{Placed}
 use Rattle.hep_core.specs.Value.{CoreValue}
 use Rattle.hep_core.specs.declared.fault.ChooseFault.{ChooseFault}
@@ -10,13 +10,18 @@ use Rattle.hep_core.specs.declared.fault.ChooseFault.TheVariants as choosing
 use Rattle.hep_core.specs.declared.fault.CommitFault.{CommitFault}
 use Rattle.hep_core.specs.declared.fault.CommitFault.TheVariants as committing
 use Rattle.hep_receipts.specs.declared.receipt.Receipt.{Receipt}
-use Rattle.hep_receipts.specs.Shared.{IsOfOneRun, IsSharedFrom, committed, opened}
+use Rattle.hep_receipts.specs.Shared.{IsOfOneRun, IsSharedFrom, checked_out, committed, opened}
 use Rattle.hep_receipts.specs.Turns.{HasCommitted}
 
 pub turned : (opening : CoreValue) (old new : Placed) (s : SegmentValue) (r : Result Receipt CommitFault) → IsSharedFrom opening old
     → IfOk r (λ receipt. HasCommitted old s receipt new) → IfErr r (λ fault. IsCommitted old s (Err fault) new) → IsSharedFrom opening new
 turned opening old new s (Ok receipt) before made unmade = committed old new s (Ok made.0) before made.2
 turned opening old new s (Err fault) before made unmade = committed old new s (Err fault) before unmade
+
+-- a turn in one is a check-out and a commit
+pub turned-at-once : (opening : CoreValue) (old new : Placed) (p n : ℕ) → IsSharedFrom opening old → IsTurnAtOnce old p n new → IsSharedFrom opening new
+turned-at-once opening old new p n before turn =
+    committed turn.out new turn.segment (Ok (record { steps = n; blocked = false })) (checked_out old turn.out p (Ok turn.ticket) before turn.checked_out) turn.committed
 
 -- from any core on
 pub here : (old : Placed) → IsSharedFrom old.core old

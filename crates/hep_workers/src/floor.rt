@@ -17,7 +17,7 @@ use hep_core::{CommitFault, Core, Offer};
 use hep_image::Image;
 use hep_receipts::Log;
 use hep_reports::{Report, WorkOptions, close};
-use hep_segments::{Segment, Ticket};
+use hep_segments::{MOST_RECORDS, Segment, Ticket};
 use hep_stretches::{Ahead, Stretch, private_tables_of};
 use std::alloc::{AllocError, Global};
 use std::hint::spin_loop;
@@ -31,15 +31,23 @@ use std::thread::Threads;
 // So many private steps take longer than what is done under the lock beside them.
 const LONG: u32 = 256;
 
+// So many private steps a turn has at most that is made in one while others are busy: more are better made without the lock.
+const SHORT: u32 = 16;
+
+// So many turns are made one behind the other under the lock: some ten microseconds' worth while others are busy.
+const MOST_AT_ONCE: u32 = 128;
+
 // What the workers share.
 #[derive(Drop)]
 struct Floor<K: Whole> {
     core: Mutex<Tied<K>>,
     // Notified where a process is free for a worker that waits, and where the run is over.
     changed: Condvar,
-    // How many workers wait, and how many others have begun. They change under the lock.
+    // How many workers wait, and how many others have begun, which may be about to take the lock for the first time. Else they change under the lock.
     idle: AtomicU32,
     busy: AtomicU32,
+    // One of those that wait was notified, and there is a process for it. It changes under the lock.
+    called: AtomicBool,
     // The workers are to end. It is set under the lock, and never taken back.
     ended: AtomicBool,
 }
@@ -303,6 +311,7 @@ impl<K: Whole> Floor<K> {
             changed: Condvar::new(),
             idle: AtomicU32::new(0),
             busy: AtomicU32::new(0),
+            called: AtomicBool::new(false),
             ended: AtomicBool::new(false),
         }
     }
@@ -352,8 +361,8 @@ impl<K: Whole> Floor<K> {
         stand: Stand,
     ) -> Result<(), Halt<K>> {
         let mut stand = stand;
-        let core = self.core.lock(rt);
         self.busy.fetch_add(1, Ordering::SeqCst);
+        let core = self.core.lock(rt);
         if !self.check_out(rt, core, &mut stand, Pace::Apart)? {
             return Ok(());
         }
@@ -381,7 +390,8 @@ impl<K: Whole> Floor<K> {
         if !self.commit_all(&mut core, seat, hand, stand, made)? {
             return Ok(false);
         }
-        let pace = if made == 0 || long {
+        let at_once = !gate.is_asked() && self.turns_at_once(&mut core, known, seat, stand, long);
+        let pace = if made == 0 || long || at_once {
             Pace::Apart
         } else if waited {
             Pace::Crowded
@@ -446,6 +456,34 @@ impl<K: Whole> Floor<K> {
             return Ok(false);
         }
         Ok(true)
+    }
+
+    // Makes turns in one, up to so many, of whichever process comes next, until one can't be made so, and says whether one of them was long. While no other
+    // worker is busy they may have as many private steps as entries have; while others are, one that has just made a long stretch makes none, since another
+    // one is better made without the lock. The processes that were ready are ready still.
+    fn turns_at_once(
+        &self,
+        core: &mut Tied<K>,
+        known: &Known<'_, K>,
+        seat: &Seat<K>,
+        stand: &mut Stand,
+        after_long: bool,
+    ) -> bool {
+        let alone = self.busy.load(Ordering::SeqCst) == 1 && !self.called.load(Ordering::SeqCst);
+        if after_long && !alone {
+            return false;
+        }
+        let most = if alone { MOST_RECORDS as u32 } else { SHORT };
+        let mut long = false;
+        for _ in 0..MOST_AT_ONCE {
+            let steps = core.turn_at_once(seat, known, most);
+            if steps == 0 {
+                return long;
+            }
+            stand.turn = stand.turn.saturating_add(1);
+            long = long || LONG <= steps;
+        }
+        long
     }
 
     // Checks the process out again, though others may be free, and commits the stretch that follows. Nothing where it can't be checked out. False
@@ -545,6 +583,7 @@ impl<K: Whole> Floor<K> {
         });
         self.idle.fetch_sub(1, Ordering::SeqCst);
         self.busy.fetch_add(1, Ordering::SeqCst);
+        self.called.store(false, Ordering::SeqCst);
         (core, true)
     }
 
@@ -568,7 +607,10 @@ impl<K: Whole> Floor<K> {
     fn wake(&self, core: &Tied<K>, another: bool) {
         if self.is_over(core) {
             self.changed.notify_all();
-        } else if another && 0 < self.idle.load(Ordering::SeqCst) && core.next_ready().is_some() {
+        } else if self.idle.load(Ordering::SeqCst) == 0 || core.next_ready().is_none() {
+            self.called.store(false, Ordering::SeqCst);
+        } else if another {
+            self.called.store(true, Ordering::SeqCst);
             self.changed.notify_one();
         }
     }

@@ -14,6 +14,12 @@ pub trait Gate {
     fn segment(&self, worker: u32, turn: u64, image: &Image, ticket: &Ticket) -> Segment
         ensures { IsComputed image.now ticket.now result };
 
+    /// Whether it is to be asked for the segment of each turn. Where not, a worker may make turns before which no private step comes, of whichever process
+    /// comes next, one behind the other under the lock, and needs no segment for them.
+    fn is_asked(&self) -> bool {
+        true
+    }
+
     /// The same, in the place of an older segment, which is what workers ask for. A gate need not say how: it makes one, and puts it there.
     fn segment_into(
         &self,
@@ -64,6 +70,11 @@ pub trait Gate {
 pub struct NoGate;
 
 impl Gate for NoGate {
+    #[inline(always)]
+    fn is_asked(&self) -> bool {
+        false
+    }
+
     #[inline(always)]
     fn segment(&self, _worker: u32, _turn: u64, image: &Image, ticket: &Ticket) -> Segment {
         compute(image, ticket)

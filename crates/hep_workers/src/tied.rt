@@ -1,16 +1,17 @@
 //! What is under the lock, and the image beside it. They are known to be of one run, so a commit need not make the steps of a segment again; and
 //! the workers' receipts are known to be the entries of the core's history.
-ghost use Rattle.std.specs.Prelude.{◌≡◌, ◌≤◌, IfOk, ℕ, [], replicate, vec_len};
+ghost use Rattle.std.specs.Prelude.{◌≡◌, ◌≤◌, ◌<◌, IfOk, OnOk, ℕ, [], length, replicate, vec_capacity, vec_len};
 ghost use Rattle.std.specs.Coded.{Coded-set, codes};
 ghost use Rattle.hep_source.specs.contracts.expression.Expr as expression;
 ghost use Rattle.hep_core.specs.Value.{CoreValue, opening_of};
 ghost use Rattle.hep_core.specs.Offers.{IsKnownOffer};
 ghost use Rattle.hep_receipts.specs.Shared.{IsSharedFrom};
+ghost use Rattle.hep_segments.specs.Segments.{most_records};
 ghost use Rattle.hep_workers.specs.Faults.{HasGivenAll};
 ghost use Rattle.hep_workers.specs.Lists.{AreLogsOf, HasLeft, IsAtOpening, lists_of};
 
 use hep_core::{ChooseFault, CommitFault, Core, Offer, Ticket, Verdict};
-use hep_receipts::{Log, Receipt, offer_turn};
+use hep_receipts::{Log, Receipt, offer_turn, turn_at_once};
 use hep_stretches::Ahead;
 use std::alloc::{AllocError, Global};
 use std::marker::{Brand, PhantomData};
@@ -71,6 +72,25 @@ pub(crate) fn blank_lists(alloc: Global, workers: u32) -> Result<Vec<Vec<Receipt
         lists.push(Vec::new(alloc))?;
     }
     Ok(lists)
+}
+
+// Room for a receipt more: for four times as many where there is none, so that the list is seldom moved as it grows, or else for one.
+#[inline(always)]
+fn make_room(receipts: &mut Vec<Receipt>) -> Result<(), AllocError>
+    ensures items { receipts.new.items ≡ receipts.old.items }
+    ensures room { OnOk result (length receipts.new.items < vec_capacity receipts.new) }
+{
+    let count = receipts.len();
+    if count < receipts.capacity() {
+        return Ok(());
+    }
+    if receipts
+        .reserve(count.saturating_mul(3).saturating_add(1))
+        .is_ok()
+    {
+        return Ok(());
+    }
+    receipts.reserve(1)
 }
 
 /// The logs that the lists have become.
@@ -179,7 +199,7 @@ impl<K: Whole> Tied<K> {
     {
         let Tied { core, lists, of: _ } = self;
         let receipts = &mut lists[seat.number as usize - 1];
-        if receipts.reserve(1).is_err() {
+        if make_room(receipts).is_err() {
             return Err(CommitFault::NoMemory);
         }
         match offer_turn(core, seat.number, offer) {
@@ -188,6 +208,25 @@ impl<K: Whole> Tied<K> {
                 Ok(receipt)
             }
             Err(fault) => Err(fault),
+        }
+    }
+
+    /// A turn of a worker in one, of the process that comes next, with so many private steps at most, 1,023 at most, and how many steps it has. Its receipt
+    /// is put behind the worker's others. 0 where no turn was made.
+    pub(crate) fn turn_at_once(&mut self, seat: &Seat<K>, known: &Known<'_, K>, most: u32) -> u32
+        requires { most ≤ most_records }
+    {
+        let Tied { core, lists, of: _ } = self;
+        let receipts = &mut lists[seat.number as usize - 1];
+        if make_room(receipts).is_err() {
+            return 0;
+        }
+        match turn_at_once(core, seat.number, &known.ahead, most) {
+            Some(receipt) => {
+                receipts.push_reserved(receipt);
+                receipt.steps
+            }
+            None => 0,
         }
     }
 

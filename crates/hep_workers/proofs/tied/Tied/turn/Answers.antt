@@ -20,7 +20,7 @@ invariant_of-self g c =
       shared = was.shared;
       many = was.many;
       logged =
-          kept g.K.Whole.workers h h was.lists.items (seat.number - 1) c.index_mut-receipts.result.now c.reserve.new.self lt c.index_mut-receipts.ensures.value refl c.reserve.ensures.items was.logged;
+          kept g.K.Whole.workers h h was.lists.items (seat.number - 1) c.index_mut-receipts.result.now c.make_room.new.receipts lt c.index_mut-receipts.ensures.value refl c.make_room.ensures.items was.logged;
     }
 
 -- a turn is made
@@ -42,7 +42,7 @@ invariant_of-self-in-Ok g c =
       many = was.many;
       logged =
           noted g.K.Whole.workers was.core.core.history new.core.history was.lists.items (seat.number - 1) c.index_mut-receipts.result.now c.push_reserved.new.self lt
-          c.index_mut-receipts.ensures.value seat.number c.reserve.new.self c.in-Ok.receipt number c.in-Ok.ensures.named c.reserve.ensures.items c.push_reserved.ensures.items was.logged;
+          c.index_mut-receipts.ensures.value seat.number c.make_room.new.receipts c.in-Ok.receipt number c.in-Ok.ensures.named c.make_room.ensures.items c.push_reserved.ensures.items was.logged;
     }
 
 -- none is made
@@ -62,6 +62,6 @@ invariant_of-self-in-Err-1 g c =
       shared = ∥∥₁_map was.shared (λ before. turned g.K.Whole.opening was.core new s c.offer_turn.result before told.made told.unmade);
       many = was.many;
       logged =
-          kept g.K.Whole.workers was.core.core.history new.core.history was.lists.items (seat.number - 1) c.index_mut-receipts.result.now c.reserve.new.self lt c.index_mut-receipts.ensures.value
-          c.in-Err.ensures.kept c.reserve.ensures.items was.logged;
+          kept g.K.Whole.workers was.core.core.history new.core.history was.lists.items (seat.number - 1) c.index_mut-receipts.result.now c.make_room.new.receipts lt c.index_mut-receipts.ensures.value
+          c.in-Err.ensures.kept c.make_room.ensures.items was.logged;
     }

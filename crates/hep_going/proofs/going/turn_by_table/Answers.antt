@@ -6,21 +6,22 @@ use Rattle.hep_proc.specs.Nodes.{nodes_of}
 use Rattle.hep_proc.specs.declared.frames.Frames.{Frames}
 use Rattle.hep_image.specs.Image.{most_cells}
 use Rattle.hep_step.specs.Performed as step
+use Rattle.hep_step.specs.Simulation.{unit_arrays, unit_code}
 use Rattle.hep_proc.specs.declared.process.Local.{Local}
 use Rattle.hep_state.specs.declared.machine.Machine.{Machine}
 use Rattle.hep_proc.specs.declared.process.Process.{Process}
 use Rattle.hep_proc.specs.Stacks.{Stack, stack_of, stack_with}
 use Rattle.hep_proc.proofs.Levels.{last-there}
-use Rattle.hep_state.specs.Words.{AreNumbered, IsAfter, TurnOf, snapshot_of, turn_with, with_contents, with_stack}
+use Rattle.hep_state.specs.Words.{AreNumbered, IsAfter, TurnOf, node_under, snapshot_of, turn_with, with_contents, with_stack}
 use Rattle.hep_state.proofs.Beside.{beside-set}
 use Rattle.hep_state.proofs.Moved.{top-node}
 use Rattle.hep_state.proofs.Processes.{IsAt, kept-set, process-at, room-moved, stacks-set}
 use Rattle.hep_state.proofs.Taken.{inside}
 use Rattle.hep_state.proofs.Tops.{turning}
 use Rattle.hep_state.proofs.Unchanged.{machine-of, rooms-of, rooms-set}
-use Rattle.hep_going.proofs.Turns.{HasLaws, can-go, come-so, frame-there}
-use Rattle.hep_going.proofs.going.move_once.Goals.{After-tops_are_running}
-use Rattle.hep_going.proofs.going.move_once.Goals as goal
+use Rattle.hep_going.proofs.Turns.{HasLaws, can-go, come-so, frame-there, unmoved}
+use Rattle.hep_going.proofs.going.turn_by_table.Goals.{After-tops_are_running}
+use Rattle.hep_going.proofs.going.turn_by_table.Goals as goal
 
 pub place-at-requires : goal.place-at-requires
 place-at-requires c = record { numbers = c.requires.turn.after.2.numbers; living = c.requires.turn.living }
@@ -96,6 +97,27 @@ returns-clause-gone c cells choices h =
       come.gone,
       machine-of program cells come.after _ (subst (IsAfter program cells come.after) (sym shown) come.turns.after) (
           rooms-set program cells old _ r it done.same.number refl refl refl (room-moved program q r l a.next ls vs a.left ws it.stack a.stack done.same.room (h.room c.place-at.result q it.there)) (rooms-of program cells choices old h)),
+    )
+
+pub returns-clause-none : goal.returns-clause-none
+returns-clause-none c zero levels =
+    let program = c.args.tabled.now.image.now in
+    let old = c.args.machine.now in
+    let p = c.args.p in
+    let r = c.step_top.new.process in
+    let done = c.step_top.ensures in
+    let l = levels.level in
+    let ls = levels.below in
+    let ws = levels.pending in
+    let it = process-at old p c.requires.turn.after.2.numbers c.place-at.ensures levels.kept c.index_mut-process.ensures.value in
+    let a = done.gone l ls levels.operands ws it.stack in
+    let contents = c.step_top.new.frames.arena.contents in
+    let settled = unmoved (unit_code program l.unit) (unit_arrays program l.unit) (node_under (nodes_of old.frames.nodes) l.key).first (step.snapshot old.frames.arena.contents levels.operands l.index) c.step_top.result (step.snapshot contents a.left a.next) zero a.gone in
+    let shown = shown-now old p r c.step_top.new.frames l ls a.left ws a.next c.requires.turn.after.2.numbers it done.same.number a.stack done.holes done.nodes in (
+      a.left,
+      a.next,
+      shown ∙ ap (λ cs. with_stack (with_contents (snapshot_of old) cs) p (record l { index = a.next } ∷ ls) a.left ws) settled.contents,
+      settled.same,
     )
 
 pub returns-clause-lives : goal.returns-clause-lives

@@ -1,0 +1,8 @@
+use Rattle.std.proofs.Common.{inl, inr, refl}
+use Rattle.hep_core.proofs.scheduler.Core.move_at_once.Goals as goal
+
+pub returns-then-stands_alone-clause-made : goal.returns-then-stands_alone-clause-made
+returns-then-stands_alone-clause-made c some = let moved = c.move_once.ensures.chosen some in inl (moved.0, c.if-stands_alone.ensures refl, moved.1)
+
+pub returns-clause-made : goal.returns-clause-made
+returns-clause-made c some = inr (c.move_behind.ensures.made some)

@@ -1,0 +1,70 @@
+use Rattle.std.proofs.Common.{◌≡◌, ◌+◌, ◌-◌, ◌<◌, length, arith, refl, sym, ap, subst, ◌∙◌}
+use Rattle.std.proofs.Math.Logic.{∥∥₁_map}
+use Rattle.hep_core.specs.Places.{Placed}
+use Rattle.hep_receipts.proofs.Shared.{of-one-run}
+use Rattle.hep_receipts.specs.Shared.{IsSharedFrom}
+use Rattle.hep_workers.proofs.Lists.{kept, noted}
+use Rattle.hep_workers.proofs.Shared.{here, turned-at-once}
+use Rattle.hep_workers.proofs.tied.Tied.turn_at_once.Goals as goal
+
+pub turn_at_once-requires-clause-program : goal.turn_at_once-requires-clause-program
+turn_at_once-requires-clause-program g c = c.args.known.now.is ∙ sym c.args.self.now.program
+
+-- room is refused
+pub invariant_of-self : goal.invariant_of-self
+invariant_of-self g c =
+    let was = c.args.self.now in
+    let seat = c.args.seat.now in
+    let lt : seat.number - 1 < length was.lists.items = omega (arith, seat.some, seat.few, was.many, was.lists.ok.0) in
+    let h = was.core.core.history in
+    record {
+      program = was.program;
+      cells = was.cells;
+      limit = was.limit;
+      shared = was.shared;
+      many = was.many;
+      logged =
+          kept g.K.Whole.workers h h was.lists.items (seat.number - 1) c.index_mut-receipts.result.now c.make_room.new.receipts lt c.index_mut-receipts.ensures.value refl c.make_room.ensures.items was.logged;
+    }
+
+-- a turn is made
+pub invariant_of-self-in-Some : goal.invariant_of-self-in-Some
+invariant_of-self-in-Some g c =
+    let was = c.args.self.now in
+    let seat = c.args.seat.now in
+    let new = c.turn_at_once.new.core in
+    let p = c.in-Some.receipt.process in
+    let n = c.in-Some.receipt.steps in
+    let made = c.in-Some.ensures.made in
+    let one = of-one-run was.core.core new (turned-at-once was.core.core was.core new p n (here was.core) made) in
+    let lt : seat.number - 1 < length was.lists.items = omega (arith, seat.some, seat.few, was.many, was.lists.ok.0) in
+    let number : seat.number ≡ seat.number - 1 + 1 = omega (arith, seat.some) in
+    record {
+      program = one.program ∙ was.program;
+      cells = one.cells ∙ was.cells;
+      limit = one.limit ∙ was.limit;
+      shared = ∥∥₁_map was.shared (λ before. turned-at-once g.K.Whole.opening was.core new p n before made);
+      many = was.many;
+      logged =
+          noted g.K.Whole.workers was.core.core.history new.core.history was.lists.items (seat.number - 1) c.index_mut-receipts.result.now c.push_reserved.new.self lt
+          c.index_mut-receipts.ensures.value seat.number c.make_room.new.receipts c.in-Some.receipt number c.in-Some.ensures.named c.make_room.ensures.items c.push_reserved.ensures.items was.logged;
+    }
+
+-- none is made
+pub invariant_of-self-in-None : goal.invariant_of-self-in-None
+invariant_of-self-in-None g c =
+    let was = c.args.self.now in
+    let seat = c.args.seat.now in
+    let new = c.turn_at_once.new.core in
+    let same : new ≡ was.core = c.in-None.ensures.none in
+    let lt : seat.number - 1 < length was.lists.items = omega (arith, seat.some, seat.few, was.many, was.lists.ok.0) in
+    record {
+      program = ap (λ (v : Placed). v.core.program) same ∙ was.program;
+      cells = ap (λ (v : Placed). v.core.cells) same ∙ was.cells;
+      limit = ap (λ (v : Placed). v.core.limit) same ∙ was.limit;
+      shared = ∥∥₁_map was.shared (λ before. subst (IsSharedFrom g.K.Whole.opening) (sym same) before);
+      many = was.many;
+      logged =
+          kept g.K.Whole.workers was.core.core.history new.core.history was.lists.items (seat.number - 1) c.index_mut-receipts.result.now c.make_room.new.receipts lt c.index_mut-receipts.ensures.value
+          (ap (λ (v : Placed). v.core.history) same) c.make_room.ensures.items was.logged;
+    }
