@@ -7,6 +7,7 @@ use Rattle.hep_state.specs.declared.machine.Machine.{Machine}
 use Rattle.hep_state.specs.Words.{HasLevels, HasNoGap, Snapshot, snapshot_of}
 use Rattle.hep_taking.specs.Levels.{start_in}
 use Rattle.hep_taking.specs.Taking.{HasTakenIn, IsNextPrivateIn}
+use Rattle.hep_taking.proofs.Behind.{levels-taken, private-taken}
 use Rattle.hep_taking.proofs.Taken.{AreTurnsIn}
 use Rattle.hep_core.specs.Commits.{HasSteps, IsCommitted, IsGood, IsGoodAt, IsLeftOut, IsMadeBehind, IsOutBy, are_private, core_after_return, state_along}
 use Rattle.hep_core.specs.Invariant.{CoreInvariant, core_value, placed_value}
@@ -17,7 +18,7 @@ use Rattle.hep_core.specs.declared.scheduler.Core.TheInside.{Inside}
 use Rattle.hep_core.specs.declared.stop.ChoiceStop.TheVariants.{StepLimit}
 use Rattle.hep_core.specs.declared.stop.Turn.{Turn}
 use Rattle.hep_core.proofs.Behind.{taken-by}
-use Rattle.hep_core.proofs.Committing.{AreTopsRunning, DependOnReads, IsSettledIn, levels-taken, next-of, private-taken, where-now}
+use Rattle.hep_core.proofs.Committing.{AreTopsRunning, DependOnReads, IsSettledIn, next-of, where-now}
 
 module _ (i : Inside) (s : SegmentValue) (out : IsOutBy (core_value i) s) (m : Machine) (is : IsSettledIn i s.id.process m) (tops : AreTopsRunning i.image) (law : DependOnReads) (made : IsMadeFrom i.image (start_in is.turn.living) s) (n : ℕ)
     (many : length s.records ≡ suc n) where

@@ -2,17 +2,13 @@
 use Rattle.std.proofs.Common.{◌≡◌, ◌≢◌, ◌⊎◌, ℕ, suc, ◌+◌, ◌-◌, ◌^◌, ◌<◌, ◌≤◌, ◌&&◌, ◌||◌, Bool, true, false, not, nat_eq, nat_lt, List, [], ◌∷◌, ◌++◌, length, Option, Some, None, is_some, refl, sym, ap, ◌∙◌, subst, arith}
 use Rattle.hep_machine.specs.declared.event.Entry.{Entry}
 use Rattle.hep_machine.specs.Histories.{most_steps}
-use Rattle.hep_machine.specs.Words.{Layout, Progress, Units, is_held, is_number_among, is_waiting, layout_of, living, progress_after, progress_after_step, numbered, run, schedule_of, step}
+use Rattle.hep_machine.specs.Words.{Layout, Progress, Units, is_held, is_number_among, is_waiting, layout_of, living, progress_after, progress_after_step, run, schedule_of, step}
 use Rattle.hep_cells.specs.declared.want.Want.{Want}
 use Rattle.hep_blocked.specs.Listing.{AreListed, GoesAlong, GoesAlongEmptying, HasEmptied, awake_by, awake_where, is_noted, is_woken, is_woken_where}
 use Rattle.hep_blocked.specs.Rolls.{KeepsRoll, Roll, want_of}
 use Rattle.hep_entries.specs.Entries.{Kept}
 use Rattle.hep_taking.specs.Going.{HasGone, MakesMoves}
-use Rattle.hep_taking.proofs.Calls.{set-numbered}
 use Rattle.hep_private.specs.declared.record.Record.{Record}
-use Rattle.hep_code.specs.Words.{deepest}
-use Rattle.hep_step.specs.Simulation.{unit_code}
-use Rattle.hep_proc.specs.declared.process.Local.{Local}
 use Rattle.hep_proc.specs.Stacks.{stack_with}
 use Rattle.hep_purging.specs.Purged.{have_cell}
 use Rattle.hep_taking.specs.Segments.{IsMadeFrom, SegmentValue, Start}
@@ -24,13 +20,11 @@ use Rattle.hep_state.proofs.Beside.{beside-again, beside-with}
 use Rattle.hep_taking.specs.declared.saving.Saved.{Saved}
 use Rattle.hep_state.proofs.Histories.{after-history}
 use Rattle.hep_state.proofs.Numbered.{length-stacks}
-use Rattle.hep_state.proofs.Taken.{room-ahead}
-use Rattle.hep_state.proofs.Unchanged.{levels-same}
 use Rattle.hep_taking.specs.Levels.{snapshot_taken, start_in}
 use Rattle.hep_taking.specs.OwnCells.{own_cells_of}
 use Rattle.hep_taking.specs.Saved.{SavedValue, saved_of, snapshot_restored}
 use Rattle.hep_taking.specs.Taking.{HasRestored, HasTakenIn}
-use Rattle.hep_taking.proofs.Standing.{turns}
+use Rattle.hep_taking.proofs.Behind.{AreAsBefore, levels-left, levels-taken, unit-left, unit-taken}
 use Rattle.hep_views.specs.Seen.{machine_view}
 use Rattle.hep_core.specs.Commits.{IsLeftOut, IsMadeBehind, IsTakenBy, core_after_return}
 use Rattle.hep_core.specs.Invariant.{CoreInvariant, core_value}
@@ -41,7 +35,7 @@ use Rattle.hep_core.specs.declared.stop.ChoiceStop.{ChoiceStop}
 use Rattle.hep_core.specs.declared.stop.Turn.{Turn}
 use Rattle.hep_core.proofs.Going.{GoAlong}
 use Rattle.hep_core.proofs.Kept.{AreSeen, IsNoWait, activations-are, as-many, emptied-to-lists, halted-is, processes-are, unturned-kept, unturned-view}
-use Rattle.hep_core.proofs.Committing.{IsSettledIn, levels-taken, unit-taken}
+use Rattle.hep_core.proofs.Committing.{IsSettledIn}
 use Rattle.hep_core.proofs.Private.{few-now, kept-after}
 
 -- ---- the machine, once the values ahead are operands
@@ -113,35 +107,6 @@ module _ (law : GoAlong) (i : Inside) (k : CoreInvariant i) (p n : ℕ) (m : Mac
       }
 
 -- ---- the machine, once what its process had for itself is put back
-
--- what the law of put back machines says
-abbrev pub AreAsBefore : Type 0
-AreAsBefore =
-    (program : Units) (m new : Snapshot) (p : ℕ) (s : SegmentValue) (levels : HasLevels m p) (after : HasLevels new p) → IsMadeFrom program (start_in levels) s → IsSameButTop program p (snapshot_taken levels s) new
-    → snapshot_restored after (own_cells_of program levels.level.unit) (saved_of levels (own_cells_of program levels.level.unit)) ≡ m
-
--- where a process is that has other operands and another index at its top
-pub levels-left : (program : Units) {old new : Snapshot} {p : ℕ} (levels : HasLevels old p) → IsSameButTop program p old new → HasLevels new p
-levels-left program {old} {new} {p} levels top =
-    let came = top levels in
-    let before = stack_with levels.level levels.below levels.operands levels.pending in
-    let after = stack_with (record levels.level { index = came.1 }) levels.below came.0 levels.pending in
-    record {
-      level = record levels.level { index = came.1 };
-      below = levels.below;
-      operands = came.0;
-      pending = levels.pending;
-      kept = ap (λ (m : Snapshot). numbered m.processes p) came.2 ∙ set-numbered old.processes p before after levels.kept;
-    }
-
--- it runs the same unit
-pub unit-left : (program : Units) {old new : Snapshot} {p : ℕ} (levels : HasLevels old p) (after : HasLevels new p) → IsSameButTop program p old new → after.level.unit ≡ levels.level.unit
-unfolding levels-left
-unit-left program levels after top = ap (λ (l : Local). l.unit) (levels-same after (levels-left program levels top)).0
-
--- and has no more operands than its unit has at most
-pub few-operands : {program : Units} {p : ℕ} {m : Machine} (turn : IsItsTurn program p m) → length turn.living.operands ≤ deepest (unit_code program turn.living.level.unit)
-few-operands turn = omega (arith, room-ahead (turns turn))
 
 module _ (law : AreAsBefore) (program : Units) (p : ℕ) (s : SegmentValue) (before taken after : Machine) (levels : HasLevels (snapshot_of before) p) (made : IsMadeFrom program (start_in levels) s) (is : snapshot_of taken ≡ snapshot_taken levels s)
     (top : IsSameButTop program p (snapshot_of taken) (snapshot_of after)) where

@@ -1,5 +1,5 @@
 -- What is asked of the machine of a core at a commit, and what it answers.
-use Rattle.std.proofs.Common.{◌≡◌, ◌≢◌, ◌≤◌, ◌↔◌, IsTrue, ℕ, suc, Bool, true, false, true≢false, List, length, Some, None, Option, is_some, refl, sym, ap, ◌∙◌, subst, arith, replicate}
+use Rattle.std.proofs.Common.{◌≡◌, ◌≢◌, ◌≤◌, ◌↔◌, IsTrue, ℕ, Bool, true, false, true≢false, List, Some, None, Option, is_some, refl, sym, ap, ◌∙◌, subst, arith, replicate}
 use Rattle.std.proofs.lemmas.Option.{same_Some}
 use Rattle.hep_machine.specs.declared.event.Entry.{Entry}
 use Rattle.hep_machine.specs.Words.{State, Units, living, main_among, numbered, run, schedule_of, state_after, unit_at}
@@ -7,22 +7,22 @@ use Rattle.hep_taking.proofs.Calls.{set-numbered}
 use Rattle.hep_code.specs.Words.{IsPastPushes}
 use Rattle.hep_image.specs.Image.{most_cells}
 use Rattle.hep_image.specs.Private.{private_cells}
-use Rattle.hep_private.specs.Own.{Own, Values, begun, values_at}
+use Rattle.hep_private.specs.Own.{Own, Values}
 use Rattle.hep_private.specs.declared.record.Record.{Record}
-use Rattle.hep_private.specs.Recorded.{next_made, recorded}
-use Rattle.hep_taking.specs.Gone.{HaveGone, contents_with, own_of}
+use Rattle.hep_private.specs.Recorded.{recorded}
+use Rattle.hep_taking.specs.Gone.{HaveGone, own_of}
 use Rattle.hep_proc.specs.Stacks.{stack_with}
-use Rattle.hep_taking.specs.Segments.{IsKept, IsMadeFrom, IsMadeOf, SegmentValue, Start, is_next_private}
+use Rattle.hep_taking.specs.Segments.{IsKept, IsMadeFrom, IsMadeOf, SegmentValue, Start}
 use Rattle.hep_step.specs.Simulation.{unit_code}
 use Rattle.hep_state.specs.declared.machine.Machine.{Machine}
-use Rattle.hep_state.specs.Words.{HasLevels, HasSettledTop, IsAfter, IsItsTurn, IsMachineAfter, IsSameButTop, IsTopRunning, IsTurning, LeavesOthers, Snapshot, TurnOf, snapshot_of}
+use Rattle.hep_state.specs.Words.{HasLevels, HasSettledTop, IsItsTurn, IsMachineAfter, IsSameButTop, IsTopRunning, IsTurning, LeavesOthers, Snapshot, TurnOf, snapshot_of}
 use Rattle.hep_state.proofs.Beside.{beside-top}
-use Rattle.hep_taking.specs.Levels.{first_of, snapshot_taken, start_in}
+use Rattle.hep_taking.specs.Levels.{start_in}
 use Rattle.hep_taking.specs.Taking.{IsMadeIn, IsNextPrivateIn}
 use Rattle.hep_taking.proofs.Standing.{its-turn, turns}
-use Rattle.hep_taking.proofs.Taken.{AreTurnsIn, gone}
+use Rattle.hep_taking.proofs.Taken.{AreTurnsIn}
 use Rattle.hep_views.proofs.Waiting.{living-top}
-use Rattle.hep_core.specs.Commits.{IsNextOf, IsWhetherNext, are_private}
+use Rattle.hep_core.specs.Commits.{IsNextOf, IsWhetherNext}
 use Rattle.hep_core.specs.Invariant.{CoreInvariant, core_value, placed_value}
 use Rattle.hep_core.specs.Places.{IsHere, IsWhere, places_of}
 use Rattle.hep_core.specs.Value.{HasNoStop, state_of}
@@ -153,30 +153,3 @@ module _ (i : Inside) (p : ℕ) (m : Machine) (is : IsSettledIn i p m) (tops : A
     whether-next false made =
         subst (λ q. (start : Start) → IsWhere (placed_value i) q start → IsNextOf (core_value i) s start → ⊥) (sym own) (
         λ start at next. true≢false (sym ((made-in false made).1 (made-of (subst (IsNextOf (core_value i) s) (nowhere-else start at) next)))))
-
--- ---- whether the next step is private behind those of a segment
-
-pub levels-taken : {m : Snapshot} {p : ℕ} (levels : HasLevels m p) (s : SegmentValue) → HasLevels (snapshot_taken levels s) p
-levels-taken {m} {p} levels s =
-    let before = stack_with levels.level levels.below levels.operands levels.pending in
-    let moved = stack_with (record levels.level { index = s.end_index }) levels.below s.end_operands levels.pending in
-    record {
-      level = record levels.level { index = s.end_index };
-      below = levels.below;
-      operands = s.end_operands;
-      pending = levels.pending;
-      kept = set-numbered m.processes p before moved levels.kept;
-    }
-
--- of the same unit
-pub unit-taken : {m : Snapshot} {p : ℕ} (levels : HasLevels m p) (s : SegmentValue) → (levels-taken levels s).level.unit ≡ levels.level.unit
-unfolding levels-taken
-unit-taken levels s = refl
-
-module _ {program : Units} (laws : AreTurnsIn program) {cells : ℕ} {choices : List ℕ} {m : Snapshot} {p : ℕ} (few : cells ≤ most_cells) (after : IsAfter program cells choices m) (running : m.halted ≡ false) (levels : HasLevels m p) (s : SegmentValue)
-    (made : IsMadeFrom program (start_in levels) s) where
-  pub private-taken : is_next_private program (start_in (levels-taken levels s)) ≡ are_private program (start_in levels) (suc (length s.records))
-  unfolding levels-taken
-  private-taken =
-      (λ j. is_some (next_made (private_cells (unit_at program levels.level.unit)) (unit_code program levels.level.unit) (begun (sym made.1.index j) (sym made.1.operands j) (values_at (contents_with (first_of levels) m.arena.contents s.records) (first_of levels)))))
-      ∙ (gone laws few after running levels s made).next

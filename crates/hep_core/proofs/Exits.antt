@@ -29,7 +29,8 @@ use Rattle.hep_core.specs.declared.stop.ChoiceStop.{ChoiceStop}
 use Rattle.hep_core.specs.declared.stop.ChoiceStop.TheVariants.{Halted}
 use Rattle.hep_core.specs.declared.stop.Turn.{Turn}
 use Rattle.hep_core.proofs.Answered.{answer-left, answer-made}
-use Rattle.hep_core.proofs.Behind.{AreAsBefore, GoAlongPurges, HasTakenSteps, few-operands, listed-further, undone, levels-undone, unit-undone}
+use Rattle.hep_taking.proofs.Behind.{AreAsBefore, few-operands}
+use Rattle.hep_core.proofs.Behind.{GoAlongPurges, HasTakenSteps, listed-further, undone, levels-undone, unit-undone}
 use Rattle.hep_core.proofs.Committing.{AreTopsRunning, DependOnReads}
 use Rattle.hep_core.proofs.Going.{GoAlong}
 use Rattle.hep_core.proofs.Histories.{state-is}

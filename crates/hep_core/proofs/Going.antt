@@ -279,7 +279,7 @@ pub moves-on : (rounds : Bool) (p q : ℕ) (old core new : CoreValue) (n m : ℕ
 moves-on true p q old core new n m before is few others = rounds-on q old core new n m before is (few refl) others
 moves-on false p q old core new n m before is few others = choices-on p old core new n m before (subst (λ k. AreChoices k core m new) is others)
 
-last-more : (h : List Entry) (e : Entry) → last_process (h ++ e ∷ []) ≡ e.process
+pub last-more : (h : List Entry) (e : Entry) → last_process (h ++ e ∷ []) ≡ e.process
 last-more [] e = refl
 last-more (x ∷ []) e = refl
 last-more (x ∷ y ∷ es) e = last-more (y ∷ es) e

@@ -3,15 +3,14 @@ use Rattle.std.proofs.Common.{◌≡◌, ◌⊎◌, ℕ, zero, suc, ◌+◌, ◌
 use Rattle.hep_machine.proofs.Others.{activations_after}
 use Rattle.hep_machine.specs.declared.event.Entry.{Entry}
 use Rattle.hep_machine.specs.Words.{IsSameOrOneMore, State, Units, run_from, schedule_of, state_after, state_after_turn}
-use Rattle.hep_private.specs.Own.{values_at}
 use Rattle.hep_taking.specs.Going.{HasGone}
 use Rattle.hep_taking.specs.Segments.{IsMadeFrom, SegmentValue, Start}
 use Rattle.hep_taking.specs.Levels.{start_in}
 use Rattle.hep_taking.specs.Turning.{IsMadeOfRecords, are_private}
+use Rattle.hep_taking.proofs.Behind.{same-start}
 use Rattle.hep_taking.proofs.Runs.{turns-are}
 use Rattle.hep_state.specs.declared.machine.Machine.{Machine}
-use Rattle.hep_state.specs.Words.{HasLevels, IsMachineAfter, Snapshot, frame_under, snapshot_of}
-use Rattle.hep_state.proofs.Unchanged.{levels-same}
+use Rattle.hep_state.specs.Words.{HasLevels, IsMachineAfter, Snapshot, snapshot_of}
 use Rattle.hep_core.specs.Commits.{HasSteps, IsLeftOut, IsMadeBehind, IsMovedBehind, core_after_return}
 use Rattle.hep_core.specs.Invariant.{core_value}
 use Rattle.hep_core.specs.Value.{CoreValue}
@@ -23,7 +22,7 @@ use Rattle.hep_core.proofs.Kept.{activations-are}
 
 -- ---- activations
 
-as-many-still : {A : Type 0} (xs ys : List A) → IsSameOrOneMore xs ys → length xs ≤ length ys
+pub as-many-still : {A : Type 0} (xs ys : List A) → IsSameOrOneMore xs ys → length xs ≤ length ys
 as-many-still xs ys (inl same) = omega (arith, ap length same)
 as-many-still xs ys (inr more) = omega (arith, ap length more.1, length-append xs (more.0 ∷ []))
 
@@ -58,14 +57,9 @@ module _ (program : Units) (cells p n : ℕ) (h : List Entry) (before after : Ma
 
 -- ---- where it begins
 
-start-same : {m : Snapshot} {p : ℕ} (e f : HasLevels m p) → start_in e ≡ start_in f
-start-same {m} e f =
-    let same = levels-same e f in
-    λ j. record { unit = (same.0 j).unit; index = (same.0 j).index; operands = same.2 j; values = values_at m.arena.contents (frame_under m.nodes (same.0 j).key).first }
-
 -- by another name of the process
 start-there : {m : Snapshot} {p q : ℕ} → p ≡ q → (e : HasLevels m p) (f : HasLevels m q) → start_in e ≡ start_in f
-start-there {m} own e f = subst (λ r. (g : HasLevels m r) → start_in e ≡ start_in g) own (λ g. start-same e g) f
+start-there {m} own e f = subst (λ r. (g : HasLevels m r) → start_in e ≡ start_in g) own (λ g. same-start e g) f
 
 -- ---- what it is
 

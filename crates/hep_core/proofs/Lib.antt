@@ -18,4 +18,6 @@ pub mod Idle
 pub mod Beside
 pub mod AtOnce
 pub mod InPlace
+pub mod Stored
+pub mod Chain
 pub mod Commons

@@ -1,5 +1,5 @@
 -- What check-outs, commits and cancellations make of a core: docs/MACHINE.md, "Private steps" and "Workers".
-use Rattle.std.specs.Prelude.{◌≡◌, ◌≢◌, ◌⊎◌, ℕ, suc, ◌+◌, ◌<◌, Bool, true, false, List, [], ◌∷◌, ◌++◌, None, Some, Result, Ok, Err, is_some, length, replicate}
+use Rattle.std.specs.Prelude.{◌≡◌, ◌≢◌, ◌⊎◌, ℕ, zero, suc, ◌+◌, ◌<◌, Bool, true, false, List, [], ◌∷◌, ◌++◌, None, Some, Result, Ok, Err, is_some, length, replicate}
 use Rattle.hep_machine.specs.declared.event.Entry.{Entry}
 use Rattle.hep_machine.specs.Words.{AreSteps, State, Units, is_waiting, living, run_from, schedule_of, unit_at}
 use Rattle.hep_image.specs.Private.{private_cells}
@@ -8,7 +8,7 @@ use Rattle.hep_private.specs.declared.record.Record.{Record}
 use Rattle.hep_private.specs.Own.{Values, begun}
 use Rattle.hep_private.specs.Recorded.{next_made, recorded}
 use Rattle.hep_taking.specs.TicketId.{TicketId}
-use Rattle.hep_taking.specs.Segments.{IsComputed, IsKept, IsMadeOf, SegmentValue, Start, TicketValue}
+use Rattle.hep_taking.specs.Segments.{IsComputed, IsKept, IsMadeOf, SegmentValue, Start, TicketValue, most_records}
 use Rattle.hep_state.specs.Words.{HasNoGap}
 use Rattle.hep_taking.specs.Levels.{ticket_of}
 use Rattle.hep_taking.specs.OwnCells.{own_cells_of}
@@ -200,6 +200,11 @@ pub record IsTurnAtOnce (old : Placed) (p n : ℕ) (new : Placed) : Type 0 where
   pub of : segment.id ≡ ticket.id
   pub alone : segment.records ≡ [] → StandsAlone old p
   pub committed : IsCommitted out segment (Ok (record { steps = n; blocked = false })) new
+
+-- so many turns in one of process p, one after the other, each of as many private steps as a segment may have
+abbrev pub AreTurnsAtOnce : ℕ → ℕ → Placed → Placed → Type 0
+AreTurnsAtOnce p zero old new = new ≡ old
+AreTurnsAtOnce p (suc n) old new = (mid : Placed) × IsTurnAtOnce old p most_records mid × AreTurnsAtOnce p n mid new
 
 -- ---- tickets that are cancelled
 

@@ -8,9 +8,9 @@ ghost use Rattle.hep_blocked.specs.Numbers.{AreRising};
 ghost use Rattle.hep_state.specs.Words.{IsMachineAfter, snapshot_of};
 ghost use Rattle.hep_unwatched.specs.Watches.{PassesFrom};
 ghost use Rattle.hep_views.specs.Standing.{whereabouts_by};
-ghost use Rattle.hep_core.specs.Value.{state_of, opening_of, IsNewFault, IsChoice, HasNoStop, IsStop};
+ghost use Rattle.hep_core.specs.Value.{state_of, opening_of, IsNewFault, IsChoice, IsFree, HasNoStop, IsStop};
 ghost use Rattle.hep_core.specs.Commits.{AreGoodStill, IsCancelled, IsCheckedOut, IsCommitted, IsFresh, IsGivenTo, IsOutBy, IsStoppedWhereFull};
-ghost use Rattle.hep_core.specs.Commits.{HasMovedAtOnce, HasMovedBehind, IsTurnAtOnce, IsWhetherNext, LeavesNext, StandsAlone, core_after_return, most_tickets};
+ghost use Rattle.hep_core.specs.Commits.{AreTurnsAtOnce, HasMovedAtOnce, HasMovedBehind, IsTurnAtOnce, IsWhetherNext, LeavesNext, StandsAlone, core_after_return, most_tickets};
 ghost use Rattle.hep_core.specs.Invariant.{AreLiving};
 ghost use Rattle.hep_core.specs.Places.{places_of, with_core};
 ghost use Rattle.hep_core.specs.declared.stop.Verdict.TheVariants.{Waiting};
@@ -38,10 +38,10 @@ use hep_state::laws::tops_are_running;
 use hep_state::{Machine, TurnFault, Turned, fits};
 use hep_taking::laws::{restored_machines_are_as_before, tickets_have_what_is_read};
 use hep_taking::{
-    Ahead, Offer, OwnCells, Owned, Prepared, Saved, Segment, Table, Tabled, Ticket, TicketId,
-    comes_next, go_on, is_next_private, others_leave_what_is_read, own_cells_of,
-    private_steps_are_turns, rests, segments_depend_on_reads, stands_alone, start, tables_of,
-    take_private, turn_by_table, turn_in_place,
+    Ahead, MOST_RECORDS, Offer, OwnCells, Owned, Prepared, Saved, Segment, Table, Tabled, Ticket,
+    TicketId, comes_next, go_on, is_next_private, others_leave_what_is_read, own_cells_of,
+    private_steps_are_turns, rests, run_in_place, segments_depend_on_reads, stands_alone, start,
+    tables_of, take_private, turn_by_table, turn_in_place,
 };
 use hep_tickets::come_back;
 use hep_unwatched::{Watch, pass_on};
@@ -842,6 +842,81 @@ impl Core {
         }
         note(&mut self.history, p, steps);
         steps
+    }
+
+    /// So many turns in one of the process that comes next, one after the other, each of 1,023 private steps, and which process that was. They are
+    /// made in place at once, where the process made the last entry too, and a private step comes next behind all of them. None where no turn was
+    /// made, and nothing has changed then.
+    ///
+    /// What is done beside the steps costs as much as of one turn.
+    pub fn turns_at_once(&mut self, ahead: &Ahead<'_>, turns: u32) -> Option<u64>
+        requires program { ahead.now ≡ self.old.core.program }
+        requires some { 0 < turns }
+        requires few { turns ≤ 1024 }
+        ensures made { IfSome result (λ p. AreTurnsAtOnce p turns self.old self.new) }
+        ensures none { IfNone result (self.new ≡ self.old) }
+        ensures kept { AreGoodStill self.old self.new }
+    {
+        if let Some(_stop) = self.stop() {
+            return None;
+        }
+        let p = self.next_ready()?;
+        if p != self.last_process() || self.is_out(p) || !self.lives(p) {
+            return None;
+        }
+        if !self.run_at_once(ahead, p, turns) {
+            return None;
+        }
+        Some(p)
+    }
+
+    // Makes so many turns of process p, which comes next and made the last entry, as `turns_at_once` has them, and says whether it did. Else nothing has
+    // changed. Who waits and who is ready stays.
+    #[inline(never)]
+    fn run_at_once(&mut self, ahead: &Ahead<'_>, p: u64, turns: u32) -> bool
+        requires program { ahead.now ≡ self.old.core.program }
+        requires free { IsFree self.old.core p }
+        requires next { next_ready_of self.old.core ≡ Some p }
+        requires last { last_process self.old.core.history ≡ p }
+        requires some { 0 < turns }
+        requires few { turns ≤ 1024 }
+        ensures made { result ≡ true → AreTurnsAtOnce p turns self.old self.new }
+        ensures none { result ≡ false → self.new ≡ self.old }
+        ensures others { result ≡ true → LeavesNext p self.old self.new }
+    {
+        self.image.is_runnable();
+        views_are_of_states();
+        lists_go_along_with_steps();
+        tops_are_running();
+        others_leave_what_is_read();
+        segments_depend_on_reads();
+        if self.limit.saturating_sub(self.history.len()) < turns as u64 {
+            return false;
+        }
+        if u64::MAX - self.given < turns as u64 {
+            return false;
+        }
+        if self.history.reserve(turns).is_err() {
+            return false;
+        }
+        self.machine.settle(&self.image, p);
+        let prepared = Prepared {
+            image: &self.image,
+            tables: &self.tables,
+            own: &self.own,
+            ahead,
+        };
+        let steps = turns * MOST_RECORDS as u32;
+        if !run_in_place(&mut self.machine, &prepared, &mut self.saved, p, steps) {
+            return false;
+        }
+        let entry = Entry {
+            process: p,
+            steps: MOST_RECORDS as u32,
+        };
+        self.history.push_many(entry, turns);
+        self.given += turns as u64;
+        true
     }
 
     // Chooses process p once, where its table has the step, which only moves it, and says how often that was: never, and nothing has changed then, where

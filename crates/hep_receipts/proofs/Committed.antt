@@ -1,8 +1,9 @@
 -- A commit has one entry more, and one that is refused leaves the history.
-use Rattle.std.proofs.Common.{◌≡◌, ℕ, zero, suc, Bool, true, false, List, [], ◌∷◌, ◌++◌, length, Result, Ok, Err, IsErr, IfErr, OnErr, inl, inr, ap, subst, sym, ◌∙◌}
+use Rattle.std.proofs.Common.{◌≡◌, ℕ, zero, suc, Bool, true, false, List, [], ◌∷◌, ◌++◌, length, Result, Ok, Err, IsErr, IfErr, OnErr, Option, Some, None, IfSome, replicate, append_assoc, inl, inr, ap, subst, sym, ◌∙◌}
 use Rattle.std.specs.Result.{IsErrAnd}
+use Rattle.std.proofs.lemmas.List.{append-nil}
 use Rattle.std.proofs.lemmas.Result.{err_from_is_err_and}
-use Rattle.hep_core.specs.Commits.{IsCommitted, IsTakenBy, IsTurnAtOnce, core_after_return}
+use Rattle.hep_core.specs.Commits.{AreTurnsAtOnce, IsCommitted, IsTakenBy, IsTurnAtOnce, core_after_return}
 use Rattle.hep_core.specs.Places.{Placed}
 use Rattle.hep_core.specs.Value.{CoreValue, IsTurn}
 use Rattle.hep_core.specs.declared.fault.CommitFault.{CommitFault}
@@ -11,7 +12,7 @@ use Rattle.hep_core.specs.declared.stop.Turn.{Turn}
 use Rattle.hep_machine.specs.declared.event.Entry.{Entry}
 use Rattle.hep_private.specs.declared.record.Record.{Record}
 use Rattle.hep_segments.specs.declared.ticket.TicketId.{TicketId}
-use Rattle.hep_segments.specs.Segments.{SegmentValue, Start, TicketValue}
+use Rattle.hep_segments.specs.Segments.{SegmentValue, Start, TicketValue, most_records}
 
 -- ---- one entry more
 
@@ -54,6 +55,20 @@ at-once-entry old new p n turn =
     let process : turn.segment.id.process ≡ p = ap (λ (id : TicketId). id.process) (turn.of ∙ ap (λ (t : TicketValue). t.id) given.2) in
     let history : turn.out.core.history ≡ old.core.history = ap (λ (x : Placed). x.core.history) given.3 in
     one-entry turn.out new turn.segment (record { steps = n; blocked = false }) turn.committed ∙ (λ i. history i ++ record { process = process i; steps = n } ∷ [])
+
+-- several of them have as many entries more
+pub at-once-entries : (p n : ℕ) (old new : Placed) → AreTurnsAtOnce p n old new → new.core.history ≡ old.core.history ++ replicate n (record { process = p; steps = most_records })
+at-once-entries p zero old new same = ap (λ (x : Placed). x.core.history) same ∙ sym (append-nil old.core.history)
+at-once-entries p (suc n) old new (mid, first, rest) =
+    let e : Entry = record { process = p; steps = most_records } in
+    at-once-entries p n mid new rest
+    ∙ ap (λ (h : List Entry). h ++ replicate n e) (at-once-entry old mid p most_records first)
+    ∙ append_assoc old.core.history (e ∷ []) (replicate n e)
+
+pub entries-so : (n : ℕ) (old new : Placed) (r : Option ℕ) → IfSome r (λ p. AreTurnsAtOnce p n old new)
+    → IfSome r (λ p. new.core.history ≡ old.core.history ++ replicate n (record { process = p; steps = most_records }))
+entries-so n old new None made = tt
+entries-so n old new (Some p) made = at-once-entries p n old new made
 
 -- ---- faults that are passed on
 

@@ -5,4 +5,4 @@ mod receipt;
 mod turn;
 
 pub use receipt::{Log, Receipt};
-pub use turn::{offer_turn, turn_at_once, worker_turn};
+pub use turn::{offer_turn, turn_at_once, turns_at_once, worker_turn};

@@ -1,6 +1,6 @@
 //! A worker's turn, under the lock.
-ghost use Rattle.std.specs.Prelude.{◌≡◌, ◌≤◌, IfErr, IfNone, IfOk, IfSome, OnErr, Err};
-ghost use Rattle.hep_core.specs.Commits.{IsCommitted, IsTurnAtOnce};
+ghost use Rattle.std.specs.Prelude.{◌≡◌, ◌≤◌, ◌<◌, ◌++◌, IfErr, IfNone, IfOk, IfSome, OnErr, Err, replicate};
+ghost use Rattle.hep_core.specs.Commits.{AreTurnsAtOnce, IsCommitted, IsTurnAtOnce};
 ghost use Rattle.hep_core.specs.Offers.{IsKnownOffer, offered};
 ghost use Rattle.hep_segments.specs.Segments.{most_records};
 ghost use Rattle.hep_receipts.specs.Turns.{HasCommitted, IsReceipt};
@@ -65,4 +65,17 @@ pub fn turn_at_once(core: &mut Core, worker: u32, ahead: &Ahead<'_>, most: u32) 
         worker,
         steps: turn.steps,
     })
+}
+
+/// So many turns of the process that comes next, each of 1,023 steps, by `Core::turns_at_once`, and which process that was. None where no turn was
+/// made, and nothing has changed then.
+pub fn turns_at_once(core: &mut Core, ahead: &Ahead<'_>, turns: u32) -> Option<u64>
+    requires program { ahead.now ≡ core.old.core.program }
+    requires some { 0 < turns }
+    requires few { turns ≤ 1024 }
+    ensures entries { IfSome result (λ p. core.new.core.history ≡ core.old.core.history ++ replicate turns (record { process = p; steps = most_records })) }
+    ensures made { IfSome result (λ p. AreTurnsAtOnce p turns core.old core.new) }
+    ensures none { IfNone result (core.new ≡ core.old) }
+{
+    core.turns_at_once(ahead, turns)
 }

@@ -2,11 +2,13 @@
 #![tactic(auto)]
 
 mod fault;
+mod finder;
 mod numbering;
 mod options;
 mod report;
 
 pub use fault::CloseFault;
+pub use finder::Finder;
 pub use numbering::are_of_workers;
 pub use options::WorkOptions;
 pub use report::{Report, close};

@@ -1,14 +1,15 @@
 //! The comparison of the workers' logs with the core, once all have ended.
-ghost use Rattle.std.specs.Prelude.{◌≡◌, IfErr, IfOk, MatchBool, None, Some, drop, if◌then◌else◌, slice_get};
+ghost use Rattle.std.specs.Prelude.{◌≡◌, IfErr, IfOk, MatchBool, None, Some, if◌then◌else◌};
 ghost use Rattle.std.specs.List.{list_all};
 ghost use Rattle.hep_reports.specs.Marks.{mark_at, marked};
 ghost use Rattle.hep_reports.specs.Receipts.{AreEntries, all_rise, receipts_of, rises};
 ghost use Rattle.hep_reports.specs.Reports.{IsClosed, IsOfRun, IsReport, IsUnclosed};
 
 use crate::fault::CloseFault;
+use crate::finder::Finder;
 use crate::options::WorkOptions;
 use hep_core::{Core, Verdict};
-use hep_entries::{Entries, History};
+use hep_entries::History;
 use hep_image::Image;
 use hep_machine::Entry;
 use hep_receipts::{Log, Receipt};
@@ -143,38 +144,14 @@ fn mark_logs(history: &History, named: &mut Vec<bool>, logs: &[Log]) -> bool
 fn mark_log(history: &History, named: &mut Vec<bool>, receipts: &[Receipt]) -> bool
     ensures { marked history.now.items named.old.items receipts.now ≡ (if result then Some named.new.items else None) }
 {
-    let mut entries = history.iter();
-    let mut passed = 0;
+    let mut finder = Finder::new(history);
     for receipt in receipts {
-        let entry = entry_at(history, &mut entries, &mut passed, receipt.index);
+        let entry = finder.entry_at(receipt.index);
         if !mark(entry, named, *receipt) {
             return false;
         }
     }
     true
-}
-
-// The entry at an index, where those are left behind so many of them that are passed. Where the index is before, it begins anew.
-fn entry_at<'a>(
-    history: &'a History,
-    entries: &mut Entries<'a>,
-    passed: &mut u64,
-    index: u64,
-) -> Option<Entry>
-    requires { entries.old ≡ drop passed.old history.now.items }
-    ensures entry { result ≡ slice_get history.now.items index }
-    ensures left { entries.new ≡ drop passed.new history.now.items }
-{
-    if index >= history.len() {
-        return None;
-    }
-    if index < *passed {
-        *entries = history.iter();
-        *passed = 0;
-    }
-    entries.pass(index - *passed);
-    *passed = index + 1;
-    entries.next()
 }
 
 // Marks the entry that a receipt names, which is this one, if there is one.

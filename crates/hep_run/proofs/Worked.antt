@@ -9,17 +9,18 @@ use Rattle.hep_workers.specs.declared.fault.WorkFault.{WorkFault}
 use Rattle.hep_workers.specs.declared.fault.WorkFault.TheVariants.{NoMemory, ArenaFull, NoTicket, NoThread, Close}
 use Rattle.hep_workers.specs.WorkOptions.{WorkOptions}
 use Rattle.hep_workers.specs.Receipt.{Receipt}
-use Rattle.hep_workers.specs.Reports.{IsReport}
+use Rattle.hep_workers.specs.Reports.{IsOfRun}
 use Rattle.hep_workers.specs.Faults.{IsSharedBy, IsUnreported, IsWorkFault, number_of}
+use Rattle.hep_outcome.specs.Verdict.TheVariants.{Running}
 use Rattle.hep_outcome.specs.Outcome.{Outcome, outcome_of_end, verdict_after}
 use Rattle.hep_run.specs.Workers.{IsImageWorked, is_refusal_of_workers}
 
-pub outcome-worked : (long : Bool) (program : Units) (options : WorkOptions) (core : CoreValue) (logs : List (List Receipt)) (o : Outcome)
-    → IsReport core program options logs → IsSharedBy program options core → IsLegal core.program core.cells core.limit core.history → IsStop core.program core.cells core.limit core.history core.stop
+pub outcome-worked : (long : Bool) (program : Units) (options : WorkOptions) (core : CoreValue) (o : Outcome)
+    → IsOfRun core program options → verdict_after core.program core.history core.stop ≢ Running → IsSharedBy program options core → IsLegal core.program core.cells core.limit core.history → IsStop core.program core.cells core.limit core.history core.stop
     → o ≡ outcome_of_end long core.program core.cells core.history core.stop → IsImageWorked long program options o
-outcome-worked long program options core logs o report shared legal named is =
+outcome-worked long program options core o run over shared legal named is =
     let h = core.history in
-    let (same, cells, limit) = report.run in
+    let (same, cells, limit) = run in
     inr (inr (
       h,
       core.stop,
@@ -27,7 +28,7 @@ outcome-worked long program options core logs o report shared legal named is =
         turns = (core, shared, refl, refl);
         legal = subst (λ (p : Units). IsLegal p options.arena options.steps h) same (subst (λ n. IsLegal core.program options.arena n h) limit (subst (λ n. IsLegal core.program n core.limit h) cells legal));
         stopped = subst (λ (p : Units). IsStop p options.arena options.steps h core.stop) same (subst (λ n. IsStop core.program options.arena n h core.stop) limit (subst (λ n. IsStop core.program n core.limit h core.stop) cells named));
-        over = λ running. report.over (ap (λ (p : Units). verdict_after p h core.stop) same ∙ running);
+        over = λ running. over (ap (λ (p : Units). verdict_after p h core.stop) same ∙ running);
       },
       is ∙ (ap (λ (p : Units). outcome_of_end long p core.cells h core.stop) same ∙ ap (λ n. outcome_of_end long program n h core.stop) cells),
     ))

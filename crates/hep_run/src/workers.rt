@@ -18,7 +18,7 @@ use hep_image::Image;
 use hep_outcome::transcript::ended_transcript;
 use hep_outcome::{Lines, Status};
 use hep_output::append_number;
-use hep_workers::{Gate, WorkFault, WorkOptions, run_workers};
+use hep_workers::{Gate, WorkFault, WorkOptions, run_unlogged};
 use std::alloc::{AllocError, Global};
 use std::io::{Read, Write};
 use std::sync::Wait;
@@ -46,9 +46,8 @@ fn image_transcript<H: Threads + Wait + Sync, G: Gate + Sync>(
     ensures unmade { OnErr result (MayOpen asked.now.long image asked.now.options.now.arena) }
 {
     let notes = opening_notes_when(alloc, &image, asked.options.arena, asked.long)?;
-    match run_workers(asked.threads, alloc, image, asked.options, asked.gate) {
-        Ok(report) => {
-            let (core, _) = report.into_parts();
+    match run_unlogged(asked.threads, alloc, image, asked.options, asked.gate) {
+        Ok(core) => {
             core.headline();
             ended_transcript(alloc, core, asked.long)
         }

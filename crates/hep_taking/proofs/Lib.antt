@@ -8,6 +8,9 @@ pub mod Restored
 pub mod Stretched
 pub mod Standing
 pub mod Taken
+pub mod Behind
+pub mod Parts
 mod InPlace
 mod TurnInPlace
+mod RunInPlace
 mod Worked

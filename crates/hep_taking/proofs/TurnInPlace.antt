@@ -1,93 +1,27 @@
--- A turn in place: the machine behind its private steps, at its end, and with all put back.
-use Rattle.std.proofs.Common.{◌≡◌, ◌⊎◌, inl, inr, ℕ, suc, ◌+◌, ◌-◌, ◌≤◌, Bool, true, false, true≢false, List, length, is_some, OnOk, Result, Ok, Err, refl, sym, ap, ◌∙◌, subst, arith}
+-- A turn in place, or a run: the machine behind its private steps, at its end, and with all put back.
+use Rattle.std.proofs.Common.{◌≡◌, ◌⊎◌, inl, inr, ℕ, suc, ◌+◌, ◌-◌, ◌≤◌, Bool, true, false, true≢false, length, OnOk, Result, Ok, Err, refl, sym, ap, ◌∙◌, subst, arith}
 use Rattle.std.specs.Result.{is_err}
-use Rattle.hep_machine.specs.Words.{Units, numbered, unit_at}
+use Rattle.hep_machine.specs.Words.{Units}
 use Rattle.hep_code.specs.Words.{deepest}
-use Rattle.hep_image.specs.Image.{most_cells}
-use Rattle.hep_image.specs.Private.{private_cells}
 use Rattle.hep_step.specs.Simulation.{unit_code}
-use Rattle.hep_private.specs.Own.{begun, values_at}
-use Rattle.hep_private.specs.Recorded.{next_made}
-use Rattle.hep_private_laws.proofs.Calls.{set-numbered}
 use Rattle.hep_private_laws.specs.Going.{MakesMoves}
-use Rattle.hep_private_laws.specs.Gone.{contents_with}
-use Rattle.hep_proc.specs.declared.process.Local.{Local}
 use Rattle.hep_proc.specs.Stacks.{stack_with}
 use Rattle.hep_stretches.specs.TicketId.{TicketId}
-use Rattle.hep_stretches.specs.Segments.{IsMadeFrom, SegmentValue, is_next_private}
+use Rattle.hep_stretches.specs.Segments.{SegmentValue, is_next_private}
 use Rattle.hep_state.specs.declared.machine.Machine.{Machine}
 use Rattle.hep_state.specs.Words.{HasLevels, IsAfter, IsItsTurn, IsSameButTop, KeepsRoom, LivesOn, Snapshot, snapshot_of}
 use Rattle.hep_state.proofs.Beside.{beside-again, beside-with}
-use Rattle.hep_state.proofs.Taken.{room-ahead}
-use Rattle.hep_state.proofs.Unchanged.{levels-same, machine-of, rooms-of}
+use Rattle.hep_state.proofs.Unchanged.{machine-of, rooms-of}
 use Rattle.hep_going.proofs.Onward.{more-made}
-use Rattle.hep_taking.specs.Levels.{first_of, snapshot_taken, start_in}
+use Rattle.hep_taking.specs.Levels.{snapshot_taken, start_in}
 use Rattle.hep_taking.specs.OwnCells.{own_cells_of}
-use Rattle.hep_taking.specs.Saved.{SavedValue, saved_of, snapshot_restored}
+use Rattle.hep_taking.specs.Saved.{SavedValue, snapshot_restored}
 use Rattle.hep_taking.specs.Taking.{CanTake, HasMadePrivate, HasRestored, HasTakenIn, IsNextPrivateIn, IsSavedOf}
-use Rattle.hep_taking.specs.Turning.{IsAsBefore, IsEndBehind, IsMadeInPlace, IsMadeOfRecords, are_private}
-use Rattle.hep_taking.proofs.Standing.{turns}
-use Rattle.hep_taking.proofs.Taken.{AreTurnsIn, gone}
-
--- ---- where a process is
-
--- behind the steps of a segment
-levels-taken : {m : Snapshot} {p : ℕ} (levels : HasLevels m p) (s : SegmentValue) → HasLevels (snapshot_taken levels s) p
-levels-taken {m} {p} levels s =
-    let before = stack_with levels.level levels.below levels.operands levels.pending in
-    let moved = stack_with (record levels.level { index = s.end_index }) levels.below s.end_operands levels.pending in
-    record {
-      level = record levels.level { index = s.end_index };
-      below = levels.below;
-      operands = s.end_operands;
-      pending = levels.pending;
-      kept = set-numbered m.processes p before moved levels.kept;
-    }
-
--- with other operands and another index at its top
-levels-left : (program : Units) {old new : Snapshot} {p : ℕ} (levels : HasLevels old p) → IsSameButTop program p old new → HasLevels new p
-levels-left program {old} {new} {p} levels top =
-    let came = top levels in
-    let before = stack_with levels.level levels.below levels.operands levels.pending in
-    let after = stack_with (record levels.level { index = came.1 }) levels.below came.0 levels.pending in
-    record {
-      level = record levels.level { index = came.1 };
-      below = levels.below;
-      operands = came.0;
-      pending = levels.pending;
-      kept = ap (λ (m : Snapshot). numbered m.processes p) came.2 ∙ set-numbered old.processes p before after levels.kept;
-    }
-
--- of the same unit
-unit-taken : {m : Snapshot} {p : ℕ} (levels : HasLevels m p) (s : SegmentValue) → (levels-taken levels s).level.unit ≡ levels.level.unit
-unfolding levels-taken
-unit-taken levels s = refl
-
-unit-left : (program : Units) {old new : Snapshot} {p : ℕ} (levels : HasLevels old p) (after : HasLevels new p) → IsSameButTop program p old new → after.level.unit ≡ levels.level.unit
-unfolding levels-left
-unit-left program levels after top = ap (λ (l : Local). l.unit) (levels-same after (levels-left program levels top)).0
-
--- it has no more operands than its unit has at most
-few-operands : {program : Units} {p : ℕ} {m : Machine} (turn : IsItsTurn program p m) → length turn.living.operands ≤ deepest (unit_code program turn.living.level.unit)
-few-operands turn = omega (arith, room-ahead (turns turn))
-
--- ---- whether the next step is private behind those of a segment
-
-module _ {program : Units} (laws : AreTurnsIn program) {cells : ℕ} {choices : List ℕ} {m : Snapshot} {p : ℕ} (few : cells ≤ most_cells) (after : IsAfter program cells choices m) (running : m.halted ≡ false) (levels : HasLevels m p) (s : SegmentValue)
-    (made : IsMadeFrom program (start_in levels) s) where
-  private-taken : is_next_private program (start_in (levels-taken levels s)) ≡ are_private program (start_in levels) (suc (length s.records))
-  unfolding levels-taken
-  private-taken =
-      (λ j. is_some (next_made (private_cells (unit_at program levels.level.unit)) (unit_code program levels.level.unit) (begun (sym made.1.index j) (sym made.1.operands j) (values_at (contents_with (first_of levels) m.arena.contents s.records) (first_of levels)))))
-      ∙ (gone laws few after running levels s made).next
+use Rattle.hep_taking.specs.Turning.{ArePrivateIn, IsAsBefore, IsEndBehind, IsMadeInPlace, IsMadeOfRecords, are_private}
+use Rattle.hep_taking.proofs.Behind.{AreAsBefore, few-operands, levels-left, levels-taken, private-taken, same-start, unit-left, unit-taken}
+use Rattle.hep_taking.proofs.Taken.{AreTurnsIn}
 
 -- ---- private steps were made
-
--- what the law of put back machines says
-abbrev pub AreAsBefore : Type 0
-AreAsBefore =
-    (program : Units) (m new : Snapshot) (p : ℕ) (s : SegmentValue) (levels : HasLevels m p) (after : HasLevels new p) → IsMadeFrom program (start_in levels) s → IsSameButTop program p (snapshot_taken levels s) new
-    → snapshot_restored after (own_cells_of program levels.level.unit) (saved_of levels (own_cells_of program levels.level.unit)) ≡ m
 
 module _ (program : Units) (s : SegmentValue) (old mid : Machine) (n : ℕ) (can : CanTake program s old) (taken : HasTakenIn s old mid) (moves : MakesMoves program s.id.process old n mid) (others : mid ≡ record old { frames = mid.frames; processes = mid.processes }) where
   abbrev p : ℕ
@@ -112,6 +46,11 @@ module _ (program : Units) (s : SegmentValue) (old mid : Machine) (n : ℕ) (can
   whether-private laws b next =
       subst (λ (z : Snapshot). (there : HasLevels z p) → b ≡ is_next_private program (start_in there)) (taken levels) next (levels-taken levels s)
       ∙ private-taken laws can.turn.after.2.few can.turn.after.2.after can.turn.running levels s can.made
+
+  -- where it is, one more of them is
+  one-more : AreTurnsIn program → length s.records ≡ n → IsNextPrivateIn true program p mid → ArePrivateIn program p old (suc n)
+  one-more laws many next there =
+      (λ j. are_private program (same-start there levels j) (suc (sym many j))) ∙ sym (whether-private laws true next)
 
   -- the turn that ends so
   in-place : AreTurnsIn program → length s.records ≡ n → (total : ℕ) → IsEndBehind program p mid n total → IsMadeOfRecords program old total s
@@ -237,6 +176,12 @@ module _ (program : Units) (p : ℕ) (old mid : Machine) (n : ℕ) (made : HasMa
 
   pub turn-behind : IsItsTurn program p mid
   turn-behind = subst (λ k. IsItsTurn program k mid) its (turn-mid program s old mid n can taken its-moves others)
+
+  pub private-behind : AreTurnsIn program → IsNextPrivateIn true program p mid → ArePrivateIn program p old (suc n)
+  private-behind laws next =
+      let many = (made (any-ticket p) refl).2 in
+      subst (λ k. ArePrivateIn program k old (suc n)) its (
+      one-more program s old mid n can taken its-moves others laws many (subst (λ k. IsNextPrivateIn true program k mid) (sym its) next))
 
   pub lives-behind : (new : Machine) → LivesOn p 0 mid new → LivesOn p 0 old new
   lives-behind new lives =

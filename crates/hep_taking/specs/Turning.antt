@@ -9,7 +9,7 @@ use Rattle.hep_private_laws.specs.UnitTables.{AreTables}
 use Rattle.hep_stretches.specs.TicketId.{TicketId}
 use Rattle.hep_stretches.specs.Segments.{SegmentValue, Start}
 use Rattle.hep_state.specs.declared.machine.Machine.{Machine}
-use Rattle.hep_state.specs.Words.{KeepsState, snapshot_of}
+use Rattle.hep_state.specs.Words.{HasLevels, KeepsState, snapshot_of}
 use Rattle.hep_taking.specs.Levels.{start_in}
 use Rattle.hep_taking.specs.OwnCells.{AreOwnCells}
 use Rattle.hep_taking.specs.Taking.{CanTake, IsNextPrivateIn}
@@ -40,6 +40,10 @@ pub record IsMadeOfRecords (program : Units) (old : Machine) (n : ℕ) (s : Segm
 abbrev pub IsMadeInPlace : Units → ℕ → Machine → ℕ → Type 0
 IsMadeInPlace program p old n =
     (id : TicketId) → id.process ≡ p → (s : SegmentValue) × (s.id ≡ id) × IsMadeOfRecords program old n s
+
+-- so many steps of process p come next, and are private
+abbrev pub ArePrivateIn : Units → ℕ → Machine → ℕ → Type 0
+ArePrivateIn program p m n = (levels : HasLevels (snapshot_of m) p) → are_private program (start_in levels) n ≡ true
 
 -- ---- its parts
 

@@ -4,6 +4,7 @@
 //! it is looked whether these steps are those that come next ([`comes_next`]), and they are made at once ([`take_private`]). Without a ticket
 //! they are made in the cells of the process's frame ([`make_private`]). What the process has for itself can be kept before that, and put
 //! back ([`Saved`]). A turn in place does all of this ([`turn_in_place`]): such steps and the step behind them are made, or all is as it was.
+//! So does a run in place ([`run_in_place`]), of as many private steps as are asked for.
 #![tactic(auto)]
 
 mod checking;
@@ -23,10 +24,11 @@ mod turning;
 pub use checking::{comes_next, is_next_private};
 pub use hep_private_laws::laws::{others_leave_what_is_read, private_steps_are_turns};
 pub use hep_private_laws::{Table, Tabled, go_on, rests, tables_of, turn_by_table};
+pub use hep_segments::MOST_RECORDS;
 pub use hep_stretches::{Ahead, Segment, Ticket, TicketId, compute, segments_depend_on_reads};
 pub use offer::Offer;
 pub use own_cells::{OwnCells, Owned, own_cells_of};
 pub use saving::Saved;
 pub use starting::start;
 pub use taking::{make_private, take_private};
-pub use turning::{Prepared, stands_alone, turn_in_place};
+pub use turning::{Prepared, run_in_place, stands_alone, turn_in_place};

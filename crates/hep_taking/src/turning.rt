@@ -1,10 +1,10 @@
 //! Turns of private steps in place, with the step behind them.
-ghost use Rattle.std.specs.Prelude.{◌≡◌, ◌≤◌, ◌<◌, ◌-◌, true, suc};
+ghost use Rattle.std.specs.Prelude.{◌≡◌, ◌≤◌, ◌<◌, ◌-◌, true, false, suc};
 ghost use Rattle.hep_private_laws.specs.Going.{MakesMoves};
 ghost use Rattle.hep_state.specs.Words.{AreNumbered, HasLevels, IsItsTurn, IsSameButTop, LivesOn, snapshot_of};
 ghost use Rattle.hep_stretches.specs.Segments.{most_records};
 ghost use Rattle.hep_stretches.specs.Stretches.{HasNoPrivate};
-ghost use Rattle.hep_taking.specs.Turning.{IsAsBefore, IsEndBehind, IsMadeInPlace, IsPrepared};
+ghost use Rattle.hep_taking.specs.Turning.{ArePrivateIn, IsAsBefore, IsEndBehind, IsMadeInPlace, IsPrepared};
 
 use crate::checking::is_next_private;
 use crate::laws::restored_machines_are_as_before;
@@ -111,4 +111,42 @@ pub fn turn_in_place(
         saved.put_back(machine, &owned, p);
     }
     made
+}
+
+/// Just so many private steps of process p in place, where another one comes next behind them, and whether they were made. What the process has for
+/// itself is kept in the place of what was kept.
+///
+/// Where not all of them come next, or memory was refused, it is false, and all is as it was.
+pub fn run_in_place(
+    machine: &mut Machine,
+    prepared: &Prepared<'_>,
+    saved: &mut Saved,
+    p: u64,
+    steps: u32,
+) -> bool
+    requires prepared { IsPrepared prepared.now }
+    requires turn { IsItsTurn prepared.now.image.now p machine.old }
+    ensures private { result ≡ true → ArePrivateIn prepared.now.image.now p machine.old (suc steps) }
+    ensures gone { result ≡ true → MakesMoves prepared.now.image.now p machine.old steps machine.new }
+    ensures lives { result ≡ true → LivesOn p 0 machine.old machine.new }
+    ensures none { result ≡ false → IsAsBefore prepared.now.image.now machine.old machine.new }
+{
+    prepared.image.is_runnable();
+    private_steps_are_turns();
+    restored_machines_are_as_before();
+    let owned = Owned {
+        image: prepared.image,
+        tables: prepared.own,
+    };
+    if saved.keep(machine, &owned, p).is_err() {
+        return false;
+    }
+    let Some(made) = make_private(machine, &owned, prepared.ahead, p, steps) else {
+        return false;
+    };
+    if made == steps && is_next_private(machine, prepared.image, p) {
+        return true;
+    }
+    saved.put_back(machine, &owned, p);
+    false
 }

@@ -1,4 +1,7 @@
 mod Shared
 mod Reasons
+mod Growing
 mod Noting
+mod Only
 mod Lists
+mod Many

@@ -1,5 +1,5 @@
 -- Logs to which a receipt is added as the history gets its entry.
-use Rattle.std.proofs.Common.{◌≡◌, inl, inr, ℕ, zero, suc, ◌+◌, ◌<◌, ◌≤◌, ◌&&◌, true, List, [], ◌∷◌, ◌++◌, Some, length, replicate, refl, sym, ap, ◌∙◌, subst, arith, nat_eq, nat_lt, slice_get, slice_set}
+use Rattle.std.proofs.Common.{◌≡◌, inl, inr, ℕ, zero, suc, ◌+◌, ◌<◌, ◌≤◌, true, List, [], ◌∷◌, ◌++◌, Some, length, replicate, refl, sym, ap, ◌∙◌, subst, arith, nat_eq, nat_lt, slice_get, slice_set}
 use Rattle.std.proofs.lemmas.Bool.{cases_lt, and_parts}
 use Rattle.std.proofs.lemmas.Bool.Decides.{nat_tests}
 use Rattle.std.proofs.lemmas.List.{length-append, length-replicate, length-set}
@@ -8,7 +8,7 @@ use Rattle.hep_machine.specs.declared.event.Entry.{Entry}
 use Rattle.hep_entries.proofs.InRuns.{slice_get-append_left, slice_get-append_right}
 use Rattle.hep_receipts.specs.declared.receipt.Receipt.{Receipt}
 use Rattle.hep_receipts.specs.Turns.{are_of, entry_of}
-use Rattle.hep_reports.specs.Receipts.{AllName, AreEntries, Names, all_rise, are_numbered, are_of_workers, one_where, receipts_of, rises, times_named}
+use Rattle.hep_reports.specs.Receipts.{AllName, AreEntries, Names, all_rise, are_numbered, one_where, receipts_of, rises, times_named}
 use Rattle.hep_workers.specs.Lists.{AreLogsOf}
 
 -- ---- what they name

@@ -1,9 +1,12 @@
 -- Why a run by workers leaves no report, by what they have met.
-use Rattle.std.proofs.Common.{◌≡◌, IsSome, List, ap, sym, ◌∙◌, true, true≢false}
+use Rattle.std.proofs.Common.{◌≡◌, ℕ, IsSome, List, ap, subst, sym, ◌∙◌, true, true≢false}
 use Rattle.std.proofs.Math.Bool.{Bool-set}
 use Rattle.std.proofs.Math.Logic.{∥∥₁_elim}
+use Rattle.std.specs.Global.{Vec}
 use Rattle.hep_machine.specs.Words.{opening_layout, Units}
-use Rattle.hep_core.specs.Value.{CoreValue, opening_of}
+use Rattle.hep_machine.specs.declared.event.Entry.{Entry}
+use Rattle.hep_core.specs.Value.{CoreValue, opening_of, verdict_of}
+use Rattle.hep_core.specs.declared.stop.Verdict.TheVariants.{Running}
 use Rattle.hep_receipts.specs.Shared.{IsOfOneRun}
 use Rattle.hep_receipts.specs.declared.receipt.Receipt.{Receipt}
 use Rattle.hep_reports.specs.Receipts.{are_of_workers}
@@ -12,9 +15,11 @@ use Rattle.hep_reports.specs.declared.fault.CloseFault.{CloseFault}
 use Rattle.hep_reports.specs.declared.fault.CloseFault.TheVariants as close
 use Rattle.hep_reports.specs.declared.options.WorkOptions.{WorkOptions}
 use Rattle.hep_workers.specs.Faults.{IsMet, IsUnreported, IsWorkFault, of_crew}
-use Rattle.hep_workers.specs.Lists.{AreLogsOf}
+use Rattle.hep_workers.specs.Lists.{AreLogsOf, lists_of, logs_of}
+use Rattle.hep_workers.specs.declared.spans.Span.{Span}
 use Rattle.hep_workers.specs.declared.fault.CrewFault.{CrewFault}
 use Rattle.hep_workers.specs.declared.fault.CrewFault.TheVariants.{NoMemory, NoThread, NoTicket}
+use Rattle.hep_workers.proofs.Only.{only-logs}
 
 abbrev pub opening_for : Units → WorkOptions → CoreValue
 opening_for program options = opening_of program options.arena options.steps
@@ -32,6 +37,13 @@ of-run opening core program options is one =
 
 -- ---- what workers leave
 
+-- logs that are made by where the entries are
+pub logs-made : (workers : ℕ) (h es : List Entry) (lists ls : List (Vec Span)) (logs : List (List Receipt)) → logs ≡ logs_of es 1 (lists_of ls) → es ≡ h → ls ≡ lists
+    → ∥ AreLogsOf workers h (logs_of h 1 (lists_of lists)) ∥₁ → ∥ AreLogsOf workers h logs ∥₁
+logs-made workers h es lists ls logs is same all logged =
+    subst (λ (rs : List (List Receipt)). ∥ AreLogsOf workers h rs ∥₁)
+    (sym (is ∙ ap (λ (xs : List Entry). logs_of xs 1 (lists_of ls)) same ∙ ap (λ (vs : List (Vec Span)). logs_of h 1 (lists_of vs)) all)) logged
+
 -- logs under the lock are of their workers
 pub of-workers : (core : CoreValue) (options : WorkOptions) (logs : List (List Receipt)) → ∥ AreLogsOf options.workers core.history logs ∥₁ → are_of_workers options.workers logs ≡ true
 of-workers core options logs logged = ∥∥₁_elim logged (Bool-set _ _) (λ are. are.numbered)
@@ -44,3 +56,8 @@ unreported close.NotTheEntries core program options logs run logged un = ∥∥�
 unreported close.NotRising core program options logs run logged un = ∥∥₁_elim logged (λ a b. absurd a) (λ are. true≢false (sym are.rising ∙ un.1))
 unreported close.NotTheRun core program options logs run logged un = un.2 run
 unreported close.StillRunning core program options logs run logged un = (record { entries = un.0; rising = un.1; numbered = of-workers core options logs logged }, run, un.3)
+
+-- nor is anything else left where it does
+pub going-on : (core : CoreValue) (program : Units) (options : WorkOptions) (logs : List (List Receipt)) → IsOfRun core program options → ∥ AreLogsOf options.workers core.history logs ∥₁
+    → verdict_of core ≡ Running → IsUnreported close.StillRunning core program options logs
+going-on core program options logs run logged on = (∥∥₁_elim logged (only-logs options.workers core.history logs) (λ are. are), run, on)

@@ -1,8 +1,8 @@
 -- What a call makes of a core that is shared.
-use Rattle.std.proofs.Common.{◌≡◌, ℕ, false, Result, Ok, Err, IfOk, IfErr, inl, inr, refl, ap}
+use Rattle.std.proofs.Common.{◌≡◌, ℕ, zero, suc, false, Result, Ok, Err, IfOk, IfErr, inl, inr, refl, sym, ap, subst}
 use Rattle.hep_segments.specs.declared.ticket.TicketId.{TicketId}
-use Rattle.hep_segments.specs.Segments.{SegmentValue, TicketValue}
-use Rattle.hep_core.specs.Commits.{IsCancelled, IsCheckedOut, IsCommitted, IsTurnAtOnce}
+use Rattle.hep_segments.specs.Segments.{SegmentValue, TicketValue, most_records}
+use Rattle.hep_core.specs.Commits.{AreTurnsAtOnce, IsCancelled, IsCheckedOut, IsCommitted, IsTurnAtOnce}
 use Rattle.hep_core.specs.Places.{Placed}
 use Rattle.hep_core.specs.Value.{CoreValue}
 use Rattle.hep_core.specs.declared.fault.ChooseFault.{ChooseFault}
@@ -10,7 +10,7 @@ use Rattle.hep_core.specs.declared.fault.ChooseFault.TheVariants as choosing
 use Rattle.hep_core.specs.declared.fault.CommitFault.{CommitFault}
 use Rattle.hep_core.specs.declared.fault.CommitFault.TheVariants as committing
 use Rattle.hep_receipts.specs.declared.receipt.Receipt.{Receipt}
-use Rattle.hep_receipts.specs.Shared.{IsOfOneRun, IsSharedFrom, checked_out, committed, opened}
+use Rattle.hep_receipts.specs.Shared.{IsSharedFrom, checked_out, committed, opened}
 use Rattle.hep_receipts.specs.Turns.{HasCommitted}
 
 pub turned : (opening : CoreValue) (old new : Placed) (s : SegmentValue) (r : Result Receipt CommitFault) → IsSharedFrom opening old
@@ -22,6 +22,11 @@ turned opening old new s (Err fault) before made unmade = committed old new s (E
 pub turned-at-once : (opening : CoreValue) (old new : Placed) (p n : ℕ) → IsSharedFrom opening old → IsTurnAtOnce old p n new → IsSharedFrom opening new
 turned-at-once opening old new p n before turn =
     committed turn.out new turn.segment (Ok (record { steps = n; blocked = false })) (checked_out old turn.out p (Ok turn.ticket) before turn.checked_out) turn.committed
+
+-- and several of them are as many
+pub turned-several : (opening : CoreValue) (p n : ℕ) (old new : Placed) → IsSharedFrom opening old → AreTurnsAtOnce p n old new → IsSharedFrom opening new
+turned-several opening p zero old new before same = subst (IsSharedFrom opening) (sym same) before
+turned-several opening p (suc n) old new before (mid, first, rest) = turned-several opening p n mid new (turned-at-once opening old mid p most_records before first) rest
 
 -- from any core on
 pub here : (old : Placed) → IsSharedFrom old.core old

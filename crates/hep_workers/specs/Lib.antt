@@ -4,4 +4,5 @@ pub use Rattle.hep_reports.specs.declared.options.WorkOptions
 pub use Rattle.hep_reports.specs.Reports
 pub mod Faults
 pub mod Hands
+pub mod Spans
 pub mod Lists

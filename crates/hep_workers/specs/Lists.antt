@@ -1,12 +1,15 @@
--- The receipts of workers, as they are kept under the lock: docs/MACHINE.md, "Workers".
-use Rattle.std.specs.Prelude.{◌≡◌, ℕ, true, List, [], map}
+-- Where the entries of workers are, as it is kept under the lock: docs/MACHINE.md, "Workers".
+use Rattle.std.specs.Prelude.{◌≡◌, ℕ, ◌+◌, Bool, true, List, [], ◌∷◌, map}
 use Rattle.std.specs.Global.{Vec}
+use Rattle.std.specs.List.{list_all}
 use Rattle.hep_machine.specs.declared.event.Entry.{Entry}
 use Rattle.hep_core.specs.Places.{Placed}
 use Rattle.hep_core.specs.Value.{CoreValue}
 use Rattle.hep_receipts.specs.Shared.{IsOfOneRun, IsSharedFrom}
 use Rattle.hep_receipts.specs.declared.receipt.Receipt.{Receipt}
+use Rattle.hep_workers.specs.declared.spans.Span.{Span}
 use Rattle.hep_reports.specs.Receipts.{AreEntries, all_rise, are_of_workers, receipts_of}
+use Rattle.hep_workers.specs.Spans.{are_inside, log_of}
 
 -- there is a log for each of so many workers, with receipts of that worker alone, which rise; all together are the history's entries, each once
 pub record AreLogsOf (workers : ℕ) (history : List Entry) (logs : List (List Receipt)) : Type 0 where
@@ -15,8 +18,17 @@ pub record AreLogsOf (workers : ℕ) (history : List Entry) (logs : List (List R
   pub numbered : are_of_workers workers logs ≡ true
 
 -- those of each worker
-abbrev pub lists_of : List (Vec Receipt) → List (List Receipt)
-lists_of lists = map (λ (v : Vec Receipt). v.items) lists
+abbrev pub lists_of : List (Vec Span) → List (List Span)
+lists_of lists = map (λ (v : Vec Span). v.items) lists
+
+-- the logs of workers that are numbered one after the other from this number on
+abbrev pub logs_of : List Entry → ℕ → List (List Span) → List (List Receipt)
+logs_of history worker [] = []
+logs_of history worker (spans ∷ lists) = log_of history worker spans ∷ logs_of history (worker + 1) lists
+
+-- all of them end where so many entries do, or before
+abbrev pub all_inside : ℕ → List (List Span) → Bool
+all_inside count lists = list_all (are_inside count) lists
 
 -- a core at an opening, which has made no step
 abbrev pub IsAtOpening : CoreValue → CoreValue → Type 0
@@ -27,3 +39,7 @@ pub record HasLeft (opening : CoreValue) (workers : ℕ) (left : Placed) (logs :
   pub run : IsOfOneRun opening left.core
   pub shared : ∥ IsSharedFrom opening left ∥₁
   pub logged : ∥ AreLogsOf workers left.core.history logs ∥₁
+
+-- the same by where their entries are
+abbrev pub HasLeftLists : CoreValue → ℕ → Placed → List (Vec Span) → Type 0
+HasLeftLists opening workers left lists = HasLeft opening workers left (logs_of left.core.history 1 (lists_of lists))

@@ -6,13 +6,13 @@ ghost use Rattle.hep_source.specs.contracts.expression.Expr as expression;
 ghost use Rattle.hep_source.specs.contracts.program.Program as program;
 ghost use Rattle.hep_core.specs.contracts.scheduler.Core as core;
 ghost use Rattle.hep_stretches.specs.contracts.table.PrivateTable as tables;
-ghost use Rattle.hep_receipts.specs.contracts.receipt.Receipt as receipts;
+ghost use Rattle.hep_workers.specs.contracts.spans.Span as spans;
 
+use crate::spans::Span;
 use hep_blocked::Roster;
 use hep_entries::History;
 use hep_image::{BlockStart, DataRow, UnitCode};
 use hep_quick::Table;
-use hep_receipts::Receipt;
 use hep_source::{Expr, Sequence, Text};
 use hep_state::Machine;
 use hep_stretches::PrivateTable;
@@ -62,12 +62,12 @@ pub(crate) fn tables_cross()
     cross::<PrivateTable>();
 }
 
-/// Receipts may be sent to another thread.
-pub(crate) fn receipts_cross()
-    ensures send { IsSend receipts.the_row }
-    ensures sync { IsSync receipts.the_row }
+/// Where entries are may be told to another thread.
+pub(crate) fn spans_cross()
+    ensures send { IsSend spans.the_row }
+    ensures sync { IsSync spans.the_row }
 {
-    cross::<Receipt>();
+    cross::<Span>();
 }
 
 /// A core may be sent to another thread.

@@ -1,22 +1,24 @@
 //! The workers at their work: threads that share a core under a lock.
-ghost use Rattle.std.specs.Prelude.{◌≡◌, IfErr, IfOk, IsSome, OnOk, true};
+ghost use Rattle.std.specs.Prelude.{◌≡◌, ◌≢◌, IfErr, IfOk, IsSome, OnOk, true, vec_len};
 ghost use Rattle.hep_core.specs.Offers.{IsKnownOffer};
+ghost use Rattle.hep_core.specs.Value.{opening_of, verdict_of};
+ghost use Rattle.hep_core.specs.declared.stop.Verdict.TheVariants.{Running};
 ghost use Rattle.hep_machine.specs.Words.{opening_layout};
 ghost use Rattle.hep_reports.specs.Receipts as receipts;
-ghost use Rattle.hep_reports.specs.Reports.{IsReport};
+ghost use Rattle.hep_reports.specs.Reports.{IsOfRun, IsReport};
 ghost use Rattle.hep_stretches.specs.Stretches.{IsStretch};
 ghost use Rattle.hep_workers.specs.Faults.{IsMet, IsSharedBy, IsWorkFault};
 ghost use Rattle.hep_workers.specs.Hands.{HasMade};
-ghost use Rattle.hep_workers.specs.Lists.{HasLeft, IsAtOpening};
+ghost use Rattle.hep_workers.specs.Lists.{HasLeftLists, IsAtOpening};
 
-use crate::crossing::{cores_cross, images_cross, receipts_cross, tables_cross};
+use crate::crossing::{cores_cross, images_cross, spans_cross, tables_cross};
 use crate::fault::{CrewFault, StartFault, WorkFault};
 use crate::gate::Gate;
+use crate::spans::Span;
 use crate::tied::{Halt, Known, Seat, Tied, Whole, blank_lists, logs_of};
-use hep_core::{CommitFault, Core, Offer};
+use hep_core::{CommitFault, Core, Offer, Verdict};
 use hep_image::Image;
-use hep_receipts::Log;
-use hep_reports::{Report, WorkOptions, close};
+use hep_reports::{CloseFault, Report, WorkOptions, close};
 use hep_segments::{MOST_RECORDS, Segment, Ticket};
 use hep_stretches::{Ahead, Stretch, private_tables_of};
 use std::alloc::{AllocError, Global};
@@ -36,6 +38,9 @@ const SHORT: u32 = 16;
 
 // So many turns are made one behind the other under the lock: some ten microseconds' worth while others are busy.
 const MOST_AT_ONCE: u32 = 128;
+
+// So many turns of as many private steps as there may be are made in one run: what is done beside their steps is little then.
+const MOST_IN_A_RUN: u32 = 16;
 
 // What the workers share.
 #[derive(Drop)]
@@ -112,16 +117,71 @@ pub fn run_workers<R: Threads + Wait + Sync, G: Gate + Sync>(
     ensures turns { IfOk result (λ report. IsSharedBy image options.now report.core) }
     ensures fault { IfErr result (λ fault. IsWorkFault fault image options.now) }
 {
+    let Shared { core, image, lists } = run_shared(rt, alloc, image, options, gate)?;
+    let logs = logs_of(alloc, core.history(), &lists)?;
+    Ok(close(alloc, core, &image, options, logs)?)
+}
+
+/// The same without receipts: the core that the workers leave. Where their entries are is known all the same, and that their receipts would be the entries of
+/// its history.
+///
+/// It may wait, and what it promises holds if it returns.
+///
+/// # Errors
+///
+/// Those of `run_workers`, of which `Close` comes only where the run goes on.
+pub fn run_unlogged<R: Threads + Wait + Sync, G: Gate + Sync>(
+    rt: &R,
+    alloc: Global,
+    image: Image,
+    options: &WorkOptions,
+    gate: &G,
+) -> Result<Core, WorkFault>
+    ensures fits { OnOk result (IsSome (opening_layout image options.now.arena)) }
+    ensures run { IfOk result (λ core. IsOfRun core.core image options.now) }
+    ensures over { IfOk result (λ core. verdict_of core.core ≢ Running) }
+    ensures turns { IfOk result (λ core. IsSharedBy image options.now core.core) }
+    ensures fault { IfErr result (λ fault. IsWorkFault fault image options.now) }
+{
+    let Shared { core, .. } = run_shared(rt, alloc, image, options, gate)?;
+    if core.verdict() == Verdict::Running {
+        return Err(WorkFault::Close(CloseFault::StillRunning));
+    }
+    Ok(core)
+}
+
+// What workers leave: the core, and where the entries of each are in its history. Beside it stands the image of their run.
+#[derive(Drop)]
+struct Shared {
+    core: Core,
+    image: Image,
+    lists: Vec<Vec<Span>>,
+}
+
+// Has workers share a core of the image.
+fn run_shared<R: Threads + Wait + Sync, G: Gate + Sync>(
+    rt: &R,
+    alloc: Global,
+    image: Image,
+    options: &WorkOptions,
+    gate: &G,
+) -> Result<Shared, WorkFault>
+    ensures fits { OnOk result (IsSome (opening_layout image options.now.arena)) }
+    ensures image { IfOk result (λ left. left.image ≡ image) }
+    ensures many { IfOk result (λ left. vec_len left.lists ≡ options.now.workers) }
+    ensures left { IfOk result (λ left. HasLeftLists (opening_of image options.now.arena options.now.steps) options.now.workers left.core left.lists.items) }
+    ensures fault { IfErr result (λ fault. IsWorkFault fault image options.now) }
+{
     // A full arena is found before memory is asked for, and so before the image is copied.
     let core = Core::new(alloc, image, options.arena, options.steps)?;
     let image = core.image().copy(alloc)?;
     let tables = private_tables_of(alloc, &image)?;
     let ahead = Ahead::new(&image, &tables);
-    let (core, logs) = share::<Brand, R, G>(rt, alloc, core, ahead, options.workers, gate)?;
-    Ok(close(alloc, core, &image, options, logs)?)
+    let (core, lists) = share::<Brand, R, G>(rt, alloc, core, ahead, options.workers, gate)?;
+    Ok(Shared { core, image, lists })
 }
 
-// Has workers share a core of the run, and gives it with their logs once they have ended.
+// Has workers share a core of the run, and gives it, with where their entries are, once they have ended.
 fn share<K: Whole + Send + Sync, R: Threads + Wait + Sync, G: Gate + Sync>(
     rt: &R,
     alloc: Global,
@@ -129,11 +189,12 @@ fn share<K: Whole + Send + Sync, R: Threads + Wait + Sync, G: Gate + Sync>(
     ahead: Ahead<'_>,
     workers: u32,
     gate: &G,
-) -> Result<(Core, Vec<Log>), CrewFault>
+) -> Result<(Core, Vec<Vec<Span>>), CrewFault>
     requires begun { IsAtOpening K.opening core.core }
     requires image { ahead ≡ K.opening.program }
     requires workers { workers ≡ K.workers }
-    ensures left { IfOk result (λ left. HasLeft K.opening K.workers left.0 left.1.items) }
+    ensures left { IfOk result (λ left. HasLeftLists K.opening K.workers left.0 left.1.items) }
+    ensures many { IfOk result (λ left. vec_len left.1 ≡ K.workers) }
     ensures met { IfErr result (IsMet K.opening) }
 {
     let Ok(lists) = blank_lists(alloc, workers) else {
@@ -146,11 +207,7 @@ fn share<K: Whole + Send + Sync, R: Threads + Wait + Sync, G: Gate + Sync>(
     let known: Known<'_, K> = Known::new(ahead);
     ended(work_all(rt, alloc, &floor, &known, seats, gate))?;
     let Floor { core, .. } = floor;
-    let (core, lists) = core.into_inner().into_parts();
-    let Ok(logs) = logs_of(alloc, lists) else {
-        return Err(CrewFault::NoMemory);
-    };
-    Ok((core, logs))
+    Ok(core.into_inner().into_parts())
 }
 
 // Why one of the workers couldn't be started, or the first fault of one.
@@ -186,7 +243,7 @@ fn work_all<K: Whole + Send + Sync, R: Threads + Wait + Sync, G: Gate + Sync>(
         tables_cross();
         images_cross();
         cores_cross();
-        receipts_cross();
+        spans_cross();
         let mut handles = Vec::new(alloc);
         let mut outcomes = Vec::new(alloc);
         let mut started = Ok(());
@@ -469,7 +526,7 @@ impl<K: Whole> Floor<K> {
         stand: &mut Stand,
         after_long: bool,
     ) -> bool {
-        let alone = self.busy.load(Ordering::SeqCst) == 1 && !self.called.load(Ordering::SeqCst);
+        let alone = self.is_alone();
         if after_long && !alone {
             return false;
         }
@@ -481,9 +538,31 @@ impl<K: Whole> Floor<K> {
                 return long;
             }
             stand.turn = stand.turn.saturating_add(1);
+            if steps == MOST_RECORDS as u32 {
+                self.run_on(core, known, seat, stand);
+            }
             long = long || LONG <= steps;
         }
         long
+    }
+
+    // Makes turns of 1,023 private steps behind such a one, several at once, as long as there are such and no other worker is busy. Where not all of several
+    // can be made, none is, and their steps are made again one turn after the other: so there are no more of them at once than a quarter of those before.
+    fn run_on(&self, core: &mut Tied<K>, known: &Known<'_, K>, seat: &Seat<K>, stand: &mut Stand) {
+        let mut made: u32 = 1;
+        for _ in 0..MOST_AT_ONCE {
+            let turns = (1 + made / 4).min(MOST_IN_A_RUN);
+            if !self.is_alone() || !core.turns_at_once(seat, known, turns) {
+                return;
+            }
+            stand.turn = stand.turn.saturating_add(turns as u64);
+            made = made.saturating_add(turns);
+        }
+    }
+
+    // No other worker is busy, or about to be.
+    fn is_alone(&self) -> bool {
+        self.busy.load(Ordering::SeqCst) == 1 && !self.called.load(Ordering::SeqCst)
     }
 
     // Checks the process out again, though others may be free, and commits the stretch that follows. Nothing where it can't be checked out. False
@@ -518,7 +597,7 @@ impl<K: Whole> Floor<K> {
         requires { IsKnownOffer K.opening.program offer.now }
     {
         match core.turn(seat, offer) {
-            Ok(_receipt) => {
+            Ok(()) => {
                 stand.turn = stand.turn.saturating_add(1);
                 Ok(true)
             }

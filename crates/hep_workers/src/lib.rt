@@ -5,10 +5,11 @@ mod crossing;
 mod fault;
 mod floor;
 mod gate;
+mod spans;
 mod tied;
 
 pub use fault::WorkFault;
-pub use floor::run_workers;
+pub use floor::{run_unlogged, run_workers};
 pub use gate::{Gate, NoGate};
 pub use hep_core::{Segment, Ticket, compute};
 pub use hep_receipts::{Log, Receipt, worker_turn};

@@ -1,6 +1,6 @@
 //! What is under the lock, and the image beside it. They are known to be of one run, so a commit need not make the steps of a segment again; and
-//! the workers' receipts are known to be the entries of the core's history.
-ghost use Rattle.std.specs.Prelude.{◌≡◌, ◌≤◌, ◌<◌, IfOk, OnOk, ℕ, [], length, replicate, vec_capacity, vec_len};
+//! where the workers' entries are is known, so that their receipts are the entries of the core's history.
+ghost use Rattle.std.specs.Prelude.{◌≡◌, ◌≤◌, ◌<◌, ◌^◌, IfOk, OnOk, ℕ, true, [], length, replicate, vec_capacity, vec_len};
 ghost use Rattle.std.specs.Coded.{Coded-set, codes};
 ghost use Rattle.hep_source.specs.contracts.expression.Expr as expression;
 ghost use Rattle.hep_core.specs.Value.{CoreValue, opening_of};
@@ -8,10 +8,12 @@ ghost use Rattle.hep_core.specs.Offers.{IsKnownOffer};
 ghost use Rattle.hep_receipts.specs.Shared.{IsSharedFrom};
 ghost use Rattle.hep_segments.specs.Segments.{most_records};
 ghost use Rattle.hep_workers.specs.Faults.{HasGivenAll};
-ghost use Rattle.hep_workers.specs.Lists.{AreLogsOf, HasLeft, IsAtOpening, lists_of};
+ghost use Rattle.hep_workers.specs.Lists.{AreLogsOf, HasLeftLists, IsAtOpening, all_inside, lists_of, logs_of};
 
+use crate::spans::{Span, add_entries, add_entry, log_of};
 use hep_core::{ChooseFault, CommitFault, Core, Offer, Ticket, Verdict};
-use hep_receipts::{Log, Receipt, offer_turn, turn_at_once};
+use hep_entries::History;
+use hep_receipts::{Log, offer_turn, turn_at_once, turns_at_once};
 use hep_stretches::Ahead;
 use std::alloc::{AllocError, Global};
 use std::marker::{Brand, PhantomData};
@@ -61,9 +63,9 @@ impl<K: Whole> Seat<K> {
     }
 }
 
-/// A list for each worker, to be filled with its receipts.
+/// A list for each worker, to be filled with where its entries are.
 #[tactic(auto, using(crate::proofs::Lists::one_more))]
-pub(crate) fn blank_lists(alloc: Global, workers: u32) -> Result<Vec<Vec<Receipt>>, AllocError>
+pub(crate) fn blank_lists(alloc: Global, workers: u32) -> Result<Vec<Vec<Span>>, AllocError>
     ensures many { IfOk result (λ lists. vec_len lists ≡ workers) }
     ensures blank { IfOk result (λ lists. lists_of lists.items ≡ replicate workers []) }
 {
@@ -74,50 +76,55 @@ pub(crate) fn blank_lists(alloc: Global, workers: u32) -> Result<Vec<Vec<Receipt
     Ok(lists)
 }
 
-// Room for a receipt more: for four times as many where there is none, so that the list is seldom moved as it grows, or else for one.
+// Room for a span more: for four times as many where there is none, so that the list is seldom moved as it grows, or else for one.
 #[inline(always)]
-fn make_room(receipts: &mut Vec<Receipt>) -> Result<(), AllocError>
-    ensures items { receipts.new.items ≡ receipts.old.items }
-    ensures room { OnOk result (length receipts.new.items < vec_capacity receipts.new) }
+fn make_room(spans: &mut Vec<Span>) -> Result<(), AllocError>
+    ensures items { spans.new.items ≡ spans.old.items }
+    ensures room { OnOk result (length spans.new.items < vec_capacity spans.new) }
 {
-    let count = receipts.len();
-    if count < receipts.capacity() {
+    let count = spans.len();
+    if count < spans.capacity() {
         return Ok(());
     }
-    if receipts
+    if spans
         .reserve(count.saturating_mul(3).saturating_add(1))
         .is_ok()
     {
         return Ok(());
     }
-    receipts.reserve(1)
+    spans.reserve(1)
 }
 
-/// The logs that the lists have become.
-#[tactic(auto, using(crate::proofs::Lists::one_log_more))]
-pub(crate) fn logs_of(alloc: Global, lists: Vec<Vec<Receipt>>) -> Result<Vec<Log>, AllocError>
-    ensures { IfOk result (λ logs. logs.items ≡ lists_of lists.items) }
+/// The logs of workers, who are numbered from 1, by where the entries of each are in the history.
+pub(crate) fn logs_of(
+    alloc: Global,
+    history: &History,
+    lists: &[Vec<Span>],
+) -> Result<Vec<Log>, AllocError>
+    requires { length lists.now < 2 ^ 32 }
+    ensures { IfOk result (λ logs. logs.items ≡ logs_of history.now.items 1 (lists_of lists.now)) }
 {
     let mut logs = Vec::new(alloc);
-    for receipts in lists {
-        logs.push(Log::of(receipts))?;
+    for i in 0..lists.len() {
+        logs.push(log_of(alloc, history, i as u32 + 1, &lists[i])?)?;
     }
     Ok(logs)
 }
 
-/// The core of that run, which check-outs, commits and cancellations have made of the opening, with the receipts of each worker: together they are
-/// the entries of its history.
+/// The core of that run, which check-outs, commits and cancellations have made of the opening, with where the entries of each worker are: the receipts
+/// that are made by that are together the entries of its history.
 #[derive(Drop)]
 pub(crate) struct Tied<K: Whole> {
     core: Core,
-    lists: Vec<Vec<Receipt>>,
+    lists: Vec<Vec<Span>>,
     of: PhantomData<K>,
     ghost program: { core.core.program ≡ K.opening.program } by { Coded-set (Prim.hlevel (codes, expression.the_row.coded)) core.core.program K.opening.program },
     ghost cells: { core.core.cells ≡ K.opening.cells },
     ghost limit: { core.core.limit ≡ K.opening.limit },
     ghost shared: { ∥ IsSharedFrom K.opening core ∥₁ },
     ghost many: { vec_len lists ≡ K.workers },
-    ghost logged: { ∥ AreLogsOf K.workers core.core.history (lists_of lists.items) ∥₁ },
+    ghost logged: { ∥ AreLogsOf K.workers core.core.history (logs_of core.core.history 1 (lists_of lists.items)) ∥₁ },
+    ghost inside: { all_inside (length core.core.history) (lists_of lists.items) ≡ true },
 }
 
 /// All tickets of the run were given.
@@ -162,7 +169,7 @@ impl<'a, K: Whole> Known<'a, K> {
 
 impl<K: Whole> Tied<K> {
     /// The core at the opening.
-    pub(crate) fn new(core: Core, lists: Vec<Vec<Receipt>>) -> Self
+    pub(crate) fn new(core: Core, lists: Vec<Vec<Span>>) -> Self
         requires begun { IsAtOpening K.opening core.core }
         requires many { vec_len lists ≡ K.workers }
         requires blank { lists_of lists.items ≡ replicate K.workers [] }
@@ -174,9 +181,10 @@ impl<K: Whole> Tied<K> {
         }
     }
 
-    /// The core and the receipts, once the workers have ended.
-    pub(crate) fn into_parts(self) -> (Core, Vec<Vec<Receipt>>)
-        ensures { HasLeft K.opening K.workers result.0 (lists_of result.1.items) }
+    /// The core, and where the entries of each worker are, once the workers have ended.
+    pub(crate) fn into_parts(self) -> (Core, Vec<Vec<Span>>)
+        ensures left { HasLeftLists K.opening K.workers result.0 result.1.items }
+        ensures many { vec_len result.1 ≡ K.workers }
     {
         let Tied { core, lists, of: _ } = self;
         (core, lists)
@@ -192,41 +200,65 @@ impl<K: Whole> Tied<K> {
         self.core.next_ready()
     }
 
-    /// A turn of a worker, whose private steps are made by the image of the run. Its receipt is put behind the worker's others; `NoMemory` comes
+    /// A turn of a worker, whose private steps are made by the image of the run. Its entry is put behind the worker's others; `NoMemory` comes
     /// for want of room for it too, before anything is committed.
-    pub(crate) fn turn(&mut self, seat: &Seat<K>, offer: &Offer<'_>) -> Result<Receipt, CommitFault>
+    pub(crate) fn turn(&mut self, seat: &Seat<K>, offer: &Offer<'_>) -> Result<(), CommitFault>
         requires { IsKnownOffer K.opening.program offer.now }
     {
         let Tied { core, lists, of: _ } = self;
-        let receipts = &mut lists[seat.number as usize - 1];
-        if make_room(receipts).is_err() {
+        let spans = &mut lists[seat.number as usize - 1];
+        if make_room(spans).is_err() {
             return Err(CommitFault::NoMemory);
         }
+        let index = core.history().len();
         match offer_turn(core, seat.number, offer) {
-            Ok(receipt) => {
-                receipts.push_reserved(receipt);
-                Ok(receipt)
+            Ok(_receipt) => {
+                add_entry(spans, index);
+                Ok(())
             }
             Err(fault) => Err(fault),
         }
     }
 
-    /// A turn of a worker in one, of the process that comes next, with so many private steps at most, 1,023 at most, and how many steps it has. Its receipt
+    /// A turn of a worker in one, of the process that comes next, with so many private steps at most, 1,023 at most, and how many steps it has. Its entry
     /// is put behind the worker's others. 0 where no turn was made.
     pub(crate) fn turn_at_once(&mut self, seat: &Seat<K>, known: &Known<'_, K>, most: u32) -> u32
         requires { most ≤ most_records }
     {
         let Tied { core, lists, of: _ } = self;
-        let receipts = &mut lists[seat.number as usize - 1];
-        if make_room(receipts).is_err() {
+        let spans = &mut lists[seat.number as usize - 1];
+        if make_room(spans).is_err() {
             return 0;
         }
+        let index = core.history().len();
         match turn_at_once(core, seat.number, &known.ahead, most) {
             Some(receipt) => {
-                receipts.push_reserved(receipt);
+                add_entry(spans, index);
                 receipt.steps
             }
             None => 0,
+        }
+    }
+
+    /// So many turns of a worker, each of 1,023 private steps of the process that comes next, made at once, and whether they were made. Their entries are put
+    /// behind the worker's others. Where they weren't, nothing has changed.
+    #[inline(never)]
+    pub(crate) fn turns_at_once(&mut self, seat: &Seat<K>, known: &Known<'_, K>, turns: u32) -> bool
+        requires some { 0 < turns }
+        requires few { turns ≤ 1024 }
+    {
+        let Tied { core, lists, of: _ } = self;
+        let spans = &mut lists[seat.number as usize - 1];
+        if make_room(spans).is_err() {
+            return false;
+        }
+        let index = core.history().len();
+        match turns_at_once(core, &known.ahead, turns) {
+            Some(_process) => {
+                add_entries(spans, index, turns);
+                true
+            }
+            None => false,
         }
     }
 

@@ -1,6 +1,5 @@
 use Rattle.std.proofs.Common.{rules, ap, inl, inr, subst, sym, ◌∙◌}
-use Rattle.hep_workers.specs.Reports.{IsReport}
-use Rattle.hep_workers.specs.Faults.{IsSharedBy, IsWorkFault}
+use Rattle.hep_workers.specs.Faults.{IsWorkFault}
 use Rattle.hep_outcome.specs.Outcome.{full_with}
 use Rattle.hep_outcome.specs.Transcripts.{outcome_of}
 use Rattle.hep_outcome.proofs.Wanted.{noted-full, on-err-anyway, on-err-so}
@@ -10,12 +9,9 @@ use Rattle.std.proofs.lemmas.Result.{IfOk-weaker}
 
 pub returns-in-Ok-clause-made : goal.returns-in-Ok-clause-made
 returns-in-Ok-clause-made g c =
-    let report = c.in-Ok.report in
-    let core = c.into_parts-core.result.0.core in
-    let same = sym c.into_parts-core.ensures.core in
-    let is-report = subst (λ v. IsReport v c.args.image c.args.asked.now.options.now report.logs) same c.in-Ok.ensures.report in
-    let is-shared = subst (IsSharedBy c.args.image c.args.asked.now.options.now) same c.in-Ok.ensures.turns in
-    IfOk-weaker c.ended_transcript.result _ _ (λ r is. outcome-worked c.args.asked.now.long c.args.image c.args.asked.now.options.now core report.logs (outcome_of r) is-report is-shared c.headline.ensures.legal c.headline.ensures.named is) c.ended_transcript.ensures
+    let core = c.in-Ok.core.core in
+    let e = c.in-Ok.ensures in
+    IfOk-weaker c.ended_transcript.result _ _ (λ r is. outcome-worked c.args.asked.now.long c.args.image c.args.asked.now.options.now core (outcome_of r) e.run e.over e.turns c.headline.ensures.legal c.headline.ensures.named is) c.ended_transcript.ensures
 
 pub returns-in-Ok-clause-unmade : goal.returns-in-Ok-clause-unmade
 returns-in-Ok-clause-unmade g c = on-err-anyway c.ended_transcript.result (inr c.in-Ok.ensures.fits)

@@ -1,9 +1,9 @@
-use Rattle.std.proofs.Common.{◌∙◌, List, sym, subst}
+use Rattle.std.proofs.Common.{◌∙◌}
 use Rattle.std.proofs.Math.Logic.{∥∥₁_map}
 use Rattle.hep_receipts.specs.Shared.{cancelled}
 use Rattle.hep_receipts.proofs.Shared.{of-one-run}
-use Rattle.hep_machine.specs.declared.event.Entry.{Entry}
-use Rattle.hep_workers.specs.Lists.{AreLogsOf, lists_of}
+use Rattle.hep_workers.specs.Lists.{lists_of}
+use Rattle.hep_workers.proofs.Lists.{same-inside, same-logged}
 use Rattle.hep_workers.proofs.Shared.{cancelled-same, here}
 use Rattle.hep_workers.proofs.tied.Tied.cancel.Goals as goal
 
@@ -13,6 +13,7 @@ invariant_of-self g c =
     let id = c.args.ticket.now.id in
     let new = c.cancel.new.self in
     let call = c.cancel.ensures.cancelled in
+    let same = cancelled-same was.core new id c.cancel.result call in
     let one = of-one-run was.core.core new (cancelled was.core new id c.cancel.result (here was.core) call) in
     record {
       program = one.program ∙ was.program;
@@ -20,5 +21,6 @@ invariant_of-self g c =
       limit = one.limit ∙ was.limit;
       shared = ∥∥₁_map was.shared (λ before. cancelled was.core new id c.cancel.result before call);
       many = was.many;
-      logged = ∥∥₁_map was.logged (λ are. subst (λ (h : List Entry). AreLogsOf g.K.Whole.workers h (lists_of was.lists.items)) (sym (cancelled-same was.core new id c.cancel.result call)) are);
+      logged = same-logged g.K.Whole.workers was.core.core.history new.core.history (lists_of was.lists.items) same was.logged;
+      inside = same-inside was.core.core.history new.core.history (lists_of was.lists.items) same was.inside;
     }

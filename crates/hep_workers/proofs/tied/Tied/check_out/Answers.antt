@@ -1,10 +1,10 @@
-use Rattle.std.proofs.Common.{◌∙◌, Err, List, sym, subst}
+use Rattle.std.proofs.Common.{◌∙◌, Err, subst}
 use Rattle.std.proofs.Math.Logic.{∥∥₁_map}
 use Rattle.hep_core.specs.Commits.{IsCheckedOut}
 use Rattle.hep_receipts.specs.Shared.{checked_out}
 use Rattle.hep_receipts.proofs.Shared.{of-one-run}
-use Rattle.hep_machine.specs.declared.event.Entry.{Entry}
-use Rattle.hep_workers.specs.Lists.{AreLogsOf, lists_of}
+use Rattle.hep_workers.specs.Lists.{lists_of}
+use Rattle.hep_workers.proofs.Lists.{same-inside, same-logged}
 use Rattle.hep_workers.proofs.Shared.{checked-out-same, here}
 use Rattle.hep_workers.proofs.tied.Tied.check_out.Goals as goal
 
@@ -14,6 +14,7 @@ invariant_of-self g c =
     let p = c.args.process in
     let new = c.check_out_again.new.self in
     let call = c.check_out_again.ensures.given in
+    let same = checked-out-same was.core new p c.check_out_again.result call in
     let one = of-one-run was.core.core new (checked_out was.core new p c.check_out_again.result (here was.core) call) in
     record {
       program = one.program ∙ was.program;
@@ -21,7 +22,8 @@ invariant_of-self g c =
       limit = one.limit ∙ was.limit;
       shared = ∥∥₁_map was.shared (λ before. checked_out was.core new p c.check_out_again.result before call);
       many = was.many;
-      logged = ∥∥₁_map was.logged (λ are. subst (λ (h : List Entry). AreLogsOf g.K.Whole.workers h (lists_of was.lists.items)) (sym (checked-out-same was.core new p c.check_out_again.result call)) are);
+      logged = same-logged g.K.Whole.workers was.core.core.history new.core.history (lists_of was.lists.items) same was.logged;
+      inside = same-inside was.core.core.history new.core.history (lists_of was.lists.items) same was.inside;
     }
 
 pub invariant_of-result : goal.invariant_of-result

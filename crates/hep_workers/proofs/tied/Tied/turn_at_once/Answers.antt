@@ -1,9 +1,10 @@
-use Rattle.std.proofs.Common.{◌≡◌, ◌+◌, ◌-◌, ◌<◌, length, arith, refl, sym, ap, subst, ◌∙◌}
+use Rattle.std.proofs.Common.{◌≡◌, ◌-◌, ◌<◌, length, arith, refl, sym, ap, subst, ◌∙◌}
 use Rattle.std.proofs.Math.Logic.{∥∥₁_map}
 use Rattle.hep_core.specs.Places.{Placed}
+use Rattle.hep_receipts.specs.Turns.{entry_of}
 use Rattle.hep_receipts.proofs.Shared.{of-one-run}
 use Rattle.hep_receipts.specs.Shared.{IsSharedFrom}
-use Rattle.hep_workers.proofs.Lists.{kept, noted}
+use Rattle.hep_workers.proofs.Lists.{noted, noted-inside, own-inside, still, still-inside}
 use Rattle.hep_workers.proofs.Shared.{here, turned-at-once}
 use Rattle.hep_workers.proofs.tied.Tied.turn_at_once.Goals as goal
 
@@ -24,7 +25,9 @@ invariant_of-self g c =
       shared = was.shared;
       many = was.many;
       logged =
-          kept g.K.Whole.workers h h was.lists.items (seat.number - 1) c.index_mut-receipts.result.now c.make_room.new.receipts lt c.index_mut-receipts.ensures.value refl c.make_room.ensures.items was.logged;
+          still g.K.Whole.workers h h was.lists.items (seat.number - 1) c.index_mut-spans.result.now lt c.index_mut-spans.ensures.value was.inside c.make_room.new.spans refl c.make_room.ensures.items was.logged;
+      inside =
+          still-inside g.K.Whole.workers h h was.lists.items (seat.number - 1) c.index_mut-spans.result.now lt c.index_mut-spans.ensures.value was.inside c.make_room.new.spans refl c.make_room.ensures.items;
     }
 
 -- a turn is made
@@ -38,7 +41,7 @@ invariant_of-self-in-Some g c =
     let made = c.in-Some.ensures.made in
     let one = of-one-run was.core.core new (turned-at-once was.core.core was.core new p n (here was.core) made) in
     let lt : seat.number - 1 < length was.lists.items = omega (arith, seat.some, seat.few, was.many, was.lists.ok.0) in
-    let number : seat.number ≡ seat.number - 1 + 1 = omega (arith, seat.some) in
+    let count = c.len-index.ensures.count ∙ ap length c.history.ensures in
     record {
       program = one.program ∙ was.program;
       cells = one.cells ∙ was.cells;
@@ -46,8 +49,11 @@ invariant_of-self-in-Some g c =
       shared = ∥∥₁_map was.shared (λ before. turned-at-once g.K.Whole.opening was.core new p n before made);
       many = was.many;
       logged =
-          noted g.K.Whole.workers was.core.core.history new.core.history was.lists.items (seat.number - 1) c.index_mut-receipts.result.now c.push_reserved.new.self lt
-          c.index_mut-receipts.ensures.value seat.number c.make_room.new.receipts c.in-Some.receipt number c.in-Some.ensures.named c.make_room.ensures.items c.push_reserved.ensures.items was.logged;
+          noted g.K.Whole.workers was.core.core.history new.core.history was.lists.items (seat.number - 1) c.index_mut-spans.result.now lt c.index_mut-spans.ensures.value was.inside c.add_entry.new.spans (entry_of c.in-Some.receipt) c.make_room.new.spans c.len-index.result
+          c.in-Some.ensures.named.2 count c.make_room.ensures.items c.add_entry.ensures was.logged;
+      inside =
+          noted-inside g.K.Whole.workers was.core.core.history new.core.history was.lists.items (seat.number - 1) c.index_mut-spans.result.now lt c.index_mut-spans.ensures.value was.inside c.add_entry.new.spans (entry_of c.in-Some.receipt) c.make_room.new.spans c.len-index.result
+          c.in-Some.ensures.named.2 count c.make_room.ensures.items c.add_entry.ensures;
     }
 
 -- none is made
@@ -65,6 +71,17 @@ invariant_of-self-in-None g c =
       shared = ∥∥₁_map was.shared (λ before. subst (IsSharedFrom g.K.Whole.opening) (sym same) before);
       many = was.many;
       logged =
-          kept g.K.Whole.workers was.core.core.history new.core.history was.lists.items (seat.number - 1) c.index_mut-receipts.result.now c.make_room.new.receipts lt c.index_mut-receipts.ensures.value
-          (ap (λ (v : Placed). v.core.history) same) c.make_room.ensures.items was.logged;
+          still g.K.Whole.workers was.core.core.history new.core.history was.lists.items (seat.number - 1) c.index_mut-spans.result.now lt c.index_mut-spans.ensures.value was.inside c.make_room.new.spans (ap (λ (v : Placed). v.core.history) same) c.make_room.ensures.items was.logged;
+      inside =
+          still-inside g.K.Whole.workers was.core.core.history new.core.history was.lists.items (seat.number - 1) c.index_mut-spans.result.now lt c.index_mut-spans.ensures.value was.inside c.make_room.new.spans (ap (λ (v : Placed). v.core.history) same) c.make_room.ensures.items;
     }
+
+-- the entry is put behind spans of entries that are there
+pub add_entry-requires-clause-inside : goal.add_entry-requires-clause-inside
+add_entry-requires-clause-inside g c =
+    let was = c.args.self.now in
+    let seat = c.args.seat.now in
+    let lt : seat.number - 1 < length was.lists.items = omega (arith, seat.some, seat.few, was.many, was.lists.ok.0) in
+    let h = was.core.core.history in
+    own-inside g.K.Whole.workers h h was.lists.items (seat.number - 1) c.index_mut-spans.result.now lt c.index_mut-spans.ensures.value was.inside c.make_room.new.spans c.len-index.result
+    c.make_room.ensures.items (c.len-index.ensures.count ∙ ap length c.history.ensures)

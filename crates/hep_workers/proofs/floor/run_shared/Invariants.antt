@@ -1,4 +1,4 @@
-use Rattle.hep_workers.proofs.floor.run_workers.Given as goal
+use Rattle.hep_workers.proofs.floor.run_shared.Given as goal
 
 abbrev pub ghosts-share : goal.ghosts-share
 ghosts-share g a = record { opening = a.core.core; workers = a.workers }

@@ -1,0 +1,108 @@
+//! Where the entries of a worker are in the history.
+ghost use Rattle.std.specs.Prelude.{◌≡◌, ◌≤◌, ◌<◌, ◌^◌, ◌++◌, IfOk, OnOk, length, true, vec_capacity};
+ghost use Rattle.hep_workers.specs.Spans.{are_inside, log_of, receipts_in, with_entries, with_entry};
+
+use hep_entries::History;
+use hep_receipts::{Log, Receipt};
+use hep_reports::Finder;
+use std::alloc::{AllocError, Global};
+
+/// Entries of one worker that stand one behind the other in the history.
+#[derive(Clone, Copy)]
+pub(crate) struct Span {
+    /// The index of the first one, counted from 0.
+    pub(crate) first: u64,
+    /// How many there are.
+    pub(crate) count: u64,
+}
+
+/// An entry more behind those of the spans, at an index. There has to be room for a span more.
+#[inline(always)]
+pub(crate) fn add_entry(spans: &mut Vec<Span>, index: u64)
+    requires room { length spans.old.items < vec_capacity spans.old }
+    requires inside { are_inside index spans.old.items ≡ true }
+    requires few { index ≤ 2 ^ 63 }
+    ensures { spans.new.items ≡ with_entry spans.old.items index }
+{
+    let count = spans.len();
+    if count > 0 {
+        let last = &mut spans[count - 1];
+        if last.first + last.count == index {
+            last.count += 1;
+            return;
+        }
+    }
+    spans.push_reserved(Span {
+        first: index,
+        count: 1,
+    });
+}
+
+/// So many entries more behind those of the spans, at indexes one behind the other from this one on. There has to be room for a span more.
+pub(crate) fn add_entries(spans: &mut Vec<Span>, index: u64, count: u32)
+    requires room { length spans.old.items < vec_capacity spans.old }
+    requires inside { are_inside index spans.old.items ≡ true }
+    requires some { 0 < count }
+    requires few { index ≤ 2 ^ 63 }
+    ensures { spans.new.items ≡ with_entries spans.old.items index count }
+{
+    add_entry(spans, index);
+    let last = spans.len() - 1;
+    spans[last].count += count as u64 - 1;
+}
+
+/// The receipts of a worker, by where its entries are in the history.
+///
+/// # Errors
+///
+/// `AllocError` where memory was refused.
+pub(crate) fn log_of(
+    alloc: Global,
+    history: &History,
+    worker: u32,
+    spans: &[Span],
+) -> Result<Log, AllocError>
+    ensures { IfOk result (λ log. log ≡ log_of history.now.items worker spans.now) }
+{
+    let mut finder = Finder::new(history);
+    let mut receipts = Vec::new(alloc);
+    receipts.reserve(count_of(spans).min(history.len()) as usize)?;
+    for span in spans {
+        add_receipts(&mut receipts, &mut finder, worker, *span)?;
+    }
+    Ok(Log::of(receipts))
+}
+
+// How many entries they have.
+fn count_of(spans: &[Span]) -> u64 {
+    let mut count: u64 = 0;
+    for span in spans {
+        count = count.saturating_add(span.count);
+    }
+    count
+}
+
+// The receipts of a span more.
+fn add_receipts(
+    receipts: &mut Vec<Receipt>,
+    finder: &mut Finder<'_>,
+    worker: u32,
+    span: Span,
+) -> Result<(), AllocError>
+    ensures items { OnOk result (receipts.new.items ≡ receipts.old.items ++ receipts_in finder.old worker span.first span.count) }
+    ensures same { finder.new ≡ finder.old }
+{
+    let count = span.count.min(finder.len().saturating_sub(span.first));
+    for past in 0..count {
+        let index = span.first + past;
+        if let Some(entry) = finder.entry_at(index) {
+            receipts.push(Receipt {
+                index,
+                process: entry.process,
+                worker,
+                steps: entry.steps,
+            })?;
+        }
+    }
+    Ok(())
+}
