@@ -6,7 +6,14 @@ import subprocess
 from pathlib import Path
 
 ROOT = Path(__file__).resolve().parent.parent
+BUILT = ROOT / "built"
+STAMP = BUILT / "stamp"
 PROGRAM = "hepf"
+# The status of launchers that get no answer.
+NO_ANSWER = 70
+# What it takes to build, and to compile what isn't proved.
+BUILDING = "half an hour to an hour and a half on four processors"
+COMPILING = "two to three minutes"
 # The parts of a crate that are proved.
 PARTS = ("src", "specs", "proofs")
 # What the proof of a crate takes at most, in most cases, in bytes.
@@ -87,6 +94,11 @@ def commit():
     """The commit of the sources, with a + behind it where they differ from it."""
     name = said_by("git", "rev-parse", "--short=8", "HEAD") or "unknown"
     return name + ("+" if said_by("git", "status", "--porcelain", "crates", "crates.txt") else "")
+
+
+def old_commit():
+    """The commit of the program that was built last, or nothing."""
+    return STAMP.read_text().split()[0] if (BUILT / PROGRAM).exists() and STAMP.exists() else ""
 
 
 def slots():

@@ -1,12 +1,14 @@
-"""What can be said of words without the program: help, the version, what a refusal means, and mistakes.
+"""What can be said of words without the program: help, the version, what a refusal means, mistakes, and files that can't be read.
 
-Nothing of it stands here: commands, options and their numbers are read from the manual page, docs/hepf.1, explanations from
+Nothing of it but the last stands here: commands, options and their numbers are read from the manual page, docs/hepf.1, explanations from
 docs/REFUSALS.md and docs/FAULTS.md, and the version and some mistakes from the crate hep_command. A word that may have a
 meaning is left to the program.
 """
 import itertools
+import os
 import re
 import shlex
+import stat
 import textwrap
 from dataclasses import dataclass, field
 from pathlib import Path
@@ -27,6 +29,12 @@ HELPS = ("-h", "--help")
 
 class Mistake(Exception):
     """What is wrong with words."""
+
+
+class Unread(Exception):
+    """A file that can't be read, as the program says it."""
+
+    STATUS = 8
 
 
 # ---- the manual page
@@ -110,7 +118,7 @@ def help_of(manual, names):
     of_all = len(names) > 1
     lines = ["hepf < FILE"] * of_all + [found[name].line for name in names]
     options = dict.fromkeys(it for name in names for it in [*found[name].options, *found[name].flags])
-    tags = [*options, *FLAGS, "--help"] + ["--version"] * of_all
+    tags = [*dict.fromkeys([*options, *FLAGS]), "--help"] + ["--version"] * of_all
     text = "".join(textwrap.fill(it, COLUMNS, subsequent_indent="    ") + "\n" for it in lines) + "\n"
     text += "".join(shown(*of_tag(manual["COMMANDS"], name)) for name in names)
     return text + "\n" + "".join(shown(*of_tag(manual["OPTIONS"], it)) for it in tags)
@@ -268,3 +276,36 @@ def read(manual, words, of):
     if first == "explain":
         return explanation(" ".join(job.operands))
     return job
+
+
+# ---- files
+
+
+# Why a file can't be read, in the words of the program.
+NOT_THERE, FORBIDDEN, FOLDER, NO_FOLDER = "no such file", "permission denied", "is a folder", "a part of the path is no folder"
+NOT_OPENED = "can't be opened"
+
+
+def reason_of(path):
+    """Why a file can't be read, or nothing."""
+    try:
+        is_folder = stat.S_ISDIR(os.stat(path).st_mode)
+    except FileNotFoundError:
+        return NOT_THERE
+    except PermissionError:
+        return FORBIDDEN
+    except NotADirectoryError:
+        return NO_FOLDER
+    except (OSError, ValueError):
+        return NOT_OPENED
+    return FOLDER if is_folder else "" if os.access(path, os.R_OK) else FORBIDDEN
+
+
+def look_at_files(manual, job):
+    """Looks at the files that a job reads, in the order in which the program opens them. Raises the first that can't be read."""
+    operands = forms(manual)[job.command].kinds(len(job.operands)) if job.command else []
+    by_kind = [path for kind in ("HISTORY", "FILE") for path, it in zip(job.operands, operands) if it == kind]
+    for path in [value for name, value in job.options if name == "--choices"] + by_kind:
+        reason = reason_of(path)
+        if reason:
+            raise Unread(f"READ FAULT\n{path}: {reason}\n")
