@@ -50,10 +50,9 @@ def below(stands_on):
 
 
 def seconds():
-    """By crate, how long its proof takes by one processor, as docs/ARCHITECTURE.md has it."""
-    text = (ROOT / "docs" / "ARCHITECTURE.md").read_text()
-    rows = re.findall(r"^\| `(\w+)` (?:\| (?:[\d,]+|none) ){4}\| ([\d,]+) \|$", text, re.M)
-    return {name: int(number.replace(",", "")) for name, number in rows}
+    """By crate, how long its proof takes by one processor."""
+    rows = (row.split() for row in (ROOT / "launcher" / "seconds").read_text().splitlines()[1:])
+    return {name: int(number) for name, number in rows}
 
 
 def chains(stands_on, took):
