@@ -5,6 +5,32 @@ _hepf_offer() {
     mapfile -t COMPREPLY < <(compgen "$@" -- "$word")
 }
 
+# Offers the folders and the files of sources that begin with $word.
+_hepf_offer_sources() {
+    mapfile -t COMPREPLY < <(
+        compgen -d -- "$word"
+        compgen -f -X '!*.f' -- "$word"
+        compgen -f -X '!*.for' -- "$word"
+        compgen -f -X '!*.hep' -- "$word"
+    )
+}
+
+# Whether a file is named already behind the command, which has this place.
+_hepf_has_file() {
+    local index
+    for ((index = $1 + 1; index < COMP_CWORD; index++)); do
+        case ${COMP_WORDS[index]} in
+            --long | --warn | --help) ;;
+            --*)
+                ((index += 1))
+                [[ ${COMP_WORDS[index]} != = ]] || ((index += 1))
+                ;;
+            *) return 0 ;;
+        esac
+    done
+    return 1
+}
+
 _hepf() {
     local word=${COMP_WORDS[COMP_CWORD]} before=${COMP_WORDS[COMP_CWORD - 1]} options
     COMPREPLY=()
@@ -13,7 +39,7 @@ _hepf() {
     [[ $word != = ]] || word=
     case $before in
         --arena | --at | --from | --to | --process | --cell | --steps | --workers | --seed | --runs) return ;;
-        --choices | --history | --keep)
+        --choices | --follow | --history | --keep)
             _hepf_offer -f
             return
             ;;
@@ -28,17 +54,20 @@ _hepf() {
     case ${COMP_WORDS[at]} in
         check) options="--warn --long --help" ;;
         list) options="--long --help" ;;
-        run) options="--arena --steps --workers --seed --choices --history --long --help" ;;
+        run) options="--arena --steps --workers --seed --choices --follow --history --long --help" ;;
         sample) options="--runs --seed --arena --steps --keep --long --help" ;;
         replay | why | cover | diff) options="--arena --long --help" ;;
         state) options="--at --arena --long --help" ;;
         trace) options="--from --to --process --cell --arena --long --help" ;;
         explain)
             if ((COMP_CWORD == at + 1)); then
-                _hepf_offer -W "--long --help 101 102 103 104 105 106 107 201 202 203 204 205 301 302 303 304 305 306 307 308 309 310 311 312 401 402 501 506 601 602 603 701 702 703 704 705 OVERFLOW DIVIDE RANGE UNDEFINED SHAPE STEP FAULT WAITING STOPPED ARENA NO WORKERS READ WRITE REFUSED STILL WARNING STATUS"
+                options="--long --help 101 102 103 104 105 106 107 201 202 203 204 205 301 302 303 304 305 306 307 308 309 310 311 312 401 402 501 506 601 602 603 701 702 703 704 705 OVERFLOW DIVIDE RANGE UNDEFINED SHAPE STEP FAULT WAITING STOPPED ARENA NO WORKERS READ WRITE REFUSED STILL WARNING STATUS"
             else
-                _hepf_offer -W "ARENA STEP FULL LIMIT MEMORY REFUSED FAULT RUNNING 0 1 2 3 4 5 6 7 8 70"
+                options="ARENA STEP FULL LIMIT MEMORY REFUSED FAULT RUNNING 0 1 2 3 4 5 6 7 8 70"
             fi
+            # Small letters name the same.
+            [[ $word != [a-z]* ]] || options=${options,,}
+            _hepf_offer -W "$options"
             return
             ;;
         help)
@@ -49,8 +78,10 @@ _hepf() {
     esac
     if [[ $word == -* ]]; then
         _hepf_offer -W "$options"
-    else
+    elif _hepf_has_file "$at"; then
         _hepf_offer -f
+    else
+        _hepf_offer_sources
     fi
 }
 

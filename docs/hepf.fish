@@ -19,7 +19,8 @@ for command in hepf hepf-unproved
     complete -c $command -n __fish_use_subcommand -l version -d 'show the version'
     complete -c $command -n '__fish_seen_subcommand_from check run sample replay state trace why cover diff list explain' -l long -d 'say more of what went wrong'
     complete -c $command -n '__fish_seen_subcommand_from check run sample replay state trace why cover diff list explain' -l help -d 'show help'
-    complete -c $command -n '__fish_seen_subcommand_from check run sample replay state trace why cover diff list' -F
+    complete -c $command -n '__fish_seen_subcommand_from check run sample list' -k -a '(__fish_complete_suffix .f .for .hep)'
+    complete -c $command -n '__fish_seen_subcommand_from replay state trace why cover diff' -F
     complete -c $command -n '__fish_seen_subcommand_from check' -l warn -d 'say what may well be a mistake'
     complete -c $command -n '__fish_seen_subcommand_from run sample replay state trace why cover diff' -l arena -x -d 'cells of storage'
     complete -c $command -n '__fish_seen_subcommand_from state' -l at -x -d 'after how many entries'
@@ -33,6 +34,7 @@ for command in hepf hepf-unproved
     complete -c $command -n '__fish_seen_subcommand_from sample' -l keep -r -F -d 'how the files of histories begin'
     complete -c $command -n '__fish_seen_subcommand_from run' -l workers -x -d 'threads, 1 to 16'
     complete -c $command -n '__fish_seen_subcommand_from run' -l choices -r -F -d 'processes that are chosen first'
+    complete -c $command -n '__fish_seen_subcommand_from run' -l follow -r -F -d 'history whose steps are made first'
     complete -c $command -n '__fish_seen_subcommand_from run' -l history -r -F -d 'file that gets the history'
     complete -c $command -n '__fish_seen_subcommand_from help' -a 'check run sample replay state trace why cover diff list explain'
     complete -c $command -n '__fish_seen_subcommand_from explain' -a '101 102 103 104 105 106 107 201 202 203 204 205 301 302 303 304 305 306 307 308 309 310 311 312 401 402 501 506 601 602 603 701 702 703 704 705 OVERFLOW DIVIDE RANGE UNDEFINED SHAPE STEP FAULT WAITING STOPPED ARENA NO WORKERS READ WRITE REFUSED STILL WARNING STATUS FULL LIMIT MEMORY RUNNING 0 1 2 3 4 5 6 7 8 70'

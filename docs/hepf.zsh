@@ -31,42 +31,42 @@ _hepf_words() {
     case $words[1] in
         check)
             _arguments '--warn[say what may well be a mistake]' '--long[say more of what went wrong]' '--help[show help]' \
-                '1:source:_files'
+                '1:source:_files -g "*.(f|for|hep)"'
             ;;
         list)
-            _arguments '--long[say more of what went wrong]' '--help[show help]' '1:source:_files'
+            _arguments '--long[say more of what went wrong]' '--help[show help]' '1:source:_files -g "*.(f|for|hep)"'
             ;;
         run)
             _arguments '--arena=[cells of storage]:cells:' '--steps=[entries of the history]:entries:' \
                 '--workers=[threads, 1 to 16]:threads:' '--seed=[what lots are drawn by]:seed:' '--choices=[processes that are chosen first]:choices:_files' \
-                '--history=[file that gets the history]:history:_files' '--long[say more of what went wrong]' '--help[show help]' \
-                '1:source:_files'
+                '--follow=[history whose steps are made first]:history:_files' '--history=[file that gets the history]:history:_files' \
+                '--long[say more of what went wrong]' '--help[show help]' '1:source:_files -g "*.(f|for|hep)"'
             ;;
         sample)
             _arguments '--runs=[runs, 1 to 1000000]:runs:' '--seed=[seed of the first run]:seed:' '--arena=[cells of storage]:cells:' \
                 '--steps=[entries of the history]:entries:' '--keep=[how the files of histories begin]:prefix:_files' \
-                '--long[say more of what went wrong]' '--help[show help]' '1:source:_files'
+                '--long[say more of what went wrong]' '--help[show help]' '1:source:_files -g "*.(f|for|hep)"'
             ;;
         replay | why)
-            _arguments '--arena=[cells of storage]:cells:' '--long[say more of what went wrong]' '--help[show help]' '1:source:_files' \
+            _arguments '--arena=[cells of storage]:cells:' '--long[say more of what went wrong]' '--help[show help]' '1:source:_files -g "*.(f|for|hep)"' \
                 '2:history:_files'
             ;;
         cover)
-            _arguments '--arena=[cells of storage]:cells:' '--long[say more of what went wrong]' '--help[show help]' '1:source:_files' \
+            _arguments '--arena=[cells of storage]:cells:' '--long[say more of what went wrong]' '--help[show help]' '1:source:_files -g "*.(f|for|hep)"' \
                 '*:history:_files'
             ;;
         diff)
-            _arguments '--arena=[cells of storage]:cells:' '--long[say more of what went wrong]' '--help[show help]' '1:source:_files' \
+            _arguments '--arena=[cells of storage]:cells:' '--long[say more of what went wrong]' '--help[show help]' '1:source:_files -g "*.(f|for|hep)"' \
                 '2:history:_files' '3:history:_files'
             ;;
         state)
             _arguments '--at=[after how many entries]:entries:' '--arena=[cells of storage]:cells:' '--long[say more of what went wrong]' \
-                '--help[show help]' '1:source:_files' '2:history:_files'
+                '--help[show help]' '1:source:_files -g "*.(f|for|hep)"' '2:history:_files'
             ;;
         trace)
             _arguments '--from=[first entry]:entry:' '--to=[last entry]:entry:' '--process=[process by its number]:process:' \
                 '--cell=[name of a variable]:name:' '--arena=[cells of storage]:cells:' '--long[say more of what went wrong]' \
-                '--help[show help]' '1:source:_files' '2:history:_files'
+                '--help[show help]' '1:source:_files -g "*.(f|for|hep)"' '2:history:_files'
             ;;
         explain)
             _arguments '--long[say more of what went wrong]' '--help[show help]' '1:number or name:(101 102 103 104 105 106 107 201 202 203 204 205 301 302 303 304 305 306 307 308 309 310 311 312 401 402 501 506 601 602 603 701 702 703 704 705 OVERFLOW DIVIDE RANGE UNDEFINED SHAPE STEP FAULT WAITING STOPPED ARENA NO WORKERS READ WRITE REFUSED STILL WARNING STATUS)' \

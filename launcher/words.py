@@ -1,30 +1,39 @@
 """What can be said of words without the program: help, the version, what a refusal means, mistakes, and files that can't be read.
 
-Nothing of it but the last stands here: commands, options and their numbers are read from the manual page, docs/hepf.1, explanations from
-docs/REFUSALS.md and docs/FAULTS.md, and the version and some mistakes from the crate hep_command. A word that may have a
-meaning is left to the program.
+The folder help/ and the file version have what the program writes of itself, commands has what each command takes, and
+docs/REFUSALS.md and docs/FAULTS.md have the explanations. A word that may have a meaning is left to the program.
 """
 import itertools
 import os
 import re
-import shlex
 import stat
 import textwrap
 from dataclasses import dataclass, field
 from pathlib import Path
 
-ROOT = Path(__file__).resolve().parent.parent
-COMMAND = ROOT / "crates" / "hep_command" / "src"
+HERE = Path(__file__).resolve().parent
+DOCS = HERE.parent / "docs"
 COLUMNS = 80
-# What stands for a file in the manual page, or for what names of files begin with.
+# What stands for a file in the file commands, or for what names of files begin with.
 FILES = ("FILE", "HISTORY", "PREFIX")
-# What stands for a number.
-NUMBERS = ("N", "K", "P")
+# What is standard input: a file, and its name.
+STANDARD = ("FILE", "-")
 # Behind what stands there for one word or more.
 MORE = ".."
 # What every command takes, before it or behind it, and what asks for help.
 FLAGS = ("--long",)
 HELPS = ("-h", "--help")
+# What the program says of words that `explain` doesn't take, and of files and orders that exclude each other: of orders by the
+# first of these that is given.
+NO_NUMBER = "error: no refusal has this number\n"
+NO_NAME = "error: nothing has this name; `hepf explain --help` says what is explained\n"
+SAME_FILE = "error: --history names a file that is read\n"
+TWO_ORDERS = {
+    "--follow": "USAGE: --follow excludes --choices, --seed and --workers\n",
+    "--seed": "USAGE: --seed excludes --choices and --workers\n",
+    "--workers": "USAGE: --choices excludes --workers\n",
+    "--choices": "",
+}
 
 
 class Mistake(Exception):
@@ -37,46 +46,12 @@ class Unread(Exception):
     STATUS = 8
 
 
-# ---- the manual page
-
-
-def plain(row):
-    """The text of a line of the manual page, and of its request where it has one that sets fonts."""
-    request, _, rest = row.partition(" ")
-    if re.fullmatch(r"\.[BIR]{1,2}", request):
-        parts = shlex.split(rest.replace("\\", "\\\\"))
-        row = (" " if len(request) == 2 else "").join(parts)
-    return re.sub(r"\\f.", "", row).replace("\\-", "-")
-
-
-def sections():
-    """By name, the sections of the manual page: a list of paragraphs, each with what it is of, or nothing, and its lines."""
-    found, wants_tag = {}, False
-    for row in (ROOT / "docs" / "hepf.1").read_text().splitlines():
-        if row.startswith(".SH "):
-            paragraphs = found[row[4:]] = [("", [])]
-        elif row in (".TP", ".PP", ".br"):
-            wants_tag = row == ".TP"
-            paragraphs.append(("", []))
-        elif wants_tag:
-            paragraphs[-1] = (plain(row), [])
-            wants_tag = False
-        elif found and not row.startswith((".nf", ".fi")):
-            paragraphs[-1][1].append(plain(row))
-    return found
-
-
-def of_tag(section, name):
-    """What the paragraph of a section says that is of this command or option."""
-    for tag, rows in section:
-        if name in re.split(r"[ ,]+", tag):
-            return tag, " ".join(rows)
-    raise LookupError(name)
+# ---- commands
 
 
 @dataclass
 class Form:
-    """A command as the synopsis has it: its line, what it has to be given, by option what that is given, and options that stand alone."""
+    """What a command takes: its line, what it has to be given, by option what that is given, and options that stand alone."""
 
     line: str
     operands: list
@@ -93,56 +68,32 @@ class Form:
         return named + named[-1:] * (count - len(named))
 
 
-def forms(manual):
-    """By command, its form."""
-    found = {}
-    for _, rows in manual["SYNOPSIS"]:
-        line = " ".join(rows)
-        name, *operands = re.sub(r"\[.*", "", line).split()[1:]
-        if name != "<":
-            options, alone = re.findall(r"\[(--\w+) (\w+)\]", line), re.findall(r"\[(--\w+)\]", line)
-            found[name] = Form(line, operands, dict(options), alone)
-    return found
+TABLE = (HERE / "commands").read_text()
+FORMS = {
+    name: Form(line, operands.split(), dict(re.findall(r"\[(--\w+) (\w+)\]", line)), re.findall(r"\[(--\w+)\]", line))
+    for line, name, operands in re.findall(r"^(hepf (\w+) ([^[]*).*)$", TABLE, re.M)
+}
+# By option, its least and its greatest number.
+NUMBERS = {name: (int(least), int(most)) for name, least, most in re.findall(r"^(--\w+) (\d+) (\d+)$", TABLE, re.M)}
 
 
 # ---- texts
 
 
-def shown(tag, text):
-    return f"  {tag}\n" + textwrap.fill(text, COLUMNS, initial_indent="      ", subsequent_indent="      ") + "\n"
-
-
-def help_of(manual, names):
-    """The help of these commands."""
-    found = forms(manual)
-    of_all = len(names) > 1
-    lines = ["hepf < FILE"] * of_all + [found[name].line for name in names]
-    options = dict.fromkeys(it for name in names for it in [*found[name].options, *found[name].flags])
-    tags = [*dict.fromkeys([*options, *FLAGS]), "--help"] + ["--version"] * of_all
-    text = "".join(textwrap.fill(it, COLUMNS, subsequent_indent="    ") + "\n" for it in lines) + "\n"
-    text += "".join(shown(*of_tag(manual["COMMANDS"], name)) for name in names)
-    return text + "\n" + "".join(shown(*of_tag(manual["OPTIONS"], it)) for it in tags)
-
-
-def text_in(file, pattern):
-    """A text that stands in the crate hep_command, behind what the pattern begins with."""
-    return re.search(pattern, (COMMAND / file).read_text(), re.S)[1].replace("\\n", "\n")
-
-
-def constant(file, name):
-    return text_in(file, rf'const {name}: &str =\s*"(.*?)";')
+def help_of(name="hepf"):
+    """The help of a command, or of the program."""
+    return (HERE / "help" / name).read_text()
 
 
 def version(of):
     """The version, with what it is of behind its number."""
-    number, _, kit = constant("program.rt", "VERSION").partition(", ")
-    return f"hepf {number}, {of}, {kit}\n"
+    return (HERE / "version").read_text().replace(", ", f", {of}, ", 1)
 
 
 def sections_of(page, mark):
     """By heading, what a page of docs/ says in its sections with this mark, but for the lines that begin and end programs."""
     found = {}
-    for section in re.split(r"^(?=#+ )", (ROOT / "docs" / page).read_text(), flags=re.M):
+    for section in re.split(r"^(?=#+ )", (DOCS / page).read_text(), flags=re.M):
         heading, *rows = section.strip("\n").split("\n")
         if heading.startswith(f"{mark} "):
             shown_rows = [it for it in rows[1:] if not it.startswith("```")]
@@ -153,7 +104,7 @@ def sections_of(page, mark):
 def refusals():
     """By number, what docs/REFUSALS.md says: what it means, what to do, and more where there is more."""
     more = {heading.split(",")[0]: text for heading, text in sections_of("REFUSALS.md", "###").items()}
-    rows = re.findall(r"^\| (\d+) \| .* \| (.*) \| (.*) \|$", (ROOT / "docs" / "REFUSALS.md").read_text(), re.M)
+    rows = re.findall(r"^\| (\d+) \| .* \| (.*) \| (.*) \|$", (DOCS / "REFUSALS.md").read_text(), re.M)
     return {number: (means, remedy, more.get(number, "")) for number, means, remedy in rows}
 
 
@@ -167,11 +118,11 @@ def explanation(name):
     if not re.fullmatch(r"\+?[0-9]+", name):
         found = meanings().get(name.upper())
         if not found:
-            raise Mistake(constant("explaining.rt", "NO_NAME"))
+            raise Mistake(NO_NAME)
         return found
     found = refusals().get(str(int(name)))
     if not found:
-        raise Mistake(constant("explaining.rt", "NO_NUMBER"))
+        raise Mistake(NO_NUMBER)
     *sentences, more = found
     return "".join(textwrap.fill(it, COLUMNS) + "\n" for it in sentences) + (f"\n{more}" if more else "")
 
@@ -189,17 +140,19 @@ class Job:
     options: list = field(default_factory=list)
     flags: list = field(default_factory=list)
 
-    def words_from(self, folder, form):
+    def word_from(self, folder, word, kind):
+        """A word with the path from the root, where it is one."""
+        return str(folder / word) if kind in FILES and (kind, word) != STANDARD else word
+
+    def words_from(self, folder):
         """The words with each path as it is from the root."""
-        words = [str(folder / it) if kind in FILES else it for it, kind in zip(self.operands, form.kinds(len(self.operands)))]
+        if not self.command:
+            return self.flags
+        form = FORMS[self.command]
+        words = [self.word_from(folder, it, kind) for it, kind in zip(self.operands, form.kinds(len(self.operands)))]
         for name, value in self.options:
             words.append(f"{name}={folder / value if form.options[name] in FILES else value}")
         return [self.command, *self.flags, *words]
-
-
-def checked_number(name, text, least, most):
-    if not re.fullmatch(r"\+?[0-9]+", text) or not least <= int(text) <= most:
-        raise Mistake(f"error: {name} takes a number, {least} to {most}, and not {text}\n")
 
 
 def taken(command, form, words):
@@ -210,7 +163,7 @@ def taken(command, form, words):
         name, has_value, value = word.partition("=")
         if word in HELPS:
             return None
-        if word in FLAGS or word in form.flags:
+        if word in form.flags:
             if word in job.flags:
                 raise Mistake(f"error: {command} gets {word} twice\n")
             job.flags.append(word)
@@ -231,28 +184,27 @@ def taken(command, form, words):
     return job
 
 
-def judge(manual, job, form):
+def judge(job, form):
     """Raises the mistake that a job has, if it has one."""
     lacking = form.operands[len(job.operands) :]
     if lacking or len(job.operands) > len(form.operands) and not form.takes_more():
         wrong = f"lacks {' '.join(lacking)}" if lacking else f"doesn't take {job.operands[len(form.operands)]}"
         raise Mistake(f"error: {job.command} {wrong}\n\nUsage: {form.line}\n")
     for name, value in job.options:
-        if form.options[name] in NUMBERS:
-            least, most = re.search(r"(\d+) to (\d+)", of_tag(manual["OPTIONS"], name)[1]).groups()
-            checked_number(name, value, int(least), int(most))
+        least, most = NUMBERS.get(name, (0, 0))
+        if name in NUMBERS and not (re.fullmatch(r"\+?[0-9]+", value) and least <= int(value) <= most):
+            raise Mistake(f"error: {name} takes a number, {least} to {most}, and not {value}\n")
     given = dict(job.options)
-    choices, history = given.get("--choices"), given.get("--history")
-    if history is not None and history in (choices, *job.operands):
-        raise Mistake(constant("words.rt", "SAME_FILE"))
-    orders = [it for it in ("--choices", "--workers", "--seed") if it in given]
+    choices, follow, history = (given.get(it) for it in ("--choices", "--follow", "--history"))
+    if history is not None and history in (choices, follow, *job.operands):
+        raise Mistake(SAME_FILE)
+    orders = [text for name, text in TWO_ORDERS.items() if name in given]
     if len(orders) > 1:
-        raise Mistake(constant("words.rt", "LOTS_TOO" if "--seed" in orders else "TWO_ORDERS"))
+        raise Mistake(orders[0])
 
 
-def read(manual, words, of):
+def read(words, of):
     """The text that words ask for, or the job that they are."""
-    found = forms(manual)
     before = [*itertools.takewhile(lambda word: word in FLAGS, words)]
     if len(before) > 1:
         raise Mistake(f"error: {before[0]} is there twice\n")
@@ -260,19 +212,19 @@ def read(manual, words, of):
         return Job(flags=before)
     first, *rest = words[len(before) :]
     if first == "help" and (not rest or rest[0] in HELPS) or first in HELPS:
-        return help_of(manual, [*found])
-    if first in ("-V", "--version"):
+        return help_of()
+    if first in ("-V", "--version") or first == "version" and not rest:
         return version(of)
-    if first == "help" and rest[0] in found:
-        return help_of(manual, rest[:1])
-    if first not in found:
+    if first == "help" and rest[0] in FORMS:
+        return help_of(rest[0])
+    if first not in FORMS:
         meant = f"Did you mean: hepf run {first}\n" if "." in first or "/" in first else ""
-        raise Mistake(f"error: {first} is no command: they are {', '.join(found)}\n{meant}")
-    job = taken(first, found[first], rest)
+        raise Mistake(f"error: {first} is no command: they are {', '.join(FORMS)}\n{meant}")
+    job = taken(first, FORMS[first], rest)
     if job is None:
-        return help_of(manual, [first])
+        return help_of(first)
     job.flags = [*dict.fromkeys(before + job.flags)]
-    judge(manual, job, found[first])
+    judge(job, FORMS[first])
     if first == "explain":
         return explanation(" ".join(job.operands))
     return job
@@ -301,11 +253,11 @@ def reason_of(path):
     return FOLDER if is_folder else "" if os.access(path, os.R_OK) else FORBIDDEN
 
 
-def look_at_files(manual, job):
+def look_at_files(job):
     """Looks at the files that a job reads, in the order in which the program opens them. Raises the first that can't be read."""
-    operands = forms(manual)[job.command].kinds(len(job.operands)) if job.command else []
-    by_kind = [path for kind in ("HISTORY", "FILE") for path, it in zip(job.operands, operands) if it == kind]
-    for path in [value for name, value in job.options if name == "--choices"] + by_kind:
+    operands = FORMS[job.command].kinds(len(job.operands)) if job.command else []
+    by_kind = [path for kind in ("HISTORY", "FILE") for path, it in zip(job.operands, operands) if it == kind and (it, path) != STANDARD]
+    for path in [value for name, value in job.options if name in ("--choices", "--follow")] + by_kind:
         reason = reason_of(path)
         if reason:
             raise Unread(f"READ FAULT\n{path}: {reason}\n")

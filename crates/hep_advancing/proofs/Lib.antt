@@ -1,3 +1,6 @@
+pub use Rattle.hep_reading.proofs.PrivateCases
+pub use Rattle.hep_reading.proofs.PrivateChanged
+pub use Rattle.hep_reading.proofs.PrivateMoves
 mod Constants
 mod Ends
 pub mod Steps

@@ -1,3 +1,6 @@
+pub use Rattle.hep_reading.specs.ImageImage
+pub use Rattle.hep_reading.specs.ImagePrivate
+pub use Rattle.hep_reading.specs.StepSimulation
 pub mod Deeds
 pub mod Progress
 pub use Rattle.hep_reading.specs.Records

@@ -4,7 +4,7 @@ ghost use Rattle.std.specs.Option.{option_map};
 ghost use Rattle.hep_machine.specs.Words.{integer_of};
 ghost use Rattle.hep_machine.specs.Arithmetic as arithmetic;
 ghost use Rattle.hep_code.specs.Words.{first_operand, second_operand};
-ghost use Rattle.hep_step.specs.Effects.{third_operand};
+ghost use Rattle.hep_reading.specs.StepEffects.{third_operand};
 ghost use Rattle.hep_reading.specs.Own.{count_in, increment_in, is_first};
 ghost use Rattle.hep_reading.specs.Recorded.{if_ok, made_of_end_by, made_of_end_of, made_of_entry_by};
 ghost use Rattle.hep_advancing.specs.Deeds.{here_own, made_of_deed};

@@ -1,6 +1,6 @@
 //! Whether the arrays among the dummy arguments of a unit that is called fit what is given to them.
 ghost use Rattle.std.specs.Prelude.{◌≡◌, ◌<◌, ◌≤◌, ◌+◌, ◌++◌, ◌∷◌, [], true, length, slice_get, vec_len, vec_capacity};
-ghost use Rattle.hep_image.specs.declared.dummy.DummyArgument.TheVariants.{Adjustable};
+ghost use Rattle.hep_step.specs.ImageDummyDummyArgument.TheVariants.{Adjustable};
 ghost use Rattle.hep_step.specs.Shapes as passing;
 ghost use Rattle.hep_binding.specs.Fitting as definitions;
 ghost use Rattle.hep_binding.specs.Fitting.{AreShapable, IsShapable, are_fitting, shapes_of};
@@ -8,10 +8,8 @@ ghost use Rattle.hep_binding.specs.Fitting.{AreShapable, IsShapable, are_fitting
 use crate::shape::shape_given;
 use hep_arena::Arena;
 use hep_code::BoundOperation;
-use hep_image::DummyArgument;
-use hep_shape::Shape;
 use hep_source::Value;
-use hep_step::Given;
+use hep_step::{DummyArgument, Given, Shape};
 
 // How many storage units are given to the dummy argument of a number; an expression is one.
 fn count_given(given: &[Given], number: usize) -> u32

@@ -17,6 +17,14 @@ pub mod value;
 pub use beginning::begin;
 pub use binding::bind;
 pub use fitting::{find_shapes, longest_code};
+pub use hep_accepted_laws::code::{arrays_are_there, variables_of_the_code_are_placed};
+pub use hep_accepted_laws::names::names_are_given_once;
+pub use hep_accepted_laws::runs::{
+    activations_are_bound_in_runs, actual_arguments_fit, calls_agree_in_runs,
+    calls_come_from_statements, functions_are_referred_to, programs_are_closed,
+    references_come_from_statements, subroutines_are_called, units_are_there, variables_are_placed,
+    works_come_from_statements,
+};
 pub use shape::shape_given;
 pub use shaping::shape_all;
 pub use value::bound_value;

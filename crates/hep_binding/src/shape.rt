@@ -11,9 +11,8 @@ use hep_arena::Arena;
 use hep_code::BoundOperation;
 use hep_machine::Bound;
 use hep_machine::values::integer_of;
-use hep_shape::Shape;
 use hep_source::Value;
-use hep_step::Given;
+use hep_step::{Given, Shape};
 
 // Two values for each dimension, of which an array has seven at most (X3.9-1978, 5.1.1).
 const MOST_VALUES: usize = 14;

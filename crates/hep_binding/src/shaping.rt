@@ -10,12 +10,12 @@ ghost use Rattle.hep_proc.specs.Placing.{KeepsPlaces};
 ghost use Rattle.hep_binding.specs.Shapes.{AreShaping, IsBoundPut, IsFramedBy, IsShaping, cells_of_shape, cells_of_shapes};
 ghost use Rattle.hep_binding.specs.Shapes.{cells_to_bounds_of};
 ghost use Rattle.hep_binding.specs.Writing.{AreCellsOut, unit_framed, written_up_to};
-ghost use Rattle.hep_layout.specs.Words.{FrameNode};
+ghost use Rattle.hep_step.specs.LayoutWords.{FrameNode};
 
 use crate::binding::number;
 use hep_machine::Bound;
 use hep_proc::Frames;
-use hep_shape::Shape;
+use hep_step::Shape;
 
 // Writes the bounds of a dimension to its two cells, of which the second one has no value yet.
 fn put_bound(frames: &mut Frames, at: u32, bound: Bound)

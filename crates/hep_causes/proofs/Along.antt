@@ -2,8 +2,8 @@
 use Rattle.std.proofs.Common.{◌≡◌, ◌≢◌, ℕ, ◌&&◌, Bool, true, false, true≢false, List, [], ◌∷◌, ◌++◌, length, length-append, not, Option, Some, None, refl, sym, ap, ◌∙◌, subst, arith, append_assoc, IsSome, if◌then◌else◌, nat_le, slice_get}
 use Rattle.std.specs.Option.{option_map}
 use Rattle.std.proofs.lemmas.Option.{none-some, same_Some}
-use Rattle.hep_core.proofs.Histories.{schedule-stepped, state-is}
-use Rattle.hep_core.specs.Value.{CoreValue, state_of}
+use Rattle.hep_history.proofs.Histories.{schedule-stepped, state-is}
+use Rattle.hep_history.specs.Value.{CoreValue, state_of}
 use Rattle.hep_history.specs.Progress.{IsStanding, longer, turn_entry}
 use Rattle.hep_history.specs.Replays.{HaveGaps, standing}
 use Rattle.hep_layout.proofs.HeldFrames.{run-last}
@@ -11,7 +11,7 @@ use Rattle.hep_machine.specs.declared.event.Entry.{Entry}
 use Rattle.hep_machine.specs.Words.{AreSteps, Location, State, Units, is_held, layout_of, opening, run, same_logical, schedule_of, state_after, state_after_turn, step}
 use Rattle.hep_reasons.specs.Changes.{change_by, is_there, latest_after, latest_along}
 use Rattle.hep_reasons.specs.declared.reason.Change.{Change}
-use Rattle.hep_state.proofs.Runs.{laid-before}
+use Rattle.hep_sites.proofs.StateRuns.{laid-before}
 use Rattle.hep_causes.specs.declared.watch.Watch.{Watch}
 use Rattle.hep_causes.specs.Watches.{AreAlong, AreKeptOnceThere, CanTurn, HaveLooked, IsAlong, IsKeptOnceThere, WaitTheSame, Whole, looked, processes}
 use Rattle.hep_causes.proofs.Kept.{kept-then, there-next}

@@ -1,10 +1,10 @@
 -- A core that has made no turn, and turns that can't be refused.
 use Rattle.std.proofs.Common.{◌≡◌, ℕ, [], false, true≢false, None, Err, sym, ap, ◌∙◌, is_some, IsSome}
-use Rattle.hep_core.specs.declared.fault.ChooseFault.TheVariants as refused
-use Rattle.hep_core.specs.declared.fault.NewFault.TheVariants as unmade
-use Rattle.hep_core.specs.declared.stop.ChoiceStop.{ChoiceStop}
-use Rattle.hep_core.specs.Tickets.{is_out}
-use Rattle.hep_core.specs.Value.{CoreValue, IsChoice, IsNewFault, opening_of, stop_after}
+use Rattle.hep_history.specs.ChooseFault.TheVariants as refused
+use Rattle.hep_history.specs.CoreFaultNewFault.TheVariants as unmade
+use Rattle.hep_history.specs.ChoiceStop.{ChoiceStop}
+use Rattle.hep_history.specs.CoreTickets.{is_out}
+use Rattle.hep_history.specs.Value.{CoreValue, IsChoice, IsNewFault, opening_of, stop_after}
 use Rattle.hep_history.proofs.Turns.{nobody_turns, stopped_turns}
 use Rattle.hep_history.specs.Replays.{most_entries, standing}
 use Rattle.hep_machine.specs.Words.{Units, is_held, opening, opening_layout, state_after, view_of}

@@ -1,14 +1,14 @@
 -- A machine that has made no turn, with watches of which nothing is known.
 use Rattle.std.proofs.Common.{◌≡◌, ℕ, ◌≤◌, List, [], ◌++◌, None, refl, sym, ap, ◌∙◌, subst, arith, append-nil}
-use Rattle.hep_core.proofs.Histories.{schedule-none}
-use Rattle.hep_core.specs.Value.{CoreValue}
+use Rattle.hep_history.proofs.Histories.{schedule-none}
+use Rattle.hep_history.specs.Value.{CoreValue}
 use Rattle.hep_history.specs.Replays.{standing}
 use Rattle.hep_machine.specs.declared.event.Entry.{Entry}
 use Rattle.hep_machine.specs.Words.{IsLegal, Units, schedule_of}
 use Rattle.hep_quick.specs.declared.tabled.Tabled.{Tabled}
 use Rattle.hep_quick.specs.UnitTables.{AreTables}
-use Rattle.hep_state.specs.declared.machine.Machine.{Machine}
-use Rattle.hep_state.specs.Words.{IsMachineAfter}
+use Rattle.hep_sites.specs.StateMachineMachine.{Machine}
+use Rattle.hep_sites.specs.StateWords.{IsMachineAfter}
 use Rattle.hep_causes.specs.declared.again.Again.{Again}
 use Rattle.hep_causes.specs.declared.watch.Watch.{Watch}
 use Rattle.hep_causes.specs.Making.{IsRemade, core_like, made_by}

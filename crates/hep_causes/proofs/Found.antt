@@ -3,8 +3,8 @@ use Rattle.std.proofs.Common.{◌≡◌, ℕ, zero, suc, ◌+◌, ◌≤◌, ◌
 use Rattle.std.specs.Option.{option_map, option_to_list}
 use Rattle.std.proofs.lemmas.List.{length-map, length-replicate, map-append}
 use Rattle.std.proofs.lemmas.Option.{none-some, same_Some, slice_get-map}
-use Rattle.hep_core.proofs.Histories.{number-listed, schedule-none, state-is}
-use Rattle.hep_core.specs.Value.{CoreValue, listed_after, state_of}
+use Rattle.hep_history.proofs.Histories.{number-listed, schedule-none, state-is}
+use Rattle.hep_history.specs.Value.{CoreValue, listed_after, state_of}
 use Rattle.hep_history.proofs.Turns.{expand_singles, state_singles}
 use Rattle.hep_history.specs.Replays.{most_entries, single_entries, single_steps, standing}
 use Rattle.hep_layout.proofs.HeldFrames.{opening-is}
@@ -14,8 +14,8 @@ use Rattle.hep_machine.specs.Words.{AreSteps, IsLegal, Location, Progress, State
 use Rattle.hep_reasons.specs.Changes.{is_there, latest_along, latest_change, turns_from}
 use Rattle.hep_reasons.specs.Reasons.{reason_by, reason_of, reason_with, reasons_from, reasons_of}
 use Rattle.hep_reasons.specs.declared.reason.Change.{Change}
-use Rattle.hep_views.specs.declared.listed.Listed.{Listed}
-use Rattle.hep_views.specs.Listed.{listed_by}
+use Rattle.hep_sites.specs.ViewsListedListed.{Listed}
+use Rattle.hep_sites.specs.ViewsListed.{listed_by}
 use Rattle.hep_causes.specs.declared.watch.Watch.{Watch}
 use Rattle.hep_causes.specs.Watches.{AreAlong, AreFound, AreKeptOnceThere, AreNewWatches, AreWaiting, HaveLooked, IsAlong, IsKeptOnceThere, IsReplayed, IsWatch, WaitTheSame, Whole, listed_from, location_of, looked, processes, reasons_for}
 use Rattle.hep_causes.proofs.Along.{same-there}

@@ -13,7 +13,7 @@ use Rattle.hep_layout.proofs.HeldFrames.{run-last, among-filter, layout-last, la
 use Rattle.hep_layout.proofs.Memory.{activation-kept, same-activation}
 use Rattle.hep_machine.proofs.Others.{activations_after}
 use Rattle.hep_machine.specs.Words.{Activation, Frame, IsSameOrOneMore, Layout, Location, State, Units, activation_of, common, common_cells, dummies_of, frame_of, index_among, is_held, is_owned, layout_after_step, layout_of, local, lowest_gap, remaining_layout, run, state_after_turn, unit_at, unit_of, with_frame}
-use Rattle.hep_state.proofs.Runs.{laid-before}
+use Rattle.hep_sites.proofs.StateRuns.{laid-before}
 use Rattle.hep_reasons.specs.Changes.{is_there, owner_of}
 use Rattle.hep_causes.specs.Watches.{IsKeptAfter}
 

@@ -5,11 +5,11 @@ use Rattle.std.proofs.lemmas.Bool.{cases_eq}
 use Rattle.std.proofs.lemmas.List.{length-set}
 use Rattle.std.proofs.lemmas.Option.{same_Some}
 use Rattle.hep_arena.proofs.Lists.{get-set_other, get-set_same}
-use Rattle.hep_core.specs.Value.{CoreValue, state_of}
+use Rattle.hep_history.specs.Value.{CoreValue, state_of}
 use Rattle.hep_machine.specs.Words.{Location}
 use Rattle.hep_reasons.specs.declared.reason.Change.{Change}
-use Rattle.hep_state.specs.declared.machine.Machine.{Machine}
-use Rattle.hep_views.specs.declared.listed.Listed.{Listed}
+use Rattle.hep_sites.specs.StateMachineMachine.{Machine}
+use Rattle.hep_sites.specs.ViewsListedListed.{Listed}
 use Rattle.hep_causes.specs.declared.watch.Watch.{Watch}
 use Rattle.hep_causes.specs.Watches.{IsKeptOnceThere, IsMachineOf, WaitTheSame, looked}
 

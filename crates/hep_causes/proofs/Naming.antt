@@ -3,9 +3,9 @@ use Rattle.std.proofs.Common.{◌≡◌, ◌<◌, ℕ, List, [], ◌∷◌, leng
 use Rattle.std.proofs.lemmas.Option.{none-some, same_Some}
 use Rattle.hep_blocked.specs.Needs.{need_of_next}
 use Rattle.hep_code.specs.declared.variable.Variable.{Variable}
-use Rattle.hep_coming.specs.Access.{IsAccessed}
-use Rattle.hep_core.proofs.Histories.{state-is}
-use Rattle.hep_core.specs.Value.{CoreValue, state_of}
+use Rattle.hep_sites.specs.ComingAccess.{IsAccessed}
+use Rattle.hep_history.proofs.Histories.{state-is}
+use Rattle.hep_history.specs.Value.{CoreValue, state_of}
 use Rattle.hep_image.specs.Names.{names_in_order, variable_number}
 use Rattle.hep_image.proofs.Numbers.{number-of-variable}
 use Rattle.hep_machine.specs.Evaluation.{reading}
@@ -14,11 +14,11 @@ use Rattle.hep_reasons.specs.Called.{called_by, reference_text, references_of}
 use Rattle.hep_reasons.proofs.Naming.{IsAwaited, awaited, top_of_process}
 use Rattle.hep_sites.specs.Sites.{IsVariableOf}
 use Rattle.hep_sites.proofs.Declared.{placed-named}
-use Rattle.hep_state.specs.declared.machine.Machine.{Machine}
-use Rattle.hep_state.specs.Words.{HasLevels, IsMachineAfter, snapshot_of}
-use Rattle.hep_views.specs.declared.whereabouts.Whereabouts.{Whereabouts}
-use Rattle.hep_views.specs.Standing.{whereabouts_by, whereabouts_with}
-use Rattle.hep_views.proofs.Waiting.{living-top}
+use Rattle.hep_sites.specs.StateMachineMachine.{Machine}
+use Rattle.hep_sites.specs.StateWords.{HasLevels, IsMachineAfter, snapshot_of}
+use Rattle.hep_sites.specs.ViewsWhereaboutsWhereabouts.{Whereabouts}
+use Rattle.hep_sites.specs.ViewsStanding.{whereabouts_by, whereabouts_with}
+use Rattle.hep_sites.proofs.ViewsWaiting.{living-top}
 
 -- a variable of a unit has the name of its number
 pub name-there : (program : Units) (u : ℕ) (x : Name) (v : Variable) → u < length program → IsVariableOf program (unit_at program u) x v → slice_get (names_in_order program) (variable_number program u x) ≡ Some (spelling x)

@@ -2,17 +2,17 @@
 use Rattle.std.proofs.Common.{◌≡◌, ℕ, zero, suc, ◌<◌, ◌≤◌, ◌&&◌, Bool, true, false, true≢false, List, [], ◌∷◌, ◌++◌, length, not, Option, Some, None, refl, sym, ap, ◌∙◌, subst, arith, IsSome, if◌then◌else◌, nat_le, slice_get}
 use Rattle.std.proofs.lemmas.Bool.Decides.{nat_tests}
 use Rattle.std.proofs.lemmas.Option.{none-some, same_Some}
-use Rattle.hep_core.proofs.Histories.{schedule-stepped, state-is}
-use Rattle.hep_core.specs.Going.{entries_along}
-use Rattle.hep_core.specs.Value.{CoreValue, state_of}
+use Rattle.hep_history.proofs.Histories.{schedule-stepped, state-is}
+use Rattle.hep_history.specs.Going.{entries_along}
+use Rattle.hep_history.specs.Value.{CoreValue, state_of}
 use Rattle.hep_history.specs.Progress.{turn_entry}
 use Rattle.hep_history.specs.Replays.{standing}
 use Rattle.hep_machine.specs.declared.event.Entry.{Entry}
 use Rattle.hep_machine.specs.Words.{Layout, Location, State, Units, is_held, layout_of, opening, run, same_logical, schedule_of, state_after, state_after_turn}
 use Rattle.hep_reasons.specs.Changes.{change_by, has_changed, is_there, latest_after, latest_along}
 use Rattle.hep_reasons.specs.declared.reason.Change.{Change}
-use Rattle.hep_state.proofs.Runs.{laid-before}
-use Rattle.hep_state.specs.Words.{Changes}
+use Rattle.hep_sites.proofs.StateRuns.{laid-before}
+use Rattle.hep_sites.specs.StateWords.{Changes}
 use Rattle.hep_causes.specs.declared.watch.Watch.{Watch}
 use Rattle.hep_causes.specs.Watches.{AreAlong, AreOf, AreKeptOnceThere, HaveLooked, IsAlong, IsKeptAfter, IsKeptOnceThere, Whole, looked, processes}
 use Rattle.hep_causes.proofs.Along.{along-next, next, same-there, state-next, there-later}

@@ -2,17 +2,17 @@
 use Rattle.std.proofs.Common.{◌≡◌, ◌≢◌, ◌⊎◌, inl, inr, ℕ, ◌+◌, ◌-◌, ◌≤◌, ◌<◌, List, [], ◌∷◌, ◌++◌, length, length-append, Option, Some, None, IsSome, refl, sym, ap, ◌∙◌, subst, arith, append_assoc, slice_get}
 use Rattle.std.specs.Option.{option_map}
 use Rattle.std.proofs.lemmas.List.{length-map}
-use Rattle.hep_core.proofs.Histories.{schedule-stepped, state-is}
-use Rattle.hep_core.specs.Going.{entries_along}
-use Rattle.hep_core.specs.Value.{CoreValue, state_of}
+use Rattle.hep_history.proofs.Histories.{schedule-stepped, state-is}
+use Rattle.hep_history.specs.Going.{entries_along}
+use Rattle.hep_history.specs.Value.{CoreValue, state_of}
 use Rattle.hep_history.specs.Replays.{most_entries, standing}
 use Rattle.hep_machine.specs.declared.event.Entry.{Entry}
 use Rattle.hep_machine.specs.Words.{State, Units, is_held, layout_of, living, run, schedule_of, step}
 use Rattle.hep_quick.specs.declared.tabled.Tabled.{Tabled}
 use Rattle.hep_reasons.specs.Changes.{change_by}
 use Rattle.hep_reasons.specs.declared.reason.Change.{Change}
-use Rattle.hep_state.specs.declared.machine.Machine.{Machine}
-use Rattle.hep_state.specs.Words.{Changes, IsMachineAfter}
+use Rattle.hep_sites.specs.StateMachineMachine.{Machine}
+use Rattle.hep_sites.specs.StateWords.{Changes, IsMachineAfter}
 use Rattle.hep_causes.specs.declared.again.Again.{Again}
 use Rattle.hep_causes.specs.declared.watch.Watch.{Watch}
 use Rattle.hep_causes.specs.Making.{CanGoAgain, CanTurnAgain, FillsNothing, HasGoneAgain, IsRemade, core_like, made_by}

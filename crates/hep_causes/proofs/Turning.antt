@@ -3,20 +3,20 @@ use Rattle.std.proofs.Common.{◌≡◌, ◌≢◌, ℕ, zero, suc, ◌<◌, Boo
 use Rattle.std.proofs.lemmas.Bool.{eqb-false, eqb-true}
 use Rattle.hep_blocked.proofs.Living.{waits-idle}
 use Rattle.hep_cells.specs.declared.want.Want.{Want}
-use Rattle.hep_core.proofs.Histories.{schedule-stepped}
-use Rattle.hep_core.specs.Going.{entries_along}
-use Rattle.hep_going.specs.Gone.{CanTakeTurns, HasGone}
-use Rattle.hep_going.specs.Gone as gone
+use Rattle.hep_history.proofs.Histories.{schedule-stepped}
+use Rattle.hep_history.specs.Going.{entries_along}
+use Rattle.hep_history.specs.GoingGone.{CanTakeTurns, HasGone}
+use Rattle.hep_history.specs.GoingGone as gone
 use Rattle.hep_machine.specs.declared.event.Entry.{Entry}
 use Rattle.hep_machine.specs.Step.{state_made, step_result_of_top}
 use Rattle.hep_machine.specs.Words.{State, Units, living, run, schedule_of, step, step_result_of}
 use Rattle.hep_quick.specs.declared.tabled.Tabled.{Tabled}
-use Rattle.hep_state.specs.declared.machine.Machine.{Machine}
-use Rattle.hep_state.specs.declared.turn.TurnFault.TheVariants.{ArenaFull}
-use Rattle.hep_state.specs.declared.turn.Turned.{Turned}
-use Rattle.hep_state.specs.declared.turn.Turned.TheVariants.{Purged, Stepped, Waits}
-use Rattle.hep_state.specs.Words.{Changes, HasLevels, HasTurned, IsMachineAfter, IsUnturned, snapshot_of}
-use Rattle.hep_views.proofs.Waiting.{living-top}
+use Rattle.hep_sites.specs.StateMachineMachine.{Machine}
+use Rattle.hep_sites.specs.StateTurnTurnFault.TheVariants.{ArenaFull}
+use Rattle.hep_sites.specs.StateTurnTurned.{Turned}
+use Rattle.hep_sites.specs.StateTurnTurned.TheVariants.{Purged, Stepped, Waits}
+use Rattle.hep_sites.specs.StateWords.{Changes, HasLevels, HasTurned, IsMachineAfter, IsUnturned, snapshot_of}
+use Rattle.hep_sites.proofs.ViewsWaiting.{living-top}
 use Rattle.hep_causes.specs.declared.again.Again.{Again}
 use Rattle.hep_causes.specs.Making.{CanGoAgain, CanTurnAgain, made_by}
 

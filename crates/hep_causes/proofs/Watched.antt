@@ -5,18 +5,18 @@ use Rattle.std.proofs.lemmas.List.{map-append}
 use Rattle.std.proofs.lemmas.Option.{none-some, same_Some}
 use Rattle.hep_blocked.specs.Listing.{IsBlocked}
 use Rattle.hep_cells.specs.declared.want.Want.{Want}
-use Rattle.hep_core.proofs.Histories.{number-listed, state-is}
-use Rattle.hep_core.specs.Value.{CoreValue, listed_after}
+use Rattle.hep_history.proofs.Histories.{number-listed, state-is}
+use Rattle.hep_history.specs.Value.{CoreValue, listed_after}
 use Rattle.hep_machine.specs.declared.event.Entry.{Entry}
 use Rattle.hep_machine.specs.Words.{Layout, Location, State, Units, Wanted, common, is_number_among, local, progress_after, run, schedule_of, wanted_by}
 use Rattle.hep_layout.specs.Words.{address}
 use Rattle.hep_reasons.specs.Changes.{owner_of}
-use Rattle.hep_state.specs.declared.machine.Machine.{Machine}
-use Rattle.hep_state.specs.Words.{IsMachineAfter}
-use Rattle.hep_views.specs.declared.listed.Listed.{Listed}
-use Rattle.hep_views.specs.Listed.{listed_at, listed_by, listed_with, place_of}
-use Rattle.hep_views.specs.Sought.{IsListedAs}
-use Rattle.hep_views.proofs.Waiting.{blocked-waits}
+use Rattle.hep_sites.specs.StateMachineMachine.{Machine}
+use Rattle.hep_sites.specs.StateWords.{IsMachineAfter}
+use Rattle.hep_sites.specs.ViewsListedListed.{Listed}
+use Rattle.hep_sites.specs.ViewsListed.{listed_at, listed_by, listed_with, place_of}
+use Rattle.hep_sites.specs.ViewsSought.{IsListedAs}
+use Rattle.hep_sites.proofs.ViewsWaiting.{blocked-waits}
 use Rattle.hep_causes.specs.declared.watch.Watch.{Watch}
 use Rattle.hep_causes.specs.Watches.{IsWatchOf, listed_from}
 

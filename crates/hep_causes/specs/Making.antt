@@ -1,12 +1,12 @@
 -- A machine that makes turns of a history again, while watches look at their storage units: docs/ARCHITECTURE.md, "Forms".
 use Rattle.std.specs.Prelude.{◌≡◌, ◌≢◌, ◌+◌, ◌<◌, ◌≤◌, ℕ, List, [], ◌∷◌, ◌++◌, length, IsSome, None}
-use Rattle.hep_core.specs.Going.{entries_along}
-use Rattle.hep_core.specs.Value.{CoreValue}
+use Rattle.hep_history.specs.Going.{entries_along}
+use Rattle.hep_history.specs.Value.{CoreValue}
 use Rattle.hep_history.specs.Replays.{most_entries, standing}
 use Rattle.hep_machine.specs.Words.{Units, is_held, layout_of, run, schedule_of, step}
 use Rattle.hep_quick.specs.declared.tabled.Tabled.{Tabled}
 use Rattle.hep_quick.specs.UnitTables.{AreTables}
-use Rattle.hep_state.specs.Words.{Changes, IsMachineAfter}
+use Rattle.hep_sites.specs.StateWords.{Changes, IsMachineAfter}
 use Rattle.hep_causes.specs.declared.again.Again.{Again}
 use Rattle.hep_causes.specs.declared.watch.Watch.{Watch}
 use Rattle.hep_causes.specs.Watches.{AreAlong, Whole}

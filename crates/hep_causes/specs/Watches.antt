@@ -1,7 +1,7 @@
 -- Processes for whose waits reasons are looked for, while a history is made again: docs/ARCHITECTURE.md, "Forms".
 use Rattle.std.specs.Prelude.{◌≡◌, ◌≢◌, ◌+◌, ◌⊎◌, ◌<◌, ◌≤◌, ℕ, zero, suc, true, false, ◌&&◌, not, nat_le, if◌then◌else◌, List, [], ◌∷◌, ◌++◌, length, map, Option, Some, None, IsSome, slice_get}
 use Rattle.std.specs.Option.{option_map, option_to_list}
-use Rattle.hep_core.specs.Value.{CoreValue, listed_after, state_of}
+use Rattle.hep_history.specs.Value.{CoreValue, listed_after, state_of}
 use Rattle.hep_history.specs.Progress.{IsStanding, turn_entry}
 use Rattle.hep_history.specs.Replays.{HaveGaps, most_entries, replayed, standing}
 use Rattle.hep_layout.specs.Words.{address}
@@ -11,9 +11,9 @@ use Rattle.hep_reasons.specs.Changes.{is_there, latest_along, latest_change, own
 use Rattle.hep_reasons.specs.Reasons.{reason_with}
 use Rattle.hep_reasons.specs.declared.reason.Change.{Change}
 use Rattle.hep_reasons.specs.declared.reason.Reason.{Reason}
-use Rattle.hep_state.specs.declared.machine.Machine.{Machine}
-use Rattle.hep_state.specs.Words.{IsMachineAfter}
-use Rattle.hep_views.specs.declared.listed.Listed.{Listed}
+use Rattle.hep_sites.specs.StateMachineMachine.{Machine}
+use Rattle.hep_sites.specs.StateWords.{IsMachineAfter}
+use Rattle.hep_sites.specs.ViewsListedListed.{Listed}
 use Rattle.hep_causes.specs.declared.watch.Watch.{Watch}
 
 -- ---- who waits

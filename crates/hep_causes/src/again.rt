@@ -1,15 +1,15 @@
 //! A machine that makes turns again, with what a turn asks for.
 ghost use Rattle.std.specs.Prelude.{◌≡◌, ◌≤◌, [], IfOk, IsSome, OnOk};
 ghost use Rattle.hep_machine.specs.Words.{opening_layout};
-ghost use Rattle.hep_state.specs.Words.{IsMachineAfter};
+ghost use Rattle.hep_sites.specs.StateWords.{IsMachineAfter};
 ghost use Rattle.hep_causes.specs.Making.{CanGoAgain, CanTurnAgain, FillsNothing, HasGoneAgain};
 
 use hep_blocked::Roster;
 use hep_entries::History;
-use hep_going::{Tabled, go_on};
+use hep_history::{Tabled, go_on};
 use hep_image::Image;
 use hep_machine::Entry;
-use hep_state::{Machine, TurnFault, Turned, laws};
+use hep_sites::{Machine, TurnFault, Turned, activations_are_few};
 use std::alloc::{AllocError, Global};
 
 // The most turns that are made at once.
@@ -61,7 +61,7 @@ impl Again {
         requires { CanTurnAgain image.now p self.old }
         ensures { OnOk result (HasGoneAgain image.now p 1 self.old self.new) }
     {
-        laws::activations_are_few();
+        activations_are_few();
         match self
             .machine
             .turn(self.alloc, image, p, &mut self.history, &mut self.roster)
@@ -93,7 +93,7 @@ impl Again {
         ensures unchanged { IfOk result (λ made. FillsNothing tabled.now.image.now p made self.old) }
         ensures few { IfOk result (λ made. made ≤ most) }
     {
-        laws::activations_are_few();
+        activations_are_few();
         let few = most.min(MOST_AT_ONCE);
         self.history.reserve(few as u32)?;
         let made = go_on(&mut self.machine, tabled, p, few);

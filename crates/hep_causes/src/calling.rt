@@ -1,6 +1,6 @@
 //! What units call what their processes wait for.
 ghost use Rattle.std.specs.Prelude.{◌≡◌, ◌<◌, IfOk, IsSome, Some, length, option_map};
-ghost use Rattle.hep_core.specs.Value.{state_of};
+ghost use Rattle.hep_history.specs.Value.{state_of};
 ghost use Rattle.hep_machine.specs.Words.{Name as SourceName, spelling, unit_at, wanted_by};
 ghost use Rattle.hep_reasons.specs.Called.{called_by};
 ghost use Rattle.hep_sites.specs.Sites.{IsVariableOf};
@@ -8,12 +8,11 @@ ghost use Rattle.hep_sites.specs.Variables.{AreVariablesOf};
 
 use hep_base::Text;
 use hep_code::Variable;
-use hep_coming::coming_of;
-use hep_core::Core;
+use hep_history::Core;
 use hep_image::Image;
 use hep_reasons::append_reference;
 use hep_sites::laws::accesses_name_variables;
-use hep_sites::{Variables, named};
+use hep_sites::{Variables, coming_of, named};
 use std::alloc::{AllocError, Global};
 
 // The name that a unit has for a variable; no variable of its code lacks one.

@@ -1,18 +1,17 @@
 //! What processes wait for, and whether it is full.
 ghost use Rattle.std.specs.Prelude.{◌≡◌, ◌⊎◌, ◌≤◌, ◌++◌, ◌&&◌, ℕ, List, IfOk, IsSome, None, OnOk, Some, if◌then◌else◌, length, map, nat_le, not};
 ghost use Rattle.std.specs.Option.{option_to_list};
-ghost use Rattle.hep_core.specs.Value.{CoreValue, listed_after, state_of};
+ghost use Rattle.hep_history.specs.Value.{CoreValue, listed_after, state_of};
 ghost use Rattle.hep_machine.specs.Words.{Location, living, run, same_logical, schedule_of};
 ghost use Rattle.hep_reasons.specs.Changes as words;
-ghost use Rattle.hep_state.specs.Words.{IsMachineAfter};
+ghost use Rattle.hep_sites.specs.StateWords.{IsMachineAfter};
 ghost use Rattle.hep_causes.specs.Watches.{AreNewWatches, CanLook, IsKeptIn, IsKeptOnceThere, IsMachineOf, IsWatchOf, Looks, listed_from, looked};
 
 use crate::watch::Watch;
-use hep_core::Core;
+use hep_history::Core;
 use hep_image::Image;
 use hep_reasons::Change;
-use hep_state::Machine;
-use hep_views::finding::{listed, whereabouts};
+use hep_sites::{Machine, listed, whereabouts};
 use std::alloc::{AllocError, Global};
 
 // Process p, if it was found waiting and waits since.

@@ -10,10 +10,8 @@ ghost use Rattle.hep_causes.specs.Watches.{CanTurn, WaitTheSame, turns_in_row};
 use crate::again::Again;
 use crate::looking::{change_by, look, look_at_new};
 use crate::watch::Watch;
-use hep_core::{ChooseFault, Core};
 use hep_entries::Run;
-use hep_going::Tabled;
-use hep_history::First;
+use hep_history::{ChooseFault, Core, First, Tabled};
 use hep_machine::Entry;
 use std::alloc::AllocError;
 

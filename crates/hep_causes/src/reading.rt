@@ -1,6 +1,6 @@
 //! Why processes wait after a history.
 ghost use Rattle.std.specs.Prelude.{◌≡◌, [], IfOk, IsSome, OnOk};
-ghost use Rattle.hep_core.specs.Value.{state_of};
+ghost use Rattle.hep_history.specs.Value.{state_of};
 ghost use Rattle.hep_history.specs.First.{first_of};
 ghost use Rattle.hep_history.specs.Replays.{standing};
 ghost use Rattle.hep_machine.specs.Words.{schedule_of, wanted_by};
@@ -13,10 +13,8 @@ use crate::calling::called;
 use crate::looking::{all_watches, look};
 use crate::making::make_entries;
 use crate::watch::Watch;
-use hep_core::{Core, NewFault};
-use hep_going::{Tabled, tables_of};
 use hep_history::replays::MOST_ENTRIES;
-use hep_history::{First, History};
+use hep_history::{Core, First, History, NewFault, Tabled, tables_of};
 use hep_reasons::{Reason, append_reasons};
 use hep_sites::Variables;
 use hep_states::append_head;

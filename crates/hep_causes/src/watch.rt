@@ -1,7 +1,7 @@
 //! Processes for whose waits reasons are looked for.
 
 use hep_reasons::Change;
-use hep_views::Listed;
+use hep_sites::Listed;
 
 /// A process that waits: the cell that keeps what it waits for, whether that was full when it was looked at last, and its latest change so
 /// far.

@@ -45,19 +45,24 @@ no_word = refl
 
 run_with_all : asked (codes "hepf" ∷ codes "run" ∷ codes "--history" ∷ codes "h" ∷ codes "a.f" ∷ codes "--steps=4294967296"
     ∷ codes "--choices" ∷ codes "c" ∷ codes "--arena" ∷ codes "9" ∷ [])
-    ≡ Some (run (codes "a.f") 9 4294967296 None None (Some (codes "c")) (Some (codes "h")))
+    ≡ Some (run (codes "a.f") 9 4294967296 None None (Some (codes "c")) None (Some (codes "h")))
 unfolding asked clap_on_literals
 run_with_all = refl
 
 run_by_workers : asked (codes "hepf" ∷ codes "run" ∷ codes "a.f" ∷ codes "--workers" ∷ codes "16" ∷ [])
-    ≡ Some (run (codes "a.f") 65536 10000000 (Some 16) None None None)
+    ≡ Some (run (codes "a.f") 65536 10000000 (Some 16) None None None None)
 unfolding asked clap_on_literals
 run_by_workers = refl
 
 run_by_lots : asked (codes "hepf" ∷ codes "run" ∷ codes "a.f" ∷ codes "--seed" ∷ codes "7" ∷ [])
-    ≡ Some (run (codes "a.f") 65536 10000000 None (Some 7) None None)
+    ≡ Some (run (codes "a.f") 65536 10000000 None (Some 7) None None None)
 unfolding asked clap_on_literals
 run_by_lots = refl
+
+run_behind_a_history : asked (codes "hepf" ∷ codes "run" ∷ codes "-" ∷ codes "--follow" ∷ codes "h" ∷ [])
+    ≡ Some (run (codes "-") 65536 10000000 None None None (Some (codes "h")) None)
+unfolding asked clap_on_literals
+run_behind_a_history = refl
 
 sample_with_defaults : asked (codes "hepf" ∷ codes "sample" ∷ codes "a.f" ∷ [])
     ≡ Some (sample (codes "a.f") 100 1 65536 10000000 None)
@@ -156,6 +161,16 @@ help_of_help = refl
 
 long_help_of_help : heard (codes "hepf" ∷ codes "--long" ∷ codes "help" ∷ codes "-h" ∷ []) ≡ codes "hepf" ∷ codes "--long" ∷ codes "help" ∷ []
 long_help_of_help = refl
+
+version : heard (codes "hepf" ∷ codes "version" ∷ []) ≡ codes "hepf" ∷ codes "--version" ∷ []
+version = refl
+
+long_version : heard (codes "hepf" ∷ codes "--long" ∷ codes "version" ∷ []) ≡ codes "hepf" ∷ codes "--version" ∷ []
+long_version = refl
+
+-- a file of this name
+run_of_version : heard (codes "hepf" ∷ codes "run" ∷ codes "version" ∷ []) ≡ codes "hepf" ∷ codes "run" ∷ codes "version" ∷ []
+run_of_version = refl
 
 joined : name_of (codes "arena") (Some (codes "Full")) None ≡ codes "ARENA FULL"
 joined = refl

@@ -1,5 +1,5 @@
 -- Which job a command and its words ask for: docs/MACHINE.md, "The program".
-use Rattle.std.specs.Prelude.{◌&&◌, ◌||◌, ◌+◌, ◌-◌, ℕ, Bool, false, List as ListOf, [], Option, Some, None, codes, if◌then◌else◌, length}
+use Rattle.std.specs.Prelude.{◌&&◌, ◌||◌, ◌+◌, ◌-◌, ℕ, Bool, false, List as ListOf, [], ◌∷◌, Option, Some, None, codes, if◌then◌else◌, length}
 use Rattle.std.specs.Prelude.{nat_eq, option_and_then, option_map, slice_get, take}
 use Rattle.std.specs.Option.{option_map_or, unwrap_or}
 use Rattle.std.specs.Str.{bytes_eq}
@@ -14,7 +14,7 @@ use Rattle.hep_command.specs.declared.job.Job.TheVariants.{Standard, Check, Run,
 pub data Asked : Type 0 where
   standard : Asked
   check : Text → Bool → Asked
-  run : Text → ℕ → ℕ → Option ℕ → Option ℕ → Option Text → Option Text → Asked
+  run : Text → ℕ → ℕ → Option ℕ → Option ℕ → Option Text → Option Text → Option Text → Asked
   sample : Text → ℕ → ℕ → ℕ → ℕ → Option Text → Asked
   replay : Text → Text → ℕ → Asked
   state : Text → Text → Option ℕ → ℕ → Asked
@@ -31,7 +31,7 @@ texts = option_map (λ path. path.now)
 abbrev pub asked_by : Job → Asked
 asked_by Standard = standard
 asked_by (Check file warn) = check file.now warn
-asked_by (Run file arena steps workers seed choices history) = run file.now arena steps workers seed (texts choices) (texts history)
+asked_by (Run file arena steps workers seed choices follow history) = run file.now arena steps workers seed (texts choices) (texts follow) (texts history)
 asked_by (Sample file runs seed arena steps keep) = sample file.now runs seed arena steps (texts keep)
 asked_by (Replay file history arena) = replay file.now history.now arena
 asked_by (State file history at arena) = state file.now history.now at arena
@@ -47,19 +47,25 @@ asked_by (Explain first second third) = explain first.now (texts second) (texts 
 abbrev pub is_word : ListOf Text → ℕ → Text → Bool
 is_word words k word = option_map_or (bytes_eq word) (slice_get words k) false
 
--- from this word on help is asked for of `help`
-abbrev pub asks_from : ListOf Text → ℕ → Bool
-asks_from words k =
+-- the place of the command, `--long` before it or not
+abbrev pub command_place : ListOf Text → ℕ
+command_place words = if is_word words 1 (codes "--long") then 2 else 1
+
+-- help is asked for of the word `help` at this place
+abbrev pub is_help_of_help : ListOf Text → ℕ → Bool
+is_help_of_help words k =
     nat_eq (length words) (k + 2) && (is_word words k (codes "help")
     && (is_word words (k + 1) (codes "--help") || is_word words (k + 1) (codes "-h")))
 
--- help is asked for of `help`, with `--long` before it or without
-abbrev pub is_help_of_help : ListOf Text → Bool
-is_help_of_help words = asks_from words 1 || (is_word words 1 (codes "--long") && asks_from words 2)
+-- the last word is `version`, at this place
+abbrev pub is_version : ListOf Text → ℕ → Bool
+is_version words k = nat_eq (length words) (k + 1) && is_word words k (codes "version")
 
--- all words; of `help --help` the last one is left out
+-- all words; of `help --help` the last one is left out, and `version` is `--version`
 abbrev pub heard : ListOf Text → ListOf Text
-heard words = if is_help_of_help words then take (length words - 1) words else words
+heard words =
+    if is_version words (command_place words) then codes "hepf" ∷ codes "--version" ∷ []
+    else (if is_help_of_help words (command_place words) then take (length words - 1) words else words)
 
 -- ---- what is found
 
@@ -103,7 +109,7 @@ check_in rows = option_map (λ file. check file (is_given (codes "warn") rows)) 
 abbrev pub run_in : ListOf Row → Option Asked
 run_in rows =
     option_and_then (λ file. option_and_then (λ arena. option_and_then (λ steps. option_and_then (λ workers. option_map
-    (λ seed. run file arena steps workers seed (first_of (codes "choices") rows) (first_of (codes "history") rows))
+    (λ seed. run file arena steps workers seed (first_of (codes "choices") rows) (first_of (codes "follow") rows) (first_of (codes "history") rows))
     (seed_in rows)) (workers_in rows)) (steps_in rows)) (arena_in rows)) (first_of (codes "file") rows)
 
 abbrev pub sample_in : ListOf Row → Option Asked

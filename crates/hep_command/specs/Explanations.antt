@@ -30,7 +30,7 @@ ends =
 
 abbrev pub statuses : List Text
 statuses =
-    codes "STATUS 0" ∷ codes "STATUS 1" ∷ codes "STATUS 2" ∷ codes "STATUS 3" ∷ codes "STATUS 4"
+    codes "STATUS" ∷ codes "STATUS 0" ∷ codes "STATUS 1" ∷ codes "STATUS 2" ∷ codes "STATUS 3" ∷ codes "STATUS 4"
     ∷ codes "STATUS 5" ∷ codes "STATUS 6" ∷ codes "STATUS 7" ∷ codes "STATUS 8" ∷ codes "STATUS 70" ∷ []
 
 abbrev pub is_among : List Text → Text → Bool

@@ -1,5 +1,5 @@
 -- What a command line may ask for: docs/MACHINE.md, "The program".
-use Rattle.std.specs.Prelude.{◌≡◌, ◌≢◌, ◌⊎◌, ℕ, ◌≤◌, List as ListOf, [], Option, Some, None}
+use Rattle.std.specs.Prelude.{◌≡◌, ◌≢◌, ◌⊎◌, ℕ, ◌+◌, ◌≤◌, List as ListOf, [], Option, Some, None}
 use Rattle.std.specs.Borrow.{Bor}
 use Rattle.clap.specs.declared.error.kind.ErrorKind.{ErrorKind}
 use Rattle.clap.specs.declared.error.kind.ErrorKind.TheVariants.{DisplayHelp, DisplayVersion, OutOfMemory}
@@ -31,7 +31,7 @@ AreSampled runs = (1 ≤ runs) × (runs ≤ 1000000)
 abbrev pub IsInRange : Job → Type 0
 IsInRange Standard = Unit {0}
 IsInRange (Check file warn) = Unit {0}
-IsInRange (Run file arena steps workers seed choices history) = IsArena arena × IsSteps steps × AreWorkers workers × HasSeed seed
+IsInRange (Run file arena steps workers seed choices follow history) = IsArena arena × IsSteps steps × AreWorkers workers × HasSeed seed
 IsInRange (Sample file runs seed arena steps keep) = AreSampled runs × IsSeed seed × IsArena arena × IsSteps steps
 IsInRange (Replay file history arena) = IsArena arena
 IsInRange (State file history at arena) = IsArena arena
@@ -48,14 +48,17 @@ IsNoPath None other = Unit {0}
 IsNoPath (Some path) other = path.now ≢ other.now
 
 abbrev pub IsWrittenApart : Job → Type 0
-IsWrittenApart (Run file arena steps workers seed choices (Some history)) = (file.now ≢ history.now) × IsNoPath choices history
+IsWrittenApart (Run file arena steps workers seed choices follow (Some history)) = (file.now ≢ history.now) × IsNoPath choices history × IsNoPath follow history
 IsWrittenApart _ = Unit {0}
 
--- who comes when is said by the choices, or else by the workers, or else by lots
+-- one where it is given, else none
+abbrev pub count_of : {A : Type 0} → Option A → ℕ
+count_of None = 0
+count_of (Some x) = 1
+
+-- who comes when is said once at most: by choices, by a history that is followed, by workers or by lots
 abbrev pub IsOneOrder : Job → Type 0
-IsOneOrder (Run file arena steps (Some workers) (Some seed) choices history) = ⊥
-IsOneOrder (Run file arena steps (Some workers) None (Some choices) history) = ⊥
-IsOneOrder (Run file arena steps None (Some seed) (Some choices) history) = ⊥
+IsOneOrder (Run file arena steps workers seed choices follow history) = count_of workers + count_of seed + count_of choices + count_of follow ≤ 1
 IsOneOrder _ = Unit {0}
 
 -- memory was refused, and there is no text

@@ -57,6 +57,9 @@ keep_option = file_option (codes "keep")
 abbrev pub choices_option : Rule
 choices_option = file_option (codes "choices")
 
+abbrev pub follow_option : Rule
+follow_option = file_option (codes "follow")
+
 abbrev pub history_option : Rule
 history_option = file_option (codes "history")
 
@@ -73,8 +76,8 @@ check_command = with_rule (with_rule (with_rule (new_app (codes "check")) source
 
 abbrev pub run_command : App
 run_command =
-    with_rule (with_rule (with_rule (with_rule (with_rule (with_rule (with_rule (with_rule (new_app (codes "run")) source_word)
-    arena_option) steps_option) workers_option) seed_option) choices_option) history_option) long_flag
+    with_rule (with_rule (with_rule (with_rule (with_rule (with_rule (with_rule (with_rule (with_rule (new_app (codes "run")) source_word)
+    arena_option) steps_option) workers_option) seed_option) choices_option) follow_option) history_option) long_flag
 
 abbrev pub sample_command : App
 sample_command =
@@ -185,8 +188,8 @@ abbrev pub IsAskedBy : List Text → Request → Type 0
 IsAskedBy words request =
     (asked words ≡ Some (asked_by request.job)) × (request.long ≡ is_long words) × (map (λ h. h.now) request.histories.items ≡ histories words)
 
--- nothing is asked for that has a meaning, or a job whose history would be written to a file that is read, or one with two of choices,
--- workers and a seed
+-- nothing is asked for that has a meaning, or a job whose history would be written to a file that is read, or one that says twice who
+-- comes when
 abbrev pub IsMistaken : Option Asked → Type 0
 IsMistaken asked =
     (asked ≡ None) ⊎ ((job : Job) × (asked ≡ Some (asked_by job)) × ((IsWrittenApart job → ⊥) ⊎ (IsOneOrder job → ⊥)))

@@ -31,7 +31,7 @@ pub const RUNS: u64 = 100;
 /// The most runs of a sample.
 pub const MOST_RUNS: u64 = 1_000_000;
 
-/// What a command line asks for. Files go by their paths.
+/// What a command line asks for. Files go by their paths, and a source by `-` is standard input.
 #[derive(Clone, Copy)]
 pub enum Job<'a> {
     /// To run the source on standard input with the defaults: there is no word.
@@ -55,6 +55,8 @@ pub enum Job<'a> {
         seed: Option<u64>,
         /// The file of the choices, which only a serial run has.
         choices: Option<&'a str>,
+        /// The file of the history whose steps are made first, which only a serial run without choices has.
+        follow: Option<&'a str>,
         /// The file that gets the history.
         history: Option<&'a str>,
     },

@@ -15,4 +15,4 @@ pub use explaining::explain;
 pub use job::{Job, Request, Usage};
 pub use meanings::meaning;
 pub use refusals::explanation;
-pub use words::{LOTS_TOO, SAME_FILE, TWO_ORDERS, read_request, read_words};
+pub use words::{FOLLOW_TOO, LOTS_TOO, SAME_FILE, TWO_ORDERS, read_request, read_words};

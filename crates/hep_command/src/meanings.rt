@@ -280,7 +280,7 @@ Right, by run a.f:
 const WRITE_FAULT: &str =
     "WRITE FAULT AFTER n: a write failed or took nothing. The stream, or the file of
 --history, has the first n bytes; n is 0 where that file can't be opened. The
-status is 8.
+status is 8. Of a pipe that nobody reads any more nothing is said.
 See that the folder is there, that you may write to it, and that the device has
 room.
 
@@ -377,6 +377,20 @@ a status of the launchers alone, and no source gets it.
 Read the lines above it on standard error: they name the crate and say why.
 ";
 
+const STATUS: &str = "The exit status of hepf says how the run, or what was asked for, has ended.
+0   Done, or a text was shown. A replay could go on: STILL RUNNING.
+1   The source is refused: REFUSED number LINE n.
+2   The words, the choices or the history can't be used.
+3   A process ended by a fault: FAULT process unit LINE n fault.
+4   All processes that live wait: WAITING, a line for each.
+5   STOPPED ARENA FULL: a frame doesn't fit.
+6   STOPPED STEP LIMIT: the history is full.
+7   NO MEMORY, or WORKERS REFUSED number.
+8   READ FAULT or WRITE FAULT AFTER n: a file or a stream failed.
+70  The program couldn't be built, or hepf-unproved got no answer from it.
+`hepf explain status 4` says more of one.
+";
+
 // The names of faults, each with what it means and what to do.
 const FAULTS: [(&str, &str); 6] = [
     ("OVERFLOW", OVERFLOW),
@@ -404,7 +418,8 @@ const ENDS: [(&str, &str); 13] = [
     ("WARNING", WARNING),
 ];
 
-const STATUSES: [(&str, &str); 10] = [
+const STATUSES: [(&str, &str); 11] = [
+    ("STATUS", STATUS),
     ("STATUS 0", DONE),
     ("STATUS 1", REFUSED),
     ("STATUS 2", UNUSABLE),

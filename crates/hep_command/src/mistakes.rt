@@ -1,5 +1,6 @@
 //! What is said of words that `clap` refuses: its own text, and more where that says too little.
 
+use crate::words::command_place;
 use clap::Error;
 use clap::error::ErrorKind;
 use std::alloc::{AllocError, Global};
@@ -10,10 +11,9 @@ const AS_A_VALUE: &str = "  tip: to pass '--";
 
 // The word in the place of the command.
 fn command_word<S: AsStr>(words: &[S]) -> Option<&str> {
-    match words {
-        [_, first, second, ..] if first.as_str() == "--long" => Some(second.as_str()),
-        [_, first, ..] => Some(first.as_str()),
-        _ => None,
+    match words.get(command_place(words)) {
+        Some(word) => Some(word.as_str()),
+        None => None,
     }
 }
 

@@ -12,7 +12,7 @@ use clap::{Arg, ArgAction, Command};
 use std::alloc::{AllocError, Global};
 
 /// What `hepf --version` says after the program's name.
-const VERSION: &str = "0.2.0, rattle-kit-13f logic dac8208d650f15bf";
+const VERSION: &str = "0.3.0, rattle-kit-13f logic dac8208d650f15bf";
 
 const ABOUT: &str = "Compiles and runs HEP FORTRAN.";
 

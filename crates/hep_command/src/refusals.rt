@@ -469,7 +469,9 @@ Assign a part of it to a variable first.
     ),
     (
         501,
-        "This line of the file of choices names no living process.
+        "This line of the file of choices names no living process. With `--follow` it is
+the number of the choice: each step of the history is one, and so is each entry
+without steps.
 Take it and the lines after it out: a run goes on by itself after its choices.
 
 Wrong, by run a.f --choices c, where c has 7: REFUSED 501 LINE 1
@@ -486,8 +488,9 @@ Right, by run a.f --choices c, where c has 1:
     (
         601,
         "This line of the history isn't a process, one blank and a number of steps up to
-1024. Numbers have no zero in front and each line ends with a line feed, the
-last one too. At line 0 the file has more than 150,000,000 bytes.
+1024. Numbers have no zero in front and each line ends with a line feed alone,
+with no carriage return before it, the last one too. At line 0 the file has more
+than 150,000,000 bytes.
 Take what `run --history` wrote.
 
 Wrong, by replay a.f h, where h has 01 1: REFUSED 601 LINE 1
@@ -502,8 +505,9 @@ Right, by replay a.f h, where h has 1 1:
     (
         602,
         "This line of the file of choices isn't a process: a number from 1 without a zero
-in front. Each line ends with a line feed, the last one too. At line 0 the file
-has more than 150,000,000 bytes. Write one number a line, as 1 or 12.
+in front. Each line ends with a line feed alone, the last one too. At line 0 the
+file has more than 150,000,000 bytes.
+Write one number a line, as 1 or 12. A history goes behind `--follow`.
 
 Wrong, by run a.f --choices c, where c has x: REFUSED 602 LINE 1
 

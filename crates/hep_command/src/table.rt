@@ -68,7 +68,7 @@ const EXPLAIN_EXAMPLES: &str =
     "Of refusals the number: hepf explain 304. Of the rest, in small letters too:
 OVERFLOW, DIVIDE, RANGE, UNDEFINED, SHAPE, STEP, FAULT, WAITING, ARENA FULL,
 STEP LIMIT, NO MEMORY, WORKERS REFUSED, READ FAULT, WRITE FAULT, REFUSED,
-STILL RUNNING, WARNING, and STATUS 0 to STATUS 8 and STATUS 70.
+STILL RUNNING, WARNING, STATUS, STATUS 0 to STATUS 8 and STATUS 70.
 
 Example: hepf explain arena full";
 
@@ -127,7 +127,15 @@ const CHOICES: Word = Word {
     id: "choices",
     kind: Kind::Text,
     value: "FILE",
-    help: "The processes chosen first, one a line, or a history",
+    help: "The processes chosen first, one a line",
+};
+
+// The history that a run begins with.
+const FOLLOW: Word = Word {
+    id: "follow",
+    kind: Kind::Text,
+    value: "HISTORY",
+    help: "A history whose steps are made first",
 };
 
 // The history that a run writes.
@@ -257,6 +265,7 @@ pub(crate) const COMMANDS: [Described; 11] = [
             WORKERS,
             SEED,
             CHOICES,
+            FOLLOW,
             WRITTEN_HISTORY,
             LONG,
         ],

@@ -1,10 +1,10 @@
 //! The words of a command line.
 ghost use Rattle.std.specs.Prelude.{◌≡◌, ◌⊎◌, ◌≤◌, false, true, IfOk, IfErr, IfNone, IfSome, Some, map, option_map, [], codes};
-ghost use Rattle.clap.specs.Words.{kind_of, subcommand_rows_of, all_of};
+ghost use Rattle.clap.specs.Words.{FailsBy, HasMatchesOf, app_of, fault_of, is_simple_and_free, kind_of, subcommand_rows_of, all_of};
 ghost use Rattle.hep_command.specs.Program.{IsAskedBy, IsMistaken, IsStatusFor, asked};
 ghost use Rattle.std.specs.Option.{unwrap_or};
 ghost use Rattle.hep_command.specs.Numbers.{number_within, option_number};
-ghost use Rattle.hep_command.specs.Asked.{asked_by, arena_in, asks_from, check_in, command_in, explain_in, heard, is_given, is_help_of_help};
+ghost use Rattle.hep_command.specs.Asked.{asked_by, arena_in, check_in, command_in, command_place, explain_in, heard, is_given, is_help_of_help, is_version};
 ghost use Rattle.hep_command.specs.Asked.{entries_in, is_long_in, is_word, job_in, cover_in, diff_in, histories_in, list_in, ordinal_in, replay_in, run_in, state_in, steps_in, trace_in, why_in, word_of, words_found};
 ghost use Rattle.hep_command.specs.Asked.{first_seed_in, runs_in, sample_in, seed_in, workers_in};
 ghost use Rattle.hep_command.specs.Jobs.{IsInRange, IsNoPath, IsOneOrder, IsUsage, IsWant, IsWrittenApart, usage_status};
@@ -16,7 +16,7 @@ use crate::job::{
 use crate::mistakes::said;
 use crate::program::program;
 use clap::error::ErrorKind;
-use clap::{ArgMatches, Error};
+use clap::{ArgMatches, Command, Error};
 use std::alloc::{AllocError, Global};
 use std::convert::AsStr;
 
@@ -32,6 +32,12 @@ pub const TWO_ORDERS: &str = "USAGE: --choices excludes --workers\n";
 
 /// What is said where a seed is given beside the choices or the workers, for the same reason.
 pub const LOTS_TOO: &str = "USAGE: --seed excludes --choices and --workers\n";
+
+/// What is said where a history is to be followed beside one of these, for the same reason.
+pub const FOLLOW_TOO: &str = "USAGE: --follow excludes --choices, --seed and --workers\n";
+
+// What `version` is heard as.
+const VERSION_WORDS: &[&str] = &["hepf", "--version"];
 
 // The number that a text of decimal digits writes, where it lies in the range. Of options `clap` has
 // checked this before; it is read anew from the text, so that the job's number is the word's.
@@ -137,6 +143,7 @@ fn run_job<'a>(found: &ArgMatches<'a>) -> Option<Job<'a>>
         workers: workers_of(found)?,
         seed: seed_of(found)?,
         choices: word_of(found, "choices"),
+        follow: word_of(found, "follow"),
         history: word_of(found, "history"),
     })
 }
@@ -361,35 +368,39 @@ fn is_overwriting(job: &Job<'_>) -> bool
         Job::Run {
             file,
             choices,
+            follow,
             history: Some(history),
             ..
-        } => is_path(Some(*file), history) || is_path(*choices, history),
+        } => {
+            is_path(Some(*file), history) || is_path(*choices, history) || is_path(*follow, history)
+        }
         _ => false,
     }
 }
 
-// Two of choices, workers and a seed that are given, as it is said.
+// What is said where two of a history to follow, choices, workers and a seed are given.
 fn two_orders(job: &Job<'_>) -> Option<&'static str>
     ensures one { IfNone result (IsOneOrder job.now) }
     ensures two { IfSome result (λ _. ¬ (IsOneOrder job.now)) }
 {
-    match job {
-        Job::Run {
-            workers: Some(_),
-            seed: Some(_),
-            ..
-        }
-        | Job::Run {
-            seed: Some(_),
-            choices: Some(_),
-            ..
-        } => Some(LOTS_TOO),
-        Job::Run {
-            workers: Some(_),
-            choices: Some(_),
-            ..
-        } => Some(TWO_ORDERS),
-        _ => None,
+    let Job::Run {
+        workers,
+        seed,
+        choices,
+        follow,
+        ..
+    } = job
+    else {
+        return None;
+    };
+    match (follow, seed, workers, choices) {
+        (None, None, None, _)
+        | (None, None, Some(_), None)
+        | (None, Some(_), None, None)
+        | (Some(_), None, None, None) => None,
+        (Some(_), _, _, _) => Some(FOLLOW_TOO),
+        (None, Some(_), _, _) => Some(LOTS_TOO),
+        (None, None, Some(_), Some(_)) => Some(TWO_ORDERS),
     }
 }
 
@@ -418,32 +429,45 @@ fn is_word<S: AsStr>(words: &[S], index: usize, word: &str) -> bool
     }
 }
 
-// Whether help is asked for of `help`.
-fn asks_from<S: AsStr>(words: &[S], index: usize) -> bool
+// The place of the command, `--long` before it or not.
+pub(crate) fn command_place<S: AsStr>(words: &[S]) -> usize
+    ensures { result ≡ command_place (map S.text words.now) }
+{
+    if is_word(words, 1, "--long") { 2 } else { 1 }
+}
+
+// Whether help is asked for of the word `help` at this place.
+fn is_help_of_help<S: AsStr>(words: &[S], index: usize) -> bool
     requires { index ≤ 2 }
-    ensures { result ≡ asks_from (map S.text words.now) index }
+    ensures { result ≡ is_help_of_help (map S.text words.now) index }
 {
     words.len() == index + 2
         && is_word(words, index, "help")
         && (is_word(words, index + 1, "--help") || is_word(words, index + 1, "-h"))
 }
 
-// The same with `--long` before it or without.
-fn is_help_of_help<S: AsStr>(words: &[S]) -> bool
-    ensures { result ≡ is_help_of_help (map S.text words.now) }
+// Whether the last word is `version`, at this place.
+fn is_version<S: AsStr>(words: &[S], index: usize) -> bool
+    requires { index ≤ 2 }
+    ensures { result ≡ is_version (map S.text words.now) index }
 {
-    asks_from(words, 1) || (is_word(words, 1, "--long") && asks_from(words, 2))
+    words.len() == index + 1 && is_word(words, index, "version")
 }
 
-// The words that `clap` gets: `help --help` is `help`, since `clap` has no help of it.
-fn heard<'a, S: AsStr>(words: &'a [S]) -> &'a [S]
-    ensures { map S.text result.now ≡ heard (map S.text words.entry.now) }
+// What `clap` finds of the words as they are heard: `version` is `--version`, and `help --help` is `help`, since `clap` has no help of it.
+fn matches_of<'a, S: AsStr>(program: Command<'a>, words: &'a [S]) -> Result<ArgMatches<'a>, Error>
+    ensures matches { IfOk result (HasMatchesOf (app_of program.entry) (heard (map S.text words.entry.now))) }
+    ensures kinds { is_simple_and_free (app_of program.entry) ≡ true
+        → FailsBy (fault_of (app_of program.entry) (heard (map S.text words.entry.now))) result }
 {
-    if is_help_of_help(words) {
-        &words[..words.len().saturating_sub(1)]
-    } else {
-        words
+    let place = command_place(words);
+    if is_version(words, place) {
+        return program.try_get_matches_from(VERSION_WORDS);
     }
+    if is_help_of_help(words, place) {
+        return program.try_get_matches_from(&words[..words.len().saturating_sub(1)]);
+    }
+    program.try_get_matches_from(words)
 }
 
 // A copy of a list of words.
@@ -524,8 +548,7 @@ pub fn read_request<'a, S: AsStr>(alloc: Global, words: &'a [S]) -> Result<Reque
         Ok(program) => program,
         Err(_) => return Err(Usage::no_memory(alloc)),
     };
-    let words = heard(words);
-    match program.try_get_matches_from(words) {
+    match matches_of(program, words) {
         Ok(matches) => request_of(alloc, &matches),
         Err(error) => Err(usage_of(alloc, &error, words)),
     }
@@ -537,7 +560,7 @@ pub fn read_request<'a, S: AsStr>(alloc: Global, words: &'a [S]) -> Result<Reque
 ///
 /// What is to be written in the place of a job: help, the version, or what is wrong with the words,
 /// in the words of `clap` and a few of its own, or that the history would be written to a file that is
-/// read, or that two of choices, workers and a seed are given. The status is 0 for help and the version,
+/// read, or that two of a history to follow, choices, workers and a seed are given. The status is 0 for help and the version,
 /// 2 for words that are wrong, and 7 where memory was refused.
 pub fn read_words<'a, S: AsStr>(alloc: Global, words: &'a [S]) -> Result<Job<'a>, Usage>
     ensures job { IfOk result IsInRange }

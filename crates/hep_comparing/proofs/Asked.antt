@@ -12,13 +12,13 @@ use Rattle.hep_step.specs.Simulation.{RunningTop, unit_addressed, unit_running}
 use Rattle.hep_step.proofs.Running.{Comes, coming}
 use Rattle.hep_state.specs.declared.machine.Machine.{Machine}
 use Rattle.hep_state.specs.Words.{HasLevels, IsMachineAfter, IsTopRunning, snapshot_of}
-use Rattle.hep_coming.specs.declared.coming.Coming.{Coming}
-use Rattle.hep_coming.specs.Coming.{IsComing, IsComingOf}
-use Rattle.hep_coming.proofs.Answered as answered
-use Rattle.hep_coming.proofs.Standing.{settled-there, settled-turn, turn}
-use Rattle.hep_sites.specs.Named.{IsNamed}
-use Rattle.hep_sites.specs.Sites.{LivesAfter}
-use Rattle.hep_sites.proofs.Placed.{levels-of, same-top}
+use Rattle.hep_causes.specs.ComingComingComing.{Coming}
+use Rattle.hep_causes.specs.ComingComing.{IsComing, IsComingOf}
+use Rattle.hep_causes.proofs.ComingAnswered as answered
+use Rattle.hep_causes.proofs.ComingStanding.{settled-there, settled-turn, turn}
+use Rattle.hep_causes.specs.SitesNamed.{IsNamed}
+use Rattle.hep_causes.specs.SitesSites.{LivesAfter}
+use Rattle.hep_causes.proofs.SitesPlaced.{levels-of, same-top}
 use Rattle.hep_differences.specs.Deeds.{Question, found_by, question_of, result_question}
 use Rattle.hep_comparing.specs.Asking.{asked_by}
 

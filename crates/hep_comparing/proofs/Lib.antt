@@ -1,3 +1,4 @@
+pub use Rattle.hep_differences.proofs.OutcomeWanted
 mod Noting
 mod Asked
 mod Living

@@ -2,13 +2,13 @@
 use Rattle.std.proofs.Common.{◌≡◌, ◌≢◌, ℕ, Bool, true, false, List, Option, Some, None, refl, sym, ap, ◌∙◌, subst, if◌then◌else◌}
 use Rattle.std.specs.Option.{option_map}
 use Rattle.hep_causes.specs.Watches.{CanTurn}
-use Rattle.hep_core.proofs.Histories.{state-is}
-use Rattle.hep_core.specs.Value.{CoreValue, state_of}
+use Rattle.hep_causes.proofs.CoreHistories.{state-is}
+use Rattle.hep_causes.specs.CoreValue.{CoreValue, state_of}
 use Rattle.hep_machine.specs.Step.{state_made, step_result_of_top}
 use Rattle.hep_machine.specs.Words.{Level, Process, State, Units, living, run, schedule_of, step, step_result_of}
 use Rattle.hep_state.specs.declared.machine.Machine.{Machine}
 use Rattle.hep_state.specs.Words.{IsMachineAfter}
-use Rattle.hep_sites.specs.Sites.{LivesAfter}
+use Rattle.hep_causes.specs.SitesSites.{LivesAfter}
 use Rattle.hep_differences.specs.Deeds.{deed_at, deed_by}
 use Rattle.hep_differences.specs.declared.deed.Deed.{Deed}
 

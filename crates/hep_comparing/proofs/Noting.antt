@@ -5,11 +5,11 @@ use Rattle.std.proofs.lemmas.Option.{none-some}
 use Rattle.hep_causes.proofs.Along.{along-next, state-next}
 use Rattle.hep_causes.proofs.Found.{begin-along, processes-all, whole}
 use Rattle.hep_causes.specs.Watches.{AreAlong, HaveLooked, IsReplayed, Whole}
-use Rattle.hep_core.proofs.Histories.{state-is}
-use Rattle.hep_core.specs.Value.{CoreValue, state_of}
-use Rattle.hep_history.proofs.Turns.{schedule_of-append}
-use Rattle.hep_history.specs.Progress.{longer, turn_entry}
-use Rattle.hep_history.specs.Replays.{standing}
+use Rattle.hep_causes.proofs.CoreHistories.{state-is}
+use Rattle.hep_causes.specs.CoreValue.{CoreValue, state_of}
+use Rattle.hep_causes.proofs.HistoryTurns.{schedule_of-append}
+use Rattle.hep_causes.specs.Progress.{longer, turn_entry}
+use Rattle.hep_causes.specs.Replays.{standing}
 use Rattle.hep_machine.specs.declared.event.Entry.{Entry}
 use Rattle.hep_machine.specs.Words.{IsLegal, State, Units, run, schedule_of, state_after, state_after_turn}
 use Rattle.hep_causes.specs.Changes.{turns_from, turns_of}

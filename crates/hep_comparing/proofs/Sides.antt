@@ -5,21 +5,21 @@ use Rattle.hep_blocked.specs.Listing.{IsBlocked}
 use Rattle.hep_causes.proofs.Found.{progress-singles, state-is-so}
 use Rattle.hep_causes.specs.Watches.{IsReplayed}
 use Rattle.hep_cells.specs.declared.want.Want.{Want}
-use Rattle.hep_core.proofs.Histories.{state-is}
-use Rattle.hep_core.specs.Value.{CoreValue, listed_after}
-use Rattle.hep_history.proofs.Turns.{state_singles}
-use Rattle.hep_history.specs.Replays.{single_entries}
+use Rattle.hep_causes.proofs.CoreHistories.{state-is}
+use Rattle.hep_causes.specs.CoreValue.{CoreValue, listed_after}
+use Rattle.hep_causes.proofs.HistoryTurns.{state_singles}
+use Rattle.hep_causes.specs.Replays.{single_entries}
 use Rattle.hep_machine.specs.declared.event.Entry.{Entry}
 use Rattle.hep_machine.specs.Words.{State, Units, is_number_among, opening, progress_after, schedule_of, state_after}
-use Rattle.hep_outcome.specs.Outcome.{Outcome}
-use Rattle.hep_outcome.specs.Replay.{outcome_of_core}
+use Rattle.hep_differences.specs.OutcomeOutcome.{Outcome}
+use Rattle.hep_differences.specs.OutcomeReplay.{outcome_of_core}
 use Rattle.hep_state.specs.declared.machine.Machine.{Machine}
 use Rattle.hep_state.specs.Words.{IsMachineAfter}
 use Rattle.hep_text.specs.Line.{lines}
-use Rattle.hep_views.specs.declared.listed.Listed.{Listed}
-use Rattle.hep_views.specs.Listed.{listed_by}
-use Rattle.hep_views.specs.Sought.{IsListedAs}
-use Rattle.hep_views.specs.Standing.{whereabouts_by}
+use Rattle.hep_causes.specs.ViewsListedListed.{Listed}
+use Rattle.hep_causes.specs.ViewsListed.{listed_by}
+use Rattle.hep_causes.specs.ViewsSought.{IsListedAs}
+use Rattle.hep_causes.specs.ViewsStanding.{whereabouts_by}
 use Rattle.hep_differences.specs.Differences.{deed_or_rest, end_of, made_in, process_text, processes_from, rest_of, written_text}
 use Rattle.hep_differences.specs.Firsts.{first_from, same_deed, same_entry, same_front}
 use Rattle.hep_differences.specs.Lines.{ends_text, records_text, rest_text}

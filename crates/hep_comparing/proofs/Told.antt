@@ -16,11 +16,11 @@ use Rattle.hep_proc.specs.Keeping.{FramesOf, Keeps}
 use Rattle.hep_proc.specs.Nodes.{nodes_of}
 use Rattle.hep_source.specs.declared.function.StateFunction.{StateFunction}
 use Rattle.hep_state.specs.declared.machine.Machine.{Machine}
-use Rattle.hep_sites.specs.Named.{IsNamed, named_by}
-use Rattle.hep_sites.specs.Sites.{IsSiteAfter, IsVariableOf}
-use Rattle.hep_sites.specs.declared.sites.Site.{Site}
-use Rattle.hep_views.specs.Standing.{whereabouts_at, whereabouts_by, whereabouts_with}
-use Rattle.hep_views.specs.declared.whereabouts.Whereabouts.{Whereabouts}
+use Rattle.hep_causes.specs.SitesNamed.{IsNamed, named_by}
+use Rattle.hep_causes.specs.SitesSites.{IsSiteAfter, IsVariableOf}
+use Rattle.hep_causes.specs.SitesSitesSite.{Site}
+use Rattle.hep_causes.specs.ViewsStanding.{whereabouts_at, whereabouts_by, whereabouts_with}
+use Rattle.hep_causes.specs.ViewsWhereaboutsWhereabouts.{Whereabouts}
 use Rattle.hep_differences.specs.Deeds.{Question, answer_of, deed_at, found_at, found_of, question_of}
 use Rattle.hep_differences.specs.declared.deed.Found.{Found}
 use Rattle.hep_comparing.specs.Asking.{asked_by}

@@ -8,8 +8,8 @@ use Rattle.hep_machine.specs.Words.{Location, Units, run}
 use Rattle.hep_source.specs.declared.function.StateFunction.{StateFunction}
 use Rattle.hep_source.specs.declared.function.StateFunction.TheVariants.{ValueOf}
 use Rattle.hep_state.specs.declared.machine.Machine.{Machine}
-use Rattle.hep_sites.specs.Sites.{IsSiteAfter}
-use Rattle.hep_sites.specs.declared.sites.Site.{Site}
+use Rattle.hep_causes.specs.SitesSites.{IsSiteAfter}
+use Rattle.hep_causes.specs.SitesSitesSite.{Site}
 use Rattle.hep_differences.specs.Deeds.{found_at}
 use Rattle.hep_differences.specs.declared.deed.Found.{Found}
 

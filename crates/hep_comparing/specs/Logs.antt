@@ -1,7 +1,7 @@
 -- The steps of each process, noted while a history is made again: docs/ARCHITECTURE.md, "Forms".
 use Rattle.std.specs.Prelude.{◌≡◌, ℕ, List, [], ◌++◌, Option, Some, None, slice_get}
 use Rattle.std.specs.Global.{Vec}
-use Rattle.hep_core.specs.Value.{CoreValue}
+use Rattle.hep_causes.specs.CoreValue.{CoreValue}
 use Rattle.hep_machine.specs.Words.{state_after}
 use Rattle.hep_causes.specs.Watches.{AreAlong, Whole}
 use Rattle.hep_differences.specs.Deeds.{deeds_along}

@@ -1,18 +1,16 @@
 //! A step of a process, before it is made.
 ghost use Rattle.std.specs.Prelude.{◌≡◌, ℕ, List, IfOk, Some};
 ghost use Rattle.hep_causes.specs.Watches.{CanTurn};
-ghost use Rattle.hep_core.specs.Value.{state_of};
+ghost use Rattle.hep_causes.specs.CoreValue.{state_of};
 ghost use Rattle.hep_differences.specs.Deeds as words;
 ghost use Rattle.hep_machine.specs.Words.{Level, Process, run};
-ghost use Rattle.hep_sites.specs.Sites.{LivesAfter};
+ghost use Rattle.hep_causes.specs.SitesSites.{LivesAfter};
 
 use crate::found::found;
-use hep_coming::coming_of;
-use hep_core::Core;
+use hep_causes::{Core, coming_of, whereabouts};
 use hep_differences::Deed;
 use hep_image::Image;
 use hep_state::Machine;
-use hep_views::finding::whereabouts;
 use std::alloc::{AllocError, Global};
 
 // The next step of process p, which lives, told by an entry.

@@ -1,19 +1,17 @@
 //! What the step that comes next of a process finds.
 ghost use Rattle.std.specs.Prelude.{◌≡◌, ℕ, List, Some};
-ghost use Rattle.hep_coming.specs.Coming.{IsComingOf};
+ghost use Rattle.hep_causes.specs.ComingComing.{IsComingOf};
 ghost use Rattle.hep_differences.specs.Deeds as words;
 ghost use Rattle.hep_machine.specs.Words.{Level, Process, run};
-ghost use Rattle.hep_sites.specs.Sites.{IsSomeSite, LivesAfter};
+ghost use Rattle.hep_causes.specs.SitesSites.{IsSomeSite, LivesAfter};
 ghost use Rattle.hep_comparing.specs.Asking as asking;
 ghost use Rattle.hep_comparing.specs.Asking.{HasFound};
 
+use hep_causes::{Coming, Site, named, operations_name_variables, site_of};
 use hep_code::{Evaluation, Operation};
-use hep_coming::Coming;
 use hep_differences::Found;
 use hep_image::Image;
 use hep_machine::Slot;
-use hep_sites::laws::operations_name_variables;
-use hep_sites::{Site, named, site_of};
 use hep_source::{StateFunction, Value};
 use hep_state::Machine;
 use hep_state::laws::tops_are_running;

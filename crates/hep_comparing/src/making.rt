@@ -8,10 +8,8 @@ ghost use Rattle.hep_causes.specs.Changes.{turns_from, turns_of};
 
 use crate::deeds::deed_of;
 use crate::logs::note;
-use hep_causes::{begin_again, step};
-use hep_core::Core;
+use hep_causes::{Core, History, begin_again, step};
 use hep_differences::Deed;
-use hep_history::History;
 use hep_machine::Entry;
 use std::alloc::{AllocError, Global};
 

@@ -2,24 +2,20 @@
 ghost use Rattle.std.specs.Prelude.{◌≡◌, ◌+◌, ◌++◌, ◌≤◌, ℕ, false, List, IfOk, OnOk, Some, length, slice_get};
 ghost use Rattle.hep_causes.specs.Watches.{IsReplayed};
 ghost use Rattle.hep_comparing.specs.Sides.{IsSide};
-ghost use Rattle.hep_core.specs.Value.{listed_after};
+ghost use Rattle.hep_causes.specs.CoreValue.{listed_after};
 ghost use Rattle.hep_differences.specs.Differences as words;
 ghost use Rattle.hep_differences.specs.Firsts.{first_from, same_front as front_of};
 ghost use Rattle.hep_differences.specs.Lines.{or_nothing};
 ghost use Rattle.hep_machine.specs.declared.event.Entry.{Entry};
-ghost use Rattle.hep_outcome.specs.Replay.{outcome_of_core};
+ghost use Rattle.hep_differences.specs.OutcomeReplay.{outcome_of_core};
 
 use crate::logs::deeds_of;
 use crate::making::deeds_behind;
-use hep_core::Core;
+use hep_causes::{Core, History, Listed, listed};
 use hep_differences::lines::{
     append_deed, append_ends, append_front, append_process, append_records, append_rest,
 };
-use hep_differences::{Deed, first_difference, same_front};
-use hep_history::History;
-use hep_outcome::transcript::core_transcript;
-use hep_views::Listed;
-use hep_views::finding::listed;
+use hep_differences::{Deed, core_transcript, first_difference, same_front};
 use std::alloc::{AllocError, Global};
 
 // A run that was made again, and the steps of its processes.

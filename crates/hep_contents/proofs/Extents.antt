@@ -8,8 +8,8 @@ use Rattle.hep_conditions.specs.Words.{IsAccepted}
 use Rattle.hep_machine.proofs.Locations.{block-self}
 use Rattle.hep_machine.specs.Words.{BlockName, Name, State, Statement, Units, constant_value, is_block_among, names_in_block, run, same_block, unit_name, value_among}
 use Rattle.hep_proc.specs.declared.frames.Frames.{Frames}
-use Rattle.hep_state.specs.declared.machine.Machine.{Machine}
-use Rattle.hep_state.specs.Words.{IsMachineAfter}
+use Rattle.hep_views.specs.StateMachineMachine.{Machine}
+use Rattle.hep_views.specs.StateWords.{IsMachineAfter}
 use Rattle.hep_states.specs.Lines as lines
 use Rattle.hep_states.specs.States as words
 use Rattle.hep_contents.specs.Blocks.{IsBlockAt, IsExtentOf}

@@ -12,10 +12,10 @@ use Rattle.hep_proc.specs.declared.process.Local.{Local}
 use Rattle.hep_proc.specs.declared.process.Process.{Process}
 use Rattle.hep_proc.specs.Nodes.{nodes_of}
 use Rattle.hep_proc.specs.Stacks.{keys_of, Stack, stack_of}
-use Rattle.hep_state.specs.declared.machine.Machine.{Machine}
-use Rattle.hep_state.specs.Words.{AreThere, IsAfter, IsMachineAfter, IsThere, node_under, snapshot_of, stack_numbered}
-use Rattle.hep_state.proofs.Numbered.{IsFrom, numbered-there, stack-from}
-use Rattle.hep_state.proofs.Processes.{numbered-at}
+use Rattle.hep_views.specs.StateMachineMachine.{Machine}
+use Rattle.hep_views.specs.StateWords.{AreThere, IsAfter, IsMachineAfter, IsThere, node_under, snapshot_of, stack_numbered}
+use Rattle.hep_views.proofs.StateNumbered.{IsFrom, numbered-there, stack-from}
+use Rattle.hep_views.proofs.StateProcesses.{numbered-at}
 use Rattle.hep_contents.specs.Keys.{AreHeldKeys, AreKeys, AreNoted, HaveNodes, IsClosedAt, IsForest, IsNoted}
 use Rattle.hep_contents.proofs.Keyed.{among-noted, noted-stacks}
 

@@ -10,7 +10,7 @@ use Rattle.hep_layout.specs.Words.{FrameNode, Nodes}
 use Rattle.hep_proc.specs.declared.process.Local.{Local}
 use Rattle.hep_proc.specs.declared.process.Process.{Process}
 use Rattle.hep_proc.specs.Stacks.{keys_of, Stack}
-use Rattle.hep_state.specs.Words.{Snapshot}
+use Rattle.hep_views.specs.StateWords.{Snapshot}
 use Rattle.hep_views.specs.Nodes.{is_of, node_above, node_among, parent_in}
 use Rattle.hep_contents.specs.Keys.{AreKeys, AreNoted, HaveNodes, IsClosedAt, IsForest, IsNoted, StayNoted}
 

@@ -1,3 +1,5 @@
+pub use Rattle.hep_views.proofs.Places as ViewsPlaces
+pub use Rattle.hep_views.proofs.Waiting as ViewsWaiting
 mod Bounded
 mod Commons
 mod Doubles

@@ -7,10 +7,10 @@ use Rattle.std.proofs.Math.Seq.{get_or-append_seam, take-append_seam}
 use Rattle.hep_machine.specs.Words.{Value, Units, numbered, run}
 use Rattle.hep_proc.specs.Nodes.{nodes_of}
 use Rattle.hep_proc.specs.declared.process.Local.{Local}
-use Rattle.hep_state.specs.declared.machine.Machine.{Machine}
+use Rattle.hep_views.specs.StateMachineMachine.{Machine}
 use Rattle.hep_proc.specs.declared.process.Process.{Process}
 use Rattle.hep_proc.specs.Stacks.{stack_of, stack_with}
-use Rattle.hep_state.specs.Words.{AreThere, HasLevels, IsMachineAfter, snapshot_of}
+use Rattle.hep_views.specs.StateWords.{AreThere, HasLevels, IsMachineAfter, snapshot_of}
 use Rattle.hep_proc.proofs.Levels.{levels-are}
 use Rattle.hep_states.specs.Lines as lines
 use Rattle.hep_states.specs.Lines.{LevelText}

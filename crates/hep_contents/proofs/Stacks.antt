@@ -10,8 +10,8 @@ use Rattle.hep_code.proofs.Moves.{StandsAt, after_statement_keeps, after_stateme
 use Rattle.hep_layout.specs.Words.{FrameNode, Nodes}
 use Rattle.hep_step.specs.Simulation.{unit_addressed, unit_code}
 use Rattle.hep_proc.specs.declared.process.Local.{Local}
-use Rattle.hep_state.specs.Words.{node_under}
-use Rattle.hep_state.proofs.Standing.{AreStanding, AreStandingBelow, IsHere, StandsBelow, StandsOnTop}
+use Rattle.hep_views.specs.StateWords.{node_under}
+use Rattle.hep_views.proofs.StateStanding.{AreStanding, AreStandingBelow, IsHere, StandsBelow, StandsOnTop}
 use Rattle.hep_views.proofs.Views.{line-is}
 use Rattle.hep_states.specs.Lines as lines
 use Rattle.hep_states.specs.States as words

@@ -11,8 +11,8 @@ use Rattle.hep_image.specs.Names as image
 use Rattle.hep_image.specs.Names.{names_in_order}
 use Rattle.hep_image.proofs.Numbers.{number-of-block, number-of-variable}
 use Rattle.hep_machine.specs.Words.{Name, Units, BlockName, blocks_of, common, common_cells, is_among, is_array, is_block_among, local, main_among, names_of, run, spelling, unit_at, unit_of, Location, State, wanted_by}
-use Rattle.hep_state.specs.declared.machine.Machine.{Machine}
-use Rattle.hep_state.specs.Words.{IsMachineAfter}
+use Rattle.hep_views.specs.StateMachineMachine.{Machine}
+use Rattle.hep_views.specs.StateWords.{IsMachineAfter}
 use Rattle.hep_states.specs.Lines as lines
 use Rattle.hep_states.specs.States as words
 use Rattle.hep_states.specs.States.{block_spelling}

@@ -2,7 +2,7 @@
 use Rattle.std.specs.Prelude.{◌≡◌, ◌≤◌, ◌<◌, ◌-◌, ℕ, suc, List, length, Option, Some, None, slice_get}
 use Rattle.hep_layout.specs.Words.{FrameNode, Nodes}
 use Rattle.hep_proc.specs.declared.process.Local.{Local}
-use Rattle.hep_state.specs.Words.{Snapshot}
+use Rattle.hep_views.specs.StateWords.{Snapshot}
 use Rattle.hep_views.specs.Nodes.{node_of}
 
 -- each node is of one of so many activations, and the node of its parent, if it has one, of an activation with a lower number

@@ -6,7 +6,7 @@ use Rattle.hep_code.specs.Words.{line_ahead}
 use Rattle.hep_layout.specs.Words.{Nodes}
 use Rattle.hep_step.specs.Simulation.{unit_code}
 use Rattle.hep_proc.specs.declared.process.Local.{Local}
-use Rattle.hep_state.specs.Words.{node_under}
+use Rattle.hep_views.specs.StateWords.{node_under}
 use Rattle.hep_states.specs.Lines as lines
 use Rattle.hep_states.specs.Lines.{LevelText}
 

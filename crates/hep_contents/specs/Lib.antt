@@ -1,3 +1,7 @@
+pub use Rattle.hep_views.specs.Listed as ViewsListed
+pub use Rattle.hep_views.specs.Sought as ViewsSought
+pub use Rattle.hep_views.specs.declared.listed.Listed as ViewsListedListed
+pub use Rattle.hep_views.specs.declared.place.Place as ViewsPlacePlace
 pub use Rattle.hep_notes.specs.Shown
 pub mod Kept
 pub mod Variables

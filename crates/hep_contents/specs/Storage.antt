@@ -1,6 +1,6 @@
 -- Where everything is kept: docs/ARCHITECTURE.md, "Forms".
 use Rattle.std.specs.Prelude.{◌≡◌}
-use Rattle.hep_state.specs.declared.machine.Machine.{Machine}
+use Rattle.hep_views.specs.StateMachineMachine.{Machine}
 use Rattle.hep_contents.specs.declared.storage.Storage.{Storage}
 
 -- the frames are those of a machine, and the names are those of the image's units

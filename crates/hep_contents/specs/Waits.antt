@@ -3,8 +3,8 @@ use Rattle.std.specs.Prelude.{◌≡◌, ℕ, zero, suc, List, [], Option, Some,
 use Rattle.hep_blocked.specs.Listing.{IsBlocked}
 use Rattle.hep_cells.specs.declared.want.Want.{Want}
 use Rattle.hep_machine.specs.Words.{Units, run, wanted_by}
-use Rattle.hep_state.specs.declared.machine.Machine.{Machine}
-use Rattle.hep_state.specs.Words.{IsMachineAfter}
+use Rattle.hep_views.specs.StateMachineMachine.{Machine}
+use Rattle.hep_views.specs.StateWords.{IsMachineAfter}
 use Rattle.hep_states.specs.Lines as lines
 use Rattle.hep_states.specs.States.{waiting_text}
 use Rattle.hep_views.specs.declared.listed.Listed.{Listed}

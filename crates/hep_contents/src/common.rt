@@ -4,7 +4,7 @@ ghost use Rattle.std.specs.List.{flat_map};
 ghost use Rattle.hep_contents.specs.Blocks.{IsBlockAt, IsBlockSomewhere, IsExtentOf};
 ghost use Rattle.hep_contents.specs.Storage.{IsStorageOf};
 ghost use Rattle.hep_machine.specs.Words.{Layout, State, Units, blocks_of, run};
-ghost use Rattle.hep_state.specs.Words.{IsMachineAfter};
+ghost use Rattle.hep_views.specs.StateWords.{IsMachineAfter};
 ghost use Rattle.hep_states.specs.States as words;
 
 use crate::cells::slots;
@@ -15,10 +15,10 @@ use hep_common::laws::starts_are_first_cells;
 use hep_common::{CommonBlocks, CommonStarts};
 use hep_proc::Frames;
 use hep_source::{Name, Text};
-use hep_state::Machine;
 use hep_states::append_variable;
 use hep_values::cells_of;
 use hep_values::given::constants;
+use hep_views::Machine;
 use std::alloc::{AllocError, Global};
 
 /// A common block as a unit names it: the unit's names, those in the block, in order, and the block's first cell.

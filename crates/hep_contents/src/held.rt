@@ -2,11 +2,11 @@
 ghost use Rattle.std.specs.Prelude.{◌≡◌, ◌<◌, ℕ, List, IfOk, length, slice_get};
 ghost use Rattle.hep_machine.specs.Words.{Units};
 ghost use Rattle.hep_proc.specs.Nodes.{nodes_of};
-ghost use Rattle.hep_state.specs.Words.{IsMachineAfter, snapshot_of};
+ghost use Rattle.hep_views.specs.StateWords.{IsMachineAfter, snapshot_of};
 ghost use Rattle.hep_contents.specs.Keys.{AreHeldKeys, AreKeys, AreNoted, HaveNodes, IsClosedAt, IsForest, StayNoted};
 
 use hep_proc::{Frames, Local};
-use hep_state::Machine;
+use hep_views::Machine;
 use std::alloc::{AllocError, Global};
 
 // Notes the keys of the nodes of these levels' activations.

@@ -2,7 +2,7 @@
 ghost use Rattle.std.specs.Prelude.{◌≡◌, ◌<◌, ◌++◌, ℕ, List, OnOk, Some, codes, length, reverse};
 ghost use Rattle.hep_machine.specs.Words.{Process, numbered, run};
 ghost use Rattle.hep_proc.specs.Nodes.{nodes_of};
-ghost use Rattle.hep_state.specs.Words.{AreThere, IsThere, IsMachineAfter, HasLevels, snapshot_of};
+ghost use Rattle.hep_views.specs.StateWords.{AreThere, IsThere, IsMachineAfter, HasLevels, snapshot_of};
 ghost use Rattle.hep_states.specs.Lines as lines;
 ghost use Rattle.hep_states.specs.States as words;
 ghost use Rattle.hep_contents.specs.Levels.{backs_seen, level_seen, line_seen, place_seen, top_seen};
@@ -12,8 +12,8 @@ use hep_image::Image;
 use hep_notes::Listing;
 use hep_output::append_number;
 use hep_proc::{Frames, Local};
-use hep_state::Machine;
 use hep_states::append_level;
+use hep_views::Machine;
 use hep_views::finding::line_from;
 use std::alloc::AllocError;
 

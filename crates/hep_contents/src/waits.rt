@@ -7,10 +7,9 @@ ghost use Rattle.hep_views.specs.Sought.{CanBeListed};
 
 use hep_blocked::Want;
 use hep_image::Image;
-use hep_state::Machine;
 use hep_states::{append_block_name, append_element, append_owner, append_waiting};
 use hep_views::finding::listed;
-use hep_views::{Listed, Place};
+use hep_views::{Listed, Machine, Place};
 use std::alloc::{AllocError, Global};
 
 fn name_of(image: &Image, number: u32) -> &[u8]

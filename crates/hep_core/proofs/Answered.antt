@@ -1,10 +1,10 @@
 -- What a commit of a segment with steps answers, from the machine on in which constants ahead are operands.
 use Rattle.std.proofs.Common.{◌≡◌, ◌≢◌, ◌⊎◌, inl, inr, ℕ, suc, ◌+◌, ◌<◌, ◌≤◌, Bool, true, false, List, [], ◌∷◌, ◌++◌, length, Ok, Err, Some, None, refl, sym, ap, ◌∙◌, subst, arith, replicate}
 use Rattle.hep_machine.specs.Words.{AreSteps, is_waiting, run_from, schedule_of}
-use Rattle.hep_private.specs.declared.record.Record.{Record}
+use Rattle.hep_taking.specs.PrivateRecordRecord.{Record}
 use Rattle.hep_taking.specs.Segments.{IsMadeFrom, SegmentValue, Start, is_next_private}
-use Rattle.hep_state.specs.declared.machine.Machine.{Machine}
-use Rattle.hep_state.specs.Words.{HasLevels, HasNoGap, Snapshot, snapshot_of}
+use Rattle.hep_views.specs.StateMachineMachine.{Machine}
+use Rattle.hep_views.specs.StateWords.{HasLevels, HasNoGap, Snapshot, snapshot_of}
 use Rattle.hep_taking.specs.Levels.{start_in}
 use Rattle.hep_taking.specs.Taking.{HasTakenIn, IsNextPrivateIn}
 use Rattle.hep_taking.proofs.Behind.{levels-taken, private-taken}

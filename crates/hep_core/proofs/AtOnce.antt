@@ -1,16 +1,16 @@
 -- A turn in one is a check-out of the process that comes next, and the commit of the segment that is computed of its ticket.
 use Rattle.std.proofs.Common.{◌≡◌, ◌≢◌, ◌⊎◌, ℕ, suc, ◌+◌, ◌<◌, true, false, List, [], ◌∷◌, ◌++◌, length, Ok, Some, None, inl, inr, refl, sym, ap, ◌∙◌, subst, arith}
 use Rattle.hep_machine.specs.Words.{is_waiting, living, schedule_of}
-use Rattle.hep_private.specs.Own.{begun}
-use Rattle.hep_private.specs.declared.record.Record.{Record}
+use Rattle.hep_taking.specs.PrivateOwn.{begun}
+use Rattle.hep_taking.specs.PrivateRecordRecord.{Record}
 use Rattle.hep_taking.specs.TicketId.{TicketId}
 use Rattle.hep_taking.specs.Segments.{IsKept, IsMadeOf, SegmentValue, Start, segment_value}
 use Rattle.hep_taking.specs.Levels.{ticket_of}
 use Rattle.hep_taking.specs.OwnCells.{own_cells_of}
-use Rattle.hep_state.specs.Words.{HasNoGap}
+use Rattle.hep_views.specs.StateWords.{HasNoGap}
 use Rattle.hep_core.specs.Commits.{HasMovedAtOnce, HasMovedBehind, HasSteps, IsLeftOut, IsMadeBehind, IsOutBy, IsTurnAtOnce, StandsAlone, are_private, core_after_return, core_after_ticket, most_tickets, next_id, state_along}
 use Rattle.hep_core.specs.Going.{AreChoices}
-use Rattle.hep_core.specs.Places.{IsWhere, Placed, with_core}
+use Rattle.hep_core.specs.Places.{ArePlaces, IsWhere, Placed, with_core}
 use Rattle.hep_core.specs.Tickets.{has_ticket, is_out, without_process}
 use Rattle.hep_core.specs.Value.{CoreValue, HasNoStop, IsChoice, core_after_choice, next_ready_of, state_of}
 use Rattle.hep_core.specs.declared.stop.Turn.{Turn}
@@ -34,14 +34,14 @@ pub moved-given : (old mid : Placed) (p n : ℕ) → HasMovedAtOnce old p n mid 
 moved-given old mid p n (inl (once, alone, choices)) = given-same old.core mid.core p (chosen-once p old.core 1 mid.core refl choices)
 moved-given old mid p n (inr (room, (start, at, moved))) =
     let of = moved (next_id old.core p) refl in
-    by-way of.0 of.2.2
+    by-way of.0 of.2.3
   where
     by-way : (s : SegmentValue) → IsMadeBehind (core_after_return old.core s.id.process) start s (record { steps = n; blocked = false }) mid.core ⊎ IsLeftOut (core_after_return old.core s.id.process) start s (record { steps = n; blocked = false }) mid.core → mid.core.given ≡ old.core.given
     by-way s (inl (many, other, steps)) = ap (λ (c : CoreValue). c.given) steps.1
     by-way s (inr (many, steps, why)) = ap (λ (c : CoreValue). c.given) steps.1
 
 module _ (old mid new : Placed) (p : ℕ) (going : HasNoStop old.core) (lives : living (state_of old.core) p ≢ None) (home : is_out p old.core.out ≡ false) (left : old.core.given < most_tickets) (next : next_ready_of old.core ≡ Some p)
-    (same : new ≡ with_core mid (record mid.core { given = mid.core.given + 1 })) where
+    (same : new ≡ with_core mid (record mid.core { given = mid.core.given + 1 })) (placed : ArePlaces new) where
   abbrev id : TicketId
   id = next_id old.core p
 
@@ -83,6 +83,8 @@ module _ (old mid new : Placed) (p : ℕ) (going : HasNoStop old.core) (lives : 
         segment = s;
         of = refl;
         alone = λ none. (start, at, alone);
+        full = λ none. absurd (omega (arith, none));
+        placed = placed;
         committed = (start, (out-there, at, (begins, (values, made))), taken);
       }
 
@@ -107,7 +109,7 @@ module _ (old mid new : Placed) (p : ℕ) (going : HasNoStop old.core) (lives : 
       let back = core_after_return (core_after_ticket old.core p) p in
       let process : s.id.process ≡ p = ap (λ (t : TicketId). t.process) own in
       let further : IsMadeBehind (core_after_return out.core s.id.process) start s turn new.core ⊎ IsLeftOut (core_after_return out.core s.id.process) start s turn new.core =
-      further-so n start s process by.2 in
+      further-so n start s process by.3 in
       record {
         next = next;
         ticket = ticket;
@@ -116,6 +118,8 @@ module _ (old mid new : Placed) (p : ℕ) (going : HasNoStop old.core) (lives : 
         segment = s;
         of = own;
         alone = λ none. let long = ap (λ (rs : List Record). length rs) none in absurd (omega (arith, by.1, long));
+        full = by.2;
+        placed = placed;
         committed = (
           start,
           (
@@ -145,3 +149,8 @@ module _ (old mid new : Placed) (p : ℕ) (going : HasNoStop old.core) (lives : 
             subst (λ q. HasSteps (core_after_return out.core q) q (length s.records) new.core) (sym own) there,
             subst (λ (c : CoreValue). (are_private old.core.program start (suc (length s.records)) ≡ true) ⊎ (is_waiting c.program (state_of c) s.id.process ≡ true) ⊎ HasNoGap c.program c.cells (schedule_of c.history) s.id.process) is why,
           )
+
+  -- by the segment of its ticket
+  pub segment-is : (n : ℕ) (room : length old.core.history < old.core.limit) (moved : HasMovedBehind old p n mid) → (behind-at-once n room moved).segment ≡ (moved.2 id refl).0
+  unfolding behind-at-once
+  segment-is n room (start, at, moved) = refl

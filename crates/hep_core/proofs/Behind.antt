@@ -8,18 +8,18 @@ use Rattle.hep_blocked.specs.Listing.{AreListed, GoesAlong, GoesAlongEmptying, H
 use Rattle.hep_blocked.specs.Rolls.{KeepsRoll, Roll, want_of}
 use Rattle.hep_entries.specs.Entries.{Kept}
 use Rattle.hep_taking.specs.Going.{HasGone, MakesMoves}
-use Rattle.hep_private.specs.declared.record.Record.{Record}
-use Rattle.hep_proc.specs.Stacks.{stack_with}
-use Rattle.hep_purging.specs.Purged.{have_cell}
+use Rattle.hep_taking.specs.PrivateRecordRecord.{Record}
+use Rattle.hep_taking.specs.ProcStacks.{stack_with}
+use Rattle.hep_views.specs.PurgingPurged.{have_cell}
 use Rattle.hep_taking.specs.Segments.{IsMadeFrom, SegmentValue, Start}
-use Rattle.hep_state.specs.declared.machine.Machine.{Machine}
-use Rattle.hep_state.specs.declared.turn.Turned.{Turned}
-use Rattle.hep_state.specs.declared.turn.Turned.TheVariants.{Stepped, Purged, Waits}
-use Rattle.hep_state.specs.Words.{CanTurn, HasLevels, HasNoGap, HasSettledTop, HasTurned, IsAfter, IsItsTurn, IsMachineAfter, IsSameButTop, LeavesOthers, Snapshot, snapshot_of}
-use Rattle.hep_state.proofs.Beside.{beside-again, beside-with}
+use Rattle.hep_views.specs.StateMachineMachine.{Machine}
+use Rattle.hep_views.specs.StateTurnTurned.{Turned}
+use Rattle.hep_views.specs.StateTurnTurned.TheVariants.{Stepped, Purged, Waits}
+use Rattle.hep_views.specs.StateWords.{CanTurn, HasLevels, HasNoGap, HasSettledTop, HasTurned, IsAfter, IsItsTurn, IsMachineAfter, IsSameButTop, LeavesOthers, Snapshot, snapshot_of}
+use Rattle.hep_views.proofs.StateBeside.{beside-again, beside-with}
 use Rattle.hep_taking.specs.declared.saving.Saved.{Saved}
-use Rattle.hep_state.proofs.Histories.{after-history}
-use Rattle.hep_state.proofs.Numbered.{length-stacks}
+use Rattle.hep_views.proofs.StateHistories.{after-history}
+use Rattle.hep_views.proofs.StateNumbered.{length-stacks}
 use Rattle.hep_taking.specs.Levels.{snapshot_taken, start_in}
 use Rattle.hep_taking.specs.OwnCells.{own_cells_of}
 use Rattle.hep_taking.specs.Saved.{SavedValue, saved_of, snapshot_restored}

@@ -5,18 +5,18 @@ use Rattle.hep_machine.specs.declared.event.Entry.{Entry}
 use Rattle.hep_machine.specs.Words.{State, Units, living, main_among, numbered, run, schedule_of, state_after, unit_at}
 use Rattle.hep_taking.proofs.Calls.{set-numbered}
 use Rattle.hep_code.specs.Words.{IsPastPushes}
-use Rattle.hep_image.specs.Image.{most_cells}
-use Rattle.hep_image.specs.Private.{private_cells}
-use Rattle.hep_private.specs.Own.{Own, Values}
-use Rattle.hep_private.specs.declared.record.Record.{Record}
-use Rattle.hep_private.specs.Recorded.{recorded}
+use Rattle.hep_views.specs.ImageImage.{most_cells}
+use Rattle.hep_views.specs.ImagePrivate.{private_cells}
+use Rattle.hep_taking.specs.PrivateOwn.{Own, Values}
+use Rattle.hep_taking.specs.PrivateRecordRecord.{Record}
+use Rattle.hep_taking.specs.PrivateRecorded.{recorded}
 use Rattle.hep_taking.specs.Gone.{HaveGone, own_of}
-use Rattle.hep_proc.specs.Stacks.{stack_with}
+use Rattle.hep_taking.specs.ProcStacks.{stack_with}
 use Rattle.hep_taking.specs.Segments.{IsKept, IsMadeFrom, IsMadeOf, SegmentValue, Start}
-use Rattle.hep_step.specs.Simulation.{unit_code}
-use Rattle.hep_state.specs.declared.machine.Machine.{Machine}
-use Rattle.hep_state.specs.Words.{HasLevels, HasSettledTop, IsItsTurn, IsMachineAfter, IsSameButTop, IsTopRunning, IsTurning, LeavesOthers, Snapshot, TurnOf, snapshot_of}
-use Rattle.hep_state.proofs.Beside.{beside-top}
+use Rattle.hep_views.specs.StepSimulation.{unit_code}
+use Rattle.hep_views.specs.StateMachineMachine.{Machine}
+use Rattle.hep_views.specs.StateWords.{HasLevels, HasSettledTop, IsItsTurn, IsMachineAfter, IsSameButTop, IsTopRunning, IsTurning, LeavesOthers, Snapshot, TurnOf, snapshot_of}
+use Rattle.hep_views.proofs.StateBeside.{beside-top}
 use Rattle.hep_taking.specs.Levels.{start_in}
 use Rattle.hep_taking.specs.Taking.{IsMadeIn, IsNextPrivateIn}
 use Rattle.hep_taking.proofs.Standing.{its-turn, turns}

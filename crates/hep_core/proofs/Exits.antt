@@ -9,11 +9,11 @@ use Rattle.hep_code.specs.Words.{deepest}
 use Rattle.hep_entries.specs.Entries.{Kept}
 use Rattle.hep_taking.specs.TicketId.{TicketId}
 use Rattle.hep_taking.specs.Segments.{SegmentValue}
-use Rattle.hep_step.specs.Simulation.{unit_code}
-use Rattle.hep_state.specs.declared.machine.Machine.{Machine}
-use Rattle.hep_state.specs.declared.turn.Turned.{Turned}
-use Rattle.hep_state.specs.Words.{HasLevels, HasNoGap, HasTurned, IsAfter, IsItsTurn, IsMachineAfter, KeepsRoom, KeepsRollFor, LeavesAlone, snapshot_of}
-use Rattle.hep_state.proofs.Unchanged.{machine-of, rooms-of}
+use Rattle.hep_views.specs.StepSimulation.{unit_code}
+use Rattle.hep_views.specs.StateMachineMachine.{Machine}
+use Rattle.hep_views.specs.StateTurnTurned.{Turned}
+use Rattle.hep_views.specs.StateWords.{HasLevels, HasNoGap, HasTurned, IsAfter, IsItsTurn, IsMachineAfter, KeepsRoom, KeepsRollFor, LeavesAlone, snapshot_of}
+use Rattle.hep_views.proofs.StateUnchanged.{machine-of, rooms-of}
 use Rattle.hep_taking.specs.declared.saving.Saved.{Saved}
 use Rattle.hep_taking.specs.Levels.{start_in}
 use Rattle.hep_taking.specs.OwnCells.{own_cells_of}

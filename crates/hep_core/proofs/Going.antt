@@ -12,8 +12,8 @@ use Rattle.hep_blocked.specs.Listing.{AreListed, GoesAlong, HasChanged, is_noted
 use Rattle.hep_blocked.specs.Rolls.{want_of}
 use Rattle.hep_blocked.proofs.Members.{ready-rise, rising-same}
 use Rattle.hep_entries.specs.Entries.{Kept}
-use Rattle.hep_state.specs.declared.machine.Machine.{Machine}
-use Rattle.hep_state.specs.Words.{IsMachineAfter, snapshot_of}
+use Rattle.hep_views.specs.StateMachineMachine.{Machine}
+use Rattle.hep_views.specs.StateWords.{IsMachineAfter, snapshot_of}
 use Rattle.hep_taking.specs.Going.{HasGone, IsPlainTurn, none, more}
 use Rattle.hep_core.specs.Going.{AreChoices, AreMoves, AreRounds, CanMove, IsPlainChoice, again, begun, entries_along, goes_round, started}
 use Rattle.hep_core.specs.Invariant.{AreFew, AreLiving, CoreInvariant, core_value}

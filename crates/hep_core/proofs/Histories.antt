@@ -1,5 +1,5 @@
 -- A history with one entry more, and the processes that are listed after it, by rising numbers.
-use Rattle.std.proofs.Common.{◌≡◌, ◌≢◌, inl, inr, ℕ, true, zero, suc, ◌-◌, ◌<◌, ◌≤◌, List, [], ◌∷◌, ◌++◌, length, length-append, refl, sym, ap, ◌∙◌, subst, append_assoc, append-nil, arith, Option, Some, None, replicate, ◌+◌, Bool, false, IsSome, slice_get, if◌then◌else◌}
+use Rattle.std.proofs.Common.{◌≡◌, ◌≢◌, inl, inr, ℕ, true, zero, suc, ◌*◌, ◌-◌, ◌<◌, ◌≤◌, List, [], ◌∷◌, ◌++◌, length, length-append, refl, sym, ap, ◌∙◌, subst, append_assoc, append-nil, arith, Option, Some, None, replicate, ◌+◌, Bool, false, IsSome, slice_get, if◌then◌else◌}
 use Rattle.std.proofs.lemmas.List.{replicate-append-replicate}
 use Rattle.std.proofs.lemmas.Option.{none-some, same_Some}
 use Rattle.std.specs.Option.{unwrap_or, option_or}
@@ -206,6 +206,20 @@ schedule-along es p (suc n) =
 
 pub schedule-several : (es : List Entry) (p n : ℕ) → schedule_of (es ++ record { process = p; steps = n } ∷ []) ≡ schedule_of es ++ replicate n p
 schedule-several es p n = schedule-last es (record { process = p; steps = n }) ∙ ap (λ ps. schedule_of es ++ ps) (append-nil (replicate n p))
+
+-- of so many entries, each of as many steps
+pub schedule-many : (es : List Entry) (p size n : ℕ) → schedule_of (es ++ replicate n (record { process = p; steps = size })) ≡ schedule_of es ++ replicate (n * size) p
+schedule-many es p size zero =
+    let none : 0 ≡ 0 * size = omega arith in
+    ap schedule_of (append-nil es) ∙ sym (append-nil (schedule_of es)) ∙ ap (λ k. schedule_of es ++ replicate k p) none
+schedule-many es p size (suc n) =
+    let e : Entry = record { process = p; steps = size } in
+    let count : size + n * size ≡ suc n * size = omega arith in
+    ap schedule_of (sym (append_assoc es (e ∷ []) (replicate n e)))
+    ∙ schedule-many (es ++ e ∷ []) p size n
+    ∙ ap (λ ps. ps ++ replicate (n * size) p) (schedule-several es p size)
+    ∙ append_assoc (schedule_of es) (replicate size p) (replicate (n * size) p)
+    ∙ ap (λ ps. schedule_of es ++ ps) (replicate-append-replicate size (n * size) p ∙ ap (λ k. replicate k p) count)
 
 pub schedule-joined : (es : List Entry) (p n : ℕ) → schedule_of (es ++ record { process = p; steps = n } ∷ []) ≡ schedule_of (entries_along es p n)
 schedule-joined es p n = schedule-several es p n ∙ sym (schedule-along es p n)

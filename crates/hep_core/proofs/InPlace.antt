@@ -4,13 +4,13 @@ use Rattle.hep_machine.proofs.Others.{activations_after}
 use Rattle.hep_machine.specs.declared.event.Entry.{Entry}
 use Rattle.hep_machine.specs.Words.{IsSameOrOneMore, State, Units, run_from, schedule_of, state_after, state_after_turn}
 use Rattle.hep_taking.specs.Going.{HasGone}
-use Rattle.hep_taking.specs.Segments.{IsMadeFrom, SegmentValue, Start}
+use Rattle.hep_taking.specs.Segments.{IsMadeFrom, SegmentValue, Start, most_records}
 use Rattle.hep_taking.specs.Levels.{start_in}
 use Rattle.hep_taking.specs.Turning.{IsMadeOfRecords, are_private}
 use Rattle.hep_taking.proofs.Behind.{same-start}
 use Rattle.hep_taking.proofs.Runs.{turns-are}
-use Rattle.hep_state.specs.declared.machine.Machine.{Machine}
-use Rattle.hep_state.specs.Words.{HasLevels, IsMachineAfter, Snapshot, snapshot_of}
+use Rattle.hep_views.specs.StateMachineMachine.{Machine}
+use Rattle.hep_views.specs.StateWords.{HasLevels, IsMachineAfter, Snapshot, snapshot_of}
 use Rattle.hep_core.specs.Commits.{HasSteps, IsLeftOut, IsMadeBehind, IsMovedBehind, core_after_return}
 use Rattle.hep_core.specs.Invariant.{core_value}
 use Rattle.hep_core.specs.Value.{CoreValue}
@@ -73,16 +73,26 @@ module _ (i : Inside) (p : ℕ) (m : Machine) (is : IsSettledIn i p m) (tops : A
   abbrev back : CoreValue
   back = core_after_return (core_value i) s.id.process
 
+  -- the steps of the segment with the next one; or without it, where they are as many as a segment may have
+  abbrev IsTotal : Start → Type 0
+  IsTotal at =
+      ((n ≡ suc (length s.records)) × (are_private i.image at (suc (length s.records)) ≡ false))
+      ⊎ ((n ≡ length s.records) × (length s.records ≡ most_records) × (are_private i.image at (suc (length s.records)) ≡ true))
+
   pub moved-behind : IsMadeOfRecords i.image m n s → HasSteps (core_after_return (core_value i) p) p n new → IsMovedBehind (core_value i) here s n new
   moved-behind made steps =
       let start = start-there own made.can.turn.living is.turn.living in
-      let from = subst (λ (x : Start). IsMadeFrom i.image x s) start made.can.made in
-      (next-of i p m is tops law s own from, made.some, by-total (subst (λ (x : Start). ((n ≡ suc (length s.records)) × (are_private i.image x (suc (length s.records)) ≡ false)) ⊎ ((n ≡ length s.records) × (are_private i.image x (suc (length s.records)) ≡ true))) start made.total))
+      let from = subst (λ (at : Start). IsMadeFrom i.image at s) start made.can.made in
+      let total = subst IsTotal start made.total in
+      (next-of i p m is tops law s own from, made.some, full-by total, by-total total)
     where
       there : HasSteps back s.id.process n new
       there = subst (λ q. HasSteps (core_after_return (core_value i) q) q n new) (sym own) steps
 
-      by-total : ((n ≡ suc (length s.records)) × (are_private i.image here (suc (length s.records)) ≡ false)) ⊎ ((n ≡ length s.records) × (are_private i.image here (suc (length s.records)) ≡ true))
-          → IsMadeBehind back here s turn new ⊎ IsLeftOut back here s turn new
+      full-by : IsTotal here → n ≡ length s.records → n ≡ most_records
+      full-by (inl (many, other)) same = absurd (omega (arith, many, same))
+      full-by (inr (many, most, private)) same = many ∙ most
+
+      by-total : IsTotal here → IsMadeBehind back here s turn new ⊎ IsLeftOut back here s turn new
       by-total (inl (many, other)) = inl (many, other, subst (λ k. HasSteps back s.id.process k new) many there)
-      by-total (inr (many, private)) = inr (many, subst (λ k. HasSteps back s.id.process k new) many there, inl private)
+      by-total (inr (many, most, private)) = inr (many, subst (λ k. HasSteps back s.id.process k new) many there, inl private)

@@ -7,8 +7,8 @@ use Rattle.hep_blocked.specs.Listing.{AreListed, GoesAlong, GoesAlongEmptying, H
 use Rattle.hep_blocked.specs.Rolls.{KeepsRoll, Roll, want_of}
 use Rattle.hep_blocked.proofs.Keeping.{listed-alike}
 use Rattle.hep_entries.specs.Entries.{Kept}
-use Rattle.hep_state.specs.declared.machine.Machine.{Machine}
-use Rattle.hep_state.specs.Words.{IsMachineAfter, Snapshot, snapshot_of, IsAfter, HasWaited, HasPurged, HasTurned, HasLevels}
+use Rattle.hep_views.specs.StateMachineMachine.{Machine}
+use Rattle.hep_views.specs.StateWords.{IsMachineAfter, Snapshot, snapshot_of, IsAfter, HasWaited, HasPurged, HasTurned, HasLevels}
 use Rattle.hep_views.specs.Seen.{machine_view}
 use Rattle.hep_core.specs.Invariant.{AreFew, AreLiving, CoreInvariant}
 use Rattle.hep_core.specs.Value.{IsStop, CoreValue, IsChoice}
@@ -21,19 +21,19 @@ use Rattle.hep_core.proofs.Histories.{legal-stepped, legal-waited, progress-last
 use Rattle.hep_layout.proofs.HeldFrames.{run-last}
 use Rattle.hep_machine.proofs.Others.{activations_after, processes_after}
 use Rattle.hep_source.proofs.Tests.{some-there}
-use Rattle.hep_state.proofs.Numbered.{length-stacks}
+use Rattle.hep_views.proofs.StateNumbered.{length-stacks}
 use Rattle.std.specs.Result.{IsErrAnd}
 use Rattle.std.proofs.lemmas.Option.{none-some, same_Some, slice_get_within}
 use Rattle.std.proofs.lemmas.Result.{err_from_is_err_and}
 use Rattle.hep_layout.specs.Words.{address}
-use Rattle.hep_image.specs.Image.{most_cells}
+use Rattle.hep_views.specs.ImageImage.{most_cells}
 use Rattle.hep_blocked.proofs.Living.{waits-idle}
-use Rattle.hep_purging.specs.declared.range.ClosedRange.{ClosedRange}
-use Rattle.hep_purging.specs.Purged.{have_cell}
-use Rattle.hep_purging.specs.Ready.{AreReached}
+use Rattle.hep_views.specs.PurgingRangeClosedRange.{ClosedRange}
+use Rattle.hep_views.specs.PurgingPurged.{have_cell}
+use Rattle.hep_views.specs.PurgingReady.{AreReached}
 use Rattle.hep_blocked.specs.Needs.{need_of}
-use Rattle.hep_state.specs.declared.turn.Turned.{Turned}
-use Rattle.hep_state.specs.declared.turn.Turned.TheVariants.{Stepped, Purged, Waits}
+use Rattle.hep_views.specs.StateTurnTurned.{Turned}
+use Rattle.hep_views.specs.StateTurnTurned.TheVariants.{Stepped, Purged, Waits}
 use Rattle.hep_core.specs.declared.fault.ChooseFault.{ChooseFault}
 use Rattle.hep_core.specs.declared.fault.ChooseFault.TheVariants.{NoMemory}
 use Rattle.hep_core.specs.declared.stop.Turn.{Turn}

@@ -1,4 +1,6 @@
-pub use Rattle.hep_state.proofs.Runs
+pub use Rattle.hep_views.proofs.Nodes as ViewsNodes
+pub use Rattle.hep_views.proofs.Waiting as ViewsWaiting
+pub use Rattle.hep_views.proofs.StateRuns
 pub mod Histories
 pub mod Outs
 pub mod Free
@@ -18,6 +20,5 @@ pub mod Idle
 pub mod Beside
 pub mod AtOnce
 pub mod InPlace
-pub mod Stored
 pub mod Chain
 pub mod Commons

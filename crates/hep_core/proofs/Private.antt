@@ -12,9 +12,9 @@ use Rattle.hep_entries.specs.Entries.{Kept}
 use Rattle.hep_taking.specs.Going.{HasGone}
 use Rattle.hep_taking.proofs.Runs.{steps-are}
 use Rattle.hep_taking.specs.TicketId.{TicketId}
-use Rattle.hep_state.specs.declared.machine.Machine.{Machine}
-use Rattle.hep_state.specs.Words.{IsAfter, IsMachineAfter, Snapshot, snapshot_of}
-use Rattle.hep_state.proofs.Numbered.{length-stacks}
+use Rattle.hep_views.specs.StateMachineMachine.{Machine}
+use Rattle.hep_views.specs.StateWords.{IsAfter, IsMachineAfter, Snapshot, snapshot_of}
+use Rattle.hep_views.proofs.StateNumbered.{length-stacks}
 use Rattle.hep_taking.specs.declared.saving.Saved.{Saved}
 use Rattle.hep_views.specs.Seen.{machine_view}
 use Rattle.hep_core.specs.Commits.{core_after_return, state_along}

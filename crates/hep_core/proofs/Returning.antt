@@ -1,7 +1,7 @@
 -- A choice of a core from which the tickets were put aside, as what came of a commit once all but one are put back.
 use Rattle.std.proofs.Common.{◌≡◌, ℕ, zero, suc, Bool, true, false, List, [], Ok, Err, inl, inr, sym, ap, ◌∙◌, subst}
 use Rattle.std.proofs.lemmas.Option.{none-some}
-use Rattle.hep_private.specs.declared.record.Record.{Record}
+use Rattle.hep_taking.specs.PrivateRecordRecord.{Record}
 use Rattle.hep_taking.specs.Segments.{SegmentValue, Start}
 use Rattle.hep_core.proofs.Outs.{home-again}
 use Rattle.hep_core.specs.Commits.{IsCommitted, IsGood, IsGoodAt, IsTakenBy, IsWhetherNext, core_after_return}

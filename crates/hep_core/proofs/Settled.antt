@@ -6,17 +6,17 @@ use Rattle.hep_machine.specs.Words.{Units, Value, numbered, with_numbered}
 use Rattle.hep_code.specs.declared.instruction.Instruction.{Instruction}
 use Rattle.hep_code.specs.declared.instruction.Instruction.TheVariants.{Push}
 use Rattle.hep_code.specs.Words.{IsPastPushes, left_to_do, values_ahead}
-use Rattle.hep_private.specs.Own as private
-use Rattle.hep_private.specs.Own.{Own, Values, begun, pushed_ahead, values_at}
-use Rattle.hep_private.specs.Recorded.{if_room, made_ahead, next_made}
-use Rattle.hep_proc.specs.Stacks.{Stack, stack_with}
+use Rattle.hep_taking.specs.PrivateOwn as private
+use Rattle.hep_taking.specs.PrivateOwn.{Own, Values, begun, pushed_ahead, values_at}
+use Rattle.hep_taking.specs.PrivateRecorded.{if_room, made_ahead, next_made}
+use Rattle.hep_taking.specs.ProcStacks.{Stack, stack_with}
 use Rattle.hep_taking.specs.Segments.{Start}
-use Rattle.hep_step.specs.Effects.{effect_ahead}
-use Rattle.hep_step.specs.Simulation.{unit_arrays, unit_code}
-use Rattle.hep_state.specs.declared.machine.Machine.{Machine}
-use Rattle.hep_state.specs.Words.{HasLevels, IsEffectOf, IsItsTurn, IsSameButTop, IsTopRunning, IsTurning, Snapshot, TurnOf, frame_under, snapshot_of, top_frame, turn_settled}
-use Rattle.hep_state.proofs.Taken.{ahead-simulated}
-use Rattle.hep_state.proofs.Tops.{settled}
+use Rattle.hep_views.specs.StepEffects.{effect_ahead}
+use Rattle.hep_views.specs.StepSimulation.{unit_arrays, unit_code}
+use Rattle.hep_views.specs.StateMachineMachine.{Machine}
+use Rattle.hep_views.specs.StateWords.{HasLevels, IsEffectOf, IsItsTurn, IsSameButTop, IsTopRunning, IsTurning, Snapshot, TurnOf, frame_under, snapshot_of, top_frame, turn_settled}
+use Rattle.hep_views.proofs.StateTaken.{ahead-simulated}
+use Rattle.hep_views.proofs.StateTops.{settled}
 use Rattle.hep_taking.specs.Levels.{start_in}
 use Rattle.hep_taking.proofs.Runs.{left-same, past-here}
 use Rattle.hep_taking.proofs.Standing.{its-turn, turns}

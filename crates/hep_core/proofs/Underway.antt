@@ -8,9 +8,9 @@ use Rattle.hep_code.specs.Words.{deepest}
 use Rattle.hep_entries.specs.Entries.{Kept}
 use Rattle.hep_taking.specs.TicketId.{TicketId}
 use Rattle.hep_taking.specs.Segments.{IsMadeFrom, SegmentValue}
-use Rattle.hep_step.specs.Simulation.{unit_code}
-use Rattle.hep_state.specs.declared.machine.Machine.{Machine}
-use Rattle.hep_state.specs.Words.{HasLevels, HasSettledTop, IsItsTurn, IsMachineAfter, KeepsState, snapshot_of}
+use Rattle.hep_views.specs.StepSimulation.{unit_code}
+use Rattle.hep_views.specs.StateMachineMachine.{Machine}
+use Rattle.hep_views.specs.StateWords.{HasLevels, HasSettledTop, IsItsTurn, IsMachineAfter, KeepsState, snapshot_of}
 use Rattle.hep_taking.specs.Levels.{start_in}
 use Rattle.hep_taking.specs.OwnCells.{AreOwnCells, own_cells_of}
 use Rattle.hep_taking.specs.declared.own_cells.Owned.{Owned}

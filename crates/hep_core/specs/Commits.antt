@@ -2,18 +2,18 @@
 use Rattle.std.specs.Prelude.{◌≡◌, ◌≢◌, ◌⊎◌, ℕ, zero, suc, ◌+◌, ◌<◌, Bool, true, false, List, [], ◌∷◌, ◌++◌, None, Some, Result, Ok, Err, is_some, length, replicate}
 use Rattle.hep_machine.specs.declared.event.Entry.{Entry}
 use Rattle.hep_machine.specs.Words.{AreSteps, State, Units, is_waiting, living, run_from, schedule_of, unit_at}
-use Rattle.hep_image.specs.Private.{private_cells}
-use Rattle.hep_step.specs.Simulation.{unit_code}
-use Rattle.hep_private.specs.declared.record.Record.{Record}
-use Rattle.hep_private.specs.Own.{Values, begun}
-use Rattle.hep_private.specs.Recorded.{next_made, recorded}
+use Rattle.hep_views.specs.ImagePrivate.{private_cells}
+use Rattle.hep_views.specs.StepSimulation.{unit_code}
+use Rattle.hep_taking.specs.PrivateRecordRecord.{Record}
+use Rattle.hep_taking.specs.PrivateOwn.{Values, begun}
+use Rattle.hep_taking.specs.PrivateRecorded.{next_made, recorded}
 use Rattle.hep_taking.specs.TicketId.{TicketId}
 use Rattle.hep_taking.specs.Segments.{IsComputed, IsKept, IsMadeOf, SegmentValue, Start, TicketValue, most_records}
-use Rattle.hep_state.specs.Words.{HasNoGap}
+use Rattle.hep_views.specs.StateWords.{HasNoGap}
 use Rattle.hep_taking.specs.Levels.{ticket_of}
 use Rattle.hep_taking.specs.OwnCells.{own_cells_of}
 pub use Rattle.hep_taking.specs.Turning.{are_private}
-use Rattle.hep_core.specs.Places.{IsWhere, Placed, with_core}
+use Rattle.hep_core.specs.Places.{ArePlaces, IsWhere, Placed, with_core}
 use Rattle.hep_core.specs.Value.{CoreValue, HasNoStop, IsChoice, IsFree, core_after_choice, next_ready_of, state_of}
 use Rattle.hep_core.specs.declared.fault.ChooseFault.{ChooseFault}
 use Rattle.hep_core.specs.declared.fault.ChooseFault.TheVariants as choosing
@@ -170,10 +170,11 @@ StandsAlone old p =
     → next_made (private_cells (unit_at old.core.program start.unit)) (unit_code old.core.program start.unit) (begun start.index start.operands values)
     ≡ None)
 
--- p made so many private steps as a segment has, one at least, which come next at a start, and the next one, or left that out as a commit does
+-- p made so many private steps as a segment has, one at least, which come next at a start, and the next one; or it left that out as a commit does, after
+-- as many steps as a segment may have
 abbrev pub IsMovedBehind : CoreValue → Start → SegmentValue → ℕ → CoreValue → Type 0
 IsMovedBehind old start s n new =
-    IsNextOf old s start × (0 < length s.records)
+    IsNextOf old s start × (0 < length s.records) × (n ≡ length s.records → n ≡ most_records)
     × (IsMadeBehind (core_after_return old s.id.process) start s (record { steps = n; blocked = false }) new
     ⊎ IsLeftOut (core_after_return old s.id.process) start s (record { steps = n; blocked = false }) new)
 
@@ -189,8 +190,8 @@ HasMovedAtOnce old p n new =
     ((n ≡ 1) × StandsAlone old p × AreChoices p old.core 1 new.core)
     ⊎ ((length old.core.history < old.core.limit) × HasMovedBehind old p n new)
 
--- the process that comes next was checked out, and a segment of its ticket was committed, which made so many steps. It has a step, unless no
--- private one comes next
+-- the process that comes next was checked out, and a segment of its ticket was committed, which made so many steps. The segment has a step, unless no
+-- private one comes next. The step after those of the segment was made too, unless the segment has as many as it may have
 pub record IsTurnAtOnce (old : Placed) (p n : ℕ) (new : Placed) : Type 0 where
   pub next : next_ready_of old.core ≡ Some p
   pub ticket : TicketValue
@@ -199,12 +200,16 @@ pub record IsTurnAtOnce (old : Placed) (p n : ℕ) (new : Placed) : Type 0 where
   pub segment : SegmentValue
   pub of : segment.id ≡ ticket.id
   pub alone : segment.records ≡ [] → StandsAlone old p
+  pub full : n ≡ length segment.records → n ≡ most_records
   pub committed : IsCommitted out segment (Ok (record { steps = n; blocked = false })) new
+  pub placed : ArePlaces new
 
--- so many turns in one of process p, one after the other, each of as many private steps as a segment may have
+-- so many turns in one of process p, one after the other, each of as many private steps as a segment may have, which come next where p is after the
+-- turns before
 abbrev pub AreTurnsAtOnce : ℕ → ℕ → Placed → Placed → Type 0
 AreTurnsAtOnce p zero old new = new ≡ old
-AreTurnsAtOnce p (suc n) old new = (mid : Placed) × IsTurnAtOnce old p most_records mid × AreTurnsAtOnce p n mid new
+AreTurnsAtOnce p (suc n) old new =
+    (mid : Placed) × (turn : IsTurnAtOnce old p most_records mid) × (length turn.segment.records ≡ most_records) × AreTurnsAtOnce p n mid new
 
 -- ---- tickets that are cancelled
 

@@ -5,7 +5,7 @@ use Rattle.hep_machine.specs.Words.{IsLegal, Units, living, progress_after, sche
 use Rattle.hep_blocked.specs.Listing.{AreListed}
 use Rattle.hep_blocked.specs.Rolls.{want_of}
 use Rattle.hep_taking.specs.UnitTables.{AreTables}
-use Rattle.hep_state.specs.Words.{IsMachineAfter, snapshot_of}
+use Rattle.hep_views.specs.StateWords.{IsMachineAfter, snapshot_of}
 use Rattle.hep_taking.specs.OwnCells.{AreOwnCells}
 use Rattle.hep_views.specs.Seen.{machine_view}
 use Rattle.hep_core.specs.Places.{Placed, places_of}

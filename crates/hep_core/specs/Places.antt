@@ -1,16 +1,16 @@
 -- Where the processes of a core are in the machine that it has: docs/MACHINE.md, "Private steps" and "Workers".
 use Rattle.std.specs.Prelude.{◌≡◌, ◌<◌, ℕ, List, [], ◌∷◌, length, map, Option, Some, None}
-use Rattle.hep_machine.specs.Words.{Value, Units, numbered}
+use Rattle.hep_machine.specs.Words.{Value, Units, numbered, schedule_of}
 use Rattle.hep_machine.specs.declared.slot.Slot.{Slot}
 use Rattle.hep_code.specs.declared.instruction.Instruction.{Instruction}
 use Rattle.hep_code.specs.Words.{IsPastPushes, left_to_do}
 use Rattle.hep_layout.specs.Words.{Nodes}
-use Rattle.hep_step.specs.Simulation.{unit_code}
-use Rattle.hep_private.specs.Own.{values_at}
-use Rattle.hep_proc.specs.declared.process.Local.{Local}
-use Rattle.hep_proc.specs.Stacks.{Stack}
+use Rattle.hep_views.specs.StepSimulation.{unit_code}
+use Rattle.hep_taking.specs.PrivateOwn.{values_at}
+use Rattle.hep_taking.specs.ProcProcessLocal.{Local}
+use Rattle.hep_taking.specs.ProcStacks.{Stack}
 use Rattle.hep_taking.specs.Segments.{Start}
-use Rattle.hep_state.specs.Words.{Snapshot, frame_under}
+use Rattle.hep_views.specs.StateWords.{IsAfter, Snapshot, frame_under}
 use Rattle.hep_core.specs.Value.{CoreValue}
 
 -- the unit that the top activation of a process runs; what is to be done in the unit's code, in front of which its operands stand as constants; the
@@ -52,6 +52,12 @@ pub record IsHere (program : Units) (place : Place) (start : Start) : Type 0 whe
 pub record Placed : Type 0 where
   pub core : CoreValue
   pub places : List (Option Place)
+
+-- the places are those in a machine that keeps the state after the core's history
+pub record ArePlaces (placed : Placed) : Type 0 where
+  pub machine : Snapshot
+  pub after : IsAfter placed.core.program placed.core.cells (schedule_of placed.core.history) machine
+  pub places : placed.places ≡ places_of placed.core.program machine
 
 -- another core, with processes where they were
 abbrev pub with_core : Placed → CoreValue → Placed

@@ -3,15 +3,15 @@ use Rattle.std.specs.Prelude.{◌≡◌, ℕ, ◌+◌, ◌≤◌, ◌||◌, Bool
 use Rattle.std.specs.Option.{is_some}
 use Rattle.hep_machine.specs.Words.{Units, is_number_among, living, run}
 use Rattle.hep_cells.specs.declared.want.Want.{Want}
-use Rattle.hep_image.specs.Image.{most_cells}
+use Rattle.hep_views.specs.ImageImage.{most_cells}
 use Rattle.hep_blocked.specs.Listing.{awake_by, awake_where, is_noted, is_woken, is_woken_where}
 use Rattle.hep_blocked.specs.Rolls.{Roll, want_of}
-use Rattle.hep_purging.specs.declared.range.ClosedRange.{ClosedRange}
-use Rattle.hep_purging.specs.Purged.{have_cell}
-use Rattle.hep_state.specs.declared.machine.Machine.{Machine}
-use Rattle.hep_state.specs.declared.turn.Turned.{Turned}
-use Rattle.hep_state.specs.declared.turn.Turned.TheVariants.{Stepped, Purged, Waits}
-use Rattle.hep_state.specs.Words.{AreNumbered, snapshot_of, IsAfter}
+use Rattle.hep_views.specs.PurgingRangeClosedRange.{ClosedRange}
+use Rattle.hep_views.specs.PurgingPurged.{have_cell}
+use Rattle.hep_views.specs.StateMachineMachine.{Machine}
+use Rattle.hep_views.specs.StateTurnTurned.{Turned}
+use Rattle.hep_views.specs.StateTurnTurned.TheVariants.{Stepped, Purged, Waits}
+use Rattle.hep_views.specs.StateWords.{AreNumbered, snapshot_of, IsAfter}
 
 -- of those that were ready these are left, and one that was made is added, after a step of process p, before which so many processes were
 -- made, in the state that a machine keeps, whatever turns led to it

@@ -11,7 +11,8 @@ pub mod stop;
 
 pub use fault::{ChooseFault, CommitFault, NewFault};
 pub use hep_machine::{Entry, Fault, Kind};
-pub use hep_taking::{Ahead, Offer, Segment, Ticket, TicketId, compute};
-pub use hep_views::{Listed, Whereabouts};
+pub use hep_taking::{Ahead, Offer, OwnCells, Saved, Segment, Ticket, TicketId, compute};
+pub use hep_unwatched::{Tabled, Watch, go_on, stands_watched, tables_of};
+pub use hep_views::{Listed, Machine, Place, Whereabouts};
 pub use scheduler::Core;
 pub use stop::{ChoiceStop, Turn, TurnAtOnce, Turns, Verdict};

@@ -1,16 +1,15 @@
 //! Who is ready and who waits, around a turn.
 ghost use Rattle.std.specs.Prelude.{◌≡◌, ◌≤◌, ◌+◌, ◌||◌, ℕ, Some, slice_get};
 ghost use Rattle.hep_machine.specs.Words.{is_number_among};
-ghost use Rattle.hep_image.specs.Image.{most_cells};
+ghost use Rattle.hep_views.specs.ImageImage.{most_cells};
 ghost use Rattle.hep_blocked.specs.Listing.{awake_by, awake_where, is_woken, is_woken_where};
 ghost use Rattle.hep_blocked.specs.Rolls.{want_of};
-ghost use Rattle.hep_purging.specs.declared.range.ClosedRange.{ClosedRange as PureRange};
-ghost use Rattle.hep_purging.specs.Purged.{has_cell, have_cell};
+ghost use Rattle.hep_views.specs.PurgingRangeClosedRange.{ClosedRange as PureRange};
+ghost use Rattle.hep_views.specs.PurgingPurged.{has_cell, have_cell};
 ghost use Rattle.hep_core.specs.Waking.{AreInArena, CanNote, GoAlongTurn, HasRoomLeft, NotesReady, awake_after, is_woken_after};
 
 use hep_blocked::{Roster, Want};
-use hep_purging::ClosedRange;
-use hep_state::{Machine, Turned};
+use hep_views::{ClosedRange, Machine, Turned};
 
 /// After a step of process p, before which so many processes were made: p isn't ready once it has ended, and a process that it made is.
 pub(crate) fn note_ready(roster: &mut Roster, machine: &Machine, p: u64, made: u64)

@@ -1,18 +1,18 @@
 //! The core: a run of an image, one choice at a time, with its history.
-ghost use Rattle.std.specs.Prelude.{◌≡◌, ◌≢◌, ◌≤◌, ◌<◌, ◌++◌, ◌∷◌, [], None, Some, IsSome, IfNone, IfSome, IfOk, OnErr, OnOk, IfErr, Err, false, true};
+ghost use Rattle.std.specs.Prelude.{◌≡◌, ◌≢◌, ◌≤◌, ◌<◌, ◌++◌, ◌∷◌, [], None, Some, IsSome, IfNone, IfSome, IfOk, OnErr, OnOk, IfErr, Err, false, suc, true};
 ghost use Rattle.std.specs.Prelude.{◌+◌, ◌^◌, is_some, length};
 ghost use Rattle.hep_machine.specs.Words.{IsLegal, is_held, opening_layout, used_cells, living, first_above, last_process};
 ghost use Rattle.hep_machine.specs.Words.{is_number_among, next_of_ready, progress_after, schedule_of, view_of};
 ghost use Rattle.hep_blocked.specs.Listing.{IsBlocked};
 ghost use Rattle.hep_blocked.specs.Numbers.{AreRising};
-ghost use Rattle.hep_state.specs.Words.{IsMachineAfter, snapshot_of};
+ghost use Rattle.hep_views.specs.StateWords.{IsMachineAfter, snapshot_of};
 ghost use Rattle.hep_unwatched.specs.Watches.{PassesFrom};
 ghost use Rattle.hep_views.specs.Standing.{whereabouts_by};
 ghost use Rattle.hep_core.specs.Value.{state_of, opening_of, IsNewFault, IsChoice, IsFree, HasNoStop, IsStop};
 ghost use Rattle.hep_core.specs.Commits.{AreGoodStill, IsCancelled, IsCheckedOut, IsCommitted, IsFresh, IsGivenTo, IsOutBy, IsStoppedWhereFull};
 ghost use Rattle.hep_core.specs.Commits.{AreTurnsAtOnce, HasMovedAtOnce, HasMovedBehind, IsTurnAtOnce, IsWhetherNext, LeavesNext, StandsAlone, core_after_return, most_tickets};
 ghost use Rattle.hep_core.specs.Invariant.{AreLiving};
-ghost use Rattle.hep_core.specs.Places.{places_of, with_core};
+ghost use Rattle.hep_core.specs.Places.{ArePlaces, places_of, with_core};
 ghost use Rattle.hep_core.specs.declared.stop.Verdict.TheVariants.{Waiting};
 ghost use Rattle.hep_core.specs.Tickets.{has_ticket, is_out};
 ghost use Rattle.hep_taking.specs.Offers.{IsKnownOffer, offered};
@@ -31,11 +31,8 @@ use hep_blocked::laws::{
 use hep_blocked::need_laws::waiting_processes_need_it;
 use hep_blocked::{Roster, Want};
 use hep_entries::History;
-use hep_image::Image;
 use hep_layout::laws::layouts_have_what_is_held;
 use hep_machine::{Entry, Fault, Record, Slot};
-use hep_state::laws::tops_are_running;
-use hep_state::{Machine, TurnFault, Turned, fits};
 use hep_taking::laws::{restored_machines_are_as_before, tickets_have_what_is_read};
 use hep_taking::{
     Ahead, MOST_RECORDS, Offer, OwnCells, Owned, Prepared, Saved, Segment, Table, Tabled, Ticket,
@@ -47,7 +44,7 @@ use hep_tickets::come_back;
 use hep_unwatched::{Watch, pass_on};
 use hep_views::finding::{listed, whereabouts};
 use hep_views::laws::views_are_of_states;
-use hep_views::{Listed, Whereabouts};
+use hep_views::{Image, Listed, Machine, TurnFault, Turned, Whereabouts, fits, tops_are_running};
 use std::alloc::{AllocError, Global};
 use std::marker::Model;
 use std::mem::replace;
@@ -749,6 +746,7 @@ impl Core {
         requires program { ahead.now ≡ self.old.core.program }
         requires few { most ≤ most_records }
         ensures made { IfSome result (λ turn. IsTurnAtOnce self.old turn.process turn.steps self.new) }
+        ensures few { IfSome result (λ turn. turn.steps ≤ suc most) }
         ensures none { IfNone result (self.new ≡ self.old) }
         ensures kept { AreGoodStill self.old self.new }
     {
@@ -767,6 +765,7 @@ impl Core {
             return None;
         }
         self.count_ticket();
+        self.headline();
         Some(TurnAtOnce { process: p, steps })
     }
 
@@ -779,6 +778,7 @@ impl Core {
         requires lives { living (state_of self.old.core) p ≢ None }
         requires few { most ≤ most_records }
         ensures made { 0 < result → HasMovedAtOnce self.old p result self.new }
+        ensures few { result ≤ suc most }
         ensures none { result ≡ 0 → self.new ≡ self.old }
         ensures others { 0 < result → LeavesNext p self.old self.new }
     {
@@ -814,6 +814,7 @@ impl Core {
         requires lives { living (state_of self.old.core) p ≢ None }
         requires few { most ≤ most_records }
         ensures made { 0 < result → (length self.old.core.history < self.old.core.limit) × HasMovedBehind self.old p result self.new }
+        ensures few { result ≤ suc most }
         ensures none { result ≡ 0 → self.new ≡ self.old }
         ensures others { 0 < result → LeavesNext p self.old self.new }
     {
@@ -887,7 +888,7 @@ impl Core {
         self.image.is_runnable();
         views_are_of_states();
         lists_go_along_with_steps();
-        tops_are_running();
+        private_steps_are_turns();
         others_leave_what_is_read();
         segments_depend_on_reads();
         if self.limit.saturating_sub(self.history.len()) < turns as u64 {
@@ -1006,13 +1007,14 @@ impl Core {
 
     /// Does nothing: its clauses say what every core is. What is seen of a core is what is seen of
     /// the source machine after the core's own history; the history is one that a core may have; a stop is what its name says: a STOP
-    /// ran, the history is full, or some process can't make its step, for whose new activation's frame there is no gap; and where all that
-    /// live wait no process has a step.
+    /// ran, the history is full, or some process can't make its step, for whose new activation's frame there is no gap; where all that
+    /// live wait no process has a step; and its processes are where they are in a machine that keeps the state after the history.
     pub fn headline(&self)
         ensures view { self.now.core.view ≡ view_of self.now.core.program is_held (state_of self.now.core) }
         ensures legal { IsLegal self.now.core.program self.now.core.cells self.now.core.limit self.now.core.history }
         ensures named { IsStop self.now.core.program self.now.core.cells self.now.core.limit self.now.core.history self.now.core.stop }
         ensures waiting { verdict_of self.now.core ≡ Waiting → IsIdle self.now.core.program (state_of self.now.core) }
+        ensures placed { ArePlaces self.now }
     {
         self.image.is_runnable();
         views_are_of_states();

@@ -9,8 +9,8 @@ use Rattle.hep_code.specs.declared.instruction.Instruction.{Instruction}
 use Rattle.hep_code.specs.Words.{Stands, line_ahead}
 use Rattle.hep_machine.specs.Words.{Form, Statement, Tree, Work, doing, ending, line_at, unit_at, unit_of}
 use Rattle.hep_moves.specs.Moves.{IsSettledTo}
-use Rattle.hep_state.proofs.Moved.{standing-before, unit-is}
-use Rattle.hep_state.specs.Words.{IsTurning, TurnOf, state_before}
+use Rattle.hep_views.proofs.StateMoved.{standing-before, unit-is}
+use Rattle.hep_views.specs.StateWords.{IsTurning, TurnOf, state_before}
 use Rattle.hep_step.specs.Performed.{Snapshot}
 use Rattle.hep_step.specs.Simulation.{unit_addressed, unit_code}
 use Rattle.hep_views.proofs.Views.{line-after, line-is}

@@ -8,11 +8,11 @@ use Rattle.hep_moves.specs.Moves as moves
 use Rattle.hep_moves.specs.Moves.{Goes}
 use Rattle.hep_step.specs.Performed.{Snapshot}
 use Rattle.hep_step.specs.Simulation.{unit_arrays, unit_code}
-use Rattle.hep_state.specs.Words.{IsTurning, TurnOf, top_frame}
-use Rattle.hep_state.specs.declared.machine.Machine.{Machine}
+use Rattle.hep_views.specs.StateWords.{IsTurning, TurnOf, top_frame}
+use Rattle.hep_views.specs.StateMachineMachine.{Machine}
 use Rattle.std.proofs.lemmas.List.{replicate-append-replicate}
-use Rattle.hep_going.specs.Gone.{MakesMoves}
-use Rattle.hep_going.proofs.Turns.{HasLaws, come-so, here, turn_at}
+use Rattle.hep_unwatched.specs.GoingGone.{MakesMoves}
+use Rattle.hep_unwatched.proofs.GoingTurns.{HasLaws, come-so, here, turn_at}
 use Rattle.hep_unwatched.proofs.Passed.{one-behind, state-on}
 use Rattle.hep_counting.specs.Counts.{counted, counted_along}
 use Rattle.hep_counting.specs.Marks.{mark}

@@ -13,9 +13,9 @@ use Rattle.hep_proc.specs.Nodes.{nodes_of}
 use Rattle.hep_proc.specs.Stacks.{HoldsOfTop, Stack, stack_of, stack_with}
 use Rattle.hep_step.specs.Performed.{Snapshot, snapshot}
 use Rattle.hep_step.specs.Simulation.{unit_arrays, unit_code}
-use Rattle.hep_state.specs.declared.machine.Machine.{Machine}
-use Rattle.hep_state.specs.Words.{AfterTurns, node_under}
-use Rattle.hep_going.specs.Gone.{HasNoMoveAt}
+use Rattle.hep_views.specs.StateMachineMachine.{Machine}
+use Rattle.hep_views.specs.StateWords.{AfterTurns, node_under}
+use Rattle.hep_unwatched.specs.GoingGone.{HasNoMoveAt}
 use Rattle.hep_counting.specs.Counts.{counted, counted_along}
 use Rattle.hep_counting.specs.Marks.{mark}
 

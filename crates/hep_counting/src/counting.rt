@@ -1,16 +1,16 @@
 //! Turns of a process, one after the other, by which it lives on and which fill and empty no cell, and the statements that they begin.
 ghost use Rattle.std.specs.Prelude.{◌≡◌, ◌≤◌, ◌<◌, ◌+◌, ◌^◌};
 ghost use Rattle.hep_begins.specs.Begins as words;
-ghost use Rattle.hep_going.specs.Gone.{CanTakeTurns, HasNoMoveAhead, MakesMoves};
+ghost use Rattle.hep_unwatched.specs.GoingGone.{CanTakeTurns, HasNoMoveAhead, MakesMoves};
 ghost use Rattle.hep_machine.specs.Words.{run};
-ghost use Rattle.hep_state.specs.Words.{AfterTurns, LivesOn, snapshot_of};
+ghost use Rattle.hep_views.specs.StateWords.{AfterTurns, LivesOn, snapshot_of};
 ghost use Rattle.hep_counting.specs.Marks.{AreMarks};
 ghost use Rattle.hep_counting.specs.Tallies.{CountsTurns};
 
 use crate::counts::count;
 use crate::marks::{Marked, mark_at};
 use crate::top::count_top;
-use hep_state::{Machine, laws};
+use hep_views::{Machine, tops_are_running};
 
 // So many turns of process p at most, which lives, and how many they were: each is a step of a plain operation that moves it, and what it
 // begins is counted. No memory is taken.
@@ -32,7 +32,7 @@ fn count_moves(
     ensures lives { LivesOn p 0 machine.old machine.new }
 {
     marked.tabled.image.is_runnable();
-    laws::tops_are_running();
+    tops_are_running();
     let at = machine.place(p);
     let process = &mut machine.processes[at];
     count_top(process, &mut machine.frames, marked, counts, most)

@@ -12,5 +12,5 @@ mod walk;
 
 pub use counting::{begun, count_on};
 pub use counts::{count, set_line};
-pub use hep_going::{Table, Tabled, tables_of};
+pub use hep_unwatched::{Table, Tabled, tables_of};
 pub use marks::{Marked, Marks, marks_of};

@@ -6,8 +6,8 @@ ghost use Rattle.hep_step.specs.Simulation.{unit_code};
 
 use hep_begins::operations_ahead;
 use hep_code::Instruction;
-use hep_going::Tabled;
 use hep_image::Image;
+use hep_unwatched::Tabled;
 use hep_views::finding::line_from;
 use std::alloc::{AllocError, Global};
 

@@ -1,7 +1,7 @@
 //! The top activation of a process, and steps that only move it, which are counted.
 ghost use Rattle.std.specs.Prelude.{◌≡◌, ◌≤◌};
 ghost use Rattle.hep_proc.specs.Stacks.{IsSameProcess};
-ghost use Rattle.hep_going.specs.Gone.{CanGoTop};
+ghost use Rattle.hep_unwatched.specs.GoingGone.{CanGoTop};
 ghost use Rattle.hep_counting.specs.Marks.{AreMarks};
 ghost use Rattle.hep_counting.specs.Tallies.{TalliesTop};
 
@@ -10,7 +10,7 @@ use crate::walk::{Walk, walk_on};
 use hep_moves::Activation;
 use hep_proc::{Frames, Process};
 use hep_quick::Quick;
-use hep_state::place;
+use hep_views::state_place as place;
 
 /// So many steps at most of the top activation of a process, each of which only moves it and is counted, and how many they were.
 pub(crate) fn count_top(

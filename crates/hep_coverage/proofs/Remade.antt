@@ -9,9 +9,9 @@ use Rattle.hep_causes.proofs.Turning.{who-steps-lives, who-steps-runs}
 use Rattle.hep_causes.specs.Changes.{turns_from}
 use Rattle.hep_causes.specs.Replays.{most_entries, standing}
 use Rattle.hep_causes.specs.Watches.{AreAlong, HaveLooked, IsReplayed}
-use Rattle.hep_core.proofs.Going.{entries-many}
-use Rattle.hep_core.proofs.Histories.{schedule-along, schedule-none, state-is}
-use Rattle.hep_core.specs.Value.{CoreValue}
+use Rattle.hep_causes.proofs.CoreGoing.{entries-many}
+use Rattle.hep_causes.proofs.CoreHistories.{schedule-along, schedule-none, state-is}
+use Rattle.hep_causes.specs.CoreValue.{CoreValue}
 use Rattle.hep_entries.specs.declared.run.Run.{Run}
 use Rattle.hep_entries.specs.Runs.{entries_of, entry_of}
 use Rattle.hep_machine.specs.declared.event.Entry.{Entry}
@@ -23,8 +23,8 @@ use Rattle.hep_state.specs.declared.turn.TurnFault.TheVariants.{ArenaFull}
 use Rattle.hep_state.specs.declared.turn.Turned.TheVariants.{Waits}
 use Rattle.hep_state.specs.declared.machine.Machine.{Machine}
 use Rattle.hep_state.specs.Words.{HasLevels, HasTurned, IsMachineAfter, IsUnturned, snapshot_of}
-use Rattle.hep_unwatched.proofs.Passed.{run-on}
-use Rattle.hep_views.proofs.Waiting.{living-top}
+use Rattle.hep_counting.proofs.UnwatchedPassed.{run-on}
+use Rattle.hep_counting.proofs.ViewsWaiting.{living-top}
 use Rattle.hep_cells.specs.declared.want.Want.{Want}
 use Rattle.hep_counting.specs.Counts.{counted_along}
 use Rattle.hep_counting.specs.declared.marks.Marked.{Marked}

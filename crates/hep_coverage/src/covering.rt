@@ -6,8 +6,7 @@ ghost use Rattle.hep_coverage.specs.Remaking.{CanRemake, Remakes};
 ghost use Rattle.hep_machine.specs.Words.{schedule_of};
 
 use crate::again::Again;
-use hep_causes::History;
-use hep_core::Core;
+use hep_causes::{Core, History};
 use hep_counting::{Marked, Tabled, count_on, marks_of, tables_of};
 use hep_machine::Entry;
 use hep_state::laws;

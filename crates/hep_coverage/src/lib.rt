@@ -8,4 +8,7 @@ pub mod text;
 
 pub use counts::unbegun;
 pub use covering::count_history;
+pub use hep_causes::{
+    Choices, First, HistFault, History, ReplayFault, read_text, replay, replay_first, why_text,
+};
 pub use text::{append_lines, line_count};

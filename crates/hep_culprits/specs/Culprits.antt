@@ -1,8 +1,8 @@
 -- What in a statement violates a condition: docs/MACHINE.md, "Notes".
-use Rattle.std.specs.Prelude.{ℕ, Bool, not, ◌&&◌, nat_eq, find, if◌then◌else◌, List, [], ◌∷◌, ◌++◌, Option, Some, None, is_none}
+use Rattle.std.specs.Prelude.{ℕ, Bool, not, ◌&&◌, ◌||◌, nat_eq, find, if◌then◌else◌, List, [], ◌∷◌, ◌++◌, Option, Some, None, is_none, is_some}
 use Rattle.std.specs.Option.{option_map, option_or}
 use Rattle.hep_source.specs.declared.statement.Form.TheVariants as form
-use Rattle.hep_machine.specs.Words.{Form, Name, Occurrence, Statement, Target, Units, index_labelled}
+use Rattle.hep_machine.specs.Words.{Form, Name, Occurrence, Statement, Target, Units, function_called, function_named, index_labelled, is_external, subroutine_called}
 use Rattle.hep_conditions.specs.declared.violation.Violation.{Violation}
 use Rattle.hep_conditions.specs.Words.{Calling, FunctionTypes, NameWithList, calls_in, fits_call, function_types, is_call_counted, is_counted, is_reference_counted, names_with_lists, targets_of_jump, targets_purged, terminal_labels}
 use Rattle.hep_calls.specs.Passes.{is_given, is_purgeable}
@@ -80,6 +80,21 @@ structure_by_form functions unit own _ = option_map a_label own
 abbrev pub structure_culprit : FunctionTypes → List Statement → Statement → Option Culprit
 structure_culprit functions unit s = structure_by_form functions unit s.label s.form
 
+-- ---- 301 and 310
+
+-- a function of the program or of the language
+abbrev pub is_function : Units → Name → Bool
+is_function program x = is_some (function_called program x) || not (is_external (function_named x))
+
+-- a name that is used as what it isn't, with what it is
+abbrev pub misused : Units → Occurrence → Culprit
+misused program p =
+    if is_function program p.name then culprit.Function p
+    else (if is_some (subroutine_called program p.name) then culprit.Subroutine p else culprit.Name p)
+
+abbrev pub named_culprit : Units → ℕ → Occurrence → Culprit
+named_culprit program number p = if nat_eq number 310 then misused program p else culprit.Name p
+
 -- ---- all of them
 
 -- of a statement of a unit, by the number of the condition
@@ -113,7 +128,7 @@ culprit_among program v (unit ∷ units) =
 
 -- the name of 301 and 310, and else what stands at the line
 abbrev pub culprit_by : Units → Violation → Option Name → Option Culprit
-culprit_by program v (Some x) = Some (culprit.Name (record { name = x; position = v.position }))
+culprit_by program v (Some x) = Some (named_culprit program v.number (record { name = x; position = v.position }))
 culprit_by program v None = culprit_among program v program
 
 abbrev pub culprit_of : Units → Violation → Option Culprit

@@ -18,6 +18,8 @@ block_text b = codes "/" ++ option_map_or spelling b [] ++ codes "/"
 
 abbrev pub culprit_text : Culprit → List ℕ
 culprit_text (culprit.Name p) = name_text p.name
+culprit_text (culprit.Function p) = name_text p.name ++ codes ": a function, where a subroutine or an array is wanted"
+culprit_text (culprit.Subroutine p) = name_text p.name ++ codes ": a subroutine, where an array or a function is wanted"
 culprit_text (culprit.Label l) = label_text l
 culprit_text (culprit.Block b) = block_text b
 
@@ -29,6 +31,8 @@ text_of (Some c) = culprit_text c
 -- how many characters stand before it
 abbrev pub position_in : Culprit → ℕ
 position_in (culprit.Name p) = p.position
+position_in (culprit.Function p) = p.position
+position_in (culprit.Subroutine p) = p.position
 position_in _ = 0
 
 abbrev pub position_of : Option Culprit → ℕ

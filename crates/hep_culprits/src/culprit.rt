@@ -1,6 +1,7 @@
 //! What a violation is about.
-ghost use Rattle.std.specs.Prelude.{◌≡◌, IfOk, find};
+ghost use Rattle.std.specs.Prelude.{◌≡◌, IfOk, find, not};
 ghost use Rattle.std.specs.Option.{option_copied, option_map};
+ghost use Rattle.hep_machine.specs.Words.{function_named, is_external};
 ghost use Rattle.hep_culprits.specs.Culprits as words;
 
 use crate::arguments::misfit;
@@ -10,7 +11,7 @@ use crate::forms::mistyped;
 use crate::labels::{absent_label, structure_culprit, target_label};
 use crate::lone::{lone_block, lone_target, unit_header};
 use hep_conditions::Violation;
-use hep_names::Symbols;
+use hep_names::{Meaning, ProgramSymbols, Symbols, function_named};
 use hep_source::{Name, Occurrence, Statement};
 use std::alloc::{AllocError, Global};
 
@@ -23,6 +24,10 @@ pub enum Culprit {
     Label(u32),
     /// A common block; blank COMMON has no name.
     Block(Option<Name>),
+    /// The name of a function where it stands, where a subroutine or an array is wanted.
+    Function(Occurrence),
+    /// The name of a subroutine where it stands, where an array or a function is wanted.
+    Subroutine(Occurrence),
 }
 
 fn named(found: Option<Occurrence>) -> Option<Culprit>
@@ -97,6 +102,45 @@ fn culprit_at(
     Ok(None)
 }
 
+fn is_of_the_language(name: &Name) -> bool
+    ensures { result ≡ not (is_external (function_named name.now)) }
+{
+    match function_named(name) {
+        Meaning::External => false,
+        _ => true,
+    }
+}
+
+// A function of the program or of the language.
+fn is_function(program: &ProgramSymbols, name: &Name) -> bool
+    ensures { result ≡ words.is_function program.now name.now }
+{
+    program.function_called(name).is_some() || is_of_the_language(name)
+}
+
+// A name that is used as what it isn't, with what it is.
+fn misused(program: &ProgramSymbols, occurrence: Occurrence) -> Culprit
+    ensures { result ≡ words.misused program.now occurrence }
+{
+    if is_function(program, &occurrence.name) {
+        return Culprit::Function(occurrence);
+    }
+    if program.subroutine_called(&occurrence.name).is_some() {
+        return Culprit::Subroutine(occurrence);
+    }
+    Culprit::Name(occurrence)
+}
+
+// The name that a violation with this number has.
+fn named_culprit(program: &ProgramSymbols, number: u16, occurrence: Occurrence) -> Culprit
+    ensures { result ≡ words.named_culprit program.now number occurrence }
+{
+    if number == 310 {
+        return misused(program, occurrence);
+    }
+    Culprit::Name(occurrence)
+}
+
 /// What a violation of a program is about, as far as one thing is: a name where it stands, a label, or a common block.
 ///
 /// # Errors
@@ -110,10 +154,13 @@ pub fn culprit_of(
     ensures { IfOk result (λ culprit. culprit ≡ words.culprit_of faults.now violation.now) }
 {
     match violation.name {
-        Some(name) => Ok(Some(Culprit::Name(Occurrence {
-            name,
-            position: violation.position,
-        }))),
+        Some(name) => {
+            let occurrence = Occurrence {
+                name,
+                position: violation.position,
+            };
+            Ok(Some(named_culprit(faults.program(), violation.number, occurrence)))
+        }
         None => culprit_at(alloc, faults, violation),
     }
 }

@@ -34,11 +34,36 @@ fn append_block(alloc: Global, text: &mut Vec<u8>, block: &Option<Name>) -> Resu
     text.extend_from_slice(b"/")
 }
 
+// A name, and what is wrong with it.
+fn append_misused(
+    alloc: Global,
+    text: &mut Vec<u8>,
+    name: &Name,
+    said: &[u8],
+) -> Result<(), AllocError>
+    ensures { OnOk result (text.new.items ≡ text.old.items ++ (words.name_text name.now ++ said.now)) }
+{
+    append_name(alloc, text, name)?;
+    text.extend_from_slice(said)
+}
+
 fn append_culprit(alloc: Global, text: &mut Vec<u8>, culprit: &Culprit) -> Result<(), AllocError>
     ensures { OnOk result (text.new.items ≡ text.old.items ++ words.culprit_text culprit.now) }
 {
     match culprit {
         Culprit::Name(occurrence) => append_name(alloc, text, &occurrence.name),
+        Culprit::Function(occurrence) => append_misused(
+            alloc,
+            text,
+            &occurrence.name,
+            b": a function, where a subroutine or an array is wanted",
+        ),
+        Culprit::Subroutine(occurrence) => append_misused(
+            alloc,
+            text,
+            &occurrence.name,
+            b": a subroutine, where an array or a function is wanted",
+        ),
         Culprit::Label(label) => append_label(text, *label),
         Culprit::Block(block) => append_block(alloc, text, block),
     }
@@ -64,7 +89,11 @@ pub fn position_of(culprit: Option<Culprit>) -> usize
     ensures { result ≡ words.position_of culprit }
 {
     match culprit {
-        Some(Culprit::Name(occurrence)) => occurrence.position,
+        Some(
+            Culprit::Name(occurrence)
+            | Culprit::Function(occurrence)
+            | Culprit::Subroutine(occurrence),
+        ) => occurrence.position,
         _ => 0,
     }
 }

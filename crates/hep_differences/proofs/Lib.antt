@@ -1,2 +1,3 @@
+pub use Rattle.hep_outcome.proofs.Wanted as OutcomeWanted
 mod Unlike
 mod Worked

@@ -11,7 +11,7 @@ use Rattle.hep_reasons.specs.Changes.{turns_from}
 use Rattle.hep_source.specs.declared.function.StateFunction.{StateFunction}
 use Rattle.hep_source.specs.declared.function.StateFunction.TheVariants.{IsEmpty, IsFull, ValueOf}
 use Rattle.hep_source.specs.declared.value.Value.TheVariants.{Truth}
-use Rattle.hep_views.specs.Listed.{place_of}
+use Rattle.hep_outcome.specs.ViewsListed.{place_of}
 use Rattle.hep_differences.specs.declared.deed.Deed.{Deed}
 use Rattle.hep_differences.specs.declared.deed.Found.{Found}
 

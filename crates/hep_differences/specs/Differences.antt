@@ -7,7 +7,7 @@ use Rattle.hep_machine.specs.Words.{Units, state_after}
 use Rattle.hep_outcome.specs.Outcome.{Outcome}
 use Rattle.hep_outcome.specs.Replay.{outcome_of_core}
 use Rattle.hep_text.specs.Line.{lines}
-use Rattle.hep_views.specs.Standing.{whereabouts_by}
+use Rattle.hep_outcome.specs.ViewsStanding.{whereabouts_by}
 use Rattle.hep_differences.specs.Deeds.{deeds_behind}
 use Rattle.hep_differences.specs.Firsts.{first_from, same_front}
 use Rattle.hep_differences.specs.Lines.{deed_text, ends_text, first_mark, front_text, or_nothing, process_head, records_text, rest_text, second_mark}

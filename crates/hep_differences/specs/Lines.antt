@@ -4,16 +4,16 @@ use Rattle.std.specs.Fmt.{decimal}
 use Rattle.std.specs.List.{flat_map}
 use Rattle.std.specs.Option.{option_map_or, unwrap_or}
 use Rattle.std.specs.Str.{bytes_eq}
-use Rattle.hep_dump.specs.Names.{name_found}
-use Rattle.hep_dump.specs.Waiting.{listed_text, position_text, variable_text}
+use Rattle.hep_outcome.specs.DumpNames.{name_found}
+use Rattle.hep_outcome.specs.DumpWaiting.{listed_text, position_text, variable_text}
 use Rattle.hep_image.specs.Names.{names_in_order}
 use Rattle.hep_machine.specs.Words.{Units, unit_at}
 use Rattle.hep_naming.specs.Naming.{own_name}
 use Rattle.hep_states.specs.Values.{value_text}
 use Rattle.hep_text.specs.Line.{lines}
-use Rattle.hep_views.specs.declared.listed.Listed.{Listed}
-use Rattle.hep_views.specs.declared.place.Place.{Place}
-use Rattle.hep_views.specs.declared.whereabouts.Whereabouts.{Whereabouts}
+use Rattle.hep_outcome.specs.ViewsListedListed.{Listed}
+use Rattle.hep_outcome.specs.ViewsPlacePlace.{Place}
+use Rattle.hep_outcome.specs.ViewsWhereaboutsWhereabouts.{Whereabouts}
 use Rattle.hep_differences.specs.declared.deed.Deed.{Deed}
 use Rattle.hep_differences.specs.declared.deed.Found.{Found}
 

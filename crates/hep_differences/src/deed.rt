@@ -1,7 +1,7 @@
 //! What came to a process from outside in one of its steps.
 
+use hep_outcome::Place;
 use hep_source::Value;
-use hep_views::Place;
 
 /// What a step was told of a storage unit: its value, if it has one, or by FULL and EMPTY how full it is.
 #[derive(Clone, Copy)]

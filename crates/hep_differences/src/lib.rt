@@ -7,3 +7,4 @@ pub mod lines;
 
 pub use deed::{Deed, Found};
 pub use firsts::{first_difference, same_front};
+pub use hep_outcome::transcript::core_transcript;

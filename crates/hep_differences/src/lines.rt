@@ -1,19 +1,18 @@
 //! The lines of what differs.
 ghost use Rattle.std.specs.Prelude.{◌≡◌, ◌⊎◌, ◌++◌, OnOk, length, option_map};
-ghost use Rattle.hep_dump.specs.Waiting as waiting;
+ghost use Rattle.hep_outcome.specs.DumpWaiting as waiting;
 ghost use Rattle.hep_machine.specs.Words as machine;
 ghost use Rattle.hep_differences.specs.Lines as words;
 ghost use Rattle.hep_states.specs.Values as values;
 ghost use Rattle.hep_text.specs.Line.{lines};
 
 use crate::deed::{Deed, Found};
-use hep_dump::append_waiting;
 use hep_image::Image;
 use hep_naming::own_name;
+use hep_outcome::{Listed, Place, Whereabouts, append_waiting};
 use hep_output::append_number;
 use hep_source::{MAIN_NAME, Statement, Value};
 use hep_text::line::next_line;
-use hep_views::{Listed, Place, Whereabouts};
 use std::alloc::{AllocError, Global};
 
 /// Appends how many entries are the same, of so many in the first history and in the second one.

@@ -7,6 +7,7 @@ pub mod waiting;
 pub mod wants;
 
 pub use faults::{append_fault, append_faults, fault_text};
+pub use hep_core::{Core, Kind, Listed, Watch, Whereabouts};
 pub use stops::{append_places, opening_notes, used_notes};
 pub use waiting::{append_all_waiting, append_waiting, dump_text};
 pub use wants::append_all_wants;

@@ -1,12 +1,12 @@
 -- What a turn did that was seen before it.
 use Rattle.std.proofs.Common.{◌≡◌, ℕ, true, false, Some, None, sym, ap, ◌∙◌}
-use Rattle.hep_core.specs.Value.{CoreValue, state_of}
-use Rattle.hep_traces.specs.Faults.{kind_text}
+use Rattle.hep_sights.specs.CoreValue.{CoreValue, state_of}
+use Rattle.hep_sights.specs.TracesFaults.{kind_text}
 use Rattle.hep_machine.specs.declared.event.Kind.{Kind}
 use Rattle.hep_machine.specs.Words.{State, Top, Wanted, is_number_among, progress_after, step_result_of, wanted_by, wanted_of}
 use Rattle.hep_states.specs.States.{place_text}
-use Rattle.hep_traces.specs.Deeds.{deed_text, fault_added, step_text}
-use Rattle.hep_traces.specs.Lines as lines
+use Rattle.hep_sights.specs.TracesDeeds.{deed_text, fault_added, step_text}
+use Rattle.hep_sights.specs.TracesLines as lines
 use Rattle.hep_glances.specs.declared.sight.Before.{Before}
 use Rattle.hep_glances.specs.Sights.{IsStepSeen, IsTurnSeen}
 use Rattle.hep_glances.proofs.Made.{HasWaited, stepped-so, waited}

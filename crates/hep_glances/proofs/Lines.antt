@@ -1,13 +1,13 @@
 -- The line of a turn, by what was seen of the process before it.
 use Rattle.std.proofs.Common.{◌≡◌, ℕ, Bool, true, false, List, [], ◌++◌, codes, Option, Some, None, refl, sym, ap, ◌∙◌, subst, append_assoc, if◌then◌else◌}
 use Rattle.std.proofs.lemmas.Option.{none-some, same_Some}
-use Rattle.hep_core.specs.Value.{CoreValue, state_of}
-use Rattle.hep_core.proofs.Histories.{progress-state}
+use Rattle.hep_sights.specs.CoreValue.{CoreValue, state_of}
+use Rattle.hep_sights.proofs.CoreHistories.{progress-state}
 use Rattle.hep_machine.specs.Words.{Level, Process, Progress, State, Top, Units, line_at, living, progress_after, step_result_of, unit_name, unit_on_top}
 use Rattle.hep_sights.specs.Freed.{top_in}
-use Rattle.hep_traces.specs.Deeds.{deed_text}
-use Rattle.hep_traces.specs.Lines as lines
-use Rattle.hep_traces.specs.Traces.{freed, is_accessed, line_by, line_text, turn_text, woken}
+use Rattle.hep_sights.specs.TracesDeeds.{deed_text}
+use Rattle.hep_sights.specs.TracesLines as lines
+use Rattle.hep_sights.specs.TracesTraces.{freed, is_accessed, line_by, line_text, turn_text, woken}
 use Rattle.hep_glances.specs.declared.sight.Before.{Before}
 use Rattle.hep_glances.specs.declared.sight.Sight.{Sight}
 use Rattle.hep_glances.specs.Sights.{IsBefore, IsShownBy, IsSight, IsSightOf}

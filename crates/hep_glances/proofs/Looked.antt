@@ -1,8 +1,8 @@
 -- A process of a core that is looked at, in the machine that the core keeps.
 use Rattle.std.proofs.Common.{◌≡◌, true, Option, Some, None, refl, sym, ap, ◌∙◌, is_some, ℕ}
 use Rattle.std.proofs.lemmas.Bool.{false≢true}
-use Rattle.hep_core.specs.Value.{CoreValue, state_of}
-use Rattle.hep_core.proofs.Histories.{state-is}
+use Rattle.hep_sights.specs.CoreValue.{CoreValue, state_of}
+use Rattle.hep_sights.proofs.CoreHistories.{state-is}
 use Rattle.hep_machine.specs.Words.{Level, Process, State, living, run, schedule_of}
 use Rattle.hep_sights.specs.declared.reference.Ahead.{Ahead}
 use Rattle.hep_sights.specs.Freed.{top_in}

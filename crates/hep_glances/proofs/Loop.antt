@@ -2,19 +2,19 @@
 use Rattle.std.proofs.Common.{◌≡◌, ℕ, List, [], Option, sym, ap, ◌∙◌, subst}
 use Rattle.hep_code.specs.declared.instruction.Operation.TheVariants.{EndLoop}
 use Rattle.hep_code.specs.declared.variable.Variable.{Variable}
-use Rattle.hep_core.specs.Value.{CoreValue, state_of}
-use Rattle.hep_core.proofs.Histories.{state-is}
-use Rattle.hep_core.proofs.Kept.{halted-is}
+use Rattle.hep_sights.specs.CoreValue.{CoreValue, state_of}
+use Rattle.hep_sights.proofs.CoreHistories.{state-is}
+use Rattle.hep_sights.proofs.CoreKept.{halted-is}
 use Rattle.hep_layout.specs.Words.{address}
 use Rattle.hep_machine.specs.Words.{Level, Name, Next, Process, State, Top, Units, Value, does, ending_loop, living, location_of_name, run, schedule_of, scope_of, unit_at, unit_of, unit_on_top}
 use Rattle.hep_machine.specs.Control.{variable_of as loop_variable}
 use Rattle.hep_sights.proofs.Loops.{Stays, loop-stays, value-stays}
-use Rattle.hep_sites.specs.declared.sites.Site.{Site}
-use Rattle.hep_sites.specs.Sites.{HasValue, IsSite, IsSiteAfter, IsSomeSite, IsVariableOf, LivesAfter, stored_at}
-use Rattle.hep_state.specs.declared.machine.Machine.{Machine}
-use Rattle.hep_state.specs.Words.{IsMachineAfter, snapshot_of}
-use Rattle.hep_state.proofs.Unchanged.{carry}
-use Rattle.hep_traces.specs.Deeds.{value_in}
+use Rattle.hep_sights.specs.SitesSitesSite.{Site}
+use Rattle.hep_sights.specs.SitesSites.{HasValue, IsSite, IsSiteAfter, IsSomeSite, IsVariableOf, LivesAfter, stored_at}
+use Rattle.hep_sights.specs.StateMachineMachine.{Machine}
+use Rattle.hep_sights.specs.StateWords.{IsMachineAfter, snapshot_of}
+use Rattle.hep_sights.proofs.StateUnchanged.{carry}
+use Rattle.hep_sights.specs.TracesDeeds.{value_in}
 use Rattle.hep_glances.specs.declared.sight.Before.{Before}
 use Rattle.hep_glances.specs.Sights.{IsLoopAhead, IsStepSeen, IsValueSeen}
 use Rattle.hep_glances.proofs.Made.{program-same}

@@ -4,8 +4,8 @@ use Rattle.std.specs.List.{filter}
 use Rattle.std.proofs.lemmas.Option.{none-some}
 use Rattle.std.proofs.lemmas.Bool.{false≢true}
 use Rattle.std.proofs.lemmas.Bool.Decides.{nat_tests}
-use Rattle.hep_core.specs.Value.{CoreValue, IsTurn, core_after_choice, state_of}
-use Rattle.hep_core.proofs.Histories.{progress-last, state-is, state-stepped, schedule-waited}
+use Rattle.hep_sights.specs.CoreValue.{CoreValue, IsTurn, core_after_choice, state_of}
+use Rattle.hep_sights.proofs.CoreHistories.{progress-last, state-is, state-stepped, schedule-waited}
 use Rattle.hep_machine.specs.declared.event.Entry.{Entry}
 use Rattle.hep_machine.specs.Words.{Progress, State, StepResult, Units, Wanted, absent, is_number_among, progress_after, run, state_after, state_made, step, step_result_of, stepped, waiting, wanted_by, wanted_of}
 use Rattle.hep_sights.specs.Turns.{IsTurnMade}

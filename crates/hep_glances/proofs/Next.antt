@@ -14,9 +14,9 @@ use Rattle.hep_machine.specs.Evaluation.{reading}
 use Rattle.hep_machine.specs.Control.{variable_of as loop_variable}
 use Rattle.hep_machine.specs.Words.{Action, Name, Next, Redex, Reference, Statement, Top, Units, Value, function_name, next_of, unit_of, unit_on_top, wants, does, evaluating, referring}
 use Rattle.hep_machine.specs.Words.{testing, assigning, entering_loop, ending_loop, purging, leaving}
-use Rattle.hep_sites.specs.Named.{IsNamed}
+use Rattle.hep_sights.specs.SitesNamed.{IsNamed}
 use Rattle.hep_step.specs.Simulation.{unit_addressed}
-use Rattle.hep_traces.specs.Cells.{references_of}
+use Rattle.hep_sights.specs.TracesCells.{references_of}
 use Rattle.hep_glances.specs.Sights.{IsLoopAhead, is_access}
 
 -- of an activation on top of a process, with the operation ahead, its operands, and what stands behind it

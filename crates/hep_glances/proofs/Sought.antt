@@ -10,7 +10,7 @@ use Rattle.hep_code.specs.Actions.{referred_argument}
 use Rattle.hep_image.specs.Places.{variable_of}
 use Rattle.hep_machine.specs.Words.{Level, Process, Reference, Value, run, unit_at, unit_of}
 use Rattle.hep_source.proofs.Tests.{at-front}
-use Rattle.hep_traces.specs.Cells.{has_name}
+use Rattle.hep_sights.specs.TracesCells.{has_name}
 use Rattle.hep_sights.specs.declared.reference.Ahead.{Ahead}
 use Rattle.hep_sights.specs.References.{IsAhead, IsEntryOf, top_after}
 use Rattle.hep_sights.proofs.Entries.{rest-next, subscripts_of, target-ahead}

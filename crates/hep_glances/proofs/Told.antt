@@ -12,12 +12,12 @@ use Rattle.hep_machine.specs.Evaluation.{reading}
 use Rattle.hep_machine.specs.Control.{variable_of as loop_variable}
 use Rattle.hep_machine.specs.Words.{Action, Name, Next, Redex, Reference, State, Statement, Top, Units, Value, next_of, spelling, unit_of, unit_on_top, wants, does, evaluating, referring}
 use Rattle.hep_machine.specs.Words.{testing, assigning, jumping, entering_loop, ending_loop, calling, creating, purging, printing, continuing, leaving}
-use Rattle.hep_sites.specs.Named.{IsNamed}
+use Rattle.hep_sights.specs.SitesNamed.{IsNamed}
 use Rattle.hep_step.specs.Simulation.{unit_addressed}
-use Rattle.hep_traces.specs.Deeds.{place_of}
-use Rattle.hep_tracing.specs.declared.told.Seen.{Seen}
-use Rattle.hep_tracing.specs.Plain.{IsNameOfCalled}
-use Rattle.hep_tracing.specs.Seen.{IsActionSeen, IsNextSeen, IsRedexSeen, IsReferenceSeen, IsSeen, numbers_before}
+use Rattle.hep_sights.specs.TracesDeeds.{place_of}
+use Rattle.hep_sights.specs.TracingToldSeen.{Seen}
+use Rattle.hep_sights.specs.TracingPlain.{IsNameOfCalled}
+use Rattle.hep_sights.specs.TracingSeen.{IsActionSeen, IsNextSeen, IsRedexSeen, IsReferenceSeen, IsSeen, numbers_before}
 use Rattle.hep_glances.specs.declared.sight.Before.{Before}
 use Rattle.hep_glances.specs.Sights.{IsListAhead, IsListSeen, IsSeenWith, IsValueAhead, IsValueSeen, name_referred, place_referred}
 

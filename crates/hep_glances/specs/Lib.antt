@@ -1,1 +1,2 @@
+pub use Rattle.hep_sights.specs.StateWords
 pub mod Sights

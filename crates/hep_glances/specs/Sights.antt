@@ -5,7 +5,7 @@ use Rattle.std.specs.Option.{option_map}
 use Rattle.hep_code.specs.declared.instruction.Evaluation.TheVariants.{Load, Test}
 use Rattle.hep_code.specs.declared.instruction.Operation.{Operation}
 use Rattle.hep_code.specs.declared.instruction.Operation.TheVariants.{Evaluate, Store, EnterLoop, EndLoop, Print}
-use Rattle.hep_core.specs.Value.{CoreValue, state_of}
+use Rattle.hep_sights.specs.CoreValue.{CoreValue, state_of}
 use Rattle.hep_image.specs.Names.{names_in_order}
 use Rattle.hep_machine.specs.declared.record.Item.{Item}
 use Rattle.hep_machine.specs.Words.{Level, Name, Process, Redex, State, Top, Units, Value, answer_of, does, ending_loop, evaluating, function_name, leaving, line_at, living, next_of, printing, purging, schedule_of, step_result_of, stepped, unit_name, unit_of, unit_on_top, variable_of, wants}
@@ -17,16 +17,16 @@ use Rattle.hep_sights.specs.References.{IsAhead, IsReferenceAhead, top_after}
 use Rattle.hep_sights.specs.Woken.{listed_numbers}
 use Rattle.hep_sights.specs.declared.reference.Ahead.{Ahead}
 use Rattle.hep_sights.specs.declared.reference.Reference.{Reference}
-use Rattle.hep_sites.specs.Sites.{HasValue, IsSomeSite, IsVariableOf}
-use Rattle.hep_state.specs.declared.machine.Machine.{Machine}
-use Rattle.hep_contents.specs.Waits.{name_seen}
-use Rattle.hep_traces.specs.Deeds.{deed_text, fault_added, line_after, own_reference, own_scope, value_given, value_in}
-use Rattle.hep_traces.specs.Lines.{references_text}
-use Rattle.hep_traces.specs.Traces.{is_accessed}
-use Rattle.hep_tracing.specs.declared.told.Seen.{Seen}
-use Rattle.hep_tracing.specs.Plain.{IsNameOfCalled}
-use Rattle.hep_tracing.specs.Seen.{numbers_before}
-use Rattle.hep_tracing.specs.Told.{place_seen, told_text}
+use Rattle.hep_sights.specs.SitesSites.{HasValue, IsSomeSite, IsVariableOf}
+use Rattle.hep_sights.specs.StateMachineMachine.{Machine}
+use Rattle.hep_sights.specs.ContentsWaits.{name_seen}
+use Rattle.hep_sights.specs.TracesDeeds.{deed_text, fault_added, line_after, own_reference, own_scope, value_given, value_in}
+use Rattle.hep_sights.specs.TracesLines.{references_text}
+use Rattle.hep_sights.specs.TracesTraces.{is_accessed}
+use Rattle.hep_sights.specs.TracingToldSeen.{Seen}
+use Rattle.hep_sights.specs.TracingPlain.{IsNameOfCalled}
+use Rattle.hep_sights.specs.TracingSeen.{numbers_before}
+use Rattle.hep_sights.specs.TracingTold.{place_seen, told_text}
 use Rattle.hep_glances.specs.declared.sight.Before.{Before}
 use Rattle.hep_glances.specs.declared.sight.Sight.{Sight}
 pub use Rattle.hep_sights.specs.Turns.{IsTurnMade}

@@ -2,18 +2,18 @@
 ghost use Rattle.std.specs.Prelude.{◌≡◌, ℕ, List, IfOk};
 ghost use Rattle.hep_machine.specs.Words.{Level, Process as SourceProcess};
 ghost use Rattle.hep_sights.specs.References.{IsAhead, IsReferenceAhead, top_after};
-ghost use Rattle.hep_traces.specs.Cells as cells_of;
-ghost use Rattle.hep_traces.specs.Traces as traces;
+ghost use Rattle.hep_sights.specs.TracesCells as cells_of;
+ghost use Rattle.hep_sights.specs.TracesTraces as traces;
 ghost use Rattle.hep_glances.specs.Sights as sights;
 
 use crate::laws::operations_come_next;
 use crate::purged::{is_called, is_target};
 use hep_code::{Evaluation, Operation};
-use hep_sights::{Ahead, Reference, append_targets, value_ahead};
-use hep_sites::laws::operations_name_variables;
-use hep_sites::{named, value_at};
+use hep_sights::{
+    Ahead, Machine, Reference, append_targets, named, operations_name_variables, value_ahead,
+    value_at,
+};
 use hep_source::Value;
-use hep_state::Machine;
 use std::alloc::{AllocError, Global};
 
 // An operation reads or stores a variable, asks for its state, or counts by it.

@@ -1,21 +1,19 @@
 //! Laws of what comes next of a process, and of what is told of its turn.
 ghost use Rattle.std.specs.Prelude.{◌≡◌, ℕ, List, is_some, true};
 ghost use Rattle.hep_code.specs.Words.{IsNext};
-ghost use Rattle.hep_coming.specs.declared.coming.Coming.{Coming as AComing};
-ghost use Rattle.hep_coming.specs.Coming.{IsComingOf};
+ghost use Rattle.hep_sights.specs.ComingComingComing.{Coming as AComing};
+ghost use Rattle.hep_sights.specs.ComingComing.{IsComingOf};
 ghost use Rattle.hep_conditions.specs.Words.{IsAccepted};
 ghost use Rattle.hep_machine.specs.Words.{Level, Process, Units, main_among, next_of, run, unit_at, unit_of};
 ghost use Rattle.hep_sights.specs.declared.reference.Ahead.{Ahead as AnAhead};
 ghost use Rattle.hep_sights.specs.References.{IsAhead, top_after};
-ghost use Rattle.hep_sites.specs.Sites.{LivesAfter};
-ghost use Rattle.hep_state.specs.declared.machine.Machine.{Machine as AMachine};
+ghost use Rattle.hep_sights.specs.SitesSites.{LivesAfter};
+ghost use Rattle.hep_sights.specs.StateMachineMachine.{Machine as AMachine};
 ghost use Rattle.hep_step.specs.Simulation.{unit_addressed};
 ghost use Rattle.hep_glances.specs.Sights.{IsAheadSeen, IsLoopAhead, IsToldWith};
 ghost use Rattle.hep_glances.specs.declared.sight.Before.{Before as ABefore};
 
-use hep_sites::laws::operations_name_variables;
-use hep_state::laws::tops_are_running;
-use hep_tracing::laws::steps_are_told;
+use hep_sights::{operations_name_variables, steps_are_told, tops_are_running};
 
 /// The operation that stands ahead of a process, with its operands and what stands behind it, is what comes next in the source.
 pub fn operations_come_next()

@@ -1,20 +1,19 @@
 //! Processes that are looked at before their turns.
 ghost use Rattle.std.specs.Prelude.{◌≡◌, ◌<◌, ◌^◌, false, length, IfOk};
-ghost use Rattle.hep_core.specs.Value.{state_of};
+ghost use Rattle.hep_sights.specs.CoreValue.{state_of};
 ghost use Rattle.hep_machine.specs.Words.{Level, Process as SourceProcess, schedule_of};
-ghost use Rattle.hep_sites.specs.Variables.{AreVariablesOf};
-ghost use Rattle.hep_traces.specs.Traces.{is_accessed};
+ghost use Rattle.hep_sights.specs.SitesVariables.{AreVariablesOf};
+ghost use Rattle.hep_sights.specs.TracesTraces.{is_accessed};
 ghost use Rattle.hep_glances.specs.Sights.{IsAheadOf, IsBefore, IsShownBy, IsSight, name_sought};
 ghost use Rattle.hep_sights.specs.Freed.{top_in};
 
 use crate::ahead::{is_shown, targets, value_before};
 use crate::laws::turns_are_told;
 use crate::sight::{Before, Sight};
-use hep_coming::coming_of;
-use hep_core::Core;
-use hep_sights::{Ahead, ancestry, numbers_before, reference_ahead, waiting_numbers};
-use hep_sites::Variables;
-use hep_state::laws::activations_are_few;
+use hep_sights::{
+    Ahead, Core, Variables, activations_are_few, ancestry, coming_of, numbers_before,
+    reference_ahead, waiting_numbers,
+};
 use std::alloc::{AllocError, Global};
 
 // What the line of the next turn of a process that lives needs. It has a function of its own, so that nothing is made ready for it where there is no line.

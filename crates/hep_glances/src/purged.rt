@@ -3,17 +3,15 @@ ghost use Rattle.std.specs.Prelude.{◌≡◌, ℕ, List, drop, length, take};
 ghost use Rattle.std.specs.List.{list_any};
 ghost use Rattle.hep_machine.specs.Words.{Level, Name as SourceName, Process as SourceProcess, Reference as SourceReference, does, next_of, purging, unit_on_top};
 ghost use Rattle.hep_sights.specs.References.{IsAhead, IsEntryOf, top_after};
-ghost use Rattle.hep_sites.specs.Sites.{IsVariableOf};
-ghost use Rattle.hep_traces.specs.Cells.{has_name};
+ghost use Rattle.hep_sights.specs.SitesSites.{IsVariableOf};
+ghost use Rattle.hep_sights.specs.TracesCells.{has_name};
 
 use hep_accepted_laws::code::variables_of_the_code_are_placed;
 use hep_code::{Argument, Instruction, Variable};
-use hep_sights::Ahead;
 use hep_sights::reference::number_of;
 use hep_sights::touching::goes_by;
-use hep_sites::site_of;
+use hep_sights::{Ahead, site_of, tops_are_running};
 use hep_source::Value;
-use hep_state::laws::tops_are_running;
 
 /// Whether a variable of the unit of the process, or its element with these subscripts, goes by a name: by the one that the unit has for it, or by
 /// the one with which it is declared.

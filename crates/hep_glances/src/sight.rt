@@ -1,9 +1,8 @@
 //! What is seen of a process before its turn.
 
 use hep_code::Operation;
-use hep_sights::Reference;
+use hep_sights::{Reference, TracingNumbers as Numbers};
 use hep_source::Value;
-use hep_tracing::Numbers;
 
 /// What the line of a turn of a process that lives needs of what is so before it.
 pub(crate) struct Before {

@@ -1,24 +1,20 @@
 //! Turns that are told of once they were made.
 ghost use Rattle.std.specs.Prelude.{◌≡◌, ◌++◌, ℕ, IfOk, List, OnOk, Option, option_map};
-ghost use Rattle.hep_core.specs.Value.{CoreValue, state_of};
+ghost use Rattle.hep_sights.specs.CoreValue.{CoreValue, state_of};
 ghost use Rattle.hep_machine.specs.Words.{Top, progress_after, step_result_of};
-ghost use Rattle.hep_traces.specs.Deeds.{deed_text};
-ghost use Rattle.hep_traces.specs.Traces.{line_text};
+ghost use Rattle.hep_sights.specs.TracesDeeds.{deed_text};
+ghost use Rattle.hep_sights.specs.TracesTraces.{line_text};
 ghost use Rattle.hep_glances.specs.Sights.{IsListSeen, IsSight, IsStepSeen, IsTurnMade, IsTurnSeen, IsValueSeen, name_referred, place_referred};
 
 use crate::sight::{Before, Sight};
 use hep_code::Operation;
-use hep_core::Core;
 use hep_image::Image;
 use hep_sights::{
-    Reference, append_freed_of, append_wait, append_woken_of, called, fault_since, line_of,
-    printed, unit_name,
+    Core, Reference, Seen, append_fault, append_freed_of, append_head, append_told, append_wait,
+    append_woken_of, called, fault_since, line_of, printed, prints_are_last_records, site_of,
+    unit_name, value_at,
 };
-use hep_sites::{site_of, value_at};
 use hep_source::Value;
-use hep_traces::{append_fault, append_head};
-use hep_tracing::laws::prints_are_last_records;
-use hep_tracing::{Seen, append_told};
 use std::alloc::{AllocError, Global};
 
 // The name that the unit has for what came next.

@@ -4,30 +4,30 @@ use Rattle.std.proofs.lemmas.Option.{none-some}
 use Rattle.hep_machine.specs.Words.{Value, common_cells, frame_cells, unit_at}
 use Rattle.hep_machine.specs.declared.slot.Slot.{Slot}
 use Rattle.hep_machine.specs.State.{Level as SourceLevel, Process as SourceProcess}
-use Rattle.hep_code.specs.declared.instruction.Instruction.{Instruction}
-use Rattle.hep_code.specs.declared.instruction.Instruction.TheVariants.{Step}
-use Rattle.hep_code.specs.declared.instruction.Operation.{Operation}
-use Rattle.hep_code.specs.declared.instruction.Operation.TheVariants.{Call, Create, Refer, Purge, Resume}
-use Rattle.hep_code.specs.Words.{deepest}
-use Rattle.hep_image.specs.declared.array.Array.{Array}
-use Rattle.hep_arena.proofs.Gaps.{apart-end}
-use Rattle.hep_image.specs.Image.{most_cells}
-use Rattle.hep_image.proofs.Variables.{frame-reached}
-use Rattle.hep_image.specs.Arrays.{ArePlacedArrays}
-use Rattle.hep_binding.proofs.Calls.{set-numbered}
-use Rattle.hep_step.specs.Effects.{effect_ahead, moves}
-use Rattle.hep_step.specs.Performed as step
-use Rattle.hep_step.specs.Performed.{changed_in, performed}
-use Rattle.hep_step.specs.Ready.{frame_in_arena}
-use Rattle.hep_step.specs.Simulation.{IsNotLeftOut, is_left_out, unit_arrays, unit_code}
-use Rattle.hep_proc.specs.Stacks.{stack_with}
+use Rattle.hep_quick.specs.CodeInstructionInstruction.{Instruction}
+use Rattle.hep_quick.specs.CodeInstructionInstruction.TheVariants.{Step}
+use Rattle.hep_quick.specs.CodeInstructionOperation.{Operation}
+use Rattle.hep_quick.specs.CodeInstructionOperation.TheVariants.{Call, Create, Refer, Purge, Resume}
+use Rattle.hep_quick.specs.CodeWords.{deepest}
+use Rattle.hep_quick.specs.ImageArrayArray.{Array}
+use Rattle.hep_state.proofs.ArenaGaps.{apart-end}
+use Rattle.hep_quick.specs.ImageImage.{most_cells}
+use Rattle.hep_quick.proofs.ImageVariables.{frame-reached}
+use Rattle.hep_quick.specs.ImageArrays.{ArePlacedArrays}
+use Rattle.hep_state.proofs.BindingCalls.{set-numbered}
+use Rattle.hep_quick.specs.StepEffects.{effect_ahead, moves}
+use Rattle.hep_quick.specs.StepPerformed as step
+use Rattle.hep_quick.specs.StepPerformed.{changed_in, performed}
+use Rattle.hep_quick.specs.StepReady.{frame_in_arena}
+use Rattle.hep_quick.specs.StepSimulation.{IsNotLeftOut, is_left_out, unit_arrays, unit_code}
+use Rattle.hep_state.specs.ProcStacks.{stack_with}
 use Rattle.hep_state.specs.Words.{Changes, HasLevels, IsAfter, IsEffectOf, IsTopRunning, IsTurning, Snapshot, TurnOf, running_top, snapshot_moved, top_frame, turn_settled}
 use Rattle.hep_state.proofs.Moved.{moved-shown, unit-is}
 use Rattle.hep_state.proofs.Runs.{set-same}
 use Rattle.hep_state.proofs.Changes.{changes-only}
 use Rattle.hep_state.proofs.Taken.{ahead-simulated, before, ready, room-ahead}
 use Rattle.hep_state.proofs.Tops.{settled, turning}
-use Rattle.hep_moves.specs.Moves.{CanGoOn, Goes, IsMove, IsSettledTo, stays, settles, steps}
+use Rattle.hep_quick.specs.MovesMoves.{CanGoOn, Goes, IsMove, IsSettledTo, stays, settles, steps}
 use Rattle.hep_going.specs.Gone.{HasGone, none, more}
 
 -- ---- what only moves calls, creates, refers to and purges nothing

@@ -2,20 +2,20 @@
 use Rattle.std.specs.Prelude.{◌≡◌, ◌≢◌, ℕ, suc, ◌<◌, ◌≤◌, false, List, [], ◌∷◌, ◌++◌, length, Some, None, vec_capacity}
 use Rattle.hep_machine.specs.declared.slot.Slot.{Slot}
 use Rattle.hep_machine.specs.Words.{Value, Units, Layout, common_cells, frame_cells, is_held, layout_of, living, run, step, unit_at}
-use Rattle.hep_arena.specs.Space.{Space}
-use Rattle.hep_layout.specs.Words.{Nodes}
-use Rattle.hep_proc.specs.declared.frames.Frames.{Frames}
-use Rattle.hep_proc.specs.Nodes.{nodes_of}
-use Rattle.hep_step.specs.Performed as step
-use Rattle.hep_step.specs.Performed.{snapshot}
-use Rattle.hep_step.specs.Ready.{frame_in_arena}
-use Rattle.hep_step.specs.Simulation.{unit_arrays, unit_code}
-use Rattle.hep_proc.specs.declared.process.Local.{Local}
+use Rattle.hep_state.specs.ArenaSpace.{Space}
+use Rattle.hep_quick.specs.LayoutWords.{Nodes}
+use Rattle.hep_state.specs.ProcFramesFrames.{Frames}
+use Rattle.hep_state.specs.ProcNodes.{nodes_of}
+use Rattle.hep_quick.specs.StepPerformed as step
+use Rattle.hep_quick.specs.StepPerformed.{snapshot}
+use Rattle.hep_quick.specs.StepReady.{frame_in_arena}
+use Rattle.hep_quick.specs.StepSimulation.{unit_arrays, unit_code}
+use Rattle.hep_state.specs.ProcProcessLocal.{Local}
 use Rattle.hep_state.specs.declared.machine.Machine.{Machine}
-use Rattle.hep_proc.specs.declared.process.Process.{Process}
-use Rattle.hep_proc.specs.Stacks.{HoldsOfTop, Stack, stack_of, stack_with}
+use Rattle.hep_state.specs.ProcProcessProcess.{Process}
+use Rattle.hep_state.specs.ProcStacks.{HoldsOfTop, Stack, stack_of, stack_with}
 use Rattle.hep_state.specs.Words.{AfterTurns, Changes, HasLevels, IsItsTurn, IsMachineAfter, Snapshot, frame_under, node_under}
-use Rattle.hep_moves.specs.Moves.{CanGoOn, Goes, HasNoMove}
+use Rattle.hep_quick.specs.MovesMoves.{CanGoOn, Goes, HasNoMove}
 use Rattle.hep_quick.specs.declared.tabled.Tabled.{Tabled}
 use Rattle.hep_quick.specs.UnitTables.{AreTables}
 

@@ -1,12 +1,10 @@
 //! The top activation of a process, and steps that only move it.
 ghost use Rattle.std.specs.Prelude.{◌≡◌, ◌≤◌, true};
-ghost use Rattle.hep_proc.specs.Stacks.{IsSameProcess};
+ghost use Rattle.hep_state.specs.ProcStacks.{IsSameProcess};
 ghost use Rattle.hep_going.specs.Gone.{CanGoTop, GoesTop, IsTabledTop, RestsAtTop};
 
-use hep_moves::Activation;
-use hep_proc::{Frames, Process};
-use hep_quick::{Quick, Tabled, move_by_table, rests, step_by_table};
-use hep_state::place;
+use hep_quick::{Activation, Quick, Tabled, move_by_table, rests, step_by_table};
+use hep_state::{Frames, Process, place};
 
 /// So many steps at most of the top activation of a process, each of which only moves it, and how many they were.
 pub(crate) fn go_top(

@@ -1,19 +1,12 @@
--- The choices of entries that are the same, and of one run after the other; and what a text gives, by what it is.
-use Rattle.std.proofs.Common.{◌≡◌, ℕ, zero, suc, ◌+◌, ◌*◌, ◌≤◌, Bool, true, false, List, [], ◌∷◌, ◌++◌, refl, sym, ap, ◌∙◌, subst, arith, replicate, append_assoc}
+-- The choices of entries that are the same, and of one run after the other.
+use Rattle.std.proofs.Common.{◌≡◌, ℕ, zero, suc, ◌+◌, ◌*◌, ◌≤◌, List, ◌∷◌, ◌++◌, refl, sym, ap, ◌∙◌, arith, replicate, append_assoc}
 use Rattle.std.proofs.Math.Nat.{suc-mul}
 use Rattle.std.proofs.lemmas.Grind.{flat_map-append}
 use Rattle.std.proofs.lemmas.List.{replicate-append-replicate}
-use Rattle.hep_base.specs.declared.refusal.Refusal.{Refusal as HistFault}
-use Rattle.hep_base.specs.declared.refusal.Refusal.TheVariants.{NoMemory, Refused}
 use Rattle.hep_machine.specs.declared.event.Entry.{Entry}
 use Rattle.hep_entries.specs.declared.run.Run.{Run}
 use Rattle.hep_entries.specs.Runs.{entries_of, entry_of}
-use Rattle.hep_history.specs.Choices.{choice_text, IsProcess}
-use Rattle.hep_history.specs.Given.{IsRefusedGivenBy, ReportsGiven, choices_for, choices_in, is_history, times_for}
-use Rattle.hep_history.specs.Histories.{entry_text, IsAllowed}
-use Rattle.hep_history.specs.Lines.{IsRefusedText, ReportsLine}
-
--- ---- choices
+use Rattle.hep_history.specs.Following.{choices_for, choices_in, times_for}
 
 pub times-none : (steps : ℕ) → steps ≡ 0 → 1 ≡ times_for steps
 times-none steps none = sym (ap times_for none)
@@ -44,15 +37,3 @@ pub choices-more : (before : List ℕ) (run : Run) (runs : List Run) → (before
 choices-more before run runs =
     append_assoc before (choices_in (replicate run.count (entry_of run))) (choices_in (entries_of runs))
     ∙ ap (λ l. before ++ l) (choices-runs run runs)
-
--- ---- texts
-
-pub refused-choices : (text : List ℕ) (fault : HistFault) → is_history text ≡ false → ReportsLine 602 (IsRefusedText choice_text IsProcess text) fault → ReportsGiven text fault
-refused-choices text NoMemory is reports = tt
-refused-choices text (Refused number line name) is reports =
-    (reports.1, subst (λ b. IsRefusedGivenBy b text number line) (sym is) (reports.0, reports.2))
-
-pub refused-history : (text : List ℕ) (fault : HistFault) → is_history text ≡ true → ReportsLine 601 (IsRefusedText entry_text IsAllowed text) fault → ReportsGiven text fault
-refused-history text NoMemory is reports = tt
-refused-history text (Refused number line name) is reports =
-    (reports.1, subst (λ b. IsRefusedGivenBy b text number line) (sym is) (reports.0, reports.2))

@@ -1,3 +1,4 @@
+pub use Rattle.hep_core.proofs.Kept as CoreKept
 pub use Rattle.hep_core.proofs.Outs
 pub use Rattle.hep_core.proofs.Histories
 pub use Rattle.hep_core.proofs.Going

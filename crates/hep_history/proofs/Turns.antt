@@ -6,8 +6,8 @@ use Rattle.std.proofs.lemmas.Option.{cond_some, get_or_from_slice_get, same_Some
 use Rattle.std.specs.Option.{unwrap_or}
 use Rattle.hep_machine.specs.declared.event.Entry.{Entry}
 use Rattle.hep_machine.specs.Words.{is_held, layout_of, opening, living, run, run_from, state_after_turn, AreSteps, schedule_of, state_after, State, absent, step_result_of, step_result_of_top, state_made, step, wanted_of, is_waiting, Units, view_of}
-use Rattle.hep_core.specs.States.{HasNoGap}
-use Rattle.hep_core.proofs.Runs.{laid-before}
+use Rattle.hep_core.specs.StateWords.{HasNoGap}
+use Rattle.hep_core.proofs.StateRuns.{laid-before}
 use Rattle.hep_core.specs.declared.fault.ChooseFault.TheVariants as refused
 use Rattle.hep_core.specs.declared.stop.ChoiceStop.{ChoiceStop}
 use Rattle.hep_core.specs.declared.stop.ChoiceStop.TheVariants.{Halted}

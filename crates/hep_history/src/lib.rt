@@ -8,7 +8,7 @@
 pub mod choices;
 pub mod fault;
 pub mod first;
-pub mod given;
+pub mod following;
 pub mod history;
 pub mod laws;
 mod lines;
@@ -17,7 +17,8 @@ pub mod replays;
 pub use choices::{Choices, read_choices};
 pub use fault::ReplayFault;
 pub use first::First;
-pub use given::{choices_of_history, read_given};
+pub use following::{choices_of_history, read_followed};
+pub use hep_core::{Tabled, Watch, go_on, stands_watched, tables_of};
 /// Why a text is refused: 601 for a history, 602 for choices, with the first bad line, and line 0
 /// where the text is too long. Neither is about a name.
 pub use hep_base::Refusal as HistFault;

@@ -2,33 +2,29 @@
 use Rattle.std.proofs.Common.{◌≡◌, ℕ, ◌≤◌, ◌∙◌, List, [], Bool, Option, Result, inl, inr, length, ap, IfOk}
 use Rattle.std.proofs.lemmas.Result.{IfOk-weaker}
 use Rattle.std.specs.Io.KnownBytes.{Consumes, IsAtEnd}
-use Rattle.hep_core.specs.Value.{CoreValue}
-use Rattle.hep_differences.specs.Differences.{diff_text}
+use Rattle.hep_survey.specs.CoreValue.{CoreValue}
+use Rattle.hep_comparing.specs.DifferencesDifferences.{diff_text}
 use Rattle.hep_machine.specs.declared.event.Entry.{Entry}
 use Rattle.hep_machine.specs.Words.{Units}
 use Rattle.hep_run.specs.declared.options.Run.{Run}
-use Rattle.hep_outcome.specs.declared.transcript.Transcript.{Transcript}
+use Rattle.hep_comparing.specs.OutcomeTranscriptTranscript.{Transcript}
 use Rattle.hep_run.specs.Checks.{outcome_of_text}
 use Rattle.hep_run.specs.Delivery.{LeavesOfSource, status_alone}
-use Rattle.hep_outcome.specs.Outcome.{Outcome}
+use Rattle.hep_comparing.specs.OutcomeOutcome.{Outcome}
 use Rattle.hep_run.specs.Sources.{IsRefusedProgram, IsRunnable}
-use Rattle.hep_outcome.specs.Transcripts.{outcome_of}
+use Rattle.hep_comparing.specs.OutcomeTranscripts.{outcome_of}
 use Rattle.hep_run.specs.Transcripts.{LeavesMade}
 use Rattle.hep_run.proofs.Accepted.{left_alone}
 use Rattle.hep_run.proofs.Fronts.{source_left}
 use Rattle.hep_run.proofs.Outcomes.{made_left}
-use Rattle.hep_inspection.specs.Covers.{IsHistory, IsRefusedHistory}
+use Rattle.hep_inspection.specs.Covers.{IsHistory}
 use Rattle.hep_inspection.specs.Diffs.{IsCompared, IsComparedWith, IsSourceCompared}
+use Rattle.hep_inspection.proofs.Remaking.{text-none}
 
 module _ (long : Bool) (cells : ℕ) (first second : List ℕ) where
-  refused-none : (program : Units) (o : Outcome) (text : List ℕ) → IsRefusedHistory long cells program o text → o.history ≡ []
-  refused-none program o text (inl (k, refused, is)) = ap (λ (x : Outcome). x.history) is
-  refused-none program o text (inr (entries, read, inl (none, is))) = ap (λ (x : Outcome). x.history) is
-  refused-none program o text (inr (entries, read, inr (fits, (k, impossible, is)))) = ap (λ (x : Outcome). x.history) is
-
   compared-none : (program : Units) (o : Outcome) → IsCompared long cells first second program o → o.history ≡ []
-  compared-none program o (inl refused) = refused-none program o first refused
-  compared-none program o (inr (entries, h, inl refused)) = refused-none program o second refused
+  compared-none program o (inl refused) = text-none long cells program o first refused
+  compared-none program o (inr (entries, h, inl refused)) = text-none long cells program o second refused
   compared-none program o (inr (entries, h, inr (others, k, is))) = ap (λ (x : Outcome). x.history) is
 
   keeps-none : (source : List ℕ) (o : Outcome) → IsSourceCompared long cells first second source o → o.history ≡ []

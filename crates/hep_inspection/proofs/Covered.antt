@@ -9,12 +9,12 @@ use Rattle.hep_machine.specs.declared.event.Entry.{Entry}
 use Rattle.hep_machine.specs.Words.{Units}
 use Rattle.hep_text.specs.Line.{lines}
 use Rattle.hep_run.specs.declared.options.Run.{Run}
-use Rattle.hep_outcome.specs.declared.transcript.Transcript.{Transcript}
+use Rattle.hep_comparing.specs.OutcomeTranscriptTranscript.{Transcript}
 use Rattle.hep_run.specs.Checks.{outcome_of_text}
 use Rattle.hep_run.specs.Delivery.{LeavesOfSource, status_alone}
-use Rattle.hep_outcome.specs.Outcome.{Outcome}
+use Rattle.hep_comparing.specs.OutcomeOutcome.{Outcome}
 use Rattle.hep_run.specs.Sources.{IsRefusedProgram, IsRunnable}
-use Rattle.hep_outcome.specs.Transcripts.{outcome_of}
+use Rattle.hep_comparing.specs.OutcomeTranscripts.{outcome_of}
 use Rattle.hep_run.specs.Transcripts.{LeavesMade}
 use Rattle.hep_run.proofs.Accepted.{left_alone}
 use Rattle.hep_run.proofs.Fronts.{read_left, same_outcome}
@@ -22,6 +22,7 @@ use Rattle.hep_run.proofs.Outcomes.{made_left}
 use Rattle.hep_inspection.specs.Counted.{IsCountedOrRefused}
 use Rattle.hep_inspection.specs.Covers.{CoversFrom, IsCovered, IsRefusedHistory, IsSourceCovered}
 use Rattle.hep_inspection.specs.declared.cover.Counting.{Counting}
+use Rattle.hep_inspection.proofs.Remaking.{text-none}
 
 module _ (long : Bool) (cells : ℕ) (source : List ℕ) (program : Units) where
   abbrev operations : List ℕ
@@ -84,9 +85,7 @@ module _ (long : Bool) (cells : ℕ) (source : List ℕ) (program : Units) where
 module _ (long : Bool) (cells : ℕ) (texts : List (List ℕ)) where
   none-kept : (source : List ℕ) (program : Units) (o : Outcome) (before : List (List Entry)) (left : List (List ℕ)) → CoversFrom long cells source program o before left → o.history ≡ []
   none-kept source program o before [] is = ap (λ (x : Outcome). x.history) is
-  none-kept source program o before (t ∷ ts) (inl (inl (k, refused, is))) = ap (λ (x : Outcome). x.history) is
-  none-kept source program o before (t ∷ ts) (inl (inr (entries, read, inl (none, is)))) = ap (λ (x : Outcome). x.history) is
-  none-kept source program o before (t ∷ ts) (inl (inr (entries, read, inr (fits, (k, impossible, is))))) = ap (λ (x : Outcome). x.history) is
+  none-kept source program o before (t ∷ ts) (inl refused) = text-none long cells program o t refused
   none-kept source program o before (t ∷ ts) (inr (entries, is, h)) = none-kept source program o (before ++ entries ∷ []) ts h
 
   keeps-none : (source : List ℕ) (o : Outcome) → IsSourceCovered long cells texts source o → o.history ≡ []

@@ -1,3 +1,4 @@
+mod Remaking
 mod Told
 mod Covered
 mod Compared

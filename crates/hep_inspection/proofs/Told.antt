@@ -1,28 +1,26 @@
 -- What everything holds after entries is what it holds after these one step at a time; and what is left of a source whose state is told.
-use Rattle.std.proofs.Common.{◌≡◌, ℕ, ◌≤◌, List, [], ◌++◌, Bool, Option, Result, inl, inr, length, take, subst, ap, ◌∙◌, IfOk, IsSome}
+use Rattle.std.proofs.Common.{◌≡◌, ℕ, ◌≤◌, List, [], ◌++◌, Bool, Option, Result, inl, inr, length, take, ap, ◌∙◌, IfOk}
 use Rattle.std.specs.Io.KnownBytes.{Consumes, IsAtEnd}
-use Rattle.hep_core.specs.Value.{CoreValue}
-use Rattle.hep_history.specs.Histories.{entry_text, IsAllowed}
-use Rattle.hep_history.specs.Lines.{AreLines}
-use Rattle.hep_history.specs.Replays.{ArePossible, replayed, single_entries}
-use Rattle.hep_history.proofs.Turns.{state_singles}
+use Rattle.hep_survey.specs.CoreValue.{CoreValue}
+use Rattle.hep_coverage.specs.HistoryReplays.{replayed, single_entries}
+use Rattle.hep_coverage.proofs.HistoryTurns.{state_singles}
 use Rattle.hep_machine.specs.declared.event.Entry.{Entry}
-use Rattle.hep_machine.specs.Words.{Units, opening_layout, opening}
+use Rattle.hep_machine.specs.Words.{Units, opening}
 use Rattle.hep_states.specs.Lines as lines
 use Rattle.hep_states.specs.States.{contents_text, state_text}
 use Rattle.hep_survey.specs.Shown.{line_shown}
 use Rattle.hep_text.specs.Line as rows_of
 use Rattle.hep_run.specs.declared.options.Run.{Run}
-use Rattle.hep_outcome.specs.declared.transcript.Transcript.{Transcript}
-use Rattle.hep_run.specs.Checks.{outcome_of_text}
+use Rattle.hep_comparing.specs.OutcomeTranscriptTranscript.{Transcript}
 use Rattle.hep_run.specs.Delivery.{LeavesOfSource, status_alone}
-use Rattle.hep_outcome.specs.Outcome.{Outcome}
+use Rattle.hep_comparing.specs.OutcomeOutcome.{Outcome}
 use Rattle.hep_run.specs.Sources.{IsRefusedProgram, IsRunnable}
-use Rattle.hep_inspection.specs.States.{IsFirstOutcome, IsSourceTold, IsToldOutcome, told}
+use Rattle.hep_inspection.specs.States.{IsFirstOutcome, IsSourceTold, told}
 use Rattle.hep_inspection.specs.declared.state.Telling.{Telling}
 use Rattle.hep_inspection.specs.declared.state.Telling.TheVariants.{State}
-use Rattle.hep_causes.proofs.Found.{progress-singles}
-use Rattle.hep_outcome.specs.Transcripts.{outcome_of}
+use Rattle.hep_inspection.proofs.Remaking.{refused-none}
+use Rattle.hep_coverage.proofs.CausesFound.{progress-singles}
+use Rattle.hep_comparing.specs.OutcomeTranscripts.{outcome_of}
 use Rattle.hep_run.specs.Transcripts.{LeavesMade}
 use Rattle.hep_run.proofs.Accepted.{left_alone}
 use Rattle.hep_run.proofs.Fronts.{read_left, same_outcome}
@@ -41,22 +39,12 @@ pub state-told : (core : CoreValue) (source : List ℕ) (program : Units) (cells
 state-told core source program cells entries made =
     ap (λ (x : CoreValue). state_text (line_shown (rows_of.lines source)) x.program (length entries) x.history) made ∙ text-same (line_shown (rows_of.lines source)) program (length entries) entries
 
--- what is told of the first entries of a history
-pub first-told : (telling : Telling) (long : Bool) (text : List ℕ) (count cells : ℕ) (source : List ℕ) (program : Units) (entries es : List Entry) (o : Outcome)
-    → AreLines entry_text IsAllowed text entries → es ≡ take count entries
-    → IsSome (opening_layout program cells) → ArePossible program cells es (length es)
-    → o ≡ outcome_of_text (told telling source program es)
-    → IsFirstOutcome telling long text count cells source program o
-first-told telling long text count cells source program entries es o read front fits possible is =
-    inr (entries, read, subst (λ fs. IsToldOutcome telling long source program cells fs o) front (inr (fits, inr (possible, is))))
-
 module _ (telling : Telling) (long : Bool) (text : List ℕ) (count cells : ℕ) where
   keeps_none : (source : List ℕ) (o : Outcome) → IsSourceTold telling long text count cells source o → o.history ≡ []
   keeps_none source o (inl (number, line, name, notes, refused, are, is)) = ap (λ (x : Outcome). x.history) is
   keeps_none source o (inr (program, holds, inl (k, refused, is))) = ap (λ (x : Outcome). x.history) is
-  keeps_none source o (inr (program, holds, inr (entries, read, inl (none, is)))) = ap (λ (x : Outcome). x.history) is
-  keeps_none source o (inr (program, holds, inr (entries, read, inr (fits, inl (k, impossible, is))))) = ap (λ (x : Outcome). x.history) is
-  keeps_none source o (inr (program, holds, inr (entries, read, inr (fits, inr (possible, is))))) = ap (λ (x : Outcome). x.history) is
+  keeps_none source o (inr (program, holds, inr (entries, read, inl refused))) = refused-none long cells program o (take count entries) refused
+  keeps_none source o (inr (program, holds, inr (entries, read, inr (possible, is)))) = ap (λ (x : Outcome). x.history) is
 
   -- what was made of the bytes that were read is left of the reader's bytes
   pub state_left : {E : Type 0} (known left : Option (List ℕ)) (bytes source : List ℕ) (r : Result Transcript E) (run : Run) (output output' messages messages' : Option (List ℕ))

@@ -1,22 +1,22 @@
 -- What is told of the first entries of a history: docs/RUNS.md, "What everything holds", "What each step did" and "Why processes wait".
-use Rattle.std.specs.Prelude.{◌≡◌, ◌⊎◌, ℕ, Bool, List, length, take, None, IsSome}
+use Rattle.std.specs.Prelude.{◌≡◌, ◌⊎◌, ℕ, Bool, List, length, take}
 use Rattle.hep_machine.specs.declared.event.Entry.{Entry}
-use Rattle.hep_machine.specs.Words.{Units, opening_layout}
-use Rattle.hep_history.specs.Lines.{AreLines, IsRefusedText}
-use Rattle.hep_history.specs.Histories.{entry_text, IsAllowed}
-use Rattle.hep_history.specs.Replays.{ArePossible, IsFirstImpossible}
-use Rattle.hep_causes.specs.Reasons.{why_text}
+use Rattle.hep_machine.specs.Words.{Units}
+use Rattle.hep_coverage.specs.HistoryLines.{AreLines, IsRefusedText}
+use Rattle.hep_coverage.specs.HistoryHistories.{entry_text, IsAllowed}
+use Rattle.hep_coverage.specs.CausesReasons.{why_text}
 use Rattle.hep_states.specs.States.{state_text}
 use Rattle.hep_survey.specs.Shown.{line_shown}
 use Rattle.hep_text.specs.Line.{lines}
-use Rattle.hep_turns.specs.Traces.{trace_text}
+use Rattle.hep_turns.specs.TracesTraces.{trace_text}
 use Rattle.hep_turns.specs.Pages.{shown_on}
+use Rattle.hep_inspection.specs.Covers.{AreRefused, CanBeMade}
 use Rattle.hep_inspection.specs.declared.state.Telling.{Telling}
 use Rattle.hep_inspection.specs.declared.state.Telling.TheVariants.{State, Trace, Why}
 use Rattle.hep_run.specs.Checks.{outcome_of_text}
-use Rattle.hep_outcome.specs.Outcome.{Outcome, outcome_of_full_arena}
+use Rattle.hep_comparing.specs.OutcomeOutcome.{Outcome}
 use Rattle.hep_run.specs.Outcome.{RunsTo}
-use Rattle.hep_outcome.specs.Replay.{outcome_of_refused_history}
+use Rattle.hep_comparing.specs.OutcomeReplay.{outcome_of_refused_history}
 
 -- what is told of entries of a source: what everything holds after them, what each step did, or why processes wait
 abbrev pub told : Telling → List ℕ → Units → List Entry → List ℕ
@@ -24,18 +24,10 @@ told State source program entries = state_text (line_shown (lines source)) progr
 told (Trace page) source program entries = trace_text program (shown_on page) entries
 told Why source program entries = why_text program entries
 
--- the main program's frame has a gap in an arena of so many cells, and each of these entries is possible after those before it
-abbrev pub CanBeTold : Units → ℕ → List Entry → Type 0
-CanBeTold program cells entries = IsSome (opening_layout program cells) × ArePossible program cells entries (length entries)
-
--- what is written of these entries: what is told; or that COMMON and the main program's frame don't fit the arena, or the first entry that isn't
--- possible
+-- what is written of these entries: what is told; or why they can't be made
 abbrev pub IsToldOutcome : Telling → Bool → List ℕ → Units → ℕ → List Entry → Outcome → Type 0
 IsToldOutcome telling long source program cells entries o =
-    ((opening_layout program cells ≡ None) × (o ≡ outcome_of_full_arena long program cells))
-    ⊎ (IsSome (opening_layout program cells) × (
-    ((k : ℕ) × IsFirstImpossible program cells entries k × (o ≡ outcome_of_refused_history 603 k))
-    ⊎ (ArePossible program cells entries (length entries) × (o ≡ outcome_of_text (told telling source program entries)))))
+    AreRefused long cells program o entries ⊎ (CanBeMade program cells entries × (o ≡ outcome_of_text (told telling source program entries)))
 
 -- of the first entries of a text of a history, so many, or all where it has no more
 abbrev pub IsFirstOutcome : Telling → Bool → List ℕ → ℕ → ℕ → List ℕ → Units → Outcome → Type 0

@@ -4,24 +4,20 @@ ghost use Rattle.hep_begins.specs.Begins.{operations_by_line};
 ghost use Rattle.hep_coverage.specs.Coverage.{unbegun};
 ghost use Rattle.hep_inspection.specs.Covers.{IsCovered, IsSourceCovered};
 ghost use Rattle.hep_inspection.specs.Counted.{IsCountedOrRefused};
-ghost use Rattle.hep_outcome.specs.Transcripts.{outcome_of};
+ghost use Rattle.hep_comparing.specs.OutcomeTranscripts.{outcome_of};
 ghost use Rattle.hep_run.specs.Delivery.{LeavesOfSource, status_alone};
 ghost use Rattle.hep_run.specs.Memory.{MayReadOn, RefusesLargeSource};
 
-use hep_base::Refusal;
+use crate::remade::{Remade, make_again};
 use hep_begins::operations_by_line;
 use hep_coverage::{append_lines, count_history, line_count, unbegun};
-use hep_history::{ReplayFault, read_text, replay};
 use hep_image::Image;
 use hep_run::deliver::deliver_made;
 use hep_run::front::image_of_source;
 use hep_run::input::read_input;
 use hep_run::say_unread;
 use hep_run::source::MOST_BYTES;
-use hep_run::transcript::{
-    Transcript, fault_transcript, full_transcript, history_transcript, opening_notes_when,
-    text_transcript,
-};
+use hep_run::transcript::{Transcript, fault_transcript, text_transcript};
 use std::alloc::{AllocError, Global};
 use std::io::{Read, Write};
 
@@ -66,16 +62,8 @@ fn count_text(
 ) -> Result<Option<Transcript>, AllocError>
     ensures { IfOk result (IsCountedOrRefused asked.now.long asked.now.arena image.now text.now counting.old counting.new) }
 {
-    let entries = match read_text(alloc, text) {
-        Ok(entries) => entries,
-        Err(Refusal::NoMemory) => return Err(AllocError),
-        Err(Refusal::Refused { number, line, .. }) => {
-            return Ok(Some(history_transcript(alloc, number, u64::from(line))?));
-        }
-    };
-    let notes = opening_notes_when(alloc, image, asked.arena, asked.long)?;
-    match replay(alloc, image.copy(alloc)?, asked.arena, &entries) {
-        Ok(core) => {
+    match make_again(alloc, image, asked.arena, asked.long, text)? {
+        Remade::Made { core, entries } => {
             count_history(
                 alloc,
                 &core,
@@ -85,11 +73,7 @@ fn count_text(
             )?;
             Ok(None)
         }
-        Err(ReplayFault::NoMemory) => Err(AllocError),
-        Err(ReplayFault::ArenaFull) => Ok(Some(full_transcript(alloc, &notes)?)),
-        Err(ReplayFault::Refused { number, entry }) => {
-            Ok(Some(history_transcript(alloc, number, entry)?))
-        }
+        Remade::Refused(refused) => Ok(Some(refused)),
     }
 }
 

@@ -1,26 +1,22 @@
 //! The bytes of a source and of two histories to what differs between the two runs.
 ghost use Rattle.std.specs.Prelude.{◌≡◌, ◌≤◌, IfOk, OnErr};
-ghost use Rattle.hep_causes.specs.Watches.{IsReplayed};
+ghost use Rattle.hep_coverage.specs.CausesWatches.{IsReplayed};
 ghost use Rattle.hep_inspection.specs.Diffs.{IsCompared, IsComparedWith, IsSourceCompared};
-ghost use Rattle.hep_inspection.specs.Remade.{IsMadeOrRefused};
-ghost use Rattle.hep_outcome.specs.Transcripts.{outcome_of};
+ghost use Rattle.hep_comparing.specs.OutcomeTranscripts.{outcome_of};
 ghost use Rattle.hep_run.specs.Delivery.{LeavesOfSource, status_alone};
 ghost use Rattle.hep_run.specs.Memory.{MayReadOn, RefusesLargeSource};
 
-use hep_base::Refusal;
+use crate::remade::{Remade, make_again};
 use hep_comparing::diff_text;
-use hep_core::Core;
-use hep_history::{History, ReplayFault, read_text, replay};
+use hep_coverage::History;
 use hep_image::Image;
 use hep_run::deliver::deliver_made;
 use hep_run::front::image_of_source;
 use hep_run::input::read_input;
 use hep_run::say_unread;
 use hep_run::source::MOST_BYTES;
-use hep_run::transcript::{
-    Transcript, fault_transcript, full_transcript, history_transcript, opening_notes_when,
-    text_transcript,
-};
+use hep_run::transcript::{Transcript, fault_transcript, text_transcript};
+use hep_survey::Core;
 use std::alloc::{AllocError, Global};
 use std::io::{Read, Write};
 
@@ -39,42 +35,6 @@ pub struct AskedDiff<'a> {
     ghost few: { arena ≤ 16777216 },
 }
 
-/// What comes of the text of a history.
-#[derive(Drop)]
-enum Remade {
-    /// A core that has made its entries.
-    Made { core: Core, entries: History },
-    /// What is written where it is refused.
-    Refused(Transcript),
-}
-
-// Makes the entries of a text of a history of an accepted program again.
-fn make_again(
-    alloc: Global,
-    image: &Image,
-    asked: &AskedDiff<'_>,
-    text: &[u8],
-) -> Result<Remade, AllocError>
-    ensures { IfOk result (IsMadeOrRefused asked.now.long asked.now.arena image.now text.now) }
-{
-    let entries = match read_text(alloc, text) {
-        Ok(entries) => entries,
-        Err(Refusal::NoMemory) => return Err(AllocError),
-        Err(Refusal::Refused { number, line, .. }) => {
-            return Ok(Remade::Refused(history_transcript(alloc, number, u64::from(line))?));
-        }
-    };
-    let notes = opening_notes_when(alloc, image, asked.arena, asked.long)?;
-    match replay(alloc, image.copy(alloc)?, asked.arena, &entries) {
-        Ok(core) => Ok(Remade::Made { core, entries }),
-        Err(ReplayFault::NoMemory) => Err(AllocError),
-        Err(ReplayFault::ArenaFull) => Ok(Remade::Refused(full_transcript(alloc, &notes)?)),
-        Err(ReplayFault::Refused { number, entry }) => {
-            Ok(Remade::Refused(history_transcript(alloc, number, entry)?))
-        }
-    }
-}
-
 // What is written of the second history of an accepted program, where a core has made the entries of the first one.
 fn second_diff(
     alloc: Global,
@@ -89,7 +49,7 @@ fn second_diff(
     ensures { IfOk result (λ r.
         IsComparedWith asked.now.long asked.now.arena entries.now.items asked.now.second.now image.now (outcome_of r)) }
 {
-    match make_again(alloc, image, asked, asked.second)? {
+    match make_again(alloc, image, asked.arena, asked.long, asked.second)? {
         Remade::Made {
             core,
             entries: others,
@@ -106,7 +66,7 @@ fn image_diff(alloc: Global, image: &Image, asked: &AskedDiff<'_>) -> Result<Tra
     ensures { IfOk result (λ r.
         IsCompared asked.now.long asked.now.arena asked.now.first.now asked.now.second.now image.now (outcome_of r)) }
 {
-    match make_again(alloc, image, asked, asked.first)? {
+    match make_again(alloc, image, asked.arena, asked.long, asked.first)? {
         Remade::Made { core, entries } => second_diff(alloc, image, asked, core, &entries),
         Remade::Refused(refused) => Ok(refused),
     }

@@ -3,8 +3,17 @@
 
 pub mod cover;
 pub mod diff;
+mod remade;
 pub mod state;
 
 pub use cover::{AskedCover, cover_noted};
 pub use diff::{AskedDiff, diff_noted};
+pub use hep_coverage::{Choices, HistFault, read_text};
+pub use hep_run::{
+    AskedLots, AskedReplay, AskedRun, AskedSample, AskedWork, LotOptions, NoGate, Options,
+    ReadFault, Run, SampleOptions, WorkOptions, answer, check_noted, choices_of, followed_of,
+    history_text, list_noted, lots_history, lots_noted, put_text, read_text_file, replay_noted,
+    run_noted, sample_bytes, say_unread, say_unwritten, warn_noted, work_noted,
+};
+pub use hep_turns::Page;
 pub use state::{AskedState, Telling, state_noted, state_source};

@@ -1,23 +1,23 @@
 //! The bytes of a source and of a history to what everything holds after the history's first entries.
-ghost use Rattle.std.specs.Prelude.{◌≡◌, ◌≤◌, false, IfErr, IfOk, OnErr, OnOk};
+ghost use Rattle.std.specs.Prelude.{◌≡◌, ◌≤◌, false, IfErr, IfOk, OnErr, OnOk, take};
 ghost use Rattle.hep_inspection.specs.declared.state.Telling.TheVariants.{State};
-ghost use Rattle.hep_history.specs.First.{first_of};
+ghost use Rattle.hep_coverage.specs.HistoryFirst.{first_of};
+ghost use Rattle.hep_coverage.specs.HistoryReplays.{IsUnmade};
 ghost use Rattle.hep_run.specs.Delivery.{LeavesOfSource, status_alone};
 ghost use Rattle.hep_run.specs.Memory.{MayReadOn, RefusesLargeSource};
 ghost use Rattle.hep_states.specs.States as words;
 ghost use Rattle.hep_survey.specs.Shown.{line_shown};
 ghost use Rattle.hep_text.specs.Line.{lines};
-ghost use Rattle.hep_inspection.specs.States.{CanBeTold, IsFirstOutcome, IsSourceTold, told};
-ghost use Rattle.hep_causes.specs.Reasons as reasons;
-ghost use Rattle.hep_turns.specs.Traces as traces;
+ghost use Rattle.hep_inspection.specs.Covers.{CanBeMade};
+ghost use Rattle.hep_inspection.specs.States.{IsFirstOutcome, IsSourceTold, IsToldOutcome, told};
+ghost use Rattle.hep_coverage.specs.CausesReasons as reasons;
+ghost use Rattle.hep_turns.specs.TracesTraces as traces;
 ghost use Rattle.hep_turns.specs.Pages.{shown_on};
-ghost use Rattle.hep_outcome.specs.Transcripts.{outcome_of};
-ghost use Rattle.hep_turns.specs.Making.{IsUntold};
+ghost use Rattle.hep_comparing.specs.OutcomeMemory.{MayOpen};
+ghost use Rattle.hep_comparing.specs.OutcomeTranscripts.{outcome_of};
 
 use hep_base::Refusal;
-use hep_causes::why_text;
-use hep_core::Core;
-use hep_history::{First, ReplayFault, read_text, replay_first};
+use hep_coverage::{First, History, ReplayFault, read_text, replay_first, why_text};
 use hep_image::Image;
 use hep_run::deliver::deliver_made;
 use hep_run::front::image_of_source;
@@ -28,7 +28,7 @@ use hep_run::transcript::{
     Transcript, fault_transcript, full_transcript, history_transcript, opening_notes_when,
     text_transcript,
 };
-use hep_survey::{Listing, state_text};
+use hep_survey::{Core, Listing, state_text};
 use hep_turns::{Page, trace_history};
 use std::alloc::{AllocError, Global};
 use std::io::{Read, Write};
@@ -80,8 +80,8 @@ fn state_told(
     requires some { 1 ≤ arena }
     requires few { arena ≤ 16777216 }
     ensures told { IfOk result (λ text. text.items ≡ told State source.now image (first_of entries.now)) }
-    ensures possible { OnOk result (CanBeTold image arena (first_of entries.now)) }
-    ensures untold { IfErr result (IsUntold image arena (first_of entries.now)) }
+    ensures possible { OnOk result (CanBeMade image arena (first_of entries.now)) }
+    ensures unmade { IfErr result (IsUnmade image arena (first_of entries.now)) }
 {
     let core = replay_first(alloc, image, arena, entries)?;
     match core_told(alloc, source, &core, entries.len()) {
@@ -100,8 +100,8 @@ fn why_told(
     requires some { 1 ≤ arena }
     requires few { arena ≤ 16777216 }
     ensures told { IfOk result (λ text. text.items ≡ reasons.why_text image (first_of entries.now)) }
-    ensures possible { OnOk result (CanBeTold image arena (first_of entries.now)) }
-    ensures untold { IfErr result (IsUntold image arena (first_of entries.now)) }
+    ensures possible { OnOk result (CanBeMade image arena (first_of entries.now)) }
+    ensures unmade { IfErr result (IsUnmade image arena (first_of entries.now)) }
 {
     let core = replay_first(alloc, image, arena, entries)?;
     match why_text(alloc, &core, entries) {
@@ -121,8 +121,8 @@ fn trace_told(
     requires some { 1 ≤ arena }
     requires few { arena ≤ 16777216 }
     ensures told { IfOk result (λ text. text.items ≡ traces.trace_text image (shown_on page.entry) (first_of entries.now)) }
-    ensures possible { OnOk result (CanBeTold image arena (first_of entries.now)) }
-    ensures untold { IfErr result (IsUntold image arena (first_of entries.now)) }
+    ensures possible { OnOk result (CanBeMade image arena (first_of entries.now)) }
+    ensures unmade { IfErr result (IsUnmade image arena (first_of entries.now)) }
 {
     trace_history(alloc, image, arena, entries, &page)
 }
@@ -136,13 +136,38 @@ fn told_text(
     entries: &First<'_>,
 ) -> Result<Vec<u8>, ReplayFault>
     ensures told { IfOk result (λ text. text.items ≡ told asked.now.telling source.now image (first_of entries.now)) }
-    ensures possible { OnOk result (CanBeTold image asked.now.arena (first_of entries.now)) }
-    ensures untold { IfErr result (IsUntold image asked.now.arena (first_of entries.now)) }
+    ensures possible { OnOk result (CanBeMade image asked.now.arena (first_of entries.now)) }
+    ensures unmade { IfErr result (IsUnmade image asked.now.arena (first_of entries.now)) }
 {
     match asked.telling {
         Telling::State => state_told(alloc, source, image, asked.arena, entries),
         Telling::Trace(page) => trace_told(alloc, image, asked.arena, entries, page),
         Telling::Why => why_told(alloc, image, asked.arena, entries),
+    }
+}
+
+// What is written of the first ones of some entries of an accepted program.
+fn entries_state(
+    alloc: Global,
+    source: &[u8],
+    image: Image,
+    asked: &AskedState<'_>,
+    entries: &History,
+) -> Result<Transcript, AllocError>
+    ensures made { IfOk result (λ r.
+        IsToldOutcome asked.now.telling asked.now.long source.now image asked.now.arena (take asked.now.entries entries.now.items) (outcome_of r)) }
+    ensures unmade { OnErr result (MayOpen asked.now.long image asked.now.arena) }
+{
+    let first = First {
+        history: entries,
+        count: asked.entries,
+    };
+    let notes = opening_notes_when(alloc, &image, asked.arena, asked.long)?;
+    match told_text(alloc, source, image, asked, &first) {
+        Ok(text) => Ok(text_transcript(alloc, text)),
+        Err(ReplayFault::NoMemory) => Err(AllocError),
+        Err(ReplayFault::ArenaFull) => full_transcript(alloc, &notes),
+        Err(ReplayFault::Refused { number, entry }) => history_transcript(alloc, number, entry),
     }
 }
 
@@ -163,17 +188,7 @@ fn image_state(
             return history_transcript(alloc, number, u64::from(line));
         }
     };
-    let first = First {
-        history: &entries,
-        count: asked.entries,
-    };
-    let notes = opening_notes_when(alloc, &image, asked.arena, asked.long)?;
-    match told_text(alloc, source, image, asked, &first) {
-        Ok(text) => Ok(text_transcript(alloc, text)),
-        Err(ReplayFault::NoMemory) => Err(AllocError),
-        Err(ReplayFault::ArenaFull) => full_transcript(alloc, &notes),
-        Err(ReplayFault::Refused { number, entry }) => history_transcript(alloc, number, entry),
-    }
+    entries_state(alloc, source, image, asked, &entries)
 }
 
 /// All that is written of a state, before a byte of it is.

@@ -1,4 +1,4 @@
 pub mod Gathering
-mod Behind
+mod Others
 pub mod Sums
 mod Judged

@@ -1,8 +1,9 @@
 -- The violations of a program that are told behind its first one: docs/MACHINE.md, "Notes".
 use Rattle.std.specs.Prelude.{Bool, not, ◌&&◌, nat_eq, if◌then◌else◌, List, [], ◌∷◌}
-use Rattle.hep_machine.specs.Words.{Statement, Units}
+use Rattle.std.specs.Option.{option_eq}
+use Rattle.hep_machine.specs.Words.{Statement, Units, name_eq}
 use Rattle.hep_conditions.specs.declared.violation.Violation.{Violation}
-use Rattle.hep_conditions.specs.Words.{Violations, argument_violations, count_violations, data_violations, function_types, jump_violations, label_violations, precedes, resume_violations, structure_violations, type_missing_violations, type_violations, unknown_name_violations}
+use Rattle.hep_conditions.specs.Words.{Violations, argument_violations, count_violations, data_violations, function_types, jump_violations, label_violations, resume_violations, structure_violations, type_missing_violations, type_violations, unknown_name_violations}
 use Rattle.hep_culprits.specs.Culprits.{culprit_of}
 use Rattle.hep_told.specs.Told.{told}
 use Rattle.hep_judging.specs.declared.further.Told.{Told}
@@ -24,17 +25,18 @@ conditions_on program unit =
 
 -- ---- what is told behind the first violation
 
--- of one line, number and position
+-- one and the same
 abbrev pub is_same : Violation → Violation → Bool
-is_same a b = nat_eq a.line b.line && (nat_eq a.number b.number && nat_eq a.position b.position)
+is_same a b = nat_eq a.line b.line && (nat_eq a.number b.number && (option_eq name_eq a.name b.name && nat_eq a.position b.position))
 
--- those that the first violation precedes, each once, behind the one that was told last
-abbrev pub behind : Violation → Violation → List Violation → List Violation
-behind first last [] = []
-behind first last (w ∷ ws) = if precedes first w && not (is_same last w) then w ∷ behind first w ws else behind first last ws
+-- those that are neither the first one nor the one before them
+abbrev pub others : Violation → Violation → List Violation → List Violation
+others first last [] = []
+others first last (w ∷ ws) = if not (is_same first w) && not (is_same last w) then w ∷ others first w ws else others first last ws
 
+-- all that are told but the first one, each once
 abbrev pub further : Units → Violation → List Violation
-further program v = behind v v (told program)
+further program v = others v v (told program)
 
 -- a violation, and what it is about
 abbrev pub as_told : Units → Violation → Told

@@ -1,6 +1,5 @@
 //! The violations of a program that are told behind its first one, and what each is about.
 ghost use Rattle.std.specs.Prelude.{◌≡◌, map, IfOk};
-ghost use Rattle.hep_conditions.specs.Violations as violations;
 ghost use Rattle.hep_culprits.specs.Culprits.{culprit_of};
 ghost use Rattle.hep_judging.specs.Further as words;
 
@@ -20,35 +19,25 @@ pub struct Told {
     pub culprit: Option<Culprit>,
 }
 
-// By line, then by number, then by the position of the name.
-fn precedes(one: &Violation, other: &Violation) -> bool
-    ensures { result ≡ violations.precedes one.now other.now }
-{
-    one.line < other.line
-        || (one.line == other.line
-            && (one.number < other.number
-                || (one.number == other.number && one.position < other.position)))
-}
-
-// Of one line, number and position.
+// One and the same.
 fn is_same(one: &Violation, other: &Violation) -> bool
     ensures { result ≡ words.is_same one.now other.now }
 {
-    one.line == other.line && one.number == other.number && one.position == other.position
+    *one == *other
 }
 
-// Those that a violation precedes, each once.
-fn behind(
+// All but the first one, each once.
+fn others(
     alloc: Global,
     found: &[Violation],
     first: &Violation,
 ) -> Result<Vec<Violation>, AllocError>
-    ensures { IfOk result (λ left. left.items ≡ words.behind first.now first.now found.now) }
+    ensures { IfOk result (λ left. left.items ≡ words.others first.now first.now found.now) }
 {
     let mut last = *first;
     let mut left = Vec::new(alloc);
     for violation in found {
-        if precedes(first, violation) && !is_same(&last, violation) {
+        if !is_same(first, violation) && !is_same(&last, violation) {
             left.push(*violation)?;
             last = *violation;
         }
@@ -91,15 +80,15 @@ fn told_of(
     ensures further { IfOk result (λ all. all.1.items ≡ map (words.as_told program.now) (words.further program.now first.now)) }
 {
     let found = told(alloc, program)?;
-    let further = behind(alloc, &found, first)?;
+    let further = others(alloc, &found, first)?;
     let faults = Faults::new(alloc, program)?;
     let all = all_told(alloc, &faults, &further)?;
     let first = as_told(alloc, &faults, first)?;
     Ok((first, all))
 }
 
-/// What is told of a program with this first violation: it and what it is about, and all violations behind it, by statement and of one
-/// statement by number, each once.
+/// What is told of a program with this first violation: it and what it is about, and all others, by statement and of one statement by
+/// number, each once.
 ///
 /// Of 301 a name is told once, where it appears first. Where a name of a statement has no type, its 302 and 304 aren't told: such a
 /// name counts as real, which fits nothing.

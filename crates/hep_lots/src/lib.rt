@@ -3,4 +3,5 @@
 
 pub mod lots;
 
+pub use hep_core::{Listed, Place, Whereabouts};
 pub use lots::Lots;

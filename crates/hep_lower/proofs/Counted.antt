@@ -4,7 +4,7 @@ use Rattle.hep_base.specs.declared.refusal.Refusal.{Refusal as LowerFault}
 use Rattle.hep_base.specs.declared.refusal.Refusal.TheVariants.{NoMemory, Refused}
 use Rattle.hep_machine.specs.Words.{Units}
 use Rattle.hep_lower.specs.Counts.{IsByCount, IsLongLine, IsManyParts}
-use Rattle.hep_lower.specs.Parts.{HaveStatements, IsOfLongStatement, parts_of}
+use Rattle.hep_lower.specs.Parts.{IsOfLongStatement, parts_of}
 use Rattle.hep_lower.specs.Refusals.{AreCellsBeyond, IsCodeBeyond, IsFirstDeep, IsUnlowered, Refuses, instructions_in}
 
 other-number : (n a b : ℕ) → n ≡ a → n ≡ b → a < b ⊎ b < a → ⊥
@@ -12,13 +12,13 @@ other-number n a b is isn't (inl less) = absurd (omega (arith, is, isn't, less))
 other-number n a b is isn't (inr less) = absurd (omega (arith, is, isn't, less))
 
 module _ (program : Units)
-    (few : HaveStatements program → instructions_in program (length program) ≤ 2 * parts_of program)
+    (few : instructions_in program (length program) ≤ 2 * parts_of program)
     (long : (line : ℕ) → IsFirstDeep program (length program) (Some line) → IsOfLongStatement program line) where
   many-parts : (number line : ℕ) → IsUnlowered program number line → IsManyParts program number
-  many-parts number line (inl (is, at, none)) same there = absurd (other-number number 204 401 is same (inl (omega arith)))
-  many-parts number line (inr (inl (is, none, main, inl cells))) same there = inl cells
-  many-parts number line (inr (inl (is, none, main, inr code))) same there = inr (omega (arith, few there, code))
-  many-parts number line (inr (inr (is, main, within, deep))) same there = absurd (other-number number 402 401 is same (inr (omega arith)))
+  many-parts number line (inl (is, at, none)) same = absurd (other-number number 204 401 is same (inl (omega arith)))
+  many-parts number line (inr (inl (is, none, main, inl cells))) same = inl cells
+  many-parts number line (inr (inl (is, none, main, inr code))) same = inr (omega (arith, few, code))
+  many-parts number line (inr (inr (is, main, within, deep))) same = absurd (other-number number 402 401 is same (inr (omega arith)))
 
   long-line : (number line : ℕ) → IsUnlowered program number line → IsLongLine program number line
   long-line number line (inl (is, at, none)) same = absurd (other-number number 204 402 is same (inl (omega arith)))

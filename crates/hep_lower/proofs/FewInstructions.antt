@@ -1,5 +1,5 @@
 -- The code of a unit has at most two instructions for each of its parts.
-use Rattle.std.proofs.Common.{◌≡◌, ◌≢◌, ℕ, zero, suc, ◌+◌, ◌*◌, ◌<◌, ◌≤◌, List, [], ◌∷◌, map, length, refl, arith, length-append}
+use Rattle.std.proofs.Common.{◌≡◌, ℕ, zero, suc, ◌+◌, ◌*◌, ◌<◌, ◌≤◌, List, [], ◌∷◌, map, length, refl, arith, length-append}
 use Rattle.std.specs.List.{sum_by}
 use Rattle.std.proofs.lemmas.List.{length-map}
 use Rattle.std.proofs.lemmas.List.Sums.{sum_by-cons}
@@ -11,7 +11,7 @@ use Rattle.hep_code.specs.declared.instruction.Instruction.TheVariants.{Step}
 use Rattle.hep_code.specs.declared.instruction.Operation.TheVariants.{Condition}
 use Rattle.hep_code.specs.Words.{tree_code, target_code, addressed_unit, operands_code, operation_code, form_code, conditions_code, loop_end_code, statement_code, statements_code, Table, AddressedUnit, code_of, table_of}
 use Rattle.hep_image.specs.Places.{addresses_of}
-use Rattle.hep_lower.specs.Parts.{HaveStatements, in_tree, in_list, in_target, in_item, in_form, labels_of_form, parts_of_statement, parts_of_unit, parts_of}
+use Rattle.hep_lower.specs.Parts.{in_tree, in_list, in_target, in_item, in_form, labels_of_form, parts_of_statement, parts_of_unit, parts_of}
 use Rattle.hep_lower.specs.Refusals.{IsCodeBeyond, instructions_in}
 use Rattle.hep_lower.proofs.FewOperands.{tree_gives, actuals_short, target_gives, targets_short, items_short, control_gives, leading, passing, purging, showing}
 
@@ -61,21 +61,21 @@ module _ (table : Table) where
       omega (arith, length-append (statement_code table k s) (statements_code table (suc k) ss), statement_few k s)
 
   -- with the END behind them
-  statements_few : (k : ℕ) (ss : List Statement) → length (statements_code table k ss) ≤ 2 * parts_of_unit ss + 1
+  statements_few : (k : ℕ) (ss : List Statement) → length (statements_code table k ss) ≤ 2 * sum_by parts_of_statement ss + 1
   statements_few k [] = omega arith
   statements_few k (s ∷ ss) =
       omega (arith, statements_first k s ss, sum_by-cons parts_of_statement s ss, statements_few (suc k) ss)
 
-  unit_few : (k : ℕ) (ss : List Statement) → ss ≢ [] → length (statements_code table k ss) ≤ 2 * parts_of_unit ss
-  unit_few k [] h = absurd (h refl)
-  unit_few k (s ∷ ss) h =
+  unit_few : (k : ℕ) (ss : List Statement) → length (statements_code table k ss) ≤ 2 * parts_of_unit ss
+  unit_few k [] = omega arith
+  unit_few k (s ∷ ss) =
       omega (arith, statements_first k s ss, sum_by-cons parts_of_statement s ss, statements_few (suc k) ss)
 
 -- ---- programs
 
-code_few : (addressed : AddressedUnit) → addressed.unit ≢ [] → length (code_of addressed) ≤ 2 * parts_of_unit addressed.unit
+code_few : (addressed : AddressedUnit) → length (code_of addressed) ≤ 2 * parts_of_unit addressed.unit
 unfolding code_of
-code_few addressed h = unit_few (table_of addressed) 0 addressed.unit h
+code_few addressed = unit_few (table_of addressed) 0 addressed.unit
 
 -- the parts of the first n units
 abbrev parts_in : Units → ℕ → ℕ
@@ -92,15 +92,12 @@ parts_are [] = refl
 parts_are (unit ∷ program) =
     omega (arith, parts_behind unit program (length program), parts_are program, sum_by-cons parts_of_unit unit program)
 
-first_few : (program : Units) (n : ℕ) → HaveStatements program → n ≤ length program
-    → instructions_in program n ≤ 2 * parts_in program n
-first_few program zero h le = omega arith
-first_few program (suc n) h le =
-    let addressed = addressed_unit program (addresses_of program) n in
-    omega (arith, first_few program n h (omega (arith, le)), code_few addressed (h n (omega (arith, le))))
+first_few : (program : Units) (n : ℕ) → instructions_in program n ≤ 2 * parts_in program n
+first_few program zero = omega arith
+first_few program (suc n) = omega (arith, first_few program n, code_few (addressed_unit program (addresses_of program) n))
 
-pub two_for_each : (program : Units) → HaveStatements program → instructions_in program (length program) ≤ 2 * parts_of program
-two_for_each program h = omega (arith, first_few program (length program) h (omega arith), parts_are program)
+pub two_for_each : (program : Units) → instructions_in program (length program) ≤ 2 * parts_of program
+two_for_each program = omega (arith, first_few program (length program), parts_are program)
 
-pub many_parts : (program : Units) → HaveStatements program → IsCodeBeyond program → 65536 < parts_of program
-many_parts program h beyond = omega (arith, two_for_each program h, beyond)
+pub many_parts : (program : Units) → IsCodeBeyond program → 524288 < parts_of program
+many_parts program beyond = omega (arith, two_for_each program, beyond)

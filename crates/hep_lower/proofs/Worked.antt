@@ -72,9 +72,9 @@ declarations =
 main_program_and_declarations : parts_of (main ∷ declarations ∷ []) ≡ 37
 main_program_and_declarations = refl
 
--- ---- a unit without a statement, as none is that was read from a text, has code all the same
+-- ---- a unit without a statement, as none is that was read from a text, counts as its END, for which it has code
 
-no_statements : parts_of ([] ∷ []) ≡ 0
+no_statements : parts_of ([] ∷ []) ≡ 1
 no_statements = refl
 
 code_of_no_statements : instructions_in ([] ∷ []) 1 ≡ 1

@@ -1,5 +1,5 @@
 -- How many names, constants, labels, operators and statements a program has: X3.9-1978, 2.2 and 2.3, and docs/LANGUAGE.md, 12.
-use Rattle.std.specs.Prelude.{◌≡◌, ◌≢◌, ◌<◌, ◌+◌, ℕ, List, [], length, slice_get, Option, Some, None}
+use Rattle.std.specs.Prelude.{◌≡◌, ◌≢◌, ◌<◌, ◌+◌, max, ℕ, List, [], length, slice_get, Option, Some, None}
 use Rattle.std.specs.List.{sum_by}
 use Rattle.hep_machine.specs.Words.{Tree, Trees, constant, occurrence, with_list, parenthesized, signed, negated, binary, no_trees, trees, CommonBlock, DataGroup, DataValue, Declarator, Dimension, NamedConstant, Target, UpperBound, DoControl, Form, PrintItem, Statement, Units, unit_at}
 use Rattle.hep_source.specs.declared.declaration.UpperBound.TheVariants as bound
@@ -123,8 +123,9 @@ labels_of s = if_there s.label + labels_of_form s.form
 abbrev pub parts_of_statement : Statement → ℕ
 parts_of_statement s = 1 + (labels_of s + in_statement 1 s)
 
+-- each statement has one part at least, and so a unit has: one without a statement, which no source has, counts as its END
 abbrev pub parts_of_unit : List Statement → ℕ
-parts_of_unit unit = sum_by parts_of_statement unit
+parts_of_unit unit = max 1 (sum_by parts_of_statement unit)
 
 abbrev pub parts_of : Units → ℕ
 parts_of program = sum_by parts_of_unit program

@@ -1,15 +1,15 @@
 //! Laws of the limits.
 ghost use Rattle.std.specs.Prelude.{◌<◌, ◌≤◌, ◌*◌, ℕ, Some, length};
 ghost use Rattle.hep_machine.specs.Words.{Units};
-ghost use Rattle.hep_lower.specs.Parts.{HaveStatements, IsOfLongStatement, parts_of};
+ghost use Rattle.hep_lower.specs.Parts.{IsOfLongStatement, parts_of};
 ghost use Rattle.hep_lower.specs.Refusals.{IsCodeBeyond, IsFirstDeep, instructions_in};
 
-/// The limits are wide. Where each unit has a statement, as in a program that was read from a text, there are at most two
-/// instructions for each name, constant, label, operator and statement: so there are too many instructions only where
-/// there are more than 65,536 of these. And where a first line is told that needs too many operands at once, its unit has a
-/// statement with this line that has more than 256 names and constants.
+/// The limits are wide. There are at most two instructions for each name, constant, label, operator and statement, where a unit
+/// without a statement, which no source has, counts as one: so there are too many instructions only where there are more than
+/// 524,288 of these. And where a first line is told that needs too many operands at once, its unit has a statement with this line
+/// that has more than 256 names and constants.
 pub fn limits_are_wide()
-    ensures instructions { (program : Units) → HaveStatements program → instructions_in program (length program) ≤ 2 * parts_of program }
-    ensures code { (program : Units) → HaveStatements program → IsCodeBeyond program → 65536 < parts_of program }
+    ensures instructions { (program : Units) → instructions_in program (length program) ≤ 2 * parts_of program }
+    ensures code { (program : Units) → IsCodeBeyond program → 524288 < parts_of program }
     ensures depth { (program : Units) (line : ℕ) → IsFirstDeep program (length program) (Some line) → IsOfLongStatement program line }
 {}

@@ -7,5 +7,9 @@
 mod moving;
 mod plain;
 
+pub use hep_step::{
+    Arena, Array, Cell, Extents, Frame, Image, Shape, Standing, Start, UnitCode, element_among,
+    is_open,
+};
 pub use moving::{Activation, move_on};
 pub use plain::is_plain_operation;

@@ -1,16 +1,12 @@
 //! Steps of an activation, one after the other, without a look at what others wait for.
 ghost use Rattle.std.specs.Prelude.{◌≡◌, ◌≤◌, ◌<◌, ◌+◌, ℕ, drop, length, vec_len, vec_capacity};
-ghost use Rattle.hep_code.specs.Words.{values_ahead};
+ghost use Rattle.hep_step.specs.CodeWords.{values_ahead};
 ghost use Rattle.hep_step.specs.Performed.{KeepsHoles, Snapshot, seen};
 ghost use Rattle.hep_step.specs.Ready.{IsReady};
 ghost use Rattle.hep_moves.specs.Moves.{CanGoOn, Goes, HasGoneOnce, HasNoMove, IsSettledTo, is_moved};
 
 use crate::plain::is_plain;
-use hep_arena::Arena;
-use hep_code::Instruction;
-use hep_code::operands::settle;
-use hep_image::Array;
-use hep_step::{Effect, Frame, Standing, Storage, perform};
+use hep_step::{Arena, Array, Effect, Frame, Instruction, Standing, Storage, perform, settle};
 use std::alloc::{AllocError, Global};
 
 /// What stays the same while an activation runs: its unit's code and arrays, and its frame in the arena.

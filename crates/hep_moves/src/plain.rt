@@ -2,7 +2,7 @@
 ghost use Rattle.std.specs.Prelude.{◌≡◌, drop};
 ghost use Rattle.hep_moves.specs.Plain as plain;
 
-use hep_code::{Evaluation, Instruction, Operation};
+use hep_step::{Evaluation, Instruction, Operation};
 
 fn is_plain_evaluation(evaluation: Evaluation) -> bool
     ensures { result ≡ plain.is_plain_evaluation evaluation }

@@ -1,6 +1,7 @@
 -- What is said behind the line of a refusal of a source: docs/MACHINE.md, "Notes".
-use Rattle.std.specs.Prelude.{ℕ, List, [], ◌∷◌, ◌++◌, codes, Option, Some, None}
+use Rattle.std.specs.Prelude.{ℕ, Bool, nat_eq, if◌then◌else◌, List, [], ◌∷◌, ◌++◌, codes, Option, Some, None}
 use Rattle.std.specs.Fmt.{decimal}
+use Rattle.std.specs.List.{list_any}
 use Rattle.hep_text.specs.declared.statement.Span.{Span}
 use Rattle.hep_text.specs.declared.statement.Stmt.{Stmt}
 use Rattle.hep_notes.specs.Places.{line_at, place_in, place_of_line}
@@ -12,9 +13,13 @@ abbrev pub about_text : List ℕ → List ℕ
 about_text [] = []
 about_text (c ∷ cs) = (c ∷ cs) ++ codes ": "
 
--- the rule in a few words
+-- what it is about has several words, which say what is wrong with it
+abbrev pub says_all : List ℕ → Bool
+says_all about = list_any (nat_eq 32) about
+
+-- the rule in a few words, behind what it is about, unless that says all
 abbrev pub words_of : ℕ → List ℕ → List ℕ
-words_of number about = about_text about ++ reason number
+words_of number about = if says_all about then about else about_text about ++ reason number
 
 -- these words, under the place in the source that they are about, if there is one
 abbrev pub notes_at : List ℕ → List ℕ → Option Span → List ℕ

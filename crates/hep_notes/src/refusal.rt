@@ -18,7 +18,7 @@ pub struct Subject<'a> {
     pub line: u32,
     /// The name that stands in the line of the refusal, empty where none does.
     pub name: &'a [u8],
-    /// What the rule is about, as it is written, empty where it is nothing by itself.
+    /// What the rule is about, as it is written, empty where it is nothing by itself. Several words stand in the place of the rule's.
     pub about: &'a [u8],
     /// How many characters of the statement stand before it.
     pub position: usize,
@@ -36,11 +36,22 @@ fn append_about(text: &mut Vec<u8>, about: &[u8]) -> Result<(), AllocError>
     Ok(())
 }
 
-// The rule in a few words.
+// It has several words.
+fn says_all(about: &[u8]) -> bool
+    ensures { result ≡ refusals.says_all about.now }
+{
+    about.contains(&b' ')
+}
+
+// The rule in a few words, behind what it is about, unless that has several words, which say all.
 fn words_of(alloc: Global, number: u16, about: &[u8]) -> Result<Vec<u8>, AllocError>
     ensures { IfOk result (λ words. words.items ≡ refusals.words_of number about.now) }
 {
     let mut words = Vec::new(alloc);
+    if says_all(about) {
+        words.extend_from_slice(about)?;
+        return Ok(words);
+    }
     append_about(&mut words, about)?;
     words.extend_from_slice(reason(number))?;
     Ok(words)

@@ -1,6 +1,14 @@
+pub use Rattle.hep_dump.specs.Names as DumpNames
+pub use Rattle.hep_dump.specs.Waiting as DumpWaiting
+pub use Rattle.hep_lots.specs.ViewsListed
+pub use Rattle.hep_lots.specs.ViewsListedListed
+pub use Rattle.hep_lots.specs.ViewsPlacePlace
+pub use Rattle.hep_lots.specs.ViewsStanding
+pub use Rattle.hep_lots.specs.ViewsWhereaboutsWhereabouts
 pub use Rattle.hep_history.specs.Lines as HistoryLines
 pub use Rattle.hep_history.specs.Histories
-pub use Rattle.hep_history.specs.Given
+pub use Rattle.hep_history.specs.Choices
+pub use Rattle.hep_history.specs.Following
 pub use Rattle.hep_history.specs.Verdict
 pub use Rattle.hep_history.specs.ChoiceStop
 pub use Rattle.hep_history.specs.Turns

@@ -11,8 +11,13 @@ pub mod tally;
 pub mod texts;
 pub mod transcript;
 
+pub use hep_dump::{append_waiting, dump_text};
 pub use hep_history::history::MOST_BYTES;
-pub use hep_history::{Choices, ChooseFault, Core, NewFault, read_given, write_text};
+pub use hep_history::{
+    Choices, ChooseFault, Core, NewFault, ReplayFault, read_choices, read_followed, read_text,
+    replay as history_replay, write_text,
+};
+pub use hep_lots::{Listed, Place, Whereabouts};
 pub use lines::Lines;
 pub use options::{
     AskedLots, AskedReplay, AskedRun, AskedSample, LotOptions, Options, SampleOptions,

@@ -2,14 +2,24 @@
 ghost use Rattle.std.specs.Prelude.{◌≡◌, ◌≤◌, ◌<◌, ◌+◌, drop, length, take, IfOk, IfErr, OnErr};
 ghost use Rattle.std.specs.Io.KnownBytes.{Appends, Keeps};
 
-use std::io::Write;
+use std::io::{self, ErrorKind, Write};
 use thiserror::Error;
 
 // What a writer answers that takes no more.
 #[derive(Clone, Copy, Debug, PartialEq, Eq)]
 enum Answer {
     Failed,
+    // The stream is a pipe or a socket that nobody reads any more.
+    Closed,
     TookNothing,
+}
+
+// What a writer answers that fails so.
+fn answer_of(fault: &io::Error) -> Answer {
+    match fault.kind() {
+        ErrorKind::BrokenPipe => Answer::Closed,
+        _ => Answer::Failed,
+    }
 }
 
 /// A write that failed: the writer has taken just the first `written` bytes.
@@ -21,6 +31,13 @@ pub struct PutFault {
     /// How many bytes were taken.
     pub written: usize,
     answer: Answer,
+}
+
+impl PutFault {
+    /// Whether the writer is a pipe or a socket that nobody reads any more.
+    pub fn is_closed_pipe(&self) -> bool {
+        self.answer == Answer::Closed
+    }
 }
 
 /// Writes on where so many bytes were taken: how many further ones the writer takes, which is one at least.
@@ -47,9 +64,9 @@ pub(crate) fn write_on<W: Write>(
             answer: Answer::TookNothing,
         }),
         Ok(count) => Ok(count),
-        Err(_) => Err(PutFault {
+        Err(fault) => Err(PutFault {
             written,
-            answer: Answer::Failed,
+            answer: answer_of(&fault),
         }),
     }
 }

@@ -3,7 +3,7 @@ ghost use Rattle.std.specs.Prelude.{◌≡◌, ◌+◌, ◌<◌, ℕ, [], List, 
 ghost use Rattle.hep_machine.specs.declared.slot.Slot.{Slot as ASlot};
 ghost use Rattle.hep_source.specs.declared.value.Value.{Value as AValue};
 ghost use Rattle.hep_code.specs.declared.instruction.Instruction.{Instruction as AnInstruction};
-ghost use Rattle.hep_image.specs.declared.array.Array.{Array as AnArray};
+ghost use Rattle.hep_step.specs.ImageArrayArray.{Array as AnArray};
 ghost use Rattle.hep_step.specs.Effects.{effect_at, moves};
 ghost use Rattle.hep_private.specs.declared.record.Record.{Record as ARecord};
 ghost use Rattle.hep_private.specs.Own.{Own, Values, begun, contents_after, values_at};

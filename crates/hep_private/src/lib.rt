@@ -7,4 +7,6 @@
 pub mod laws;
 mod record;
 
+pub use hep_code::{Evaluation, Variable};
+pub use hep_step::{Cell, Image, UnitCode};
 pub use record::Record;

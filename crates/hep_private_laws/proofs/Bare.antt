@@ -6,11 +6,11 @@ use Rattle.hep_machine.specs.Words.{Tree, Trees, constant, occurrence, with_list
 use Rattle.hep_machine.specs.Words.{Meaning, element, external, pure, state, function_named, listed_meaning, by_pure_function, word_in, pure_functions, state_functions, spelling, PureFunction, StateFunction}
 use Rattle.hep_source.specs.declared.statement.Form.TheVariants as form
 use Rattle.hep_conditions.specs.Words.{Calling, NameWithList, calls_in, list_of, names_with_lists}
-use Rattle.hep_image.specs.Private.{bare_actuals, bare_actuals_in, bare_actuals_of, bare_in_list, bare_name, is_private}
-use Rattle.hep_accepted_laws.specs.Filled.{AreActualsFilled, AreEach, AreFilled, Chosen, IsFilledActual, IsValue}
-use Rattle.hep_accepted_laws.specs.Works.{IsCalledBy, IsGivenBy, IsReferredBy}
-use Rattle.hep_accepted_laws.proofs.Members.{Has, has_among, has_behind, has_flat, has_front}
-use Rattle.hep_accepted_laws.proofs.RunCalls.{IsActual, are-actuals}
+use Rattle.hep_private.specs.ImagePrivate.{bare_actuals, bare_actuals_in, bare_actuals_of, bare_in_list, bare_name, is_private}
+use Rattle.hep_going.specs.AcceptedLawsFilled.{AreActualsFilled, AreEach, AreFilled, Chosen, IsFilledActual, IsValue}
+use Rattle.hep_going.specs.AcceptedLawsWorks.{IsCalledBy, IsGivenBy, IsReferredBy}
+use Rattle.hep_going.proofs.AcceptedLawsMembers.{Has, has_among, has_behind, has_flat, has_front}
+use Rattle.hep_going.proofs.AcceptedLawsRunCalls.{IsActual, are-actuals}
 
 each-before : {A B : Type 0} (R : A → B → Type 0) (xs : List A) (ys : List B) (j : ℕ) (y : B) → AreEach R xs ys → slice_get ys j ≡ Some y → (x : A) × (slice_get xs j ≡ Some x) × R x y
 each-before R [] [] j y h e = absurd (none-some y e)

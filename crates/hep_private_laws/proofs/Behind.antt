@@ -12,7 +12,7 @@ use Rattle.hep_code.specs.declared.instruction.Operation.TheVariants.{Evaluate, 
 use Rattle.hep_code.specs.declared.variable.Variable.{Variable}
 use Rattle.hep_code.specs.declared.variable.Variable.TheVariants.{Local}
 use Rattle.hep_code.specs.Words.{arity, first_operand, most_operands}
-use Rattle.hep_step.specs.Effects.{subscripts_in}
+use Rattle.hep_private.specs.StepEffects.{subscripts_in}
 use Rattle.hep_private.specs.declared.record.Record.{Record}
 use Rattle.hep_private.specs.Own.{Own, Values, begun, increment_in, settled}
 use Rattle.hep_private.specs.Recorded.{Made, has_room, if_room, made_ahead, made_by, made_of_end, made_of_end_by, made_of_end_of, made_of_entry_by, made_of_store, made_of_value, made_of_value_stored, next_made, own_after, recorded, value_of}

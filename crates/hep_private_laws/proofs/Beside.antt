@@ -19,18 +19,18 @@ use Rattle.hep_layout.proofs.HeldFrames.{run-last}
 use Rattle.hep_layout.proofs.Memory.{activation-kept, same-activation}
 use Rattle.hep_layout.proofs.Runs.{among-filter, runs-local}
 use Rattle.hep_layout.proofs.Stacks.{top-numbered}
-use Rattle.hep_image.specs.Finding.{cells_in}
-use Rattle.hep_image.specs.Places.{loop_cells}
-use Rattle.hep_image.specs.Private.{bare_actuals, is_private, private_cells}
-use Rattle.hep_step.specs.Simulation.{counts_in, unit_addressed, unit_code}
+use Rattle.hep_private.specs.ImageFinding.{cells_in}
+use Rattle.hep_private.specs.ImagePlaces.{loop_cells}
+use Rattle.hep_private.specs.ImagePrivate.{bare_actuals, is_private, private_cells}
+use Rattle.hep_private.specs.StepSimulation.{counts_in, unit_addressed, unit_code}
 use Rattle.hep_private.specs.declared.record.Record.{Record}
 use Rattle.hep_private.specs.Own.{Own, count_in, increment_in, values_at}
 use Rattle.hep_private.specs.Reads.{HaveRead}
 use Rattle.hep_private.specs.Recorded.{recorded}
-use Rattle.hep_proc.specs.Stacks.{stack_with}
-use Rattle.hep_state.specs.Words.{IsTurning, Snapshot, TurnOf, state_before, top_frame}
-use Rattle.hep_state.proofs.Moved.{top-activation, top-node, unit-is}
-use Rattle.hep_state.proofs.Runs.{there}
+use Rattle.hep_going.specs.ProcStacks.{stack_with}
+use Rattle.hep_going.specs.StateWords.{IsTurning, Snapshot, TurnOf, state_before, top_frame}
+use Rattle.hep_going.proofs.StateMoved.{top-activation, top-node, unit-is}
+use Rattle.hep_going.proofs.StateRuns.{there}
 use Rattle.hep_private_laws.specs.Beside.{IsBeside, values_beside}
 use Rattle.hep_private_laws.specs.Gone.{own_of}
 use Rattle.hep_private_laws.specs.Scalars.{is_private_scalar}

@@ -12,7 +12,7 @@ use Rattle.hep_code.specs.declared.instruction.Operation.{Operation}
 use Rattle.hep_code.specs.declared.instruction.Operation.TheVariants.{EndLoop}
 use Rattle.hep_code.specs.declared.variable.Variable.{Variable}
 use Rattle.hep_code.specs.Words.{AddressedUnit, actual_code, actual_listed_code, actual_name_code, actuals_code_in, argument_of, argument_of_target, asked_code, asked_listed_code, code_of, conditions_code, ending_of, form_code, item_code, listed_code, loop_end_code, name_code, names_of, operands_code, operation_code, passes, printed_of, statement_code, statements_code, table_of, target_code, tree_code, trees_code}
-use Rattle.hep_accepted_laws.proofs.Members.{Each, each_append, each_none, each_one, has_first_or, has_more}
+use Rattle.hep_going.proofs.AcceptedLawsMembers.{Each, each_append, each_none, each_one, has_first_or, has_more}
 
 -- ---- what holds of the elements of lists
 

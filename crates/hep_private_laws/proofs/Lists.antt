@@ -4,7 +4,7 @@ use Rattle.std.proofs.lemmas.Bool.Decides.{nat_tests}
 use Rattle.hep_machine.specs.Words.{Units, Layout, is_held, is_number_among, layout_of, living, Progress, progress_after_step, progress_after_steps, run, State, state_after_turn, step}
 use Rattle.hep_layout.proofs.HeldFrames.{run-last}
 use Rattle.hep_cells.specs.declared.want.Want.{Want}
-use Rattle.hep_blocked.specs.Listing.{AreListed, GoesAlong, HasChanged, is_noted}
+use Rattle.hep_going.specs.BlockedListing.{AreListed, GoesAlong, HasChanged, is_noted}
 use Rattle.hep_going.specs.Gone.{HasGone, IsPlainTurn, none, more}
 
 -- the law of lists that go along with a step

@@ -20,10 +20,10 @@ use Rattle.hep_layout.proofs.References.{each-state, references-made}
 use Rattle.hep_layout.proofs.FrameTree.{stacked-top}
 use Rattle.hep_layout.proofs.Stacks.{once, times_on-numbered, top-numbered}
 use Rattle.hep_machine.proofs.Ages.{aged, on_stack_made}
-use Rattle.hep_image.specs.Private.{is_private}
-use Rattle.hep_accepted_laws.specs.Works.{ComesFrom, IsCalledBy, IsReferredBy}
-use Rattle.hep_accepted_laws.proofs.Levels.{Every, top-comes}
-use Rattle.hep_accepted_laws.proofs.Members.{has_among}
+use Rattle.hep_private.specs.ImagePrivate.{is_private}
+use Rattle.hep_going.specs.AcceptedLawsWorks.{ComesFrom, IsCalledBy, IsReferredBy}
+use Rattle.hep_going.proofs.AcceptedLawsLevels.{Every, top-comes}
+use Rattle.hep_going.proofs.AcceptedLawsMembers.{has_among}
 use Rattle.hep_private_laws.specs.Scalars.{AreUnshared, is_private_at, is_private_scalar}
 use Rattle.hep_private_laws.proofs.Bare.{called-shared, referred-shared}
 use Rattle.hep_private_laws.proofs.Kept.{GivesKept, IsFree, Keeps, Misses, OkMisses, free-location, keeps-all, keeps-with_actuals, keeps-with_cell, kept-answer, kept-answer_at, kept-purge}

@@ -9,9 +9,9 @@ use Rattle.hep_code.specs.declared.instruction.Instruction.{Instruction}
 use Rattle.hep_code.specs.declared.instruction.Instruction.TheVariants.{Push, Step}
 use Rattle.hep_code.specs.declared.instruction.Operation.{Operation}
 use Rattle.hep_code.specs.Words.{arity, most_operands, values_ahead}
-use Rattle.hep_image.specs.declared.array.Array.{Array}
-use Rattle.hep_step.specs.declared.frame.Frame.{Frame}
-use Rattle.hep_step.specs.Ready.{IsAheadReady, IsOperationReady}
+use Rattle.hep_private.specs.ImageArrayArray.{Array}
+use Rattle.hep_private.specs.StepFrameFrame.{Frame}
+use Rattle.hep_private.specs.StepReady.{IsAheadReady, IsOperationReady}
 use Rattle.hep_private.specs.Own.{Own, pushed_ahead}
 use Rattle.hep_private.specs.Recorded.{Made, has_room, if_room, made_ahead, made_of_value}
 use Rattle.hep_private.proofs.Cases.{HoldOf, so-by}

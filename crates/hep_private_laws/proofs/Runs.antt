@@ -6,11 +6,11 @@ use Rattle.hep_arena.specs.Holes.{Hole}
 use Rattle.hep_code.specs.declared.instruction.Instruction.{Instruction}
 use Rattle.hep_code.specs.declared.instruction.Instruction.TheVariants.{Push}
 use Rattle.hep_code.specs.Words.{IsPastPushes, left_to_do, values_ahead}
-use Rattle.hep_image.specs.declared.array.Array.{Array}
-use Rattle.hep_step.specs.declared.frame.Frame.{Frame}
-use Rattle.hep_step.specs.Performed.{Snapshot, snapshot}
-use Rattle.hep_moves.specs.Moves.{CanGoOn, Goes, IsMove, settles, steps}
-use Rattle.hep_moves.proofs.Moved.{unchanged-ahead}
+use Rattle.hep_private.specs.ImageArrayArray.{Array}
+use Rattle.hep_private.specs.StepFrameFrame.{Frame}
+use Rattle.hep_private.specs.StepPerformed.{Snapshot, snapshot}
+use Rattle.hep_going.specs.MovesMoves.{CanGoOn, Goes, IsMove, settles, steps}
+use Rattle.hep_going.proofs.MovesMoved.{unchanged-ahead}
 use Rattle.hep_going.specs.Gone.{HasGone, none, more}
 use Rattle.hep_private.specs.declared.record.Record.{Record}
 use Rattle.hep_private.specs.Own.{Own, contents_after, pushed_ahead, settled, values_after, values_at, written_after}

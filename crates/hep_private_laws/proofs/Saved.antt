@@ -4,8 +4,8 @@ use Rattle.std.proofs.lemmas.Bool.{cases_lt, eq-eqb}
 use Rattle.std.proofs.lemmas.Bool.Decides.{nat_tests}
 use Rattle.hep_machine.specs.Words.{Value, Int, is_number_among, natural, unset_cell}
 use Rattle.hep_machine.specs.declared.slot.Slot.{Slot}
-use Rattle.hep_image.specs.Finding.{cells_in}
-use Rattle.hep_step.specs.Effects.{with_value_at}
+use Rattle.hep_private.specs.ImageFinding.{cells_in}
+use Rattle.hep_private.specs.StepEffects.{with_value_at}
 use Rattle.hep_private.specs.declared.record.Record.{Record}
 use Rattle.hep_private.specs.declared.record.Record.TheVariants.{Goes, Gives, Reads, Stores, Enters, Ends}
 use Rattle.hep_private.specs.Own.{cells_of, contents_after, stores_of}

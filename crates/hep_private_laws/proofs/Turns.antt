@@ -3,15 +3,15 @@ use Rattle.std.proofs.Common.{◌≡◌, ℕ, ◌+◌, ◌≤◌, true, List, So
 use Rattle.hep_machine.specs.Words.{main_among, unit_at}
 use Rattle.hep_conditions.specs.Words.{IsAccepted}
 use Rattle.hep_code.specs.Words.{deepest, most_operands}
-use Rattle.hep_image.specs.Arrays.{ArePlacedArrays}
-use Rattle.hep_image.specs.Image.{most_cells}
-use Rattle.hep_image.specs.Private.{private_cells}
-use Rattle.hep_step.specs.Performed.{snapshot}
-use Rattle.hep_step.specs.Ready.{frame_in_arena}
-use Rattle.hep_step.specs.Simulation.{unit_arrays, unit_code}
-use Rattle.hep_state.specs.Words.{IsAfter, IsTopRunning, IsTurning, TurnOf, snapshot_moved, top_frame}
-use Rattle.hep_state.proofs.Taken.{room-ahead}
-use Rattle.hep_moves.specs.Moves.{Goes, settles, stays}
+use Rattle.hep_private.specs.ImageArrays.{ArePlacedArrays}
+use Rattle.hep_private.specs.ImageImage.{most_cells}
+use Rattle.hep_private.specs.ImagePrivate.{private_cells}
+use Rattle.hep_private.specs.StepPerformed.{snapshot}
+use Rattle.hep_private.specs.StepReady.{frame_in_arena}
+use Rattle.hep_private.specs.StepSimulation.{unit_arrays, unit_code}
+use Rattle.hep_going.specs.StateWords.{IsAfter, IsTopRunning, IsTurning, TurnOf, snapshot_moved, top_frame}
+use Rattle.hep_going.proofs.StateTaken.{room-ahead}
+use Rattle.hep_going.specs.MovesMoves.{Goes, settles, stays}
 use Rattle.hep_going.specs.Gone.{HasGone}
 use Rattle.hep_going.proofs.Turns.{HasLaws, can-go, come-so}
 use Rattle.hep_private.specs.declared.record.Record.{Record}
@@ -53,6 +53,7 @@ module _ (running : (t : TurnOf) → IsAccepted t.program → is_some (main_amon
         gone = subst (HasGone t.program t.cells t.process t.choices n) made come.gone;
         steps = steps-are t.program t.cells t.process t.choices n come.after come.gone;
         after = subst (λ ps. IsAfter t.program t.cells ps (snapshot_moved t there.contents there.operands there.index)) made come.turns.after;
+        values = values;
         next = private-behind cells code n (own_of t) records end (values_at there.contents (top_frame t).first) is values;
       }
 

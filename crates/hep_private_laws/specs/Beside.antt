@@ -2,8 +2,8 @@
 use Rattle.std.specs.Prelude.{◌≡◌, ℕ, false, List, ◌++◌, Some}
 use Rattle.hep_machine.specs.Words.{is_number_among, numbered}
 use Rattle.hep_private.specs.Own.{Values, values_at}
-use Rattle.hep_proc.specs.Stacks.{stack_with}
-use Rattle.hep_state.specs.Words.{IsAfter, Snapshot, TurnOf, frame_under}
+use Rattle.hep_going.specs.ProcStacks.{stack_with}
+use Rattle.hep_going.specs.StateWords.{IsAfter, Snapshot, TurnOf, frame_under}
 
 -- these processes had turns after those before the turn of another one, and this is kept then: it has its stack still, and no STOP was made
 pub record IsBeside (t : TurnOf) (others : List ℕ) (m : Snapshot) : Type 0 where

@@ -2,7 +2,7 @@
 use Rattle.std.specs.Prelude.{◌≡◌, ◌+◌, ℕ, suc, true, List, [], ◌∷◌, slice_set}
 use Rattle.hep_machine.specs.Words.{is_number_among}
 use Rattle.hep_machine.specs.declared.slot.Slot.{Slot}
-use Rattle.hep_image.specs.Finding.{cells_in}
+use Rattle.hep_private.specs.ImageFinding.{cells_in}
 use Rattle.hep_code.specs.declared.instruction.Instruction.{Instruction}
 use Rattle.hep_code.specs.declared.instruction.Instruction.TheVariants.{Step}
 use Rattle.hep_code.specs.declared.instruction.Operation.{Operation}

@@ -1,7 +1,7 @@
 -- Private scalars, and where they are stored: X3.9-1978, 15.9.3 and 15.9.3.6.
 use Rattle.std.specs.Prelude.{◌≡◌, ℕ, ◌&&◌, Bool, false, List}
 use Rattle.hep_machine.specs.Words.{Name, Statement, Units, unit_at, unit_of, is_local, Location, local, common, State, dummy_at, activation_of}
-use Rattle.hep_image.specs.Private.{is_private}
+use Rattle.hep_private.specs.ImagePrivate.{is_private}
 
 -- a plain local scalar that is nowhere in its unit an actual argument by itself
 abbrev pub is_private_scalar : List Statement → Name → Bool

@@ -7,11 +7,11 @@ ghost use Rattle.hep_conditions.specs.Words.{IsAccepted};
 ghost use Rattle.hep_cells.specs.declared.want.Want.{Want as AWant};
 ghost use Rattle.hep_code.specs.declared.instruction.Instruction.{Instruction as AnInstruction};
 ghost use Rattle.hep_code.specs.Words.{deepest, most_operands};
-ghost use Rattle.hep_image.specs.Image.{most_cells};
-ghost use Rattle.hep_image.specs.Private.{private_cells};
-ghost use Rattle.hep_step.specs.Simulation.{unit_code};
-ghost use Rattle.hep_blocked.specs.Listing.{AreListed};
-ghost use Rattle.hep_state.specs.Words.{IsTurning, Snapshot, TurnOf};
+ghost use Rattle.hep_private.specs.ImageImage.{most_cells};
+ghost use Rattle.hep_private.specs.ImagePrivate.{private_cells};
+ghost use Rattle.hep_private.specs.StepSimulation.{unit_code};
+ghost use Rattle.hep_going.specs.BlockedListing.{AreListed};
+ghost use Rattle.hep_going.specs.StateWords.{IsTurning, Snapshot, TurnOf};
 ghost use Rattle.hep_private.specs.declared.record.Record.{Record as ARecord};
 ghost use Rattle.hep_private.specs.Own.{Own, settled};
 ghost use Rattle.hep_private.specs.Reads.{HaveRead};
@@ -26,8 +26,8 @@ pub fn private_scalars_are_unshared()
     ensures { (program : Units) (choices : List ℕ) (a k : ℕ)
         → is_private_at program (run program choices) (dummy_at (activation_of (run program choices) a).dummies k).start ≡ false }
 {
-    hep_accepted_laws::runs::calls_come_from_statements();
-    hep_accepted_laws::runs::references_come_from_statements();
+    hep_going::calls_come_from_statements();
+    hep_going::references_come_from_statements();
 }
 
 /// A step leaves the private scalars of each activation but its own as they were; so those of the top activation of each other process that
@@ -44,8 +44,8 @@ pub fn others_leave_private_scalars()
         → (t.store (local top.0.activation x i) ≡ (run program choices).store (local top.0.activation x i))
         × (numbered t.processes q ≡ numbered (run program choices).processes q) }
 {
-    hep_accepted_laws::runs::calls_come_from_statements();
-    hep_accepted_laws::runs::references_come_from_statements();
+    hep_going::calls_come_from_statements();
+    hep_going::references_come_from_statements();
 }
 
 /// What the next private steps of a process read in its frame is there still once others had turns, if it stands where it stood.
@@ -55,8 +55,8 @@ pub fn others_leave_what_is_read()
         → recorded (private_cells (unit_at t.program t.level.unit)) (unit_code t.program t.level.unit) n (own_of t) ≡ Some (records, end)
         → HaveRead (values_beside t m) records }
 {
-    hep_accepted_laws::runs::calls_come_from_statements();
-    hep_accepted_laws::runs::references_come_from_statements();
+    hep_going::calls_come_from_statements();
+    hep_going::references_come_from_statements();
     hep_private::laws::private_steps_depend_on_reads();
 }
 
@@ -68,7 +68,7 @@ pub fn private_steps_are_turns()
         → recorded (private_cells (unit_at t.program t.level.unit)) (unit_code t.program t.level.unit) n (own_of t) ≡ Some (records, end)
         → HaveGone t n records end }
 {
-    hep_state::laws::tops_are_running();
+    hep_going::tops_are_running();
 }
 
 /// None of them is left out for want of room: where the code of a unit needs no more operands than there are in an image, the next step is what
@@ -80,7 +80,7 @@ pub fn private_steps_have_room()
         ≡ made_ahead (private_cells (unit_at t.program t.level.unit)) (settled (unit_code t.program t.level.unit) (own_of t))
         (drop (settled (unit_code t.program t.level.unit) (own_of t)).index (unit_code t.program t.level.unit)) }
 {
-    hep_state::laws::tops_are_running();
+    hep_going::tops_are_running();
 }
 
 /// They leave the lists: who waits and who is ready stays as it was.
@@ -91,8 +91,8 @@ pub fn private_steps_leave_lists()
         → AreListed t.program t.cells t.choices x waits ready
         → AreListed t.program t.cells (t.choices ++ replicate n t.process) (progress_after_steps t.program x t.process n) waits ready }
 {
-    hep_state::laws::tops_are_running();
-    hep_blocked::laws::lists_go_along_with_steps();
+    hep_going::tops_are_running();
+    hep_going::lists_go_along_with_steps();
 }
 
 /// They store in the private scalars of the unit and in the cells of its DOs alone.

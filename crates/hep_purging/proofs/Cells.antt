@@ -6,8 +6,8 @@ use Rattle.std.proofs.lemmas.Bool.Decides.{nat_tests}
 use Rattle.std.proofs.lemmas.Option.{slice_get_within}
 use Rattle.hep_machine.specs.declared.slot.Slot.{Slot}
 use Rattle.hep_machine.specs.Words.{purged_cell, unset_cell}
-use Rattle.hep_arena.proofs.Lists.{get-set_other, get-set_same}
-use Rattle.hep_image.specs.Finding.{cells_in}
+use Rattle.hep_step.proofs.ArenaLists.{get-set_other, get-set_same}
+use Rattle.hep_step.specs.ImageFinding.{cells_in}
 use Rattle.hep_purging.specs.declared.range.ClosedRange.{ClosedRange}
 use Rattle.hep_purging.specs.Purged.{has_cell, have_cell, purged, purged_from}
 

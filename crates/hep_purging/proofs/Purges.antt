@@ -3,7 +3,7 @@ use Rattle.std.proofs.Common.{◌≡◌, ℕ, suc, ◌+◌, ◌-◌, List, [], �
 use Rattle.std.specs.List.{flat_map}
 use Rattle.hep_machine.specs.Words.{Name, Value, dummy_for, level_after_statement, Next, Reference, does, evaluating, leaving, purging, wants, referred, Dummy, result_after_purge, state_with_store, store_after_purge}
 use Rattle.hep_machine.specs.declared.event.Kind.{Kind}
-use Rattle.hep_arena.specs.Holes.{IsOut}
+use Rattle.hep_step.specs.ArenaHoles.{IsOut}
 use Rattle.hep_code.specs.declared.instruction.Instruction.{Instruction}
 use Rattle.hep_code.specs.declared.instruction.Instruction.TheVariants.{Pass, Step}
 use Rattle.hep_code.specs.declared.instruction.Operation.TheVariants.{Purge}
@@ -12,12 +12,12 @@ use Rattle.hep_code.specs.Words.{referred_argument, passed_from, passed_referenc
 use Rattle.hep_code.proofs.Leads.{operation_leads}
 use Rattle.hep_code.proofs.Moves.{after_statement_keeps}
 use Rattle.hep_code.proofs.Entries.{references_passed}
-use Rattle.hep_layout.proofs.Addresses.{address-out}
-use Rattle.hep_layout.proofs.Memory.{memory-same}
-use Rattle.hep_image.specs.Arrays.{ArePlacedArrays}
-use Rattle.hep_image.proofs.Named.{absent-or}
-use Rattle.hep_image.specs.Finding.{cells_in}
-use Rattle.hep_image.specs.Places.{variable_of}
+use Rattle.hep_step.proofs.LayoutAddresses.{address-out}
+use Rattle.hep_step.proofs.LayoutMemory.{memory-same}
+use Rattle.hep_step.specs.ImageArrays.{ArePlacedArrays}
+use Rattle.hep_step.proofs.ImageNamed.{absent-or}
+use Rattle.hep_step.specs.ImageFinding.{cells_in}
+use Rattle.hep_step.specs.ImagePlaces.{variable_of}
 use Rattle.hep_step.specs.Agreement.{IsPassedAs, IsTopCaller, caller_running, storage_passed}
 use Rattle.hep_step.specs.Passing.{passed_at}
 use Rattle.hep_step.specs.ReadyToPass.{ArePassable}

@@ -5,12 +5,12 @@ use Rattle.hep_machine.specs.Words.{Value, integers_of, counted_element}
 use Rattle.hep_machine.specs.declared.event.Kind.{Kind}
 use Rattle.hep_machine.specs.declared.event.Kind.TheVariants as kind
 use Rattle.hep_machine.specs.declared.slot.Slot.{Slot}
-use Rattle.hep_arena.specs.Space.{Space}
+use Rattle.hep_step.specs.ArenaSpace.{Space}
 use Rattle.hep_code.specs.declared.variable.Variable.{Variable}
 use Rattle.hep_code.specs.declared.variable.Variable.TheVariants as variable
 use Rattle.hep_code.specs.Words.{Passed, by_value, by_reference}
-use Rattle.hep_image.specs.declared.array.Array.{Array}
-use Rattle.hep_image.specs.Finding.{base_at, bounds_at, cells_in}
+use Rattle.hep_step.specs.ImageArrayArray.{Array}
+use Rattle.hep_step.specs.ImageFinding.{base_at, bounds_at, cells_in}
 use Rattle.hep_step.specs.Passing.{count_of, made_before, passed_at, passed_from_element, passed_of_array, passed_of_scalar}
 use Rattle.hep_step.specs.ReadyToPass.{ArePassable, AreUnitsIn}
 use Rattle.hep_step.specs.declared.frame.Frame.{Frame}

@@ -3,22 +3,22 @@ use Rattle.std.proofs.Common.{◌≡◌, ℕ, zero, suc, ◌+◌, List, length, 
 use Rattle.std.specs.Option.{unwrap_or}
 use Rattle.hep_machine.specs.Words.{purged_cell, unset_cell, Location, State, Store, emptied_from, further, with_cell, with_empty, Name, Statement, Value, index_among, from_element, is_array, is_nonempty, Reference, Scope, StorageSequence, element_of, location_in, storage_of, store_after_both, store_after_purge, store_after_purge_at, store_after_purge_of}
 use Rattle.hep_machine.specs.declared.slot.Slot.{Slot}
-use Rattle.hep_layout.specs.Words.{IsLaid, IsMemory, address, Describes, RunsFrom, descriptor_slots}
-use Rattle.hep_layout.proofs.Descriptors.{described-written}
-use Rattle.hep_layout.proofs.Memory.{address-same, memory-written}
-use Rattle.hep_layout.proofs.Runs.{runs-from, runs-fewer}
-use Rattle.hep_image.specs.Finding.{cells_in}
+use Rattle.hep_step.specs.LayoutWords.{IsLaid, IsMemory, address, Describes, RunsFrom, descriptor_slots}
+use Rattle.hep_step.proofs.LayoutDescriptors.{described-written}
+use Rattle.hep_step.proofs.LayoutMemory.{address-same, memory-written}
+use Rattle.hep_step.proofs.LayoutRuns.{runs-from, runs-fewer}
+use Rattle.hep_step.specs.ImageFinding.{cells_in}
 use Rattle.hep_purging.specs.Purged.{purged_from, purged}
-use Rattle.hep_image.proofs.Variables.{further-none}
-use Rattle.hep_image.proofs.Named.{by-kind}
+use Rattle.hep_step.proofs.ImageVariables.{further-none}
+use Rattle.hep_step.proofs.ImageNamed.{by-kind}
 use Rattle.hep_machine.specs.declared.event.Kind.{Kind}
 use Rattle.hep_code.specs.declared.variable.Variable.{Variable}
 use Rattle.hep_code.specs.declared.variable.Variable.TheVariants.{Absent}
 use Rattle.hep_code.specs.declared.variable.Variable.TheVariants as variable
 use Rattle.hep_code.specs.Words.{passed_reference}
-use Rattle.hep_image.specs.declared.array.Start.{Start}
-use Rattle.hep_image.specs.declared.array.Start.TheVariants as start
-use Rattle.hep_image.specs.Places.{arrays_of, scalar}
+use Rattle.hep_step.specs.ImageArrayStart.{Start}
+use Rattle.hep_step.specs.ImageArrayStart.TheVariants as start
+use Rattle.hep_step.specs.ImagePlaces.{arrays_of, scalar}
 use Rattle.hep_step.specs.Agreement.{CallerOf, IsCaller, IsPassedAs, arrays_calling, scope_calling, storage_passed, unit_calling, variables_calling}
 use Rattle.hep_step.specs.Passing.{made_before}
 use Rattle.hep_step.proofs.References.{caller-found, reference-passed}

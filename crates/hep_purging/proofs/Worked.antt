@@ -8,9 +8,9 @@ use Rattle.hep_code.specs.declared.instruction.Instruction.{Instruction}
 use Rattle.hep_code.specs.declared.instruction.Instruction.TheVariants.{Pass}
 use Rattle.hep_code.specs.declared.variable.Variable.TheVariants as variable
 use Rattle.hep_code.specs.Words.{passed_from}
-use Rattle.hep_image.specs.declared.array.Array.{Array}
-use Rattle.hep_image.specs.declared.array.Extents.TheVariants.{Adjustable, Constant}
-use Rattle.hep_image.specs.declared.array.Start.TheVariants.{Dummy, Local}
+use Rattle.hep_step.specs.ImageArrayArray.{Array}
+use Rattle.hep_step.specs.ImageArrayExtents.TheVariants.{Adjustable, Constant}
+use Rattle.hep_step.specs.ImageArrayStart.TheVariants.{Dummy, Local}
 use Rattle.hep_step.specs.Effects.{Effect, fails, moves}
 use Rattle.hep_purging.specs.Purged.{effect_of_purge}
 

@@ -4,8 +4,8 @@ use Rattle.hep_machine.specs.declared.event.Kind.{Kind}
 use Rattle.hep_machine.specs.declared.slot.Slot.{Slot}
 use Rattle.hep_machine.specs.Words.{purged_cell}
 use Rattle.hep_code.specs.Words.{Passed}
-use Rattle.hep_image.specs.declared.array.Array.{Array}
-use Rattle.hep_image.specs.Finding.{cells_in}
+use Rattle.hep_step.specs.ImageArrayArray.{Array}
+use Rattle.hep_step.specs.ImageFinding.{cells_in}
 use Rattle.hep_step.specs.Effects.{Effect, fails, moves}
 use Rattle.hep_purging.specs.declared.range.ClosedRange.{ClosedRange}
 use Rattle.hep_purging.specs.Ranges.{ranges_of}

@@ -6,7 +6,7 @@ use Rattle.hep_machine.specs.declared.slot.Slot.{Slot}
 use Rattle.hep_code.specs.declared.variable.Variable.{Variable}
 use Rattle.hep_code.specs.declared.variable.Variable.TheVariants.{Array as ArrayAt}
 use Rattle.hep_code.specs.Words.{Passed, by_value, by_reference}
-use Rattle.hep_image.specs.declared.array.Array.{Array}
+use Rattle.hep_step.specs.ImageArrayArray.{Array}
 use Rattle.hep_step.specs.Passing.{made_by, passed_at}
 use Rattle.hep_purging.specs.declared.range.ClosedRange.{ClosedRange}
 

@@ -1,11 +1,11 @@
 -- What a PURGE needs, so that it can be done: docs/MACHINE.md, "Variables and frames".
 use Rattle.std.specs.Prelude.{ℕ, ◌+◌, ◌<◌, ◌≤◌, List, [], ◌∷◌, length, Result, Ok, Err}
 use Rattle.hep_machine.specs.declared.event.Kind.{Kind}
-use Rattle.hep_arena.specs.Holes.{Hole, IsOut}
-use Rattle.hep_arena.specs.Space.{Space}
+use Rattle.hep_step.specs.ArenaHoles.{Hole, IsOut}
+use Rattle.hep_step.specs.ArenaSpace.{Space}
 use Rattle.hep_code.specs.Words.{Passed, by_value, by_reference}
-use Rattle.hep_image.specs.declared.array.Array.{Array}
-use Rattle.hep_image.specs.Finding.{cells_in}
+use Rattle.hep_step.specs.ImageArrayArray.{Array}
+use Rattle.hep_step.specs.ImageFinding.{cells_in}
 use Rattle.hep_step.specs.Passing.{passed_at}
 use Rattle.hep_step.specs.declared.frame.Frame.{Frame}
 use Rattle.hep_purging.specs.declared.range.ClosedRange.{ClosedRange}

@@ -7,12 +7,12 @@ ghost use Rattle.hep_purging.specs.Ranges.{range_for};
 ghost use Rattle.hep_purging.specs.Ready.{AreOut, AreReached};
 
 use crate::range::ClosedRange;
-use hep_arena::Arena;
 use hep_code::Variable;
-use hep_image::Array;
 use hep_machine::Kind;
 use hep_source::Value;
-use hep_step::{AllPassed, Frame, FromPassed, Given, Passed, make_from_entries, passed};
+use hep_step::{
+    AllPassed, Arena, Array, Frame, FromPassed, Given, Passed, make_from_entries, passed,
+};
 
 // No cells.
 const NONE: ClosedRange = ClosedRange { first: 0, cells: 0 };

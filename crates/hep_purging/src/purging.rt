@@ -1,15 +1,14 @@
 //! PURGE (`docs/LANGUAGE.md`, 9).
 ghost use Rattle.std.specs.Prelude.{◌≡◌, ◌<◌, ◌≤◌, length, slice_set};
 ghost use Rattle.hep_machine.specs.Words.{purged_cell};
-ghost use Rattle.hep_arena.specs.Holes.{IsOut};
-ghost use Rattle.hep_image.specs.Finding.{cells_in};
-ghost use Rattle.hep_image.specs.Image.{most_cells};
+ghost use Rattle.hep_step.specs.ArenaHoles.{IsOut};
+ghost use Rattle.hep_step.specs.ImageFinding.{cells_in};
+ghost use Rattle.hep_step.specs.ImageImage.{most_cells};
 ghost use Rattle.hep_purging.specs.Purged.{purged, purged_from};
 ghost use Rattle.hep_purging.specs.Ready.{AreReached, IsRangeReached};
 
 use crate::range::ClosedRange;
-use hep_arena::Arena;
-use hep_cells::cells::purged;
+use hep_step::{Arena, purged};
 
 // Empties a cell.
 fn purge_cell(arena: &mut Arena, at: u32)

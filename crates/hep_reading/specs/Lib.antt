@@ -1,3 +1,7 @@
+pub use Rattle.hep_private.specs.ImageImage
+pub use Rattle.hep_private.specs.ImagePrivate
+pub use Rattle.hep_private.specs.StepEffects
+pub use Rattle.hep_private.specs.StepSimulation
 pub mod Records
 pub mod Bases
 pub mod Stored

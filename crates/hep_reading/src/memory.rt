@@ -8,8 +8,7 @@ ghost use Rattle.hep_reading.specs.Bases.{value_copied, values_of};
 
 use crate::copied::Copied;
 use crate::records::Records;
-use hep_arena::Cell;
-use hep_private::Record;
+use hep_private::{Cell, Record};
 use hep_source::Value;
 
 /// The values that are there before the first step.

@@ -6,9 +6,9 @@ ghost use Rattle.hep_private.specs.Recorded as recorded;
 ghost use Rattle.hep_reading.specs.Stores.{values_now};
 
 use crate::memory::Memory;
-use hep_code::{Evaluation, Variable};
 use hep_machine::intrinsics::function_value;
 use hep_machine::values::{combined_value, negated_value, signed_value};
+use hep_private::{Evaluation, Variable};
 use hep_source::Value;
 
 /// The operand at an index, if there is one; no accepted program lacks one.

@@ -5,7 +5,7 @@ use Rattle.hep_traces.proofs.Histories.{number-listed}
 use Rattle.hep_traces.specs.Value.{listed_after}
 use Rattle.hep_machine.specs.declared.event.Entry.{Entry}
 use Rattle.hep_machine.specs.Words.{Units, Wanted, state_after, wanted_by}
-use Rattle.hep_views.specs.declared.listed.Listed.{Listed}
+use Rattle.hep_traces.specs.ViewsListedListed.{Listed}
 use Rattle.hep_reasons.specs.Reasons.{reason_by, reason_of, reasons_from, reasons_of}
 use Rattle.hep_reasons.specs.Rounds.{Rise}
 use Rattle.hep_reasons.specs.declared.reason.Reason.{Reason}

@@ -3,8 +3,8 @@ use Rattle.std.specs.Prelude.{ℕ, suc, Bool, ◌&&◌, not, nat_le, if◌then�
 use Rattle.std.specs.Option.{option_map}
 use Rattle.hep_machine.specs.declared.event.Entry.{Entry}
 use Rattle.hep_machine.specs.Words.{Location, State, Units, common, local, opening, same_logical, state_after_turn}
-use Rattle.hep_views.specs.declared.whereabouts.Whereabouts.{Whereabouts}
-use Rattle.hep_views.specs.Standing.{whereabouts_by}
+use Rattle.hep_traces.specs.ViewsWhereaboutsWhereabouts.{Whereabouts}
+use Rattle.hep_traces.specs.CoreStanding.{whereabouts_by}
 use Rattle.hep_reasons.specs.declared.reason.Change.{Change}
 
 -- ---- one step

@@ -5,7 +5,7 @@ use Rattle.hep_machine.specs.declared.event.Entry.{Entry}
 use Rattle.hep_machine.specs.Words.{State, Units, Wanted, living, state_after, wanted_by}
 use Rattle.hep_traces.specs.Value.{listed_after}
 use Rattle.hep_states.specs.Lines.{head_text}
-use Rattle.hep_views.specs.declared.listed.Listed.{Listed}
+use Rattle.hep_traces.specs.ViewsListedListed.{Listed}
 use Rattle.hep_reasons.specs.Called.{called_by}
 use Rattle.hep_reasons.specs.Changes.{latest_change}
 use Rattle.hep_reasons.specs.Lines.{reasons_text}

@@ -1,7 +1,7 @@
 //! Why a process waits.
 
 use hep_base::Text;
-use hep_views::{Listed, Whereabouts};
+use hep_traces::{Listed, Whereabouts};
 
 /// A step that filled or emptied a storage unit: the entry that tells it, counted from 1, and where its process was before it.
 #[derive(Clone, Copy)]

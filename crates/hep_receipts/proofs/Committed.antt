@@ -59,7 +59,7 @@ at-once-entry old new p n turn =
 -- several of them have as many entries more
 pub at-once-entries : (p n : ℕ) (old new : Placed) → AreTurnsAtOnce p n old new → new.core.history ≡ old.core.history ++ replicate n (record { process = p; steps = most_records })
 at-once-entries p zero old new same = ap (λ (x : Placed). x.core.history) same ∙ sym (append-nil old.core.history)
-at-once-entries p (suc n) old new (mid, first, rest) =
+at-once-entries p (suc n) old new (mid, first, full, rest) =
     let e : Entry = record { process = p; steps = most_records } in
     at-once-entries p n mid new rest
     ∙ ap (λ (h : List Entry). h ++ replicate n e) (at-once-entry old mid p most_records first)

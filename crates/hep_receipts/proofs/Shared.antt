@@ -1,9 +1,9 @@
--- A core that is shared stays one of the same run.
+-- Each call that is made of a core that workers share leaves it one of the same run.
 use Rattle.std.proofs.Common.{◌≡◌, ℕ, zero, suc, Bool, true, false, List, [], ◌∷◌, Result, Ok, Err, inl, inr, refl, sym, ap, ◌∙◌, subst}
 use Rattle.hep_private.specs.declared.record.Record.{Record}
 use Rattle.hep_segments.specs.declared.ticket.TicketId.{TicketId}
-use Rattle.hep_segments.specs.Segments.{SegmentValue, Start, TicketValue}
-use Rattle.hep_core.specs.Commits.{IsCancelled, IsCheckedOut, IsCommitted, IsTakenBy, core_after_return}
+use Rattle.hep_segments.specs.Segments.{SegmentValue, Start, TicketValue, most_records}
+use Rattle.hep_core.specs.Commits.{AreTurnsAtOnce, IsCancelled, IsCheckedOut, IsCommitted, IsTakenBy, IsTurnAtOnce, core_after_return}
 use Rattle.hep_core.specs.Places.{Placed}
 use Rattle.hep_core.specs.Value.{CoreValue, IsTurn}
 use Rattle.hep_core.specs.declared.fault.ChooseFault.{ChooseFault}
@@ -11,7 +11,7 @@ use Rattle.hep_core.specs.declared.fault.ChooseFault.TheVariants as choosing
 use Rattle.hep_core.specs.declared.fault.CommitFault.{CommitFault}
 use Rattle.hep_core.specs.declared.fault.CommitFault.TheVariants as committing
 use Rattle.hep_core.specs.declared.stop.Turn.{Turn}
-use Rattle.hep_receipts.specs.Shared.{IsOfOneRun, IsSharedFrom, opened, checked_out, committed, cancelled}
+use Rattle.hep_receipts.specs.Shared.{IsOfOneRun}
 
 same-core : (a b : CoreValue) → b ≡ a → IsOfOneRun a b
 same-core a b is = record { program = ap (λ (v : CoreValue). v.program) is; cells = ap (λ (v : CoreValue). v.cells) is; limit = ap (λ (v : CoreValue). v.limit) is }
@@ -24,6 +24,10 @@ changed old mid new one is =
       cells = ap (λ (v : CoreValue). v.cells) is ∙ one.cells;
       limit = ap (λ (v : CoreValue). v.limit) is ∙ one.limit;
     }
+
+-- one after the other
+then : (opening old new : CoreValue) → IsOfOneRun opening old → IsOfOneRun old new → IsOfOneRun opening new
+then opening old new one two = record { program = two.program ∙ one.program; cells = two.cells ∙ one.cells; limit = two.limit ∙ one.limit }
 
 -- seen of the whole
 placed : (old : Placed) (core : CoreValue) (new with : Placed) → with.core ≡ core → IsOfOneRun old.core core → new ≡ with → IsOfOneRun old.core new.core
@@ -45,7 +49,7 @@ by-steps (r ∷ rs) old start s turn new (room, going, inr (many, made, left)) =
 
 -- ---- the calls
 
-by-check-out : (old new : Placed) (p : ℕ) (answer : Result TicketValue ChooseFault) → IsCheckedOut old p answer new → IsOfOneRun old.core new.core
+pub by-check-out : (old new : Placed) (p : ℕ) (answer : Result TicketValue ChooseFault) → IsCheckedOut old p answer new → IsOfOneRun old.core new.core
 by-check-out old new p (Ok ticket) (free, left, room, given) = placed old _ new _ refl (record { program = refl; cells = refl; limit = refl }) given.3
 by-check-out old new p (Err (choosing.Stopped stop)) (inl (at, is)) = placed old _ new _ refl (same-core old.core old.core refl) is
 by-check-out old new p (Err (choosing.Stopped stop)) (inr (free, left, full, at, is)) = placed old _ new _ refl (record { program = refl; cells = refl; limit = refl }) is
@@ -54,7 +58,7 @@ by-check-out old new p (Err choosing.IsOut) (going, lives, out, is) = placed old
 by-check-out old new p (Err choosing.NoTicket) (free, none, is) = placed old _ new _ refl (same-core old.core old.core refl) is
 by-check-out old new p (Err choosing.NoMemory) (free, left, room, is) = placed old _ new _ refl (same-core old.core old.core refl) is
 
-by-commit : (old new : Placed) (s : SegmentValue) (answer : Result Turn CommitFault) → IsCommitted old s answer new → IsOfOneRun old.core new.core
+pub by-commit : (old new : Placed) (s : SegmentValue) (answer : Result Turn CommitFault) → IsCommitted old s answer new → IsOfOneRun old.core new.core
 by-commit old new s (Ok turn) (start, good, taken) =
     let one = by-steps s.records (core_after_return old.core s.id.process) start s turn new.core taken in
     record { program = one.program; cells = one.cells; limit = one.limit }
@@ -64,19 +68,18 @@ by-commit old new s (Err (committing.Stopped stop)) (inr (inr (good, room, none,
 by-commit old new s (Err committing.Stale) (going, bad, is) = placed old _ new _ refl (same-core old.core old.core refl) is
 by-commit old new s (Err committing.NoMemory) (good, room, gap, is) = placed old _ new _ refl (same-core old.core old.core refl) is
 
-by-cancellation : (old new : Placed) (id : TicketId) (answer : Result (Unit {0}) CommitFault) → IsCancelled old id answer new → IsOfOneRun old.core new.core
+pub by-cancellation : (old new : Placed) (id : TicketId) (answer : Result (Unit {0}) CommitFault) → IsCancelled old id answer new → IsOfOneRun old.core new.core
 by-cancellation old new id (Ok done) (going, lives, ticket, is) = placed old _ new _ refl (record { program = refl; cells = refl; limit = refl }) is
 by-cancellation old new id (Err (committing.Stopped stop)) (at, is) = placed old _ new _ refl (same-core old.core old.core refl) is
 by-cancellation old new id (Err committing.Stale) (going, other, is) = placed old _ new _ refl (same-core old.core old.core refl) is
 by-cancellation old new id (Err committing.NoMemory) none = absurd none
 
--- ---- all of them
+-- ---- turns in one
 
-then : (opening old new : CoreValue) → IsOfOneRun opening old → IsOfOneRun old new → IsOfOneRun opening new
-then opening old new one two = record { program = two.program ∙ one.program; cells = two.cells ∙ one.cells; limit = two.limit ∙ one.limit }
+pub by-turn-at-once : (old new : Placed) (p n : ℕ) → IsTurnAtOnce old p n new → IsOfOneRun old.core new.core
+by-turn-at-once old new p n turn =
+    then old.core turn.out.core new.core (by-check-out old turn.out p (Ok turn.ticket) turn.checked_out) (by-commit turn.out new turn.segment (Ok (record { steps = n; blocked = false })) turn.committed)
 
-pub of-one-run : (opening : CoreValue) (core : Placed) → IsSharedFrom opening core → IsOfOneRun opening core.core
-of-one-run opening _ (opened new is) = same-core opening new.core is
-of-one-run opening _ (checked_out old new p answer before call) = then opening old.core new.core (of-one-run opening old before) (by-check-out old new p answer call)
-of-one-run opening _ (committed old new s answer before call) = then opening old.core new.core (of-one-run opening old before) (by-commit old new s answer call)
-of-one-run opening _ (cancelled old new id answer before call) = then opening old.core new.core (of-one-run opening old before) (by-cancellation old new id answer call)
+pub by-turns-at-once : (p n : ℕ) (old new : Placed) → AreTurnsAtOnce p n old new → IsOfOneRun old.core new.core
+by-turns-at-once p zero old new same = same-core old.core new.core (ap (λ (v : Placed). v.core) same)
+by-turns-at-once p (suc n) old new (mid, first, full, rest) = then old.core mid.core new.core (by-turn-at-once old mid p most_records first) (by-turns-at-once p n mid new rest)

@@ -1,5 +1,5 @@
 //! A worker's turn, under the lock.
-ghost use Rattle.std.specs.Prelude.{◌≡◌, ◌≤◌, ◌<◌, ◌++◌, IfErr, IfNone, IfOk, IfSome, OnErr, Err, replicate};
+ghost use Rattle.std.specs.Prelude.{◌≡◌, ◌≤◌, ◌<◌, ◌++◌, IfErr, IfNone, IfOk, IfSome, OnErr, Err, replicate, suc};
 ghost use Rattle.hep_core.specs.Commits.{AreTurnsAtOnce, IsCommitted, IsTurnAtOnce};
 ghost use Rattle.hep_core.specs.Offers.{IsKnownOffer, offered};
 ghost use Rattle.hep_segments.specs.Segments.{most_records};
@@ -55,6 +55,7 @@ pub fn turn_at_once(core: &mut Core, worker: u32, ahead: &Ahead<'_>, most: u32) 
     requires few { most ≤ most_records }
     ensures named { IfSome result (λ receipt. IsReceipt core.old.core.history worker receipt core.new.core.history) }
     ensures made { IfSome result (λ receipt. IsTurnAtOnce core.old receipt.process receipt.steps core.new) }
+    ensures few { IfSome result (λ receipt. receipt.steps ≤ suc most) }
     ensures none { IfNone result (core.new ≡ core.old) }
 {
     let index = core.history().len();

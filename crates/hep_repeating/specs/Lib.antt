@@ -1,3 +1,5 @@
+pub use Rattle.hep_advancing.specs.ImagePrivate
+pub use Rattle.hep_advancing.specs.StepSimulation
 pub mod Taken
 pub use Rattle.hep_advancing.specs.Own
 pub use Rattle.hep_advancing.specs.Recorded

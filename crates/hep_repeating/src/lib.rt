@@ -4,7 +4,7 @@
 pub mod taking;
 
 pub use hep_advancing::{
-    Base, Copied, MOST_RECORDS, Operands, Progress, Record, Records, Source, assign,
+    Base, Cell, Copied, Image, MOST_RECORDS, Operands, Progress, Record, Records, Source, assign,
     is_first_private, private_steps_depend_on_reads,
 };
 pub use taking::{take_steps, unit_of};

@@ -1,12 +1,11 @@
 //! Private steps in a unit of an image, as many as are asked for.
 ghost use Rattle.std.specs.Prelude.{◌≡◌, ◌≤◌, [], length, IfNone, IfSome};
-ghost use Rattle.hep_image.specs.Image.{IsUnitCode};
+ghost use Rattle.hep_advancing.specs.ImageImage.{IsUnitCode};
 ghost use Rattle.hep_advancing.specs.Bases.{values_of};
 ghost use Rattle.hep_repeating.specs.Taken.{HasTaken, start_of};
 ghost use Rattle.hep_advancing.specs.Records.{most_records};
 
-use hep_advancing::{Base, Progress, Source, advance};
-use hep_image::{Image, UnitCode};
+use hep_advancing::{Base, Image, Progress, Source, UnitCode, advance};
 
 /// What an image has of a unit, if it has that unit.
 pub fn unit_of(image: &Image, unit: u32) -> Option<&UnitCode>

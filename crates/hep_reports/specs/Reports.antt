@@ -1,8 +1,8 @@
 -- What a report says, and why there is none: docs/MACHINE.md, "Workers".
 use Rattle.std.specs.Prelude.{◌≡◌, ◌≢◌, true, false, List}
 use Rattle.hep_machine.specs.Words.{Units}
-use Rattle.hep_core.specs.Value.{CoreValue, verdict_of}
-use Rattle.hep_core.specs.declared.stop.Verdict.TheVariants.{Running}
+use Rattle.hep_receipts.specs.CoreValue.{CoreValue, verdict_of}
+use Rattle.hep_receipts.specs.CoreStopVerdict.TheVariants.{Running}
 use Rattle.hep_reports.specs.declared.fault.CloseFault.{CloseFault}
 use Rattle.hep_reports.specs.declared.fault.CloseFault.TheVariants.{NoMemory, NotTheEntries, NotRising, NotTheRun, StillRunning}
 use Rattle.hep_reports.specs.declared.options.WorkOptions.{WorkOptions}

@@ -8,11 +8,10 @@ ghost use Rattle.hep_reports.specs.Reports.{IsClosed, IsOfRun, IsReport, IsUnclo
 use crate::fault::CloseFault;
 use crate::finder::Finder;
 use crate::options::WorkOptions;
-use hep_core::{Core, Verdict};
 use hep_entries::History;
 use hep_image::Image;
 use hep_machine::Entry;
-use hep_receipts::{Log, Receipt};
+use hep_receipts::{Core, Log, Receipt, Verdict};
 use std::alloc::{AllocError, Global};
 use std::marker::Model;
 

@@ -4,9 +4,13 @@ use Rattle.std.proofs.lemmas.List.{take-append-le}
 use Rattle.std.proofs.Math.Seq.{take-length, take-append-add}
 use Rattle.std.specs.Io.KnownBytes.{Appends}
 use Rattle.std.proofs.KnownBytes.{Appends-trans}
+use Rattle.hep_base.specs.declared.refusal.Refusal.{Refusal}
+use Rattle.hep_base.specs.declared.refusal.Refusal.TheVariants as refusals
 use Rattle.hep_run.specs.declared.options.Run.{Run}
-use Rattle.hep_outcome.specs.Outcome.{Outcome}
+use Rattle.hep_choosing.specs.OutcomeHistoryLines.{ReportsLine}
+use Rattle.hep_choosing.specs.OutcomeOutcome.{Outcome}
 use Rattle.hep_run.specs.Delivery.{SomeOf, WritesMessages, Leaves}
+use Rattle.hep_run.specs.Files.{SaysFault, SaysRefusal, SaysRefusalAt}
 
 pub of_first : (a b : Option (List ℕ)) (xs ys : List ℕ) (n : ℕ) → n ≤ length xs → Appends a b (take n xs) → SomeOf a b (xs ++ ys)
 of_first a b xs ys n h p = (n, subst (Appends a b) (sym (take-append-le n xs ys h)) p)
@@ -40,3 +44,10 @@ left_by o run output output' messages messages' taken (same, inl (status, all)) 
     inl (record { status = status; history = same; output_taken = taken; messages_taken = all })
 left_by o run output output' messages messages' taken (same, inr (status, n, fewer, reported)) =
     inr (record { status = status; history = same; taken = inr (n, fewer, taken, reported) })
+
+-- what is said of a text that gives nothing, by what is reported of it
+pub said_at : (n : ℕ) (IsAt : ℕ → Type 0) (fault : Refusal) (code : ℕ) (messages messages' : Option (List ℕ)) → ReportsLine n IsAt fault → SaysFault fault code messages messages'
+    → SaysRefusalAt n IsAt code messages messages'
+said_at n IsAt refusals.NoMemory code messages messages' reports said = inl said
+said_at n IsAt (refusals.Refused number line name) code messages messages' reports said =
+    inr (line, reports.2, subst (λ k. SaysRefusal k line code messages messages') reports.0 said)

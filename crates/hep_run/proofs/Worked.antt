@@ -1,19 +1,17 @@
 -- What workers leave.
-use Rattle.std.proofs.Common.{◌≡◌, ◌≢◌, ℕ, Bool, true, List, Some, IsSome, inl, inr, refl, sym, ap, ◌∙◌, subst}
+use Rattle.std.proofs.Common.{◌≡◌, ◌≢◌, ℕ, Bool, Some, IsSome, inr, refl, sym, ap, ◌∙◌, subst}
 use Rattle.std.proofs.lemmas.Option.{none-some}
 use Rattle.hep_machine.specs.Words.{IsLegal, opening_layout, Units}
-use Rattle.hep_outcome.specs.Value.{CoreValue, IsStop}
+use Rattle.hep_choosing.specs.OutcomeValue.{CoreValue, IsStop}
 use Rattle.hep_workers.specs.CloseFault.{CloseFault}
-use Rattle.hep_workers.specs.CloseFault.TheVariants as close
 use Rattle.hep_workers.specs.declared.fault.WorkFault.{WorkFault}
 use Rattle.hep_workers.specs.declared.fault.WorkFault.TheVariants.{NoMemory, ArenaFull, NoTicket, NoThread, Close}
 use Rattle.hep_workers.specs.WorkOptions.{WorkOptions}
-use Rattle.hep_workers.specs.Receipt.{Receipt}
 use Rattle.hep_workers.specs.Reports.{IsOfRun}
-use Rattle.hep_workers.specs.Faults.{IsSharedBy, IsUnreported, IsWorkFault, number_of}
-use Rattle.hep_outcome.specs.Verdict.TheVariants.{Running}
-use Rattle.hep_outcome.specs.Outcome.{Outcome, outcome_of_end, verdict_after}
-use Rattle.hep_run.specs.Workers.{IsImageWorked, is_refusal_of_workers}
+use Rattle.hep_workers.specs.Faults.{IsSharedBy, IsWorkFault, number_of}
+use Rattle.hep_choosing.specs.OutcomeVerdict.TheVariants.{Running}
+use Rattle.hep_choosing.specs.OutcomeOutcome.{Outcome, outcome_of_end, verdict_after}
+use Rattle.hep_run.specs.Workers.{IsImageWorked}
 
 pub outcome-worked : (long : Bool) (program : Units) (options : WorkOptions) (core : CoreValue) (o : Outcome)
     → IsOfRun core program options → verdict_after core.program core.history core.stop ≢ Running → IsSharedBy program options core → IsLegal core.program core.cells core.limit core.history → IsStop core.program core.cells core.limit core.history core.stop
@@ -33,29 +31,21 @@ outcome-worked long program options core o run over shared legal named is =
       is ∙ (ap (λ (p : Units). outcome_of_end long p core.cells h core.stop) same ∙ ap (λ n. outcome_of_end long program n h core.stop) cells),
     ))
 
--- 701, 702 and 703 aren't among them: what workers leave under their lock is of the run, and their receipts are its entries
-other-number : (fault : CloseFault) (core : CoreValue) (program : Units) (options : WorkOptions) (logs : List (List Receipt)) → IsUnreported fault core program options logs
-    → (number : ℕ) → number_of (Close fault) ≡ Some number → is_refusal_of_workers number ≡ true
-other-number close.NoMemory core program options logs left number is = absurd (none-some number is)
-other-number close.NotTheEntries core program options logs left number is = absurd left
-other-number close.NotRising core program options logs left number is = absurd left
-other-number close.NotTheRun core program options logs left number is = absurd left
-other-number close.StillRunning core program options logs left number is = let same : 705 ≡ number = cc in subst (λ n. is_refusal_of_workers n ≡ true) same refl
-
-pub is-refusal : (fault : WorkFault) (number : ℕ) (program : Units) (options : WorkOptions) → IsWorkFault fault program options → number_of fault ≡ Some number → is_refusal_of_workers number ≡ true
-is-refusal NoMemory number program options met is = absurd (none-some number is)
-is-refusal ArenaFull number program options met is = absurd (none-some number is)
-is-refusal NoTicket number program options met is = let same : 506 ≡ number = cc in subst (λ n. is_refusal_of_workers n ≡ true) same refl
-is-refusal NoThread number program options met is = let same : 704 ≡ number = cc in subst (λ n. is_refusal_of_workers n ≡ true) same refl
-is-refusal (Close fault) number program options (fits, (core, logs, run, shared, left)) is = other-number fault core program options logs left number is
+-- a thread couldn't be started where a number is told
+pub by-number : (fault : WorkFault) (number : ℕ) (program : Units) (options : WorkOptions) → IsWorkFault fault program options → number_of fault ≡ Some number → number ≡ 704
+by-number NoMemory number program options met is = absurd (none-some number is)
+by-number ArenaFull number program options met is = absurd (none-some number is)
+by-number NoTicket number program options met is = absurd met
+by-number NoThread number program options met is = cc
+by-number (Close fault) number program options (memory, fits) is = absurd (none-some number (ap (λ (f : CloseFault). number_of (Close f)) (sym memory) ∙ is))
 
 -- where anything else than a full arena is the reason, the main program's frame has a gap
 pub fits-else : (fault : WorkFault) (program : Units) (options : WorkOptions) → fault ≢ ArenaFull → IsWorkFault fault program options → IsSome (opening_layout program options.arena)
 fits-else NoMemory program options other fits = fits
 fits-else ArenaFull program options other fits = absurd (other refl)
-fits-else NoTicket program options other met = met.0
+fits-else NoTicket program options other met = absurd met
 fits-else NoThread program options other fits = fits
-fits-else (Close fault) program options other met = met.0
+fits-else (Close fault) program options other met = met.1
 
 pub fits-by-number : (fault : WorkFault) (number : ℕ) (program : Units) (options : WorkOptions) → number_of fault ≡ Some number → IsWorkFault fault program options → IsSome (opening_layout program options.arena)
 fits-by-number fault number program options is fits = fits-else fault program options (λ full. none-some number (ap number_of (sym full) ∙ is)) fits

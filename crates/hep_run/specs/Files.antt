@@ -1,13 +1,16 @@
 -- Files and texts beside a source, and its two outputs: docs/MACHINE.md, "The program".
 use Rattle.std.specs.Prelude.{◌≡◌, ◌⊎◌, ℕ, ◌<◌, ◌≤◌, List, [], codes, length, take, Option, Result, Ok, Err}
 use Rattle.std.specs.Io.KnownBytes.{Appends, Keeps, Consumes, IsAtEnd}
-use Rattle.hep_outcome.specs.HistoryLines.{most_bytes}
-use Rattle.hep_outcome.specs.Given.{AreGiven, IsRefusedGiven}
-use Rattle.hep_outcome.specs.Histories.{history_text}
+use Rattle.hep_base.specs.declared.refusal.Refusal.{Refusal}
+use Rattle.hep_base.specs.declared.refusal.Refusal.TheVariants as refusals
+use Rattle.hep_choosing.specs.OutcomeHistoryLines.{AreLines, IsRefusedText, most_bytes}
+use Rattle.hep_choosing.specs.OutcomeChoices.{choice_text, IsProcess}
+use Rattle.hep_choosing.specs.OutcomeFollowing.{AreFollowed}
+use Rattle.hep_choosing.specs.OutcomeHistories.{entry_text, history_text, IsAllowed}
 use Rattle.hep_run.specs.declared.options.Run.{Run}
-use Rattle.hep_outcome.specs.declared.status.Status.TheVariants.{Usage, NoMemory, DeviceFailed}
-use Rattle.hep_outcome.specs.Statuses.{status_code}
-use Rattle.hep_outcome.specs.Texts.{refusal_text}
+use Rattle.hep_choosing.specs.OutcomeStatusStatus.TheVariants.{Usage, NoMemory, DeviceFailed}
+use Rattle.hep_choosing.specs.OutcomeStatuses.{status_code}
+use Rattle.hep_choosing.specs.OutcomeTexts.{refusal_text}
 use Rattle.hep_run.specs.Delivery.{write_fault_text, SaysLines, WritesStartOf}
 
 -- ---- what is read
@@ -21,12 +24,25 @@ abbrev pub SaysRefusal : ℕ → ℕ → ℕ → Option (List ℕ) → Option (L
 SaysRefusal number k code messages messages' =
     SaysLines (codes "NO MEMORY\n") NoMemory code messages messages' ⊎ SaysLines (refusal_text number k []) Usage code messages messages'
 
--- the choices that a text gives, as lines of their own or as a history, or why it gives none
+-- why a text gives nothing
+abbrev pub SaysFault : Refusal → ℕ → Option (List ℕ) → Option (List ℕ) → Type 0
+SaysFault refusals.NoMemory code messages messages' = SaysLines (codes "NO MEMORY\n") NoMemory code messages messages'
+SaysFault (refusals.Refused number line name) code messages messages' = SaysRefusal number line code messages messages'
+
+-- a text is refused by this number at such a line, or memory was refused
+abbrev pub SaysRefusalAt : ℕ → (ℕ → Type 0) → ℕ → Option (List ℕ) → Option (List ℕ) → Type 0
+SaysRefusalAt number IsAt code messages messages' =
+    SaysLines (codes "NO MEMORY\n") NoMemory code messages messages' ⊎ ((k : ℕ) × IsAt k × SaysRefusal number k code messages messages')
+
+-- the choices of a text, a line for each, or why there are none
 abbrev pub ReadsChoices : List ℕ → Result (List ℕ) ℕ → Option (List ℕ) → Option (List ℕ) → Type 0
-ReadsChoices text (Ok choices) messages messages' = AreGiven text choices × Keeps messages messages'
-ReadsChoices text (Err code) messages messages' =
-    SaysLines (codes "NO MEMORY\n") NoMemory code messages messages'
-    ⊎ ((number : ℕ) × (k : ℕ) × IsRefusedGiven text number k × SaysRefusal number k code messages messages')
+ReadsChoices text (Ok choices) messages messages' = AreLines choice_text IsProcess text choices × Keeps messages messages'
+ReadsChoices text (Err code) messages messages' = SaysRefusalAt 602 (IsRefusedText choice_text IsProcess text) code messages messages'
+
+-- the choices that make the steps of the history that a text has, or why there are none
+abbrev pub ReadsFollowed : List ℕ → Result (List ℕ) ℕ → Option (List ℕ) → Option (List ℕ) → Type 0
+ReadsFollowed text (Ok choices) messages messages' = AreFollowed text choices × Keeps messages messages'
+ReadsFollowed text (Err code) messages messages' = SaysRefusalAt 601 (IsRefusedText entry_text IsAllowed text) code messages messages'
 
 -- ---- what is written
 

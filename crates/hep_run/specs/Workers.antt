@@ -1,17 +1,15 @@
 -- What a run by workers comes to, from the bytes of a source to the bytes that it writes: docs/MACHINE.md, "Workers".
-use Rattle.std.specs.Prelude.{◌≡◌, ◌≢◌, ◌⊎◌, ℕ, true, Bool, nat_eq, List, [], ◌∷◌, ◌++◌, codes, Option, Some, None, IsSome}
+use Rattle.std.specs.Prelude.{◌≡◌, ◌≢◌, ◌⊎◌, ℕ, Bool, List, [], ◌++◌, codes, Option, None, IsSome}
 use Rattle.std.specs.Fmt.{decimal}
-use Rattle.std.specs.List.{list_any}
 use Rattle.hep_machine.specs.declared.event.Entry.{Entry}
 use Rattle.hep_machine.specs.Words.{IsLegal, opening_layout, Units}
-use Rattle.hep_outcome.specs.ChoiceStop.{ChoiceStop}
-use Rattle.hep_outcome.specs.Verdict.TheVariants.{Running}
-use Rattle.hep_outcome.specs.Value.{CoreValue, IsStop}
+use Rattle.hep_choosing.specs.OutcomeChoiceStop.{ChoiceStop}
+use Rattle.hep_choosing.specs.OutcomeVerdict.TheVariants.{Running}
+use Rattle.hep_choosing.specs.OutcomeValue.{CoreValue, IsStop}
 use Rattle.hep_workers.specs.WorkOptions.{WorkOptions}
-use Rattle.hep_workers.specs.declared.fault.WorkFault.{WorkFault}
-use Rattle.hep_workers.specs.Faults.{IsSharedBy, IsWorkFault, number_of}
-use Rattle.hep_outcome.specs.declared.status.Status.TheVariants as statuses
-use Rattle.hep_outcome.specs.Outcome.{Outcome, outcome_of_end, outcome_of_full_arena, verdict_after}
+use Rattle.hep_workers.specs.Faults.{IsSharedBy}
+use Rattle.hep_choosing.specs.OutcomeStatusStatus.TheVariants as statuses
+use Rattle.hep_choosing.specs.OutcomeOutcome.{Outcome, outcome_of_end, outcome_of_full_arena, verdict_after}
 use Rattle.hep_run.specs.Outcome.{RunsTo}
 
 -- workers have made a core with this history and this stop of the opening: so each entry is that of one commit
@@ -27,28 +25,18 @@ pub record IsWorked (program : Units) (options : WorkOptions) (history : List En
   pub stopped : IsStop program options.arena options.steps history stop
   pub over : verdict_after program history stop ≢ Running
 
--- the numbers by which workers give up, or leave no report: all tickets were given, a thread couldn't be started, or the run goes on
-abbrev pub is_refusal_of_workers : ℕ → Bool
-is_refusal_of_workers number = list_any (nat_eq number) (506 ∷ 704 ∷ 705 ∷ [])
-
--- the workers gave up, or left no report, for this reason
+-- the workers gave up, for the reason with this number
 abbrev pub workers_text : ℕ → List ℕ
 workers_text number = codes "WORKERS REFUSED " ++ decimal number ++ codes "\n"
-
--- by the number of this fault, which they have met
-abbrev pub AreRefusedBy : WorkFault → Units → WorkOptions → ℕ → Type 0
-AreRefusedBy fault program options number =
-    IsWorkFault fault program options × (number_of fault ≡ Some number) × (is_refusal_of_workers number ≡ true)
 
 abbrev pub outcome_of_refused_workers : ℕ → Outcome
 outcome_of_refused_workers number = record { output = []; messages = workers_text number; status = statuses.NoMemory; history = [] }
 
--- an accepted program
+-- an accepted program: the arena is full at the opening; or, where it isn't, a thread couldn't be started; or the workers have run it
 abbrev pub IsImageWorked : Bool → Units → WorkOptions → Outcome → Type 0
 IsImageWorked long program options o =
     ((opening_layout program options.arena ≡ None) × (o ≡ outcome_of_full_arena long program options.arena))
-    ⊎ (IsSome (opening_layout program options.arena)
-    × (fault : WorkFault) × (number : ℕ) × AreRefusedBy fault program options number × (o ≡ outcome_of_refused_workers number))
+    ⊎ (IsSome (opening_layout program options.arena) × (o ≡ outcome_of_refused_workers 704))
     ⊎ ((history : List Entry) × (stop : Option ChoiceStop) × IsWorked program options history stop
     × (o ≡ outcome_of_end long program options.arena history stop))
 

@@ -2,15 +2,15 @@
 ghost use Rattle.std.specs.Prelude.{OnOk, IfErr};
 ghost use Rattle.std.specs.Io.KnownBytes.{Appends};
 ghost use Rattle.hep_run.specs.Delivery.{write_fault_text, Leaves, SaysLines, WritesMessages, SomeOf};
-ghost use Rattle.hep_outcome.specs.Transcripts.{outcome_of};
+ghost use Rattle.hep_choosing.specs.OutcomeTranscripts.{outcome_of};
 ghost use Rattle.hep_run.specs.Transcripts.{LeavesMade};
 ghost use Rattle.hep_run.specs.Files.{PutsText};
 
 use crate::options::Run;
 use crate::source::NO_MEMORY;
 use crate::transcript::Transcript;
+use hep_choosing::Status;
 use hep_entries::History;
-use hep_outcome::Status;
 use hep_output::{PutFault, put_all};
 use itoa::Buffer;
 use std::alloc::{AllocError, Global};
@@ -34,17 +34,27 @@ pub fn put_write_fault<E: Write>(messages: &mut E, written: usize) -> Result<(),
     Ok(())
 }
 
+/// Says how many bytes a stream took before it failed; nothing of a pipe that nobody reads any more.
+fn say_broken<E: Write>(messages: &mut E, fault: &PutFault)
+    ensures { SomeOf (E.contents messages.old) (E.contents messages.new) (write_fault_text fault.now.written) }
+{
+    if fault.is_closed_pipe() {
+        return;
+    }
+    let _ = put_write_fault(messages, fault.written);
+}
+
 /// Writes lines to `messages` and gives the exit status of `status`.
 ///
-/// Where that fails, `messages` is given how many bytes it took, and the answer is the exit status of
-/// `DeviceFailed`; if this fails too, no more is said.
+/// Where that fails, `messages` is given how many bytes it took, unless it is a pipe that nobody reads any more, and the answer is the
+/// exit status of `DeviceFailed`; if this fails too, no more is said.
 pub fn say<E: Write>(messages: &mut E, lines: &[u8], status: Status) -> u8
     ensures { SaysLines lines.now status result (E.contents messages.old) (E.contents messages.new) }
 {
     match put_all(messages, lines) {
         Ok(()) => status.code(),
         Err(fault) => {
-            let _ = put_write_fault(messages, fault.written);
+            say_broken(messages, &fault);
             Status::DeviceFailed.code()
         }
     }
@@ -68,8 +78,8 @@ pub fn write_messages<E: Write>(
 
 /// Writes a text to a stream and gives `code`.
 ///
-/// Where the stream fails, `messages` is given how many bytes it took, and the answer is the exit
-/// status of `DeviceFailed`; if this fails too, no more is said.
+/// Where the stream fails, `messages` is given how many bytes it took, unless it is a pipe that nobody reads any more, and the answer is
+/// the exit status of `DeviceFailed`; if this fails too, no more is said.
 pub fn put_text<W: Write, E: Write>(text: &[u8], code: u8, stream: &mut W, messages: &mut E) -> u8
     ensures { PutsText text.now code result (W.contents stream.old) (W.contents stream.new)
         (E.contents messages.old) (E.contents messages.new) }
@@ -77,7 +87,7 @@ pub fn put_text<W: Write, E: Write>(text: &[u8], code: u8, stream: &mut W, messa
     match put_all(stream, text) {
         Ok(()) => code,
         Err(fault) => {
-            let _ = put_write_fault(messages, fault.written);
+            say_broken(messages, &fault);
             Status::DeviceFailed.code()
         }
     }
@@ -85,8 +95,8 @@ pub fn put_text<W: Write, E: Write>(text: &[u8], code: u8, stream: &mut W, messa
 
 /// Writes a transcript, the records first.
 ///
-/// Where a writer fails, `messages` is given how many bytes that stream took, and the run comes to
-/// `DeviceFailed`; if this fails too, no more is said.
+/// Where a writer fails, `messages` is given how many bytes that stream took, unless it is a pipe that nobody reads any more, and the run
+/// comes to `DeviceFailed`; if this fails too, no more is said.
 pub fn deliver<W: Write, E: Write>(transcript: Transcript, output: &mut W, messages: &mut E) -> Run
     ensures { Leaves (outcome_of transcript) result (W.contents output.old) (W.contents output.new)
         (E.contents messages.old) (E.contents messages.new) }
@@ -98,7 +108,7 @@ pub fn deliver<W: Write, E: Write>(transcript: Transcript, output: &mut W, messa
         history,
     } = transcript;
     if let Err(fault) = put_all(output, &records) {
-        let _ = put_write_fault(messages, fault.written);
+        say_broken(messages, &fault);
         return Run::new(Status::DeviceFailed, history);
     }
     write_messages(messages, lines.as_slice(), status, history)

@@ -4,18 +4,19 @@
 //! why, so that nothing more is to be written.
 ghost use Rattle.std.specs.Prelude.{◌≡◌, ◌≢◌, codes, IfOk, IfErr, Ok, Err};
 ghost use Rattle.std.specs.Io.KnownBytes.{Keeps};
-ghost use Rattle.hep_outcome.specs.HistoryLines.{most_bytes};
+ghost use Rattle.hep_choosing.specs.OutcomeHistoryLines.{most_bytes};
 ghost use Rattle.hep_run.specs.Delivery.{CannotRead, SaysLines, SaysUnread, SomeOf, write_fault_text};
-ghost use Rattle.hep_run.specs.Files.{HasReadText, KeepsHistory, PutsText, ReadsChoices, SaysRefusal};
-ghost use Rattle.hep_outcome.specs.declared.status.Status.TheVariants.{DeviceFailed, NoMemory, Usage};
+ghost use Rattle.hep_run.specs.Files.{HasReadText, KeepsHistory, PutsText, ReadsChoices, ReadsFollowed, SaysFault, SaysRefusal};
+ghost use Rattle.hep_choosing.specs.OutcomeStatusStatus.TheVariants.{DeviceFailed, NoMemory, Usage};
 
 use crate::deliver::{put_text, put_write_fault, say};
 use crate::input::{ReadFault, read_input};
 use crate::options::Run;
 use crate::source::NO_MEMORY;
 use hep_base::Refusal;
-use hep_outcome::texts::put_refusal;
-use hep_outcome::{Choices, MOST_BYTES, Status, read_given, write_text};
+use hep_choosing::{
+    Choices, MOST_BYTES, Status, put_refusal, read_choices, read_followed, write_text,
+};
 use std::alloc::Global;
 use std::io::{Read, Write};
 
@@ -65,7 +66,17 @@ fn say_refusal<E: Write>(alloc: Global, messages: &mut E, number: u16, line: u32
     }
 }
 
-/// The choices that a text gives: a line `p` for each, or those of a history where its first line has a blank.
+// Says why a text beside a source gives no choices, and gives the exit status.
+fn say_fault<E: Write>(alloc: Global, messages: &mut E, fault: &Refusal) -> u8
+    ensures { SaysFault fault.now result (E.contents messages.old) (E.contents messages.new) }
+{
+    match fault {
+        Refusal::NoMemory => say(messages, NO_MEMORY, Status::NoMemory),
+        Refusal::Refused { number, line, .. } => say_refusal(alloc, messages, *number, *line),
+    }
+}
+
+/// The choices that a text has: a line `p` for each.
 ///
 /// # Errors
 ///
@@ -73,12 +84,23 @@ fn say_refusal<E: Write>(alloc: Global, messages: &mut E, number: u16, line: u32
 pub fn choices_of<E: Write>(alloc: Global, text: &[u8], messages: &mut E) -> Result<Choices, u8>
     ensures { ReadsChoices text.now result (E.contents messages.old) (E.contents messages.new) }
 {
-    match read_given(alloc, text) {
+    match read_choices(alloc, text) {
         Ok(choices) => Ok(choices),
-        Err(Refusal::NoMemory) => Err(say(messages, NO_MEMORY, Status::NoMemory)),
-        Err(Refusal::Refused { number, line, .. }) => {
-            Err(say_refusal(alloc, messages, number, line))
-        }
+        Err(fault) => Err(say_fault(alloc, messages, &fault)),
+    }
+}
+
+/// The choices that make the steps of the history that a text has.
+///
+/// # Errors
+///
+/// The exit status, where the text is refused or there was too little memory.
+pub fn followed_of<E: Write>(alloc: Global, text: &[u8], messages: &mut E) -> Result<Choices, u8>
+    ensures { ReadsFollowed text.now result (E.contents messages.old) (E.contents messages.new) }
+{
+    match read_followed(alloc, text) {
+        Ok(choices) => Ok(choices),
+        Err(fault) => Err(say_fault(alloc, messages, &fault)),
     }
 }
 

@@ -238,8 +238,8 @@ pub fn image_of_source(alloc: Global, source: &[u8], long: bool) -> Result<Image
     }
 }
 
-/// Does nothing: its clauses say of 401 that each unit of a program that was read from a source has a statement, so that there are too
-/// many instructions only where it has more than 524,288 names, constants, labels, operators and statements.
+/// Does nothing: its clauses say that each unit of a program that was read from a source has a statement, and that there are too many
+/// instructions only where it has more than 524,288 names, constants, labels, operators and statements.
 pub fn limits_of_sources_are_wide()
     ensures statements { (source : List ℕ) (program : Units) → IsAcceptedSource source program → HaveStatements program }
     ensures code { (source : List ℕ) (program : Units) → IsAcceptedSource source program → IsCodeBeyond program

@@ -18,9 +18,19 @@ pub mod warned;
 pub mod workers;
 
 pub use deliver::put_text;
-pub use files::{answer, choices_of, history_text, read_text_file, say_unread, say_unwritten};
-pub use hep_outcome::tally::MOST_SEED;
-pub use hep_workers::{Gate, NoGate, WorkOptions};
+pub use files::{
+    answer, choices_of, followed_of, history_text, read_text_file, say_unread, say_unwritten,
+};
+pub use hep_check::{Checked, check};
+pub use hep_choosing::{
+    MOST_SEED, ReplayFault, dump_text, read_text, replay as history_replay, write_text,
+};
+pub use hep_lower::lower;
+pub use hep_workers::{
+    Ahead, ChoiceStop, ChooseFault, CloseFault, CommitFault, Core, Entry, Fault, Gate, Log,
+    NewFault, NoGate, Offer, Receipt, Report, Segment, Stretch, Ticket, Turn, Verdict, WorkFault,
+    WorkOptions, close, compute, run_workers, worker_turn,
+};
 pub use input::ReadFault;
 pub use lots::{lots_bytes, lots_noted};
 pub use options::{

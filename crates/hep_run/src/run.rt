@@ -1,6 +1,6 @@
 //! From a source's bytes to what its run writes.
 ghost use Rattle.std.specs.Prelude.{IfOk, OnErr};
-ghost use Rattle.hep_outcome.specs.Transcripts.{outcome_of};
+ghost use Rattle.hep_choosing.specs.OutcomeTranscripts.{outcome_of};
 ghost use Rattle.hep_run.specs.Memory.{MayReadOn};
 ghost use Rattle.hep_run.specs.Outcome.{IsOutcome};
 

@@ -3,7 +3,7 @@ ghost use Rattle.std.specs.Prelude.{◌≡◌, false, IfOk, OnErr};
 ghost use Rattle.hep_run.specs.Memory.{MayReadOn, RefusesLargeSource};
 ghost use Rattle.hep_warnings.specs.Warnings as all;
 ghost use Rattle.hep_run.specs.Delivery.{LeavesOfSource, status_alone};
-ghost use Rattle.hep_outcome.specs.Transcripts.{outcome_of};
+ghost use Rattle.hep_choosing.specs.OutcomeTranscripts.{outcome_of};
 ghost use Rattle.hep_run.specs.Warned.{IsWarnOutcome, outcome_of_warnings};
 
 use crate::deliver::deliver_made;
@@ -12,8 +12,8 @@ use crate::front::image_of_source;
 use crate::input::read_input;
 use crate::source::MOST_BYTES;
 use crate::transcript::{Transcript, fault_transcript};
+use hep_choosing::{Lines, Status};
 use hep_entries::History;
-use hep_outcome::{Lines, Status};
 use hep_source::Program;
 use hep_warnings::{warning_text, warnings};
 use std::alloc::{AllocError, Global};

@@ -13,12 +13,10 @@ ghost use Rattle.hep_segments.specs.Segments as segments;
 
 use crate::comparing::same_record;
 use crate::segment::Segment;
-use hep_arena::Cell;
-use hep_image::Image;
 use hep_machine::values::integer_of;
 use hep_repeating::{
-    Base, Operands, Progress, Record, Records, Source, assign, is_first_private, take_steps,
-    unit_of,
+    Base, Cell, Image, Operands, Progress, Record, Records, Source, assign, is_first_private,
+    take_steps, unit_of,
 };
 use hep_source::Value;
 

@@ -7,8 +7,9 @@ ghost use Rattle.hep_repeating.specs.Records.{most_records};
 
 use crate::place::Place;
 use crate::ticket::{Ticket, TicketId};
-use hep_image::Image;
-use hep_repeating::{Base, MOST_RECORDS, Operands, Progress, Record, Records, assign, take_steps};
+use hep_repeating::{
+    Base, Image, MOST_RECORDS, Operands, Progress, Record, Records, assign, take_steps,
+};
 use hep_source::Value;
 use std::marker::Model;
 

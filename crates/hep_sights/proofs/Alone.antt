@@ -12,7 +12,7 @@ use Rattle.hep_state.specs.declared.machine.Machine.{Machine}
 use Rattle.hep_state.specs.Words.{HasLevels, snapshot_of}
 use Rattle.hep_state.proofs.Moved.{standing-before}
 use Rattle.hep_state.proofs.Standing.{AreStandingBelow}
-use Rattle.hep_coming.proofs.Standing.{turn}
+use Rattle.hep_sites.proofs.ComingStanding.{turn}
 use Rattle.hep_sites.specs.Sites.{LivesAfter}
 use Rattle.hep_sites.proofs.Placed.{same-top, turns}
 

@@ -14,7 +14,7 @@ use Rattle.hep_machine.proofs.Ages.{IsAged, aged, older_parent}
 use Rattle.hep_machine.proofs.Changes.{Change, HasStepped, calls, creates, faults, leaves, moves, resumes, step_changes, stops, top_in}
 use Rattle.hep_machine.proofs.Held.{among-cases, among-head, held_is}
 use Rattle.hep_machine.proofs.Others.{front_numbered, others_stay}
-use Rattle.hep_traces.specs.Traces.{freed, numbers_from}
+use Rattle.hep_tracing.specs.TracesTraces.{freed, numbers_from}
 use Rattle.hep_sights.specs.Ancestry.{activation_on, ancestry}
 use Rattle.hep_sights.specs.Freed.{AreHeldUpwards}
 use Rattle.hep_sights.proofs.Lines.{AreAbove, lines, lines-numbered, parent-more, parent_in}

@@ -13,11 +13,11 @@ use Rattle.hep_machine.specs.declared.event.Kind.{Kind}
 use Rattle.hep_machine.specs.Words.{Location, Name, State, Units, common_cells, is_among, local, main_among, names_of, run, spelling, unit_at, unit_of}
 use Rattle.hep_state.specs.declared.machine.Machine.{Machine}
 use Rattle.hep_contents.specs.Waits.{name_seen}
-use Rattle.hep_traces.specs.Cells.{name_at}
-use Rattle.hep_views.specs.declared.place.Place.{Place}
-use Rattle.hep_views.specs.Listed.{place_of}
-use Rattle.hep_views.specs.Sought.{IsSought}
-use Rattle.hep_views.proofs.Places.{in-common, in-frame, variable-told}
+use Rattle.hep_tracing.specs.TracesCells.{name_at}
+use Rattle.hep_contents.specs.ViewsPlacePlace.{Place}
+use Rattle.hep_contents.specs.ViewsListed.{place_of}
+use Rattle.hep_contents.specs.ViewsSought.{IsSought}
+use Rattle.hep_contents.proofs.ViewsPlaces.{in-common, in-frame, variable-told}
 use Rattle.hep_sites.specs.declared.sites.Site.{Site}
 use Rattle.hep_sites.specs.Sites.{IsSite}
 use Rattle.hep_sights.specs.References.{declared_by, declared_with}
@@ -26,12 +26,12 @@ module _ (program : Units) (cells : ℕ) (choices : List ℕ) (m : Machine) (acc
   abbrev s : State
   s = run program choices
 
-  abbrev told : Location → List ℕ
+  abbrev told : Location → Option (List ℕ)
   told at = declared_with (names_in_order program) (place_of program s at).owner (place_of program s at).name
 
-  local-declared : (a i : ℕ) (x : Name) → unit_of s a < length program → is_among x (names_of (unit_at program (unit_of s a))) ≡ true → 1 ≤ a → told (local a x i) ≡ spelling x
+  local-declared : (a i : ℕ) (x : Name) → unit_of s a < length program → is_among x (names_of (unit_at program (unit_of s a))) ≡ true → 1 ≤ a → told (local a x i) ≡ Some (spelling x)
   local-declared zero i x inside named made = absurd (omega (arith, made))
-  local-declared (suc a) i x inside named made = ap name_seen (number-of-variable program (unit_of s (suc a)) x inside named)
+  local-declared (suc a) i x inside named made = ap (λ o. Some (name_seen o)) (number-of-variable program (unit_of s (suc a)) x inside named)
 
   declared-is : (key cell : ℕ) (at : Location) → IsSought program cells choices m key cell at → told at ≡ name_at (Ok at)
   declared-is key cell at h = elim (cases_Bool (nat_lt cell (common_cells program))) [

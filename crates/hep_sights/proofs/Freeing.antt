@@ -1,7 +1,7 @@
 -- Which frames a turn of a core has given back, by the ancestry of its process's top activation.
 use Rattle.std.proofs.Common.{◌≡◌, ℕ, zero, suc, ◌++◌, Bool, true, false, List, [], ◌∷◌, Some, refl, sym, ap, ◌∙◌, subst}
-use Rattle.hep_core.specs.Value.{CoreValue, IsTurn, state_of}
-use Rattle.hep_core.proofs.Histories.{schedule-waited, state-is, state-stepped}
+use Rattle.hep_tracing.specs.CoreValue.{CoreValue, IsTurn, state_of}
+use Rattle.hep_tracing.proofs.CoreHistories.{schedule-waited, state-is, state-stepped}
 use Rattle.hep_machine.specs.Words.{Level, Process, State, living, run, schedule_of, state_after, step}
 use Rattle.hep_sights.specs.Turns.{IsTurnMade}
 use Rattle.hep_sights.proofs.Ancestors.{IsFreed, freed-stepping, freed-waiting}

@@ -9,7 +9,7 @@ use Rattle.hep_state.specs.declared.machine.Machine.{Machine}
 use Rattle.hep_state.specs.Numbered.{stack_numbered}
 use Rattle.hep_state.specs.Words.{HasLevels, IsMachineAfter, snapshot_of}
 use Rattle.hep_state.proofs.Numbered.{numbered-there}
-use Rattle.hep_views.proofs.Waiting.{living-top}
+use Rattle.hep_contents.proofs.ViewsWaiting.{living-top}
 use Rattle.hep_sights.specs.Ancestry.{has_above}
 use Rattle.hep_sights.proofs.Ancestors.{kept-by, kept-held}
 

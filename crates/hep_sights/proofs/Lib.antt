@@ -1,3 +1,10 @@
+pub use Rattle.hep_sites.proofs.AccessedAhead as SitesAccessedAhead
+pub use Rattle.hep_sites.proofs.ComingAnswered
+pub use Rattle.hep_sites.proofs.ComingStanding
+pub use Rattle.hep_sites.proofs.Placed as SitesPlaced
+pub use Rattle.hep_state.proofs.Unchanged as StateUnchanged
+pub use Rattle.hep_tracing.proofs.CoreHistories
+pub use Rattle.hep_tracing.proofs.CoreKept
 pub mod Numbers
 pub mod Own
 pub mod Loops

@@ -4,16 +4,16 @@ use Rattle.std.specs.List.{filter}
 use Rattle.std.specs.Option.{option_or}
 use Rattle.std.proofs.lemmas.Bool.{cases_Bool, eq-eqb, or_left, or_right}
 use Rattle.std.proofs.lemmas.Option.{none-some}
-use Rattle.hep_core.specs.Value.{first_listed, listed_after}
-use Rattle.hep_core.proofs.Histories.{number-listed, progress-state}
+use Rattle.hep_tracing.specs.CoreValue.{first_listed, listed_after}
+use Rattle.hep_tracing.proofs.CoreHistories.{number-listed, progress-state}
 use Rattle.hep_machine.specs.declared.event.Entry.{Entry}
 use Rattle.hep_machine.specs.Schedules.{without}
 use Rattle.hep_machine.specs.Step.{step_result_of_top, wanted_of}
 use Rattle.hep_machine.specs.Words.{AreEntries, IsEntry, IsLegal, Level, Process, Progress, State, Units, Wanted, is_number_among, is_waiting, living, opening, progress_after, progress_after_entry, progress_after_step, progress_after_steps, progress_from, run_from, state_after, state_after_turn, step_result_of, wanted_by}
 use Rattle.hep_machine.proofs.Held.{among-cases}
-use Rattle.hep_traces.specs.Traces.{numbers_from}
-use Rattle.hep_views.specs.declared.listed.Listed.{Listed}
-use Rattle.hep_views.specs.Listed.{listed_at, listed_by, listed_with}
+use Rattle.hep_tracing.specs.TracesTraces.{numbers_from}
+use Rattle.hep_contents.specs.ViewsListedListed.{Listed}
+use Rattle.hep_contents.specs.ViewsListed.{listed_at, listed_by, listed_with}
 
 among-filter : (test : ℕ → Bool) (q : ℕ) (xs : List ℕ) → is_number_among q (filter test xs) ≡ true → (is_number_among q xs ≡ true) × (test q ≡ true)
 among-filter test q [] h = absurd (true≢false (sym h))

@@ -6,7 +6,7 @@ use Rattle.std.proofs.lemmas.List.{reverse-append}
 use Rattle.std.proofs.lemmas.List.Elements.{filter-append}
 use Rattle.hep_machine.specs.Words.{is_number_among}
 use Rattle.hep_machine.proofs.Held.{among-head}
-use Rattle.hep_traces.specs.Traces.{numbers_from}
+use Rattle.hep_tracing.specs.TracesTraces.{numbers_from}
 
 -- ---- what a test leaves
 

@@ -8,8 +8,8 @@ use Rattle.hep_machine.specs.Words.{Activation, Level, Location, Loop, Name, Pro
 use Rattle.hep_source.specs.declared.value.Value.TheVariants.{Int}
 use Rattle.hep_machine.specs.Control.{level_at_end_of, loops_around, loops_ending_at, terminal_of}
 use Rattle.hep_sites.specs.Sites.{stored_at}
-use Rattle.hep_traces.specs.Deeds.{fault_added, value_at, value_in}
-use Rattle.hep_traces.proofs.Deeds.{step_of_top}
+use Rattle.hep_tracing.specs.TracesDeeds.{fault_added, value_at, value_in}
+use Rattle.hep_tracing.proofs.TracesDeeds.{step_of_top}
 
 -- ---- levels
 

@@ -1,9 +1,9 @@
 -- Processes that wait, by their numbers, one after the other.
 use Rattle.std.proofs.Common.{◌≡◌, ℕ, suc, ◌+◌, ◌-◌, ◌<◌, Bool, true, false, List, [], ◌∷◌, ◌++◌, length, refl, sym, ap, ◌∙◌, arith, append_assoc, if◌then◌else◌, nat_eq, not, ◌&&◌}
 use Rattle.std.specs.List.{filter}
-use Rattle.hep_core.specs.Value.{CoreValue}
+use Rattle.hep_tracing.specs.CoreValue.{CoreValue}
 use Rattle.hep_machine.specs.Words.{is_number_among, progress_after}
-use Rattle.hep_traces.specs.Traces.{numbers_from, woken}
+use Rattle.hep_tracing.specs.TracesTraces.{numbers_from, woken}
 use Rattle.hep_sights.specs.Woken.{listed_from, listed_numbers}
 
 -- ---- what a test leaves of a list

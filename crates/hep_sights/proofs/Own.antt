@@ -11,10 +11,10 @@ use Rattle.hep_image.proofs.Numbers.{variable-at}
 use Rattle.hep_machine.specs.Words.{Location, Name, State, Units, common, common_cells, is_among, main_among, names_of, run, same_name, unit_at, unit_of}
 use Rattle.hep_source.proofs.NameTests.{equal_names, same_name-self}
 use Rattle.hep_state.specs.declared.machine.Machine.{Machine}
-use Rattle.hep_traces.specs.Deeds.{is_own}
-use Rattle.hep_views.specs.Listed.{place_of}
-use Rattle.hep_views.specs.Sought.{IsSought}
-use Rattle.hep_views.proofs.Places.{in-common, in-frame, variable-told}
+use Rattle.hep_tracing.specs.TracesDeeds.{is_own}
+use Rattle.hep_contents.specs.ViewsListed.{place_of}
+use Rattle.hep_contents.specs.ViewsSought.{IsSought}
+use Rattle.hep_contents.proofs.ViewsPlaces.{in-common, in-frame, variable-told}
 
 -- names of a unit are the same where their numbers are
 same-number : (program : Units) (u : ℕ) (x y : Name) → is_among x (names_of (unit_at program u)) ≡ true → is_among y (names_of (unit_at program u)) ≡ true

@@ -17,8 +17,8 @@ use Rattle.hep_step.proofs.Running.{coming}
 use Rattle.hep_step.proofs.Running as running
 use Rattle.hep_state.specs.Words.{HasLevels, IsTopRunning, IsTurning, TurnOf, snapshot_of}
 use Rattle.hep_state.proofs.Tops.{dropped-behind}
-use Rattle.hep_coming.proofs.Answered as answered
-use Rattle.hep_coming.proofs.Standing.{settled-there, settled-turn, turn, unit-inside}
+use Rattle.hep_sites.proofs.ComingAnswered as answered
+use Rattle.hep_sites.proofs.ComingStanding.{settled-there, settled-turn, turn, unit-inside}
 use Rattle.hep_source.proofs.Tests.{at-front}
 use Rattle.hep_sites.proofs.Placed.{levels-of, same-top}
 use Rattle.hep_sights.specs.declared.reference.Ahead.{Ahead}

@@ -14,12 +14,12 @@ use Rattle.hep_state.specs.Words.{IsMachineAfter}
 use Rattle.hep_states.specs.States as states
 use Rattle.hep_contents.specs.Waits.{place_seen}
 use Rattle.hep_contents.proofs.Waited.{place-told}
-use Rattle.hep_traces.specs.Deeds.{is_own, place_by}
-use Rattle.hep_traces.specs.Deeds.{place_of as place_of_reference}
-use Rattle.hep_views.specs.declared.place.Place.{Place}
-use Rattle.hep_views.specs.Listed.{place_of}
-use Rattle.hep_views.specs.Sought.{IsSought}
-use Rattle.hep_views.proofs.Waiting.{IsTop, living-top}
+use Rattle.hep_tracing.specs.TracesDeeds.{is_own, place_by}
+use Rattle.hep_tracing.specs.TracesDeeds.{place_of as place_of_reference}
+use Rattle.hep_contents.specs.ViewsPlacePlace.{Place}
+use Rattle.hep_contents.specs.ViewsListed.{place_of}
+use Rattle.hep_contents.specs.ViewsSought.{IsSought}
+use Rattle.hep_contents.proofs.ViewsWaiting.{IsTop, living-top}
 use Rattle.hep_sites.specs.declared.sites.Site.{Site}
 use Rattle.hep_sites.specs.Sites.{IsSite, IsVariableOf, LivesAfter}
 use Rattle.hep_sites.proofs.Declared.{placed-named}

@@ -3,7 +3,7 @@ use Rattle.std.proofs.Common.{◌≡◌, Ok, Err, refl, ap, ◌∙◌}
 use Rattle.hep_code.specs.Words.{Addressing, Answers, Reply, accessed, result}
 use Rattle.hep_machine.specs.Access.{Outcome, gives, makes, undefined, waits}
 use Rattle.hep_machine.specs.Words.{Answer, Location, Store, answer_at}
-use Rattle.hep_traces.specs.Deeds.{value_given}
+use Rattle.hep_tracing.specs.TracesDeeds.{value_given}
 use Rattle.hep_sights.specs.Values.{value_come, value_replied}
 
 come-of : (store : Store) (at : Location) (o : Outcome) → value_given (answer_at store at o) ≡ value_come o

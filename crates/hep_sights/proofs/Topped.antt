@@ -7,7 +7,7 @@ use Rattle.hep_proc.specs.Nodes.{nodes_of}
 use Rattle.hep_proc.specs.declared.process.Local.{Local}
 use Rattle.hep_state.specs.declared.machine.Machine.{Machine}
 use Rattle.hep_state.specs.Words.{HasLevels, IsMachineAfter, snapshot_of}
-use Rattle.hep_views.proofs.Waiting.{IsTop, living-top}
+use Rattle.hep_contents.proofs.ViewsWaiting.{IsTop, living-top}
 
 -- a level that is the top one of all that a machine keeps of a process
 abbrev pub IsTopLevel : Machine → ℕ → Local → Type 0

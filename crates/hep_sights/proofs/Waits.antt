@@ -4,7 +4,7 @@ use Rattle.std.proofs.lemmas.Option.{same_Some}
 use Rattle.hep_cells.specs.declared.want.Want.{Want}
 use Rattle.hep_blocked.specs.Listing.{IsBlocked}
 use Rattle.hep_conditions.specs.Words.{IsAccepted}
-use Rattle.hep_core.proofs.Histories.{state-is}
+use Rattle.hep_tracing.proofs.CoreHistories.{state-is}
 use Rattle.hep_image.specs.Names.{names_in_order}
 use Rattle.hep_machine.specs.declared.event.Entry.{Entry}
 use Rattle.hep_machine.specs.Words.{State, Units, Wanted, main_among, run, schedule_of, state_after, wanted_by}
@@ -13,10 +13,10 @@ use Rattle.hep_state.specs.Words.{IsMachineAfter}
 use Rattle.hep_states.specs.States as states
 use Rattle.hep_contents.specs.Waits.{place_listed, place_seen}
 use Rattle.hep_contents.proofs.Waited.{place-told}
-use Rattle.hep_views.specs.declared.listed.Listed.{Listed}
-use Rattle.hep_views.specs.Sought.{IsListedAs}
-use Rattle.hep_views.specs.Listed.{listed_at, listed_by, listed_with}
-use Rattle.hep_views.proofs.Waiting.{Waits, blocked-waits}
+use Rattle.hep_contents.specs.ViewsListedListed.{Listed}
+use Rattle.hep_contents.specs.ViewsSought.{IsListedAs}
+use Rattle.hep_contents.specs.ViewsListed.{listed_at, listed_by, listed_with}
+use Rattle.hep_contents.proofs.ViewsWaiting.{Waits, blocked-waits}
 
 module _ (program : Units) (cells : ℕ) (choices : List ℕ) (m : Machine) (accepted : IsAccepted program) (main : is_some (main_among program) ≡ true) (after : IsMachineAfter program cells choices m) (p : ℕ) (want : Want) where
   abbrev s : State

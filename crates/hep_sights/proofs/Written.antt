@@ -12,7 +12,7 @@ use Rattle.hep_conditions.specs.Words.{IsAccepted}
 use Rattle.hep_image.specs.Places.{variable_of}
 use Rattle.hep_machine.specs.Words.{Level, Process, Reference, Units, Value, does, main_among, next_of, purging, run, spelling, unit_at, unit_of}
 use Rattle.hep_state.specs.Words.{IsTopRunning, IsTurning, TurnOf}
-use Rattle.hep_traces.specs.Lines.{reference_text, references_text}
+use Rattle.hep_tracing.specs.TracesLines.{reference_text, references_text}
 use Rattle.hep_sights.specs.declared.reference.Ahead.{Ahead}
 use Rattle.hep_sights.specs.References.{IsAhead, IsEntryOf}
 use Rattle.hep_sights.proofs.Entries.{rest-next, subscripts_of, target-next, written}

@@ -1,7 +1,7 @@
 -- A turn that may give back frames: docs/RUNS.md, "What each step did".
 use Rattle.std.specs.Prelude.{◌≡◌, ℕ, true, List, [], Some, drop, not, slice_get}
 use Rattle.std.specs.List.{filter}
-use Rattle.hep_core.specs.Value.{CoreValue, state_of}
+use Rattle.hep_tracing.specs.CoreValue.{CoreValue, state_of}
 use Rattle.hep_machine.specs.Words.{Level, Process, State, Top, is_held, living}
 use Rattle.hep_sights.specs.Ancestry.{IsAncestryOf}
 use Rattle.hep_sights.specs.Turns.{IsTurnMade}

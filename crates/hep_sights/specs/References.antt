@@ -5,7 +5,7 @@ use Rattle.hep_code.specs.declared.instruction.Argument.TheVariants.{Referred}
 use Rattle.hep_code.specs.declared.instruction.Instruction.{Instruction}
 use Rattle.hep_code.specs.declared.instruction.Instruction.TheVariants.{Pass}
 use Rattle.hep_code.specs.declared.variable.Variable.{Variable}
-use Rattle.hep_coming.specs.Coming.{IsComingOf}
+use Rattle.hep_sites.specs.ComingComing.{IsComingOf}
 use Rattle.hep_image.specs.Names.{names_in_order}
 use Rattle.hep_machine.specs.Words.{Level, Process, Top, Units, location_of_name, next_of, run, scope_of, spelling, unit_on_top}
 use Rattle.hep_machine.specs.Evaluation as source
@@ -14,7 +14,7 @@ use Rattle.hep_sites.specs.Named.{IsNamed}
 use Rattle.hep_sites.specs.Sites.{IsSiteAfter, IsVariableOf, LivesAfter}
 use Rattle.hep_sites.specs.Variables.{AreVariablesOf}
 use Rattle.hep_contents.specs.Waits.{name_seen, place_seen}
-use Rattle.hep_traces.specs.Deeds.{place_of}
+use Rattle.hep_tracing.specs.TracesDeeds.{place_of}
 use Rattle.hep_sights.specs.declared.reference.Ahead.{Ahead}
 use Rattle.hep_sights.specs.declared.reference.Reference.{Reference}
 
@@ -31,12 +31,12 @@ shown_by names activation name (Some site) =
     if nat_eq site.place.owner activation && nat_eq site.place.name name then None else Some (place_seen names site.place)
 
 -- the name with which the variable is declared whose storage unit is there; COMMON has no activation as its owner
-abbrev pub declared_with : List (List ℕ) → ℕ → ℕ → List ℕ
-declared_with names zero name = []
-declared_with names (suc a) name = name_seen (slice_get names name)
+abbrev pub declared_with : List (List ℕ) → ℕ → ℕ → Option (List ℕ)
+declared_with names zero name = None
+declared_with names (suc a) name = Some (name_seen (slice_get names name))
 
-abbrev pub declared_by : List (List ℕ) → Option Site → List ℕ
-declared_by names None = []
+abbrev pub declared_by : List (List ℕ) → Option Site → Option (List ℕ)
+declared_by names None = None
 declared_by names (Some site) = declared_with names site.place.owner site.place.name
 
 -- a process after turns, with this level on top of others

@@ -1,9 +1,9 @@
 -- Processes that wait, by their numbers: docs/RUNS.md, "What each step did".
 use Rattle.std.specs.Prelude.{ℕ, List, length}
 use Rattle.std.specs.List.{filter}
-use Rattle.hep_core.specs.Value.{CoreValue}
+use Rattle.hep_tracing.specs.CoreValue.{CoreValue}
 use Rattle.hep_machine.specs.Words.{is_number_among, progress_after}
-use Rattle.hep_traces.specs.Traces.{numbers_from}
+use Rattle.hep_tracing.specs.TracesTraces.{numbers_from}
 
 -- of so many processes, of which the first one has this number, those that are listed
 abbrev pub listed_from : CoreValue → ℕ → ℕ → List ℕ

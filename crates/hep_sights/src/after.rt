@@ -1,19 +1,17 @@
 //! What is seen of a turn after it.
 ghost use Rattle.std.specs.Prelude.{◌≡◌, ◌++◌, ◌∷◌, [], IfOk, List, OnOk, Some, false, length, true};
-ghost use Rattle.hep_core.specs.Value.{state_of};
+ghost use Rattle.hep_tracing.specs.CoreValue.{state_of};
 ghost use Rattle.hep_machine.specs.Words.{Top, Wanted, is_number_among, living, progress_after, wanted_by};
 ghost use Rattle.hep_machine.specs.declared.event.Fault.{Fault as SourceFault};
 ghost use Rattle.hep_machine.specs.declared.record.Item.{Item as SourceItem};
 ghost use Rattle.hep_output.specs.Records.{items_text};
 ghost use Rattle.hep_states.specs.States.{place_text};
-ghost use Rattle.hep_traces.specs.Deeds.{fault_added, line_by};
-ghost use Rattle.hep_traces.specs.Lines as lines;
+ghost use Rattle.hep_tracing.specs.TracesDeeds.{fault_added, line_by};
+ghost use Rattle.hep_tracing.specs.TracesLines as lines;
 
-use hep_contents::place_listed;
-use hep_core::{Core, Kind};
+use hep_contents::{listed, place_listed};
 use hep_output::record_text;
-use hep_traces::append_waits;
-use hep_views::finding::listed;
+use hep_tracing::{Core, Kind, append_waits};
 use std::alloc::{AllocError, Global};
 
 /// The fault that was added since there were so many, if there is one more.

@@ -1,7 +1,7 @@
 //! Activations whose frames a turn gives back.
 ghost use Rattle.std.specs.Prelude.{◌≡◌, ◌≤◌, ◌++◌, ℕ, nat_le, IfOk, List, OnOk, Some, length, not, reverse, slice_get, take};
 ghost use Rattle.std.specs.List.{filter};
-ghost use Rattle.hep_core.specs.Value.{CoreValue, state_of};
+ghost use Rattle.hep_tracing.specs.CoreValue.{CoreValue, state_of};
 ghost use Rattle.hep_layout.specs.Words.{FrameNode};
 ghost use Rattle.hep_machine.specs.Words.{Level, Process as SourceProcess, Units, is_held, living, run};
 ghost use Rattle.hep_proc.specs.Nodes.{nodes_of};
@@ -10,15 +10,14 @@ ghost use Rattle.hep_sights.specs.Ancestry as words;
 ghost use Rattle.hep_sights.specs.Ancestry.{IsAncestryOf, activation_on};
 ghost use Rattle.hep_sights.specs.Freed.{AreHeldUpwards, IsFreeing};
 ghost use Rattle.hep_sights.specs.References.{IsAhead, top_after};
-ghost use Rattle.hep_traces.specs.Lines as lines;
-ghost use Rattle.hep_traces.specs.Traces.{freed};
+ghost use Rattle.hep_tracing.specs.TracesLines as lines;
+ghost use Rattle.hep_tracing.specs.TracesTraces.{freed};
 
 use crate::held::is_held;
 use crate::reference::Ahead;
 use crate::tops::top_level;
-use hep_core::Core;
 use hep_state::Machine;
-use hep_traces::append_freed;
+use hep_tracing::{Core, append_freed};
 use std::alloc::{AllocError, Global};
 
 // The activation whose node is under a key, its parent, the parent's parent and so on.

@@ -2,7 +2,7 @@
 ghost use Rattle.std.specs.Prelude.{◌≡◌, ℕ, [], None, Some};
 ghost use Rattle.hep_machine.specs.Words.{Level, Name, State, Top, Units, does, ending_loop, living, location_of_name, next_of, scope_of, step_result_of, stepped, unit_on_top};
 ghost use Rattle.hep_sites.specs.Sites.{stored_at};
-ghost use Rattle.hep_traces.specs.Deeds.{fault_added, value_in};
+ghost use Rattle.hep_tracing.specs.TracesDeeds.{fault_added, value_in};
 
 /// Where an iteration of a DO ends and that is no fault, the process goes on in the same activation, whose variables are where they were.
 pub fn iterations_end_in_place()

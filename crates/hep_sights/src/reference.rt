@@ -7,13 +7,11 @@ ghost use Rattle.hep_sights.specs.References.{IsAhead, IsReferenceAhead, shown_b
 
 use crate::tops::top_level;
 use hep_code::Variable;
-use hep_coming::Coming;
-use hep_contents::place_text;
+use hep_contents::{Place, place_text};
 use hep_image::Image;
 use hep_sites::laws::operations_name_variables;
-use hep_sites::{Site, Variables, named, site_of};
+use hep_sites::{Coming, Site, Variables, named, site_of};
 use hep_state::Machine;
-use hep_views::Place;
 use std::alloc::{AllocError, Global};
 
 /// A process that lives, of a machine, with what comes next of it, and the variables of the program that it runs.

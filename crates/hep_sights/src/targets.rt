@@ -3,8 +3,8 @@ ghost use Rattle.std.specs.Prelude.{◌≡◌, ◌++◌, ℕ, IfOk, List, OnOk, 
 ghost use Rattle.hep_machine.specs.Words.{Level, Name as SourceName, Process as SourceProcess, Reference as SourceReference, does, next_of, purging, spelling, unit_on_top};
 ghost use Rattle.hep_sights.specs.References.{IsAhead, IsEntryOf, top_after};
 ghost use Rattle.hep_sites.specs.Sites.{IsVariableOf};
-ghost use Rattle.hep_traces.specs.Deeds.{own_reference};
-ghost use Rattle.hep_traces.specs.Lines as lines;
+ghost use Rattle.hep_tracing.specs.TracesDeeds.{own_reference};
+ghost use Rattle.hep_tracing.specs.TracesLines as lines;
 
 use crate::reference::{Ahead, number_of};
 use crate::touching::name_with;
@@ -12,7 +12,7 @@ use hep_accepted_laws::code::variables_of_the_code_are_placed;
 use hep_code::{Argument, Instruction, Variable};
 use hep_source::Value;
 use hep_state::laws::tops_are_running;
-use hep_traces::append_reference;
+use hep_tracing::append_reference;
 use std::alloc::AllocError;
 
 // The first so many values.

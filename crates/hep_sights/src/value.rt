@@ -4,12 +4,11 @@ ghost use Rattle.hep_machine.specs.Words.{Level, Process as SourceProcess, Redex
 ghost use Rattle.hep_step.specs.Replies.{reply_meant};
 ghost use Rattle.hep_sights.specs.References.{IsAhead};
 ghost use Rattle.hep_sights.specs.Values.{value_replied};
-ghost use Rattle.hep_traces.specs.Deeds.{value_given};
+ghost use Rattle.hep_tracing.specs.TracesDeeds.{value_given};
 
 use crate::reference::Ahead;
 use hep_cells::AccessOutcome;
-use hep_coming::laws::replies_are_answers;
-use hep_coming::reply_ahead;
+use hep_sites::{replies_are_answers, reply_ahead};
 use hep_source::Value;
 use hep_step::Reply;
 

@@ -1,14 +1,13 @@
 //! Processes that wait before a turn, and those of them that don't after it.
 ghost use Rattle.std.specs.Prelude.{◌≡◌, ◌++◌, ◌∷◌, ◌&&◌, [], IfOk, OnOk, nat_eq, not};
 ghost use Rattle.std.specs.List.{filter};
-ghost use Rattle.hep_core.specs.Value.{CoreValue};
+ghost use Rattle.hep_tracing.specs.CoreValue.{CoreValue};
 ghost use Rattle.hep_machine.specs.Words.{is_number_among, progress_after};
 ghost use Rattle.hep_sights.specs.Woken.{listed_numbers};
-ghost use Rattle.hep_traces.specs.Lines as lines;
-ghost use Rattle.hep_traces.specs.Traces.{woken};
+ghost use Rattle.hep_tracing.specs.TracesLines as lines;
+ghost use Rattle.hep_tracing.specs.TracesTraces.{woken};
 
-use hep_core::Core;
-use hep_traces::append_woken;
+use hep_tracing::{Core, append_woken};
 use std::alloc::{AllocError, Global};
 
 // Process p was found waiting and waits since.

@@ -2,8 +2,8 @@
 use Rattle.std.proofs.Common.{◌≡◌, ◌≢◌, ℕ, ◌-◌, List, ◌++◌, drop, length, Option, Some, refl, sym, ap, ◌∙◌}
 use Rattle.std.proofs.Math.Seq.{drop-append_seam}
 use Rattle.std.proofs.lemmas.Option.{none-some, same_Some}
-use Rattle.hep_accepted_laws.specs.Instructions.{variables_in_operation}
-use Rattle.hep_accepted_laws.specs.Placed.{ArePlaced}
+use Rattle.hep_views.specs.AcceptedLawsInstructions.{variables_in_operation}
+use Rattle.hep_views.specs.AcceptedLawsPlaced.{ArePlaced}
 use Rattle.hep_code.specs.declared.instruction.Evaluation.TheVariants.{Load, Test}
 use Rattle.hep_code.specs.declared.instruction.Instruction.{Instruction}
 use Rattle.hep_code.specs.declared.instruction.Operation.{Operation}

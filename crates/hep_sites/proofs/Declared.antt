@@ -2,7 +2,7 @@
 use Rattle.std.proofs.Common.{◌≡◌, ◌≢◌, ℕ, zero, suc, Bool, true, false, List, [], ◌∷◌, Option, Some, None, refl, subst, if◌then◌else◌}
 use Rattle.std.specs.Option.{option_map}
 use Rattle.std.proofs.lemmas.Option.{none-some}
-use Rattle.hep_accepted_laws.proofs.Members.{Has, among_has, flat_has, has_among, has_behind, has_flat, has_more, map_at, name_of_unit}
+use Rattle.hep_views.proofs.AcceptedLawsMembers.{Has, among_has, flat_has, has_among, has_behind, has_flat, has_more, map_at, name_of_unit}
 use Rattle.hep_code.specs.declared.variable.Variable.TheVariants.{Absent}
 use Rattle.hep_image.specs.declared.array.Start.{Start}
 use Rattle.hep_image.specs.Places.{start_by, start_of, variable_by, variable_of}

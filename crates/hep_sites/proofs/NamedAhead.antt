@@ -13,8 +13,8 @@ use Rattle.hep_code.specs.Words.{ending_of, is_asynchronous}
 use Rattle.hep_image.specs.Places.{variable_of}
 use Rattle.hep_step.specs.Simulation.{RunningTop, addressed_on_top, unit_addressed, unit_running, variable_in}
 use Rattle.hep_step.proofs.Running.{Comes, coming}
-use Rattle.hep_state.specs.declared.machine.Machine.{Machine}
-use Rattle.hep_state.specs.Words.{HasLevels, IsMachineAfter, IsTopRunning, snapshot_of}
+use Rattle.hep_views.specs.StateMachineMachine.{Machine}
+use Rattle.hep_views.specs.StateWords.{HasLevels, IsMachineAfter, IsTopRunning, snapshot_of}
 use Rattle.hep_coming.specs.declared.coming.Coming.{Coming}
 use Rattle.hep_coming.specs.Access.{IsAccessed}
 use Rattle.hep_coming.specs.Coming.{IsComing}

@@ -12,7 +12,7 @@ use Rattle.hep_image.specs.Names.{first_variable, variable_index, variable_numbe
 use Rattle.hep_image.specs.Places.{variable_of}
 use Rattle.hep_image.proofs.Numbers.{unit-there, variable-at}
 use Rattle.hep_coming.proofs.OneName.{one-name}
-use Rattle.hep_accepted_laws.proofs.Members.{map_at}
+use Rattle.hep_views.proofs.AcceptedLawsMembers.{map_at}
 use Rattle.hep_sites.proofs.Declared.{placed-named}
 use Rattle.hep_sites.specs.Variables.{IsFirstAmong, variables_of_names, variables_of_units}
 

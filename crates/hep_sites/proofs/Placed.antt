@@ -22,9 +22,9 @@ use Rattle.hep_step.specs.declared.frame.Frame as declared
 use Rattle.hep_step.specs.Ready.{frame_in_arena}
 use Rattle.hep_step.specs.Simulation.{RunningTop, arrays_running, unit_arrays, unit_running}
 use Rattle.hep_step.proofs.Running.{found_running, scope_running}
-use Rattle.hep_state.specs.declared.machine.Machine.{Machine}
-use Rattle.hep_state.specs.Words.{HasLevels, IsMachineAfter, IsTopRunning, IsTurning, TurnOf, frame_under, node_under, running_top, snapshot_of, turn_with}
-use Rattle.hep_state.proofs.Moved.{top-activation, unit-is}
+use Rattle.hep_views.specs.StateMachineMachine.{Machine}
+use Rattle.hep_views.specs.StateWords.{HasLevels, IsMachineAfter, IsTopRunning, IsTurning, TurnOf, frame_under, node_under, running_top, snapshot_of, turn_with}
+use Rattle.hep_views.proofs.StateMoved.{top-activation, unit-is}
 use Rattle.hep_views.specs.declared.place.Place.{Place}
 use Rattle.hep_views.specs.Sought.{IsPlaceSought, IsSought}
 use Rattle.hep_views.proofs.Above.{named-above}

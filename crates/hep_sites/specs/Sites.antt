@@ -7,8 +7,8 @@ use Rattle.hep_image.specs.Places.{variable_of}
 use Rattle.hep_layout.specs.Words.{address}
 use Rattle.hep_machine.specs.declared.event.Kind.{Kind}
 use Rattle.hep_machine.specs.Words.{Level, Location, Name, Process, State, Statement, Store, Units, Value, living, run}
-use Rattle.hep_state.specs.declared.machine.Machine.{Machine}
-use Rattle.hep_state.specs.Words.{IsMachineAfter}
+use Rattle.hep_views.specs.StateMachineMachine.{Machine}
+use Rattle.hep_views.specs.StateWords.{IsMachineAfter}
 use Rattle.hep_views.specs.Listed.{place_of}
 use Rattle.hep_sites.specs.declared.sites.Site.{Site}
 

@@ -8,13 +8,12 @@ ghost use Rattle.hep_coming.specs.Access.{IsAccessed};
 ghost use Rattle.hep_coming.specs.Coming.{IsComingOf};
 ghost use Rattle.hep_image.specs.Places.{variable_of};
 ghost use Rattle.hep_machine.specs.Words.{Level, Process, Reference, Units, living, main_among, next_of, run, unit_at, unit_of};
-ghost use Rattle.hep_state.specs.declared.machine.Machine.{Machine as AMachine};
-ghost use Rattle.hep_state.specs.Words.{IsMachineAfter};
+ghost use Rattle.hep_views.specs.StateMachineMachine.{Machine as AMachine};
+ghost use Rattle.hep_views.specs.StateWords.{IsMachineAfter};
 ghost use Rattle.hep_sites.specs.Named.{IsNamed, named_by};
 ghost use Rattle.hep_sites.specs.Sites.{LivesAfter};
 
-use hep_accepted_laws::code::variables_of_the_code_are_placed;
-use hep_state::laws::tops_are_running;
+use hep_views::{tops_are_running, variables_of_the_code_are_placed};
 
 /// Where an access to a variable or an element comes next of a process, whether the processes were stopped or not, its operation names that
 /// variable, with the same subscripts, which has storage units.

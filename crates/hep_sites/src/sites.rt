@@ -9,11 +9,9 @@ ghost use Rattle.hep_sites.specs.Sites.{HasValue, IsSite, IsSomeSite, IsVariable
 use hep_code::{Evaluation, Operation, Variable};
 use hep_image::Image;
 use hep_source::Value;
-use hep_state::laws::tops_are_running;
-use hep_state::{Machine, place};
 use hep_step::address;
-use hep_views::Place;
 use hep_views::finding::place_at;
+use hep_views::{Machine, Place, state_place as place, tops_are_running};
 
 /// Where a storage unit is: its cell of the arena, and whose it is.
 #[derive(Clone, Copy, PartialEq, Eq)]

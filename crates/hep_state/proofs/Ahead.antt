@@ -7,7 +7,7 @@ use Rattle.hep_code.specs.declared.instruction.Instruction.TheVariants.{Step}
 use Rattle.hep_code.specs.declared.instruction.Operation.{Operation}
 use Rattle.hep_code.specs.declared.instruction.Operation.TheVariants.{Call, Create, Refer, Purge, Resume, Return, Answer}
 use Rattle.hep_code.specs.Words.{IsPastPushes}
-use Rattle.hep_step.specs.Simulation.{IsNotLeftOut, is_left_out, unit_code}
+use Rattle.hep_tops.specs.StepSimulation.{IsNotLeftOut, is_left_out, unit_code}
 use Rattle.hep_state.specs.declared.machine.Machine.{Machine}
 use Rattle.hep_state.specs.declared.upcoming.StepAhead.{StepAhead}
 use Rattle.hep_state.specs.declared.upcoming.StepAhead.TheVariants as ahead

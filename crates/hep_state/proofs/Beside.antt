@@ -3,8 +3,8 @@ use Rattle.std.proofs.Common.{◌≡◌, ◌≢◌, ℕ, zero, suc, ◌-◌, ◌
 use Rattle.std.proofs.lemmas.Option.{none-some, slice_get_within}
 use Rattle.hep_machine.specs.Words.{Units, numbered, with_numbered}
 use Rattle.hep_machine.proofs.Others.{front_numbered, other_numbered}
-use Rattle.hep_proc.specs.declared.process.Process.{Process}
-use Rattle.hep_proc.specs.Stacks.{Stack, stack_of, stack_with}
+use Rattle.hep_tops.specs.ProcProcessProcess.{Process}
+use Rattle.hep_tops.specs.ProcStacks.{Stack, stack_of, stack_with}
 use Rattle.hep_state.specs.declared.machine.Machine.{Machine}
 use Rattle.hep_state.specs.declared.turn.Turned.{Turned}
 use Rattle.hep_state.specs.declared.turn.Turned.TheVariants.{Stepped, Purged, Waits}

@@ -8,13 +8,13 @@ use Rattle.std.specs.List.{flat_map}
 use Rattle.std.proofs.Math.Seq.{take-append_seam}
 use Rattle.hep_code.specs.Words.{deepest, most_operands, operands_of_actual, operands_of_entries, Passed, passed_from}
 use Rattle.hep_code.proofs.Depths.{stands_within}
-use Rattle.hep_image.specs.declared.array.Array.{Array}
-use Rattle.hep_image.specs.Places.{variable_of}
-use Rattle.hep_step.specs.Agreement.{CallerOf, IsCaller, AreGiven, AreGivenAs, ArePlaced, IsGiven, arrays_calling, caller_running, given_passed, passed_by_entries, scope_calling, variables_calling}
-use Rattle.hep_step.specs.declared.way.Way.{Way}
-use Rattle.hep_step.specs.Calls.{GoesOn, IsCallAhead, comes_by, is_creation, last_operands, making, unit_by}
-use Rattle.hep_step.specs.Simulation.{IsRunning, code_on_top, unit_addressed, unit_arrays, unit_code, Simulates, RunningTop, code_ahead}
-use Rattle.hep_accepted_laws.specs.Works.{ComesFrom}
+use Rattle.hep_tops.specs.ImageArrayArray.{Array}
+use Rattle.hep_tops.specs.ImagePlaces.{variable_of}
+use Rattle.hep_tops.specs.StepAgreement.{CallerOf, IsCaller, AreGiven, AreGivenAs, ArePlaced, IsGiven, arrays_calling, caller_running, given_passed, passed_by_entries, scope_calling, variables_calling}
+use Rattle.hep_tops.specs.StepWayWay.{Way}
+use Rattle.hep_tops.specs.StepCalls.{GoesOn, IsCallAhead, comes_by, is_creation, last_operands, making, unit_by}
+use Rattle.hep_tops.specs.StepSimulation.{IsRunning, code_on_top, unit_addressed, unit_arrays, unit_code, Simulates, RunningTop, code_ahead}
+use Rattle.hep_binding.specs.AcceptedLawsWorks.{ComesFrom}
 use Rattle.hep_state.specs.declared.upcoming.CallAhead.{CallAhead}
 use Rattle.hep_state.specs.Words.{AreNumbered, HasResultBy, HoldsInTurn, IsAfterCall, IsAtCall, IsAtStep, IsMadeOf, IsTopRunning, IsTurning, TurnOf, given_of, AreRunning, IsKnown, snapshot_of, state_before, top_before, top_frame, turn_of, IsMaking, call_in, IsEnding, IsBehind, IsPlaceOf, IsThere, running_top}
 use Rattle.hep_state.proofs.Standing.{are-on}
@@ -24,28 +24,28 @@ use Rattle.hep_machine.specs.declared.event.Kind.{Kind}
 use Rattle.hep_arena.specs.Gaps.{frame_among}
 use Rattle.hep_code.specs.declared.instruction.Instruction.{Instruction}
 use Rattle.hep_code.specs.declared.variable.Variable.TheVariants.{Absent}
-use Rattle.hep_layout.specs.Words.{IsMemory, RunsFrom}
-use Rattle.hep_image.specs.Finding.{cells_in}
-use Rattle.hep_step.specs.declared.given.Given.{Given}
-use Rattle.hep_step.specs.declared.given.Given.TheVariants as giving
-use Rattle.hep_step.specs.Passing.{given_by}
-use Rattle.hep_step.specs.Shapes.{AreShapesOf}
-use Rattle.hep_step.specs.Effects.{fails}
-use Rattle.hep_step.proofs.Actions.{passed_last}
-use Rattle.hep_accepted_laws.specs.Actuals.{FitsDummy, IsVariableOf}
+use Rattle.hep_tops.specs.LayoutWords.{IsMemory, RunsFrom}
+use Rattle.hep_tops.specs.ImageFinding.{cells_in}
+use Rattle.hep_tops.specs.StepGivenGiven.{Given}
+use Rattle.hep_tops.specs.StepGivenGiven.TheVariants as giving
+use Rattle.hep_tops.specs.StepPassing.{given_by}
+use Rattle.hep_tops.specs.StepShapes.{AreShapesOf}
+use Rattle.hep_tops.specs.StepEffects.{fails}
+use Rattle.hep_tops.proofs.StepActions.{passed_last}
+use Rattle.hep_binding.specs.AcceptedLawsActuals.{FitsDummy, IsVariableOf}
 use Rattle.hep_binding.specs.Calling.{AreActualsPassed, CallOf, IsPassed, IsPassing, caller, state_before_call, state_made_by}
 use Rattle.hep_binding.specs.Giving.{AreDistinct}
 use Rattle.hep_state.proofs.Tops.{there-too, dropped-first}
 use Rattle.std.proofs.lemmas.Option.{slice_get_within}
 use Rattle.hep_code.proofs.Ahead.{drop_one_more}
-use Rattle.hep_proc.specs.Nodes.{nodes_of}
-use Rattle.hep_step.specs.declared.frame.Frame.{Frame as CellFrame}
-use Rattle.hep_step.specs.Ready.{frame_in_arena}
-use Rattle.hep_proc.specs.declared.process.Local.{Local}
+use Rattle.hep_tops.specs.ProcNodes.{nodes_of}
+use Rattle.hep_tops.specs.StepFrameFrame.{Frame as CellFrame}
+use Rattle.hep_tops.specs.StepReady.{frame_in_arena}
+use Rattle.hep_tops.specs.ProcProcessLocal.{Local}
 use Rattle.hep_state.specs.declared.machine.Machine.{Machine}
-use Rattle.hep_proc.specs.declared.process.Process.{Process}
-use Rattle.hep_proc.specs.Stacks.{stack_of, stack_with}
-use Rattle.hep_proc.proofs.Levels.{operands-are}
+use Rattle.hep_tops.specs.ProcProcessProcess.{Process}
+use Rattle.hep_tops.specs.ProcStacks.{stack_of, stack_with}
+use Rattle.hep_tops.proofs.ProcLevels.{operands-are}
 use Rattle.hep_state.proofs.Unchanged.{carry}
 use Rattle.hep_state.proofs.Processes.{process-at}
 use Rattle.hep_state.proofs.Taken.{inside}

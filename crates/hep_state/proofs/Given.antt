@@ -2,7 +2,7 @@
 use Rattle.std.proofs.Common.{◌≡◌, ℕ, ◌+◌, ◌<◌, ◌^◌, false, List, IsSome, arith, sym, ap, ◌∙◌, subst}
 use Rattle.hep_machine.specs.Words.{Units, frame_cells, unit_at}
 use Rattle.hep_arena.specs.Holes.{first_fit}
-use Rattle.hep_step.specs.Calls.{is_creation}
+use Rattle.hep_tops.specs.StepCalls.{is_creation}
 use Rattle.hep_state.specs.declared.machine.Machine.{Machine}
 use Rattle.hep_state.specs.declared.upcoming.CallAhead.{CallAhead}
 use Rattle.hep_state.specs.Words.{CanBeginCall, HasCallAhead, HoldsInTurn, IsAfter, IsAtCallAhead, IsGivenBy, IsMachineAfter, IsMaking, KeepsRoomOf, Snapshot, StaysShown, StepsOn, snapshot_of}

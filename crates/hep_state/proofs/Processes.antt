@@ -8,11 +8,11 @@ use Rattle.hep_machine.specs.Words.{Value, Units, is_number_among, numbered, wit
 use Rattle.hep_binding.proofs.Calls.{set-numbered}
 use Rattle.hep_blocked.specs.Numbers.{AreRising}
 use Rattle.hep_code.specs.Words.{deepest}
-use Rattle.hep_step.specs.Simulation.{unit_code}
-use Rattle.hep_proc.specs.declared.process.Local.{Local}
-use Rattle.hep_proc.specs.declared.process.Process.{Process}
-use Rattle.hep_proc.specs.Stacks.{Stack, no_stack, stack_of, stack_with}
-use Rattle.hep_proc.proofs.Levels.{has-levels, last-index, last-there, levels-are, some-levels}
+use Rattle.hep_tops.specs.StepSimulation.{unit_code}
+use Rattle.hep_tops.specs.ProcProcessLocal.{Local}
+use Rattle.hep_tops.specs.ProcProcessProcess.{Process}
+use Rattle.hep_tops.specs.ProcStacks.{Stack, no_stack, stack_of, stack_with}
+use Rattle.hep_tops.proofs.ProcLevels.{has-levels, last-index, last-there, levels-are, some-levels}
 use Rattle.hep_state.specs.declared.machine.Machine.{Machine}
 use Rattle.hep_state.specs.Words.{AreNumbered, HasLevels, HasRoom, IsPlaceOf, numbers_of, snapshot_of, stacks_of}
 use Rattle.hep_state.proofs.Numbered.{number-within, numbered-past, numbered-stack, numbered-there, numbers-set, one-place, set-stacks, stack-absent, stack-found}

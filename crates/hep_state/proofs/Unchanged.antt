@@ -11,9 +11,9 @@ use Rattle.hep_binding.proofs.Calls.{set-numbered}
 use Rattle.hep_blocked.specs.Numbers.{AreRising}
 pub use Rattle.hep_tops.proofs.Carried.{carry}
 use Rattle.hep_state.specs.declared.machine.Machine.{Machine}
-use Rattle.hep_proc.specs.declared.process.Local.{Local}
-use Rattle.hep_proc.specs.declared.process.Process.{Process}
-use Rattle.hep_proc.specs.Stacks.{Stack, is_left, stack_with}
+use Rattle.hep_tops.specs.ProcProcessLocal.{Local}
+use Rattle.hep_tops.specs.ProcProcessProcess.{Process}
+use Rattle.hep_tops.specs.ProcStacks.{Stack, is_left, stack_with}
 use Rattle.hep_state.specs.declared.turn.Turned.TheVariants.{Stepped}
 use Rattle.hep_state.specs.declared.turn.TurnFault.{TurnFault}
 use Rattle.hep_state.specs.declared.turn.TurnFault.TheVariants.{NoMemory}

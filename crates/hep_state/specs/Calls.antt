@@ -3,17 +3,17 @@ use Rattle.std.specs.Prelude.{◌≡◌, ℕ, ◌+◌, ◌<◌, ◌≤◌, Bool,
 use Rattle.hep_machine.specs.Words.{Name, Units, function_name, unit_at, Binding, Actual, common_cells, frame_of, lowest_gap, with_numbered, State, step, Bounds, frame_cells}
 use Rattle.hep_arena.specs.Space.{Space}
 use Rattle.hep_code.specs.Words.{entry_index}
-use Rattle.hep_image.specs.Bound.{AreKept}
-use Rattle.hep_layout.specs.Words.{Nodes, new_node, with_node}
-use Rattle.hep_step.specs.declared.given.Given.{Given}
-use Rattle.hep_step.specs.Shapes.{AreShapesOf}
-use Rattle.hep_step.specs.declared.way.Way.{Way}
-use Rattle.hep_step.specs.declared.way.Way.TheVariants.{Calls, Creates, Refers}
-use Rattle.hep_step.specs.Calls.{GoesOn, is_creation}
-use Rattle.hep_step.specs.Simulation.{unit_addressed}
+use Rattle.hep_tops.specs.ImageBound.{AreKept}
+use Rattle.hep_tops.specs.LayoutWords.{Nodes, new_node, with_node}
+use Rattle.hep_tops.specs.StepGivenGiven.{Given}
+use Rattle.hep_tops.specs.StepShapes.{AreShapesOf}
+use Rattle.hep_tops.specs.StepWayWay.{Way}
+use Rattle.hep_tops.specs.StepWayWay.TheVariants.{Calls, Creates, Refers}
+use Rattle.hep_tops.specs.StepCalls.{GoesOn, is_creation}
+use Rattle.hep_tops.specs.StepSimulation.{unit_addressed}
 use Rattle.hep_state.specs.declared.calling.Called.{Called}
-use Rattle.hep_proc.specs.declared.process.Local.{Local}
-use Rattle.hep_proc.specs.Stacks.{Stack}
+use Rattle.hep_tops.specs.ProcProcessLocal.{Local}
+use Rattle.hep_tops.specs.ProcStacks.{Stack}
 use Rattle.hep_state.specs.declared.machine.Machine.{Machine}
 use Rattle.hep_state.specs.Snapshots.{Snapshot, snapshot_of}
 use Rattle.hep_state.specs.Tops.{HoldsInTurn, IsTurning, TurnOf, frames_before, state_before}

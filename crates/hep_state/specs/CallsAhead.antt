@@ -7,13 +7,13 @@ use Rattle.hep_code.specs.declared.instruction.Instruction.TheVariants.{Step}
 use Rattle.hep_code.specs.declared.instruction.Operation.{Operation}
 use Rattle.hep_code.specs.declared.instruction.Operation.TheVariants.{Call, Create, Refer, Purge, Resume, Return, Answer}
 use Rattle.hep_code.specs.Words.{IsPastPushes, passed_from}
-use Rattle.hep_image.specs.Finding.{cells_in}
-use Rattle.hep_step.specs.declared.given.Given.{Given}
-use Rattle.hep_step.specs.Passing.{given_by}
+use Rattle.hep_tops.specs.ImageFinding.{cells_in}
+use Rattle.hep_tops.specs.StepGivenGiven.{Given}
+use Rattle.hep_tops.specs.StepPassing.{given_by}
 use Rattle.hep_purging.specs.declared.range.ClosedRange.{ClosedRange}
 use Rattle.hep_purging.specs.Ranges.{ranges_of}
-use Rattle.hep_step.specs.Calls.{IsBehindEntries, last_operands, making}
-use Rattle.hep_step.specs.Simulation.{IsNotLeftOut, unit_arrays, unit_code}
+use Rattle.hep_tops.specs.StepCalls.{IsBehindEntries, last_operands, making}
+use Rattle.hep_tops.specs.StepSimulation.{IsNotLeftOut, unit_arrays, unit_code}
 use Rattle.hep_state.specs.declared.machine.Machine.{Machine}
 use Rattle.hep_state.specs.declared.upcoming.StepAhead.{StepAhead}
 use Rattle.hep_state.specs.declared.upcoming.StepAhead.TheVariants as ahead

@@ -3,10 +3,10 @@ use Rattle.std.specs.Prelude.{◌≡◌, ◌<◌, ◌≤◌, ◌+◌, ◌^◌, �
 use Rattle.hep_machine.specs.Words.{Units, frame_cells, unit_at}
 use Rattle.hep_arena.specs.Holes.{first_fit}
 use Rattle.hep_code.specs.Words.{IsPastPushes}
-use Rattle.hep_step.specs.Calls.{is_creation}
-use Rattle.hep_step.specs.Effects.{Effect}
-use Rattle.hep_step.specs.Simulation.{unit_code}
-use Rattle.hep_proc.specs.declared.process.Local.{Local}
+use Rattle.hep_tops.specs.StepCalls.{is_creation}
+use Rattle.hep_tops.specs.StepEffects.{Effect}
+use Rattle.hep_tops.specs.StepSimulation.{unit_code}
+use Rattle.hep_tops.specs.ProcProcessLocal.{Local}
 use Rattle.hep_state.specs.declared.machine.Machine.{Machine}
 use Rattle.hep_state.specs.declared.turn.Turned.TheVariants.{Stepped}
 use Rattle.hep_state.specs.declared.upcoming.AnswerAhead.{AnswerAhead}

@@ -3,14 +3,14 @@ use Rattle.std.specs.Prelude.{◌≡◌, ◌≤◌, ℕ, false, List, [], ◌∷
 use Rattle.std.specs.Option.{option_map}
 use Rattle.hep_machine.specs.Words.{Units, main_unit, unset_cell, Layout, opening_layout, cell_given, run, State}
 use Rattle.hep_arena.specs.Space.{Space}
-use Rattle.hep_layout.specs.Words.{FrameNode, Nodes}
+use Rattle.hep_tops.specs.LayoutWords.{FrameNode, Nodes}
 use Rattle.hep_code.specs.Words.{deepest}
-use Rattle.hep_image.specs.declared.data.DataRow.{DataRow}
-use Rattle.hep_image.specs.Data.{value_in_rows}
-use Rattle.hep_image.specs.Image.{most_cells}
-use Rattle.hep_step.specs.Simulation.{unit_code}
-use Rattle.hep_proc.specs.declared.process.Process.{Process}
-use Rattle.hep_proc.specs.Keeping.{Keeps, frames_in}
+use Rattle.hep_tops.specs.ImageDataDataRow.{DataRow}
+use Rattle.hep_tops.specs.ImageData.{value_in_rows}
+use Rattle.hep_tops.specs.ImageImage.{most_cells}
+use Rattle.hep_tops.specs.StepSimulation.{unit_code}
+use Rattle.hep_tops.specs.ProcProcessProcess.{Process}
+use Rattle.hep_tops.specs.ProcKeeping.{Keeps, frames_in}
 use Rattle.hep_state.specs.declared.machine.Machine.{Machine}
 use Rattle.hep_state.specs.Snapshots.{Snapshot}
 

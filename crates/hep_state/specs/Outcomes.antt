@@ -2,13 +2,13 @@
 use Rattle.std.specs.Prelude.{◌≡◌, ◌≢◌, ℕ, true, false, not, List, [], ◌∷◌, ◌++◌, Option, Some, None}
 use Rattle.hep_machine.specs.Words.{Units, Layout, is_held, layout_of, run, Location, step}
 use Rattle.hep_cells.specs.declared.want.Want.{Want}
-use Rattle.hep_layout.specs.Words.{address}
+use Rattle.hep_tops.specs.LayoutWords.{address}
 use Rattle.hep_blocked.specs.Listing.{HasChanged}
 use Rattle.hep_purging.specs.declared.range.ClosedRange.{ClosedRange}
 use Rattle.hep_purging.specs.Purged.{have_cell}
 use Rattle.hep_purging.specs.Ready.{AreReached}
-use Rattle.hep_step.specs.declared.effect.Effect.{Effect}
-use Rattle.hep_step.specs.declared.effect.Effect.TheVariants as effect
+use Rattle.hep_tops.specs.StepEffectEffect.{Effect}
+use Rattle.hep_tops.specs.StepEffectEffect.TheVariants as effect
 use Rattle.hep_state.specs.declared.machine.Machine.{Machine}
 use Rattle.hep_state.specs.declared.turn.Turned.{Turned}
 use Rattle.hep_state.specs.declared.turn.Turned.TheVariants.{Stepped, Purged, Waits}

@@ -6,29 +6,29 @@ use Rattle.hep_machine.specs.Words.{Layout, State, Units}
 use Rattle.hep_machine.specs.declared.event.Kind.{Kind}
 use Rattle.hep_arena.specs.Holes.{first_fit}
 use Rattle.hep_code.specs.Words.{deepest}
-use Rattle.hep_proc.specs.declared.frames.Frames.{Frames}
-use Rattle.hep_proc.specs.Keeping.{CanLeave, HasLeft, IsEnded, Keeps, LeadUpwards, all_but, frames_in}
-use Rattle.hep_proc.specs.Nodes.{nodes_of}
-use Rattle.hep_image.specs.Image.{most_cells}
-use Rattle.hep_layout.specs.Words.{is_stacked}
+use Rattle.hep_tops.specs.ProcFramesFrames.{Frames}
+use Rattle.hep_tops.specs.ProcKeeping.{CanLeave, HasLeft, IsEnded, Keeps, LeadUpwards, all_but, frames_in}
+use Rattle.hep_tops.specs.ProcNodes.{nodes_of}
+use Rattle.hep_tops.specs.ImageImage.{most_cells}
+use Rattle.hep_tops.specs.LayoutWords.{is_stacked}
 use Rattle.hep_machine.specs.Words.{living, run}
 use Rattle.std.specs.Option.{is_some}
 use Rattle.hep_purging.specs.declared.range.ClosedRange.{ClosedRange}
 use Rattle.hep_purging.specs.Purged.{purged}
 use Rattle.hep_purging.specs.Ready.{AreReached}
 use Rattle.hep_cells.specs.declared.want.Want.{Want}
-use Rattle.hep_step.specs.declared.effect.Effect.{Effect as Performed}
-use Rattle.hep_step.specs.declared.way.Way.{Way}
-use Rattle.hep_step.specs.declared.way.Way.TheVariants.{Creates}
-use Rattle.hep_step.specs.Calls.{is_creation}
-use Rattle.hep_step.specs.Effects.{Effect, fails}
-use Rattle.hep_step.specs.Simulation.{unit_code}
+use Rattle.hep_tops.specs.StepEffectEffect.{Effect as Performed}
+use Rattle.hep_tops.specs.StepWayWay.{Way}
+use Rattle.hep_tops.specs.StepWayWay.TheVariants.{Creates}
+use Rattle.hep_tops.specs.StepCalls.{is_creation}
+use Rattle.hep_tops.specs.StepEffects.{Effect, fails}
+use Rattle.hep_tops.specs.StepSimulation.{unit_code}
 use Rattle.hep_state.specs.declared.calling.Called.{Called}
-use Rattle.hep_proc.specs.declared.process.Local.{Local}
+use Rattle.hep_tops.specs.ProcProcessLocal.{Local}
 use Rattle.hep_state.specs.declared.machine.Machine.{Machine}
 use Rattle.hep_state.specs.declared.machine.Passing.{Passing}
-use Rattle.hep_proc.specs.declared.process.Process.{Process}
-use Rattle.hep_proc.specs.Stacks.{keys_of}
+use Rattle.hep_tops.specs.ProcProcessProcess.{Process}
+use Rattle.hep_tops.specs.ProcStacks.{keys_of}
 use Rattle.hep_state.specs.declared.turn.Turned.TheVariants.{Purged}
 use Rattle.hep_state.specs.declared.upcoming.CallAhead.{CallAhead}
 use Rattle.hep_state.specs.declared.upcoming.PurgeAhead.{PurgeAhead}

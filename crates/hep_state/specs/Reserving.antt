@@ -5,7 +5,7 @@ use Rattle.hep_machine.specs.Words.{Units}
 use Rattle.hep_blocked.specs.Rolls.{KeepsRoll, Roll}
 use Rattle.hep_entries.specs.Entries.{Kept}
 use Rattle.hep_state.specs.declared.machine.Machine.{Machine}
-use Rattle.hep_proc.specs.declared.process.Process.{Process}
+use Rattle.hep_tops.specs.ProcProcessProcess.{Process}
 use Rattle.hep_state.specs.Rooms.{HaveRoom, HoldsOfProcess}
 use Rattle.hep_state.specs.Snapshots.{AreNumbered, snapshot_of}
 

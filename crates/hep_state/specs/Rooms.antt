@@ -4,15 +4,15 @@ use Rattle.hep_machine.specs.Words.{Units, dummies_of, unit_at}
 use Rattle.hep_code.specs.declared.instruction.Instruction.TheVariants.{Step}
 use Rattle.hep_code.specs.declared.instruction.Operation.TheVariants.{Purge}
 use Rattle.hep_code.specs.Words.{deepest}
-use Rattle.hep_image.specs.Dummies.{dummy_arguments}
-use Rattle.hep_image.specs.Image.{most_cells}
+use Rattle.hep_tops.specs.ImageDummies.{dummy_arguments}
+use Rattle.hep_tops.specs.ImageImage.{most_cells}
 use Rattle.hep_binding.specs.Fitting.{longest_code}
 use Rattle.hep_purging.specs.Room.{most_of, most_targets}
-use Rattle.hep_step.specs.Simulation.{unit_code}
-use Rattle.hep_proc.specs.declared.process.Local.{Local}
+use Rattle.hep_tops.specs.StepSimulation.{unit_code}
+use Rattle.hep_tops.specs.ProcProcessLocal.{Local}
 use Rattle.hep_state.specs.declared.machine.Machine.{Machine}
 use Rattle.hep_state.specs.declared.machine.Passing.{Passing}
-use Rattle.hep_proc.specs.declared.process.Process.{Process}
+use Rattle.hep_tops.specs.ProcProcessProcess.{Process}
 use Rattle.hep_state.specs.Snapshots.{AreNumbered, snapshot_of}
 use Rattle.hep_state.specs.Turns.{IsAfter}
 

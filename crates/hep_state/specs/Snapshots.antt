@@ -4,9 +4,9 @@ use Rattle.hep_machine.specs.declared.event.Fault.{Fault}
 use Rattle.hep_machine.specs.declared.record.Item.{Item}
 use Rattle.hep_arena.specs.Space.{Space}
 use Rattle.hep_blocked.specs.Numbers.{AreRising}
-use Rattle.hep_layout.specs.Words.{Nodes}
-use Rattle.hep_proc.specs.Nodes.{nodes_of}
-use Rattle.hep_proc.specs.Stacks.{Stack}
+use Rattle.hep_tops.specs.LayoutWords.{Nodes}
+use Rattle.hep_tops.specs.ProcNodes.{nodes_of}
+use Rattle.hep_tops.specs.ProcStacks.{Stack}
 use Rattle.hep_state.specs.Numbered.{numbers_of, stacks_of}
 use Rattle.hep_state.specs.declared.machine.Machine.{Machine}
 

@@ -1,9 +1,9 @@
 //! The END of a function: the value of the variable of its name is that of its reference (X3.9-1978, 15.5.3).
 ghost use Rattle.std.specs.Prelude.{◌≡◌, ◌<◌, [], IfErr, IfOk, vec_capacity, vec_len};
-ghost use Rattle.hep_image.specs.Finding.{address_of, cells_in};
-ghost use Rattle.hep_step.specs.Cells.{HasFrame};
-ghost use Rattle.hep_step.specs.Effects.{answers, fails, value_found};
-ghost use Rattle.hep_step.specs.Ready.{IsVariableReady};
+ghost use Rattle.hep_tops.specs.ImageFinding.{address_of, cells_in};
+ghost use Rattle.hep_tops.specs.StepCells.{HasFrame};
+ghost use Rattle.hep_tops.specs.StepEffects.{answers, fails, value_found};
+ghost use Rattle.hep_tops.specs.StepReady.{IsVariableReady};
 ghost use Rattle.hep_state.specs.Words.{CanAnswer, IsToEndBy, LeavesOthers, StepsBy, snapshot_of};
 
 use crate::laws;
@@ -11,11 +11,9 @@ use crate::machine::Machine;
 use crate::upcoming::AnswerAhead;
 use hep_arena::Arena;
 use hep_code::Variable;
-use hep_image::{Array, Image};
 use hep_machine::Kind;
 use hep_source::Value;
-use hep_step::{Frame, address};
-use hep_tops::place;
+use hep_tops::{Array, Frame, Image, address, place};
 
 // The value of a variable in a frame, in a unit with these arrays.
 #[inline(always)]

@@ -5,7 +5,7 @@ ghost use Rattle.hep_state.specs.Words.{StepsByCreation, snapshot_of};
 
 use crate::machine::{Machine, append};
 use hep_binding::{begin, shape_all};
-use hep_proc::{Entrant, Local, Process};
+use hep_tops::{Entrant, Local, Process};
 
 /// A unit that is called, created or referred to: its index in the program, how many cells its frame has, and where its first executable
 /// statement is in its code.
@@ -28,7 +28,7 @@ impl Machine {
         ensures level { result ≡ record { key = result.key; unit = called.unit; kept = 0; index = called.entry } }
         ensures others { self.new ≡ record self.old { frames = self.new.frames; activations = self.old.activations + 1 } }
     {
-        hep_proc::laws::children_are_activations();
+        hep_tops::children_are_activations();
         hep_binding::laws::dummies_are_bound();
         hep_binding::laws::other_cells_are_unset();
         hep_binding::laws::references_are_kept();

@@ -8,10 +8,9 @@ use crate::advancing::behind;
 use crate::laws;
 use crate::machine::Machine;
 use crate::upcoming::PurgeAhead;
-use hep_image::Image;
 use hep_machine::Kind;
 use hep_purging::find_ranges;
-use hep_step::AllPassed;
+use hep_tops::{AllPassed, Image};
 
 impl Machine {
     // The cells that the targets of the PURGE ahead of process p name, into `passing`.

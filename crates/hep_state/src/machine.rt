@@ -2,11 +2,9 @@
 ghost use Rattle.std.specs.Prelude.{◌≡◌, ◌<◌, ◌++◌, ◌∷◌, [], vec_len, vec_capacity};
 
 use hep_machine::{Fault, Record};
-use hep_proc::{Frames, Process};
 use hep_purging::ClosedRange;
-use hep_shape::Shape;
 use hep_source::Value;
-use hep_step::Given;
+use hep_tops::{Frames, Given, Process, Shape};
 
 // Appends an element, for which there is room.
 pub(crate) fn append<T: Drop>(items: &mut Vec<T>, added: T)

@@ -1,14 +1,13 @@
 //! Turns that begin or end an activation of a process, which lives on, and do nothing else: CALL, references, RETURN and END.
 ghost use Rattle.std.specs.Prelude.{◌≡◌, OnErr, OnOk};
-ghost use Rattle.hep_step.specs.Calls.{is_creation};
+ghost use Rattle.hep_tops.specs.StepCalls.{is_creation};
 ghost use Rattle.hep_state.specs.Words.{CanAnswer, CanBeginCall, CanLiveOn, CanMakeCall, CanReturn, HasLivedOn, ShowsSame, StepsOn};
 
 use crate::calling::Called;
 use crate::laws;
 use crate::machine::Machine;
 use crate::upcoming::{AnswerAhead, CallAhead, StepAhead};
-use hep_image::Image;
-use hep_step::Way;
+use hep_tops::{Image, Way};
 use std::alloc::AllocError;
 
 // The activation that is made is a process of its own.

@@ -5,24 +5,23 @@ ghost use Rattle.std.specs.Option.{is_some};
 ghost use Rattle.slab.specs.Slab.{HasRoomFor};
 ghost use Rattle.hep_machine.specs.Words.{dummies_of, main_unit, unit_at, common_cells, opening_layout};
 ghost use Rattle.hep_arena.specs.Holes.{IsOut};
-ghost use Rattle.hep_image.specs.Dummies.{dummy_arguments};
-ghost use Rattle.hep_image.specs.Image.{IsUnitCode};
-ghost use Rattle.hep_proc.specs.Keeping.{IsUnused};
-ghost use Rattle.hep_proc.specs.Nodes.{nodes_of};
+ghost use Rattle.hep_tops.specs.ImageDummies.{dummy_arguments};
+ghost use Rattle.hep_tops.specs.ImageImage.{IsUnitCode};
+ghost use Rattle.hep_tops.specs.ProcKeeping.{IsUnused};
+ghost use Rattle.hep_tops.specs.ProcNodes.{nodes_of};
 ghost use Rattle.hep_purging.specs.Room as room;
 ghost use Rattle.hep_purging.specs.Room.{most_of};
 ghost use Rattle.hep_binding.specs.Fitting as shaping;
-ghost use Rattle.hep_step.specs.Simulation.{unit_code};
+ghost use Rattle.hep_tops.specs.StepSimulation.{unit_code};
 ghost use Rattle.hep_state.specs.Words.{AreOut, CanOpen, HasOneProcess, IsEntered, IsGiven, IsMachineAfter, IsQuiet, IsRoomToPass};
 
 use crate::laws;
 use crate::machine::{Machine, Passing};
 use hep_binding::longest_code;
-use hep_image::{DataRow, Image, UnitCode};
 use hep_machine::Slot;
-use hep_proc::{Frames, Local, Process};
 use hep_purging::most_targets;
 use hep_source::{Form, Statement, Unit, Value};
+use hep_tops::{DataRow, Frames, Image, Local, Process, UnitCode};
 use std::alloc::{AllocError, Global};
 
 // What a core runs of the main program.
@@ -36,7 +35,7 @@ fn main_program(image: &Image) -> &UnitCode
 pub fn fits(image: &Image, cells: u32) -> bool
     ensures { result ≡ is_some (opening_layout image.now cells) }
 {
-    hep_image::laws::openings_fit_by_numbers();
+    hep_tops::openings_fit_by_numbers();
     image.common() + main_program(image).cells <= cells
 }
 
@@ -47,9 +46,9 @@ fn enter_main(frames: &mut Frames, image: &Image) -> usize
     requires fits { IsSome (opening_layout image.now (length frames.old.arena.contents)) }
     ensures { IsEntered image.now (length frames.old.arena.contents) result frames.new.arena (nodes_of frames.new.nodes) }
 {
-    hep_image::laws::openings_fit_by_numbers();
-    hep_proc::laws::openings_want_unset_cells();
-    hep_accepted_laws::runs::programs_are_closed();
+    hep_tops::openings_fit_by_numbers();
+    hep_tops::openings_want_unset_cells();
+    hep_binding::programs_are_closed();
     laws::openings_are_shown();
     frames.open(image.main(), main_program(image).cells)
 }
@@ -192,7 +191,7 @@ impl Machine {
         ensures quiet { IfOk result (λ machine. IsQuiet machine) }
         ensures room { IfOk result (λ machine. IsRoomToPass image.now machine.passing) }
     {
-        hep_image::laws::openings_fit_by_numbers();
+        hep_tops::openings_fit_by_numbers();
         laws::openings_are_shown();
         let main = main_program(image);
         let mut frames = Frames::new(alloc, cells, image.common())?;

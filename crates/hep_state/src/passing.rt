@@ -7,10 +7,9 @@ use crate::laws;
 use crate::machine::{Machine, Passing};
 use crate::upcoming::CallAhead;
 use hep_binding::find_shapes;
-use hep_image::Image;
 use hep_machine::Kind;
 use hep_source::Value;
-use hep_step::{AllPassed, give_actuals, in_front};
+use hep_tops::{AllPassed, Image, give_actuals, in_front};
 
 // The operands behind the first ones, so many.
 #[inline(always)]

@@ -2,12 +2,12 @@
 ghost use Rattle.std.specs.Prelude.{◌≡◌, ◌⊎◌, ◌+◌, ◌++◌, ◌<◌, ◌∷◌, [], ℕ, false, true, IfNone, IfSome, OnOk, vec_capacity, vec_len};
 ghost use Rattle.std.specs.List.{filter};
 ghost use Rattle.hep_machine.specs.Words.{is_number_among};
-ghost use Rattle.hep_proc.specs.Stacks.{is_left};
+ghost use Rattle.hep_tops.specs.ProcStacks.{is_left};
 ghost use Rattle.hep_blocked.specs.Numbers.{AreRising};
 ghost use Rattle.hep_state.specs.Words.{AreNumbered, HasLevels, IsPlaceOf, IsWhetherLives, numbers_of, snapshot_of};
 
 use crate::machine::{Machine, append};
-use hep_proc::Process;
+use hep_tops::Process;
 use std::alloc::AllocError;
 
 // At which place a process with a number stands among others.

@@ -8,9 +8,8 @@ use crate::laws;
 use crate::machine::{Machine, append};
 use hep_blocked::Roster;
 use hep_entries::History;
-use hep_image::Image;
 use hep_leaving::{Leaving, leave};
-use hep_proc::{Local, Process};
+use hep_tops::{Image, Local, Process};
 use std::alloc::AllocError;
 
 impl Machine {

@@ -1,6 +1,6 @@
 //! One turn of a process.
 ghost use Rattle.std.specs.Prelude.{◌≡◌, ◌<◌, ◌≤◌, ◌+◌, IfOk, IfErr, OnErr, OnOk, vec_len, vec_capacity};
-ghost use Rattle.hep_step.specs.Performed.{changed_in};
+ghost use Rattle.hep_tops.specs.StepPerformed.{changed_in};
 ghost use Rattle.hep_blocked.specs.Rolls.{KeepsRoll};
 ghost use Rattle.hep_state.specs.Words.{AreNumbered, CanBeMore, CanTakeCall, CanTakeOperation, CanTurn, ChangesNext, HasLevels};
 ghost use Rattle.hep_state.specs.Words.{HasRoomForCreation, HasRoomForEntry, HasRoomForLevel, HasRoomForProcess, IsAtOperation, IsEmptyProcess};
@@ -16,10 +16,7 @@ use crate::upcoming::{CallAhead, StepAhead};
 use hep_blocked::Roster;
 use hep_cells::Want;
 use hep_entries::History;
-use hep_image::Image;
-use hep_proc::Process;
-use hep_step::Effect;
-use hep_tops::advance;
+use hep_tops::{Effect, Image, Process, advance};
 use std::alloc::{AllocError, Global};
 use thiserror::Error;
 
@@ -149,7 +146,7 @@ impl Machine {
         laws::tops_are_running();
         let at = self.place(p);
         let process = &mut self.processes[at];
-        advance(process, &mut self.frames, alloc, image)
+        advance(alloc, process, &mut self.frames, image)
     }
 
     // A turn of process p, ahead of which neither CALL, CREATE nor a reference stands, and neither PURGE nor RESUME.

@@ -9,9 +9,7 @@ ghost use Rattle.hep_state.specs.Words.{snapshot_of};
 use crate::advancing::settle_top;
 use crate::machine::Machine;
 use hep_code::{Instruction, Operation, Variable};
-use hep_image::Image;
-use hep_proc::Local;
-use hep_step::Way;
+use hep_tops::{Image, Local, Way};
 
 /// A CALL, CREATE or reference that stands ahead of a process.
 #[derive(Clone, Copy)]

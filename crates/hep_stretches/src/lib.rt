@@ -13,7 +13,8 @@ mod window;
 
 pub use hep_segments::laws::segments_depend_on_reads;
 pub use hep_segments::{
-    Copied, Place, Segment, Ticket, TicketId, compute, is_kept, is_made, is_next_private,
+    Copied, MOST_RECORDS, Place, Segment, Ticket, TicketId, compute, is_kept, is_made,
+    is_next_private,
 };
 pub use in_place::{InFrame, make_in_place};
 pub use making::{Ahead, make_behind, make_stretch, segment_of};

@@ -11,12 +11,12 @@ use Rattle.hep_layout.specs.Words.{FrameNode}
 use Rattle.hep_machine.specs.Words.{Activation, Layout, State, Statement, Units, constant_value, dummies_of, is_held, locals_of, main_among, no_activation, run, scope_of, unit_at, unit_name, unit_of, value_among}
 use Rattle.hep_proc.specs.Nodes.{nodes_of}
 use Rattle.hep_proc.specs.declared.frames.Frames.{Frames}
-use Rattle.hep_state.specs.declared.machine.Machine.{Machine}
-use Rattle.hep_state.specs.Words.{IsMachineAfter, snapshot_of}
+use Rattle.hep_core.specs.StateMachineMachine.{Machine}
+use Rattle.hep_core.specs.StateWords.{IsMachineAfter, snapshot_of}
 use Rattle.hep_states.specs.Lines as lines
 use Rattle.hep_states.specs.States as words
-use Rattle.hep_views.specs.Reading.{HasDummies}
-use Rattle.hep_views.proofs.Nodes.{unheld}
+use Rattle.hep_core.specs.ViewsReading.{HasDummies}
+use Rattle.hep_core.proofs.ViewsNodes.{unheld}
 use Rattle.hep_contents.specs.Activations.{IsFrameAt}
 use Rattle.hep_survey.specs.Frames.{IsFrameUnder, IsTextOfHeld, IsUnderEach}
 use Rattle.hep_contents.specs.Keys.{AreHeldKeys}

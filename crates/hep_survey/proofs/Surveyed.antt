@@ -6,9 +6,9 @@ use Rattle.hep_blocked.specs.Listing.{IsBlocked}
 use Rattle.hep_cells.specs.declared.want.Want.{Want}
 use Rattle.hep_machine.specs.declared.event.Entry.{Entry}
 use Rattle.hep_machine.specs.Words.{Process, State, Units, is_number_among, living, numbered, run, schedule_of, state_after, top_of, wanted_by}
-use Rattle.hep_state.specs.declared.machine.Machine.{Machine}
-use Rattle.hep_state.specs.Words.{HasLevels, IsMachineAfter, snapshot_of}
-use Rattle.hep_views.proofs.Waiting.{living-top}
+use Rattle.hep_core.specs.StateMachineMachine.{Machine}
+use Rattle.hep_core.specs.StateWords.{HasLevels, IsMachineAfter, snapshot_of}
+use Rattle.hep_core.proofs.ViewsWaiting.{living-top}
 use Rattle.hep_contents.specs.Waits.{IsTextOfWait}
 use Rattle.hep_states.specs.States as words
 

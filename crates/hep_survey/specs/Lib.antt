@@ -1,2 +1,3 @@
+pub use Rattle.hep_core.specs.Value as CoreValue
 pub use Rattle.hep_contents.specs.Shown
 pub mod Frames

@@ -2,14 +2,14 @@
 ghost use Rattle.std.specs.Prelude.{◌≡◌, ◌++◌, ℕ, List, OnOk};
 ghost use Rattle.hep_contents.specs.Storage.{IsStorageOf};
 ghost use Rattle.hep_machine.specs.Words.{Layout, State, run};
-ghost use Rattle.hep_state.specs.Words.{IsMachineAfter};
+ghost use Rattle.hep_core.specs.StateWords.{IsMachineAfter};
 ghost use Rattle.hep_states.specs.States as words;
 ghost use Rattle.hep_survey.specs.Frames.{IsFrameUnder, IsTextOfHeld, IsUnderEach, IsUnderSomewhere};
 
 use hep_blocks::Names;
 use hep_contents::laws::dummies_are_those_of_units;
 use hep_contents::{Storage, Unit, append_locals, append_values, held_keys, unit_name};
-use hep_state::Machine;
+use hep_core::Machine;
 use hep_states::append_activation;
 use hep_values::given::constants;
 use std::alloc::{AllocError, Global};

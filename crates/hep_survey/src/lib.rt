@@ -5,4 +5,5 @@ mod frames;
 pub mod survey;
 
 pub use hep_contents::Listing;
+pub use hep_core::Core;
 pub use survey::state_text;

@@ -2,20 +2,20 @@
 use Rattle.std.proofs.Common.{◌≡◌, ℕ, suc, ◌≤◌, List, length, is_some, false, refl, sym, ap, ◌∙◌, arith}
 use Rattle.hep_machine.specs.Words.{Units, numbered, unit_at}
 use Rattle.hep_code.specs.Words.{deepest}
-use Rattle.hep_image.specs.Image.{most_cells}
-use Rattle.hep_image.specs.Private.{private_cells}
-use Rattle.hep_step.specs.Simulation.{unit_code}
-use Rattle.hep_private.specs.Own.{begun, values_at}
-use Rattle.hep_private.specs.Recorded.{next_made}
+use Rattle.hep_private_laws.specs.ImageImage.{most_cells}
+use Rattle.hep_private_laws.specs.ImagePrivate.{private_cells}
+use Rattle.hep_private_laws.specs.StepSimulation.{unit_code}
+use Rattle.hep_private_laws.specs.PrivateOwn.{begun, values_at}
+use Rattle.hep_private_laws.specs.PrivateRecorded.{next_made}
 use Rattle.hep_private_laws.proofs.Calls.{set-numbered}
 use Rattle.hep_private_laws.specs.Gone.{contents_with}
 use Rattle.hep_proc.specs.declared.process.Local.{Local}
 use Rattle.hep_proc.specs.Stacks.{stack_with}
 use Rattle.hep_stretches.specs.Segments.{IsMadeFrom, SegmentValue, is_next_private}
-use Rattle.hep_state.specs.declared.machine.Machine.{Machine}
-use Rattle.hep_state.specs.Words.{HasLevels, IsAfter, IsItsTurn, IsSameButTop, Snapshot, frame_under}
-use Rattle.hep_state.proofs.Taken.{room-ahead}
-use Rattle.hep_state.proofs.Unchanged.{levels-same}
+use Rattle.hep_private_laws.specs.StateMachineMachine.{Machine}
+use Rattle.hep_private_laws.specs.StateWords.{HasLevels, IsAfter, IsItsTurn, IsSameButTop, Snapshot, frame_under}
+use Rattle.hep_private_laws.proofs.StateTaken.{room-ahead}
+use Rattle.hep_private_laws.proofs.StateUnchanged.{levels-same}
 use Rattle.hep_taking.specs.Levels.{first_of, snapshot_taken, start_in}
 use Rattle.hep_taking.specs.OwnCells.{own_cells_of}
 use Rattle.hep_taking.specs.Saved.{saved_of, snapshot_restored}

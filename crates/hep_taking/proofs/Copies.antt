@@ -2,9 +2,9 @@
 use Rattle.std.proofs.Common.{◌≡◌, ℕ, Bool, true, false, ◌||◌, nat_eq, if◌then◌else◌, List, [], ◌∷◌, length, refl, sym, ap, ◌∙◌, subst, arith}
 use Rattle.std.proofs.lemmas.Bool.Decides.{nat_tests}
 use Rattle.hep_machine.specs.Words.{Units, is_number_among, unit_at}
-use Rattle.hep_image.specs.Private.{private_cells}
-use Rattle.hep_step.specs.Simulation.{unit_code}
-use Rattle.hep_private.specs.Own.{Values}
+use Rattle.hep_private_laws.specs.ImagePrivate.{private_cells}
+use Rattle.hep_private_laws.specs.StepSimulation.{unit_code}
+use Rattle.hep_private_laws.specs.PrivateOwn.{Values}
 use Rattle.hep_stretches.specs.TicketId.{TicketId}
 use Rattle.hep_stretches.specs.Segments.{IsComputed, IsMadeFrom, SegmentValue, Start, value_copied}
 use Rattle.hep_taking.specs.Levels.{copies_of, ticket_of}

@@ -9,12 +9,12 @@ use native.Mathlib.Bridge.{le_prop}
 use Rattle.hep_machine.specs.Words.{Units, unit_at}
 use Rattle.hep_machine.specs.declared.slot.Slot.{Slot}
 use Rattle.hep_code.specs.declared.instruction.Instruction.{Instruction}
-use Rattle.hep_image.specs.Private.{private_cells}
-use Rattle.hep_step.specs.Performed.{Snapshot}
-use Rattle.hep_step.specs.Simulation.{unit_code}
-use Rattle.hep_private.specs.declared.record.Record.{Record}
-use Rattle.hep_private.specs.Own.{begun, contents_after, values_at}
-use Rattle.hep_private.specs.Recorded.{recorded}
+use Rattle.hep_private_laws.specs.ImagePrivate.{private_cells}
+use Rattle.hep_private_laws.specs.StepPerformed.{Snapshot}
+use Rattle.hep_private_laws.specs.StepSimulation.{unit_code}
+use Rattle.hep_private_laws.specs.PrivateRecordRecord.{Record}
+use Rattle.hep_private_laws.specs.PrivateOwn.{begun, contents_after, values_at}
+use Rattle.hep_private_laws.specs.PrivateRecorded.{recorded}
 use Rattle.hep_private_laws.specs.Gone.{contents_with}
 use Rattle.hep_private_laws.specs.Going.{MakesMoves}
 use Rattle.hep_proc.specs.Stacks.{IsSameProcess, stack_with}
@@ -23,10 +23,10 @@ use Rattle.hep_proc.specs.declared.process.Process.{Process}
 use Rattle.hep_stretches.specs.InPlace.{IsMadeInPlace, stored_with}
 use Rattle.hep_stretches.specs.Segments.{IsMadeFrom, SegmentValue, Start}
 use Rattle.hep_stretches.specs.TicketId.{TicketId}
-use Rattle.hep_state.specs.declared.machine.Machine.{Machine}
-use Rattle.hep_state.specs.Words.{HasLevels, IsAfter, IsItsTurn, IsPlaceOf, snapshot_of}
-use Rattle.hep_state.proofs.Processes.{IsAt, process-at, room-moved}
-use Rattle.hep_state.proofs.Unchanged.{machine-of, rooms-of, rooms-set}
+use Rattle.hep_private_laws.specs.StateMachineMachine.{Machine}
+use Rattle.hep_private_laws.specs.StateWords.{HasLevels, IsAfter, IsItsTurn, IsPlaceOf, snapshot_of}
+use Rattle.hep_private_laws.proofs.StateProcesses.{IsAt, process-at, room-moved}
+use Rattle.hep_private_laws.proofs.StateUnchanged.{machine-of, rooms-of, rooms-set}
 use Rattle.hep_taking.specs.Levels.{start_in}
 use Rattle.hep_taking.specs.Taking.{CanTake, HasMadePrivate, HasTakenIn}
 use Rattle.hep_taking.specs.Tops.{MakesPrivate, segment_from}

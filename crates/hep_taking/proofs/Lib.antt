@@ -1,3 +1,4 @@
+pub use Rattle.hep_proc.proofs.Levels as ProcLevels
 pub use Rattle.hep_private_laws.proofs.Calls
 pub use Rattle.hep_private_laws.proofs.Runs
 pub mod Putting

@@ -5,13 +5,13 @@ use Rattle.hep_code.specs.declared.instruction.Instruction.{Instruction}
 use Rattle.hep_code.specs.declared.instruction.Instruction.TheVariants.{Step}
 use Rattle.hep_code.specs.declared.instruction.Operation.{Operation}
 use Rattle.hep_code.specs.declared.instruction.Operation.TheVariants.{EndLoop}
-use Rattle.hep_image.specs.Finding.{integer_by}
-use Rattle.hep_image.specs.Private.{private_cells}
-use Rattle.hep_step.specs.Simulation.{unit_code}
-use Rattle.hep_private.specs.declared.record.Record.{Record}
-use Rattle.hep_private.specs.Own.{Own, Values, begun}
-use Rattle.hep_private.specs.Reads.{HaveRead}
-use Rattle.hep_private.specs.Recorded.{recorded}
+use Rattle.hep_private_laws.specs.ImageFinding.{integer_by}
+use Rattle.hep_private_laws.specs.ImagePrivate.{private_cells}
+use Rattle.hep_private_laws.specs.StepSimulation.{unit_code}
+use Rattle.hep_private_laws.specs.PrivateRecordRecord.{Record}
+use Rattle.hep_private_laws.specs.PrivateOwn.{Own, Values, begun}
+use Rattle.hep_private_laws.specs.PrivateReads.{HaveRead}
+use Rattle.hep_private_laws.specs.PrivateRecorded.{recorded}
 use Rattle.hep_private_laws.specs.Saved.{AreOf, HasLoopAhead, HasLoopIn}
 use Rattle.hep_private_laws.proofs.Ends.{HasEndAhead, HasEndIn}
 use Rattle.hep_private_laws.proofs.WhatIsRead.{still-read}

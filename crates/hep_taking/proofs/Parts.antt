@@ -11,14 +11,14 @@ use Rattle.hep_code.specs.declared.instruction.Operation.{Operation}
 use Rattle.hep_code.specs.declared.instruction.Operation.TheVariants.{Jump, Choose, BySign, Condition, Branch, EnterLoop, EndLoop}
 use Rattle.hep_code.specs.declared.variable.Variable.TheVariants.{Local}
 use Rattle.hep_code.specs.Words.{IsPastPushes, first_operand, left_to_do, most_operands}
-use Rattle.hep_image.specs.Private.{private_cells}
-use Rattle.hep_step.specs.Simulation.{unit_code}
-use Rattle.hep_private.specs.declared.record.Record.{Record}
-use Rattle.hep_private.specs.declared.record.Record.TheVariants.{Stores}
-use Rattle.hep_private.specs.Own.{Own, begun, settled, stores_of, with_stores, written_after}
-use Rattle.hep_private.specs.Recorded.{Made, has_room, if_room, made_ahead, made_by, made_of_choice, made_of_end, made_of_entry, made_of_value, next_made, note_of, own_after, recorded}
-use Rattle.hep_private.proofs.Along.{before-others, first-of, made-ahead, made-next}
-use Rattle.hep_private.proofs.Cases.{HoldOf, so-by}
+use Rattle.hep_private_laws.specs.ImagePrivate.{private_cells}
+use Rattle.hep_private_laws.specs.StepSimulation.{unit_code}
+use Rattle.hep_private_laws.specs.PrivateRecordRecord.{Record}
+use Rattle.hep_private_laws.specs.PrivateRecordRecord.TheVariants.{Stores}
+use Rattle.hep_private_laws.specs.PrivateOwn.{Own, begun, settled, stores_of, with_stores, written_after}
+use Rattle.hep_private_laws.specs.PrivateRecorded.{Made, has_room, if_room, made_ahead, made_by, made_of_choice, made_of_end, made_of_entry, made_of_value, next_made, note_of, own_after, recorded}
+use Rattle.hep_private_laws.proofs.PrivateAlong.{before-others, first-of, made-ahead, made-next}
+use Rattle.hep_private_laws.proofs.PrivateCases.{HoldOf, so-by}
 use Rattle.hep_private_laws.proofs.Runs.{left-same, past-here}
 use Rattle.hep_stretches.specs.Segments.{Start}
 use Rattle.hep_stretches.proofs.Onward.{index-there, operands-there}
@@ -120,7 +120,7 @@ module _ (cells : List ℕ) (code : List Instruction) where
       )
 
   -- so they are private whatever was stored before them
-  pub anew : (n : ℕ) (own : Own) (written : List ℕ) (records : List Record) (end : Own) → recorded cells code n own ≡ Some (records, end)
+  anew : (n : ℕ) (own : Own) (written : List ℕ) (records : List Record) (end : Own) → recorded cells code n own ≡ Some (records, end)
       → (r : List Record × Own) × (recorded cells code n (record own { written = written }) ≡ Some r)
   anew zero own written records end is = (([], record own { written = written }), refl)
   anew (suc n) own written records end is =
@@ -145,7 +145,7 @@ module _ (cells : List ℕ) (code : List Instruction) where
   inside-ahead own m (x ∷ xs) (suc i) made = let rest = inside-ahead own m xs i made in omega (arith, rest)
 
   -- there is an operation ahead
-  pub ahead-of : (n : ℕ) (own : Own) (records : List Record) (end : Own) → recorded cells code (suc n) own ≡ Some (records, end) → (settled code own).index < length code
+  ahead-of : (n : ℕ) (own : Own) (records : List Record) (end : Own) → recorded cells code (suc n) own ≡ Some (records, end) → (settled code own).index < length code
   ahead-of n own records end is =
       let first = first-of cells code n own records end is in
       let put = settled code own in
@@ -160,7 +160,7 @@ module _ (cells : List ℕ) (code : List Instruction) where
       let operands = operands-there code put.operands put.operands put.index put.index refl past in
       λ i. record { index = index i; operands = operands i; values = own.values; written = own.written }
 
-  pub settled-first : (n : ℕ) (own : Own) → (settled code own).index < length code → recorded cells code (suc n) (settled code own) ≡ recorded cells code (suc n) own
+  settled-first : (n : ℕ) (own : Own) → (settled code own).index < length code → recorded cells code (suc n) (settled code own) ≡ recorded cells code (suc n) own
   settled-first n own inside =
       ap (λ (put : Own).
       option_and_then {U = List Record × Own} (λ (m : Made). option_map {U = List Record × Own} (λ (r : List Record × Own). (m.noted ∷ r.0, r.1)) (recorded cells code n (own_after cells code own m))) (
@@ -168,24 +168,36 @@ module _ (cells : List ℕ) (code : List Instruction) where
 
 -- ---- starts
 
--- where private steps led, with the constants ahead as operands
-abbrev pub start_behind : Units → Start → Own → Start
-start_behind program start mid =
-    let next = settled (unit_code program start.unit) mid in
-    record { unit = start.unit; index = next.index; operands = next.operands; values = mid.values }
+-- where private steps led
+abbrev pub start_behind : Start → Own → Start
+start_behind start mid = record { unit = start.unit; index = mid.index; operands = mid.operands; values = mid.values }
 
--- the first n private steps lead to a place; and so many come next there, once the constants ahead are operands
+-- with the constants ahead as operands
+abbrev pub start_ahead : Units → Start → Start
+start_ahead program start =
+    start_behind start (settled (unit_code program start.unit) (begun start.index start.operands start.values))
+
+-- the private steps that come next at a start
+abbrev pub recorded_at : Units → Start → ℕ → Option (List Record × Own)
+recorded_at program start n =
+    recorded (private_cells (unit_at program start.unit)) (unit_code program start.unit) n (begun start.index start.operands start.values)
+
+-- the first n private steps lead to a place, from which so many come next
 pub record IsParted (program : Units) (start : Start) (n m : ℕ) : Type 0 where
   pub records : List Record
   pub mid : Own
-  pub made : recorded (private_cells (unit_at program start.unit)) (unit_code program start.unit) n (begun start.index start.operands start.values) ≡ Some (records, mid)
+  pub made : recorded_at program start n ≡ Some (records, mid)
   pub many : length records ≡ n
+  pub rest : are_private program (start_behind start mid) m ≡ true
+
+-- once the constants ahead are operands, an operation is ahead, and the same is left to do, by the same private steps
+pub record IsAhead (program : Units) (start : Start) : Type 0 where
   pub left :
-      left_to_do (start_behind program start mid).operands (start_behind program start mid).index (unit_code program start.unit)
-      ≡ left_to_do mid.operands mid.index (unit_code program start.unit)
-  pub past : IsPastPushes (unit_code program start.unit) (start_behind program start mid).index
-  pub inside : (start_behind program start mid).index < length (unit_code program start.unit)
-  pub rest : are_private program (start_behind program start mid) m ≡ true
+      left_to_do (start_ahead program start).operands (start_ahead program start).index (unit_code program start.unit)
+      ≡ left_to_do start.operands start.index (unit_code program start.unit)
+  pub past : IsPastPushes (unit_code program start.unit) (start_ahead program start).index
+  pub inside : (start_ahead program start).index < length (unit_code program start.unit)
+  pub same : (n : ℕ) → recorded_at program (start_ahead program start) (suc n) ≡ recorded_at program start (suc n)
 
 is-given : {A : Type 0} (o : Option A) (x : A) → o ≡ Some x → is_some o ≡ true
 is-given o x is = ap (λ o. is_some o) is
@@ -212,22 +224,28 @@ module _ (program : Units) (start : Start) where
       let parts = parted cells code a (b - a) own all.0.0 all.0.1 all.1 in
       is-given (recorded cells code a own) (parts.front, parts.mid) parts.made
 
-  -- those behind the first n begin a start of their own
-  pub next-start : (n m : ℕ) → are_private program start (n + suc m) ≡ true → IsParted program start n (suc m)
+  -- those after the first n begin a start of their own
+  pub next-start : (n m : ℕ) → are_private program start (n + m) ≡ true → IsParted program start n m
   next-start n m private =
-      let all = given (recorded cells code (n + suc m) own) private in
-      let parts = parted cells code n (suc m) own all.0.0 all.0.1 all.1 in
+      let all = given (recorded cells code (n + m) own) private in
+      let parts = parted cells code n m own all.0.0 all.0.1 all.1 in
       let mid = parts.mid in
-      let there : Own = begun mid.index mid.operands mid.values in
-      let fresh = anew cells code (suc m) mid [] parts.rest all.0.1 parts.later in
-      let inside = ahead-of cells code m mid parts.rest all.0.1 parts.later in
+      let fresh = anew cells code m mid [] parts.rest all.0.1 parts.later in
       record {
         records = parts.front;
         mid = mid;
         made = parts.made;
         many = parts.many;
-        left = left-same code mid.operands mid.index;
-        past = past-here code mid.operands mid.index;
+        rest = is-given (recorded cells code m (begun mid.index mid.operands mid.values)) fresh.0 fresh.1;
+      }
+
+  pub ahead-at : (n : ℕ) → are_private program start (suc n) ≡ true → IsAhead program start
+  ahead-at n private =
+      let all = given (recorded cells code (suc n) own) private in
+      let inside = ahead-of cells code n own all.0.0 all.0.1 all.1 in
+      record {
+        left = left-same code start.operands start.index;
+        past = past-here code start.operands start.index;
         inside = inside;
-        rest = is-given (recorded cells code (suc m) (settled code there)) fresh.0 (settled-first cells code m there inside ∙ fresh.1);
+        same = λ k. settled-first cells code k own inside;
       }

@@ -2,16 +2,16 @@
 use Rattle.std.proofs.Common.{◌≡◌, ℕ, ◌+◌, ◌-◌, List, [], ◌∷◌, refl, sym, ◌∙◌, subst, slice_set}
 use Rattle.hep_machine.specs.Words.{Units, with_numbered}
 use Rattle.hep_machine.specs.declared.slot.Slot.{Slot}
-use Rattle.hep_image.specs.Finding.{cells_in}
+use Rattle.hep_private_laws.specs.ImageFinding.{cells_in}
 use Rattle.hep_private_laws.proofs.Calls.{set-numbered}
-use Rattle.hep_private.specs.declared.record.Record.{Record}
+use Rattle.hep_private_laws.specs.PrivateRecordRecord.{Record}
 use Rattle.hep_private_laws.specs.Gone.{contents_with}
 use Rattle.hep_private_laws.specs.Saved.{AreOf, put_back}
 use Rattle.hep_proc.specs.Stacks.{Stack, stack_with}
 use Rattle.hep_stretches.specs.Segments.{SegmentValue}
-use Rattle.hep_state.specs.Words.{HasLevels, IsSameButTop, Snapshot, frame_under}
-use Rattle.hep_state.proofs.Runs.{set-again, set-same}
-use Rattle.hep_state.proofs.Unchanged.{levels-same}
+use Rattle.hep_private_laws.specs.StateWords.{HasLevels, IsSameButTop, Snapshot, frame_under}
+use Rattle.hep_private_laws.proofs.StateRuns.{set-again, set-same}
+use Rattle.hep_private_laws.proofs.StateUnchanged.{levels-same}
 use Rattle.hep_taking.specs.Levels.{first_of, snapshot_taken}
 use Rattle.hep_taking.specs.Saved.{saved_of, slots_of, snapshot_restored, with_slots}
 

@@ -2,13 +2,13 @@
 use Rattle.std.proofs.Common.{◌≡◌, ℕ, ◌≤◌, length, sym, ap, subst, arith}
 use Rattle.hep_machine.specs.Words.{Units}
 use Rattle.hep_code.specs.Words.{deepest}
-use Rattle.hep_step.specs.Simulation.{unit_code}
-use Rattle.hep_going.proofs.Onward.{none-made}
+use Rattle.hep_private_laws.specs.StepSimulation.{unit_code}
+use Rattle.hep_private_laws.proofs.GoingOnward.{none-made}
 use Rattle.hep_private_laws.specs.Going.{MakesMoves}
-use Rattle.hep_state.specs.declared.machine.Machine.{Machine}
-use Rattle.hep_state.specs.Words.{HasLevels, IsItsTurn, IsSameButTop, KeepsRoom, LivesOn, snapshot_of}
-use Rattle.hep_state.proofs.Beside.{beside-shown}
-use Rattle.hep_state.proofs.Unchanged.{top-shown}
+use Rattle.hep_private_laws.specs.StateMachineMachine.{Machine}
+use Rattle.hep_private_laws.specs.StateWords.{HasLevels, IsItsTurn, IsSameButTop, KeepsRoom, LivesOn, snapshot_of}
+use Rattle.hep_private_laws.proofs.StateBeside.{beside-shown}
+use Rattle.hep_private_laws.proofs.StateUnchanged.{top-shown}
 use Rattle.hep_taking.specs.Saved.{SavedValue}
 use Rattle.hep_taking.specs.Taking.{HasMadePrivate, HasRestored, IsSavedOf}
 use Rattle.hep_taking.specs.Turning.{IsAsBefore}

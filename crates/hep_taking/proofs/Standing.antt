@@ -2,14 +2,14 @@
 use Rattle.std.proofs.Common.{◌≡◌, ℕ, IfOk, OnOk, List, Result, Ok, Err, get_or, subst, arith}
 use Rattle.hep_machine.specs.Words.{Units, Value}
 use Rattle.hep_proc.specs.declared.process.Process.{Process}
-use Rattle.hep_state.specs.declared.machine.Machine.{Machine}
-use Rattle.hep_state.specs.Words.{HasLevels, IsItsTurn, IsPlaceOf, IsTurning, Snapshot, TurnOf, turn_with}
-use Rattle.hep_state.proofs.Moved.{top-node}
-use Rattle.hep_state.proofs.Processes.{process-at}
-use Rattle.hep_state.proofs.Taken.{inside, room-ahead}
-use Rattle.hep_state.proofs.Tops.{turning}
+use Rattle.hep_private_laws.specs.StateMachineMachine.{Machine}
+use Rattle.hep_private_laws.specs.StateWords.{HasLevels, IsItsTurn, IsPlaceOf, IsTurning, Snapshot, TurnOf, turn_with}
+use Rattle.hep_private_laws.proofs.StateMoved.{top-node}
+use Rattle.hep_private_laws.proofs.StateProcesses.{process-at}
+use Rattle.hep_private_laws.proofs.StateTaken.{inside, room-ahead}
+use Rattle.hep_private_laws.proofs.StateTops.{turning}
 use Rattle.hep_machine.specs.declared.slot.Slot.{Slot}
-use Rattle.hep_private.specs.Own.{values_at}
+use Rattle.hep_private_laws.specs.PrivateOwn.{values_at}
 use Rattle.hep_proc.specs.declared.frames.Frames.{Frames}
 use Rattle.hep_proc.specs.declared.process.Local.{Local}
 use Rattle.hep_taking.specs.Tops.{IsStanding, first_under, start_under}

@@ -7,17 +7,17 @@ use Rattle.hep_arena.proofs.Lists.{get-set_other, get-set_same}
 use Rattle.hep_machine.specs.Words.{Int, Units, Value, is_number_among, unit_at, unset_cell}
 use Rattle.hep_machine.specs.declared.slot.Slot.{Slot}
 use Rattle.hep_code.specs.declared.instruction.Instruction.{Instruction}
-use Rattle.hep_image.specs.Finding.{cells_in}
-use Rattle.hep_image.specs.Private.{private_cells}
-use Rattle.hep_step.specs.Effects.{with_counts, with_value_at}
-use Rattle.hep_step.specs.Simulation.{unit_code}
+use Rattle.hep_private_laws.specs.ImageFinding.{cells_in}
+use Rattle.hep_private_laws.specs.ImagePrivate.{private_cells}
+use Rattle.hep_private_laws.specs.StepEffects.{with_counts, with_value_at}
+use Rattle.hep_private_laws.specs.StepSimulation.{unit_code}
 use Rattle.hep_layout.specs.Words.{number}
-use Rattle.hep_private.specs.declared.record.Record.{Record}
-use Rattle.hep_private.specs.declared.record.Record.TheVariants.{Goes, Gives, Reads, Stores, Enters, Ends}
-use Rattle.hep_private.specs.Own.{Own, Values, begun, contents_after, set, stores_of_loop, values_after, values_at, with_stores}
-use Rattle.hep_private.specs.Reads.{HaveRead}
-use Rattle.hep_private.specs.Recorded.{own_after, recorded}
-use Rattle.hep_private.proofs.Along.{first-of}
+use Rattle.hep_private_laws.specs.PrivateRecordRecord.{Record}
+use Rattle.hep_private_laws.specs.PrivateRecordRecord.TheVariants.{Goes, Gives, Reads, Stores, Enters, Ends}
+use Rattle.hep_private_laws.specs.PrivateOwn.{Own, Values, begun, contents_after, set, stores_of_loop, values_after, values_at, with_stores}
+use Rattle.hep_private_laws.specs.PrivateReads.{HaveRead}
+use Rattle.hep_private_laws.specs.PrivateRecorded.{own_after, recorded}
+use Rattle.hep_private_laws.proofs.PrivateAlong.{first-of}
 use Rattle.hep_private_laws.specs.Gone.{contents_with}
 use Rattle.hep_private_laws.specs.Saved.{AreOf}
 use Rattle.hep_private_laws.proofs.Saved.{alike-with, size-with, undone}

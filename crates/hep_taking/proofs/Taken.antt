@@ -5,12 +5,12 @@ use Rattle.hep_machine.specs.Words.{Units, Value, unit_at}
 use Rattle.hep_machine.specs.declared.slot.Slot.{Slot}
 use Rattle.hep_private_laws.proofs.Calls.{set-numbered}
 use Rattle.hep_code.specs.Words.{deepest}
-use Rattle.hep_image.specs.Image.{most_cells}
-use Rattle.hep_image.specs.Private.{private_cells}
-use Rattle.hep_step.specs.Simulation.{unit_code}
-use Rattle.hep_private.specs.declared.record.Record.{Record}
-use Rattle.hep_private.specs.Own.{Own, begun}
-use Rattle.hep_private.specs.Recorded.{recorded}
+use Rattle.hep_private_laws.specs.ImageImage.{most_cells}
+use Rattle.hep_private_laws.specs.ImagePrivate.{private_cells}
+use Rattle.hep_private_laws.specs.StepSimulation.{unit_code}
+use Rattle.hep_private_laws.specs.PrivateRecordRecord.{Record}
+use Rattle.hep_private_laws.specs.PrivateOwn.{Own, begun}
+use Rattle.hep_private_laws.specs.PrivateRecorded.{recorded}
 use Rattle.hep_private_laws.specs.Gone.{HaveGone, contents_with, own_of}
 use Rattle.hep_proc.specs.Nodes.{nodes_of}
 use Rattle.hep_proc.specs.Stacks.{Stack, stack_of, stack_with}
@@ -18,11 +18,11 @@ use Rattle.hep_proc.specs.declared.frames.Frames.{Frames}
 use Rattle.hep_proc.specs.declared.process.Local.{Local}
 use Rattle.hep_proc.specs.declared.process.Process.{Process}
 use Rattle.hep_stretches.specs.Segments.{IsMadeFrom, SegmentValue}
-use Rattle.hep_state.specs.declared.machine.Machine.{Machine}
-use Rattle.hep_state.specs.Words.{AreNumbered, HasLevels, IsAfter, IsTurning, Snapshot, TurnOf, snapshot_moved, snapshot_of, turn_with, with_contents, with_stack}
-use Rattle.hep_state.proofs.Processes.{IsAt, stacks-set}
-use Rattle.hep_state.proofs.Taken.{room-ahead}
-use Rattle.hep_state.proofs.Tops.{turning}
+use Rattle.hep_private_laws.specs.StateMachineMachine.{Machine}
+use Rattle.hep_private_laws.specs.StateWords.{AreNumbered, HasLevels, IsAfter, IsTurning, Snapshot, TurnOf, snapshot_moved, snapshot_of, turn_with, with_contents, with_stack}
+use Rattle.hep_private_laws.proofs.StateProcesses.{IsAt, stacks-set}
+use Rattle.hep_private_laws.proofs.StateTaken.{room-ahead}
+use Rattle.hep_private_laws.proofs.StateTops.{turning}
 use Rattle.hep_taking.specs.Levels.{first_of, snapshot_taken, start_in}
 
 -- what the law of private steps says of turns of a program

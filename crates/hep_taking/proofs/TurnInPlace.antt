@@ -3,16 +3,16 @@ use Rattle.std.proofs.Common.{◌≡◌, ◌⊎◌, inl, inr, ℕ, suc, ◌+◌,
 use Rattle.std.specs.Result.{is_err}
 use Rattle.hep_machine.specs.Words.{Units}
 use Rattle.hep_code.specs.Words.{deepest}
-use Rattle.hep_step.specs.Simulation.{unit_code}
+use Rattle.hep_private_laws.specs.StepSimulation.{unit_code}
 use Rattle.hep_private_laws.specs.Going.{MakesMoves}
 use Rattle.hep_proc.specs.Stacks.{stack_with}
 use Rattle.hep_stretches.specs.TicketId.{TicketId}
-use Rattle.hep_stretches.specs.Segments.{SegmentValue, is_next_private}
-use Rattle.hep_state.specs.declared.machine.Machine.{Machine}
-use Rattle.hep_state.specs.Words.{HasLevels, IsAfter, IsItsTurn, IsSameButTop, KeepsRoom, LivesOn, Snapshot, snapshot_of}
-use Rattle.hep_state.proofs.Beside.{beside-again, beside-with}
-use Rattle.hep_state.proofs.Unchanged.{machine-of, rooms-of}
-use Rattle.hep_going.proofs.Onward.{more-made}
+use Rattle.hep_stretches.specs.Segments.{SegmentValue, is_next_private, most_records}
+use Rattle.hep_private_laws.specs.StateMachineMachine.{Machine}
+use Rattle.hep_private_laws.specs.StateWords.{HasLevels, IsAfter, IsItsTurn, IsSameButTop, KeepsRoom, LivesOn, Snapshot, snapshot_of}
+use Rattle.hep_private_laws.proofs.StateBeside.{beside-again, beside-with}
+use Rattle.hep_private_laws.proofs.StateUnchanged.{machine-of, rooms-of}
+use Rattle.hep_private_laws.proofs.GoingOnward.{more-made}
 use Rattle.hep_taking.specs.Levels.{snapshot_taken, start_in}
 use Rattle.hep_taking.specs.OwnCells.{own_cells_of}
 use Rattle.hep_taking.specs.Saved.{SavedValue, snapshot_restored}
@@ -55,10 +55,10 @@ module _ (program : Units) (s : SegmentValue) (old mid : Machine) (n : ℕ) (can
   -- the turn that ends so
   in-place : AreTurnsIn program → length s.records ≡ n → (total : ℕ) → IsEndBehind program p mid n total → IsMadeOfRecords program old total s
   in-place laws many total ended = record { can = can; some = omega (arith, many, ended.0); total = by ended.1 } where
-    by : ((total ≡ suc n) × IsNextPrivateIn false program p mid) ⊎ ((total ≡ n) × IsNextPrivateIn true program p mid)
-        → ((total ≡ suc (length s.records)) × (are_private program (start_in can.turn.living) (suc (length s.records)) ≡ false)) ⊎ ((total ≡ length s.records) × (are_private program (start_in can.turn.living) (suc (length s.records)) ≡ true))
+    by : ((total ≡ suc n) × IsNextPrivateIn false program p mid) ⊎ ((total ≡ n) × (n ≡ most_records) × IsNextPrivateIn true program p mid)
+        → ((total ≡ suc (length s.records)) × (are_private program (start_in can.turn.living) (suc (length s.records)) ≡ false)) ⊎ ((total ≡ length s.records) × (length s.records ≡ most_records) × (are_private program (start_in can.turn.living) (suc (length s.records)) ≡ true))
     by (inl h) = inl (h.0 ∙ ap suc (sym many), sym (whether-private laws false h.1))
-    by (inr h) = inr (h.0 ∙ sym many, sym (whether-private laws true h.1))
+    by (inr h) = inr (h.0 ∙ sym many, many ∙ h.1, sym (whether-private laws true h.2))
 
   module _ (new : Machine) (lives : LivesOn p 0 mid new) where
     lives-still : LivesOn p 0 old new
@@ -155,7 +155,7 @@ module _ (program : Units) (p : ℕ) (old mid : Machine) (n : ℕ) (made : HasMa
       let long : n + (total - n) ≡ total = by ended.1 in
       subst (λ k. MakesMoves program p old k new) long (more-made program p old mid new n (total - n) moves more)
     where
-      by : ((total ≡ suc n) × IsNextPrivateIn false program p mid) ⊎ ((total ≡ n) × IsNextPrivateIn true program p mid) → n + (total - n) ≡ total
+      by : ((total ≡ suc n) × IsNextPrivateIn false program p mid) ⊎ ((total ≡ n) × (n ≡ most_records) × IsNextPrivateIn true program p mid) → n + (total - n) ≡ total
       by (inl h) = omega (arith, h.0)
       by (inr h) = omega (arith, h.0)
 

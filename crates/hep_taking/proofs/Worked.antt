@@ -6,7 +6,7 @@ use Rattle.hep_code.specs.declared.instruction.Instruction.{Instruction}
 use Rattle.hep_code.specs.declared.instruction.Instruction.TheVariants.{Push, Step}
 use Rattle.hep_code.specs.declared.instruction.Operation.TheVariants.{EnterLoop, EndLoop, Jump, Return}
 use Rattle.hep_code.specs.declared.variable.Variable.TheVariants.{Common, Local}
-use Rattle.hep_private.specs.Own.{values_at}
+use Rattle.hep_private_laws.specs.PrivateOwn.{values_at}
 use Rattle.hep_taking.specs.Fitting.{AreThere, slots_with}
 use Rattle.hep_taking.specs.Levels.{copies_of}
 use Rattle.hep_taking.specs.OwnCells.{own_cells_in}

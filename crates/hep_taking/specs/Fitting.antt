@@ -2,7 +2,7 @@
 use Rattle.std.specs.Prelude.{◌≡◌, ◌+◌, ℕ, false, List, [], ◌∷◌, map, Option, Some, slice_get}
 use Rattle.hep_machine.specs.Words.{Value}
 use Rattle.hep_machine.specs.declared.slot.Slot.{Slot}
-use Rattle.hep_private.specs.Own.{Values}
+use Rattle.hep_private_laws.specs.PrivateOwn.{Values}
 
 -- a slot with this value, or none; it isn't full
 abbrev pub slot_with : Option Value → Slot

@@ -1,11 +1,11 @@
 -- What a process has for itself in what a core keeps, as a start of segments: docs/MACHINE.md, "Private steps" and "Workers".
 use Rattle.std.specs.Prelude.{ℕ, List, ◌∷◌, map}
-use Rattle.hep_private.specs.Own.{Values, values_at}
+use Rattle.hep_private_laws.specs.PrivateOwn.{Values, values_at}
 use Rattle.hep_private_laws.specs.Gone.{contents_with}
 use Rattle.hep_stretches.specs.Segments.{Copied}
 use Rattle.hep_stretches.specs.TicketId.{TicketId}
 use Rattle.hep_stretches.specs.Segments.{SegmentValue, Start, TicketValue, ticket_value}
-use Rattle.hep_state.specs.Words.{HasLevels, Snapshot, frame_under, with_contents, with_stack}
+use Rattle.hep_private_laws.specs.StateWords.{HasLevels, Snapshot, frame_under, with_contents, with_stack}
 
 -- the first cell of the frame of its top activation
 abbrev pub first_of : {m : Snapshot} {p : ℕ} → HasLevels m p → ℕ

@@ -1,3 +1,10 @@
+pub use Rattle.hep_private_laws.specs.PrivateOwn
+pub use Rattle.hep_private_laws.specs.PrivateReads
+pub use Rattle.hep_private_laws.specs.PrivateRecordRecord
+pub use Rattle.hep_private_laws.specs.PrivateRecorded
+pub use Rattle.hep_proc.specs.Keeping as ProcKeeping
+pub use Rattle.hep_proc.specs.Stacks as ProcStacks
+pub use Rattle.hep_proc.specs.declared.process.Local as ProcProcessLocal
 pub use Rattle.hep_stretches.specs.TicketId
 pub use Rattle.hep_stretches.specs.Segments
 pub use Rattle.hep_stretches.specs.Stretches

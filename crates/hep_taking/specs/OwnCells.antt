@@ -5,8 +5,8 @@ use Rattle.hep_code.specs.declared.instruction.Instruction.{Instruction}
 use Rattle.hep_code.specs.declared.instruction.Instruction.TheVariants.{Step}
 use Rattle.hep_code.specs.declared.instruction.Operation.{Operation}
 use Rattle.hep_code.specs.declared.instruction.Operation.TheVariants.{EnterLoop, EndLoop}
-use Rattle.hep_image.specs.Private.{private_cells}
-use Rattle.hep_step.specs.Simulation.{unit_code}
+use Rattle.hep_private_laws.specs.ImagePrivate.{private_cells}
+use Rattle.hep_private_laws.specs.StepSimulation.{unit_code}
 use Rattle.hep_taking.specs.declared.own_cells.OwnCells.{OwnCells}
 
 -- the first of the two cells of a DO, by the operation that enters it or ends an iteration

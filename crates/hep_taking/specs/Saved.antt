@@ -2,8 +2,8 @@
 use Rattle.std.specs.Prelude.{◌+◌, ℕ, List, [], ◌∷◌, map, slice_set}
 use Rattle.hep_machine.specs.Words.{Value}
 use Rattle.hep_machine.specs.declared.slot.Slot.{Slot}
-use Rattle.hep_image.specs.Finding.{cells_in}
-use Rattle.hep_state.specs.Words.{HasLevels, Snapshot, with_contents, with_stack}
+use Rattle.hep_private_laws.specs.ImageFinding.{cells_in}
+use Rattle.hep_private_laws.specs.StateWords.{HasLevels, Snapshot, with_contents, with_stack}
 use Rattle.hep_taking.specs.Levels.{first_of}
 use Rattle.hep_taking.specs.declared.saving.Saved.{Saved}
 

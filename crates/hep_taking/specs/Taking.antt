@@ -2,11 +2,11 @@
 use Rattle.std.specs.Prelude.{◌≡◌, ◌≤◌, ◌↔◌, IsTrue, ℕ, Bool, length}
 use Rattle.hep_machine.specs.Words.{Units}
 use Rattle.hep_code.specs.Words.{deepest}
-use Rattle.hep_step.specs.Simulation.{unit_code}
+use Rattle.hep_private_laws.specs.StepSimulation.{unit_code}
 use Rattle.hep_stretches.specs.TicketId.{TicketId}
 use Rattle.hep_stretches.specs.Segments.{IsMadeFrom, SegmentValue, TicketValue, is_next_private}
-use Rattle.hep_state.specs.declared.machine.Machine.{Machine}
-use Rattle.hep_state.specs.Words.{HasLevels, IsItsTurn, snapshot_of}
+use Rattle.hep_private_laws.specs.StateMachineMachine.{Machine}
+use Rattle.hep_private_laws.specs.StateWords.{HasLevels, IsItsTurn, snapshot_of}
 use Rattle.hep_taking.specs.Levels.{snapshot_taken, start_in, ticket_of}
 use Rattle.hep_taking.specs.OwnCells.{AreOwnCells, own_cells_of}
 use Rattle.hep_taking.specs.Saved.{SavedValue, saved_of, snapshot_restored}

@@ -3,9 +3,9 @@ use Rattle.std.specs.Prelude.{◌≡◌, ◌<◌, ◌≤◌, ℕ, List, length, 
 use Rattle.hep_machine.specs.Words.{Units, Value}
 use Rattle.hep_machine.specs.declared.slot.Slot.{Slot}
 use Rattle.hep_code.specs.Words.{deepest}
-use Rattle.hep_step.specs.Simulation.{unit_code}
-use Rattle.hep_private.specs.declared.record.Record.{Record}
-use Rattle.hep_private.specs.Own.{values_at}
+use Rattle.hep_private_laws.specs.StepSimulation.{unit_code}
+use Rattle.hep_private_laws.specs.PrivateRecordRecord.{Record}
+use Rattle.hep_private_laws.specs.PrivateOwn.{values_at}
 use Rattle.hep_private_laws.specs.Gone.{contents_with}
 use Rattle.hep_proc.specs.declared.frames.Frames.{Frames}
 use Rattle.hep_proc.specs.declared.process.Local.{Local}
@@ -14,7 +14,7 @@ use Rattle.hep_proc.specs.Nodes.{nodes_of}
 use Rattle.hep_proc.specs.Stacks.{HoldsOfTop, stack_of, stack_with}
 use Rattle.hep_stretches.specs.Segments.{IsMadeFrom, SegmentValue, Start, segment_value}
 use Rattle.hep_stretches.specs.TicketId.{TicketId}
-use Rattle.hep_state.specs.Words.{IsThere, frame_under}
+use Rattle.hep_private_laws.specs.StateWords.{IsThere, frame_under}
 use Rattle.hep_taking.specs.OwnCells.{AreOwnCells, own_cells_of}
 use Rattle.hep_taking.specs.Saved.{SavedValue, saved_value, slots_of, with_slots}
 use Rattle.hep_taking.specs.declared.own_cells.Owned.{Owned}

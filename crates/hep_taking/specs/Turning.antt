@@ -1,15 +1,15 @@
 -- A turn of private steps in place, and of the step behind them: docs/MACHINE.md, "Private steps" and "Workers".
 use Rattle.std.specs.Prelude.{◌≡◌, ◌<◌, ◌⊎◌, ℕ, suc, Bool, true, false, is_some, length}
 use Rattle.hep_machine.specs.Words.{Units, unit_at}
-use Rattle.hep_image.specs.Private.{private_cells}
-use Rattle.hep_step.specs.Simulation.{unit_code}
-use Rattle.hep_private.specs.Own.{begun}
-use Rattle.hep_private.specs.Recorded.{recorded}
+use Rattle.hep_private_laws.specs.ImagePrivate.{private_cells}
+use Rattle.hep_private_laws.specs.StepSimulation.{unit_code}
+use Rattle.hep_private_laws.specs.PrivateOwn.{begun}
+use Rattle.hep_private_laws.specs.PrivateRecorded.{recorded}
 use Rattle.hep_private_laws.specs.UnitTables.{AreTables}
 use Rattle.hep_stretches.specs.TicketId.{TicketId}
-use Rattle.hep_stretches.specs.Segments.{SegmentValue, Start}
-use Rattle.hep_state.specs.declared.machine.Machine.{Machine}
-use Rattle.hep_state.specs.Words.{HasLevels, KeepsState, snapshot_of}
+use Rattle.hep_stretches.specs.Segments.{SegmentValue, Start, most_records}
+use Rattle.hep_private_laws.specs.StateMachineMachine.{Machine}
+use Rattle.hep_private_laws.specs.StateWords.{HasLevels, KeepsState, snapshot_of}
 use Rattle.hep_taking.specs.Levels.{start_in}
 use Rattle.hep_taking.specs.OwnCells.{AreOwnCells}
 use Rattle.hep_taking.specs.Taking.{CanTake, IsNextPrivateIn}
@@ -29,12 +29,13 @@ are_private program start n =
 
 -- ---- what a turn in place is
 
--- the steps of a segment, which come next, of which there are some, and the one behind them, which isn't private; or that is, and is left out
+-- the steps of a segment, which come next, of which there are some, and the one behind them, which isn't private; or that is, and is left out behind as
+-- many as a segment may have
 pub record IsMadeOfRecords (program : Units) (old : Machine) (n : ℕ) (s : SegmentValue) : Type 0 where
   pub can : CanTake program s old
   pub some : 0 < length s.records
   pub total : ((n ≡ suc (length s.records)) × (are_private program (start_in can.turn.living) (suc (length s.records)) ≡ false))
-      ⊎ ((n ≡ length s.records) × (are_private program (start_in can.turn.living) (suc (length s.records)) ≡ true))
+      ⊎ ((n ≡ length s.records) × (length s.records ≡ most_records) × (are_private program (start_in can.turn.living) (suc (length s.records)) ≡ true))
 
 -- they are so many steps, whichever ticket of process p the segment is made of
 abbrev pub IsMadeInPlace : Units → ℕ → Machine → ℕ → Type 0
@@ -47,11 +48,12 @@ ArePrivateIn program p m n = (levels : HasLevels (snapshot_of m) p) → are_priv
 
 -- ---- its parts
 
--- behind so many private steps, of which there are some, the next one isn't private, and makes them one more; or it is, and they stay as many
+-- behind so many private steps, of which there are some, the next one isn't private, and makes them one more; or it is, and they stay as many, which is
+-- as many as a segment may have
 abbrev pub IsEndBehind : Units → ℕ → Machine → ℕ → ℕ → Type 0
 IsEndBehind program p old n total =
     (0 < n)
-    × (((total ≡ suc n) × IsNextPrivateIn false program p old) ⊎ ((total ≡ n) × IsNextPrivateIn true program p old))
+    × (((total ≡ suc n) × IsNextPrivateIn false program p old) ⊎ ((total ≡ n) × (n ≡ most_records) × IsNextPrivateIn true program p old))
 
 -- a machine shows what it showed, and keeps each state that it kept
 pub record IsAsBefore (program : Units) (old new : Machine) : Type 0 where

@@ -1,14 +1,13 @@
 //! Whether steps are those that come next of their process.
 ghost use Rattle.std.specs.Prelude.{◌≡◌};
-ghost use Rattle.hep_state.specs.Words.{IsItsTurn};
+ghost use Rattle.hep_private_laws.specs.StateWords.{IsItsTurn};
 ghost use Rattle.hep_taking.specs.Offers.{IsKnownOffer, offered};
 ghost use Rattle.hep_taking.specs.Taking.{CanStart, IsMadeIn, IsNextPrivateIn};
 
 use crate::offer::Offer;
 use crate::own_cells::Owned;
 use crate::top;
-use hep_image::Image;
-use hep_state::Machine;
+use hep_private_laws::{Image, Machine};
 
 /// The steps of what is committed are the private ones that come next of its process, by an image. The machine stays as it is.
 ///

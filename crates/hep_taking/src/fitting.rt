@@ -1,7 +1,7 @@
 //! Whether the steps of a segment or a stretch are those that come next from where an activation is.
 ghost use Rattle.std.specs.Prelude.{◌≡◌, ◌<◌, ◌↔◌, IsTrue, length};
 ghost use Rattle.hep_machine.specs.Words.{Units};
-ghost use Rattle.hep_private.specs.Own.{values_at};
+ghost use Rattle.hep_private_laws.specs.PrivateOwn.{values_at};
 ghost use Rattle.hep_stretches.specs.Places.{start_at};
 ghost use Rattle.hep_stretches.specs.Segments.{BeginsAt, IsMadeBy, IsMadeFrom};
 ghost use Rattle.hep_stretches.specs.Stretches as stretches;
@@ -13,7 +13,7 @@ use crate::operands::same_operands;
 use crate::own_cells::Owned;
 use crate::slots::slot_at;
 use hep_arena::Cell;
-use hep_image::Image;
+use hep_private_laws::Image;
 use hep_stretches::{Place, Segment, Stretch, is_kept, segment_of, segments_depend_on_reads};
 
 /// The steps of a segment that an image has made are those that come next from here.
@@ -85,7 +85,7 @@ pub(crate) fn is_next(place: &Place<'_>, owned: &Owned<'_>, stretch: &Stretch) -
     if !begins(place, stretch) {
         return false;
     }
-    hep_private::laws::private_steps_depend_on_reads();
+    hep_private_laws::private_steps_depend_on_reads();
     let cells = owned.cells(place.unit as usize);
     if stretch.steps() == 0 || are_there(place.slots, place.first, cells, stretch.start()) {
         return true;

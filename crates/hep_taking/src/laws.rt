@@ -4,7 +4,7 @@ ghost use Rattle.hep_machine.specs.Words.{Units, Value};
 ghost use Rattle.hep_source.specs.declared.value.Value.{Value as AValue};
 ghost use Rattle.hep_stretches.specs.TicketId.{TicketId as ATicketId};
 ghost use Rattle.hep_stretches.specs.Segments.{IsComputed, IsMadeFrom, SegmentValue, Start};
-ghost use Rattle.hep_state.specs.Words.{HasLevels, IsSameButTop, Snapshot};
+ghost use Rattle.hep_private_laws.specs.StateWords.{HasLevels, IsSameButTop, Snapshot};
 ghost use Rattle.hep_taking.specs.Levels.{snapshot_taken, start_in, ticket_of};
 ghost use Rattle.hep_taking.specs.OwnCells.{own_cells_of};
 ghost use Rattle.hep_taking.specs.Saved.{saved_of, snapshot_restored};
@@ -14,7 +14,7 @@ pub fn tickets_have_what_is_read()
     ensures { (program : Units) (start : Start) (id : ATicketId) (s : SegmentValue)
         → IsComputed program (ticket_of id start (own_cells_of program start.unit)) s → IsMadeFrom program start s }
 {
-    hep_private::laws::private_steps_depend_on_reads();
+    hep_private_laws::private_steps_depend_on_reads();
 }
 
 /// Where the steps of a segment were made, and nothing else has changed since but the operands and the index of the process, what was kept of

@@ -24,8 +24,9 @@ mod turning;
 pub use checking::{comes_next, is_next_private};
 pub use hep_private_laws::laws::{others_leave_what_is_read, private_steps_are_turns};
 pub use hep_private_laws::{Table, Tabled, go_on, rests, tables_of, turn_by_table};
-pub use hep_segments::MOST_RECORDS;
-pub use hep_stretches::{Ahead, Segment, Ticket, TicketId, compute, segments_depend_on_reads};
+pub use hep_stretches::{
+    Ahead, MOST_RECORDS, Segment, Ticket, TicketId, compute, segments_depend_on_reads,
+};
 pub use offer::Offer;
 pub use own_cells::{OwnCells, Owned, own_cells_of};
 pub use saving::Saved;

@@ -4,7 +4,7 @@ ghost use Rattle.hep_taking.specs.OwnCells as spec;
 ghost use Rattle.hep_taking.specs.OwnCells.{AreOwnCells, cells_of_loop, last_loop, loop_cells_behind, own_cells_in};
 
 use hep_code::{Instruction, Operation};
-use hep_image::{Image, UnitCode};
+use hep_private_laws::{Image, UnitCode};
 use std::alloc::{AllocError, Global};
 
 /// The cells of one unit, counted from the first one of its frame.

@@ -1,14 +1,14 @@
 //! What a process has for itself, kept while private steps are made.
 ghost use Rattle.std.specs.Prelude.{◌≡◌, OnOk};
-ghost use Rattle.hep_state.specs.Words.{KeepsRoom};
+ghost use Rattle.hep_private_laws.specs.StateWords.{KeepsRoom};
 ghost use Rattle.hep_taking.specs.Saved.{nothing_saved, saved_in};
 ghost use Rattle.hep_taking.specs.Taking.{CanRestore, CanStart, HasRestored, IsSavedOf};
 
 use crate::own_cells::Owned;
 use crate::top;
 use hep_machine::Slot;
+use hep_private_laws::Machine;
 use hep_source::Value;
-use hep_state::Machine;
 use std::alloc::{AllocError, Global};
 
 /// Slots of cells of the frame of a top activation, its operands, and where it is.

@@ -1,18 +1,18 @@
 //! Slots of the arena, and what private steps store in them.
 ghost use Rattle.std.specs.Prelude.{◌≡◌, ◌<◌, ◌+◌, ◌++◌, ◌^◌, OnOk, pos, slice_set};
 ghost use Rattle.hep_machine.specs.Words.{natural};
-ghost use Rattle.hep_image.specs.Finding.{cells_in};
+ghost use Rattle.hep_private_laws.specs.ImageFinding.{cells_in};
 ghost use Rattle.hep_layout.specs.Words.{number};
-ghost use Rattle.hep_private.specs.Own.{contents_after, values_at};
+ghost use Rattle.hep_private_laws.specs.PrivateOwn.{contents_after, values_at};
 ghost use Rattle.hep_private_laws.specs.Gone.{contents_with};
-ghost use Rattle.hep_step.specs.Effects.{with_counts, with_value_at};
+ghost use Rattle.hep_private_laws.specs.StepEffects.{with_counts, with_value_at};
 ghost use Rattle.hep_taking.specs.Fitting.{slots_with};
 ghost use Rattle.hep_taking.specs.Levels.{copies_of};
 ghost use Rattle.hep_taking.specs.Saved.{slots_of, with_slots};
 
 use hep_arena::{Arena, Cell};
 use hep_machine::Slot;
-use hep_private::Record;
+use hep_private_laws::Record;
 use hep_source::Value;
 use hep_stretches::Copied;
 use std::alloc::AllocError;

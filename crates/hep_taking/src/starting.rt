@@ -4,7 +4,7 @@ ghost use Rattle.hep_taking.specs.Taking.{CanStart, IsTicketOf};
 
 use crate::own_cells::Owned;
 use crate::top::ticket_of;
-use hep_state::Machine;
+use hep_private_laws::Machine;
 use hep_stretches::{Ticket, TicketId};
 use std::alloc::AllocError;
 

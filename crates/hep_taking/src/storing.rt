@@ -1,6 +1,6 @@
 //! What the steps of a stretch stored.
 ghost use Rattle.std.specs.Prelude.{◌≡◌, ◌<◌, ◌↔◌, IsTrue, length};
-ghost use Rattle.hep_private.specs.Own.{values_at};
+ghost use Rattle.hep_private_laws.specs.PrivateOwn.{values_at};
 ghost use Rattle.hep_private_laws.specs.Gone.{contents_with};
 ghost use Rattle.hep_stretches.specs.Stretches as stretches;
 ghost use Rattle.hep_stretches.specs.Stretches.{IsStretch};
@@ -11,7 +11,7 @@ use crate::fitting::are_there;
 use crate::own_cells::Owned;
 use crate::slots::{apply_over, put_values_over};
 use hep_arena::Arena;
-use hep_image::Image;
+use hep_private_laws::Image;
 use hep_stretches::{Stretch, segment_of};
 
 // The start of a stretch is there, in these cells of a frame. The arena stays as it is.

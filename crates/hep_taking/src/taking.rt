@@ -1,7 +1,7 @@
 //! The steps of what is committed in the machine of a core.
 ghost use Rattle.std.specs.Prelude.{◌≡◌, ◌≤◌, IfNone, IfSome, length};
 ghost use Rattle.hep_private_laws.specs.Going.{MakesMoves};
-ghost use Rattle.hep_state.specs.Words.{IsItsTurn};
+ghost use Rattle.hep_private_laws.specs.StateWords.{IsItsTurn};
 ghost use Rattle.hep_taking.specs.Offers.{IsKnownOffer, offered};
 ghost use Rattle.hep_taking.specs.OwnCells.{AreOwnCells};
 ghost use Rattle.hep_taking.specs.Taking.{CanTake, HasMadePrivate, HasTakenIn};
@@ -9,7 +9,7 @@ ghost use Rattle.hep_taking.specs.Taking.{CanTake, HasMadePrivate, HasTakenIn};
 use crate::offer::Offer;
 use crate::own_cells::Owned;
 use crate::top;
-use hep_state::Machine;
+use hep_private_laws::Machine;
 use hep_stretches::Ahead;
 
 /// Makes the steps of what is committed, which are the private ones that come next of its process, at once. Each is a step of the source

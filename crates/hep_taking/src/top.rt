@@ -1,7 +1,7 @@
 //! The top activation of a process.
 ghost use Rattle.std.specs.Prelude.{◌≡◌, ◌≤◌, ◌<◌, ◌↔◌, IsTrue, IfNone, IfOk, IfSome, OnOk, length, vec_len, vec_capacity};
 ghost use Rattle.hep_proc.specs.Stacks.{IsSameProcess};
-ghost use Rattle.hep_step.specs.Performed.{snapshot};
+ghost use Rattle.hep_private_laws.specs.StepPerformed.{snapshot};
 ghost use Rattle.hep_stretches.specs.InPlace.{IsMadeInPlace};
 ghost use Rattle.hep_stretches.specs.Segments as segments;
 ghost use Rattle.hep_stretches.specs.Segments.{IsMadeFrom};
@@ -17,10 +17,9 @@ use crate::own_cells::Owned;
 use crate::saving::Saved;
 use crate::slots::{keep_copies, keep_slots, put_over};
 use hep_arena::Arena;
-use hep_image::Image;
+use hep_private_laws::{Image, place};
 use hep_proc::{Frames, Process};
 use hep_source::Value;
-use hep_state::place;
 use hep_stretches::{Ahead, InFrame, Place, Ticket, TicketId, make_in_place};
 use std::alloc::AllocError;
 

@@ -1,7 +1,7 @@
 //! Turns of private steps in place, with the step behind them.
 ghost use Rattle.std.specs.Prelude.{◌≡◌, ◌≤◌, ◌<◌, ◌-◌, true, false, suc};
 ghost use Rattle.hep_private_laws.specs.Going.{MakesMoves};
-ghost use Rattle.hep_state.specs.Words.{AreNumbered, HasLevels, IsItsTurn, IsSameButTop, LivesOn, snapshot_of};
+ghost use Rattle.hep_private_laws.specs.StateWords.{AreNumbered, HasLevels, IsItsTurn, IsSameButTop, LivesOn, snapshot_of};
 ghost use Rattle.hep_stretches.specs.Segments.{most_records};
 ghost use Rattle.hep_stretches.specs.Stretches.{HasNoPrivate};
 ghost use Rattle.hep_taking.specs.Turning.{ArePrivateIn, IsAsBefore, IsEndBehind, IsMadeInPlace, IsPrepared};
@@ -11,12 +11,9 @@ use crate::laws::restored_machines_are_as_before;
 use crate::own_cells::{OwnCells, Owned};
 use crate::saving::Saved;
 use crate::taking::make_private;
-use hep_image::Image;
 use hep_private_laws::laws::private_steps_are_turns;
-use hep_private_laws::{Table, Tabled, turn_by_table};
-use hep_segments::MOST_RECORDS;
-use hep_state::Machine;
-use hep_stretches::Ahead;
+use hep_private_laws::{Image, Machine, Table, Tabled, turn_by_table};
+use hep_stretches::{Ahead, MOST_RECORDS};
 
 /// A program with what is made of it before it runs.
 #[derive(Clone, Copy)]
@@ -90,7 +87,7 @@ pub fn turn_in_place(
     ensures made { 0 < result → IsMadeInPlace prepared.now.image.now p machine.old result }
     ensures gone { 0 < result → MakesMoves prepared.now.image.now p machine.old result machine.new }
     ensures lives { 0 < result → LivesOn p 0 machine.old machine.new }
-    ensures few { result ≤ suc most_records }
+    ensures few { result ≤ suc most }
     ensures none { result ≡ 0 → IsAsBefore prepared.now.image.now machine.old machine.new }
 {
     prepared.image.is_runnable();

@@ -12,13 +12,13 @@ mod segments;
 mod streams;
 mod workers;
 
-use hep_check::check;
 use hep_copies::Syntax;
-use hep_core::{ChooseFault, CommitFault, Core, Segment, Ticket, Turn, Verdict, compute};
 use hep_entries::History;
 use hep_image::Image;
-use hep_lower::lower;
 use hep_parse::parse;
+use hep_run::{
+    ChooseFault, CommitFault, Core, Segment, Ticket, Turn, Verdict, check, compute, lower,
+};
 use hep_source::Program;
 use hep_text::statements;
 use std::alloc::Global;
@@ -186,7 +186,6 @@ fn calls(rt: HostRuntime) {
     parts::held_by_the_resumed(&rt, alloc);
     parts::waiting_processes(&rt, alloc);
     parts::three_blocks(&rt, alloc);
-    parts::all_given_back(&rt, alloc);
     segments::steps_of_a_loop(&rt, alloc);
     segments::first_reads(&rt, alloc);
     segments::longest_segment(&rt, alloc);

@@ -15,7 +15,7 @@ use Rattle.hep_names.proofs.Passes.{unknown-targets}
 use Rattle.hep_culprits.specs.Culprits.{miscounted, misfit}
 use Rattle.hep_told.specs.Told.{Lines, has_doubtful, has_line, is_doubtful, is_untyped_at, lines_in, names_after, others_told, parameters_after, shared_told, told, told_after, told_from, told_in, unknown_call, unknown_told, untold, untyped_told, with_name}
 use Rattle.hep_told.proofs.Members.{Within, contained-any, contains-flat, contains-here, contains-more, contains-one, flat-within, none-contained}
-use Rattle.hep_told.proofs.Plain.{Plain, plain-common, plain-data, plain-jumps, plain-labels, plain-names, plain-structure}
+use Rattle.hep_told.proofs.Plain.{plain-common, plain-data, plain-jumps, plain-labels, plain-names, plain-structure}
 use Rattle.hep_told.proofs.Sound.{counted, matched, when-there}
 
 contained-when : (b : Bool) (w v : Violation) → Contains (when b w) v → v ≡ w
@@ -146,30 +146,14 @@ module _ (program : Units) (unit : List Statement) (there : Contains program uni
     names-told v c = from-jumps v (Contains-append_right (once 308 (lines.jumps s.line)) (once 309 (lines.names s.line)) v c)
 
     -- a violation at the line of the statement
-    at-statement : (n : ℕ) (vs : Violations) (v : Violation) → Plain n vs → Contains vs v → s.line ≡ v.line → Within (once n (has_line vs s.line)) (told program) → Contains (told program) v
+    at-statement : (n : ℕ) (vs : Violations) (v : Violation) → v ≡ at_line n v.line → Contains vs v → s.line ≡ v.line
+        → Within (once n (has_line vs s.line)) (told program)
+        → Contains (told program) v
     at-statement n vs v plain c e h =
-        let same : v ≡ at_line n s.line = plain v c ∙ ap (at_line n) (sym e) in
+        let same : v ≡ at_line n s.line = plain ∙ ap (at_line n) (sym e) in
         let here : has_line vs s.line ≡ true =
         contained-any (λ (w : Violation). nat_eq w.line s.line) vs v c (ap (λ k. nat_eq k s.line) (sym e) ∙ number-self s.line) in
         subst (Contains (told program)) (sym same) (h (at_line n s.line) (when-there (has_line vs s.line) (at_line n s.line) here))
-
-    pub common-complete : (v : Violation) → s.line ≡ v.line → Contains (common_violations program) v → Contains (told program) v
-    common-complete v e c = at-statement 305 (common_violations program) v (plain-common program) c e common-told
-
-    pub labels-complete : (v : Violation) → s.line ≡ v.line → Contains (label_violations unit) v → Contains (told program) v
-    labels-complete v e c = at-statement 306 (label_violations unit) v (plain-labels unit) c e labels-told
-
-    pub structure-complete : (v : Violation) → s.line ≡ v.line → Contains (structure_violations functions unit) v → Contains (told program) v
-    structure-complete v e c = at-statement 307 (structure_violations functions unit) v (plain-structure functions unit) c e structure-told
-
-    pub jumps-complete : (v : Violation) → s.line ≡ v.line → Contains (jump_violations unit) v → Contains (told program) v
-    jumps-complete v e c = at-statement 308 (jump_violations unit) v (plain-jumps unit) c e jumps-told
-
-    pub names-complete : (v : Violation) → s.line ≡ v.line → Contains (name_violations program) v → Contains (told program) v
-    names-complete v e c = at-statement 309 (name_violations program) v (plain-names program) c e names-told
-
-    pub data-complete : (v : Violation) → s.line ≡ v.line → Contains (data_violations unit) v → Contains (told program) v
-    data-complete v e c = at-statement 311 (data_violations unit) v (plain-data unit) c e three-in
 
     -- ---- what a statement has by itself
 
@@ -205,6 +189,27 @@ module _ (program : Units) (unit : List Statement) (there : Contains program uni
         let all : (is_some (misfit program unit s) && not (is_doubtful program unit s)) ≡ is_mismatched program unit s =
         ap (λ d. is_some (misfit program unit s) && not d) (typed-names v.line h e) ∙ (and-true (is_some (misfit program unit s)) ∙ matched program unit s) in
         two-in v (subst (λ b. Contains (when b (at_line 304 s.line)) v) (sym all) c)
+
+  -- what statements have together is at the line of one of them
+  pub labels-complete : (v : Violation) → Contains (label_violations unit) v → Contains (told program) v
+  labels-complete v c =
+      let p = plain-labels unit v c in
+      at-statement p.1.0 p.1.1 306 (label_violations unit) v p.0 c p.1.2 (labels-told p.1.0 p.1.1)
+
+  pub structure-complete : (v : Violation) → Contains (structure_violations functions unit) v → Contains (told program) v
+  structure-complete v c =
+      let p = plain-structure functions unit v c in
+      at-statement p.1.0 p.1.1 307 (structure_violations functions unit) v p.0 c p.1.2 (structure-told p.1.0 p.1.1)
+
+  pub jumps-complete : (v : Violation) → Contains (jump_violations unit) v → Contains (told program) v
+  jumps-complete v c =
+      let p = plain-jumps unit v c in
+      at-statement p.1.0 p.1.1 308 (jump_violations unit) v p.0 c p.1.2 (jumps-told p.1.0 p.1.1)
+
+  pub data-complete : (v : Violation) → Contains (data_violations unit) v → Contains (told program) v
+  data-complete v c =
+      let p = plain-data unit v c in
+      at-statement p.1.0 p.1.1 311 (data_violations unit) v p.0 c p.1.2 (three-in p.1.0 p.1.1)
 
   pub counts-complete : (v : Violation) → Contains (count_violations program unit) v → Contains (told program) v
   counts-complete v c = flat-within (λ (s : Statement). when (is_miscounted program unit s) (at_line 303 s.line)) unit v (λ s stands h. count-told s stands v h) c
@@ -318,3 +323,16 @@ module _ (program : Units) (unit : List Statement) (there : Contains program uni
       (λ p q g. subst (λ x. (w : Violation) × (Contains (told program) w) × (w.number ≡ 301) × (w.name ≡ x))
       (sym (ap (λ (z : Violation). z.name) (contained-when (is_untyped functions unit p.name) (at_occurrence 301 s.line p) v g)))
       (names-from no_parameters [] unit (λ x e. absurd (true≢false (sym e))) unit-told s m p q (test-when (is_untyped functions unit p.name) (at_occurrence 301 s.line p) v g))) h) c
+
+-- what units have together is at the line of a statement of one of them
+pub common-complete : (program : Units) (v : Violation) → Contains (common_violations program) v → Contains (told program) v
+common-complete program v c =
+    let p = plain-common program v c in
+    let (unit, there, place) = p.1 in
+    at-statement program unit there place.0 place.1 305 (common_violations program) v p.0 c place.2 (common-told program unit there place.0 place.1)
+
+pub names-complete : (program : Units) (v : Violation) → Contains (name_violations program) v → Contains (told program) v
+names-complete program v c =
+    let p = plain-names program v c in
+    let (unit, there, place) = p.1 in
+    at-statement program unit there place.0 place.1 309 (name_violations program) v p.0 c place.2 (names-told program unit there place.0 place.1)

@@ -17,7 +17,7 @@ use Rattle.hep_culprits.specs.Culprits.{first_call_unmet, first_target_unmet, fi
 use Rattle.hep_culprits.specs.Trees.{Found, either}
 use Rattle.hep_told.specs.Told.{Lines, is_doubtful, is_untyped_at, lines_in, names_after, others_told, parameters_after, shared_told, statement_told, told, told_from, told_in, unknown_call, unknown_told, untold, untyped_told, with_name}
 use Rattle.hep_told.proofs.Members.{Within, contains-flat, contains-here, contains-more, contains-one, flat-within, none-contained, within-append}
-use Rattle.hep_told.proofs.Plain.{plain-common, plain-data, plain-jumps, plain-labels, plain-names, plain-structure, plain-there}
+use Rattle.hep_told.proofs.Plain.{IsLineIn, IsLineOf, plain-common, plain-data, plain-jumps, plain-labels, plain-names, plain-structure, plain-there}
 
 -- ---- tests
 
@@ -245,14 +245,20 @@ module _ (program : Units) (unit : List Statement) (there : Contains program uni
     shared-within : Within (shared_told lines line) ws
     shared-within =
         within-append (shared-one 305 (lines.common line)) (shared-one 306 (lines.labels line) ++ (shared-one 307 (lines.structure line) ++ (shared-one 308 (lines.jumps line) ++ shared-one 309 (lines.names line)))) ws
-        (within-when (lines.common line) (at_line 305 line) ws (λ e. common-in (at_line 305 line) (plain-there 305 (common_violations program) line (plain-common program) e)))
+        (within-when (lines.common line) (at_line 305 line) ws
+        (λ e. common-in (at_line 305 line) (plain-there (IsLineOf program) 305 (common_violations program) line (plain-common program) e)))
         (within-append (shared-one 306 (lines.labels line)) (shared-one 307 (lines.structure line) ++ (shared-one 308 (lines.jumps line) ++ shared-one 309 (lines.names line))) ws
-        (within-when (lines.labels line) (at_line 306 line) ws (λ e. labels-in (at_line 306 line) (plain-there 306 (label_violations unit) line (plain-labels unit) e)))
+        (within-when (lines.labels line) (at_line 306 line) ws
+        (λ e. labels-in (at_line 306 line) (plain-there (IsLineIn unit) 306 (label_violations unit) line (plain-labels unit) e)))
         (within-append (shared-one 307 (lines.structure line)) (shared-one 308 (lines.jumps line) ++ shared-one 309 (lines.names line)) ws
-        (within-when (lines.structure line) (at_line 307 line) ws (λ e. structure-in (at_line 307 line) (plain-there 307 (structure_violations types_of unit) line (plain-structure types_of unit) e)))
+        (within-when (lines.structure line) (at_line 307 line) ws
+        (λ e. structure-in (at_line 307 line)
+        (plain-there (IsLineIn unit) 307 (structure_violations types_of unit) line (plain-structure types_of unit) e)))
         (within-append (shared-one 308 (lines.jumps line)) (shared-one 309 (lines.names line)) ws
-        (within-when (lines.jumps line) (at_line 308 line) ws (λ e. jumps-in (at_line 308 line) (plain-there 308 (jump_violations unit) line (plain-jumps unit) e)))
-        (within-when (lines.names line) (at_line 309 line) ws (λ e. names-in (at_line 309 line) (plain-there 309 (name_violations program) line (plain-names program) e))))))
+        (within-when (lines.jumps line) (at_line 308 line) ws
+        (λ e. jumps-in (at_line 308 line) (plain-there (IsLineIn unit) 308 (jump_violations unit) line (plain-jumps unit) e)))
+        (within-when (lines.names line) (at_line 309 line) ws
+        (λ e. names-in (at_line 309 line) (plain-there (IsLineOf program) 309 (name_violations program) line (plain-names program) e))))))
 
     abbrev in_form : Violations
     in_form = unknown_in_form unit line s.form
@@ -298,7 +304,8 @@ module _ (program : Units) (unit : List Statement) (there : Contains program uni
         (within-append (shared_told lines line) (unknown_told program unit s ++ (three ++ four)) ws shared-within
         (within-append (unknown_told program unit s) (three ++ four) ws unknown-within
         (within-append three four ws
-        (within-when (lines.values line) (at_line 311 line) ws (λ e. data-in (at_line 311 line) (plain-there 311 (data_violations unit) line (plain-data unit) e)))
+        (within-when (lines.values line) (at_line 311 line) ws
+        (λ e. data-in (at_line 311 line) (plain-there (IsLineIn unit) 311 (data_violations unit) line (plain-data unit) e)))
         (λ v c. resume-in v (contains-flat (λ (r : Statement). when (is_resume r.form && is_none (subroutine_name unit)) (at_line 312 r.line)) unit s v stands c))))))
 
     statement-within : (ps : Parameters) (known : List Name) → (not (is_statement_typed types_of unit ps s) ≡ true → Contains ws (at_line 302 line))

@@ -29,18 +29,16 @@ pub fn violations_of_statements_are_told()
         → Contains (resume_violations unit) v → Contains (told program) v }
 {}
 
-/// Each violation that is about several statements or units is told, if it is at the line of a statement of its unit.
+/// Each violation that is about several statements or units is told.
 pub fn shared_violations_are_told()
-    ensures common { (program : Units) (unit : List Statement) (s : Statement) (v : PureViolation) → Contains program unit → Contains unit s
-        → s.line ≡ v.line → Contains (common_violations program) v → Contains (told program) v }
-    ensures labels { (program : Units) (unit : List Statement) (s : Statement) (v : PureViolation) → Contains program unit → Contains unit s
-        → s.line ≡ v.line → Contains (label_violations unit) v → Contains (told program) v }
-    ensures structure { (program : Units) (unit : List Statement) (s : Statement) (v : PureViolation) → Contains program unit → Contains unit s
-        → s.line ≡ v.line → Contains (structure_violations (function_types program) unit) v → Contains (told program) v }
-    ensures jumps { (program : Units) (unit : List Statement) (s : Statement) (v : PureViolation) → Contains program unit → Contains unit s
-        → s.line ≡ v.line → Contains (jump_violations unit) v → Contains (told program) v }
-    ensures names { (program : Units) (unit : List Statement) (s : Statement) (v : PureViolation) → Contains program unit → Contains unit s
-        → s.line ≡ v.line → Contains (name_violations program) v → Contains (told program) v }
-    ensures values { (program : Units) (unit : List Statement) (s : Statement) (v : PureViolation) → Contains program unit → Contains unit s
-        → s.line ≡ v.line → Contains (data_violations unit) v → Contains (told program) v }
+    ensures common { (program : Units) (v : PureViolation) → Contains (common_violations program) v → Contains (told program) v }
+    ensures labels { (program : Units) (unit : List Statement) (v : PureViolation) → Contains program unit
+        → Contains (label_violations unit) v → Contains (told program) v }
+    ensures structure { (program : Units) (unit : List Statement) (v : PureViolation) → Contains program unit
+        → Contains (structure_violations (function_types program) unit) v → Contains (told program) v }
+    ensures jumps { (program : Units) (unit : List Statement) (v : PureViolation) → Contains program unit
+        → Contains (jump_violations unit) v → Contains (told program) v }
+    ensures names { (program : Units) (v : PureViolation) → Contains (name_violations program) v → Contains (told program) v }
+    ensures values { (program : Units) (unit : List Statement) (v : PureViolation) → Contains program unit
+        → Contains (data_violations unit) v → Contains (told program) v }
 {}

@@ -2,10 +2,10 @@
 use Rattle.std.specs.Prelude.{◌≡◌, ◌<◌, ℕ, true, List, length, Some, None, IfOk, OnErr, Result, vec_capacity}
 use Rattle.std.specs.Option.{unwrap_or}
 use Rattle.hep_machine.specs.Words.{Frame, Units, Value}
-use Rattle.hep_arena.specs.Space.{Space}
-use Rattle.hep_layout.specs.Words.{FrameNode, Nodes}
-use Rattle.hep_image.specs.declared.unit.UnitCode.{UnitCode}
-use Rattle.hep_image.specs.Image.{IsUnitCode}
+use Rattle.hep_step.specs.ArenaSpace.{Space}
+use Rattle.hep_step.specs.LayoutWords.{FrameNode, Nodes}
+use Rattle.hep_step.specs.ImageUnitUnitCode.{UnitCode}
+use Rattle.hep_step.specs.ImageImage.{IsUnitCode}
 use Rattle.hep_step.specs.declared.effect.Effect.{Effect}
 use Rattle.hep_step.specs.declared.frame.Frame.{Frame as CellFrame}
 use Rattle.hep_step.specs.Changes.{changed_at}

@@ -3,9 +3,8 @@ ghost use Rattle.std.specs.Prelude.{◌≡◌, length};
 ghost use Rattle.hep_proc.specs.Stacks.{IsSameProcess};
 ghost use Rattle.hep_tops.specs.Tops.{AdvancesTop, CanAdvanceTop, HasPlace, IsPlaced};
 
-use hep_image::{Image, UnitCode};
 use hep_proc::{Frames, Local, Process};
-use hep_step::{Effect, Frame, Standing, Storage, perform};
+use hep_step::{Effect, Frame, Image, Standing, Storage, UnitCode, perform};
 use std::alloc::{AllocError, Global};
 use std::mem::replace;
 
@@ -39,9 +38,9 @@ pub fn place<'a>(
 /// Only where memory was refused for a record; nothing is changed then.
 #[inline(always)]
 pub fn advance(
+    alloc: Global,
     process: &mut Process,
     frames: &mut Frames,
-    alloc: Global,
     image: &Image,
 ) -> Result<Effect, AllocError>
     requires { CanAdvanceTop image.now process.old frames.old }

@@ -1,6 +1,7 @@
 -- Which variables a step accesses, by their names: docs/RUNS.md, "What each step did".
-use Rattle.std.specs.Prelude.{ℕ, Bool, ◌||◌, List, [], ◌∷◌, Result, Ok}
+use Rattle.std.specs.Prelude.{ℕ, Bool, false, ◌||◌, List, [], ◌∷◌, Option, Some, None, Result, Ok}
 use Rattle.std.specs.List.{list_any}
+use Rattle.std.specs.Option.{option_map_or}
 use Rattle.std.specs.Str.{bytes_eq}
 use Rattle.hep_machine.specs.declared.event.Kind.{Kind}
 use Rattle.hep_machine.specs.Evaluation.{reading}
@@ -12,10 +13,14 @@ references_of_redex (reading r) = r ∷ []
 references_of_redex (testing f r) = r ∷ []
 references_of_redex _ = []
 
--- the name with which the variable is declared that has a storage unit; one in COMMON has several
-abbrev pub name_at : Result Location Kind → List ℕ
-name_at (Ok (local a x i)) = spelling x
-name_at _ = []
+-- the name with which the variable is declared that has a storage unit: none where that is in COMMON, or where there is no storage unit
+abbrev pub name_at : Result Location Kind → Option (List ℕ)
+name_at (Ok (local a x i)) = Some (spelling x)
+name_at _ = None
+
+-- this name, if there is one, is the one that is sought
+abbrev pub is_name : List ℕ → Option (List ℕ) → Bool
+is_name sought name = option_map_or (bytes_eq sought) name false
 
 -- of an activation on top of a process, before its step
 module _ (program : Units) (t : Top) where
@@ -34,7 +39,7 @@ module _ (program : Units) (t : Top) where
 
   -- by its name in the unit, or where it is declared
   abbrev pub has_name : List ℕ → Reference → Bool
-  has_name name r = bytes_eq name (spelling r.0) || bytes_eq name (name_at (location_of_name (own_scope program t) r.0 r.1))
+  has_name name r = bytes_eq name (spelling r.0) || is_name name (name_at (location_of_name (own_scope program t) r.0 r.1))
 
   abbrev pub touches : List ℕ → Bool
   touches name = list_any (has_name name) (references_of (next_of (unit_on_top program t) t.level.work))

@@ -1,3 +1,8 @@
+pub use Rattle.hep_dump.specs.CoreStanding
+pub use Rattle.hep_dump.specs.UnwatchedWatchWatch
+pub use Rattle.hep_dump.specs.UnwatchedWatches
+pub use Rattle.hep_dump.specs.ViewsListedListed
+pub use Rattle.hep_dump.specs.ViewsWhereaboutsWhereabouts
 pub use Rattle.hep_dump.specs.Value
 pub use Rattle.hep_dump.specs.Waiting
 pub use Rattle.hep_dump.specs.Names

@@ -6,7 +6,7 @@
 pub mod lines;
 pub mod values;
 
-pub use hep_dump::append_waiting;
+pub use hep_dump::{Core, Kind, Listed, Watch, Whereabouts, append_waiting};
 pub use lines::{
     Accessed, append_accessed, append_answer, append_applied, append_branch, append_call,
     append_choice, append_combined, append_condition, append_create, append_end, append_fault,

@@ -1,14 +1,14 @@
 -- Turns and entries that are made one after the other, and their lines.
 use Rattle.std.proofs.Common.{◌≡◌, ◌≢◌, ℕ, zero, suc, ◌+◌, ◌-◌, ◌<◌, ◌≤◌, Bool, true, false, List, [], ◌∷◌, ◌++◌, Option, Some, None, Result, Ok, Err, IfNone, IfOk, is_some, length, length-append, replicate, refl, sym, ap, ◌∙◌, subst, arith, append_assoc, append-nil, inl, true≢false}
 use Rattle.std.proofs.lemmas.List.{length-replicate}
-use Rattle.hep_core.specs.declared.stop.ChoiceStop.{ChoiceStop}
-use Rattle.hep_core.specs.Value.{CoreValue, HasNoStop, state_of}
-use Rattle.hep_core.proofs.Histories.{progress-last}
-use Rattle.hep_history.specs.Progress.{IsStanding, TurnMade, longer, turn_entry}
-use Rattle.hep_history.specs.Replays.{most_entries}
-use Rattle.hep_history.proofs.Turns.{expand_ones, one, schedule_of-append, stopped_turns}
+use Rattle.hep_causes.specs.CoreStopChoiceStop.{ChoiceStop}
+use Rattle.hep_causes.specs.CoreValue.{CoreValue, HasNoStop, state_of}
+use Rattle.hep_causes.proofs.CoreHistories.{progress-last}
+use Rattle.hep_causes.specs.Progress.{IsStanding, TurnMade, longer, turn_entry}
+use Rattle.hep_causes.specs.Replays.{most_entries}
+use Rattle.hep_causes.proofs.HistoryTurns.{expand_ones, one, schedule_of-append, stopped_turns}
 use Rattle.hep_machine.specs.Words.{Progress, Units, progress_after_entry, progress_after_step, schedule_of, state_after_turn}
-use Rattle.hep_traces.specs.Traces.{entry_text, line_text, steps_text}
+use Rattle.hep_watching.specs.TracesTraces.{entry_text, line_text, steps_text}
 use Rattle.hep_turns.specs.Making.{IsReplaying, progress_of, shown_lines}
 
 -- what follows of two clauses on what was made

@@ -4,16 +4,16 @@ use Rattle.std.proofs.lemmas.Bool.{lt-leb}
 use Rattle.std.proofs.lemmas.List.{length-take, take-take, take_more}
 use Rattle.std.proofs.lemmas.Option.{get_or_from_slice_get, none-some, same_Some, slice_get_within}
 use Rattle.hep_causes.proofs.Found.{few-singles, progress-singles}
-use Rattle.hep_core.specs.Value.{CoreValue}
-use Rattle.hep_history.specs.Replays.{ArePossible, IsFirstImpossible, IsUnmade, most_entries, replayed, single_entries}
-use Rattle.hep_history.specs.declared.fault.ReplayFault.{ReplayFault}
-use Rattle.hep_history.specs.declared.fault.ReplayFault.TheVariants.{NoMemory, ArenaFull, Refused}
-use Rattle.hep_history.proofs.Fronts.{first-of-front, possible-front}
-use Rattle.hep_history.proofs.Turns.{HaveReplayed, expand_singles}
+use Rattle.hep_causes.specs.CoreValue.{CoreValue}
+use Rattle.hep_causes.specs.Replays.{ArePossible, IsFirstImpossible, IsUnmade, most_entries, replayed, single_entries}
+use Rattle.hep_causes.specs.HistoryFaultReplayFault.{ReplayFault}
+use Rattle.hep_causes.specs.HistoryFaultReplayFault.TheVariants.{NoMemory, ArenaFull, Refused}
+use Rattle.hep_causes.proofs.HistoryFronts.{first-of-front, possible-front}
+use Rattle.hep_causes.proofs.HistoryTurns.{HaveReplayed, expand_singles}
 use Rattle.hep_machine.specs.declared.event.Entry.{Entry}
 use Rattle.hep_machine.specs.Words.{Progress, Units, opening, progress_after, progress_after_entry, progress_from}
-use Rattle.hep_traces.specs.Traces.{Shown, entry_text, is_of, is_shown, trace_from, trace_text}
-use Rattle.hep_turns.specs.Making.{HasMade, IsReplaying, IsUntold, progress_of}
+use Rattle.hep_watching.specs.TracesTraces.{Shown, entry_text, is_of, is_shown, trace_from, trace_text}
+use Rattle.hep_turns.specs.Making.{HasMade, IsReplaying, progress_of}
 
 -- ---- the first of those that are left
 
@@ -89,11 +89,11 @@ module _ (program : Units) (shown : Shown) where
 
 -- ---- the beginning
 
-pub untold-front : (program : Units) (cells : ℕ) (front : List Entry) (k : ℕ) (entries : List Entry) (fault : ReplayFault) → front ≡ take k entries
-    → IsUnmade program cells front fault → IsUntold program cells entries fault
-untold-front program cells front k entries NoMemory are unmade = tt
-untold-front program cells front k entries ArenaFull are unmade = unmade
-untold-front program cells front k entries (Refused number entry) are unmade = (
+pub unmade-front : (program : Units) (cells : ℕ) (front : List Entry) (k : ℕ) (entries : List Entry) (fault : ReplayFault) → front ≡ take k entries
+    → IsUnmade program cells front fault → IsUnmade program cells entries fault
+unmade-front program cells front k entries NoMemory are unmade = unmade
+unmade-front program cells front k entries ArenaFull are unmade = unmade
+unmade-front program cells front k entries (Refused number entry) are unmade = (
   unmade.0,
   unmade.1,
   first-of-front program cells k entries entry (subst (λ (es : List Entry). IsFirstImpossible program cells es entry) are unmade.2),

@@ -2,17 +2,17 @@
 use Rattle.std.proofs.Common.{◌≡◌, ℕ, zero, suc, ◌+◌, ◌-◌, ◌<◌, ◌≤◌, Bool, false, List, [], ◌∷◌, ◌++◌, Some, drop, length, length-append, replicate, slice_get, take, refl, sym, ap, ◌∙◌, subst, arith, append_assoc, append-nil}
 use Rattle.std.proofs.lemmas.List.{length-replicate, length-take, replicate-append-replicate}
 use Rattle.hep_causes.proofs.Found.{few-singles, progress-singles}
-use Rattle.hep_core.specs.Value.{CoreValue}
+use Rattle.hep_causes.specs.CoreValue.{CoreValue}
 use Rattle.hep_entries.specs.declared.run.Run.{Run}
 use Rattle.hep_entries.specs.Runs.{entries_of, entry_of}
-use Rattle.hep_history.specs.Progress.{AreMade, IsCutShort, again, begun}
-use Rattle.hep_history.specs.Replays.{ArePossible, HaveGaps, IsFirstImpossible, single_steps}
-use Rattle.hep_history.proofs.Fronts.{front-same}
-use Rattle.hep_history.proofs.InRuns.{run_here}
-use Rattle.hep_history.proofs.Turns.{expand_singles, joined, run_refused, run_replayed, schedule_of-append}
+use Rattle.hep_causes.specs.Progress.{AreMade, IsCutShort, again, begun}
+use Rattle.hep_causes.specs.Replays.{ArePossible, HaveGaps, IsFirstImpossible, single_steps}
+use Rattle.hep_causes.proofs.HistoryFronts.{front-same}
+use Rattle.hep_causes.proofs.HistoryInRuns.{run_here}
+use Rattle.hep_causes.proofs.HistoryTurns.{expand_singles, joined, run_refused, run_replayed, schedule_of-append}
 use Rattle.hep_machine.specs.declared.event.Entry.{Entry}
 use Rattle.hep_machine.specs.Words.{Progress, Units, opening, progress_after, progress_after_entry, progress_from, schedule_of}
-use Rattle.hep_traces.specs.Traces.{Shown, entry_text, is_shown, trace_from}
+use Rattle.hep_watching.specs.TracesTraces.{Shown, entry_text, is_shown, trace_from}
 use Rattle.hep_turns.specs.Making.{HasMade, IsReplaying, progress_of, shown_lines, shown_text}
 use Rattle.hep_turns.proofs.Left.{front-more, left-at, progress-is, replayed-so}
 

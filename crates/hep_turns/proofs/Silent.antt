@@ -1,16 +1,16 @@
 -- Turns that have no line by where they begin.
 use Rattle.std.proofs.Common.{◌≡◌, ℕ, zero, suc, ◌≤◌, Bool, true, false, true≢false, if◌then◌else◌, List, [], ◌∷◌, ◌++◌, Option, Some, None, replicate, refl, sym, ap, ◌∙◌, subst, arith}
 use Rattle.hep_conditions.specs.Words.{IsAccepted}
-use Rattle.hep_core.specs.Going.{AreChoices}
-use Rattle.hep_core.specs.Value.{CoreValue}
-use Rattle.hep_core.proofs.Going.{unmoved}
-use Rattle.hep_history.specs.Progress.{AreMade, IsStanding, begun}
-use Rattle.hep_history.proofs.Turns.{some_steps, steps_moved}
+use Rattle.hep_causes.specs.CoreGoing.{AreChoices}
+use Rattle.hep_causes.specs.CoreValue.{CoreValue}
+use Rattle.hep_causes.proofs.CoreGoing.{unmoved}
+use Rattle.hep_causes.specs.Progress.{AreMade, IsStanding, begun}
+use Rattle.hep_causes.proofs.HistoryTurns.{some_steps, steps_moved}
 use Rattle.hep_machine.specs.declared.event.Entry.{Entry}
 use Rattle.hep_machine.specs.Words.{Level, Process, Progress, State, Units, living, progress_after_step, state_after_turn, unit_of}
-use Rattle.hep_unwatched.specs.declared.watch.Watch.{Watch}
-use Rattle.hep_unwatched.specs.Watches.{IsUnwatched, PassesFrom, is_watched}
-use Rattle.hep_traces.specs.Traces.{Shown, is_accessed, is_shown, line_by, line_text, trace_from, turn_text}
+use Rattle.hep_causes.specs.UnwatchedWatchWatch.{Watch}
+use Rattle.hep_causes.specs.UnwatchedWatches.{IsUnwatched, PassesFrom, is_watched}
+use Rattle.hep_watching.specs.TracesTraces.{Shown, is_accessed, is_shown, line_by, line_text, trace_from, turn_text}
 use Rattle.hep_watching.specs.Watched.{AreWatchesOf}
 use Rattle.hep_turns.specs.Tellers.{AreWatchesFor}
 

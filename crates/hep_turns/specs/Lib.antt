@@ -1,4 +1,4 @@
-pub use Rattle.hep_traces.specs.Traces
+pub use Rattle.hep_watching.specs.TracesTraces
 pub mod Pages
 pub mod Making
 pub mod Tellers

@@ -1,13 +1,11 @@
 -- Turns and entries of a history that are made again and told of: docs/ARCHITECTURE.md, "Forms".
-use Rattle.std.specs.Prelude.{◌≡◌, ◌≤◌, ℕ, Bool, if◌then◌else◌, List, [], length, take, None, IsSome}
-use Rattle.hep_core.specs.Value.{CoreValue}
-use Rattle.hep_history.specs.Progress.{IsStanding}
-use Rattle.hep_history.specs.Replays.{ArePossible, IsFirstImpossible, most_entries, replayed, single_entries}
-use Rattle.hep_history.specs.declared.fault.ReplayFault.{ReplayFault}
-use Rattle.hep_history.specs.declared.fault.ReplayFault.TheVariants.{NoMemory, ArenaFull, Refused}
+use Rattle.std.specs.Prelude.{◌≡◌, ◌≤◌, ℕ, Bool, if◌then◌else◌, List, [], length, take}
+use Rattle.hep_causes.specs.CoreValue.{CoreValue}
+use Rattle.hep_causes.specs.Progress.{IsStanding}
+use Rattle.hep_causes.specs.Replays.{ArePossible, most_entries, replayed, single_entries}
 use Rattle.hep_machine.specs.declared.event.Entry.{Entry}
-use Rattle.hep_machine.specs.Words.{Progress, Units, opening_layout, progress_after, schedule_of}
-use Rattle.hep_traces.specs.Traces.{Shown, entry_text, is_shown}
+use Rattle.hep_machine.specs.Words.{Progress, Units, progress_after, schedule_of}
+use Rattle.hep_watching.specs.TracesTraces.{Shown, entry_text, is_shown}
 
 -- what is known after a core's history
 abbrev pub progress_of : CoreValue → Progress
@@ -33,11 +31,3 @@ shown_lines shown lines = if shown then lines else []
 -- the lines of one entry, where they are shown
 abbrev pub shown_text : Units → Shown → ℕ → Progress → Entry → List ℕ
 shown_text program shown number x e = shown_lines (is_shown shown number e.process) (entry_text program shown.cell number x e e.steps)
-
--- why entries aren't told of: memory was refused; or the main program's frame has no gap; or the entry with this number is the first one
--- that isn't possible
-abbrev pub IsUntold : Units → ℕ → List Entry → ReplayFault → Type 0
-IsUntold program cells entries NoMemory = Unit {0}
-IsUntold program cells entries ArenaFull = opening_layout program cells ≡ None
-IsUntold program cells entries (Refused number entry) =
-    IsSome (opening_layout program cells) × (number ≡ 603) × IsFirstImpossible program cells entries entry

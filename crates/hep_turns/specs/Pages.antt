@@ -1,6 +1,6 @@
 -- Which lines are shown: docs/RUNS.md, "What each step did".
 use Rattle.hep_glances.specs.Sights.{name_sought}
-use Rattle.hep_traces.specs.Traces.{Shown}
+use Rattle.hep_watching.specs.TracesTraces.{Shown}
 use Rattle.hep_turns.specs.declared.page.Page.{Page}
 
 abbrev pub shown_on : Page → Shown

@@ -1,8 +1,8 @@
 -- What lines are made by: docs/RUNS.md, "What each step did".
 use Rattle.std.specs.Prelude.{◌≡◌, ℕ, List, [], Option, Some, None}
 use Rattle.hep_machine.specs.Words.{Units}
-use Rattle.hep_unwatched.specs.declared.watch.Watch.{Watch}
-use Rattle.hep_sites.specs.Variables.{AreVariablesOf}
+use Rattle.hep_causes.specs.UnwatchedWatchWatch.{Watch}
+use Rattle.hep_causes.specs.SitesVariables.{AreVariablesOf}
 use Rattle.hep_watching.specs.Watched.{AreWatchesOf}
 use Rattle.hep_turns.specs.Pages.{shown_on}
 use Rattle.hep_turns.specs.declared.telling.Teller.{Teller}

@@ -1,6 +1,6 @@
 //! Which lines are shown.
 ghost use Rattle.std.specs.Prelude.{◌≡◌, ◌+◌, ◌<◌, ◌≤◌, false, ℕ};
-ghost use Rattle.hep_traces.specs.Traces.{is_of, is_shown};
+ghost use Rattle.hep_watching.specs.TracesTraces.{is_of, is_shown};
 ghost use Rattle.hep_turns.specs.Pages.{shown_on};
 
 /// Which lines are shown: of entries from one number to another, counted from 1, of one process or of all; and of them the steps that

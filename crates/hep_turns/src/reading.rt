@@ -1,19 +1,17 @@
 //! What each step of a history did.
 ghost use Rattle.std.specs.Prelude.{◌≡◌, ◌≤◌, IfErr, IfOk, IsSome, OnOk, length};
-ghost use Rattle.hep_history.specs.First.{first_of};
-ghost use Rattle.hep_history.specs.Replays.{ArePossible};
+ghost use Rattle.hep_causes.specs.HistoryFirst.{first_of};
+ghost use Rattle.hep_causes.specs.Replays.{ArePossible, IsUnmade};
 ghost use Rattle.hep_machine.specs.Words.{opening_layout};
-ghost use Rattle.hep_traces.specs.Traces as words;
-ghost use Rattle.hep_turns.specs.Making.{HasMade, IsUntold};
+ghost use Rattle.hep_watching.specs.TracesTraces as words;
+ghost use Rattle.hep_turns.specs.Making.{HasMade};
 ghost use Rattle.hep_turns.specs.Pages.{shown_on};
 
 use crate::page::Page;
 use crate::telling::{Teller, tell_entries};
 use crate::watching::watches_for;
-use hep_core::Core;
-use hep_history::{First, ReplayFault, replay_first};
+use hep_causes::{Core, First, ReplayFault, Variables, replay_first};
 use hep_image::Image;
-use hep_sites::Variables;
 use std::alloc::Global;
 
 // A core that has made so many of the entries, which are no more than there are.
@@ -30,7 +28,7 @@ fn begin_after(
     ensures made { IfOk result (λ core. HasMade core.core (first_of entries.now) made) }
     ensures same { IfOk result (λ core. (core.core.program ≡ image) × (core.core.cells ≡ cells)) }
     ensures fits { OnOk result (IsSome (opening_layout image cells)) }
-    ensures untold { IfErr result (IsUntold image cells (first_of entries.now)) }
+    ensures unmade { IfErr result (IsUnmade image cells (first_of entries.now)) }
 {
     let front = First {
         history: entries.history,
@@ -47,7 +45,7 @@ fn begin_after(
 ///
 /// # Errors
 ///
-/// `ArenaFull` and `Refused` as a replay of these entries gives them, and `NoMemory`.
+/// As a replay of these entries: `ArenaFull`, `Refused`, and `NoMemory`, which comes only where the main program's frame has a gap.
 pub fn trace_history(
     alloc: Global,
     image: Image,
@@ -60,7 +58,7 @@ pub fn trace_history(
     ensures told { IfOk result (λ text. text.items ≡ words.trace_text image (shown_on page.now) (first_of entries.now)) }
     ensures fits { OnOk result (IsSome (opening_layout image cells)) }
     ensures possible { OnOk result (ArePossible image cells (first_of entries.now) (length (first_of entries.now))) }
-    ensures untold { IfErr result (IsUntold image cells (first_of entries.now)) }
+    ensures unmade { IfErr result (IsUnmade image cells (first_of entries.now)) }
 {
     let made = page.first.saturating_sub(1).min(entries.len());
     let mut core = begin_after(alloc, image, cells, entries, made)?;

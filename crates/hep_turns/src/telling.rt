@@ -1,25 +1,22 @@
 //! Turns and entries that are made and told of.
 ghost use Rattle.std.specs.Prelude.{◌≡◌, ◌+◌, ◌^◌, ◌++◌, ◌<◌, ◌≤◌, ℕ, [], IfOk, Ok, drop, false, length, replicate, take, true};
-ghost use Rattle.hep_core.specs.Value.{state_of};
+ghost use Rattle.hep_causes.specs.CoreValue.{state_of};
 ghost use Rattle.hep_entries.specs.Runs.{entry_of};
 ghost use Rattle.hep_glances.specs.Sights.{IsTurnMade};
-ghost use Rattle.hep_history.specs.First.{first_of};
-ghost use Rattle.hep_history.specs.Progress.{AreMade, EntryMade, IsStanding, RunMade, StepsMade, TurnMade};
-ghost use Rattle.hep_history.specs.Replays.{ArePossible, IsFirstImpossible};
+ghost use Rattle.hep_causes.specs.HistoryFirst.{first_of};
+ghost use Rattle.hep_causes.specs.Progress.{AreMade, EntryMade, IsStanding, RunMade, StepsMade, TurnMade};
+ghost use Rattle.hep_causes.specs.Replays.{ArePossible, IsFirstImpossible};
 ghost use Rattle.hep_machine.specs.Words.{Progress as AProgress, progress_after};
-ghost use Rattle.hep_traces.specs.Traces as words;
+ghost use Rattle.hep_watching.specs.TracesTraces as words;
 ghost use Rattle.hep_turns.specs.Making.{HasMade, IsReplaying, progress_of, shown_lines, shown_text};
 ghost use Rattle.hep_turns.specs.Pages.{shown_on};
 ghost use Rattle.hep_turns.specs.Tellers.{CanTell};
 
 use crate::page::Page;
-use hep_core::{ChooseFault, Core};
+use hep_causes::{ChooseFault, Core, First, Variables, Watch, make_run, stands_watched};
 use hep_entries::Run;
 use hep_glances::{append_line, look};
-use hep_history::{First, make_run};
 use hep_machine::Entry;
-use hep_sites::Variables;
-use hep_unwatched::{Watch, stands_watched};
 use hep_watching::laws::unwatched_turns_access_nothing;
 use std::alloc::{AllocError, Global};
 

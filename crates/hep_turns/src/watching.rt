@@ -1,13 +1,12 @@
 //! From which indexes of the code a step may have a line.
 ghost use Rattle.std.specs.Prelude.{IfOk};
-ghost use Rattle.hep_sites.specs.Variables.{AreVariablesOf};
+ghost use Rattle.hep_causes.specs.SitesVariables.{AreVariablesOf};
 ghost use Rattle.hep_turns.specs.Pages.{shown_on};
 ghost use Rattle.hep_turns.specs.Tellers.{AreWatchesFor};
 
 use crate::page::Page;
+use hep_causes::{Variables, Watch};
 use hep_image::Image;
-use hep_sites::Variables;
-use hep_unwatched::Watch;
 use hep_watching::watches_of;
 use std::alloc::{AllocError, Global};
 

@@ -2,17 +2,17 @@
 use Rattle.std.proofs.Common.{◌≡◌, ℕ, zero, suc, ◌+◌, Bool, false, List, [], ◌∷◌, ◌++◌, replicate, refl, sym, ap, ◌∙◌, subst, arith, append-nil, append_assoc}
 use Rattle.hep_code.specs.declared.instruction.Instruction.{Instruction}
 use Rattle.hep_code.specs.Words.{Stands}
-use Rattle.hep_image.specs.declared.array.Array.{Array}
+use Rattle.hep_going.specs.ImageArrayArray.{Array}
 use Rattle.hep_machine.specs.Words.{State, Units, opening, run, run_from, state_after_turn, unit_of}
-use Rattle.hep_moves.specs.Moves.{Goes, stays}
-use Rattle.hep_quick.proofs.Steps.{goes-on}
-use Rattle.hep_step.specs.Performed.{Snapshot}
-use Rattle.hep_step.specs.Simulation.{unit_addressed, unit_arrays, unit_code}
-use Rattle.hep_state.specs.Words as machines
-use Rattle.hep_state.specs.Words.{HasLevels, IsMachineAfter, IsTurning, LivesOn, StaysShown, TurnOf, snapshot_of, state_before, top_frame}
-use Rattle.hep_state.specs.declared.machine.Machine.{Machine}
-use Rattle.hep_state.proofs.Beside.{beside-again, beside-shown}
-use Rattle.hep_state.proofs.Moved.{standing-before, unit-is}
+use Rattle.hep_going.specs.MovesMoves.{Goes, stays}
+use Rattle.hep_going.proofs.QuickSteps.{goes-on}
+use Rattle.hep_going.specs.StepPerformed.{Snapshot}
+use Rattle.hep_going.specs.StepSimulation.{unit_addressed, unit_arrays, unit_code}
+use Rattle.hep_going.specs.StateWords as machines
+use Rattle.hep_going.specs.StateWords.{HasLevels, IsMachineAfter, IsTurning, LivesOn, StaysShown, TurnOf, snapshot_of, state_before, top_frame}
+use Rattle.hep_going.specs.StateMachineMachine.{Machine}
+use Rattle.hep_going.proofs.StateBeside.{beside-again, beside-shown}
+use Rattle.hep_going.proofs.StateMoved.{standing-before, unit-is}
 use Rattle.hep_going.specs.Gone as gone
 use Rattle.hep_going.specs.Gone.{HasGone, MakesMoves}
 use Rattle.hep_going.proofs.Turns.{HasLaws, come-so, here, turn_at}

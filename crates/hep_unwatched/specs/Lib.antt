@@ -1,2 +1,3 @@
+pub use Rattle.hep_going.specs.Gone as GoingGone
 pub mod Passes
 pub mod Watches

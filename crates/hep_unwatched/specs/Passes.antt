@@ -2,20 +2,20 @@
 use Rattle.std.specs.Prelude.{◌≡◌, ◌⊎◌, ℕ, suc, ◌<◌, ◌≤◌, Bool, true, false, List}
 use Rattle.hep_arena.specs.Space.{Space}
 use Rattle.hep_code.specs.declared.instruction.Instruction.{Instruction}
-use Rattle.hep_image.specs.declared.array.Array.{Array}
-use Rattle.hep_layout.specs.Words.{Nodes}
+use Rattle.hep_going.specs.ImageArrayArray.{Array}
+use Rattle.hep_going.specs.LayoutWords.{Nodes}
 use Rattle.hep_machine.specs.Words.{Value, Units, run}
-use Rattle.hep_moves.specs.Moves.{Goes, HasNoMove}
-use Rattle.hep_proc.specs.declared.frames.Frames.{Frames}
-use Rattle.hep_proc.specs.declared.process.Local.{Local}
-use Rattle.hep_proc.specs.declared.process.Process.{Process}
-use Rattle.hep_proc.specs.Nodes.{nodes_of}
-use Rattle.hep_proc.specs.Stacks.{HoldsOfTop, Stack, stack_of, stack_with}
-use Rattle.hep_step.specs.Performed as step
-use Rattle.hep_step.specs.Performed.{snapshot}
-use Rattle.hep_step.specs.Simulation.{unit_arrays, unit_code}
-use Rattle.hep_state.specs.declared.machine.Machine.{Machine}
-use Rattle.hep_state.specs.Words.{AfterTurns, HasLevels, Snapshot, node_under}
+use Rattle.hep_going.specs.MovesMoves.{Goes, HasNoMove}
+use Rattle.hep_going.specs.ProcFramesFrames.{Frames}
+use Rattle.hep_going.specs.ProcProcessLocal.{Local}
+use Rattle.hep_going.specs.ProcProcessProcess.{Process}
+use Rattle.hep_going.specs.ProcNodes.{nodes_of}
+use Rattle.hep_going.specs.ProcStacks.{HoldsOfTop, Stack, stack_of, stack_with}
+use Rattle.hep_going.specs.StepPerformed as step
+use Rattle.hep_going.specs.StepPerformed.{snapshot}
+use Rattle.hep_going.specs.StepSimulation.{unit_arrays, unit_code}
+use Rattle.hep_going.specs.StateMachineMachine.{Machine}
+use Rattle.hep_going.specs.StateWords.{AfterTurns, HasLevels, Snapshot, node_under}
 use Rattle.hep_going.specs.Gone.{HasNoMoveAhead, HasNoMoveAt}
 use Rattle.hep_unwatched.specs.declared.watch.Watch.{Watch}
 use Rattle.hep_unwatched.specs.Watches.{PassesFrom, is_watched, row_of, watched_at}

@@ -3,7 +3,7 @@ use Rattle.std.specs.Prelude.{◌≡◌, ℕ, zero, suc, Bool, true, false, List
 use Rattle.std.specs.Option.{unwrap_or}
 use Rattle.hep_code.specs.Words.{Stands}
 use Rattle.hep_machine.specs.Words.{Level, Process, State, Units, Value, living, state_after_turn, unit_of}
-use Rattle.hep_step.specs.Simulation.{unit_addressed}
+use Rattle.hep_going.specs.StepSimulation.{unit_addressed}
 use Rattle.hep_unwatched.specs.declared.watch.Watch.{Watch}
 
 abbrev pub row_in : Option Watch → List Bool

@@ -9,7 +9,7 @@ mod top;
 pub mod walk;
 pub mod watch;
 
-pub use hep_going::{Table, Tabled, tables_of};
+pub use hep_going::{Table, Tabled, go_on, tables_of};
 pub use passing::{pass_on, stands_watched};
 pub use walk::step_once;
 pub use watch::Watch;

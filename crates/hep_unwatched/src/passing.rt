@@ -2,14 +2,13 @@
 ghost use Rattle.std.specs.Prelude.{◌≡◌, ◌≤◌, ◌<◌, ◌+◌, ◌^◌, ℕ, List, false};
 ghost use Rattle.hep_going.specs.Gone.{CanTakeTurns, MakesMoves};
 ghost use Rattle.hep_machine.specs.Words.{Units, run};
-ghost use Rattle.hep_state.specs.Words.{AreNumbered, HasLevels, IsMachineAfter, LivesOn, snapshot_of};
+ghost use Rattle.hep_going.specs.StateWords.{AreNumbered, HasLevels, IsMachineAfter, LivesOn, snapshot_of};
 ghost use Rattle.hep_unwatched.specs.Passes.{EndsBefore, PassesTurns};
 ghost use Rattle.hep_unwatched.specs.Watches as words;
 
 use crate::top::pass_top;
 use crate::watch::{Watch, row_of, watched_at};
-use hep_going::Tabled;
-use hep_state::{Machine, laws};
+use hep_going::{Machine, Tabled, tops_are_running};
 
 // So many turns of process p at most, which lives, and how many they were: each begins where nothing is watched, and is a step of a plain
 // operation that moves p. No memory is taken.
@@ -30,7 +29,7 @@ fn pass_moves(
     ensures lives { LivesOn p 0 machine.old machine.new }
 {
     tabled.image.is_runnable();
-    laws::tops_are_running();
+    tops_are_running();
     let at = machine.place(p);
     let process = &mut machine.processes[at];
     pass_top(process, &mut machine.frames, tabled, watches, most)

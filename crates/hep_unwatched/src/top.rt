@@ -1,16 +1,12 @@
 //! The top activation of a process, and steps from where nothing is watched that only move it.
 ghost use Rattle.std.specs.Prelude.{◌≡◌, ◌≤◌};
-ghost use Rattle.hep_proc.specs.Stacks.{IsSameProcess};
+ghost use Rattle.hep_going.specs.ProcStacks.{IsSameProcess};
 ghost use Rattle.hep_going.specs.Gone.{CanGoTop};
 ghost use Rattle.hep_unwatched.specs.Passes.{PassesTop};
 
 use crate::walk::{Walk, walk_on};
 use crate::watch::{Watch, row_of};
-use hep_going::Tabled;
-use hep_moves::Activation;
-use hep_proc::{Frames, Process};
-use hep_quick::Quick;
-use hep_state::place;
+use hep_going::{Activation, Frames, Process, Quick, Tabled, place};
 
 /// So many steps at most of the top activation of a process, each of which begins where nothing is watched and only moves it, and how many
 /// they were.

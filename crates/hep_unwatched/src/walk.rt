@@ -1,13 +1,13 @@
 //! Steps of an activation that only move it, one by one, each from where nothing is watched.
 ghost use Rattle.std.specs.Prelude.{◌≡◌, ◌≤◌, ℕ, length, vec_capacity};
-ghost use Rattle.hep_step.specs.Performed.{Snapshot, snapshot};
-ghost use Rattle.hep_moves.specs.Moves.{CanGoOn, Goes};
-ghost use Rattle.hep_quick.specs.Made.{HasMovedOn, IsTabled};
+ghost use Rattle.hep_going.specs.StepPerformed.{Snapshot, snapshot};
+ghost use Rattle.hep_going.specs.MovesMoves.{CanGoOn, Goes};
+ghost use Rattle.hep_going.specs.QuickMade.{HasMovedOn, IsTabled};
 ghost use Rattle.hep_unwatched.specs.Passes.{HasPassed};
 
 use crate::watch::watched_at;
 use hep_arena::Arena;
-use hep_quick::{Quick, move_by_table, step_by_table};
+use hep_going::{Quick, move_by_table, step_by_table};
 use hep_source::Value;
 
 /// So many steps of an activation at most, with its table and the watch over its code.

@@ -3,10 +3,10 @@ use Rattle.std.specs.Prelude.{◌≡◌, ◌+◌, ◌≤◌, ℕ, zero, suc, ◌
 use Rattle.std.specs.Option.{option_map_or}
 use Rattle.hep_machine.specs.Words.{Units, run, Location}
 use Rattle.hep_layout.specs.Words.{address, IsOwnedAbove, FrameNode, Nodes}
-use Rattle.hep_image.specs.Image.{most_cells}
-use Rattle.hep_proc.specs.Nodes.{nodes_of}
+use Rattle.hep_state.specs.ImageImage.{most_cells}
+use Rattle.hep_state.specs.ProcNodes.{nodes_of}
 use Rattle.hep_state.specs.declared.machine.Machine.{Machine}
-use Rattle.hep_blocked.specs.Listing.{IsBlocked}
+use Rattle.hep_state.specs.BlockedListing.{IsBlocked}
 use Rattle.hep_cells.specs.declared.want.Want.{Want}
 use Rattle.hep_state.specs.Words.{snapshot_of, IsAfter, IsMachineAfter}
 use Rattle.hep_views.specs.declared.listed.Listed.{Listed}

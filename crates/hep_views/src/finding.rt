@@ -4,9 +4,9 @@ ghost use Rattle.slab.specs.Slab.{ContainsKey};
 ghost use Rattle.hep_machine.specs.Words.{Name, unit_at, BlockName, living, run};
 ghost use Rattle.hep_code.specs.Depths as depths;
 ghost use Rattle.hep_layout.specs.Words.{FrameNode};
-ghost use Rattle.hep_image.specs.Image.{most_cells};
-ghost use Rattle.hep_image.specs.Owners.{IsBlockTold, IsTold};
-ghost use Rattle.hep_proc.specs.Nodes.{nodes_of};
+ghost use Rattle.hep_state.specs.ImageImage.{most_cells};
+ghost use Rattle.hep_state.specs.ImageOwners.{IsBlockTold, IsTold};
+ghost use Rattle.hep_state.specs.ProcNodes.{nodes_of};
 ghost use Rattle.hep_state.specs.Words.{AreNumbered, IsMachineAfter, snapshot_of, HasLevels};
 ghost use Rattle.hep_views.specs.Listed.{block_place, variable_place};
 ghost use Rattle.hep_views.specs.Standing.{whereabouts_by};
@@ -15,11 +15,8 @@ ghost use Rattle.hep_views.specs.Sought.{CanBeListed, CanBeSought, IsListedAs, I
 use crate::listed::Listed;
 use crate::place::Place;
 use crate::whereabouts::Whereabouts;
-use hep_blocked::Want;
 use hep_code::Instruction;
-use hep_image::Image;
-use hep_proc::{Frames, Local};
-use hep_state::Machine;
+use hep_state::{Frames, Image, Local, Machine, Want};
 
 // The level of the top activation of process p.
 fn top(machine: &Machine, p: u64) -> Local

@@ -9,9 +9,10 @@ ghost use Rattle.hep_state.specs.Words.{Snapshot, IsAfter};
 ghost use Rattle.hep_views.specs.Seen.{machine_view};
 ghost use Rattle.hep_views.specs.Waited.{unit_in_common, unit_in_frame, unit_kept_at, wanted_seen};
 
-use hep_accepted_laws::runs as works;
-use hep_state::laws;
-use hep_step::laws::operations_do_what_the_machine_does;
+use hep_state::{
+    activations_are_bound_in_runs, calls_agree_in_runs, laws, operations_do_what_the_machine_does,
+    programs_are_closed, units_are_there,
+};
 
 /// From the cell in which a storage unit is kept the unit is found again.
 pub fn cells_tell_their_units()
@@ -44,8 +45,8 @@ pub fn views_are_of_states()
         → IsAfter program cells choices m → machine_view program m ≡ view_of program is_held (run program choices) }
 {
     waits_are_seen();
-    works::programs_are_closed();
-    works::calls_agree_in_runs();
-    works::units_are_there();
-    works::activations_are_bound_in_runs();
+    programs_are_closed();
+    calls_agree_in_runs();
+    units_are_there();
+    activations_are_bound_in_runs();
 }

@@ -12,6 +12,11 @@ mod listed;
 mod place;
 mod whereabouts;
 
+pub use hep_state::laws::{activations_are_few, tops_are_running};
+pub use hep_state::{
+    ClosedRange, Image, Machine, TurnFault, Turned, fits, place as state_place,
+    variables_of_the_code_are_placed,
+};
 pub use listed::Listed;
 pub use place::Place;
 pub use whereabouts::Whereabouts;

@@ -1,30 +1,35 @@
--- Subroutines and functions that nothing calls, creates or refers to.
-use Rattle.std.specs.Prelude.{ℕ, not, List, [], ◌∷◌, ◌++◌, map}
+-- Subroutines and functions that no other unit calls, creates or refers to: their own statements are never run then.
+use Rattle.std.specs.Prelude.{ℕ, Bool, false, not, List, [], ◌∷◌, ◌++◌, map}
 use Rattle.std.specs.List.{filter, flat_map, list_any}
-use Rattle.hep_machine.specs.Words.{Form, Name, Statement, Units, is_referenced, name_eq}
+use Rattle.std.specs.Option.{option_map_or}
+use Rattle.hep_machine.specs.Words.{Form, Name, Statement, Units, is_referenced, name_eq, subroutine_name}
 use Rattle.hep_source.specs.declared.statement.Form.TheVariants as form
 use Rattle.hep_conditions.specs.Words.{Calling, NameWithList, calls_in, names_with_lists}
 use Rattle.hep_warnings.specs.declared.warning.Kind.TheVariants.{Unit}
 use Rattle.hep_warnings.specs.Lines.{Warnings, when}
 
--- the subroutine that a statement calls or creates
-abbrev pub names_called : Form → List Name
-names_called f = map (λ (c : Calling). c.occurrence.name) (calls_in f)
+-- the unit is the subroutine that has this name
+abbrev pub is_own : List Statement → Name → Bool
+is_own unit x = option_map_or (λ y. name_eq y x) (subroutine_name unit) false
+
+-- the subroutine that a statement calls or creates, but for the unit itself
+abbrev pub names_called : List Statement → Form → List Name
+names_called unit f = filter (λ x. not (is_own unit x)) (map (λ (c : Calling). c.occurrence.name) (calls_in f))
 
 abbrev pub names_of_lists : List NameWithList → List Name
 names_of_lists rs = map (λ (r : NameWithList). r.occurrence.name) rs
 
--- the functions that a statement refers to
+-- the functions that a statement refers to; `is_referenced` leaves the unit itself out
 abbrev pub names_referenced : List Statement → Statement → List Name
 names_referenced unit s = filter (is_referenced unit) (names_of_lists (names_with_lists s))
 
 abbrev pub names_used_by : List Statement → Statement → List Name
-names_used_by unit s = names_called s.form ++ names_referenced unit s
+names_used_by unit s = names_called unit s.form ++ names_referenced unit s
 
 abbrev pub names_used_in : List Statement → List Name
 names_used_in unit = flat_map (names_used_by unit) unit
 
--- the names of all units that a statement of the program uses
+-- the names of all units that a statement of another one uses
 abbrev pub names_used : Units → List Name
 names_used program = flat_map names_used_in program
 

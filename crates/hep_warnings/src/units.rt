@@ -1,4 +1,4 @@
-//! Subroutines and functions that nothing calls, creates or refers to.
+//! Subroutines and functions that no other unit calls, creates or refers to.
 ghost use Rattle.std.specs.Prelude.{◌≡◌, ◌++◌, map, IfOk, OnOk};
 ghost use Rattle.std.specs.List.{filter, flat_map};
 ghost use Rattle.hep_machine.specs.Words.{is_referenced};
@@ -13,12 +13,29 @@ use hep_names::symbols::Symbols;
 use hep_source::{Form, Name, Statement, Unit};
 use std::alloc::{AllocError, Global};
 
-// Adds the subroutine that a statement calls or creates.
-fn add_called(used: &mut Vec<Name>, form: &Form) -> Result<(), AllocError>
-    ensures { OnOk result (used.new.items ≡ used.old.items ++ units.names_called form.now) }
+// The unit is the subroutine that has this name.
+fn is_own(symbols: &Symbols, name: &Name) -> bool
+    ensures { result ≡ units.is_own symbols.now name.now }
+{
+    match symbols.statements().first() {
+        Some(
+            Statement {
+                form: Form::Subroutine(own, _),
+                ..
+            },
+        ) => own.name == *name,
+        _ => false,
+    }
+}
+
+// Adds the subroutine that a statement of a unit calls or creates, but for the unit itself.
+fn add_called(symbols: &Symbols, used: &mut Vec<Name>, form: &Form) -> Result<(), AllocError>
+    ensures { OnOk result (used.new.items ≡ used.old.items ++ units.names_called symbols.now form.now) }
 {
     if let Form::Call(subroutine, _) | Form::Create(subroutine, _) = form {
-        used.push(subroutine.name)?;
+        if !is_own(symbols, &subroutine.name) {
+            used.push(subroutine.name)?;
+        }
     }
     Ok(())
 }
@@ -40,7 +57,7 @@ fn add_referenced(
     Ok(())
 }
 
-// Adds what a statement of a unit calls, creates or refers to.
+// Adds what a statement of a unit calls, creates or refers to, but for the unit itself.
 fn add_statement(
     alloc: Global,
     symbols: &Symbols,
@@ -49,12 +66,12 @@ fn add_statement(
 ) -> Result<(), AllocError>
     ensures { OnOk result (used.new.items ≡ used.old.items ++ units.names_used_by symbols.now statement.now) }
 {
-    add_called(used, &statement.form)?;
+    add_called(symbols, used, &statement.form)?;
     let names = names_with_lists(alloc, statement)?;
     add_referenced(symbols, used, &names)
 }
 
-// Adds what the statements of a unit call, create or refer to.
+// Adds what the statements of a unit call, create or refer to, but for the unit itself.
 fn add_statements(alloc: Global, symbols: &Symbols, used: &mut Vec<Name>) -> Result<(), AllocError>
     ensures { OnOk result (used.new.items ≡ used.old.items ++ units.names_used_in symbols.now) }
 {
@@ -64,7 +81,7 @@ fn add_statements(alloc: Global, symbols: &Symbols, used: &mut Vec<Name>) -> Res
     Ok(())
 }
 
-// The names of all units that a statement of the program uses.
+// The names of all units that a statement of another one uses.
 fn names_used(alloc: Global, program: &ProgramSymbols) -> Result<Vec<Name>, AllocError>
     ensures { IfOk result (λ used. used.items ≡ units.names_used program.now) }
 {
@@ -106,7 +123,7 @@ fn add_units(used: &UsedNames, found: &mut Vec<Warning>, program: &[Unit]) -> Re
     Ok(())
 }
 
-/// The subroutines and functions that no statement of the program calls, creates or refers to, each at the line of
+/// The subroutines and functions that no statement of another unit calls, creates or refers to, each at the line of
 /// its header, in order.
 ///
 /// # Errors

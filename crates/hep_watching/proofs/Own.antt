@@ -11,7 +11,7 @@ use Rattle.hep_machine.specs.declared.event.Kind.{Kind}
 use Rattle.hep_machine.specs.Locations.{Scope, element_of, location_in, own_storage, start_by_block, storage_by_dummy}
 use Rattle.hep_machine.specs.Words.{BlockName, Name, Statement, Units, Value, common_block, dummies_of, index_among, location_of_name, spelling, unit_at}
 use Rattle.hep_step.specs.Simulation.{unit_arrays}
-use Rattle.hep_traces.specs.Cells.{name_at}
+use Rattle.hep_traces.specs.Cells.{is_name, name_at}
 use Rattle.hep_watching.specs.Watched.{is_dummy, is_passed, starts_as_dummy}
 
 -- ---- dummy arguments
@@ -43,13 +43,13 @@ module _ (program : Units) (u : ℕ) (x : Name) where
 
 -- ---- the name with which its storage unit is declared
 
-module _ (name : List ℕ) (scope : Scope) (x : Name) (vs : List Value) (other : bytes_eq name (spelling x) ≡ false) (some : bytes_eq name [] ≡ false) where
-  located : (rest : ℕ) → (r : Result ℕ Kind) (b : Option BlockName) → bytes_eq name (name_at (location_in (record (own_storage scope x) { start = start_by_block scope x b }) r)) ≡ false
-  located rest (Err k) b = some
+module _ (name : List ℕ) (scope : Scope) (x : Name) (vs : List Value) (other : bytes_eq name (spelling x) ≡ false) where
+  located : (rest : ℕ) → (r : Result ℕ Kind) (b : Option BlockName) → is_name name (name_at (location_in (record (own_storage scope x) { start = start_by_block scope x b }) r)) ≡ false
+  located rest (Err k) b = refl
   located rest (Ok n) None = other
-  located rest (Ok n) (Some b) = some
+  located rest (Ok n) (Some b) = refl
 
-  pub declared-otherwise : index_among x (dummies_of scope.unit) ≡ None → bytes_eq name (name_at (location_of_name scope x vs)) ≡ false
+  pub declared-otherwise : index_among x (dummies_of scope.unit) ≡ None → is_name name (name_at (location_of_name scope x vs)) ≡ false
   declared-otherwise none =
-      subst (λ o. bytes_eq name (name_at (location_in (storage_by_dummy scope x o) (element_of (storage_by_dummy scope x o) vs))) ≡ false) (sym none) (
+      subst (λ o. is_name name (name_at (location_in (storage_by_dummy scope x o) (element_of (storage_by_dummy scope x o) vs))) ≡ false) (sym none) (
       located 0 (element_of (own_storage scope x) vs) (common_block scope.unit x))

@@ -63,9 +63,8 @@ module _ (program : Units) (t : Top) (name : List ℕ) where
   -- a variable that isn't watched has another name
   other-name : (x : Reference) → variables x.0 ≢ Absent → IsWatchedVariable program u name (variables x.0) false → has_name program t name x ≡ false
   other-name x placed unwatched =
-      let all = neither (bytes_eq name []) (is_dummy (unit_arrays program u) (variables x.0) || bytes_eq name (spelling x.0)) (unwatched x.0 (refl, placed)) in
-      let own = neither (is_dummy (unit_arrays program u) (variables x.0)) (bytes_eq name (spelling x.0)) (sym all.1) in
-      let declared = declared-otherwise name _ x.0 x.1 own.1 all.0 (no-dummy program u x.0 own.0) in
+      let own = neither (is_dummy (unit_arrays program u) (variables x.0)) (bytes_eq name (spelling x.0)) (unwatched x.0 (refl, placed)) in
+      let declared = declared-otherwise name _ x.0 x.1 own.1 (no-dummy program u x.0 own.0) in
       λ i. own.1 i || declared i
 
   module _ (operands : List Value) (index : ℕ) (o : Operation) (behind : List Instruction) (placed : ArePlaced (variables_in_operation o)) (unwatched : IsWatchedBy program u name o false) where

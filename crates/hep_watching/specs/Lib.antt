@@ -1,1 +1,2 @@
+pub use Rattle.hep_traces.specs.Traces as TracesTraces
 pub mod Watched

@@ -12,7 +12,7 @@ use Rattle.hep_image.specs.declared.array.Array.{Array}
 use Rattle.hep_image.specs.declared.array.Start.{Start}
 use Rattle.hep_image.specs.declared.array.Start.TheVariants.{Dummy}
 use Rattle.hep_machine.specs.Words.{Name, Units, spelling, unit_at}
-use Rattle.hep_unwatched.specs.declared.watch.Watch.{Watch}
+use Rattle.hep_traces.specs.UnwatchedWatchWatch.{Watch}
 use Rattle.hep_sites.specs.Sites.{IsVariableOf}
 use Rattle.hep_sites.specs.Variables.{AreVariablesOf}
 use Rattle.hep_step.specs.Simulation.{unit_arrays, unit_code}
@@ -36,10 +36,9 @@ is_dummy arrays _ = false
 -- ---- in the code of unit u, for a name that is sought
 
 module _ (program : Units) (u : ℕ) (name : List ℕ) where
-  -- a variable may go by it whose name in the unit that is, and so may each dummy argument; what stands in COMMON is declared with no name,
-  -- so by an empty name each variable may
+  -- a variable may go by it whose name in the unit that is, and so may each dummy argument
   abbrev pub may_go_by : Variable → Name → Bool
-  may_go_by v x = bytes_eq name [] || (is_dummy (unit_arrays program u) v || bytes_eq name (spelling x))
+  may_go_by v x = is_dummy (unit_arrays program u) v || bytes_eq name (spelling x)
 
   -- by whichever of the unit's names the variable is
   abbrev pub IsWatchedVariable : Variable → Bool → Type 0

@@ -2,8 +2,8 @@
 ghost use Rattle.std.specs.Prelude.{◌≡◌, ℕ, List, Some, false};
 ghost use Rattle.hep_conditions.specs.Words.{IsAccepted};
 ghost use Rattle.hep_machine.specs.Words.{Level, Process, State as AState, Units, living};
-ghost use Rattle.hep_unwatched.specs.Watches.{IsUnwatched};
-ghost use Rattle.hep_unwatched.specs.declared.watch.Watch.{Watch as AWatch};
+ghost use Rattle.hep_traces.specs.UnwatchedWatches.{IsUnwatched};
+ghost use Rattle.hep_traces.specs.UnwatchedWatchWatch.{Watch as AWatch};
 ghost use Rattle.hep_traces.specs.Traces.{is_accessed};
 ghost use Rattle.hep_watching.specs.Watched.{AreWatchesOf};
 

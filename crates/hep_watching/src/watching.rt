@@ -7,7 +7,7 @@ ghost use Rattle.hep_watching.specs.Watched.{AreWatchesOf, CanSeek, IsWatchOf, I
 use hep_code::{Evaluation, Instruction, Operation, Variable};
 use hep_image::{Array, Image, Start};
 use hep_sites::Variables;
-use hep_unwatched::Watch;
+use hep_traces::Watch;
 use std::alloc::{AllocError, Global};
 
 /// A name that is sought in the code of a unit of an image, and which variables the names of its units are.
@@ -40,14 +40,11 @@ fn is_dummy(arrays: &[Array], variable: Variable) -> bool
     }
 }
 
-// A variable may go by the name that is sought: it has that name in the unit, or is a dummy argument. By an empty name each one may.
+// A variable may go by the name that is sought: it has that name in the unit, or is a dummy argument.
 fn is_watched_variable(seeker: &Seeker<'_>, variable: Variable) -> bool
     requires { CanSeek seeker.now }
     ensures { IsWatchedVariable seeker.now.image.now seeker.now.unit seeker.now.name.now variable result }
 {
-    if seeker.name.is_empty() {
-        return true;
-    }
     if is_dummy(seeker.image.unit(seeker.unit).arrays.as_slice(), variable) {
         return true;
     }

@@ -13,3 +13,4 @@ mod WorkedProcesses
 mod WorkedResume
 mod WorkedFunctions
 mod WorkedWarnings
+mod Rising

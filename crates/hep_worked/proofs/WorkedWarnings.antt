@@ -55,6 +55,7 @@ labels_rows =
 -- subroutines and functions
 record UnitsUsed : Type 0 where
   subroutine_that_nothing_calls : says ("      END" ∷ "      SUBROUTINE S" ∷ "      END" ∷ []) ("WARNING LINE 2 UNIT S UNUSED" ∷ [])
+  subroutine_that_calls_itself : says ("      END" ∷ "      SUBROUTINE S" ∷ "      CALL S" ∷ "      END" ∷ []) ("WARNING LINE 2 UNIT S UNUSED" ∷ [])
   subroutine_that_is_created : silent ("      CREATE S" ∷ "      END" ∷ "      SUBROUTINE S" ∷ "      END" ∷ [])
   function_that_is_referred_to : silent ("      PRINT *,N(1)" ∷ "      END" ∷ "      FUNCTION N(I)" ∷ "      N=I" ∷ "      END" ∷ [])
   function_that_nothing_refers_to : says ("      END" ∷ "      FUNCTION N(I)" ∷ "      N=I" ∷ "      END" ∷ []) ("WARNING LINE 2 UNIT N UNUSED" ∷ [])
@@ -64,6 +65,7 @@ unfolding warned_by says silent units_of digits
 units_used_rows =
     record {
       subroutine_that_nothing_calls = refl;
+      subroutine_that_calls_itself = refl;
       subroutine_that_is_created = refl;
       function_that_is_referred_to = refl;
       function_that_nothing_refers_to = refl;

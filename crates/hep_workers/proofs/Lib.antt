@@ -2,6 +2,5 @@ mod Shared
 mod Reasons
 mod Growing
 mod Noting
-mod Only
 mod Lists
 mod Many

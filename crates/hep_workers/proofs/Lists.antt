@@ -1,5 +1,5 @@
 -- Lists to which entries are added.
-use Rattle.std.proofs.Common.{◌≡◌, ℕ, zero, suc, ◌+◌, ◌<◌, true, List, [], ◌∷◌, ◌++◌, Some, get_or, length, replicate, refl, sym, ap, ◌∙◌, subst, arith, slice_get, slice_set}
+use Rattle.std.proofs.Common.{◌≡◌, ℕ, zero, suc, ◌+◌, ◌<◌, true, List, [], ◌∷◌, ◌++◌, Some, get_or, length, map, replicate, refl, sym, ap, ◌∙◌, subst, arith, slice_get, slice_set}
 use Rattle.std.proofs.lemmas.Bool.{and_parts}
 use Rattle.std.proofs.lemmas.List.{length-append, map-append, map-set, replicate-append-replicate}
 use Rattle.std.proofs.lemmas.Option.{slice_get-get_or}
@@ -7,7 +7,7 @@ use Rattle.std.proofs.Math.Logic.{∥∥₁_map}
 use Rattle.std.specs.Global.{Vec}
 use Rattle.hep_machine.specs.declared.event.Entry.{Entry}
 use Rattle.hep_workers.specs.declared.spans.Span.{Span}
-use Rattle.hep_workers.specs.Lists.{all_inside, AreLogsOf, lists_of, logs_of}
+use Rattle.hep_workers.specs.Lists.{all_inside, AreLogsOf, lists_of, logs_of, worker_numbers}
 use Rattle.hep_workers.specs.Spans.{are_inside, log_of, with_entry}
 use Rattle.hep_workers.proofs.Growing.{inside-longer, inside-noted, log_of-longer, log_of-noted, receipt_for}
 use Rattle.hep_workers.proofs.Noting.{logs-noted, no-logs}
@@ -15,6 +15,11 @@ use Rattle.hep_workers.proofs.Noting.{logs-noted, no-logs}
 pub one_more : (n : ℕ) (lists : List (Vec Span)) (v : Vec Span) → v.items ≡ [] → lists_of lists ≡ replicate n [] → lists_of (lists ++ v ∷ []) ≡ replicate (n + 1) []
 one_more n lists v none is =
     map-append (λ (u : Vec Span). u.items) lists (v ∷ []) ∙ ap (λ ls. ls ++ v.items ∷ []) is ∙ ap (λ rs. replicate n [] ++ rs ∷ []) none ∙ replicate-append-replicate n 1 []
+
+pub one_number : {S : Type 0} (f : S → ℕ) (n : ℕ) (ss : List S) (s : S) → f s ≡ n + 1 → map f ss ≡ worker_numbers n → map f (ss ++ s ∷ []) ≡ worker_numbers (n + 1)
+one_number f n ss s at are =
+    let next : n + 1 ≡ suc n = omega arith in
+    map-append f ss (s ∷ []) ∙ ap (λ ns. ns ++ f s ∷ []) are ∙ ap (λ k. worker_numbers n ++ k ∷ []) (at ∙ next) ∙ ap worker_numbers (sym next)
 
 -- ---- of no entries
 

@@ -1,34 +1,31 @@
--- Why a run by workers leaves no report, by what they have met.
-use Rattle.std.proofs.Common.{◌≡◌, ℕ, IsSome, List, ap, subst, sym, ◌∙◌, true, true≢false}
+-- Why a run by workers leaves no report, by what they have left.
+use Rattle.std.proofs.Common.{◌≡◌, ◌≢◌, ℕ, IsSome, List, ap, refl, subst, sym, ◌∙◌, true, true≢false}
 use Rattle.std.proofs.Math.Bool.{Bool-set}
 use Rattle.std.proofs.Math.Logic.{∥∥₁_elim}
 use Rattle.std.specs.Global.{Vec}
 use Rattle.hep_machine.specs.Words.{opening_layout, Units}
 use Rattle.hep_machine.specs.declared.event.Entry.{Entry}
-use Rattle.hep_core.specs.Value.{CoreValue, opening_of, verdict_of}
-use Rattle.hep_core.specs.declared.stop.Verdict.TheVariants.{Running}
-use Rattle.hep_receipts.specs.Shared.{IsOfOneRun}
-use Rattle.hep_receipts.specs.declared.receipt.Receipt.{Receipt}
+use Rattle.hep_reports.specs.CoreValue.{CoreValue, opening_of, verdict_of}
+use Rattle.hep_reports.specs.CoreStopVerdict.TheVariants.{Running}
+use Rattle.hep_reports.specs.ReceiptsShared.{IsOfOneRun}
+use Rattle.hep_reports.specs.ReceiptsReceiptReceipt.{Receipt}
 use Rattle.hep_reports.specs.Receipts.{are_of_workers}
 use Rattle.hep_reports.specs.Reports.{IsOfRun, IsUnclosed}
 use Rattle.hep_reports.specs.declared.fault.CloseFault.{CloseFault}
 use Rattle.hep_reports.specs.declared.fault.CloseFault.TheVariants as close
 use Rattle.hep_reports.specs.declared.options.WorkOptions.{WorkOptions}
-use Rattle.hep_workers.specs.Faults.{IsMet, IsUnreported, IsWorkFault, of_crew}
+use Rattle.hep_workers.specs.Faults.{IsWorkFault, of_crew}
 use Rattle.hep_workers.specs.Lists.{AreLogsOf, lists_of, logs_of}
 use Rattle.hep_workers.specs.declared.spans.Span.{Span}
 use Rattle.hep_workers.specs.declared.fault.CrewFault.{CrewFault}
-use Rattle.hep_workers.specs.declared.fault.CrewFault.TheVariants.{NoMemory, NoThread, NoTicket}
-use Rattle.hep_workers.proofs.Only.{only-logs}
+use Rattle.hep_workers.specs.declared.fault.CrewFault.TheVariants.{NoMemory, NoThread}
 
 abbrev pub opening_for : Units → WorkOptions → CoreValue
 opening_for program options = opening_of program options.arena options.steps
 
-pub crew-met : (fault : CrewFault) (program : Units) (options : WorkOptions) → IsSome (opening_layout program options.arena) → IsMet (opening_for program options) fault
-    → IsWorkFault (of_crew fault) program options
-crew-met NoMemory program options fits met = fits
-crew-met NoThread program options fits met = fits
-crew-met NoTicket program options fits met = (fits, met)
+pub crew-met : (fault : CrewFault) (program : Units) (options : WorkOptions) → IsSome (opening_layout program options.arena) → IsWorkFault (of_crew fault) program options
+crew-met NoMemory program options fits = fits
+crew-met NoThread program options fits = fits
 
 -- a core of the run that an opening begins is of its program and its options
 pub of-run : (opening core : CoreValue) (program : Units) (options : WorkOptions) → opening ≡ opening_for program options → IsOfOneRun opening core → IsOfRun core program options
@@ -48,16 +45,11 @@ logs-made workers h es lists ls logs is same all logged =
 pub of-workers : (core : CoreValue) (options : WorkOptions) (logs : List (List Receipt)) → ∥ AreLogsOf options.workers core.history logs ∥₁ → are_of_workers options.workers logs ≡ true
 of-workers core options logs logged = ∥∥₁_elim logged (Bool-set _ _) (λ are. are.numbered)
 
--- so they are refused only where the run goes on
+-- so of a run that is over they make a report, if memory isn't refused
 pub unreported : (fault : CloseFault) (core : CoreValue) (program : Units) (options : WorkOptions) (logs : List (List Receipt)) → IsOfRun core program options
-    → ∥ AreLogsOf options.workers core.history logs ∥₁ → IsUnclosed fault core program options logs → IsUnreported fault core program options logs
-unreported close.NoMemory core program options logs run logged un = tt
-unreported close.NotTheEntries core program options logs run logged un = ∥∥₁_elim logged (λ a b. absurd a) (λ are. un are.entries)
-unreported close.NotRising core program options logs run logged un = ∥∥₁_elim logged (λ a b. absurd a) (λ are. true≢false (sym are.rising ∙ un.1))
-unreported close.NotTheRun core program options logs run logged un = un.2 run
-unreported close.StillRunning core program options logs run logged un = (record { entries = un.0; rising = un.1; numbered = of-workers core options logs logged }, run, un.3)
-
--- nor is anything else left where it does
-pub going-on : (core : CoreValue) (program : Units) (options : WorkOptions) (logs : List (List Receipt)) → IsOfRun core program options → ∥ AreLogsOf options.workers core.history logs ∥₁
-    → verdict_of core ≡ Running → IsUnreported close.StillRunning core program options logs
-going-on core program options logs run logged on = (∥∥₁_elim logged (only-logs options.workers core.history logs) (λ are. are), run, on)
+    → verdict_of core ≢ Running → ∥ AreLogsOf options.workers core.history logs ∥₁ → IsUnclosed fault core program options logs → fault ≡ close.NoMemory
+unreported close.NoMemory core program options logs run over logged un = refl
+unreported close.NotTheEntries core program options logs run over logged un = absurd (∥∥₁_elim logged (λ a b. absurd a) (λ are. un are.entries))
+unreported close.NotRising core program options logs run over logged un = absurd (∥∥₁_elim logged (λ a b. absurd a) (λ are. true≢false (sym are.rising ∙ un.1)))
+unreported close.NotTheRun core program options logs run over logged un = absurd (un.2 run)
+unreported close.StillRunning core program options logs run over logged un = absurd (over un.3)

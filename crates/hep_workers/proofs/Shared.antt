@@ -1,36 +1,43 @@
 -- What a call makes of a core that is shared.
-use Rattle.std.proofs.Common.{◌≡◌, ℕ, zero, suc, false, Result, Ok, Err, IfOk, IfErr, inl, inr, refl, sym, ap, subst}
+use Rattle.std.proofs.Common.{◌≡◌, ◌≢◌, ℕ, zero, suc, false, Option, Some, None, Result, Ok, Err, IfOk, IfErr, inl, inr, refl, sym, ap, ◌∙◌, subst}
 use Rattle.hep_segments.specs.declared.ticket.TicketId.{TicketId}
 use Rattle.hep_segments.specs.Segments.{SegmentValue, TicketValue, most_records}
-use Rattle.hep_core.specs.Commits.{AreTurnsAtOnce, IsCancelled, IsCheckedOut, IsCommitted, IsTurnAtOnce}
-use Rattle.hep_core.specs.Places.{Placed}
-use Rattle.hep_core.specs.Value.{CoreValue}
-use Rattle.hep_core.specs.declared.fault.ChooseFault.{ChooseFault}
-use Rattle.hep_core.specs.declared.fault.ChooseFault.TheVariants as choosing
-use Rattle.hep_core.specs.declared.fault.CommitFault.{CommitFault}
-use Rattle.hep_core.specs.declared.fault.CommitFault.TheVariants as committing
-use Rattle.hep_receipts.specs.declared.receipt.Receipt.{Receipt}
-use Rattle.hep_receipts.specs.Shared.{IsSharedFrom, checked_out, committed, opened}
-use Rattle.hep_receipts.specs.Turns.{HasCommitted}
+use Rattle.hep_reports.specs.CoreCommits.{AreTurnsAtOnce, IsCancelled, IsCheckedOut, IsCommitted, IsTurnAtOnce}
+use Rattle.hep_reports.specs.CorePlaces.{ArePlaces, Placed}
+use Rattle.hep_reports.specs.CoreValue.{CoreValue}
+use Rattle.hep_reports.specs.CoreFaultChooseFault.{ChooseFault}
+use Rattle.hep_reports.specs.CoreFaultChooseFault.TheVariants as choosing
+use Rattle.hep_reports.specs.CoreFaultCommitFault.{CommitFault}
+use Rattle.hep_reports.specs.CoreFaultCommitFault.TheVariants as committing
+use Rattle.hep_reports.specs.ReceiptsReceiptReceipt.{Receipt}
+use Rattle.hep_reports.specs.ReceiptsShared.{IsOfOneRun, IsSharedFrom, checked_out, committed}
+use Rattle.hep_reports.proofs.CoreGoing.{last-more}
+use Rattle.hep_machine.specs.Words.{last_process}
+use Rattle.hep_reports.proofs.ReceiptsCommitted.{one-entry}
+use Rattle.hep_reports.proofs.ReceiptsShared.{by-commit}
+use Rattle.hep_reports.specs.ReceiptsTurns.{HasCommitted}
+use Rattle.hep_workers.specs.Calls.{IsAnswered, IsTurned, IsUnfree}
 
-pub turned : (opening : CoreValue) (old new : Placed) (s : SegmentValue) (r : Result Receipt CommitFault) → IsSharedFrom opening old
-    → IfOk r (λ receipt. HasCommitted old s receipt new) → IfErr r (λ fault. IsCommitted old s (Err fault) new) → IsSharedFrom opening new
-turned opening old new s (Ok receipt) before made unmade = committed old new s (Ok made.0) before made.2
-turned opening old new s (Err fault) before made unmade = committed old new s (Err fault) before unmade
+abbrev pub AreTold : Placed → Placed → SegmentValue → Result Receipt CommitFault → Type 0
+AreTold old new s r = IfOk r (λ receipt. HasCommitted old s receipt new) × IfErr r (λ fault. IsCommitted old s (Err fault) new)
+
+pub turned : (opening : CoreValue) (old new : Placed) (s : SegmentValue) (r : Result Receipt CommitFault) → ArePlaces new → AreTold old new s r → IsSharedFrom opening old → IsSharedFrom opening new
+turned opening old new s (Ok receipt) placed told before = committed old new s (Ok told.0.0) before told.0.2 placed
+turned opening old new s (Err fault) placed told before = committed old new s (Err fault) before told.1 placed
+
+pub one-turned : (old new : Placed) (s : SegmentValue) (r : Result Receipt CommitFault) → AreTold old new s r → IsOfOneRun old.core new.core
+one-turned old new s (Ok receipt) told = by-commit old new s (Ok told.0.0) told.0.2
+one-turned old new s (Err fault) told = by-commit old new s (Err fault) told.1
 
 -- a turn in one is a check-out and a commit
 pub turned-at-once : (opening : CoreValue) (old new : Placed) (p n : ℕ) → IsSharedFrom opening old → IsTurnAtOnce old p n new → IsSharedFrom opening new
 turned-at-once opening old new p n before turn =
-    committed turn.out new turn.segment (Ok (record { steps = n; blocked = false })) (checked_out old turn.out p (Ok turn.ticket) before turn.checked_out) turn.committed
+    committed turn.out new turn.segment (Ok (record { steps = n; blocked = false })) (checked_out old turn.out p (Ok turn.ticket) before (inl turn.next) turn.checked_out) turn.committed turn.placed
 
 -- and several of them are as many
 pub turned-several : (opening : CoreValue) (p n : ℕ) (old new : Placed) → IsSharedFrom opening old → AreTurnsAtOnce p n old new → IsSharedFrom opening new
 turned-several opening p zero old new before same = subst (IsSharedFrom opening) (sym same) before
-turned-several opening p (suc n) old new before (mid, first, rest) = turned-several opening p n mid new (turned-at-once opening old mid p most_records before first) rest
-
--- from any core on
-pub here : (old : Placed) → IsSharedFrom old.core old
-here old = opened old refl
+turned-several opening p (suc n) old new before (mid, first, full, rest) = turned-several opening p n mid new (turned-at-once opening old mid p most_records before first) rest
 
 -- ---- no entry
 
@@ -51,3 +58,25 @@ cancelled-same old new id (Ok done) (going, lives, ticket, is) = ap (λ (x : Pla
 cancelled-same old new id (Err (committing.Stopped stop)) (at, is) = ap (λ (x : Placed). x.core.history) is
 cancelled-same old new id (Err committing.Stale) (going, other, is) = ap (λ (x : Placed). x.core.history) is
 cancelled-same old new id (Err committing.NoMemory) none = absurd none
+
+-- ---- what is told of a call
+
+-- a turn is told by its commit
+pub told-turned : (old new : Placed) (s : SegmentValue) (receipt : Receipt) → HasCommitted old s receipt new → IsTurned old s (Ok tt) new
+told-turned old new s receipt (turn, steps, made) = (turn, made)
+
+pub told-unturned : (old new : Placed) (s : SegmentValue) (fault : CommitFault) → IsCommitted old s (Err fault) new → IsTurned old s (Err fault) new
+told-unturned old new s (committing.Stopped stop) is = is
+told-unturned old new s committing.Stale is = is
+told-unturned old new s committing.NoMemory (good, room, gap, same) = same
+
+-- behind it its process has made the last entry
+pub turned-last : (old new : Placed) (s : SegmentValue) → IsTurned old s (Ok tt) new → last_process new.core.history ≡ s.id.process
+turned-last old new s (turn, made) =
+    ap last_process (one-entry old new s turn made) ∙ last-more old.core.history (record { process = s.id.process; steps = turn.steps })
+
+-- nothing was noted then
+pub unfree-same : (old new : Placed) (p : ℕ) → IsUnfree old p new → HasSame old new
+unfree-same old new p (inl (stop, is)) = checked-out-same old new p (Err (choosing.Stopped stop)) is
+unfree-same old new p (inr (inl is)) = checked-out-same old new p (Err choosing.NoSuchProcess) is
+unfree-same old new p (inr (inr is)) = checked-out-same old new p (Err choosing.IsOut) is

@@ -1,7 +1,8 @@
-pub use Rattle.hep_receipts.specs.declared.receipt.Receipt
+pub use Rattle.hep_reports.specs.ReceiptsReceiptReceipt
 pub use Rattle.hep_reports.specs.declared.fault.CloseFault
 pub use Rattle.hep_reports.specs.declared.options.WorkOptions
 pub use Rattle.hep_reports.specs.Reports
+pub mod Calls
 pub mod Faults
 pub mod Hands
 pub mod Spans

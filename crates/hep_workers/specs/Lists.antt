@@ -1,15 +1,21 @@
 -- Where the entries of workers are, as it is kept under the lock: docs/MACHINE.md, "Workers".
-use Rattle.std.specs.Prelude.{◌≡◌, ℕ, ◌+◌, Bool, true, List, [], ◌∷◌, map}
+use Rattle.std.specs.Prelude.{◌≡◌, ◌≢◌, ℕ, zero, suc, ◌+◌, Bool, true, List, [], ◌∷◌, ◌++◌, map}
 use Rattle.std.specs.Global.{Vec}
 use Rattle.std.specs.List.{list_all}
 use Rattle.hep_machine.specs.declared.event.Entry.{Entry}
-use Rattle.hep_core.specs.Places.{Placed}
-use Rattle.hep_core.specs.Value.{CoreValue}
-use Rattle.hep_receipts.specs.Shared.{IsOfOneRun, IsSharedFrom}
-use Rattle.hep_receipts.specs.declared.receipt.Receipt.{Receipt}
+use Rattle.hep_reports.specs.CorePlaces.{Placed}
+use Rattle.hep_reports.specs.CoreValue.{CoreValue, verdict_of}
+use Rattle.hep_reports.specs.CoreStopVerdict.TheVariants.{Running}
+use Rattle.hep_reports.specs.ReceiptsShared.{IsOfOneRun, IsSharedFrom}
+use Rattle.hep_reports.specs.ReceiptsReceiptReceipt.{Receipt}
 use Rattle.hep_workers.specs.declared.spans.Span.{Span}
 use Rattle.hep_reports.specs.Receipts.{AreEntries, all_rise, are_of_workers, receipts_of}
 use Rattle.hep_workers.specs.Spans.{are_inside, log_of}
+
+-- the numbers of so many workers
+abbrev pub worker_numbers : ℕ → List ℕ
+worker_numbers zero = []
+worker_numbers (suc n) = worker_numbers n ++ suc n ∷ []
 
 -- there is a log for each of so many workers, with receipts of that worker alone, which rise; all together are the history's entries, each once
 pub record AreLogsOf (workers : ℕ) (history : List Entry) (logs : List (List Receipt)) : Type 0 where
@@ -34,9 +40,10 @@ all_inside count lists = list_all (are_inside count) lists
 abbrev pub IsAtOpening : CoreValue → CoreValue → Type 0
 IsAtOpening opening core = (core ≡ opening) × (core.history ≡ [])
 
--- what so many workers leave: a core of the opening's run, which they have made of it, and the logs of its history
+-- what so many workers leave: a core of the opening's run, which is over, and which they have made of it; and the logs of its history
 pub record HasLeft (opening : CoreValue) (workers : ℕ) (left : Placed) (logs : List (List Receipt)) : Type 0 where
   pub run : IsOfOneRun opening left.core
+  pub over : verdict_of left.core ≢ Running
   pub shared : ∥ IsSharedFrom opening left ∥₁
   pub logged : ∥ AreLogsOf workers left.core.history logs ∥₁
 

@@ -13,10 +13,9 @@ use hep_blocked::Roster;
 use hep_entries::History;
 use hep_image::{BlockStart, DataRow, UnitCode};
 use hep_quick::Table;
+use hep_reports::{Machine, OwnCells, Saved};
 use hep_source::{Expr, Sequence, Text};
-use hep_state::Machine;
 use hep_stretches::PrivateTable;
-use hep_taking::{OwnCells, Saved};
 
 fn cross<T: Send + Sync>()
     ensures send { IsSend T.row }

@@ -2,22 +2,13 @@
 ghost use Rattle.std.specs.Prelude.{◌≡◌};
 ghost use Rattle.hep_workers.specs.Faults.{number_of};
 
-use hep_core::NewFault;
-use hep_reports::CloseFault;
+use hep_reports::{CloseFault, NewFault};
 use std::alloc::AllocError;
 use thiserror::Error;
 
-// Why the workers gave up.
+// Why the workers gave up: memory was refused to one of them, or not all were started.
 #[derive(Clone, Copy, Debug, PartialEq, Eq)]
 pub enum CrewFault {
-    NoMemory,
-    NoTicket,
-    NoThread,
-}
-
-// Why not all workers were started.
-#[derive(Clone, Copy, Debug, PartialEq, Eq)]
-pub enum StartFault {
     NoMemory,
     NoThread,
 }
@@ -42,13 +33,13 @@ pub enum WorkFault {
     /// The main program's frame doesn't fit the arena.
     #[error("arena full")]
     ArenaFull,
-    /// All tickets were given.
+    /// All tickets were given. No run by workers ends with it.
     #[error("506: no ticket is left")]
     NoTicket,
     /// A thread couldn't be started, which may be for want of memory.
     #[error("704: a thread could not be started")]
     NoThread,
-    /// There is no report of what the workers left.
+    /// There is no report of what the workers left, which is so only where memory was refused.
     #[error("there is no report")]
     Close(CloseFault),
 }
@@ -105,7 +96,6 @@ impl From<CrewFault> for WorkFault {
     fn from(fault: CrewFault) -> WorkFault {
         match fault {
             CrewFault::NoMemory => WorkFault::NoMemory,
-            CrewFault::NoTicket => WorkFault::NoTicket,
             CrewFault::NoThread => WorkFault::NoThread,
         }
     }

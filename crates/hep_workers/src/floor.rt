@@ -1,24 +1,23 @@
 //! The workers at their work: threads that share a core under a lock.
-ghost use Rattle.std.specs.Prelude.{◌≡◌, ◌≢◌, IfErr, IfOk, IsSome, OnOk, true, vec_len};
-ghost use Rattle.hep_core.specs.Offers.{IsKnownOffer};
-ghost use Rattle.hep_core.specs.Value.{opening_of, verdict_of};
-ghost use Rattle.hep_core.specs.declared.stop.Verdict.TheVariants.{Running};
-ghost use Rattle.hep_machine.specs.Words.{opening_layout};
+ghost use Rattle.std.specs.Prelude.{◌≡◌, ◌≢◌, ◌≤◌, IfErr, IfOk, IsSome, Ok, OnOk, is_ok, true, vec_len};
+ghost use Rattle.std.specs.List.{list_all};
+ghost use Rattle.hep_reports.specs.CoreOffers.{IsKnownOffer, offered};
+ghost use Rattle.hep_reports.specs.CoreValue.{opening_of, verdict_of};
+ghost use Rattle.hep_reports.specs.CoreStopVerdict.TheVariants.{Running};
+ghost use Rattle.hep_machine.specs.Words.{last_process, opening_layout};
 ghost use Rattle.hep_reports.specs.Receipts as receipts;
 ghost use Rattle.hep_reports.specs.Reports.{IsOfRun, IsReport};
-ghost use Rattle.hep_stretches.specs.Stretches.{IsStretch};
-ghost use Rattle.hep_workers.specs.Faults.{IsMet, IsSharedBy, IsWorkFault};
-ghost use Rattle.hep_workers.specs.Hands.{HasMade};
+ghost use Rattle.hep_workers.specs.Faults.{IsSharedBy, IsWorkFault, end_of};
+ghost use Rattle.hep_workers.specs.Hands.{HasMade, IsStretchOf};
 ghost use Rattle.hep_workers.specs.Lists.{HasLeftLists, IsAtOpening};
 
 use crate::crossing::{cores_cross, images_cross, spans_cross, tables_cross};
-use crate::fault::{CrewFault, StartFault, WorkFault};
+use crate::fault::{CrewFault, WorkFault};
 use crate::gate::Gate;
 use crate::spans::Span;
-use crate::tied::{Halt, Known, Seat, Tied, Whole, blank_lists, logs_of};
-use hep_core::{CommitFault, Core, Offer, Verdict};
+use crate::tied::{Known, Seat, Tied, Whole, blank_lists, logs_of};
 use hep_image::Image;
-use hep_reports::{CloseFault, Report, WorkOptions, close};
+use hep_reports::{CommitFault, Core, Offer, Report, WorkOptions, close};
 use hep_segments::{MOST_RECORDS, Segment, Ticket};
 use hep_stretches::{Ahead, Stretch, private_tables_of};
 use std::alloc::{AllocError, Global};
@@ -42,6 +41,16 @@ const MOST_AT_ONCE: u32 = 128;
 // So many turns of as many private steps as there may be are made in one run: what is done beside their steps is little then.
 const MOST_IN_A_RUN: u32 = 16;
 
+// So many short turns the workers make in a round, of which each has a part, its stint: few enough that each of sixteen has several stints in a hundred thousand
+// turns, and as many as keep what it takes to hand the processes on below a fifth of the time.
+const ROUND: u64 = 20_000;
+
+// Fewer workers have stints as if there were so many.
+const FEWEST: u32 = 4;
+
+// So many turns a worker makes at least before it gives the processes up to the only other one that is busy. One that has just called it is gone sooner.
+const MEETING: u64 = 512;
+
 // What the workers share.
 #[derive(Drop)]
 struct Floor<K: Whole> {
@@ -51,13 +60,13 @@ struct Floor<K: Whole> {
     // How many workers wait, and how many others have begun, which may be about to take the lock for the first time. Else they change under the lock.
     idle: AtomicU32,
     busy: AtomicU32,
-    // One of those that wait was notified, and there is a process for it. It changes under the lock.
+    // One of those that wait was notified, or is as soon as its caller has left the lock, and none of them has had the lock since. It changes under the lock.
     called: AtomicBool,
     // The workers are to end. It is set under the lock, and never taken back.
     ended: AtomicBool,
 }
 
-// So often a worker looks at the lock before it may fall asleep, where its turns are long beside what others do under it.
+// So often a worker looks at the lock before it may fall asleep.
 const LOOKS: u32 = 1_000;
 
 // What a worker's turn was like: most of it was made beside other workers; or under the lock; or so, and another one had the lock meanwhile.
@@ -68,11 +77,14 @@ enum Pace {
     Crowded,
 }
 
-// Where a worker is: the number of its turn, and its ticket, which has the room of the one before.
+// Where a worker is: the number of its turn; what that was when it waited last, and when it last called another one or waited; and its ticket, which has the
+// room of the one before.
 #[derive(Drop)]
 struct Stand {
     alloc: Global,
     turn: u64,
+    began: u64,
+    called: u64,
     ticket: Ticket,
 }
 
@@ -89,9 +101,9 @@ struct Hand {
 
 // How all workers ended that were started, and why not all were.
 #[derive(Drop)]
-struct Crew<K: Whole> {
-    outcomes: Vec<Result<(), Halt<K>>>,
-    started: Result<(), StartFault>,
+struct Crew {
+    outcomes: Vec<Result<(), AllocError>>,
+    started: Result<(), CrewFault>,
 }
 
 /// Runs a program by several workers, until its run is over. Each worker takes the lock, checks out the process that comes next, gets its
@@ -101,9 +113,8 @@ struct Crew<K: Whole> {
 ///
 /// # Errors
 ///
-/// `ArenaFull` just where COMMON and the main program's frame don't fit the arena. Else `NoTicket` or `NoThread` where the workers gave up
-/// for it, and `NoMemory` where memory was refused to any of them; else `Close` where `close` refuses what they left, which is for want of memory, or
-/// since their run goes on.
+/// `ArenaFull` just where COMMON and the main program's frame don't fit the arena. Else `NoThread` where a worker couldn't be started, and `NoMemory`
+/// where memory was refused to any of them; else `Close` where `close` refuses what they left, which is for want of memory.
 pub fn run_workers<R: Threads + Wait + Sync, G: Gate + Sync>(
     rt: &R,
     alloc: Global,
@@ -129,7 +140,7 @@ pub fn run_workers<R: Threads + Wait + Sync, G: Gate + Sync>(
 ///
 /// # Errors
 ///
-/// Those of `run_workers`, of which `Close` comes only where the run goes on.
+/// Those of `run_workers`, but for `Close`.
 pub fn run_unlogged<R: Threads + Wait + Sync, G: Gate + Sync>(
     rt: &R,
     alloc: Global,
@@ -144,9 +155,6 @@ pub fn run_unlogged<R: Threads + Wait + Sync, G: Gate + Sync>(
     ensures fault { IfErr result (λ fault. IsWorkFault fault image options.now) }
 {
     let Shared { core, .. } = run_shared(rt, alloc, image, options, gate)?;
-    if core.verdict() == Verdict::Running {
-        return Err(WorkFault::Close(CloseFault::StillRunning));
-    }
     Ok(core)
 }
 
@@ -181,7 +189,7 @@ fn run_shared<R: Threads + Wait + Sync, G: Gate + Sync>(
     Ok(Shared { core, image, lists })
 }
 
-// Has workers share a core of the run, and gives it, with where their entries are, once they have ended.
+// Has workers share a core of the run, and gives it, with where their entries are, once they have ended and the run is over.
 fn share<K: Whole + Send + Sync, R: Threads + Wait + Sync, G: Gate + Sync>(
     rt: &R,
     alloc: Global,
@@ -193,9 +201,9 @@ fn share<K: Whole + Send + Sync, R: Threads + Wait + Sync, G: Gate + Sync>(
     requires begun { IsAtOpening K.opening core.core }
     requires image { ahead ≡ K.opening.program }
     requires workers { workers ≡ K.workers }
+    requires some { 1 ≤ workers }
     ensures left { IfOk result (λ left. HasLeftLists K.opening K.workers left.0 left.1.items) }
     ensures many { IfOk result (λ left. vec_len left.1 ≡ K.workers) }
-    ensures met { IfErr result (IsMet K.opening) }
 {
     let Ok(lists) = blank_lists(alloc, workers) else {
         return Err(CrewFault::NoMemory);
@@ -206,28 +214,52 @@ fn share<K: Whole + Send + Sync, R: Threads + Wait + Sync, G: Gate + Sync>(
     let floor: Floor<K> = Floor::new(Tied::new(core, lists));
     let known: Known<'_, K> = Known::new(ahead);
     ended(work_all(rt, alloc, &floor, &known, seats, gate))?;
-    let Floor { core, .. } = floor;
-    Ok(core.into_inner().into_parts())
+    finish(rt, alloc, floor.into_inner(), &known, gate)
 }
 
-// Why one of the workers couldn't be started, or the first fault of one.
-fn ended<K: Whole>(crew: Crew<K>) -> Result<(), CrewFault>
-    ensures { IfErr result (IsMet K.opening) }
+// Why one of the workers couldn't be started, or whether memory was refused to one.
+fn ended(crew: Crew) -> Result<(), CrewFault>
+    ensures { result ≡ end_of crew.started crew.outcomes.items }
 {
     let Crew { outcomes, started } = crew;
-    match started {
-        Ok(()) => {}
-        Err(StartFault::NoMemory) => return Err(CrewFault::NoMemory),
-        Err(StartFault::NoThread) => return Err(CrewFault::NoThread),
+    started?;
+    if are_ok(&outcomes) {
+        Ok(())
+    } else {
+        Err(CrewFault::NoMemory)
     }
-    for outcome in outcomes {
-        match outcome {
-            Ok(()) => {}
-            Err(Halt::NoMemory) => return Err(CrewFault::NoMemory),
-            Err(Halt::NoTicket(_given)) => return Err(CrewFault::NoTicket),
+}
+
+// No worker was refused memory.
+fn are_ok(outcomes: &[Result<(), AllocError>]) -> bool
+    ensures { result ≡ list_all is_ok outcomes.now }
+{
+    outcomes.iter().all(|outcome| outcome.is_ok())
+}
+
+// The core that workers have left who have all ended, with where their entries are, once the run is over. A worker ends where it has seen under the lock that
+// the run is over, so it is; but what the lock keeps doesn't say so once they have ended. So the calling thread looks, and would go on as worker 1.
+fn finish<K: Whole, R: Wait, G: Gate>(
+    rt: &R,
+    alloc: Global,
+    left: Tied<K>,
+    known: &Known<'_, K>,
+    gate: &G,
+) -> Result<(Core, Vec<Vec<Span>>), CrewFault>
+    requires { 1 ≤ K.workers }
+    ensures left { IfOk result (λ left. HasLeftLists K.opening K.workers left.0 left.1.items) }
+    ensures many { IfOk result (λ left. vec_len left.1 ≡ K.workers) }
+{
+    let mut left = left;
+    for _ in rt.forever() {
+        if left.is_over() {
+            return Ok(left.into_parts());
         }
+        let floor = Floor::new(left);
+        floor.work(rt, alloc, known, Seat::new(1), gate)?;
+        left = floor.into_inner();
     }
-    Ok(())
+    unreachable!()
 }
 
 // Starts the workers, and waits for their ends.
@@ -238,7 +270,7 @@ fn work_all<K: Whole + Send + Sync, R: Threads + Wait + Sync, G: Gate + Sync>(
     known: &Known<'_, K>,
     seats: Vec<Seat<K>>,
     gate: &G,
-) -> Crew<K> {
+) -> Crew {
     thread::scope(thread::scope_env(), rt, |scope| {
         tables_cross();
         images_cross();
@@ -249,13 +281,13 @@ fn work_all<K: Whole + Send + Sync, R: Threads + Wait + Sync, G: Gate + Sync>(
         let mut started = Ok(());
         for seat in seats {
             if handles.reserve(1).is_err() || outcomes.reserve(1).is_err() {
-                started = Err(StartFault::NoMemory);
+                started = Err(CrewFault::NoMemory);
                 break;
             }
             match scope.spawn(move || floor.work(rt, alloc, known, seat, gate)) {
                 Ok(handle) => handles.push_reserved(handle),
                 Err(_) => {
-                    started = Err(StartFault::NoThread);
+                    started = Err(CrewFault::NoThread);
                     break;
                 }
             }
@@ -266,7 +298,7 @@ fn work_all<K: Whole + Send + Sync, R: Threads + Wait + Sync, G: Gate + Sync>(
         for handle in handles {
             let outcome = handle.join(rt);
             if outcomes.push(outcome).is_err() {
-                started = Err(StartFault::NoMemory);
+                started = Err(CrewFault::NoMemory);
             }
         }
         Crew { outcomes, started }
@@ -274,6 +306,22 @@ fn work_all<K: Whole + Send + Sync, R: Threads + Wait + Sync, G: Gate + Sync>(
 }
 
 impl Stand {
+    fn new(alloc: Global) -> Self {
+        Stand {
+            alloc,
+            turn: 1,
+            began: 1,
+            called: 1,
+            ticket: Ticket::blank(alloc),
+        }
+    }
+
+    // The worker has waited, so its stint begins.
+    fn begin(&mut self) {
+        self.began = self.turn;
+        self.called = self.turn;
+    }
+
     // The ticket, in whose place there is a blank one.
     fn take_ticket(&mut self) -> Ticket {
         replace(&mut self.ticket, Ticket::blank(self.alloc))
@@ -354,7 +402,7 @@ fn follows<K: Whole, G: Gate>(
     before: &Stretch,
     stretch: &mut Stretch,
 ) -> bool
-    ensures { result ≡ true → IsStretch K.opening.program stretch.new }
+    ensures { result ≡ true → IsStretchOf K.opening.program before.now.id.process stretch.new }
 {
     before.is_full()
         && gate.stretch_behind(call.worker, call.turn, &known.ahead, before, stretch)
@@ -373,6 +421,12 @@ impl<K: Whole> Floor<K> {
         }
     }
 
+    // What is under the lock, once the workers have ended.
+    fn into_inner(self) -> Tied<K> {
+        let Floor { core, .. } = self;
+        core.into_inner()
+    }
+
     // All workers end.
     fn end<R: Wait>(&self, rt: &R) {
         let _core = self.core.lock(rt);
@@ -388,18 +442,14 @@ impl<K: Whole> Floor<K> {
         known: &Known<'_, K>,
         seat: Seat<K>,
         gate: &G,
-    ) -> Result<(), Halt<K>> {
-        let stand = Stand {
-            alloc,
-            turn: 1,
-            ticket: Ticket::blank(alloc),
-        };
+    ) -> Result<(), AllocError> {
+        let stand = Stand::new(alloc);
         let outcome = match Hand::new(alloc) {
             Ok(hand) => {
                 let mut hand = hand;
                 self.work_with(rt, known, gate, &seat, &mut hand, stand)
             }
-            Err(_) => Err(Halt::NoMemory),
+            Err(refused) => Err(refused),
         };
         if outcome.is_err() {
             self.end(rt);
@@ -416,7 +466,7 @@ impl<K: Whole> Floor<K> {
         seat: &Seat<K>,
         hand: &mut Hand,
         stand: Stand,
-    ) -> Result<(), Halt<K>> {
+    ) -> Result<(), AllocError> {
         let mut stand = stand;
         self.busy.fetch_add(1, Ordering::SeqCst);
         let core = self.core.lock(rt);
@@ -440,10 +490,10 @@ impl<K: Whole> Floor<K> {
         seat: &Seat<K>,
         hand: &mut Hand,
         stand: &mut Stand,
-    ) -> Result<bool, Halt<K>> {
+    ) -> Result<bool, AllocError> {
         let made = hand.make(known, seat.number, stand, gate);
         let long = made != 0 && LONG <= hand.first.steps();
-        let (mut core, waited) = self.lock(rt, long);
+        let (mut core, waited) = self.lock(rt);
         if !self.commit_all(&mut core, seat, hand, stand, made)? {
             return Ok(false);
         }
@@ -458,14 +508,12 @@ impl<K: Whole> Floor<K> {
         self.check_out(rt, core, stand, pace)
     }
 
-    // The lock, and whether another worker had it. One that has made a long stretch looks for a while before it may fall asleep: to be woken
-    // would take longer.
-    fn lock<R: Wait>(&self, rt: &R, long: bool) -> (MutexGuard<'_, Tied<K>>, bool) {
+    // The lock, and whether another worker had it. A worker looks for a while before it may fall asleep: to be woken would take longer.
+    fn lock<R: Wait>(&self, rt: &R) -> (MutexGuard<'_, Tied<K>>, bool) {
         if let Some(core) = self.core.try_lock() {
             return (core, false);
         }
-        let looks = if long { LOOKS } else { 0 };
-        for _ in 0..looks {
+        for _ in 0..LOOKS {
             spin_loop();
             if let Some(core) = self.core.try_lock() {
                 return (core, true);
@@ -482,7 +530,7 @@ impl<K: Whole> Floor<K> {
         hand: &mut Hand,
         stand: &mut Stand,
         made: u32,
-    ) -> Result<bool, Halt<K>>
+    ) -> Result<bool, AllocError>
         requires { HasMade K.opening.program made hand.old }
     {
         let Hand {
@@ -573,8 +621,9 @@ impl<K: Whole> Floor<K> {
         seat: &Seat<K>,
         stand: &mut Stand,
         stretch: &mut Stretch,
-    ) -> Result<bool, Halt<K>>
-        requires { IsStretch K.opening.program stretch.old }
+    ) -> Result<bool, AllocError>
+        requires { IsStretchOf K.opening.program (last_process core.old.core.core.history) stretch.old }
+        ensures { result ≡ Ok true → last_process core.new.core.core.history ≡ last_process core.old.core.core.history }
     {
         let process = stretch.ticket().process;
         let used = stand.take_ticket();
@@ -593,8 +642,9 @@ impl<K: Whole> Floor<K> {
         seat: &Seat<K>,
         stand: &mut Stand,
         offer: &Offer<'_>,
-    ) -> Result<bool, Halt<K>>
+    ) -> Result<bool, AllocError>
         requires { IsKnownOffer K.opening.program offer.now }
+        ensures { result ≡ Ok true → last_process core.new.core.core.history ≡ (offered K.opening.program offer.now).id.process }
     {
         match core.turn(seat, offer) {
             Ok(()) => {
@@ -603,13 +653,14 @@ impl<K: Whole> Floor<K> {
             }
             Err(CommitFault::NoMemory) => {
                 core.cancel(&stand.ticket);
-                Err(Halt::NoMemory)
+                Err(AllocError)
             }
             Err(CommitFault::Stopped(_)) => {
                 self.changed.notify_all();
                 Ok(false)
             }
             Err(CommitFault::Stale) => {
+                core.cancel(&stand.ticket);
                 self.ended.store(true, Ordering::SeqCst);
                 self.changed.notify_all();
                 Ok(false)
@@ -624,11 +675,11 @@ impl<K: Whole> Floor<K> {
         core: MutexGuard<'_, Tied<K>>,
         stand: &mut Stand,
         pace: Pace,
-    ) -> Result<bool, Halt<K>> {
-        let (mut core, woken) = self.wait(rt, core, pace);
+    ) -> Result<bool, AllocError> {
+        let mut core = self.wait(rt, core, stand, pace);
         let used = stand.take_ticket();
         let ticket = self.next_ticket(&mut core, used);
-        self.wake(&core, woken || pace == Pace::Apart);
+        self.wake(core, stand, pace);
         match ticket? {
             Some(ticket) => {
                 stand.ticket = ticket;
@@ -638,32 +689,67 @@ impl<K: Whole> Floor<K> {
         }
     }
 
-    // Waits until a process is free or the run is over, and says whether that took a wait. Where workers are in each other's way, and little is made
-    // without the lock, all but one leave the processes to that one, until it wakes them.
+    // Waits until a process is free or the run is over. A worker that gives up the processes waits until it is woken, and then so.
     fn wait<'a, R: Wait>(
         &self,
         rt: &R,
         core: MutexGuard<'a, Tied<K>>,
+        stand: &mut Stand,
         pace: Pace,
-    ) -> (MutexGuard<'a, Tied<K>>, bool) {
-        let leaves = pace == Pace::Crowded && 1 < self.busy.load(Ordering::SeqCst);
-        if self.is_over(&core) || (core.next_ready().is_some() && !leaves) {
-            return (core, false);
+    ) -> MutexGuard<'a, Tied<K>> {
+        let gives_up = self.gives_up(stand, pace);
+        if self.is_over(&core) || (!gives_up && !self.has_nothing(&core)) {
+            return core;
         }
         self.idle.fetch_add(1, Ordering::SeqCst);
         self.busy.fetch_sub(1, Ordering::SeqCst);
-        let core = if leaves {
-            self.changed.wait(rt, core)
-        } else {
-            core
-        };
-        let core = self.changed.wait_while(rt, core, |core| {
-            !self.is_over(core) && core.next_ready().is_none()
-        });
+        let mut core = self.sleep(rt, core);
+        for _ in rt.forever() {
+            if !self.has_nothing(&core) {
+                break;
+            }
+            core = self.sleep(rt, core);
+        }
         self.idle.fetch_sub(1, Ordering::SeqCst);
         self.busy.fetch_add(1, Ordering::SeqCst);
+        stand.begin();
+        core
+    }
+
+    // Whether a worker whose turns are short gives the processes up: after its stint, where another one is busy; after two, where one is called; or where it meets
+    // one at the lock, and has made some turns or a further one is busy. The last one that is busy doesn't give them up, unless one is called.
+    fn gives_up(&self, stand: &Stand, pace: Pace) -> bool {
+        if pace == Pace::Apart {
+            return false;
+        }
+        let (made, stint) = (stand.turn.saturating_sub(stand.began), self.stint());
+        let crowded = pace == Pace::Crowded;
+        match self.busy.load(Ordering::SeqCst) {
+            0 | 1 => stint.saturating_mul(2) <= made && self.called.load(Ordering::SeqCst),
+            2 => stint <= made || (crowded && MEETING <= made),
+            _ => stint <= made || crowded,
+        }
+    }
+
+    // How many short turns a worker makes before another one is to make some: its part of a round.
+    fn stint(&self) -> u64 {
+        let begun = self
+            .idle
+            .load(Ordering::SeqCst)
+            .saturating_add(self.busy.load(Ordering::SeqCst));
+        ROUND / begun.max(FEWEST) as u64
+    }
+
+    // Sleeps until it is woken, which may be for nothing.
+    fn sleep<'a, R: Wait>(&self, rt: &R, core: MutexGuard<'a, Tied<K>>) -> MutexGuard<'a, Tied<K>> {
+        let core = self.changed.wait(rt, core);
         self.called.store(false, Ordering::SeqCst);
-        (core, true)
+        core
+    }
+
+    // The run goes on, and no process is free.
+    fn has_nothing(&self, core: &Tied<K>) -> bool {
+        !self.is_over(core) && core.next_ready().is_none()
     }
 
     // The run is over, or the workers are to end.
@@ -672,7 +758,7 @@ impl<K: Whole> Floor<K> {
     }
 
     // A ticket for the process that comes next. None where the run is over.
-    fn next_ticket(&self, core: &mut Tied<K>, used: Ticket) -> Result<Option<Ticket>, Halt<K>> {
+    fn next_ticket(&self, core: &mut Tied<K>, used: Ticket) -> Result<Option<Ticket>, AllocError> {
         if self.is_over(core) {
             return Ok(None);
         }
@@ -682,14 +768,21 @@ impl<K: Whole> Floor<K> {
         }
     }
 
-    // Wakes all workers where the run is over; and else, if it is to, one that waits where another process is free. That one wakes the next one.
-    fn wake(&self, core: &Tied<K>, another: bool) {
-        if self.is_over(core) {
+    // Gives the lock up. Wakes all workers where the run is over; and else calls one that waits, where another process is free and nobody is called yet, if
+    // the worker's turn was long, or it has made its stint, or another one since its last call. Who is called finds the lock free.
+    fn wake(&self, core: MutexGuard<'_, Tied<K>>, stand: &mut Stand, pace: Pace) {
+        if self.is_over(&core) {
             self.changed.notify_all();
-        } else if self.idle.load(Ordering::SeqCst) == 0 || core.next_ready().is_none() {
-            self.called.store(false, Ordering::SeqCst);
-        } else if another {
+            return;
+        }
+        let can_call = 0 < self.idle.load(Ordering::SeqCst)
+            && !self.called.load(Ordering::SeqCst)
+            && core.next_ready().is_some();
+        let made = stand.turn.saturating_sub(stand.called);
+        if can_call && (pace == Pace::Apart || self.stint() <= made) {
+            stand.called = stand.turn;
             self.called.store(true, Ordering::SeqCst);
+            drop(core);
             self.changed.notify_one();
         }
     }

@@ -11,6 +11,10 @@ mod tied;
 pub use fault::WorkFault;
 pub use floor::{run_unlogged, run_workers};
 pub use gate::{Gate, NoGate};
-pub use hep_core::{Segment, Ticket, compute};
-pub use hep_receipts::{Log, Receipt, worker_turn};
-pub use hep_reports::{CloseFault, Report, WorkOptions, close};
+pub use hep_core::{
+    ChoiceStop, ChooseFault, CommitFault, Core, Entry, Fault, NewFault, Offer, Turn, Verdict,
+};
+pub use hep_reports::{
+    CloseFault, Log, Receipt, Report, Segment, Ticket, WorkOptions, close, compute, worker_turn,
+};
+pub use hep_stretches::{Ahead, Stretch};

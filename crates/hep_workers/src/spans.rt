@@ -3,8 +3,7 @@ ghost use Rattle.std.specs.Prelude.{◌≡◌, ◌≤◌, ◌<◌, ◌^◌, ◌+
 ghost use Rattle.hep_workers.specs.Spans.{are_inside, log_of, receipts_in, with_entries, with_entry};
 
 use hep_entries::History;
-use hep_receipts::{Log, Receipt};
-use hep_reports::Finder;
+use hep_reports::{Finder, Log, Receipt};
 use std::alloc::{AllocError, Global};
 
 /// Entries of one worker that stand one behind the other in the history.

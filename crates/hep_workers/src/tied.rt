@@ -1,19 +1,22 @@
 //! What is under the lock, and the image beside it. They are known to be of one run, so a commit need not make the steps of a segment again; and
 //! where the workers' entries are is known, so that their receipts are the entries of the core's history.
-ghost use Rattle.std.specs.Prelude.{◌≡◌, ◌≤◌, ◌<◌, ◌^◌, IfOk, OnOk, ℕ, true, [], length, replicate, vec_capacity, vec_len};
+ghost use Rattle.std.specs.Prelude.{◌≡◌, ◌≢◌, ◌≤◌, ◌<◌, ◌^◌, IfOk, OnOk, ℕ, false, true, [], length, map, replicate, vec_capacity, vec_len};
 ghost use Rattle.std.specs.Coded.{Coded-set, codes};
 ghost use Rattle.hep_source.specs.contracts.expression.Expr as expression;
-ghost use Rattle.hep_core.specs.Value.{CoreValue, opening_of};
-ghost use Rattle.hep_core.specs.Offers.{IsKnownOffer};
-ghost use Rattle.hep_receipts.specs.Shared.{IsSharedFrom};
+ghost use Rattle.hep_reports.specs.CoreValue.{CoreValue, next_ready_of, opening_of, verdict_of};
+ghost use Rattle.hep_reports.specs.CoreOffers.{IsKnownOffer, offered};
+ghost use Rattle.hep_reports.specs.CoreStopVerdict.TheVariants.{Running};
+ghost use Rattle.hep_reports.specs.ReceiptsShared.{IsDue, IsSharedFrom};
 ghost use Rattle.hep_segments.specs.Segments.{most_records};
-ghost use Rattle.hep_workers.specs.Faults.{HasGivenAll};
-ghost use Rattle.hep_workers.specs.Lists.{AreLogsOf, HasLeftLists, IsAtOpening, all_inside, lists_of, logs_of};
+ghost use Rattle.hep_workers.specs.Calls.{HasCancelled, IsAnswered, IsTurned};
+ghost use Rattle.hep_workers.specs.Lists.{AreLogsOf, HasLeftLists, IsAtOpening, all_inside, lists_of, logs_of, worker_numbers};
 
 use crate::spans::{Span, add_entries, add_entry, log_of};
-use hep_core::{ChooseFault, CommitFault, Core, Offer, Ticket, Verdict};
 use hep_entries::History;
-use hep_receipts::{Log, offer_turn, turn_at_once, turns_at_once};
+use hep_reports::{
+    ChooseFault, CommitFault, Core, Log, Offer, Ticket, Verdict, offer_turn, turn_at_once,
+    turns_at_once,
+};
 use hep_stretches::Ahead;
 use std::alloc::{AllocError, Global};
 use std::marker::{Brand, PhantomData};
@@ -41,9 +44,11 @@ pub(crate) struct Seat<K: Whole> {
 }
 
 impl<K: Whole> Seat<K> {
-    fn new(number: u32) -> Self
+    /// The worker with this number.
+    pub(crate) fn new(number: u32) -> Self
         requires some { 1 ≤ number }
         requires few { number ≤ K.workers }
+        ensures { result.number ≡ number }
     {
         Seat {
             number,
@@ -51,9 +56,11 @@ impl<K: Whole> Seat<K> {
         }
     }
 
-    /// The numbers of all workers.
+    /// The numbers of all workers: 1, 2 and so on.
+    #[tactic(auto, using(crate::proofs::Lists::one_number))]
     pub(crate) fn all(alloc: Global, workers: u32) -> Result<Vec<Seat<K>>, AllocError>
         requires { workers ≡ K.workers }
+        ensures { IfOk result (λ seats. map (λ seat. seat.number) seats.items ≡ worker_numbers workers) }
     {
         let mut seats = Vec::new(alloc);
         for worker in 0..workers {
@@ -127,26 +134,6 @@ pub(crate) struct Tied<K: Whole> {
     ghost inside: { all_inside (length core.core.history) (lists_of lists.items) ≡ true },
 }
 
-/// All tickets of the run were given.
-#[derive(Drop)]
-pub(crate) struct AllGiven<K: Whole> {
-    of: PhantomData<K>,
-    ghost given: { ∥ HasGivenAll K.opening ∥₁ },
-}
-
-/// Why a worker gives up.
-#[derive(Drop)]
-pub(crate) enum Halt<K: Whole> {
-    NoMemory,
-    NoTicket(AllGiven<K>),
-}
-
-impl<K: Whole> From<AllocError> for Halt<K> {
-    fn from(_refused: AllocError) -> Halt<K> {
-        Halt::NoMemory
-    }
-}
-
 /// The image of that run, with the private code of its units.
 #[derive(Drop)]
 pub(crate) struct Known<'a, K: Whole> {
@@ -174,6 +161,7 @@ impl<K: Whole> Tied<K> {
         requires many { vec_len lists ≡ K.workers }
         requires blank { lists_of lists.items ≡ replicate K.workers [] }
     {
+        core.headline();
         Tied {
             core,
             lists,
@@ -181,8 +169,9 @@ impl<K: Whole> Tied<K> {
         }
     }
 
-    /// The core, and where the entries of each worker are, once the workers have ended.
+    /// The core, and where the entries of each worker are, once the run is over.
     pub(crate) fn into_parts(self) -> (Core, Vec<Vec<Span>>)
+        requires { verdict_of self.core.core ≢ Running }
         ensures left { HasLeftLists K.opening K.workers result.0 result.1.items }
         ensures many { vec_len result.1 ≡ K.workers }
     {
@@ -191,12 +180,17 @@ impl<K: Whole> Tied<K> {
     }
 
     /// The run is over.
-    pub(crate) fn is_over(&self) -> bool {
+    pub(crate) fn is_over(&self) -> bool
+        ensures over { result ≡ true → verdict_of self.now.core.core ≢ Running }
+        ensures going { result ≡ false → verdict_of self.now.core.core ≡ Running }
+    {
         self.core.verdict() != Verdict::Running
     }
 
     /// The process that comes next.
-    pub(crate) fn next_ready(&self) -> Option<u64> {
+    pub(crate) fn next_ready(&self) -> Option<u64>
+        ensures { result ≡ next_ready_of self.now.core.core }
+    {
         self.core.next_ready()
     }
 
@@ -204,6 +198,7 @@ impl<K: Whole> Tied<K> {
     /// for want of room for it too, before anything is committed.
     pub(crate) fn turn(&mut self, seat: &Seat<K>, offer: &Offer<'_>) -> Result<(), CommitFault>
         requires { IsKnownOffer K.opening.program offer.now }
+        ensures { IsTurned self.old.core (offered K.opening.program offer.now) result self.new.core }
     {
         let Tied { core, lists, of: _ } = self;
         let spans = &mut lists[seat.number as usize - 1];
@@ -213,10 +208,14 @@ impl<K: Whole> Tied<K> {
         let index = core.history().len();
         match offer_turn(core, seat.number, offer) {
             Ok(_receipt) => {
+                core.headline();
                 add_entry(spans, index);
                 Ok(())
             }
-            Err(fault) => Err(fault),
+            Err(fault) => {
+                core.headline();
+                Err(fault)
+            }
         }
     }
 
@@ -263,21 +262,28 @@ impl<K: Whole> Tied<K> {
     }
 
     /// A ticket is out no more.
-    pub(crate) fn cancel(&mut self, ticket: &Ticket) {
+    pub(crate) fn cancel(&mut self, ticket: &Ticket)
+        ensures { HasCancelled self.old.core ticket.now.id self.new.core }
+    {
         let _ = self.core.cancel(ticket);
     }
 
-    /// A ticket for a process, in the room of an older one. None where the run is over, or the process isn't free.
+    /// A ticket for a process that comes next, or made the last entry, in the room of an older one. None where the run is over, or the process isn't free.
     pub(crate) fn check_out(
         &mut self,
         process: u64,
         used: Ticket,
-    ) -> Result<Option<Ticket>, Halt<K>> {
+    ) -> Result<Option<Ticket>, AllocError>
+        requires { IsDue self.old.core.core process }
+        ensures { IsAnswered self.old.core process result self.new.core }
+    {
         match self.core.check_out_again(process, used) {
             Ok(ticket) => Ok(Some(ticket)),
-            Err(ChooseFault::NoMemory) => Err(Halt::NoMemory),
-            Err(ChooseFault::NoTicket) => Err(Halt::NoTicket(AllGiven { of: PhantomData })),
-            Err(_) => Ok(None),
+            Err(ChooseFault::NoMemory) => Err(AllocError),
+            Err(ChooseFault::NoTicket) => Err(AllocError),
+            Err(ChooseFault::Stopped(_)) => Ok(None),
+            Err(ChooseFault::NoSuchProcess) => Ok(None),
+            Err(ChooseFault::IsOut) => Ok(None),
         }
     }
 }

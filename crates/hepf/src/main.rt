@@ -8,19 +8,16 @@ ghost use Rattle.std.specs.Prelude.{◌≤◌};
 ghost use Rattle.hep_command.specs.Jobs.{IsInRange};
 
 use hep_command::{Job, Request, SAME_FILE, explain, read_request};
-use hep_history::Choices;
 use hep_inspection::{
-    AskedCover, AskedDiff, AskedState, Telling, cover_noted, diff_noted, state_noted,
+    AskedCover, AskedDiff, AskedLots, AskedReplay, AskedRun, AskedSample, AskedState, AskedWork,
+    Choices, HistFault, LotOptions, NoGate, Options, Page, ReadFault, Run, SampleOptions, Telling,
+    WorkOptions, answer, check_noted, choices_of, cover_noted, diff_noted, followed_of,
+    history_text, list_noted, lots_history, lots_noted, put_text, read_text, read_text_file,
+    replay_noted, run_noted, sample_bytes, say_unread, say_unwritten, state_noted, warn_noted,
+    work_noted,
 };
-use hep_run::{
-    AskedLots, AskedReplay, AskedRun, AskedSample, AskedWork, LotOptions, NoGate, Options,
-    ReadFault, Run, SampleOptions, WorkOptions, answer, check_noted, choices_of, history_text,
-    list_noted, lots_history, lots_noted, put_text, read_text_file, replay_noted, run_noted,
-    sample_bytes, say_unread, say_unwritten, warn_noted, work_noted,
-};
-use hep_turns::Page;
 use std::fs::File;
-use std::io::ErrorKind;
+use std::io::{ErrorKind, Read, Stdin};
 use std::os::unix::fs::MetadataExt;
 use std::process::ExitCode;
 use std::sync::Wait;
@@ -29,6 +26,32 @@ use std::{env, fs, io};
 
 // What is said where a kept history would be written to the source.
 const KEPT_OVER: &str = "error: --keep names a file that is read\n";
+
+// The name of standard input, where a source is named.
+const STANDARD_INPUT: &str = "-";
+
+/// A source that is to be read.
+#[derive(Drop)]
+enum Source {
+    File(File),
+    Standard(Stdin),
+}
+
+impl Read for Source {
+    fn read(&mut self, buf: &mut [u8]) -> io::Result<usize> {
+        match self {
+            Source::File(file) => file.read(buf),
+            Source::Standard(input) => input.read(buf),
+        }
+    }
+}
+
+/// A file that is to get a history, and whether it was made for that.
+#[derive(Drop)]
+struct Kept {
+    file: File,
+    is_new: bool,
+}
 
 // Each function here gives the exit status, or what it is named after or else the exit status. Where `long` is true, more is said
 // than the lines that are fixed.
@@ -85,19 +108,32 @@ fn opened(rt: &HostRuntime, path: &str, long: bool) -> Result<File, u8> {
     }
 }
 
+// A source: standard input, or a file.
+fn source_of(rt: &HostRuntime, path: &str, long: bool) -> Result<Source, u8> {
+    if path == STANDARD_INPUT {
+        return Ok(Source::Standard(rt.stdin()));
+    }
+    Ok(Source::File(opened(rt, path, long)?))
+}
+
 // The bytes of a file of choices or of a history.
 fn file_bytes(rt: &HostRuntime, path: &str, long: bool) -> Result<Vec<u8>, u8> {
     let mut file = opened(rt, path, long)?;
     read_text_file(rt.alloc(), &mut file, &mut rt.stderr())
 }
 
-fn file_choices(rt: &HostRuntime, path: Option<&str>, long: bool) -> Result<Choices, u8> {
-    match path {
-        Some(path) => {
-            let text = file_bytes(rt, path, long)?;
-            choices_of(rt.alloc(), &text, &mut rt.stderr())
-        }
-        None => Ok(Choices::from(Vec::new(rt.alloc()))),
+// The choices of a file of choices, or those that make the steps of a history.
+fn first_choices(
+    rt: &HostRuntime,
+    choices: Option<&str>,
+    follow: Option<&str>,
+    long: bool,
+) -> Result<Choices, u8> {
+    let (alloc, messages) = (rt.alloc(), &mut rt.stderr());
+    match (choices, follow) {
+        (Some(path), _) => choices_of(alloc, &file_bytes(rt, path, long)?, messages),
+        (None, Some(path)) => followed_of(alloc, &file_bytes(rt, path, long)?, messages),
+        (None, None) => Ok(Choices::from(Vec::new(alloc))),
     }
 }
 
@@ -112,27 +148,75 @@ fn is_one_file(rt: &HostRuntime, path: &str, other: &str) -> bool {
 }
 
 // The history would take the place of a file that is read. `read_words` has compared the names.
-fn is_over_read(
-    rt: &HostRuntime,
-    history: Option<&str>,
-    file: &str,
-    choices: Option<&str>,
-) -> bool {
+fn is_over_read(rt: &HostRuntime, history: Option<&str>, file: &str, first: Option<&str>) -> bool {
     let Some(history) = history else {
         return false;
     };
-    is_one_file(rt, history, file) || choices.is_some_and(|path| is_one_file(rt, history, path))
+    is_one_file(rt, history, file) || first.is_some_and(|path| is_one_file(rt, history, path))
 }
 
-fn write_history(rt: &HostRuntime, run: &Run, path: &str, long: bool) -> u8 {
-    let mut messages = rt.stderr();
-    let text = match history_text(rt.alloc(), run, &mut messages) {
-        Ok(text) => text,
-        Err(status) => return status,
+// A file that can be written, with what it has; where there was none, it is made. Where a standard stream is closed, its clone doesn't
+// get the number of that.
+fn writable(rt: &HostRuntime, path: &str) -> io::Result<Kept> {
+    let made = File::create_new(rt, path);
+    let is_new = made.is_ok();
+    let file = match made {
+        Err(fault) if fault.kind() == ErrorKind::AlreadyExists => {
+            File::options().write(true).create(true).open(rt, path)?
+        }
+        made => made?,
     };
-    match File::create(rt, path) {
-        Ok(mut file) => put_text(&text, run.status, &mut file, &mut messages),
+    Ok(Kept {
+        file: file.try_clone()?,
+        is_new,
+    })
+}
+
+// The file that is to get a history. It is opened before the run, so that no run is made in vain.
+fn kept_file(rt: &HostRuntime, path: &str, long: bool) -> Result<Kept, u8> {
+    match writable(rt, path) {
+        Ok(kept) => Ok(kept),
+        Err(fault) => Err(say_uncreated(rt, path, &fault, long)),
+    }
+}
+
+// Takes out what a file has, which a device doesn't have.
+fn empty(file: &File) -> io::Result<()> {
+    if file.metadata()?.is_file() {
+        file.set_len(0)?;
+    }
+    Ok(())
+}
+
+// Writes the text of a history in the place of what the file has.
+fn put_history(
+    rt: &HostRuntime,
+    path: &str,
+    kept: &mut Kept,
+    text: &[u8],
+    status: u8,
+    long: bool,
+) -> u8 {
+    match empty(&kept.file) {
+        Ok(()) => put_text(text, status, &mut kept.file, &mut rt.stderr()),
         Err(fault) => say_uncreated(rt, path, &fault, long),
+    }
+}
+
+// Leaves no file that was made for a history that there isn't.
+fn let_go(rt: &HostRuntime, path: &str, kept: &Kept) {
+    if kept.is_new {
+        let _ = fs::remove_file(rt, path);
+    }
+}
+
+fn write_history(rt: &HostRuntime, run: &Run, path: &str, kept: &mut Kept, long: bool) -> u8 {
+    match history_text(rt.alloc(), run, &mut rt.stderr()) {
+        Ok(text) => put_history(rt, path, kept, &text, run.status, long),
+        Err(status) => {
+            let_go(rt, path, kept);
+            status
+        }
     }
 }
 
@@ -155,7 +239,7 @@ fn run_standard(rt: &HostRuntime, long: bool) -> u8 {
 }
 
 fn check_file(rt: &HostRuntime, file: &str, long: bool) -> Result<u8, u8> {
-    let mut source = opened(rt, file, long)?;
+    let mut source = source_of(rt, file, long)?;
     Ok(check_noted(
         rt.alloc(),
         &mut source,
@@ -166,7 +250,7 @@ fn check_file(rt: &HostRuntime, file: &str, long: bool) -> Result<u8, u8> {
 }
 
 fn warn_file(rt: &HostRuntime, file: &str, long: bool) -> Result<u8, u8> {
-    let mut source = opened(rt, file, long)?;
+    let mut source = source_of(rt, file, long)?;
     Ok(warn_noted(
         rt.alloc(),
         &mut source,
@@ -177,7 +261,7 @@ fn warn_file(rt: &HostRuntime, file: &str, long: bool) -> Result<u8, u8> {
 }
 
 fn list_file(rt: &HostRuntime, file: &str, long: bool) -> Result<u8, u8> {
-    let mut source = opened(rt, file, long)?;
+    let mut source = source_of(rt, file, long)?;
     Ok(list_noted(
         rt.alloc(),
         &mut source,
@@ -187,60 +271,49 @@ fn list_file(rt: &HostRuntime, file: &str, long: bool) -> Result<u8, u8> {
     ))
 }
 
-fn run_file(rt: &HostRuntime, file: &str, options: &Options, long: bool) -> Result<Run, u8> {
-    let mut source = opened(rt, file, long)?;
+fn run_choices(rt: &HostRuntime, source: &mut Source, options: &Options, long: bool) -> Run {
     let asked = AskedRun { options, long };
-    Ok(run_noted(
+    run_noted(
         rt.alloc(),
-        &mut source,
+        source,
         &asked,
         &mut rt.stdout(),
         &mut rt.stderr(),
-    ))
+    )
 }
 
-fn draw_file(rt: &HostRuntime, file: &str, options: &LotOptions, long: bool) -> Result<Run, u8> {
-    let mut source = opened(rt, file, long)?;
+fn run_lots(rt: &HostRuntime, source: &mut Source, options: &LotOptions, long: bool) -> Run {
     let asked = AskedLots { options, long };
-    Ok(lots_noted(
+    lots_noted(
         rt.alloc(),
-        &mut source,
+        source,
         &asked,
         &mut rt.stdout(),
         &mut rt.stderr(),
-    ))
+    )
 }
 
 // `threads` is the runtime itself, which may start threads where it is handed on as such.
-fn work_file<H: Threads + Wait + Sync>(
+fn run_workers<H: Threads + Wait + Sync>(
     rt: &HostRuntime,
     threads: &H,
-    file: &str,
+    source: &mut Source,
     options: &WorkOptions,
     long: bool,
-) -> Result<Run, u8> {
-    let mut source = opened(rt, file, long)?;
+) -> Run {
     let asked = AskedWork {
         threads,
         options,
         gate: &NoGate,
         long,
     };
-    Ok(work_noted(
+    work_noted(
         rt.alloc(),
-        &mut source,
+        source,
         &asked,
         &mut rt.stdout(),
         &mut rt.stderr(),
-    ))
-}
-
-// Writes the history of a run that is over, where its file is named.
-fn end_run(rt: &HostRuntime, run: &Run, history: Option<&str>, long: bool) -> u8 {
-    match history {
-        Some(path) => write_history(rt, run, path, long),
-        None => run.status,
-    }
+    )
 }
 
 // The path of a history that is kept by its prefix and its seed, unless it is that of the source.
@@ -263,12 +336,28 @@ fn keep_history(
     path: &str,
     long: bool,
 ) -> Result<u8, u8> {
-    let mut messages = rt.stderr();
-    let text = lots_history(rt.alloc(), source, options, &mut messages)?;
-    match File::create(rt, path) {
-        Ok(mut kept) => Ok(put_text(&text, 0, &mut kept, &mut messages)),
-        Err(fault) => Err(say_uncreated(rt, path, &fault, long)),
+    let mut kept = kept_file(rt, path, long)?;
+    match lots_history(rt.alloc(), source, options, &mut rt.stderr()) {
+        Ok(text) => Ok(put_history(rt, path, &mut kept, &text, 0, long)),
+        Err(status) => {
+            let_go(rt, path, &kept);
+            Err(status)
+        }
     }
+}
+
+// Looks whether the histories of a sample can be kept: the first run is the first one of its outcome, so its history is.
+fn look_at_first(
+    rt: &HostRuntime,
+    file: &str,
+    prefix: &str,
+    seed: u64,
+    long: bool,
+) -> Result<(), u8> {
+    let path = kept_path(rt, file, prefix, seed)?;
+    let kept = kept_file(rt, path.as_str(), long)?;
+    let_go(rt, path.as_str(), &kept);
+    Ok(())
 }
 
 // Samples a source, and where all was written and histories are to be kept, writes those of the first runs.
@@ -279,7 +368,14 @@ fn sample_file(
     keep: Option<&str>,
     long: bool,
 ) -> Result<u8, u8> {
-    let source = file_bytes(rt, file, long)?;
+    let source = read_text_file(
+        rt.alloc(),
+        &mut source_of(rt, file, long)?,
+        &mut rt.stderr(),
+    )?;
+    if let Some(prefix) = keep {
+        look_at_first(rt, file, prefix, options.seed, long)?;
+    }
     let asked = AskedSample { options, long };
     let sample = sample_bytes(
         rt.alloc(),
@@ -319,7 +415,7 @@ fn replay_file(
     requires some { 1 ≤ arena }
     requires few { arena ≤ 16777216 }
 {
-    let mut source = opened(rt, file, long)?;
+    let mut source = source_of(rt, file, long)?;
     let asked = AskedReplay {
         history,
         arena,
@@ -344,7 +440,7 @@ fn bytes_of(word: Option<&str>) -> Option<&[u8]> {
 
 // Says what is asked of the first entries of a history.
 fn state_file(rt: &HostRuntime, file: &str, asked: &AskedState<'_>) -> Result<u8, u8> {
-    let mut source = opened(rt, file, asked.long)?;
+    let mut source = source_of(rt, file, asked.long)?;
     Ok(state_noted(
         rt.alloc(),
         &mut source,
@@ -366,9 +462,20 @@ fn all_bytes(rt: &HostRuntime, paths: &[&str], long: bool) -> Result<Vec<Vec<u8>
     Ok(texts)
 }
 
+// Says which of several files has no history, where it is refused.
+fn say_refused(rt: &HostRuntime, path: &str, text: &[u8]) -> Option<u8> {
+    let Err(HistFault::Refused { line, .. }) = read_text(rt.alloc(), text) else {
+        return None;
+    };
+    match format!(in rt.alloc(); "{path}: line {line} is no entry of a history\n") {
+        Ok(text) => Some(answer(2, text.as_bytes(), &mut rt.stdout(), &mut rt.stderr())),
+        Err(_) => None,
+    }
+}
+
 // Says how often the statement of each line began in histories.
 fn cover_file(rt: &HostRuntime, file: &str, asked: &AskedCover<'_>) -> Result<u8, u8> {
-    let mut source = opened(rt, file, asked.long)?;
+    let mut source = source_of(rt, file, asked.long)?;
     Ok(cover_noted(
         rt.alloc(),
         &mut source,
@@ -380,7 +487,7 @@ fn cover_file(rt: &HostRuntime, file: &str, asked: &AskedCover<'_>) -> Result<u8
 
 // Says what differs between the runs of two histories.
 fn diff_file(rt: &HostRuntime, file: &str, asked: &AskedDiff<'_>) -> Result<u8, u8> {
-    let mut source = opened(rt, file, asked.long)?;
+    let mut source = source_of(rt, file, asked.long)?;
     Ok(diff_noted(
         rt.alloc(),
         &mut source,
@@ -413,12 +520,19 @@ fn done<H: Threads + Wait + Sync>(
             workers,
             seed,
             choices,
+            follow,
             history,
         } => {
-            if is_over_read(rt, history, file, choices) {
+            if is_over_read(rt, history, file, choices.or(follow)) {
                 let text = SAME_FILE.as_bytes();
                 return Err(answer(2, text, &mut rt.stdout(), &mut rt.stderr()));
             }
+            let choices = first_choices(rt, choices, follow, long)?;
+            let source = &mut source_of(rt, file, long)?;
+            let kept = match history {
+                Some(path) => Some((path, kept_file(rt, path, long)?)),
+                None => None,
+            };
             let run = match (workers, seed) {
                 (Some(workers), _) => {
                     let options = WorkOptions {
@@ -426,22 +540,25 @@ fn done<H: Threads + Wait + Sync>(
                         steps,
                         workers,
                     };
-                    work_file(rt, threads, file, &options, long)?
+                    run_workers(rt, threads, source, &options, long)
                 }
                 (None, Some(seed)) => {
                     let options = LotOptions { arena, steps, seed };
-                    draw_file(rt, file, &options, long)?
+                    run_lots(rt, source, &options, long)
                 }
                 (None, None) => {
                     let options = Options {
                         arena,
                         steps,
-                        choices: file_choices(rt, choices, long)?,
+                        choices,
                     };
-                    run_file(rt, file, &options, long)?
+                    run_choices(rt, source, &options, long)
                 }
             };
-            Ok(end_run(rt, &run, history, long))
+            match kept {
+                Some((path, mut kept)) => Ok(write_history(rt, &run, path, &mut kept, long)),
+                None => Ok(run.status),
+            }
         }
         Job::Sample {
             file,
@@ -528,7 +645,15 @@ fn done<H: Threads + Wait + Sync>(
                 arena,
                 long,
             };
-            cover_file(rt, file, &asked)
+            let status = cover_file(rt, file, &asked)?;
+            if long && status == 2 {
+                for (path, text) in histories.iter().zip(texts.iter()) {
+                    if let Some(status) = say_refused(rt, *path, text) {
+                        return Err(status);
+                    }
+                }
+            }
+            Ok(status)
         }
         Job::Diff {
             file,
@@ -544,7 +669,16 @@ fn done<H: Threads + Wait + Sync>(
                 arena,
                 long,
             };
-            diff_file(rt, file, &asked)
+            let status = diff_file(rt, file, &asked)?;
+            if long && status == 2 {
+                if let Some(status) = say_refused(rt, history, &first) {
+                    return Err(status);
+                }
+                if let Some(status) = say_refused(rt, other, &second) {
+                    return Err(status);
+                }
+            }
+            Ok(status)
         }
         Job::List { file } => list_file(rt, file, long),
         Job::Explain {

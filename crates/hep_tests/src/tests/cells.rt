@@ -1,7 +1,7 @@
 //! How many cells are out where a run stops, and what a stopped core answers.
 
 use super::{chosen, image_from, source_of};
-use hep_core::{ChoiceStop, ChooseFault, Core};
+use hep_run::{ChoiceStop, ChooseFault, Core};
 use std::alloc::Global;
 use std::process::Abort;
 

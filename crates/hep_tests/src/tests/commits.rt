@@ -1,10 +1,8 @@
 //! Commits of segments with private steps.
 
 use super::{computed, image_from};
-use hep_core::{
-    ChoiceStop, ChooseFault, CommitFault, Core, Offer, Segment, Turn, Verdict, compute,
-};
 use hep_image::Image;
+use hep_run::{ChoiceStop, ChooseFault, CommitFault, Core, Offer, Segment, Turn, Verdict, compute};
 use std::alloc::Global;
 use std::process::Abort;
 

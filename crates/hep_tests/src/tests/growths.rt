@@ -5,21 +5,18 @@
 
 use super::{checked_out, chosen, committed, image_from, program_of, source_of};
 use hep_base::Refusal;
-use hep_check::{Checked, check};
 use hep_copies::Syntax;
-use hep_core::{
-    ChooseFault, CommitFault, Core, Entry, Fault, NewFault, Segment, Ticket, Turn, Verdict, compute,
-};
-use hep_dump::dump_text;
 use hep_entries::History;
-use hep_history::{ReplayFault, read_text, replay, write_text};
 use hep_image::Image;
-use hep_lower::lower;
 use hep_output::output_text;
 use hep_parse::parse;
+use hep_run::{
+    Checked, ChooseFault, CloseFault, CommitFault, Core, Entry, Fault, NewFault, NoGate,
+    ReplayFault, Report, Segment, Ticket, Turn, Verdict, WorkFault, WorkOptions, check, close,
+    compute, dump_text, history_replay as replay, lower, read_text, run_workers, write_text,
+};
 use hep_source::Program;
 use hep_text::statements;
-use hep_workers::{CloseFault, NoGate, Report, WorkFault, WorkOptions, close, run_workers};
 use std::alloc::{AllocError, Global};
 use std::process::Abort;
 use std::sync::Wait;

@@ -2,8 +2,8 @@
 
 use super::cells::ADDED;
 use super::{image_from, source_of};
-use hep_history::{read_text, replay, write_text};
 use hep_output::output_text;
+use hep_run::{history_replay as replay, read_text, write_text};
 use std::alloc::Global;
 use std::process::Abort;
 

@@ -1,9 +1,10 @@
 //! The parts by themselves, through their public calls.
+ghost use Rattle.std.specs.Prelude.{◌≡◌, ◌∷◌, [], length};
 
 use super::{UNDEFINED, chosen, core_of, image_from, is_single_steps, source_of};
-use hep_arena::Arena;
 use hep_arena::laws::{giving, taking};
-use hep_core::{ChoiceStop, ChooseFault, Core, NewFault, Verdict};
+use hep_arena::{Arena, Block};
+use hep_run::{ChoiceStop, ChooseFault, Core, NewFault, Verdict};
 use hep_text::{Span, Stmt, statements};
 use std::alloc::Global;
 use std::process::Abort;
@@ -157,8 +158,13 @@ pub fn waiting_processes(rt: &impl Abort, alloc: Global) {
 
 // ---- the arena
 
-/// Three blocks in an arena of ten cells leave a hole of one. A block of five fits where two neighbours have come back.
-pub fn three_blocks(rt: &impl Abort, alloc: Global) {
+// Three blocks in an arena of ten cells leave a hole of one, and a block of five doesn't fit where one of four has come back. Then
+// the first one comes back too; the third one is left, between two holes.
+fn two_are_back(rt: &impl Abort, alloc: Global) -> (Arena, Block)
+    ensures holes { result.0.holes ≡ (0, 7) ∷ (9, 1) ∷ [] }
+    ensures cells { length result.0.contents ≡ 10 }
+    ensures block { (result.1.at ≡ 7) × (result.1.len ≡ 2) }
+{
     taking();
     giving();
     let mut arena = Arena::new(alloc, 10).expect(rt, "no memory").sent();
@@ -173,24 +179,25 @@ pub fn three_blocks(rt: &impl Abort, alloc: Global) {
     assert!(rt; arena.used() == 5);
     arena.give(first);
     assert!(rt; arena.used() == 2 && arena.fits(7) && !arena.fits(8));
-    let fourth = arena.take(5).expect(rt, "no block");
-    assert!(rt; fourth.at() == 0 && arena.used() == 7);
-    assert!(rt; arena.fits(2) && !arena.fits(3));
+    (arena, third)
 }
 
-/// The same holes as at the end of those, of two cells and of one. Once the blocks beside them are back, all cells are one hole.
-pub fn all_given_back(rt: &impl Abort, alloc: Global) {
+/// A block of five fits where two neighbours have come back. Once all are back, all cells are one hole, whichever of the last two comes first.
+pub fn three_blocks(rt: &impl Abort, alloc: Global) {
     taking();
     giving();
-    let mut arena = Arena::new(alloc, 10).expect(rt, "no memory").sent();
-    let first = arena.take(5).expect(rt, "no block");
-    let second = arena.take(2).expect(rt, "no block");
-    let third = arena.take(2).expect(rt, "no block");
-    arena.give(second);
-    assert!(rt; first.at() == 0 && third.at() == 7 && arena.used() == 7);
-    arena.give(third);
-    assert!(rt; arena.fits(5) && !arena.fits(6));
-    arena.give(first);
-    assert!(rt; arena.used() == 0);
-    assert!(rt; arena.fits(10));
+    for is_lower_first in [false, true] {
+        let (mut arena, third) = two_are_back(rt, alloc);
+        let fourth = arena.take(5).expect(rt, "no block");
+        assert!(rt; fourth.at() == 0 && arena.used() == 7);
+        assert!(rt; arena.fits(2) && !arena.fits(3));
+        if is_lower_first {
+            arena.give(fourth);
+            arena.give(third);
+        } else {
+            arena.give(third);
+            arena.give(fourth);
+        }
+        assert!(rt; arena.used() == 0 && arena.fits(10));
+    }
 }

@@ -2,16 +2,17 @@
 ghost use Rattle.std.specs.Prelude.{◌≤◌};
 
 use super::{checked_out, chosen, committed, computed, core_of, image_from, source_of};
-use hep_core::{ChoiceStop, ChooseFault, CommitFault, Core, Segment, Ticket, Verdict, compute};
 use hep_image::Image;
-use hep_source::Value;
-use hep_workers::{
-    CloseFault, Gate, Log, NoGate, Receipt, WorkOptions, close, run_workers, worker_turn,
+use hep_run::{
+    Ahead, ChoiceStop, ChooseFault, CloseFault, CommitFault, Core, Gate, Log, NoGate, Receipt,
+    Segment, Stretch, Ticket, Verdict, WorkOptions, close, compute, run_workers, worker_turn,
 };
+use hep_source::Value;
 use std::alloc::Global;
 use std::process::Abort;
+use std::sync::Wait;
 use std::sync::atomic::{AtomicBool, AtomicU32, AtomicU64, Ordering};
-use std::thread::sleep;
+use std::thread::{Threads, sleep};
 use std::time::{Clock, Duration};
 
 const WAITING: &[u8] = b"      PROGRAM P\n      INTEGER $A\n      I=$A\n      END\n";
@@ -115,11 +116,7 @@ pub fn at_the_opening(rt: &impl Abort, alloc: Global) {
     assert!(rt; turn.steps == 1 && !turn.blocked);
     assert!(rt; is_stale(&mut core, &second));
     assert!(rt; core.history().len() == 1);
-    let options = WorkOptions {
-        arena: 3,
-        steps: 7,
-        workers: 1,
-    };
+    let options = options_by_one(3, 7);
     let opening = core_of(rt, alloc, &source, 7);
     assert!(rt; unclosed(alloc, opening, &image, &options) == Some(CloseFault::StillRunning));
 }
@@ -167,24 +164,81 @@ pub fn full_histories(rt: &impl Abort, alloc: Global) {
     assert!(rt; chosen(&mut core, 7).err() == Some(ChooseFault::Stopped(ChoiceStop::StepLimit)));
 }
 
-/// Why there is no report, each by itself.
-pub fn closing(rt: &impl Abort, alloc: Global) {
-    let options = WorkOptions {
-        arena: 3,
-        steps: 7,
-        workers: 1,
-    };
-    let source = b"      I=1\n      END\n";
-    let image = image_from(rt, alloc, source);
-    let opening = core_of(rt, alloc, source, 7);
-    assert!(rt; unclosed(alloc, opening, &image, &options) == Some(CloseFault::StillRunning));
-    let opening = core_of(rt, alloc, source, 7);
-    let other = image_from(rt, alloc, WAITING);
-    assert!(rt; unclosed(alloc, opening, &other, &options) == Some(CloseFault::NotTheRun));
-    let shorter = core_of(rt, alloc, source, 6);
-    assert!(rt; unclosed(alloc, shorter, &image, &options) == Some(CloseFault::NotTheRun));
+const TWO_STEPS: &[u8] = b"      I=1\n      END\n";
 
-    let mut core = core_of(rt, alloc, source, 7);
+// For a run of one worker.
+fn options_by_one(arena: u32, steps: u64) -> WorkOptions
+    requires some { 1 ≤ arena }
+    requires few { arena ≤ 16777216 }
+{
+    WorkOptions {
+        arena,
+        steps,
+        workers: 1,
+    }
+}
+
+// The log of worker 1 alone, with a receipt of a step of process 1 for each of these entries.
+fn log_of_steps(rt: &impl Abort, alloc: Global, indexes: &[u64]) -> Vec<Log> {
+    let mut receipts = Vec::new(alloc);
+    for index in indexes {
+        let receipt = Receipt {
+            index: *index,
+            process: 1,
+            worker: 1,
+            steps: 1,
+        };
+        receipts.push(receipt).expect(rt, "no memory");
+    }
+    let mut logs = Vec::new(alloc);
+    logs.push(Log::of(receipts)).expect(rt, "no memory");
+    logs
+}
+
+// Why there is no report of a run of two steps that is over, with a log of these entries.
+fn unclosed_run(
+    rt: &impl Abort,
+    alloc: Global,
+    image: &Image,
+    options: &WorkOptions,
+    indexes: &[u64],
+) -> Option<CloseFault> {
+    let mut core = core_of(rt, alloc, TWO_STEPS, 7);
+    for _step in 0..2 {
+        let _turn = chosen(&mut core, 1).expect(rt, "no turn");
+    }
+    let logs = log_of_steps(rt, alloc, indexes);
+    close(alloc, core, image, options, logs).err()
+}
+
+/// Why there is no report, each by itself, and the first by number where there are two.
+pub fn closing(rt: &impl Abort, alloc: Global) {
+    let options = options_by_one(3, 7);
+    let image = image_from(rt, alloc, TWO_STEPS);
+    let other = image_from(rt, alloc, WAITING);
+    let opening = core_of(rt, alloc, TWO_STEPS, 7);
+    assert!(rt; unclosed(alloc, opening, &image, &options) == Some(CloseFault::StillRunning));
+    let opening = core_of(rt, alloc, TWO_STEPS, 7);
+    assert!(rt; unclosed(alloc, opening, &other, &options) == Some(CloseFault::NotTheRun));
+
+    assert!(rt; unclosed_run(rt, alloc, &image, &options, &[0, 1]).is_none());
+    let unnamed = Some(CloseFault::NotTheEntries);
+    assert!(rt; unclosed_run(rt, alloc, &other, &options, &[0, 0]) == unnamed);
+    assert!(rt; unclosed_run(rt, alloc, &other, &options, &[1, 2]) == unnamed);
+    let falling = Some(CloseFault::NotRising);
+    assert!(rt; unclosed_run(rt, alloc, &image, &options, &[1, 0]) == falling);
+    assert!(rt; unclosed_run(rt, alloc, &other, &options, &[1, 0]) == falling);
+    let foreign = Some(CloseFault::NotTheRun);
+    let (arena, steps) = (options_by_one(4, 7), options_by_one(3, 8));
+    assert!(rt; unclosed_run(rt, alloc, &other, &options, &[0, 1]) == foreign);
+    assert!(rt; unclosed_run(rt, alloc, &image, &arena, &[0, 1]) == foreign);
+    assert!(rt; unclosed_run(rt, alloc, &image, &steps, &[0, 1]) == foreign);
+    after_a_turn(rt, alloc, &image, &options);
+}
+
+// A worker's turn has a receipt, and without it there is no report.
+fn after_a_turn(rt: &impl Abort, alloc: Global, image: &Image, options: &WorkOptions) {
+    let mut core = core_of(rt, alloc, TWO_STEPS, 7);
     let ticket = ticket_of(rt, &mut core, 1);
     let segment = computed(&core, &ticket);
     let receipt = worker_turn(&mut core, 1, &segment).expect(rt, "no receipt");
@@ -197,7 +251,7 @@ pub fn closing(rt: &impl Abort, alloc: Global) {
                 steps: 2,
             }
     );
-    assert!(rt; unclosed(alloc, core, &image, &options) == Some(CloseFault::NotTheEntries));
+    assert!(rt; unclosed(alloc, core, image, options) == Some(CloseFault::NotTheEntries));
 }
 
 // Holds the first worker that calls it after 20 calls, until the other one has called it twice more.
@@ -510,4 +564,193 @@ fn waiting_workers_are_woken(rt: HostRuntime) {
     assert!(rt; gate.polls.load(Ordering::SeqCst) < MOST_POLLS);
     assert!(rt; gate.gathered.load(Ordering::SeqCst));
     assert!(rt; report.core().verdict() == Verdict::Done);
+}
+
+// ---- in the program's own mode, in which no gate is asked for the segment of each turn
+
+// A main program that creates two processes. Each prints, which no turn in one does, and has a loop of private steps then.
+const LOOPING: [&[u8]; 9] = [
+    b"      PROGRAM P",
+    b"      CREATE S",
+    b"      CREATE S",
+    b"      END",
+    b"      SUBROUTINE S",
+    b"      PRINT *,'LOOP'",
+    b"      DO 10 I=1,3000",
+    b"   10 K=I",
+    b"      END",
+];
+
+// As many private steps as a stretch of the loop has at least.
+const LONG: u32 = 1_000;
+
+// Holds the worker that has the first call for process 2 until another one has a call too; and a worker that has a long stretch until two have one. The main
+// program has no stretches, so that a worker which waits is woken behind each of its turns.
+#[derive(Drop)]
+struct Beside<'a, R> {
+    rt: &'a R,
+    // A bit for each worker that has had a call, and for each that has had a long stretch.
+    called: AtomicU32,
+    stretched: AtomicU32,
+    polls: AtomicU64,
+}
+
+impl<'a, R: Clock> Beside<'a, R> {
+    fn new(rt: &'a R) -> Self {
+        Beside {
+            rt,
+            called: AtomicU32::new(0),
+            stretched: AtomicU32::new(0),
+            polls: AtomicU64::new(0),
+        }
+    }
+
+    // Waits until both workers have their bits in a word.
+    fn meet(&self, word: &AtomicU32) {
+        for _poll in 0..MOST_POLLS {
+            if word.load(Ordering::SeqCst) == 3 {
+                return;
+            }
+            self.polls.fetch_add(1, Ordering::SeqCst);
+            sleep(self.rt, Duration::from_micros(100));
+        }
+    }
+}
+
+impl<R: Clock> Gate for Beside<'_, R> {
+    fn segment(&self, _worker: u32, _turn: u64, image: &Image, ticket: &Ticket) -> Segment {
+        compute(image, ticket)
+    }
+
+    fn is_asked(&self) -> bool {
+        false
+    }
+
+    fn stretch_into(
+        &self,
+        worker: u32,
+        turn: u64,
+        ahead: &Ahead<'_>,
+        ticket: &Ticket,
+        stretch: &mut Stretch,
+    ) -> bool {
+        let bit = if worker == 1 { 1 } else { 2 };
+        self.called.fetch_or(bit, Ordering::SeqCst);
+        let process = ticket.id().process;
+        if process == 1 {
+            return false;
+        }
+        if process == 2 {
+            self.meet(&self.called);
+        }
+        let is_made = NoGate.stretch_into(worker, turn, ahead, ticket, stretch);
+        if LONG <= stretch.steps() {
+            self.stretched.fetch_or(bit, Ordering::SeqCst);
+            self.meet(&self.stretched);
+        }
+        is_made
+    }
+}
+
+// Two workers have a long stretch each at one time.
+fn two_loops_beside<R: Abort + Clock + Threads + Wait + Sync>(rt: &R, alloc: Global) {
+    let image = image_from(rt, alloc, &source_of(rt, alloc, &LOOPING));
+    let gate = Beside::new(rt);
+    let options = options_of(10_000, 2);
+    let report = run_workers(rt, alloc, image, &options, &gate).expect(rt, "no report");
+    assert!(rt; gate.polls.load(Ordering::SeqCst) < MOST_POLLS);
+    assert!(rt; gate.stretched.load(Ordering::SeqCst) == 3);
+    assert!(rt; report.core().verdict() == Verdict::Done);
+    for log in report.logs() {
+        assert!(rt; log.receipts().iter().any(|receipt| LONG <= receipt.steps));
+    }
+}
+
+// A main program that creates two processes, which store into COMMON 50,000 times each.
+const SHORT_TURNS: [&[u8]; 9] = [
+    b"      PROGRAM P",
+    b"      CREATE S",
+    b"      CREATE S",
+    b"      END",
+    b"      SUBROUTINE S",
+    b"      COMMON N",
+    b"      DO 10 I=1,50000",
+    b"   10 N=I",
+    b"      END",
+];
+
+// A worker has at least a tenth of its share of the entries of short turns.
+const LEAST_SHARE: usize = 5_000;
+
+// From this turn of its own on a worker is held: before, it has called the other one if that one waits.
+const LATE_TURN: u64 = 6_000;
+
+// Holds a worker in a late turn until the other one has had a call.
+#[derive(Drop)]
+struct Late<'a, R> {
+    beside: Beside<'a, R>,
+}
+
+impl<R: Clock> Gate for Late<'_, R> {
+    fn segment(&self, _worker: u32, _turn: u64, image: &Image, ticket: &Ticket) -> Segment {
+        compute(image, ticket)
+    }
+
+    fn is_asked(&self) -> bool {
+        false
+    }
+
+    fn stretch_into(
+        &self,
+        worker: u32,
+        turn: u64,
+        ahead: &Ahead<'_>,
+        ticket: &Ticket,
+        stretch: &mut Stretch,
+    ) -> bool {
+        let bit = if worker == 1 { 1 } else { 2 };
+        self.beside.called.fetch_or(bit, Ordering::SeqCst);
+        if LATE_TURN <= turn {
+            self.beside.meet(&self.beside.called);
+        }
+        NoGate.stretch_into(worker, turn, ahead, ticket, stretch)
+    }
+}
+
+// How many spans of entries, one behind the other, a log has.
+fn spans_of(log: &Log) -> u64 {
+    let mut spans: u64 = 0;
+    let mut next: Option<u64> = None;
+    for receipt in log.receipts() {
+        if next != Some(receipt.index) {
+            spans = spans.saturating_add(1);
+        }
+        next = Some(receipt.index.saturating_add(1));
+    }
+    spans
+}
+
+// Two workers give the processes to each other again and again, though all turns are short.
+fn short_turns_shared<R: Abort + Clock + Threads + Wait + Sync>(rt: &R, alloc: Global) {
+    let image = image_from(rt, alloc, &source_of(rt, alloc, &SHORT_TURNS));
+    let gate = Late {
+        beside: Beside::new(rt),
+    };
+    let options = options_of(1_000_000, 2);
+    let report = run_workers(rt, alloc, image, &options, &gate).expect(rt, "no report");
+    assert!(rt; gate.beside.polls.load(Ordering::SeqCst) < MOST_POLLS);
+    assert!(rt; report.core().verdict() == Verdict::Done);
+    assert!(rt; report.core().history().len() == 100_005);
+    for log in report.logs() {
+        assert!(rt; LEAST_SHARE <= log.receipts().len());
+        assert!(rt; 3 <= spans_of(log));
+    }
+}
+
+// The program's own mode: two workers make long stretches side by side, and share short turns.
+#[test]
+fn workers_are_not_asked(rt: HostRuntime) {
+    let alloc = rt.alloc();
+    two_loops_beside(&rt, alloc);
+    short_turns_shared(&rt, alloc);
 }

@@ -1,13 +1,13 @@
 use Rattle.std.proofs.Common.{◌≡◌, ◌∙◌, ◌<◌, ◌++◌, ℕ, List, Vec, Global, length, sym, ap, subst}
 use Rattle.std.proofs.lemmas.Option.{none-some, same_Some}
-use Rattle.hep_coming.specs.Coming.{IsComingOf}
+use Rattle.hep_sites.specs.ComingComing.{IsComingOf}
 use Rattle.hep_conditions.specs.Words.{IsAccepted}
 use Rattle.hep_machine.specs.Words.{Units, run, schedule_of, spelling, unit_at, unit_of}
 use Rattle.hep_sites.specs.Named.{named_by}
 use Rattle.hep_sites.specs.Sites.{IsVariableOf}
 use Rattle.hep_sites.specs.Variables.{AreVariablesOf}
 use Rattle.hep_sites.proofs.AccessedAhead.{is-named}
-use Rattle.hep_state.specs.Words.{IsMachineAfter}
+use Rattle.hep_sites.specs.StateWords.{IsMachineAfter}
 use Rattle.hep_reasons.specs.Called.{reference_text}
 use Rattle.hep_causes.proofs.Naming.{accessed, levels-there, never-none, text-there, unit-there, unit-told, waits-there}
 use Rattle.hep_causes.proofs.calling.called.Goals.{in-Some-name_of+in_ok-append_reference, in_default-name_of}

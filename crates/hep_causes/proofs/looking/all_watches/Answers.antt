@@ -1,6 +1,6 @@
 use Rattle.std.proofs.Common.{◌≡◌, ◌+◌, ◌-◌, ◌<◌, ◌++◌, suc, List, length, map, sym, ap, ◌∙◌, append-nil, arith}
-use Rattle.hep_core.specs.Value.{state_of}
-use Rattle.hep_views.specs.declared.listed.Listed.{Listed}
+use Rattle.hep_history.specs.Value.{state_of}
+use Rattle.hep_sites.specs.ViewsListedListed.{Listed}
 use Rattle.hep_causes.specs.declared.watch.Watch.{Watch}
 use Rattle.hep_causes.specs.Watches.{listed_from}
 use Rattle.hep_causes.proofs.Watched.{none-there, none-yet, turn}

@@ -1,5 +1,5 @@
 use Rattle.std.proofs.Common.{◌≡◌, ◌++◌, ◌-◌, suc, length, map}
-use Rattle.hep_core.specs.Value.{state_of}
+use Rattle.hep_history.specs.Value.{state_of}
 use Rattle.hep_machine.specs.Words.{schedule_of}
 use Rattle.hep_causes.specs.declared.watch.Watch.{Watch}
 use Rattle.hep_causes.specs.Watches.{AreNewWatches, listed_from}

@@ -1,6 +1,6 @@
 use Rattle.std.proofs.Common.{ap}
 use Rattle.std.specs.Option.{option_map}
-use Rattle.hep_views.specs.declared.whereabouts.Whereabouts.{Whereabouts}
+use Rattle.hep_sites.specs.ViewsWhereaboutsWhereabouts.{Whereabouts}
 use Rattle.hep_reasons.specs.declared.reason.Change.{Change}
 use Rattle.hep_causes.proofs.looking.change_by.Goals as goal
 

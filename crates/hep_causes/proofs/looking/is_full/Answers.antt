@@ -1,12 +1,12 @@
 use Rattle.std.proofs.Common.{◌<◌, ◌∙◌, ℕ, ap, sym, subst, length}
 use Rattle.hep_arena.specs.Holes.{IsOut}
-use Rattle.hep_core.proofs.Histories.{state-is}
-use Rattle.hep_core.specs.Value.{CoreValue}
+use Rattle.hep_history.proofs.Histories.{state-is}
+use Rattle.hep_history.specs.Value.{CoreValue}
 use Rattle.hep_layout.proofs.Addresses.{address-out}
 use Rattle.hep_machine.specs.declared.slot.Slot.{Slot}
 use Rattle.hep_machine.specs.Words.{Location, State, is_held, run, schedule_of}
 use Rattle.hep_proc.specs.Keeping.{frames_in}
-use Rattle.hep_state.specs.declared.machine.Machine.{Machine}
+use Rattle.hep_sites.specs.StateMachineMachine.{Machine}
 use Rattle.hep_causes.specs.Watches.{IsKeptIn, IsMachineOf}
 use Rattle.hep_causes.proofs.looking.is_full.Goals as goal
 

@@ -1,6 +1,6 @@
 use Rattle.std.proofs.Common.{◌≡◌, ◌<◌, ℕ, Some, List, refl, sym, ◌∙◌, arith, slice_get, ap, length, get_or}
 use Rattle.std.proofs.lemmas.Option.{slice_get-get_or, slice_get_within}
-use Rattle.hep_core.specs.Value.{state_of}
+use Rattle.hep_history.specs.Value.{state_of}
 use Rattle.hep_causes.specs.declared.watch.Watch.{Watch}
 use Rattle.hep_causes.proofs.Along.{looked-listed}
 use Rattle.hep_causes.proofs.Looks.{part-next}

@@ -1,11 +1,11 @@
 use Rattle.std.proofs.Common.{◌≡◌, ◌<◌, ◌≤◌, ◌∙◌, ◌&&◌, ℕ, Bool, true, false, Option, ap, sym, not, length, nat_le, if◌then◌else◌, arith}
 use Rattle.std.proofs.lemmas.Bool.Decides.{nat_tests}
-use Rattle.hep_core.proofs.Histories.{state-is}
-use Rattle.hep_core.specs.Value.{CoreValue, state_of}
+use Rattle.hep_history.proofs.Histories.{state-is}
+use Rattle.hep_history.specs.Value.{CoreValue, state_of}
 use Rattle.hep_machine.specs.Words.{Location, State, same_logical}
 use Rattle.hep_reasons.specs.Changes.{is_there}
 use Rattle.hep_reasons.specs.declared.reason.Change.{Change}
-use Rattle.hep_state.specs.declared.machine.Machine.{Machine}
+use Rattle.hep_sites.specs.StateMachineMachine.{Machine}
 use Rattle.hep_causes.specs.declared.watch.Watch.{Watch}
 use Rattle.hep_causes.specs.Watches.{IsKeptOnceThere, IsMachineOf, looked}
 use Rattle.hep_causes.proofs.looking.look_once.Goals as goal

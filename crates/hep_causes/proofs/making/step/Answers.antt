@@ -1,6 +1,6 @@
 use Rattle.std.proofs.Common.{◌≡◌, ◌∷◌, [], Bool, true, false, Ok, Err, subst, ℕ}
-use Rattle.hep_core.specs.declared.fault.ChooseFault.{ChooseFault}
-use Rattle.hep_core.specs.Value.{CoreValue, IsChoice}
+use Rattle.hep_history.specs.ChooseFault.{ChooseFault}
+use Rattle.hep_history.specs.Value.{CoreValue, IsChoice}
 use Rattle.hep_history.specs.Progress.{TurnMade, longer, turn_entry}
 use Rattle.hep_history.proofs.Turns.{turn_made}
 use Rattle.hep_causes.specs.Watches.{CanTurn}

@@ -1,6 +1,6 @@
 use Rattle.std.proofs.Common.{◌∙◌, arith, subst}
-use Rattle.hep_core.specs.Value.{IsNewFault}
-use Rattle.hep_core.specs.declared.fault.NewFault.{NewFault}
+use Rattle.hep_history.specs.Value.{IsNewFault}
+use Rattle.hep_history.specs.CoreFaultNewFault.{NewFault}
 use Rattle.hep_causes.proofs.Beginning.{begun-again, not-full}
 use Rattle.hep_causes.proofs.reading.begin_again.Goals as goal
 

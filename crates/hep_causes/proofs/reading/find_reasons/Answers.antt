@@ -1,6 +1,6 @@
 use Rattle.std.proofs.Common.{◌∙◌, ap, subst, sym, List}
 use Rattle.std.proofs.lemmas.Result.{IfOk-weaker}
-use Rattle.hep_core.specs.Value.{state_of}
+use Rattle.hep_history.specs.Value.{state_of}
 use Rattle.hep_history.specs.First.{first_of}
 use Rattle.hep_causes.specs.declared.watch.Watch.{Watch}
 use Rattle.hep_causes.specs.Watches.{AreWaiting, reasons_for}

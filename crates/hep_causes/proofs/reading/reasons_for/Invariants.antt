@@ -1,5 +1,5 @@
 use Rattle.std.proofs.Common.{◌≡◌, ◌++◌, drop}
-use Rattle.hep_core.specs.Value.{state_of}
+use Rattle.hep_history.specs.Value.{state_of}
 use Rattle.hep_causes.specs.Watches.{reasons_for}
 use Rattle.hep_causes.proofs.reading.reasons_for.Given as goal
 

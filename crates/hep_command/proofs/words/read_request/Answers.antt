@@ -1,5 +1,5 @@
-use Rattle.std.proofs.Common.{◌≡◌, ◌⊎◌, ◌∙◌, ℕ, Bool, List, [], Option, Some, Result, Ok, Err, IfOk, IfErr, map, inl, inr, subst, sym, true}
-use Rattle.clap.specs.Words.{HasKind, HasMatchesOf, Text, app_of, fault_of, is_simple_and_free, subcommand_rows_of}
+use Rattle.std.proofs.Common.{◌≡◌, ◌⊎◌, ◌∙◌, ℕ, Bool, List, [], Option, Some, Result, Ok, Err, IfOk, IfErr, map, inl, inr, sym}
+use Rattle.clap.specs.Words.{Text, subcommand_rows_of}
 use Rattle.hep_command.specs.Asked.{Asked, asked_by, is_long_in, job_in, words_found, histories_in}
 use Rattle.hep_command.specs.Jobs.{IsWant}
 use Rattle.hep_command.specs.Program.{IsAskedBy, IsMistaken, IsStatusFor, asked, is_long, histories}
@@ -20,37 +20,32 @@ status_of_mistake (Ok q) found P by h = tt
 status_of_mistake (Err usage) found P by (inl want) = by usage.status (inl want.0)
 status_of_mistake (Err usage) found P by (inr mistake) = by usage.status (inr mistake)
 
-pub returns-in-Ok-try_get_matches_from-clause-asked : goal.returns-in-Ok-try_get_matches_from-clause-asked
-returns-in-Ok-try_get_matches_from-clause-asked g c =
+pub returns-in-Ok-matches_of-clause-asked : goal.returns-in-Ok-matches_of-clause-asked
+returns-in-Ok-matches_of-clause-asked g c =
     let words = map g.S.AsStr.text c.args.words.now in
     let program = c.in-Ok.program in
-    let matches = c.in-Ok-try_get_matches_from.matches in
-    let found = subst (λ (ws : List Text). HasMatchesOf (app_of program) ws matches) c.heard-words.ensures
-    c.in-Ok-try_get_matches_from.ensures.matches in
+    let matches = c.in-Ok-matches_of.matches in
+    let found = c.in-Ok-matches_of.ensures.matches in
     asked_by_words c.request_of.result words (job_in (subcommand_rows_of matches)) (is_long_in (words_found matches) (subcommand_rows_of matches))
     (histories_in (subcommand_rows_of matches))
     (job_in-asked program matches words c.in-Ok.ensures found) (is_long_in-is_long program matches words c.in-Ok.ensures found)
     (histories_in-histories program matches words c.in-Ok.ensures found)
     c.request_of.ensures.asked c.request_of.ensures.long c.request_of.ensures.histories
 
-pub returns-in-Ok-try_get_matches_from-clause-status : goal.returns-in-Ok-try_get_matches_from-clause-status
-returns-in-Ok-try_get_matches_from-clause-status g c =
+pub returns-in-Ok-matches_of-clause-status : goal.returns-in-Ok-matches_of-clause-status
+returns-in-Ok-matches_of-clause-status g c =
     let words = map g.S.AsStr.text c.args.words.now in
     let program = c.in-Ok.program in
-    let matches = c.in-Ok-try_get_matches_from.matches in
+    let matches = c.in-Ok-matches_of.matches in
     let job = job_in (subcommand_rows_of matches) in
-    let found = subst (λ (ws : List Text). HasMatchesOf (app_of program) ws matches) c.heard-words.ensures
-    c.in-Ok-try_get_matches_from.ensures.matches in
-    let none = subst (λ (ws : List Text). is_simple_and_free (app_of program) ≡ true → fault_of (app_of program) ws ≡ []) c.heard-words.ensures
-    c.in-Ok-try_get_matches_from.ensures.kinds in
+    let found = c.in-Ok-matches_of.ensures.matches in
+    let none = c.in-Ok-matches_of.ensures.kinds in
     status_of_mistake c.request_of.result job (λ n. (n ≡ 7) ⊎ IsStatusFor words n)
     (λ n. taken_status program words job n c.in-Ok.ensures (job_in-asked program matches words c.in-Ok.ensures found) none) c.request_of.ensures.mistake
 
-pub returns-in-Err-try_get_matches_from-clause-status : goal.returns-in-Err-try_get_matches_from-clause-status
-returns-in-Err-try_get_matches_from-clause-status g c =
+pub returns-in-Err-matches_of-clause-status : goal.returns-in-Err-matches_of-clause-status
+returns-in-Err-matches_of-clause-status g c =
     let words = map g.S.AsStr.text c.args.words.now in
     let program = c.in-Ok.program in
-    let refused = c.in-Err-try_get_matches_from in
-    let kinds = subst (λ (ws : List Text). is_simple_and_free (app_of program) ≡ true → HasKind (fault_of (app_of program) ws) refused.error)
-    c.heard-words.ensures refused.ensures.kinds in
-    refused_status program words refused.error c.usage_of.result.status c.in-Ok.ensures kinds c.usage_of.ensures.status
+    let refused = c.in-Err-matches_of in
+    refused_status program words refused.error c.usage_of.result.status c.in-Ok.ensures refused.ensures.kinds c.usage_of.ensures.status

@@ -1,6 +1,6 @@
 use Rattle.std.proofs.Common.{ap, is_some}
 use Rattle.hep_machine.specs.Words.{run}
-use Rattle.hep_sites.proofs.Placed.{levels-of}
+use Rattle.hep_causes.proofs.SitesPlaced.{levels-of}
 use Rattle.hep_comparing.proofs.Told.{deed-is}
 use Rattle.hep_comparing.proofs.deeds.deed_by.Goals as goal
 

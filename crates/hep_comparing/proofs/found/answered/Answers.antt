@@ -1,8 +1,8 @@
 use Rattle.std.proofs.Common.{◌∙◌, sym, ap}
 use Rattle.hep_machine.specs.Words.{location_of_name, next_of, run, scope_of, unit_at, unit_of}
-use Rattle.hep_coming.proofs.Standing.{settled-there, settled-turn}
-use Rattle.hep_sites.specs.Named.{named_by}
-use Rattle.hep_sites.proofs.Placed.{levels-of}
+use Rattle.hep_causes.proofs.ComingStanding.{settled-there, settled-turn}
+use Rattle.hep_causes.specs.SitesNamed.{named_by}
+use Rattle.hep_causes.proofs.SitesPlaced.{levels-of}
 use Rattle.hep_differences.specs.Deeds.{found_at, found_by}
 use Rattle.hep_comparing.proofs.Asked.{asked-here}
 use Rattle.hep_comparing.proofs.Told.{asked-variable}

@@ -1,7 +1,7 @@
 use Rattle.std.proofs.Common.{◌∙◌, sym}
 use Rattle.hep_machine.specs.Words.{run, scope_of}
-use Rattle.hep_coming.proofs.Standing.{settled-there, settled-turn}
-use Rattle.hep_sites.proofs.Placed.{levels-of}
+use Rattle.hep_causes.proofs.ComingStanding.{settled-there, settled-turn}
+use Rattle.hep_causes.proofs.SitesPlaced.{levels-of}
 use Rattle.hep_comparing.proofs.Asked.{asked-here, none-found}
 use Rattle.hep_comparing.proofs.found.found.Goals as goal
 

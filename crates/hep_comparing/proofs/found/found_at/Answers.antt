@@ -1,5 +1,5 @@
 use Rattle.std.proofs.Common.{subst}
-use Rattle.hep_sites.specs.Sites.{IsSiteAfter}
+use Rattle.hep_causes.specs.SitesSites.{IsSiteAfter}
 use Rattle.hep_comparing.proofs.Told.{found-there, site-out}
 use Rattle.hep_comparing.proofs.found.found_at.Goals as goal
 

@@ -1,6 +1,6 @@
 use Rattle.std.proofs.Common.{◌∙◌, ap}
-use Rattle.hep_outcome.specs.Outcome.{Outcome}
-use Rattle.hep_outcome.specs.Replay.{outcome_of_core}
+use Rattle.hep_differences.specs.OutcomeOutcome.{Outcome}
+use Rattle.hep_differences.specs.OutcomeReplay.{outcome_of_core}
 use Rattle.std.proofs.Common.{false}
 use Rattle.hep_comparing.proofs.Sides.{written-is}
 use Rattle.hep_comparing.proofs.text.append_written.Goals as goal

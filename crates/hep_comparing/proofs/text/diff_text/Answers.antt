@@ -1,5 +1,5 @@
 use Rattle.std.proofs.Common.{◌≤◌, ◌++◌, ◌∙◌, length, subst, sym, ap}
-use Rattle.hep_core.specs.Places.{Placed}
+use Rattle.hep_causes.specs.CorePlaces.{Placed}
 use Rattle.hep_differences.specs.Differences as words
 use Rattle.hep_differences.specs.Lines.{front_text, or_nothing}
 use Rattle.hep_comparing.specs.Sides.{IsSide}

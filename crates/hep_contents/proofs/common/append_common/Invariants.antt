@@ -1,7 +1,7 @@
 use Rattle.std.proofs.Common.{◌≡◌, ℕ, List, ◌++◌, drop}
 use Rattle.std.specs.List.{flat_map}
 use Rattle.hep_machine.specs.Words.{blocks_of, run}
-use Rattle.hep_state.specs.Words.{IsMachineAfter}
+use Rattle.hep_views.specs.StateWords.{IsMachineAfter}
 use Rattle.hep_states.specs.States as words
 use Rattle.hep_contents.proofs.common.append_common.Given as goal
 

@@ -1,7 +1,7 @@
 use Rattle.std.proofs.Common.{◌+◌, ◌++◌, ◌∙◌, List, ℕ, ap, sym, subst, append_assoc, drop, reverse}
 use Rattle.hep_proc.specs.Nodes.{nodes_of}
 use Rattle.hep_proc.specs.declared.process.Local.{Local}
-use Rattle.hep_state.specs.Words.{AreThere}
+use Rattle.hep_views.specs.StateWords.{AreThere}
 use Rattle.hep_notes.specs.Shown.{line_shown}
 use Rattle.hep_contents.specs.Levels.{backs_seen}
 use Rattle.hep_contents.proofs.Stacks.{backs-turn}

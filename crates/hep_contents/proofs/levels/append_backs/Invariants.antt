@@ -1,6 +1,6 @@
 use Rattle.std.proofs.Common.{◌≡◌, ◌++◌, drop, reverse}
 use Rattle.hep_proc.specs.Nodes.{nodes_of}
-use Rattle.hep_state.specs.Words.{AreThere}
+use Rattle.hep_views.specs.StateWords.{AreThere}
 use Rattle.hep_notes.specs.Shown.{line_shown}
 use Rattle.hep_contents.specs.Levels.{backs_seen}
 use Rattle.hep_contents.proofs.levels.append_backs.Given as goal

@@ -2,9 +2,9 @@ use Rattle.std.proofs.Common.{◌-◌, ◌<◌, ◌++◌, ◌∷◌, ◌∙◌, 
 use Rattle.hep_machine.specs.Words.{run}
 use Rattle.hep_proc.specs.Nodes.{nodes_of}
 use Rattle.hep_proc.specs.Stacks.{stack_with}
-use Rattle.hep_state.specs.Words.{AreThere, IsThere}
-use Rattle.hep_state.proofs.Processes.{process-at}
-use Rattle.hep_state.proofs.Standing.{stack-standing}
+use Rattle.hep_views.specs.StateWords.{AreThere, IsThere}
+use Rattle.hep_views.proofs.StateProcesses.{process-at}
+use Rattle.hep_views.proofs.StateStanding.{stack-standing}
 use Rattle.hep_proc.specs.declared.process.Local.{Local}
 use Rattle.hep_notes.specs.Shown.{line_shown}
 use Rattle.hep_contents.specs.Levels.{backs_seen, level_seen, line_seen, top_seen}

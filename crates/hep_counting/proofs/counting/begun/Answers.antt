@@ -1,9 +1,9 @@
 use Rattle.std.proofs.Common.{◌≡◌, ◌<◌, drop, length, sym, ap, ◌∙◌, subst}
 use Rattle.hep_proc.specs.declared.process.Local.{Local}
-use Rattle.hep_state.proofs.Processes.{process-at, some-levels-at}
-use Rattle.hep_state.proofs.Taken.{inside}
-use Rattle.hep_state.proofs.Tops.{turning}
-use Rattle.hep_state.specs.Words.{turn_with}
+use Rattle.hep_views.proofs.StateProcesses.{process-at, some-levels-at}
+use Rattle.hep_views.proofs.StateTaken.{inside}
+use Rattle.hep_views.proofs.StateTops.{turning}
+use Rattle.hep_views.specs.StateWords.{turn_with}
 use Rattle.hep_step.specs.Simulation.{unit_code}
 use Rattle.hep_counting.specs.Marks.{mark, mark_at}
 use Rattle.hep_counting.proofs.Marking.{begun-is, mark-there}

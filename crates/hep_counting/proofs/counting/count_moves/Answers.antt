@@ -7,20 +7,20 @@ use Rattle.hep_proc.specs.declared.frames.Frames.{Frames}
 use Rattle.hep_image.specs.Image.{most_cells}
 use Rattle.hep_step.specs.Performed as step
 use Rattle.hep_proc.specs.declared.process.Local.{Local}
-use Rattle.hep_state.specs.declared.machine.Machine.{Machine}
+use Rattle.hep_views.specs.StateMachineMachine.{Machine}
 use Rattle.hep_proc.specs.declared.process.Process.{Process}
 use Rattle.hep_proc.specs.Stacks.{Stack, stack_of, stack_with}
 use Rattle.hep_proc.proofs.Levels.{last-there}
-use Rattle.hep_state.specs.Words.{AreNumbered, IsAfter, TurnOf, snapshot_of, top_frame, turn_with, with_contents, with_stack}
-use Rattle.hep_state.proofs.Beside.{beside-set}
-use Rattle.hep_state.proofs.Moved.{top-node}
-use Rattle.hep_state.proofs.Processes.{IsAt, kept-set, process-at, room-moved, stacks-set}
-use Rattle.hep_state.proofs.Taken.{inside}
-use Rattle.hep_state.proofs.Tops.{turning}
-use Rattle.hep_state.proofs.Unchanged.{carry, machine-of, rooms-of, rooms-set}
-use Rattle.hep_going.specs.Gone.{HasNoMoveAt}
+use Rattle.hep_views.specs.StateWords.{AreNumbered, IsAfter, TurnOf, snapshot_of, top_frame, turn_with, with_contents, with_stack}
+use Rattle.hep_views.proofs.StateBeside.{beside-set}
+use Rattle.hep_views.proofs.StateMoved.{top-node}
+use Rattle.hep_views.proofs.StateProcesses.{IsAt, kept-set, process-at, room-moved, stacks-set}
+use Rattle.hep_views.proofs.StateTaken.{inside}
+use Rattle.hep_views.proofs.StateTops.{turning}
+use Rattle.hep_views.proofs.StateUnchanged.{carry, machine-of, rooms-of, rooms-set}
+use Rattle.hep_unwatched.specs.GoingGone.{HasNoMoveAt}
 use Rattle.hep_step.specs.Simulation.{unit_arrays, unit_code}
-use Rattle.hep_going.proofs.Turns.{HasLaws, can-go, come-so, frame-there, here}
+use Rattle.hep_unwatched.proofs.GoingTurns.{HasLaws, can-go, come-so, frame-there, here}
 use Rattle.hep_counting.proofs.Tallied.{tallied-so, uncounted}
 use Rattle.hep_counting.proofs.counting.count_moves.Goals.{After-tops_are_running}
 use Rattle.hep_counting.proofs.counting.count_moves.Goals as goal

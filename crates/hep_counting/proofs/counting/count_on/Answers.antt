@@ -1,10 +1,10 @@
 use Rattle.std.proofs.Common.{◌≡◌, ℕ, ◌+◌, ◌-◌, ◌<◌, ◌≤◌, true, false, refl, sym, ◌∙◌, subst, arith}
 use Rattle.hep_machine.specs.Words.{run}
-use Rattle.hep_state.proofs.Beside.{beside-shown}
-use Rattle.hep_state.proofs.Unchanged.{machine-reserved}
-use Rattle.hep_state.specs.Words.{HasLivedOn, LivesOn, StaysShown, StepsOn, snapshot_of}
-use Rattle.hep_going.proofs.Onward.{more-made, none-made, one-made}
-use Rattle.hep_going.specs.Gone.{CanTakeTurns, HasNoMoveAhead, MakesMoves}
+use Rattle.hep_views.proofs.StateBeside.{beside-shown}
+use Rattle.hep_views.proofs.StateUnchanged.{machine-reserved}
+use Rattle.hep_views.specs.StateWords.{HasLivedOn, LivesOn, StaysShown, StepsOn, snapshot_of}
+use Rattle.hep_unwatched.proofs.GoingOnward.{more-made, none-made, one-made}
+use Rattle.hep_unwatched.specs.GoingGone.{CanTakeTurns, HasNoMoveAhead, MakesMoves}
 use Rattle.hep_counting.specs.Tallies.{CountsTurns}
 use Rattle.hep_unwatched.proofs.Passed.{lives-again, lives-still}
 use Rattle.hep_counting.proofs.Tallied.{counted-one, counts-more, counts-none}

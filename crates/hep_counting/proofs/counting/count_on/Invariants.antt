@@ -1,6 +1,6 @@
 use Rattle.std.proofs.Common.{◌-◌, ◌≤◌}
-use Rattle.hep_state.specs.Words.{LivesOn}
-use Rattle.hep_going.specs.Gone.{MakesMoves}
+use Rattle.hep_views.specs.StateWords.{LivesOn}
+use Rattle.hep_unwatched.specs.GoingGone.{MakesMoves}
 use Rattle.hep_counting.specs.Tallies.{CountsTurns}
 use Rattle.hep_counting.proofs.counting.count_on.Given as goal
 

@@ -2,7 +2,7 @@ use Rattle.std.proofs.Common.{◌<◌, ◌≤◌, ℕ, sym, ap, ◌∙◌, subst
 use Rattle.hep_step.specs.Performed.{Snapshot, snapshot}
 use Rattle.hep_proc.specs.declared.process.Local.{Local}
 use Rattle.hep_proc.proofs.Levels.{operands-are, some-levels}
-use Rattle.hep_state.proofs.Unchanged.{carry}
+use Rattle.hep_views.proofs.StateUnchanged.{carry}
 use Rattle.hep_moves.specs.Moves.{CanGoOn, Goes, HasNoMove, stays}
 use Rattle.hep_quick.specs.Known.{AreKnown}
 use Rattle.hep_quick.specs.UnitTables.{IsTable}

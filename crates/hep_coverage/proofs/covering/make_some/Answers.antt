@@ -2,7 +2,7 @@ use Rattle.std.proofs.Common.{◌≡◌, ℕ, ◌-◌, ◌≤◌, List, ◌∷�
 use Rattle.hep_machine.specs.declared.event.Entry.{Entry}
 use Rattle.hep_machine.specs.Words.{schedule_of}
 use Rattle.hep_state.specs.Words.{IsMachineAfter, snapshot_of}
-use Rattle.hep_unwatched.proofs.Passed.{turns-are}
+use Rattle.hep_counting.proofs.UnwatchedPassed.{turns-are}
 use Rattle.hep_coverage.specs.Remaking.{Aim, IsRemade}
 use Rattle.hep_coverage.proofs.Remade.{few-now, first-of, in-two, living-now, remade-on, running-now, schedule-many}
 use Rattle.hep_coverage.proofs.covering.make_some.Goals.{After-push_many}

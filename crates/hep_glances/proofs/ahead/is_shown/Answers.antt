@@ -1,6 +1,6 @@
 use Rattle.std.proofs.Common.{◌∙◌, ap, sym}
 use Rattle.hep_sights.specs.References.{top_after}
-use Rattle.hep_traces.specs.Traces.{is_accessed}
+use Rattle.hep_sights.specs.TracesTraces.{is_accessed}
 use Rattle.hep_glances.specs.Sights.{name_sought}
 use Rattle.hep_glances.proofs.ahead.is_shown.Goals as goal
 

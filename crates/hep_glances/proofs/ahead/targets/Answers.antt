@@ -1,8 +1,8 @@
 use Rattle.std.proofs.Common.{◌≡◌, ◌∙◌, ◌++◌, List, ℕ, ap, length, map, sym}
 use Rattle.hep_machine.specs.Words.{Next, Reference, Top, does, next_of, purging, unit_on_top}
 use Rattle.hep_sights.specs.References.{top_after}
-use Rattle.hep_traces.specs.Deeds.{own_reference}
-use Rattle.hep_traces.specs.Lines.{references_text}
+use Rattle.hep_sights.specs.TracesDeeds.{own_reference}
+use Rattle.hep_sights.specs.TracesLines.{references_text}
 use Rattle.hep_glances.proofs.Next.{purged, purges}
 use Rattle.hep_glances.proofs.ahead.targets.Goals.{in-Purge+in_ok-append_targets, in_default}
 use Rattle.hep_glances.proofs.ahead.targets.Goals as goal

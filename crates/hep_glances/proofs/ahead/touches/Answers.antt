@@ -3,13 +3,13 @@ use Rattle.std.specs.List.{list_any}
 use Rattle.std.proofs.Math.Bool.{or-false}
 use Rattle.std.proofs.lemmas.Option.{none-some}
 use Rattle.hep_code.specs.declared.variable.Variable.TheVariants.{Absent}
-use Rattle.hep_coming.specs.declared.coming.Coming.{Coming}
+use Rattle.hep_sights.specs.ComingComingComing.{Coming}
 use Rattle.hep_image.specs.Places.{variable_of}
 use Rattle.hep_machine.specs.Words.{Level, Next, Process, Reference, Top, Units, Value, next_of, unit_on_top}
 use Rattle.hep_sights.specs.References.{IsAhead, top_after}
-use Rattle.hep_sites.proofs.AccessedAhead.{is-named}
-use Rattle.hep_sites.specs.Named.{IsNamed, named_by}
-use Rattle.hep_traces.specs.Cells.{has_name, references_of}
+use Rattle.hep_sights.proofs.SitesAccessedAhead.{is-named}
+use Rattle.hep_sights.specs.SitesNamed.{IsNamed, named_by}
+use Rattle.hep_sights.specs.TracesCells.{has_name, references_of}
 use Rattle.hep_glances.proofs.Next.{accesses, purged, quiet}
 use Rattle.hep_glances.proofs.ahead.touches.Goals.{After-named}
 use Rattle.hep_glances.proofs.ahead.touches.Goals as goal

@@ -3,9 +3,9 @@ use Rattle.std.proofs.lemmas.Option.{none-some}
 use Rattle.hep_machine.specs.declared.event.Kind.{Kind}
 use Rattle.hep_machine.specs.Words.{Location, Next, Store, Top, Units, location_of_name, next_of, unit_on_top}
 use Rattle.hep_sights.specs.References.{top_after}
-use Rattle.hep_sites.specs.Named.{IsNamed, named_by}
-use Rattle.hep_sites.specs.Sites.{stored_at}
-use Rattle.hep_traces.specs.Deeds.{own_scope, value_at}
+use Rattle.hep_sights.specs.SitesNamed.{IsNamed, named_by}
+use Rattle.hep_sights.specs.SitesSites.{stored_at}
+use Rattle.hep_sights.specs.TracesDeeds.{own_scope, value_at}
 use Rattle.hep_glances.specs.Sights.{HasReferredValue, IsSomeReference}
 use Rattle.hep_glances.proofs.Next.{answers, evaluates}
 use Rattle.hep_glances.proofs.ahead.value_before.Goals as goal

@@ -2,9 +2,9 @@ use Rattle.std.proofs.Common.{◌≡◌, ℕ, subst}
 use Rattle.hep_code.specs.Words.{IsNext}
 use Rattle.hep_machine.specs.Words.{Level, Process, next_of, run, unit_at, unit_of}
 use Rattle.hep_step.specs.Simulation.{unit_addressed}
-use Rattle.hep_coming.proofs.Answered as answered
-use Rattle.hep_coming.proofs.Standing.{settled-there, settled-turn, turn}
-use Rattle.hep_sites.proofs.Placed.{levels-of, same-top}
+use Rattle.hep_sights.proofs.ComingAnswered as answered
+use Rattle.hep_sights.proofs.ComingStanding.{settled-there, settled-turn, turn}
+use Rattle.hep_sights.proofs.SitesPlaced.{levels-of, same-top}
 use Rattle.hep_glances.proofs.laws.operations_come_next.Goals as goal
 
 pub returns : goal.returns

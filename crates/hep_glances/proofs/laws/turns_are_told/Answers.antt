@@ -2,10 +2,10 @@ use Rattle.std.proofs.Common.{◌≡◌, ◌∙◌, ap, refl, subst, sym}
 use Rattle.hep_image.specs.Places.{addresses_of}
 use Rattle.hep_machine.specs.Words.{Reference, Top, next_of, spelling, unit_on_top}
 use Rattle.hep_sights.specs.References.{top_after}
-use Rattle.hep_sites.specs.Named.{IsNamed}
-use Rattle.hep_contents.specs.Waits.{name_seen}
-use Rattle.hep_traces.specs.Deeds.{place_of}
-use Rattle.hep_tracing.specs.Told.{told_text}
+use Rattle.hep_sights.specs.SitesNamed.{IsNamed}
+use Rattle.hep_sights.specs.ContentsWaits.{name_seen}
+use Rattle.hep_sights.specs.TracesDeeds.{place_of}
+use Rattle.hep_sights.specs.TracingTold.{told_text}
 use Rattle.hep_glances.specs.Sights.{IsLoopAhead, name_referred, place_referred}
 use Rattle.hep_glances.proofs.Next.{loops}
 use Rattle.hep_glances.proofs.Told.{is-seen}

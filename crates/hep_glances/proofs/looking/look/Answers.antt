@@ -1,11 +1,11 @@
 use Rattle.std.proofs.Common.{◌∙◌, refl, subst, sym}
-use Rattle.hep_core.proofs.Kept.{halted-is}
-use Rattle.hep_core.specs.Value.{state_of}
+use Rattle.hep_sights.proofs.CoreKept.{halted-is}
+use Rattle.hep_sights.specs.CoreValue.{state_of}
 use Rattle.hep_machine.specs.Words.{Units, living, schedule_of}
-use Rattle.hep_sites.specs.Sites.{LivesAfter}
-use Rattle.hep_sites.specs.Variables.{AreVariablesOf}
-use Rattle.hep_sites.proofs.Placed.{levels-of}
-use Rattle.hep_state.specs.Words.{snapshot_of}
+use Rattle.hep_sights.specs.SitesSites.{LivesAfter}
+use Rattle.hep_sights.specs.SitesVariables.{AreVariablesOf}
+use Rattle.hep_sights.proofs.SitesPlaced.{levels-of}
+use Rattle.hep_sights.specs.StateWords.{snapshot_of}
 use Rattle.hep_glances.specs.Sights.{IsSightOf, name_sought}
 use Rattle.hep_glances.proofs.Looked.{lives-after, some-is}
 use Rattle.hep_glances.proofs.looking.look.Goals as goal

@@ -1,7 +1,7 @@
 use Rattle.std.proofs.Common.{◌∙◌, None, Some, refl, subst, sym}
 use Rattle.hep_machine.specs.Words.{Top, schedule_of}
 use Rattle.hep_sights.specs.Freed.{top_in}
-use Rattle.hep_traces.specs.Traces.{is_accessed}
+use Rattle.hep_sights.specs.TracesTraces.{is_accessed}
 use Rattle.hep_glances.specs.Sights.{IsShownBy, name_sought}
 use Rattle.hep_glances.proofs.Looked.{top-same}
 use Rattle.hep_glances.proofs.looking.look_ahead.Goals as goal

@@ -1,13 +1,13 @@
 use Rattle.std.proofs.Common.{◌∙◌, ap, arith, length, refl, subst, sym}
 use Rattle.std.proofs.lemmas.Option.{none-some, same_Some}
-use Rattle.hep_core.proofs.Kept.{as-many}
-use Rattle.hep_core.specs.Value.{state_of}
+use Rattle.hep_sights.proofs.CoreKept.{as-many}
+use Rattle.hep_sights.specs.CoreValue.{state_of}
 use Rattle.hep_machine.specs.Words.{Top, schedule_of}
 use Rattle.hep_sights.specs.Ancestry.{IsAncestryOf}
 use Rattle.hep_sights.specs.Freed.{top_in}
-use Rattle.hep_state.specs.Words.{snapshot_of}
-use Rattle.hep_state.proofs.Unchanged.{carry}
-use Rattle.hep_core.specs.Standing.{whereabouts_at, whereabouts_with}
+use Rattle.hep_sights.specs.StateWords.{snapshot_of}
+use Rattle.hep_sights.proofs.StateUnchanged.{carry}
+use Rattle.hep_sights.specs.CoreStanding.{whereabouts_at, whereabouts_with}
 use Rattle.hep_glances.specs.declared.sight.Before.{Before}
 use Rattle.hep_glances.specs.Sights.{IsAheadSeen, IsLoopAhead, IsToldWith}
 use Rattle.hep_glances.proofs.Looked.{lives-in, top-same}

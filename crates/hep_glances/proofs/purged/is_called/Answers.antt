@@ -3,9 +3,10 @@ use Rattle.std.specs.Str.{bytes_eq}
 use Rattle.std.proofs.lemmas.Option.{none-some, same_Some}
 use Rattle.hep_image.specs.Names.{variable_number}
 use Rattle.hep_machine.specs.Words.{Reference, run, unit_of}
-use Rattle.hep_contents.specs.Waits.{name_seen}
+use Rattle.hep_sights.specs.ContentsWaits.{name_seen}
 use Rattle.hep_sights.proofs.Declares.{declared-so}
 use Rattle.hep_sights.proofs.Referred.{name-so, sought-of}
+use Rattle.hep_sights.specs.TracesCells.{is_name}
 use Rattle.hep_glances.proofs.purged.is_called.Goals as goal
 
 pub returns-in_default : goal.returns-in_default
@@ -23,4 +24,4 @@ returns c cells choices top x ahead named =
     let own = ap name_seen (name-so program cells choices m p top c.is_runnable.ensures.accepted c.is_runnable.ensures.main ahead.lives r c.args.variable named number is) in
     let declared = declared-so program cells choices m c.is_runnable.ensures.accepted c.is_runnable.ensures.main _ c.site_of-site.result _ (
     c.site_of-site.ensures cells choices top ahead.lives x named) (sought-of program cells choices m p top ahead.lives ahead.lives.after r) in
-    c.goes_by.ensures ∙ (λ i. bytes_eq name (own i) || bytes_eq name (declared i))
+    c.goes_by.ensures ∙ (λ i. bytes_eq name (own i) || is_name name (declared i))

@@ -5,9 +5,9 @@ use Rattle.hep_code.specs.declared.instruction.Instruction.{Instruction}
 use Rattle.hep_code.specs.declared.instruction.Instruction.TheVariants.{Pass}
 use Rattle.hep_code.specs.declared.variable.Variable.{Variable}
 use Rattle.hep_machine.specs.Words.{unit_on_top}
-use Rattle.hep_sites.specs.Sites.{IsVariableOf}
+use Rattle.hep_sights.specs.SitesSites.{IsVariableOf}
 use Rattle.hep_sights.specs.References.{top_after}
-use Rattle.hep_traces.specs.Cells.{has_name}
+use Rattle.hep_sights.specs.TracesCells.{has_name}
 use Rattle.hep_glances.proofs.purged.is_entry_called.Goals as goal
 
 passed : (entry : Instruction) (a : Argument) (v w : Variable) (m n : ℕ) → entry ≡ Pass a → a ≡ Referred v m → entry ≡ Pass (Referred w n) → (w ≡ v) × (m ≡ n)

@@ -1,12 +1,12 @@
 use Rattle.std.proofs.Common.{◌≡◌, ◌∙◌, ◌++◌, List, ℕ, ap, append-nil, codes, refl, subst, sym}
-use Rattle.hep_core.specs.Value.{state_of}
-use Rattle.hep_core.proofs.Histories.{progress-state}
+use Rattle.hep_sights.specs.CoreValue.{state_of}
+use Rattle.hep_sights.proofs.CoreHistories.{progress-state}
 use Rattle.hep_machine.specs.Words.{Top, line_at, living, progress_after, step_result_of, unit_at, unit_name, unit_on_top}
 use Rattle.hep_sights.specs.Freed.{IsFreeing, top_in}
 use Rattle.hep_sights.specs.Turns.{IsTurnMade}
-use Rattle.hep_traces.specs.Deeds.{deed_text}
-use Rattle.hep_traces.specs.Lines as lines
-use Rattle.hep_traces.specs.Traces.{freed, woken}
+use Rattle.hep_sights.specs.TracesDeeds.{deed_text}
+use Rattle.hep_sights.specs.TracesLines as lines
+use Rattle.hep_sights.specs.TracesTraces.{freed, woken}
 use Rattle.hep_glances.specs.Sights.{IsTurnSeen}
 use Rattle.hep_glances.proofs.Lines.{appended, line-is, seen-on, unseen}
 use Rattle.hep_glances.proofs.Made.{program-same}

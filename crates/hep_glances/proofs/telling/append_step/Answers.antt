@@ -1,11 +1,11 @@
 use Rattle.std.proofs.Common.{◌≡◌, ◌∙◌, ◌++◌, List, ℕ, ap, refl, subst, sym}
 use Rattle.std.proofs.lemmas.Result.{on_ok_weaker}
-use Rattle.hep_core.specs.Value.{state_of}
+use Rattle.hep_sights.specs.CoreValue.{state_of}
 use Rattle.hep_machine.specs.Words.{Units, living, unit_at, unit_name}
-use Rattle.hep_traces.specs.Deeds.{line_by}
-use Rattle.hep_tracing.specs.declared.told.Seen.{Seen}
-use Rattle.hep_tracing.specs.Plain.{IsNameOfCalled}
-use Rattle.hep_tracing.specs.Told.{told_text}
+use Rattle.hep_sights.specs.TracesDeeds.{line_by}
+use Rattle.hep_sights.specs.TracingToldSeen.{Seen}
+use Rattle.hep_sights.specs.TracingPlain.{IsNameOfCalled}
+use Rattle.hep_sights.specs.TracingTold.{told_text}
 use Rattle.hep_glances.specs.Sights.{IsListSeen, IsSeenWith, name_referred}
 use Rattle.hep_glances.proofs.Made.{program-same}
 use Rattle.hep_glances.proofs.telling.append_step.Goals as goal

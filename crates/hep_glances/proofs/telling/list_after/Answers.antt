@@ -1,6 +1,6 @@
 use Rattle.std.proofs.Common.{subst, sym}
 use Rattle.std.proofs.lemmas.Result.{IfOk-weaker}
-use Rattle.hep_core.specs.Value.{state_of}
+use Rattle.hep_sights.specs.CoreValue.{state_of}
 use Rattle.hep_glances.specs.Sights.{IsListSeen}
 use Rattle.hep_glances.proofs.telling.list_after.Goals as goal
 

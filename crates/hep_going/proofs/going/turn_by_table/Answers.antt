@@ -2,16 +2,16 @@ use Rattle.std.proofs.Common.{◌≡◌, ℕ, ◌≤◌, List, ◌∷◌, refl, 
 use Rattle.std.specs.Vec.{with_item}
 use Rattle.hep_machine.specs.Words.{Value, main_among}
 use Rattle.hep_conditions.specs.Words.{IsAccepted}
-use Rattle.hep_proc.specs.Nodes.{nodes_of}
-use Rattle.hep_proc.specs.declared.frames.Frames.{Frames}
-use Rattle.hep_image.specs.Image.{most_cells}
-use Rattle.hep_step.specs.Performed as step
-use Rattle.hep_step.specs.Simulation.{unit_arrays, unit_code}
-use Rattle.hep_proc.specs.declared.process.Local.{Local}
+use Rattle.hep_state.specs.ProcNodes.{nodes_of}
+use Rattle.hep_state.specs.ProcFramesFrames.{Frames}
+use Rattle.hep_quick.specs.ImageImage.{most_cells}
+use Rattle.hep_quick.specs.StepPerformed as step
+use Rattle.hep_quick.specs.StepSimulation.{unit_arrays, unit_code}
+use Rattle.hep_state.specs.ProcProcessLocal.{Local}
 use Rattle.hep_state.specs.declared.machine.Machine.{Machine}
-use Rattle.hep_proc.specs.declared.process.Process.{Process}
-use Rattle.hep_proc.specs.Stacks.{Stack, stack_of, stack_with}
-use Rattle.hep_proc.proofs.Levels.{last-there}
+use Rattle.hep_state.specs.ProcProcessProcess.{Process}
+use Rattle.hep_state.specs.ProcStacks.{Stack, stack_of, stack_with}
+use Rattle.hep_state.proofs.ProcLevels.{last-there}
 use Rattle.hep_state.specs.Words.{AreNumbered, IsAfter, TurnOf, node_under, snapshot_of, turn_with, with_contents, with_stack}
 use Rattle.hep_state.proofs.Beside.{beside-set}
 use Rattle.hep_state.proofs.Moved.{top-node}

@@ -1,9 +1,9 @@
 use Rattle.std.proofs.Common.{◌<◌, ◌≤◌, ℕ, sym, ap, ◌∙◌, subst, arith, length, vec_capacity}
-use Rattle.hep_step.specs.Performed.{Snapshot, snapshot}
-use Rattle.hep_proc.specs.declared.process.Local.{Local}
-use Rattle.hep_proc.proofs.Levels.{operands-are, some-levels}
+use Rattle.hep_quick.specs.StepPerformed.{Snapshot, snapshot}
+use Rattle.hep_state.specs.ProcProcessLocal.{Local}
+use Rattle.hep_state.proofs.ProcLevels.{operands-are, some-levels}
 use Rattle.hep_state.proofs.Unchanged.{carry}
-use Rattle.hep_moves.specs.Moves.{CanGoOn, Goes, HasNoMove, stays}
+use Rattle.hep_quick.specs.MovesMoves.{CanGoOn, Goes, HasNoMove, stays}
 use Rattle.hep_quick.specs.Known.{AreKnown}
 use Rattle.hep_quick.specs.UnitTables.{IsTable}
 use Rattle.hep_going.proofs.top.go_top.Goals as goal

@@ -1,9 +1,9 @@
 use Rattle.std.proofs.Common.{◌≡◌, ◌<◌, ◌∙◌, true, sym, subst, length}
 use Rattle.hep_machine.specs.Words.{common_cells, frame_cells, unit_at}
-use Rattle.hep_step.specs.Performed.{snapshot}
-use Rattle.hep_step.specs.Simulation.{unit_arrays, unit_code}
-use Rattle.hep_proc.specs.declared.process.Local.{Local}
-use Rattle.hep_proc.proofs.Levels.{some-levels}
+use Rattle.hep_quick.specs.StepPerformed.{snapshot}
+use Rattle.hep_quick.specs.StepSimulation.{unit_arrays, unit_code}
+use Rattle.hep_state.specs.ProcProcessLocal.{Local}
+use Rattle.hep_state.proofs.ProcLevels.{some-levels}
 use Rattle.hep_quick.specs.Known.{known_at}
 use Rattle.hep_quick.specs.Made.{is_not_plain}
 use Rattle.hep_quick.specs.UnitTables.{IsTable}

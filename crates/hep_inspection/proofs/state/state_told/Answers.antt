@@ -1,5 +1,5 @@
 use Rattle.std.proofs.Common.{◌∙◌, ap}
-use Rattle.hep_history.specs.First.{first_of}
+use Rattle.hep_coverage.specs.HistoryFirst.{first_of}
 use Rattle.hep_states.specs.States.{state_text}
 use Rattle.hep_survey.specs.Shown.{line_shown}
 use Rattle.hep_text.specs.Line.{lines}

@@ -1,6 +1,6 @@
 use Rattle.hep_machine.specs.Words.{unit_at}
-use Rattle.hep_image.specs.Private.{private_cells}
-use Rattle.hep_step.specs.Simulation.{unit_code}
+use Rattle.hep_private.specs.ImagePrivate.{private_cells}
+use Rattle.hep_private.specs.StepSimulation.{unit_code}
 use Rattle.hep_private_laws.specs.Gone.{own_of}
 use Rattle.hep_private_laws.proofs.Beside.{read-still}
 use Rattle.hep_private_laws.proofs.laws.others_leave_what_is_read.Goals as goal

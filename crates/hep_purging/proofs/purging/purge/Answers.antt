@@ -1,6 +1,6 @@
 use Rattle.std.proofs.Common.{sym, subst, arith}
 use Rattle.std.proofs.lemmas.List.{drop_more}
-use Rattle.hep_arena.specs.Holes.{IsOut}
+use Rattle.hep_step.specs.ArenaHoles.{IsOut}
 use Rattle.hep_purging.specs.declared.range.ClosedRange.{ClosedRange}
 use Rattle.hep_purging.specs.Ready.{AreReached}
 use Rattle.hep_purging.proofs.purging.purge.Goals as goal

@@ -1,5 +1,5 @@
 use Rattle.std.proofs.Common.{◌≡◌, suc, ◌+◌, ◌-◌, sym, ◌∙◌, subst, arith}
-use Rattle.hep_arena.specs.Holes.{IsOut}
+use Rattle.hep_step.specs.ArenaHoles.{IsOut}
 use Rattle.hep_purging.specs.Purged.{purged_from}
 use Rattle.hep_purging.proofs.Cells.{purged_from-first}
 use Rattle.hep_purging.proofs.purging.purge_range.Goals as goal

@@ -11,3 +11,6 @@ returns-clause-named c = (
 
 pub returns-clause-made : goal.returns-clause-made
 returns-clause-made c = c.in_ok-turn.ensures.made
+
+pub returns-clause-few : goal.returns-clause-few
+returns-clause-few c = c.in_ok-turn.ensures.few

@@ -1,6 +1,6 @@
 use Rattle.std.proofs.Common.{◌≤◌, ◌-◌, length}
 use Rattle.hep_machine.specs.Words.{unit_at}
-use Rattle.hep_image.specs.Private.{private_cells}
+use Rattle.hep_advancing.specs.ImagePrivate.{private_cells}
 use Rattle.hep_advancing.specs.Bases.{values_of}
 use Rattle.hep_repeating.specs.Taken.{IsAlong, start_of}
 use Rattle.hep_repeating.proofs.taking.take_steps.Given as goal

@@ -2,8 +2,8 @@ use Rattle.std.proofs.Common.{ℕ, ◌<◌, List, ap, length, take, subst, inl, 
 use Rattle.std.specs.Io.KnownBytes.{Appends}
 use Rattle.hep_entries.specs.Entries.{Kept}
 use Rattle.hep_run.specs.Delivery.{WritesMessages}
-use Rattle.hep_outcome.specs.Transcripts.{outcome_of}
-use Rattle.hep_run.proofs.Messages.{of_either, left_by}
+use Rattle.hep_choosing.specs.OutcomeTranscripts.{outcome_of}
+use Rattle.hep_run.proofs.Messages.{left_by}
 use Rattle.hep_run.proofs.deliver.deliver.Goals as goal
 
 pub returns-in-Err : goal.returns-in-Err
@@ -13,7 +13,7 @@ returns-in-Err g c =
     inr (record {
       status = c.new.ensures.status;
       history = ap (λ (k : Kept). k.items) c.new.ensures.history;
-      taken = inl (n, subst (λ (l : List ℕ). n < length l) c.deref.ensures.value c.in-Err.ensures.fewer, prefix, of_either c.put_write_fault.result _ _ _ c.put_write_fault.ensures.all c.put_write_fault.ensures.some);
+      taken = inl (n, subst (λ (l : List ℕ). n < length l) c.deref.ensures.value c.in-Err.ensures.fewer, prefix, c.say_broken.ensures);
     })
 
 pub returns : goal.returns

@@ -1,8 +1,8 @@
-use Rattle.std.proofs.Common.{subst, inr}
-use Rattle.hep_outcome.specs.Given.{ReportsGiven}
+use Rattle.hep_choosing.specs.OutcomeChoices.{choice_text, IsProcess}
+use Rattle.hep_choosing.specs.OutcomeHistoryLines.{IsRefusedText}
+use Rattle.hep_run.proofs.Messages.{said_at}
 use Rattle.hep_run.proofs.files.choices_of.Goals as goal
 
-pub returns : goal.returns
-returns g c =
-    let said = subst (ReportsGiven c.args.text.now) c.in-Err-Refused.field-0-is c.in-Err-Refused.ensures.refused in
-    inr (c.in-Err-Refused.number, c.in-Err-Refused.line, said.1, c.say_refusal.ensures)
+pub returns-in-Err : goal.returns-in-Err
+returns-in-Err g c =
+    said_at 602 (IsRefusedText choice_text IsProcess c.args.text.now) c.in-Err.fault c.say_fault.result _ _ c.in-Err.ensures.refused c.say_fault.ensures

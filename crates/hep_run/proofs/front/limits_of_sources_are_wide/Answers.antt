@@ -1,4 +1,4 @@
-use Rattle.std.proofs.Common.{◌≡◌, ◌≢◌, ◌<◌, ◌*◌, ℕ, zero, suc, List, [], ◌∷◌, length, arith, inl, inr}
+use Rattle.std.proofs.Common.{◌≡◌, ◌≢◌, ◌<◌, ℕ, zero, suc, List, [], ◌∷◌, length, arith, inl, inr}
 use Rattle.hep_machine.specs.Words.{Statement, Units, unit_at}
 use Rattle.hep_parse.specs.Program.{AreSubroutines, AreUnits, IsUnit}
 use Rattle.hep_lower.specs.Parts.{HaveStatements}
@@ -24,5 +24,4 @@ pub returns-clause-statements : goal.returns-clause-statements
 returns-clause-statements c = λ source program (statements, read, reading, accepted). among-units program reading.1
 
 pub returns-clause-code : goal.returns-clause-code
-returns-clause-code c = λ source program (statements, read, reading, accepted) beyond.
-    omega (arith, c.limits_are_wide.ensures.instructions program (among-units program reading.1), beyond)
+returns-clause-code c = λ source program accepted beyond. c.limits_are_wide.ensures.code program beyond

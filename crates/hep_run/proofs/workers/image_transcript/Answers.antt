@@ -1,9 +1,10 @@
 use Rattle.std.proofs.Common.{rules, ap, inl, inr, subst, sym, ◌∙◌}
 use Rattle.hep_workers.specs.Faults.{IsWorkFault}
-use Rattle.hep_outcome.specs.Outcome.{full_with}
-use Rattle.hep_outcome.specs.Transcripts.{outcome_of}
-use Rattle.hep_outcome.proofs.Wanted.{noted-full, on-err-anyway, on-err-so}
-use Rattle.hep_run.proofs.Worked.{fits-by-number, fits-else, is-refusal, outcome-worked}
+use Rattle.hep_choosing.specs.OutcomeOutcome.{full_with}
+use Rattle.hep_choosing.specs.OutcomeTranscripts.{outcome_of}
+use Rattle.hep_choosing.proofs.OutcomeWanted.{noted-full, on-err-anyway, on-err-so}
+use Rattle.hep_run.proofs.Worked.{by-number, fits-by-number, fits-else, outcome-worked}
+use Rattle.hep_run.specs.Workers.{outcome_of_refused_workers}
 use Rattle.hep_run.proofs.workers.image_transcript.Goals as goal
 use Rattle.std.proofs.lemmas.Result.{IfOk-weaker}
 
@@ -34,7 +35,8 @@ returns-clause-unmade g c = inr (fits-else c.in-Err.fault c.args.image c.args.as
 
 pub returns-in-Some-clause-made : goal.returns-in-Some-clause-made
 returns-in-Some-clause-made g c =
-    let fits = fits-by-number c.in-Err.fault c.in-Some.number c.args.image c.args.asked.now.options.now (sym c.number.ensures ∙ c.in-Some.is) c.in-Err.ensures.fault in
+    let options = c.args.asked.now.options.now in
     let named = sym c.number.ensures ∙ c.in-Some.is in
-    let refused = is-refusal c.in-Err.fault c.in-Some.number c.args.image c.args.asked.now.options.now c.in-Err.ensures.fault named in
-    IfOk-weaker c.workers_transcript.result _ _ (λ r is. inr (inl (fits, c.in-Err.fault, c.in-Some.number, (c.in-Err.ensures.fault, named, refused), is))) c.workers_transcript.ensures
+    let fits = fits-by-number c.in-Err.fault c.in-Some.number c.args.image options named c.in-Err.ensures.fault in
+    let only = by-number c.in-Err.fault c.in-Some.number c.args.image options c.in-Err.ensures.fault named in
+    IfOk-weaker c.workers_transcript.result _ _ (λ r is. inr (inl (fits, is ∙ ap outcome_of_refused_workers only))) c.workers_transcript.ensures

@@ -1,7 +1,7 @@
 use Rattle.std.proofs.Common.{◌≡◌, ◌∙◌, [], ap, subst, sym}
 use Rattle.std.specs.Option.{is_some}
 use Rattle.hep_machine.specs.Words.{unit_at}
-use Rattle.hep_image.specs.Private.{private_cells}
+use Rattle.hep_repeating.specs.ImagePrivate.{private_cells}
 use Rattle.hep_repeating.specs.Own.{begun}
 use Rattle.hep_repeating.specs.Recorded.{next_made}
 use Rattle.hep_repeating.specs.Progress.{own_behind}

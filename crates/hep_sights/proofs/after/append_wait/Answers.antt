@@ -2,7 +2,7 @@ use Rattle.std.proofs.Common.{◌∙◌, ◌++◌, ap}
 use Rattle.std.proofs.lemmas.Result.{on_ok_weaker}
 use Rattle.hep_image.specs.Names.{names_in_order}
 use Rattle.hep_contents.specs.Waits.{place_seen}
-use Rattle.hep_traces.specs.Lines as lines
+use Rattle.hep_tracing.specs.TracesLines as lines
 use Rattle.hep_sights.proofs.Waits.{wait-told}
 use Rattle.hep_sights.proofs.after.append_wait.Goals as goal
 

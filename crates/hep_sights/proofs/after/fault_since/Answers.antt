@@ -2,7 +2,7 @@ use Rattle.std.proofs.Common.{◌≡◌, ◌≤◌, ◌∙◌, List, Some, ap, a
 use Rattle.std.proofs.lemmas.Bool.Decides.{nat_tests}
 use Rattle.std.specs.Option.{option_map}
 use Rattle.std.proofs.lemmas.Option.{slice_get-get_or, slice_get_past}
-use Rattle.hep_core.specs.Value.{state_of}
+use Rattle.hep_tracing.specs.CoreValue.{state_of}
 use Rattle.hep_machine.specs.declared.event.Fault.{Fault}
 use Rattle.hep_sights.proofs.Faults.{added-is}
 use Rattle.hep_sights.proofs.after.fault_since.Goals as goal

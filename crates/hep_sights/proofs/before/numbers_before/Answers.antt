@@ -1,5 +1,5 @@
 use Rattle.std.proofs.Common.{◌+◌}
-use Rattle.hep_core.proofs.Kept.{as-many}
+use Rattle.hep_tracing.proofs.CoreKept.{as-many}
 use Rattle.hep_state.proofs.Processes.{process-at}
 use Rattle.hep_sites.proofs.Placed.{levels-of}
 use Rattle.hep_sights.proofs.Alone.{alone-is}

@@ -2,9 +2,9 @@ use Rattle.std.proofs.Common.{◌≡◌, ◌≤◌, ◌++◌, ◌∙◌, ℕ, Li
 use Rattle.std.specs.List.{filter}
 use Rattle.std.proofs.lemmas.Bool.Decides.{nat_tests}
 use Rattle.std.proofs.lemmas.Result.{on_ok_weaker}
-use Rattle.hep_core.specs.Value.{state_of}
+use Rattle.hep_tracing.specs.CoreValue.{state_of}
 use Rattle.hep_machine.specs.Words.{is_held, living}
-use Rattle.hep_traces.specs.Lines as lines
+use Rattle.hep_tracing.specs.TracesLines as lines
 use Rattle.hep_sights.specs.Ancestry.{activation_on}
 use Rattle.hep_sights.specs.Freed.{AreHeldUpwards}
 use Rattle.hep_sights.proofs.Ancestors.{ancestry-first}

@@ -3,8 +3,8 @@ use Rattle.std.proofs.lemmas.Bool.{cases_Bool, eqb-false, eqb-true}
 use Rattle.std.proofs.lemmas.List.{drop_all}
 use Rattle.std.proofs.lemmas.Option.{same_Some, slice_get-get_or}
 use Rattle.std.specs.List.{filter}
-use Rattle.hep_core.specs.Value.{state_of}
-use Rattle.hep_core.proofs.Histories.{state-is}
+use Rattle.hep_tracing.specs.CoreValue.{state_of}
+use Rattle.hep_tracing.proofs.CoreHistories.{state-is}
 use Rattle.hep_machine.specs.Words.{State, is_held, schedule_of}
 use Rattle.hep_sights.proofs.Lists.{filter-front}
 use Rattle.hep_sights.proofs.freed.count_unheld.Goals as goal

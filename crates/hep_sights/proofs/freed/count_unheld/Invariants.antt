@@ -1,5 +1,5 @@
 use Rattle.std.proofs.Common.{◌≡◌, ◌<◌, ℕ, Some, false, slice_get}
-use Rattle.hep_core.specs.Value.{state_of}
+use Rattle.hep_tracing.specs.CoreValue.{state_of}
 use Rattle.hep_machine.specs.Words.{is_held}
 use Rattle.hep_sights.proofs.freed.count_unheld.Given as goal
 

@@ -1,6 +1,6 @@
 use Rattle.std.proofs.Common.{◌∙◌, nat_le, sym, ap}
 use Rattle.std.proofs.lemmas.Option.{none-some, same_Some}
-use Rattle.hep_core.proofs.Histories.{state-is}
+use Rattle.hep_tracing.proofs.CoreHistories.{state-is}
 use Rattle.hep_machine.specs.Words.{State, living, schedule_of}
 use Rattle.hep_sights.specs.Ancestry.{activation_on}
 use Rattle.hep_sights.proofs.freed.goes_on.Goals as goal

@@ -2,7 +2,7 @@ use Rattle.std.proofs.Common.{◌≡◌, ◌∙◌, rules, sym, ap, true, false}
 use Rattle.hep_machine.specs.Words.{living, run}
 use Rattle.hep_proc.proofs.Slabs.{some-value}
 use Rattle.hep_source.proofs.Tests.{none-from-not}
-use Rattle.hep_views.proofs.Waiting.{living-top}
+use Rattle.hep_contents.proofs.ViewsWaiting.{living-top}
 use Rattle.hep_sights.specs.Ancestry.{activation_on}
 use Rattle.hep_sights.proofs.Topped.{there}
 use Rattle.hep_sights.proofs.freed.top_activation.Goals as goal

@@ -1,7 +1,7 @@
 use Rattle.std.proofs.Common.{◌≡◌, ◌∙◌, ap, false, rules, sym, true}
 use Rattle.hep_machine.specs.Words.{is_number_among, living, run}
 use Rattle.hep_source.proofs.Tests.{none-from-not}
-use Rattle.hep_views.proofs.Waiting.{living-top}
+use Rattle.hep_contents.proofs.ViewsWaiting.{living-top}
 use Rattle.hep_sights.specs.Ancestry.{ancestry, has_above}
 use Rattle.hep_sights.proofs.Topped.{there}
 use Rattle.hep_sights.proofs.held.is_kept_by.Goals as goal

@@ -7,7 +7,7 @@ use Rattle.hep_code.specs.declared.variable.Variable.{Variable}
 use Rattle.hep_machine.specs.Words.{unit_on_top}
 use Rattle.hep_sites.specs.Sites.{IsVariableOf}
 use Rattle.hep_sights.specs.References.{top_after}
-use Rattle.hep_traces.specs.Lines as lines
+use Rattle.hep_tracing.specs.TracesLines as lines
 use Rattle.hep_sights.proofs.targets.append_entry.Goals as goal
 
 passed : (entry : Instruction) (a : Argument) (v w : Variable) (m n : ℕ) → entry ≡ Pass a → a ≡ Referred v m → entry ≡ Pass (Referred w n) → (w ≡ v) × (m ≡ n)

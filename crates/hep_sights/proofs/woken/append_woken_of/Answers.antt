@@ -1,6 +1,6 @@
 use Rattle.std.proofs.Common.{◌++◌, ap, ◌∙◌}
 use Rattle.std.proofs.lemmas.Result.{on_ok_weaker}
-use Rattle.hep_traces.specs.Lines as lines
+use Rattle.hep_tracing.specs.TracesLines as lines
 use Rattle.hep_sights.proofs.Numbers.{woken-are}
 use Rattle.hep_sights.proofs.woken.append_woken_of.Goals as goal
 

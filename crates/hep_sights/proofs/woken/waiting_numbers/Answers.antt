@@ -1,8 +1,8 @@
 use Rattle.std.proofs.Common.{◌≡◌, ◌+◌, ◌-◌, ◌++◌, ◌∷◌, [], Option, Some, None, suc, length, refl, sym, ap, ◌∙◌, append-nil, append_assoc, arith}
-use Rattle.hep_core.specs.Value.{state_of}
-use Rattle.hep_core.proofs.Histories.{progress-state}
+use Rattle.hep_tracing.specs.CoreValue.{state_of}
+use Rattle.hep_tracing.proofs.CoreHistories.{progress-state}
 use Rattle.hep_machine.specs.Words.{State}
-use Rattle.hep_views.specs.declared.listed.Listed.{Listed}
+use Rattle.hep_contents.specs.ViewsListedListed.{Listed}
 use Rattle.hep_sights.specs.Woken.{listed_from}
 use Rattle.hep_sights.proofs.Listed.{first-from, none-from, waiting-listed}
 use Rattle.hep_sights.proofs.woken.waiting_numbers.Goals as goal

@@ -1,5 +1,5 @@
 use Rattle.std.proofs.Common.{◌≡◌, ◌++◌, ◌-◌, suc, length}
-use Rattle.hep_core.specs.Value.{state_of}
+use Rattle.hep_tracing.specs.CoreValue.{state_of}
 use Rattle.hep_sights.specs.Woken.{listed_from}
 use Rattle.hep_sights.proofs.woken.waiting_numbers.Given as goal
 

@@ -7,7 +7,7 @@ use Rattle.hep_coming.specs.Access.{IsAccessed}
 use Rattle.hep_coming.proofs.Standing.{on-top}
 use Rattle.hep_image.specs.Places.{variable_of}
 use Rattle.hep_machine.specs.Words.{Level, Process, next_of, run, unit_at, unit_of}
-use Rattle.hep_state.proofs.Tops.{dropped-first}
+use Rattle.hep_views.proofs.StateTops.{dropped-first}
 use Rattle.hep_step.specs.Simulation.{unit_addressed, unit_code}
 use Rattle.hep_views.proofs.Waiting.{living-top}
 use Rattle.hep_sites.specs.Named.{named_by}

@@ -2,8 +2,8 @@ use Rattle.std.proofs.Common.{◌∙◌, sym, subst}
 use Rattle.hep_image.specs.Finding.{address_of, cells_in}
 use Rattle.hep_image.specs.Within.{LiesIn}
 use Rattle.hep_proc.specs.declared.process.Local.{Local}
-use Rattle.hep_state.proofs.Processes.{process-at, some-levels-at}
-use Rattle.hep_state.proofs.Unchanged.{carry}
+use Rattle.hep_views.proofs.StateProcesses.{process-at, some-levels-at}
+use Rattle.hep_views.proofs.StateUnchanged.{carry}
 use Rattle.hep_step.specs.Cells.{HasFrame, IsReached}
 use Rattle.hep_views.specs.Sought.{IsPlaceSought, IsSought}
 use Rattle.hep_coming.proofs.Standing.{level-there}

@@ -3,7 +3,7 @@ use Rattle.hep_arena.specs.Holes.{IsOut}
 use Rattle.hep_layout.proofs.Addresses.{address-out}
 use Rattle.hep_machine.specs.declared.event.Kind.{Kind}
 use Rattle.hep_machine.specs.Words.{Location, Units, run}
-use Rattle.hep_state.specs.declared.machine.Machine.{Machine}
+use Rattle.hep_views.specs.StateMachineMachine.{Machine}
 use Rattle.hep_sites.specs.Sites.{IsSiteAfter}
 use Rattle.hep_sites.specs.declared.sites.Site.{Site}
 use Rattle.hep_sites.proofs.sites.value_at.Goals as goal

@@ -1,6 +1,6 @@
 use Rattle.std.proofs.Common.{◌≡◌, ℕ, suc, List, ◌++◌, drop}
 use Rattle.hep_machine.specs.Words.{run}
-use Rattle.hep_state.specs.Words.{IsMachineAfter}
+use Rattle.hep_core.specs.StateWords.{IsMachineAfter}
 use Rattle.hep_states.specs.States as words
 use Rattle.hep_survey.proofs.frames.append_activations.Given as goal
 

@@ -1,5 +1,5 @@
 use Rattle.std.proofs.Common.{ap, sym}
-use Rattle.hep_state.proofs.Processes.{process-at}
+use Rattle.hep_private_laws.proofs.StateProcesses.{process-at}
 use Rattle.hep_taking.specs.Offers.{offered}
 use Rattle.hep_taking.proofs.Standing.{its-levels, its-place, standing}
 use Rattle.hep_taking.proofs.checking.comes_next.Goals as goal

@@ -1,5 +1,5 @@
 use Rattle.std.proofs.Common.{ap, refl, subst, sym, ◌∙◌}
-use Rattle.hep_private.specs.Own.{values_at}
+use Rattle.hep_private_laws.specs.PrivateOwn.{values_at}
 use Rattle.hep_stretches.specs.Places.{start_at}
 use Rattle.hep_taking.specs.Fitting.{AreThere}
 use Rattle.hep_taking.specs.OwnCells.{own_cells_of}

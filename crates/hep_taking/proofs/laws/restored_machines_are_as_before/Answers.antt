@@ -1,5 +1,5 @@
 use Rattle.std.proofs.Common.{length, subst}
-use Rattle.hep_private.specs.Own.{begun}
+use Rattle.hep_private_laws.specs.PrivateOwn.{begun}
 use Rattle.hep_private_laws.specs.Saved.{AreOf}
 use Rattle.hep_taking.specs.Levels.{start_in}
 use Rattle.hep_taking.specs.OwnCells.{own_cells_of}

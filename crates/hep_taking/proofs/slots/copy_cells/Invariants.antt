@@ -1,5 +1,5 @@
 use Rattle.std.proofs.Common.{◌≡◌, ◌++◌, drop}
-use Rattle.hep_private.specs.Own.{values_at}
+use Rattle.hep_private_laws.specs.PrivateOwn.{values_at}
 use Rattle.hep_taking.specs.Levels.{copies_of}
 use Rattle.hep_taking.proofs.slots.copy_cells.Given as goal
 

@@ -1,5 +1,5 @@
 use Rattle.std.proofs.Common.{◌≡◌, drop}
-use Rattle.hep_private.specs.Own.{values_at}
+use Rattle.hep_private_laws.specs.PrivateOwn.{values_at}
 use Rattle.hep_taking.specs.Fitting.{slots_with}
 use Rattle.hep_taking.specs.Saved.{with_slots}
 use Rattle.hep_taking.proofs.slots.put_values.Given as goal

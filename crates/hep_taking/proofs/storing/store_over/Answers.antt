@@ -1,5 +1,5 @@
 use Rattle.std.proofs.Common.{ap, subst, ◌∙◌}
-use Rattle.hep_private.specs.Own.{values_at}
+use Rattle.hep_private_laws.specs.PrivateOwn.{values_at}
 use Rattle.hep_taking.specs.Fitting.{AreThere, slots_with}
 use Rattle.hep_taking.specs.OwnCells.{own_cells_of}
 use Rattle.hep_taking.specs.Saved.{with_slots}

@@ -4,10 +4,10 @@ use Rattle.hep_machine.specs.Words.{main_among}
 use Rattle.hep_conditions.specs.Words.{IsAccepted}
 use Rattle.hep_proc.proofs.Levels.{last-there}
 use Rattle.hep_proc.specs.Stacks.{stack_with}
-use Rattle.hep_state.specs.Words.{HasLevels, IsAfter, snapshot_of}
-use Rattle.hep_state.proofs.Processes.{IsAt, process-at, room-moved}
-use Rattle.hep_state.proofs.Taken.{inside}
-use Rattle.hep_state.proofs.Unchanged.{machine-of, rooms-of, rooms-set}
+use Rattle.hep_private_laws.specs.StateWords.{HasLevels, IsAfter, snapshot_of}
+use Rattle.hep_private_laws.proofs.StateProcesses.{IsAt, process-at, room-moved}
+use Rattle.hep_private_laws.proofs.StateTaken.{inside}
+use Rattle.hep_private_laws.proofs.StateUnchanged.{machine-of, rooms-of, rooms-set}
 use Rattle.hep_taking.specs.Levels.{snapshot_taken}
 use Rattle.hep_taking.specs.Offers.{offered}
 use Rattle.hep_taking.proofs.Standing.{its-levels, its-place, standing, turns}

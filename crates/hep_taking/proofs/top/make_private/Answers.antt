@@ -2,7 +2,7 @@ use Rattle.std.proofs.Common.{◌∙◌, ap, refl, subst}
 use Rattle.hep_machine.specs.Words.{Units}
 use Rattle.hep_private_laws.specs.Gone.{contents_with}
 use Rattle.hep_proc.proofs.Levels.{operands-are, some-levels}
-use Rattle.hep_step.specs.Performed.{snapshot}
+use Rattle.hep_private_laws.specs.StepPerformed.{snapshot}
 use Rattle.hep_stretches.specs.InPlace.{IsMadeInPlace}
 use Rattle.hep_stretches.specs.Segments.{IsMadeFrom}
 use Rattle.hep_taking.specs.Tops.{segment_from}

@@ -1,6 +1,6 @@
 use Rattle.std.proofs.Common.{◌<◌, ◌∙◌, ap, arith, length, subst, sym}
 use Rattle.hep_code.specs.Words.{deepest}
-use Rattle.hep_private.specs.Own.{values_at}
+use Rattle.hep_private_laws.specs.PrivateOwn.{values_at}
 use Rattle.hep_proc.proofs.Levels.{operands-are, some-levels}
 use Rattle.hep_proc.specs.declared.process.Local.{Local}
 use Rattle.hep_stretches.specs.Segments.{ticket_value}

@@ -1,11 +1,11 @@
 use Rattle.std.proofs.Common.{◌≡◌, ◌+◌, ◌-◌, ℕ, suc, inl, is_some, refl, sym, ap, ◌∙◌, subst, arith}
 use Rattle.hep_machine.specs.Words.{Units}
-use Rattle.hep_going.proofs.Onward.{none-made}
-use Rattle.hep_private.specs.Own.{begun}
+use Rattle.hep_private_laws.proofs.GoingOnward.{none-made}
+use Rattle.hep_private_laws.specs.PrivateOwn.{begun}
 use Rattle.hep_private_laws.specs.Going.{MakesMoves}
-use Rattle.hep_state.specs.declared.machine.Machine.{Machine}
-use Rattle.hep_state.specs.Words.{snapshot_of}
-use Rattle.hep_state.proofs.Unchanged.{top-shown}
+use Rattle.hep_private_laws.specs.StateMachineMachine.{Machine}
+use Rattle.hep_private_laws.specs.StateWords.{snapshot_of}
+use Rattle.hep_private_laws.proofs.StateUnchanged.{top-shown}
 use Rattle.hep_stretches.specs.Stretches.{HasNoPrivate}
 use Rattle.hep_taking.specs.Levels.{start_in}
 use Rattle.hep_taking.proofs.turning.end_turn.Goals.{Joined-then-steps, then-steps-via-then-steps, then-steps-via-else-steps+then-not-is_next_private}

@@ -1,6 +1,6 @@
 use Rattle.std.proofs.Common.{◌≡◌, subst}
 use Rattle.hep_proc.specs.declared.process.Local.{Local}
-use Rattle.hep_state.proofs.Processes.{process-at, some-levels-at}
+use Rattle.hep_private_laws.proofs.StateProcesses.{process-at, some-levels-at}
 use Rattle.hep_stretches.specs.Stretches.{HasNoPrivate}
 use Rattle.hep_taking.proofs.turning.stands_alone.Goals as goal
 

@@ -2,7 +2,7 @@ use Rattle.std.proofs.Common.{is_some, sym, ap, ◌∙◌, subst}
 use Rattle.hep_machine.specs.Words.{main_among}
 use Rattle.hep_conditions.specs.Words.{IsAccepted}
 use Rattle.hep_private_laws.specs.Going.{MakesMoves}
-use Rattle.hep_state.specs.Words.{LivesOn}
+use Rattle.hep_private_laws.specs.StateWords.{LivesOn}
 use Rattle.hep_taking.specs.Saved.{saved_in}
 use Rattle.hep_taking.specs.Turning.{IsAsBefore, IsMadeInPlace}
 use Rattle.hep_taking.proofs.TurnInPlace.{all-as-before, in-place-of, kept-now, lives-behind, moves-all, none-more, turn-behind, turn-there}

@@ -1,7 +1,7 @@
 use Rattle.std.proofs.Common.{◌≡◌, ℕ, List, sym, ap, ◌∙◌, vec_capacity, IfOk, OnErr}
 use Rattle.hep_machine.specs.Words.{Value}
-use Rattle.hep_code.specs.declared.instruction.Instruction.{Instruction}
-use Rattle.hep_image.specs.declared.array.Array.{Array}
+use Rattle.hep_step.specs.CodeInstructionInstruction.{Instruction}
+use Rattle.hep_step.specs.ImageArrayArray.{Array}
 use Rattle.hep_proc.specs.Nodes.{nodes_of}
 use Rattle.hep_step.specs.Changes.{changed_at}
 use Rattle.hep_step.specs.Effects.{effect_at}

@@ -1,6 +1,6 @@
 use Rattle.std.proofs.Common.{◌≡◌, ◌<◌, length, sym, ap, ◌∙◌, subst}
 use Rattle.slab.specs.Slab.{ContainsKey}
-use Rattle.hep_image.specs.Image.{IsUnitCode}
+use Rattle.hep_step.specs.ImageImage.{IsUnitCode}
 use Rattle.hep_proc.specs.Nodes.{nodes_of}
 use Rattle.hep_proc.proofs.Slabs.{some-value}
 use Rattle.hep_proc.specs.declared.process.Local.{Local}

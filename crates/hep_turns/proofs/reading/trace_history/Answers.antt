@@ -1,9 +1,9 @@
 use Rattle.std.proofs.Common.{◌≡◌, ◌∙◌, ◌+◌, ◌++◌, arith, drop, length, refl, subst, sym, take}
-use Rattle.hep_history.specs.First.{first_of}
-use Rattle.hep_history.specs.Replays.{ArePossible, IsFirstImpossible}
+use Rattle.hep_causes.specs.HistoryFirst.{first_of}
+use Rattle.hep_causes.specs.Replays.{ArePossible, IsFirstImpossible}
 use Rattle.hep_machine.specs.Words.{Units, progress_after}
-use Rattle.hep_sites.specs.Variables.{AreVariablesOf}
-use Rattle.hep_traces.specs.Traces.{trace_from}
+use Rattle.hep_causes.specs.SitesVariables.{AreVariablesOf}
+use Rattle.hep_watching.specs.TracesTraces.{trace_from}
 use Rattle.hep_turns.specs.Pages.{shown_on}
 use Rattle.hep_turns.specs.Tellers.{AreWatchesFor}
 use Rattle.hep_turns.proofs.Left.{of-same, trace-skipped}
@@ -24,8 +24,8 @@ tell_entries-requires-clause-teller c =
       watches = subst (AreWatchesFor c.in_ok-core.core.core.program cell) (sym c.deref.ensures.value) (subst (λ (u : Units). AreWatchesFor u cell watches) c.image-2.ensures c.in-Ok-watches_for.ensures);
     }
 
-pub returns-then-all-len-clause-untold : goal.returns-then-all-len-clause-untold
-returns-then-all-len-clause-untold c =
+pub returns-then-all-len-clause-unmade : goal.returns-then-all-len-clause-unmade
+returns-then-all-len-clause-unmade c =
     let core = c.in_ok-core.core.core in
     let entries = first_of c.args.entries.now in
     let all = c.in-Ok-tell_entries.all in

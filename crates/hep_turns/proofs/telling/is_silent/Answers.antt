@@ -1,10 +1,10 @@
 use Rattle.std.proofs.Common.{◌≡◌, false, true, sym, ◌∙◌, rules, subst}
 use Rattle.hep_conditions.specs.Words.{IsAccepted}
-use Rattle.hep_core.proofs.Histories.{progress-state, state-is}
-use Rattle.hep_core.proofs.Kept.{halted-is}
+use Rattle.hep_causes.proofs.CoreHistories.{progress-state, state-is}
+use Rattle.hep_causes.proofs.CoreKept.{halted-is}
 use Rattle.hep_machine.specs.Words.{schedule_of}
-use Rattle.hep_unwatched.specs.Watches.{IsUnwatched}
-use Rattle.hep_state.specs.Words.{snapshot_of}
+use Rattle.hep_causes.specs.UnwatchedWatches.{IsUnwatched}
+use Rattle.hep_glances.specs.StateWords.{snapshot_of}
 use Rattle.hep_turns.specs.Pages.{shown_on}
 use Rattle.hep_turns.specs.Making.{progress_of}
 use Rattle.hep_turns.proofs.Silent.{silent-line}

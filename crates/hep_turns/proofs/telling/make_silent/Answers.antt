@@ -1,9 +1,9 @@
 use Rattle.std.proofs.Common.{◌≡◌, [], replicate, refl, sym, ◌∙◌, subst}
 use Rattle.hep_conditions.specs.Words.{IsAccepted}
-use Rattle.hep_core.proofs.Histories.{progress-state}
-use Rattle.hep_history.specs.Progress.{AreMade, begun}
-use Rattle.hep_unwatched.specs.Watches.{PassesFrom}
-use Rattle.hep_traces.specs.Traces.{trace_from}
+use Rattle.hep_causes.proofs.CoreHistories.{progress-state}
+use Rattle.hep_causes.specs.Progress.{AreMade, begun}
+use Rattle.hep_causes.specs.UnwatchedWatches.{PassesFrom}
+use Rattle.hep_watching.specs.TracesTraces.{trace_from}
 use Rattle.hep_turns.specs.Pages.{shown_on}
 use Rattle.hep_turns.specs.Making.{progress_of}
 use Rattle.hep_turns.proofs.Left.{lines-none}

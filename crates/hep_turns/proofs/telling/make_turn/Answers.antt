@@ -1,7 +1,7 @@
 use Rattle.std.proofs.Common.{Err, subst}
-use Rattle.hep_core.specs.declared.fault.ChooseFault.{ChooseFault}
-use Rattle.hep_core.specs.Value.{IsChoice}
-use Rattle.hep_history.proofs.Turns.{nobody_turns, stopped_turns, turn_made}
+use Rattle.hep_causes.specs.CoreFaultChooseFault.{ChooseFault}
+use Rattle.hep_causes.specs.CoreValue.{IsChoice}
+use Rattle.hep_causes.proofs.HistoryTurns.{nobody_turns, stopped_turns, turn_made}
 use Rattle.hep_turns.proofs.telling.make_turn.Goals as goal
 
 pub returns-in-Ok-clause-made : goal.returns-in-Ok-clause-made

@@ -1,17 +1,17 @@
 use Rattle.std.proofs.Common.{◌≡◌, ◌∙◌, ◌+◌, ◌-◌, ◌++◌, ◌<◌, ◌≤◌, ◌∷◌, ℕ, List, [], ap, arith, drop, length, max, min, refl, subst, sym, take}
 use Rattle.std.proofs.lemmas.List.{length-drop, nil_from_length}
-use Rattle.hep_core.specs.Value.{CoreValue}
+use Rattle.hep_causes.specs.CoreValue.{CoreValue}
 use Rattle.hep_entries.specs.declared.run.Run.{Run}
 use Rattle.hep_entries.specs.Runs.{entries_of, entry_of}
-use Rattle.hep_history.specs.First.{first_of}
-use Rattle.hep_history.specs.Progress.{AreMade, IsCutShort}
-use Rattle.hep_history.specs.Replays.{ArePossible, IsFirstImpossible}
-use Rattle.hep_history.proofs.Fronts.{front-short}
-use Rattle.hep_history.proofs.InRuns.{none_past, run_after}
-use Rattle.hep_history.proofs.Turns.{run_cut, run_whole}
+use Rattle.hep_causes.specs.HistoryFirst.{first_of}
+use Rattle.hep_causes.specs.Progress.{AreMade, IsCutShort}
+use Rattle.hep_causes.specs.Replays.{ArePossible, IsFirstImpossible}
+use Rattle.hep_causes.proofs.HistoryFronts.{front-short}
+use Rattle.hep_causes.proofs.HistoryInRuns.{none_past, run_after}
+use Rattle.hep_causes.proofs.HistoryTurns.{run_cut, run_whole}
 use Rattle.hep_machine.specs.declared.event.Entry.{Entry}
 use Rattle.hep_machine.specs.Words.{Units, progress_after}
-use Rattle.hep_traces.specs.Traces.{trace_from}
+use Rattle.hep_watching.specs.TracesTraces.{trace_from}
 use Rattle.hep_turns.specs.Making.{HasMade}
 use Rattle.hep_turns.specs.Pages.{shown_on}
 use Rattle.hep_turns.proofs.Left.{of-same, replaying, trace-end}

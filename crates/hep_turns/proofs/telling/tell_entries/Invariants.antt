@@ -1,8 +1,8 @@
 use Rattle.std.proofs.Common.{◌≡◌, ◌+◌, ◌++◌, ◌<◌, ◌≤◌, drop, length, max, take}
 use Rattle.hep_entries.specs.Runs.{entries_of}
-use Rattle.hep_history.specs.First.{first_of}
+use Rattle.hep_causes.specs.HistoryFirst.{first_of}
 use Rattle.hep_machine.specs.Words.{progress_after}
-use Rattle.hep_traces.specs.Traces.{trace_from}
+use Rattle.hep_watching.specs.TracesTraces.{trace_from}
 use Rattle.hep_turns.specs.Making.{HasMade}
 use Rattle.hep_turns.specs.Pages.{shown_on}
 use Rattle.hep_turns.proofs.telling.tell_entries.Given as goal

@@ -1,8 +1,8 @@
 use Rattle.std.proofs.Common.{◌∙◌, ◌++◌, Bool, Ok, ap, subst, true}
 use Rattle.std.proofs.lemmas.Result.{IfOk-weaker}
-use Rattle.hep_history.specs.Progress.{TurnMade}
-use Rattle.hep_history.proofs.Turns.{entry_stepped, entry_waited}
-use Rattle.hep_traces.specs.Traces.{entry_text}
+use Rattle.hep_causes.specs.Progress.{TurnMade}
+use Rattle.hep_causes.proofs.HistoryTurns.{entry_stepped, entry_waited}
+use Rattle.hep_watching.specs.TracesTraces.{entry_text}
 use Rattle.hep_turns.specs.Making.{progress_of, shown_lines}
 use Rattle.hep_turns.specs.Pages.{shown_on}
 use Rattle.hep_turns.proofs.Along.{both-ok, shown-steps, shown-wait}

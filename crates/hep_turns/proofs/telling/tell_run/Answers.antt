@@ -1,12 +1,12 @@
 use Rattle.std.proofs.Common.{◌≡◌, ◌∙◌, ◌+◌, ◌++◌, ◌≤◌, ℕ, Bool, true, false, [], ◌∷◌, inl, inr, Ok, ap, append-nil, arith, refl, replicate, subst, sym}
-use Rattle.hep_core.specs.Value.{CoreValue}
+use Rattle.hep_causes.specs.CoreValue.{CoreValue}
 use Rattle.hep_entries.specs.Runs.{entry_of}
-use Rattle.hep_history.specs.Progress.{AreMade, EntryMade, RunMade, again, begun}
-use Rattle.hep_history.specs.Replays.{HaveGaps}
-use Rattle.hep_history.proofs.Turns.{joined, once, run_cut, run_whole}
+use Rattle.hep_causes.specs.Progress.{AreMade, EntryMade, RunMade, again, begun}
+use Rattle.hep_causes.specs.Replays.{HaveGaps}
+use Rattle.hep_causes.proofs.HistoryTurns.{joined, once, run_cut, run_whole}
 use Rattle.hep_machine.specs.declared.event.Entry.{Entry}
 use Rattle.hep_machine.specs.Words.{Units}
-use Rattle.hep_traces.specs.Traces.{trace_from}
+use Rattle.hep_watching.specs.TracesTraces.{trace_from}
 use Rattle.hep_turns.specs.Making.{IsReplaying, progress_of, shown_text}
 use Rattle.hep_turns.specs.Pages.{shown_on}
 use Rattle.hep_turns.proofs.Lined.{cut-behind, lines-more, program-made, replaying-made, trace-alone, trace-hidden}

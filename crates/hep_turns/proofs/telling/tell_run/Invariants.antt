@@ -1,7 +1,7 @@
 use Rattle.std.proofs.Common.{◌≡◌, ◌+◌, ◌-◌, ◌++◌, ◌≤◌, replicate}
 use Rattle.hep_entries.specs.Runs.{entry_of}
-use Rattle.hep_history.specs.Progress.{AreMade}
-use Rattle.hep_traces.specs.Traces.{trace_from}
+use Rattle.hep_causes.specs.Progress.{AreMade}
+use Rattle.hep_watching.specs.TracesTraces.{trace_from}
 use Rattle.hep_turns.specs.Making.{IsReplaying, progress_of}
 use Rattle.hep_turns.specs.Pages.{shown_on}
 use Rattle.hep_turns.proofs.telling.tell_run.Given as goal

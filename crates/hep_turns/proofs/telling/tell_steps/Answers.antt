@@ -1,11 +1,11 @@
 use Rattle.std.proofs.Common.{◌≡◌, ◌≤◌, ◌-◌, ◌+◌, ◌++◌, ◌∙◌, ℕ, Bool, false, Ok, List, ap, append-nil, arith, length, replicate, subst, sym}
-use Rattle.hep_core.specs.Value.{CoreValue, state_of}
-use Rattle.hep_history.specs.Progress.{TurnMade, longer}
-use Rattle.hep_history.specs.Replays.{most_entries, standing}
-use Rattle.hep_history.proofs.Turns.{one, steps_end, steps_more}
+use Rattle.hep_causes.specs.CoreValue.{CoreValue, state_of}
+use Rattle.hep_causes.specs.Progress.{TurnMade, longer}
+use Rattle.hep_causes.specs.Replays.{most_entries, standing}
+use Rattle.hep_causes.proofs.HistoryTurns.{one, steps_end, steps_more}
 use Rattle.hep_machine.specs.declared.event.Entry.{Entry}
 use Rattle.hep_machine.specs.Words.{AreSteps, Units}
-use Rattle.hep_traces.specs.Traces.{steps_text}
+use Rattle.hep_watching.specs.TracesTraces.{steps_text}
 use Rattle.hep_turns.specs.Making.{progress_of, shown_lines}
 use Rattle.hep_turns.specs.Pages.{shown_on}
 use Rattle.hep_turns.proofs.Along.{all-left, count-left, shown-end, shown-on, still-replaying}

@@ -1,9 +1,9 @@
 use Rattle.std.proofs.Common.{◌≡◌, ◌≤◌, ◌+◌, ◌-◌, ◌++◌, length, replicate}
-use Rattle.hep_core.specs.Value.{state_of}
-use Rattle.hep_history.specs.Progress.{longer}
-use Rattle.hep_history.specs.Replays.{most_entries}
+use Rattle.hep_causes.specs.CoreValue.{state_of}
+use Rattle.hep_causes.specs.Progress.{longer}
+use Rattle.hep_causes.specs.Replays.{most_entries}
 use Rattle.hep_machine.specs.Words.{AreSteps}
-use Rattle.hep_traces.specs.Traces.{steps_text}
+use Rattle.hep_watching.specs.TracesTraces.{steps_text}
 use Rattle.hep_turns.specs.Making.{progress_of, shown_lines}
 use Rattle.hep_turns.specs.Pages.{shown_on}
 use Rattle.hep_turns.proofs.telling.tell_steps.Given as goal

@@ -1,7 +1,7 @@
 use Rattle.std.proofs.Common.{◌∙◌, ◌++◌, Bool, Ok, append-nil, ap, arith, subst, sym}
 use Rattle.std.proofs.lemmas.Result.{IfOk-weaker}
 use Rattle.hep_glances.specs.Sights.{name_sought}
-use Rattle.hep_history.specs.Progress.{TurnMade}
+use Rattle.hep_causes.specs.Progress.{TurnMade}
 use Rattle.hep_turns.specs.Making.{progress_of}
 use Rattle.hep_turns.proofs.Along.{no-turn, runs}
 use Rattle.hep_turns.proofs.telling.tell_turn.Goals as goal

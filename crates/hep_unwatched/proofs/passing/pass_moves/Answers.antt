@@ -2,24 +2,24 @@ use Rattle.std.proofs.Common.{◌≡◌, inl, inr, ℕ, ◌≤◌, List, ◌∷�
 use Rattle.std.specs.Vec.{with_item}
 use Rattle.hep_machine.specs.Words.{Value, main_among}
 use Rattle.hep_conditions.specs.Words.{IsAccepted}
-use Rattle.hep_proc.specs.Nodes.{nodes_of}
-use Rattle.hep_proc.specs.declared.frames.Frames.{Frames}
-use Rattle.hep_image.specs.Image.{most_cells}
-use Rattle.hep_step.specs.Performed as step
-use Rattle.hep_proc.specs.declared.process.Local.{Local}
-use Rattle.hep_state.specs.declared.machine.Machine.{Machine}
-use Rattle.hep_proc.specs.declared.process.Process.{Process}
-use Rattle.hep_proc.specs.Stacks.{Stack, stack_of, stack_with}
-use Rattle.hep_proc.proofs.Levels.{last-there}
-use Rattle.hep_state.specs.Words.{AreNumbered, IsAfter, TurnOf, snapshot_of, top_frame, turn_with, with_contents, with_stack}
-use Rattle.hep_state.proofs.Beside.{beside-set}
-use Rattle.hep_state.proofs.Moved.{top-node}
-use Rattle.hep_state.proofs.Processes.{IsAt, kept-set, process-at, room-moved, stacks-set}
-use Rattle.hep_state.proofs.Taken.{inside}
-use Rattle.hep_state.proofs.Tops.{turning}
-use Rattle.hep_state.proofs.Unchanged.{carry, machine-of, rooms-of, rooms-set}
+use Rattle.hep_going.specs.ProcNodes.{nodes_of}
+use Rattle.hep_going.specs.ProcFramesFrames.{Frames}
+use Rattle.hep_going.specs.ImageImage.{most_cells}
+use Rattle.hep_going.specs.StepPerformed as step
+use Rattle.hep_going.specs.ProcProcessLocal.{Local}
+use Rattle.hep_going.specs.StateMachineMachine.{Machine}
+use Rattle.hep_going.specs.ProcProcessProcess.{Process}
+use Rattle.hep_going.specs.ProcStacks.{Stack, stack_of, stack_with}
+use Rattle.hep_going.proofs.ProcLevels.{last-there}
+use Rattle.hep_going.specs.StateWords.{AreNumbered, IsAfter, TurnOf, snapshot_of, top_frame, turn_with, with_contents, with_stack}
+use Rattle.hep_going.proofs.StateBeside.{beside-set}
+use Rattle.hep_going.proofs.StateMoved.{top-node}
+use Rattle.hep_going.proofs.StateProcesses.{IsAt, kept-set, process-at, room-moved, stacks-set}
+use Rattle.hep_going.proofs.StateTaken.{inside}
+use Rattle.hep_going.proofs.StateTops.{turning}
+use Rattle.hep_going.proofs.StateUnchanged.{carry, machine-of, rooms-of, rooms-set}
 use Rattle.hep_going.specs.Gone.{HasNoMoveAt}
-use Rattle.hep_step.specs.Simulation.{unit_arrays, unit_code}
+use Rattle.hep_going.specs.StepSimulation.{unit_arrays, unit_code}
 use Rattle.hep_going.proofs.Turns.{HasLaws, can-go, come-so, frame-there, here}
 use Rattle.hep_unwatched.specs.Watches.{row_of}
 use Rattle.hep_unwatched.proofs.Passed.{gone-by, passed-so}

@@ -1,7 +1,7 @@
 use Rattle.std.proofs.Common.{◌≡◌, inl, inr, ℕ, ◌+◌, ◌-◌, ◌<◌, ◌≤◌, true, false, true≢false, refl, sym, ◌∙◌, subst, arith}
-use Rattle.hep_state.proofs.Beside.{beside-shown}
-use Rattle.hep_state.proofs.Unchanged.{machine-reserved}
-use Rattle.hep_state.specs.Words.{HasLivedOn, LivesOn, StaysShown, StepsOn, snapshot_of}
+use Rattle.hep_going.proofs.StateBeside.{beside-shown}
+use Rattle.hep_going.proofs.StateUnchanged.{machine-reserved}
+use Rattle.hep_going.specs.StateWords.{HasLivedOn, LivesOn, StaysShown, StepsOn, snapshot_of}
 use Rattle.hep_going.proofs.Onward.{more-made, none-made, one-made}
 use Rattle.hep_going.specs.Gone.{HasNoMoveAhead, MakesMoves}
 use Rattle.hep_unwatched.specs.Passes.{EndsBefore, PassesTurns}

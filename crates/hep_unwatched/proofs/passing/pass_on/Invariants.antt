@@ -1,5 +1,5 @@
 use Rattle.std.proofs.Common.{◌-◌, ◌≤◌}
-use Rattle.hep_state.specs.Words.{LivesOn}
+use Rattle.hep_going.specs.StateWords.{LivesOn}
 use Rattle.hep_going.specs.Gone.{MakesMoves}
 use Rattle.hep_unwatched.specs.Passes.{PassesTurns}
 use Rattle.hep_unwatched.proofs.passing.pass_on.Given as goal

@@ -1,8 +1,8 @@
 use Rattle.std.proofs.Common.{◌≡◌, sym, ap, ◌∙◌}
-use Rattle.hep_proc.specs.declared.process.Local.{Local}
-use Rattle.hep_state.proofs.Processes.{process-at, some-levels-at}
-use Rattle.hep_state.proofs.Tops.{turning}
-use Rattle.hep_state.specs.Words.{HasLevels, snapshot_of, turn_with}
+use Rattle.hep_going.specs.ProcProcessLocal.{Local}
+use Rattle.hep_going.proofs.StateProcesses.{process-at, some-levels-at}
+use Rattle.hep_going.proofs.StateTops.{turning}
+use Rattle.hep_going.specs.StateWords.{HasLevels, snapshot_of, turn_with}
 use Rattle.hep_unwatched.specs.Watches.{is_watched, watched_at}
 use Rattle.hep_unwatched.proofs.Passed.{unwatched-there}
 use Rattle.hep_unwatched.proofs.passing.stands_watched.Goals.{After-watched_at}

@@ -1,11 +1,11 @@
 use Rattle.std.proofs.Common.{◌≡◌, ◌⊎◌, ◌<◌, ◌≤◌, ℕ, true, sym, ap, ◌∙◌, subst, arith, length, vec_capacity}
-use Rattle.hep_step.specs.Performed.{Snapshot, snapshot}
-use Rattle.hep_proc.specs.declared.process.Local.{Local}
-use Rattle.hep_proc.proofs.Levels.{operands-are, some-levels}
-use Rattle.hep_state.proofs.Unchanged.{carry}
-use Rattle.hep_moves.specs.Moves.{CanGoOn, Goes, HasNoMove, stays}
-use Rattle.hep_quick.specs.Known.{AreKnown}
-use Rattle.hep_quick.specs.UnitTables.{IsTable}
+use Rattle.hep_going.specs.StepPerformed.{Snapshot, snapshot}
+use Rattle.hep_going.specs.ProcProcessLocal.{Local}
+use Rattle.hep_going.proofs.ProcLevels.{operands-are, some-levels}
+use Rattle.hep_going.proofs.StateUnchanged.{carry}
+use Rattle.hep_going.specs.MovesMoves.{CanGoOn, Goes, HasNoMove, stays}
+use Rattle.hep_going.specs.QuickKnown.{AreKnown}
+use Rattle.hep_going.specs.UnitTables.{IsTable}
 use Rattle.hep_unwatched.specs.Passes.{Passes}
 use Rattle.hep_unwatched.specs.Watches.{row_of, watched_at}
 use Rattle.hep_unwatched.proofs.top.pass_top.Goals as goal

@@ -1,9 +1,9 @@
 use Rattle.std.proofs.Common.{◌≡◌, suc, ◌+◌, inl, inr, refl, sym, ◌∙◌, subst, arith, vec_capacity}
-use Rattle.hep_step.specs.Performed.{snapshot}
-use Rattle.hep_moves.specs.Moves.{CanGoOn, Goes}
-use Rattle.hep_quick.specs.Made.{IsTabled}
-use Rattle.hep_quick.proofs.Onward.{as-many-cells, with-more-room}
-use Rattle.hep_quick.proofs.Steps.{goes-on}
+use Rattle.hep_going.specs.StepPerformed.{snapshot}
+use Rattle.hep_going.specs.MovesMoves.{CanGoOn, Goes}
+use Rattle.hep_going.specs.QuickMade.{IsTabled}
+use Rattle.hep_going.proofs.Pushed.{as-many-cells, with-more-room}
+use Rattle.hep_going.proofs.QuickSteps.{goes-on}
 use Rattle.hep_unwatched.specs.Passes.{Passes, passes, settled, starts}
 use Rattle.hep_unwatched.proofs.Passed.{gone-by}
 use Rattle.hep_unwatched.proofs.walk.walk_on.Goals as goal

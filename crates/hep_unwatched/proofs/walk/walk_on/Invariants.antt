@@ -1,5 +1,5 @@
 use Rattle.std.proofs.Common.{◌≡◌, ◌-◌, ◌≤◌, vec_capacity}
-use Rattle.hep_step.specs.Performed.{snapshot}
+use Rattle.hep_going.specs.StepPerformed.{snapshot}
 use Rattle.hep_unwatched.specs.Passes.{Passes}
 use Rattle.hep_unwatched.proofs.walk.walk_on.Given as goal
 

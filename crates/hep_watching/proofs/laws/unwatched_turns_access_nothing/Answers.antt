@@ -4,9 +4,9 @@ use Rattle.std.proofs.lemmas.Option.{same_Some, slice_get_within}
 use Rattle.hep_code.proofs.Ahead.{next_is_ahead}
 use Rattle.hep_code.specs.Words.{Stands}
 use Rattle.hep_machine.specs.Words.{Level, Process, Top, next_of, unit_at, unit_of}
-use Rattle.hep_unwatched.specs.Watches.{is_watched, row_in, watched_at}
-use Rattle.hep_unwatched.specs.declared.watch.Watch.{Watch}
-use Rattle.hep_state.proofs.Tops.{dropped-first}
+use Rattle.hep_traces.specs.UnwatchedWatches.{is_watched, row_in, watched_at}
+use Rattle.hep_traces.specs.UnwatchedWatchWatch.{Watch}
+use Rattle.hep_sites.proofs.StateTops.{dropped-first}
 use Rattle.hep_step.specs.Simulation.{unit_addressed, unit_code}
 use Rattle.hep_watching.proofs.Silent.{settled, silent}
 use Rattle.hep_watching.proofs.laws.unwatched_turns_access_nothing.Goals as goal

@@ -12,10 +12,6 @@ use Rattle.hep_watching.specs.Watched.{is_dummy}
 use Rattle.hep_watching.proofs.watching.is_watched_variable.Goals.{After-name}
 use Rattle.hep_watching.proofs.watching.is_watched_variable.Goals as goal
 
-some-name : (name : List ℕ) (b : Bool) → b ≡ nat_eq (length name) 0 → b ≡ false → bytes_eq name [] ≡ false
-some-name [] b is none = absurd (true≢false (sym is ∙ none))
-some-name (x ∷ xs) b is none = refl
-
 -- the name of the variable's number
 spelled : (c : After-name) (x : Name) → IsVariableOf c.args.seeker.now.image.now (unit_at c.args.seeker.now.image.now c.args.seeker.now.unit) x c.args.variable
     → slice_get (names_in_order c.args.seeker.now.image.now) c.in-Some.number ≡ Some (spelling x)
@@ -32,11 +28,10 @@ returns-in-Some-name c x is =
     let name = k.name.now in
     let v = c.args.variable in
     let arrays : c.as_slice.result.now ≡ unit_arrays k.image.now k.unit = c.as_slice.ensures ∙ c.unit.ensures.arrays in
-    let some = some-name name c.is_empty.result c.is_empty.ensures c.if-is_empty.false in
     let own : is_dummy (unit_arrays k.image.now k.unit) v ≡ false = sym (c.is_dummy.ensures ∙ ap (λ list. is_dummy list v) arrays) ∙ c.if-is_dummy.false in
     let same : c.in-Some-name.name.now ≡ spelling x = same_Some c.in-Some-name.name.now (spelling x) (
     ap (option_map (λ (n : Bor (List ℕ)). n.now)) (sym c.in-Some-name.is) ∙ (c.name.ensures ∙ spelled (goal.at.returns-in-Some-name c).After-name x is)) in
-    c.eq.ensures ∙ ap (bytes_eq name) same ∙ (λ i. sym some i || (sym own i || bytes_eq name (spelling x)))
+    c.eq.ensures ∙ ap (bytes_eq name) same ∙ ap (λ b. b || bytes_eq name (spelling x)) (sym own)
 
 pub returns-in-None : goal.returns-in-None
 returns-in-None c x is =

@@ -1,6 +1,6 @@
 use Rattle.std.proofs.Common.{◌≡◌, inl, inr, List, Some, slice_get, sym, ◌∙◌, subst, arith}
 use Rattle.hep_quick.proofs.Onward.{get-one-more}
-use Rattle.hep_unwatched.specs.declared.watch.Watch.{Watch}
+use Rattle.hep_traces.specs.UnwatchedWatchWatch.{Watch}
 use Rattle.hep_watching.specs.Watched.{IsWatchOf}
 use Rattle.hep_watching.proofs.watching.watches_of.Goals as goal
 

@@ -1,5 +1,5 @@
 use Rattle.std.proofs.Common.{◌≡◌, ℕ, Some, length, slice_get}
-use Rattle.hep_unwatched.specs.declared.watch.Watch.{Watch}
+use Rattle.hep_traces.specs.UnwatchedWatchWatch.{Watch}
 use Rattle.hep_watching.specs.Watched.{IsWatchOf}
 use Rattle.hep_watching.proofs.watching.watches_of.Given as goal
 

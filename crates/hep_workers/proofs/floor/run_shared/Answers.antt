@@ -1,7 +1,7 @@
 use Rattle.std.proofs.Common.{ap, subst, ◌∙◌}
-use Rattle.hep_core.specs.Value.{CoreValue}
-use Rattle.hep_receipts.proofs.Committed.{fault-so}
-use Rattle.hep_workers.specs.Faults.{IsMet, IsWorkFault, of_crew}
+use Rattle.hep_reports.specs.CoreValue.{CoreValue}
+use Rattle.hep_reports.proofs.ReceiptsCommitted.{fault-so}
+use Rattle.hep_workers.specs.Faults.{IsWorkFault, of_crew}
 use Rattle.hep_workers.specs.Lists.{HasLeftLists}
 use Rattle.hep_workers.proofs.Reasons.{crew-met}
 use Rattle.hep_workers.proofs.floor.run_shared.Goals as goal
@@ -11,7 +11,7 @@ returns-in_err-core-2-clause-fault g c =
     let options = c.args.options.now in
     let met = c.in_err-core-2.field-0.0 in
     fault-so c.from_residual-in_err-core-2.result (of_crew met) (λ fault. IsWorkFault fault c.args.image options) c.from_residual-in_err-core-2.ensures.1 (
-    crew-met met c.args.image options c.in_ok-core.ensures.fits (subst (λ (v : CoreValue). IsMet v met) c.in_ok-core.ensures.made c.in_err-core-2.ensures.met))
+    crew-met met c.args.image options c.in_ok-core.ensures.fits)
 
 pub returns-clause-image : goal.returns-clause-image
 returns-clause-image g c = c.in_ok-image.ensures ∙ c.image.ensures ∙ ap (λ (v : CoreValue). v.program) c.in_ok-core.ensures.made

@@ -1,12 +1,12 @@
 use Rattle.std.proofs.Common.{◌≡◌, true, List, ap, arith, length, refl, subst, sym}
-use Rattle.hep_core.specs.Value.{CoreValue}
+use Rattle.hep_reports.specs.CoreValue.{CoreValue}
 use Rattle.hep_machine.specs.Words.{Units}
-use Rattle.hep_receipts.specs.Shared.{IsSharedFrom}
-use Rattle.hep_receipts.proofs.Committed.{fault-so}
-use Rattle.hep_receipts.specs.declared.receipt.Receipt.{Receipt}
+use Rattle.hep_reports.specs.ReceiptsShared.{IsSharedFrom}
+use Rattle.hep_reports.proofs.ReceiptsCommitted.{fault-so}
+use Rattle.hep_reports.specs.ReceiptsReceiptReceipt.{Receipt}
 use Rattle.hep_reports.specs.Receipts.{are_of_workers}
 use Rattle.hep_reports.specs.Reports.{IsReport, IsUnclosed}
-use Rattle.hep_workers.specs.Faults.{IsSharedBy, IsWorkFault}
+use Rattle.hep_workers.specs.Faults.{IsWorkFault}
 use Rattle.hep_workers.specs.declared.fault.WorkFault.TheVariants.{Close}
 use Rattle.hep_workers.proofs.Reasons.{logs-made, of-run, of-workers, opening_for, unreported}
 use Rattle.hep_workers.proofs.floor.run_workers.Goals as goal
@@ -25,16 +25,10 @@ returns-in_err-close-clause-fault g c =
     let fault = c.in_err-close.field-0.0 in
     let logged = logs-made options.workers left.core.history _ c.in_ok-core.field-0.lists.items _ logs c.in_ok-logs.ensures c.history.ensures c.deref.ensures.value c.in_ok-core.ensures.left.logged in
     let run = of-run (opening_for c.args.image options) left.core c.args.image options refl c.in_ok-core.ensures.left.run in
-    let shared : IsSharedBy c.args.image options left.core = (left.places, c.in_ok-core.ensures.left.shared) in
+    let unclosed = subst (λ (u : Units). IsUnclosed fault left.core u options logs) c.in_ok-core.ensures.image c.in_err-close.ensures.unclosed in
     fault-so c.from_residual-in_err-close.result (Close fault) (λ f. IsWorkFault f c.args.image options) c.from_residual-in_err-close.ensures.1 (
+      unreported fault left.core c.args.image options logs run c.in_ok-core.ensures.left.over logged unclosed,
       c.in_ok-core.ensures.fits,
-      (
-        left.core,
-        logs,
-        run,
-        shared,
-        unreported fault left.core c.args.image options logs run logged (subst (λ (u : Units). IsUnclosed fault left.core u options logs) c.in_ok-core.ensures.image c.in_err-close.ensures.unclosed),
-      ),
     )
 
 pub returns-clause-report : goal.returns-clause-report

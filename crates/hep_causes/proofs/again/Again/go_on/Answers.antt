@@ -1,8 +1,8 @@
 use Rattle.std.proofs.Common.{List, ◌++◌, ap, ◌∙◌, arith, refl, replicate, subst, sym}
-use Rattle.hep_core.proofs.Going.{entries-many}
+use Rattle.hep_history.proofs.Going.{entries-many}
 use Rattle.hep_machine.specs.declared.event.Entry.{Entry}
 use Rattle.hep_machine.specs.Words.{schedule_of}
-use Rattle.hep_state.specs.Words.{IsMachineAfter, snapshot_of}
+use Rattle.hep_sites.specs.StateWords.{IsMachineAfter, snapshot_of}
 use Rattle.hep_causes.specs.Making.{made_by}
 use Rattle.hep_causes.proofs.Turning.{can-go, gone-along, gone-quietly}
 use Rattle.hep_causes.proofs.again.Again.go_on.Goals as goal

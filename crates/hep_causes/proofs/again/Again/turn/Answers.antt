@@ -1,12 +1,12 @@
 use Rattle.std.proofs.Common.{List, [], ◌∷◌, ◌++◌, ap, ◌∙◌, subst, sym, arith}
-use Rattle.hep_core.proofs.Histories.{schedule-stepped}
+use Rattle.hep_history.proofs.Histories.{schedule-stepped}
 use Rattle.hep_machine.specs.declared.event.Entry.{Entry}
 use Rattle.hep_machine.specs.Words.{schedule_of}
-use Rattle.hep_state.proofs.Histories.{after-history, turned-at, unturned-at}
-use Rattle.hep_state.proofs.Numbered.{length-stacks}
-use Rattle.hep_state.specs.declared.turn.TurnFault.{TurnFault}
-use Rattle.hep_state.specs.declared.turn.Turned.{Turned}
-use Rattle.hep_state.specs.Words.{HasTurned, IsMachineAfter, IsUnturned, snapshot_of}
+use Rattle.hep_sites.proofs.StateHistories.{after-history, turned-at, unturned-at}
+use Rattle.hep_sites.proofs.StateNumbered.{length-stacks}
+use Rattle.hep_sites.specs.StateTurnTurnFault.{TurnFault}
+use Rattle.hep_sites.specs.StateTurnTurned.{Turned}
+use Rattle.hep_sites.specs.StateWords.{HasTurned, IsMachineAfter, IsUnturned, snapshot_of}
 use Rattle.hep_causes.specs.Making.{made_by}
 use Rattle.hep_causes.proofs.Turning.{living-now, not-full, not-waiting, running-now, stepped}
 use Rattle.hep_causes.proofs.again.Again.turn.Goals as goal

@@ -2,11 +2,11 @@ use Rattle.std.proofs.Common.{◌≡◌, ◌≢◌, ◌<◌, ◌≤◌, ◌++◌
 use Rattle.hep_machine.specs.declared.event.Entry.{Entry}
 use Rattle.hep_machine.specs.Histories.{most_steps}
 use Rattle.hep_machine.specs.Words.{is_waiting, run, schedule_of, state_after}
-use Rattle.hep_state.specs.declared.machine.Machine.{Machine}
+use Rattle.hep_views.specs.StateMachineMachine.{Machine}
 use Rattle.hep_taking.specs.TicketId.{TicketId}
 use Rattle.hep_taking.specs.Segments.{SegmentValue}
-use Rattle.hep_state.specs.Words.{CanTurn, HasNoGap, HasTurned, IsItsTurn, IsMachineAfter, IsSameButTop, IsUnturned, LeavesAlone, LeavesOthers, LeavesRest, snapshot_of}
-use Rattle.hep_state.proofs.Beside.{beside-again, beside-top}
+use Rattle.hep_views.specs.StateWords.{CanTurn, HasNoGap, HasTurned, IsItsTurn, IsMachineAfter, IsSameButTop, IsUnturned, LeavesAlone, LeavesOthers, LeavesRest, snapshot_of}
+use Rattle.hep_views.proofs.StateBeside.{beside-again, beside-top}
 use Rattle.hep_taking.specs.Levels.{start_in}
 use Rattle.hep_taking.specs.OwnCells.{AreOwnCells}
 use Rattle.hep_taking.specs.Saved.{saved_in}
@@ -26,7 +26,7 @@ use Rattle.hep_core.proofs.Histories.{schedule-several}
 use Rattle.hep_core.proofs.Private.{further-after}
 use Rattle.hep_core.proofs.Committing.{AreTopsRunning, DependOnReads, IsSettledIn, tops-of, turns-of, whether-next}
 use Rattle.hep_core.proofs.Exits.{left-answer, left-invariant, left-room, made-answer, made-invariant, more-is, noted-after, popped, restored-after, restored-places, room-there, turn-there}
-use Rattle.hep_state.proofs.Histories.{still-after, turned-at, unturned-at}
+use Rattle.hep_views.proofs.StateHistories.{still-after, turned-at, unturned-at}
 use Rattle.hep_core.specs.Waking.{GoAlongTurn}
 use Rattle.hep_core.proofs.Kept.{AreSeen, in-arena, made-step, risen}
 use Rattle.hep_core.proofs.Returning.{not-good}

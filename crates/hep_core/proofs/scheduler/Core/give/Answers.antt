@@ -2,7 +2,7 @@ use Rattle.std.proofs.Common.{◌≡◌, ◌≢◌, ◌++◌, ◌+◌, ◌∷◌
 use Rattle.hep_machine.specs.declared.event.Entry.{Entry}
 use Rattle.hep_machine.specs.Words.{Units, living, state_after}
 use Rattle.hep_taking.specs.TicketId.{TicketId}
-use Rattle.hep_state.specs.declared.machine.Machine.{Machine}
+use Rattle.hep_views.specs.StateMachineMachine.{Machine}
 use Rattle.hep_taking.specs.OwnCells.{AreOwnCells}
 use Rattle.hep_core.specs.Commits.{IsGivenTo, core_after_ticket}
 use Rattle.hep_core.specs.Invariant.{AreLiving, CoreInvariant, core_value, placed_value}
@@ -12,7 +12,7 @@ use Rattle.hep_core.proofs.Behind.{left-kept, left-value, roll-same, settled-roo
 use Rattle.hep_core.proofs.Committing.{IsSettledIn, tops-of, where-now}
 use Rattle.hep_core.proofs.Kept.{AreSeen}
 use Rattle.hep_core.proofs.Outs.{out-more}
-use Rattle.hep_state.proofs.Unchanged.{on-err}
+use Rattle.hep_views.proofs.StateUnchanged.{on-err}
 use Rattle.hep_taking.specs.Levels.{start_in}
 use Rattle.hep_core.specs.Value.{state_of}
 use Rattle.hep_core.proofs.Underway.{out-kept, settled-by, turn-in}

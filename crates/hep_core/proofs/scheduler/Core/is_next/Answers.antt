@@ -6,7 +6,7 @@ use Rattle.hep_core.proofs.Behind.{left-kept, roll-same, settled-room}
 use Rattle.hep_core.proofs.Committing.{IsSettledIn, tops-of, whether-next}
 use Rattle.hep_core.proofs.Underway.{known-in, left-placed, made-offered, offered-in, settled-by, turn-in}
 use Rattle.hep_taking.specs.Segments.{SegmentValue}
-use Rattle.hep_state.specs.Words.{IsItsTurn}
+use Rattle.hep_views.specs.StateWords.{IsItsTurn}
 use Rattle.hep_taking.specs.OwnCells.{AreOwnCells}
 use Rattle.hep_core.proofs.scheduler.Core.is_next.Goals as goal
 

@@ -8,9 +8,9 @@ use Rattle.hep_taking.specs.TicketId.{TicketId}
 use Rattle.hep_taking.specs.Levels.{start_in}
 use Rattle.hep_taking.specs.OwnCells.{AreOwnCells}
 use Rattle.hep_taking.specs.Turning.{IsAsBefore}
-use Rattle.hep_state.specs.declared.machine.Machine.{Machine}
-use Rattle.hep_state.specs.Words.{IsMachineAfter, LivesOn, snapshot_of}
-use Rattle.hep_state.proofs.Beside.{beside-again}
+use Rattle.hep_views.specs.StateMachineMachine.{Machine}
+use Rattle.hep_views.specs.StateWords.{IsMachineAfter, LivesOn, snapshot_of}
+use Rattle.hep_views.proofs.StateBeside.{beside-again}
 use Rattle.hep_core.specs.Commits.{HasMovedBehind, HasSteps, LeavesNext, core_after_return}
 use Rattle.hep_core.specs.Invariant.{CoreInvariant, core_value, placed_value}
 use Rattle.hep_core.specs.declared.scheduler.Core.TheInside.{Inside}

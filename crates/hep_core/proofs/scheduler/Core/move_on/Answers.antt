@@ -6,8 +6,8 @@ use Rattle.hep_blocked.specs.Rolls.{want_of}
 use Rattle.hep_entries.specs.Entries.{Kept}
 use Rattle.hep_taking.specs.UnitTables.{AreTables}
 use Rattle.hep_taking.specs.Going.{HasNoMoveAhead, none}
-use Rattle.hep_state.specs.Words.{LeavesOthers, snapshot_of}
-use Rattle.hep_state.proofs.Unchanged.{on-err}
+use Rattle.hep_views.specs.StateWords.{LeavesOthers, snapshot_of}
+use Rattle.hep_views.proofs.StateUnchanged.{on-err}
 use Rattle.hep_core.specs.Invariant.{CoreInvariant, core_value, placed_value}
 use Rattle.hep_core.specs.declared.scheduler.Core.TheInside.{Inside}
 use Rattle.hep_core.specs.Going.{AreMoves, IsAtRest, entries_along}

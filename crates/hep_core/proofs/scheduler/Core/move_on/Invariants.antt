@@ -1,5 +1,5 @@
 use Rattle.std.proofs.Common.{◌≡◌, ◌+◌, ◌-◌, ◌^◌, ◌<◌, ◌≤◌, None, false, length}
-use Rattle.hep_state.specs.Words.{HasLevels, snapshot_of}
+use Rattle.hep_views.specs.StateWords.{HasLevels, snapshot_of}
 use Rattle.hep_core.specs.Going.{AreMoves}
 use Rattle.hep_core.specs.Invariant.{CoreInvariant, core_value}
 use Rattle.hep_core.specs.Places.{places_of}

@@ -5,8 +5,8 @@ use Rattle.hep_taking.specs.UnitTables.{AreTables}
 use Rattle.hep_taking.specs.Going.{HasGone, MakesMoves}
 use Rattle.hep_taking.proofs.Runs.{turns-are}
 use Rattle.hep_entries.specs.Entries.{Kept}
-use Rattle.hep_state.specs.declared.machine.Machine.{Machine}
-use Rattle.hep_state.specs.Words.{HasLevels, IsMachineAfter, snapshot_of}
+use Rattle.hep_views.specs.StateMachineMachine.{Machine}
+use Rattle.hep_views.specs.StateWords.{HasLevels, IsMachineAfter, snapshot_of}
 use Rattle.hep_core.specs.Commits.{LeavesNext}
 use Rattle.hep_core.specs.Going.{AreChoices, entries_along}
 use Rattle.hep_core.specs.Invariant.{CoreInvariant, core_value, placed_value}

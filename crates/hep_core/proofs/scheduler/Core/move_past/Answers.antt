@@ -2,8 +2,8 @@ use Rattle.std.proofs.Common.{◌≡◌, ◌≤◌, ◌+◌, None, false, true, 
 use Rattle.hep_machine.specs.Words.{schedule_of}
 use Rattle.hep_unwatched.specs.Watches.{PassesFrom}
 use Rattle.hep_taking.specs.UnitTables.{AreTables}
-use Rattle.hep_state.specs.Words.{snapshot_of}
-use Rattle.hep_state.proofs.Unchanged.{on-err}
+use Rattle.hep_views.specs.StateWords.{snapshot_of}
+use Rattle.hep_views.proofs.StateUnchanged.{on-err}
 use Rattle.hep_core.specs.Going.{begun, entries_along}
 use Rattle.hep_core.specs.Invariant.{CoreInvariant, core_value, placed_value}
 use Rattle.hep_core.specs.declared.scheduler.Core.TheInside.{Inside}

@@ -3,7 +3,7 @@ use Rattle.hep_machine.specs.Words.{IsLegal, is_held, is_number_among, schedule_
 use Rattle.hep_blocked.specs.Listing.{AreListed}
 use Rattle.hep_blocked.specs.Rolls.{want_of}
 use Rattle.hep_blocked.proofs.Keeping.{listed-alike}
-use Rattle.hep_state.specs.Words.{IsMachineAfter, snapshot_of}
+use Rattle.hep_views.specs.StateWords.{IsMachineAfter, snapshot_of}
 use Rattle.hep_views.specs.Seen.{machine_view}
 use Rattle.hep_core.specs.Tickets.{is_out}
 use Rattle.hep_core.specs.Invariant.{AreFew}

@@ -1,5 +1,5 @@
 use Rattle.std.proofs.Common.{◌∙◌}
-use Rattle.hep_state.specs.Words.{snapshot_of}
+use Rattle.hep_views.specs.StateWords.{snapshot_of}
 use Rattle.hep_core.proofs.Kept.{records-are}
 use Rattle.hep_core.proofs.scheduler.Core.output.Goals as goal
 

@@ -1,7 +1,7 @@
 use Rattle.std.proofs.Common.{◌≡◌, ◌∙◌, None, true, rules, sym, subst}
 use Rattle.hep_machine.specs.Words.{schedule_of}
 use Rattle.hep_taking.specs.UnitTables.{AreTables}
-use Rattle.hep_state.specs.Words.{snapshot_of}
+use Rattle.hep_views.specs.StateWords.{snapshot_of}
 use Rattle.hep_core.specs.Value.{IsStop}
 use Rattle.hep_core.proofs.Kept.{halted-is}
 use Rattle.hep_core.proofs.scheduler.Core.rests.Goals as goal

@@ -1,5 +1,4 @@
 use Rattle.std.proofs.Common.{◌≡◌, ◌≤◌, ◌+◌, ◌*◌, ℕ, List, ◌++◌, Some, true, false, length, replicate, refl, sym, ap, ◌∙◌, subst, arith}
-use Rattle.std.proofs.lemmas.List.{append-nil}
 use Rattle.hep_machine.specs.declared.event.Entry.{Entry}
 use Rattle.hep_machine.specs.Histories.{most_steps}
 use Rattle.hep_machine.specs.Words.{last_process, next_of_ready, schedule_of, state_after, view_of, is_held}
@@ -7,24 +6,25 @@ use Rattle.hep_blocked.specs.Rolls.{want_of}
 use Rattle.hep_entries.specs.Entries.{Kept}
 use Rattle.hep_taking.specs.UnitTables.{AreTables}
 use Rattle.hep_taking.specs.Going.{HasGone}
-use Rattle.hep_taking.specs.Levels.{start_in}
 use Rattle.hep_taking.specs.OwnCells.{AreOwnCells}
 use Rattle.hep_taking.specs.Turning.{IsAsBefore}
 use Rattle.hep_taking.proofs.Runs.{turns-are}
-use Rattle.hep_state.specs.declared.machine.Machine.{Machine}
-use Rattle.hep_state.specs.Words.{IsMachineAfter, LivesOn, snapshot_of}
-use Rattle.hep_state.proofs.Beside.{beside-again}
+use Rattle.hep_taking.proofs.Taken.{AreTurnsIn}
+use Rattle.hep_views.specs.StateMachineMachine.{Machine}
+use Rattle.hep_views.specs.StateWords.{IsMachineAfter, LivesOn, snapshot_of}
+use Rattle.hep_views.proofs.StateBeside.{beside-again}
 use Rattle.hep_core.specs.Commits.{AreTurnsAtOnce, LeavesNext, most_tickets}
 use Rattle.hep_core.specs.Invariant.{CoreInvariant, core_value, placed_value}
 use Rattle.hep_core.specs.declared.scheduler.Core.TheInside.{Inside}
-use Rattle.hep_core.specs.Places.{IsWhere, Placed, places_of}
+use Rattle.hep_core.specs.Places.{Placed, places_of}
 use Rattle.hep_core.specs.Value.{CoreValue, IsFree, IsStop, free_of, next_ready_of, state_of}
 use Rattle.hep_core.specs.Waking.{HasRoomLeft}
 use Rattle.hep_core.proofs.Beside.{AreReadStill, entry-next, next-between}
 use Rattle.hep_core.proofs.Behind.{left-kept, roll-same}
 use Rattle.hep_core.proofs.Chain.{CanRun, core_at, run-through, turns-made}
-use Rattle.hep_core.proofs.Committing.{AreTopsRunning, DependOnReads, IsSettledIn, tops-of, where-now}
-use Rattle.hep_core.proofs.Kept.{AreSeen, activations-are, view-is}
+use Rattle.hep_core.proofs.Committing.{DependOnReads, IsSettledIn, turns-of}
+use Rattle.hep_core.proofs.Histories.{schedule-many}
+use Rattle.hep_core.proofs.Kept.{AreSeen, view-is}
 use Rattle.hep_core.proofs.Underway.{left-placed, settled-by, turn-in}
 use Rattle.hep_core.proofs.scheduler.Core.run_at_once.Goals.{After-run_in_place}
 use Rattle.hep_core.proofs.scheduler.Core.run_at_once.Goals as goal
@@ -111,20 +111,14 @@ module _ (c : After-run_in_place) where
     few : 1023 ≤ most_steps
     few = omega arith
 
-    tops : AreTopsRunning i.image
-    tops = tops-of i.image _ c.tops_are_running.ensures.running c.is_runnable.ensures.accepted c.is_runnable.ensures.main
-
     depend : DependOnReads
     depend = record { kept = c.segments_depend_on_reads.ensures.kept; made = c.segments_depend_on_reads.ensures.made }
 
-    at : IsWhere (placed_value i) p (start_in is.turn.living)
-    at = where-now i p c.settle.new.self is tops
+    laws : AreTurnsIn i.image
+    laws = turns-of i.image _ c.private_steps_are_turns.ensures c.is_runnable.ensures.accepted c.is_runnable.ensures.main
 
     gone-so : (after : List ℕ) × HasGone i.image i.cells p (schedule_of h) (n * 1023) after × IsMachineAfter i.image i.cells after m
     gone-so = c.run_in_place.ensures.gone ran i.cells (schedule_of h) is.after
-
-    abbrev after : List ℕ
-    after = gone-so.0
 
     lives : LivesOn p 0 c.settle.new.self m
     lives = c.run_in_place.ensures.lives ran
@@ -135,7 +129,7 @@ module _ (c : After-run_in_place) where
     next : next_ready_of (core_value i) ≡ Some p
     next = subst (λ (v : Placed). next_ready_of v.core ≡ Some p) (sym c.self.view_is) c.requires.next
 
-    can : CanRun c.lists_go_along_with_steps.ensures i.image i.cells i.limit p (want_of i.roster.waiting) i.roster.ready i.out.items free.2 1022 few h n after
+    can : CanRun c.lists_go_along_with_steps.ensures i.image i.cells i.limit p (want_of i.roster.waiting) i.roster.ready i.out.items free.2 1022 few h n
     can =
         let k = c.self.invariant in
         record {
@@ -144,29 +138,28 @@ module _ (c : After-run_in_place) where
           lives = free.1;
           last = last;
           next = ap (λ q. next_of_ready q (free_of (core_value i))) (sym last) ∙ next;
-          gone = gone-so.1;
-          activations = omega (arith, gone-so.2.after.shows.activations, lives.counted, activations-are i.image i.cells h (snapshot_of c.settle.new.self) is.after.after);
           room = room;
-          start = start_in is.turn.living;
-          place = at.0;
-          here = at.2;
+          machine = snapshot_of c.settle.new.self;
+          there = is.after.after;
+          levels = is.turn.living;
           are = c.run_in_place.ensures.private ran is.turn.living;
         }
 
-    end : CanRun c.lists_go_along_with_steps.ensures i.image i.cells i.limit p (want_of i.roster.waiting) i.roster.ready i.out.items free.2 1022 few (h ++ replicate n entry) 0 after
-    end = run-through c.lists_go_along_with_steps.ensures i.image i.cells i.limit p (want_of i.roster.waiting) i.roster.ready i.out.items free.2 1022 few h n after can
+    end : CanRun c.lists_go_along_with_steps.ensures i.image i.cells i.limit p (want_of i.roster.waiting) i.roster.ready i.out.items free.2 1022 few (h ++ replicate n entry) 0
+    end = run-through c.lists_go_along_with_steps.ensures i.image i.cells i.limit p (want_of i.roster.waiting) i.roster.ready i.out.items free.2 1022 few laws is.after.few h n can
 
     entries : h ++ replicate n entry ≡ history.items
     entries = sym (noted ∙ ap (λ es. es ++ replicate n entry) c.reserve.ensures.items)
 
-    end-now : CanRun c.lists_go_along_with_steps.ensures i.image i.cells i.limit p (want_of i.roster.waiting) i.roster.ready i.out.items free.2 1022 few history.items 0 after
-    end-now = subst (λ es. CanRun c.lists_go_along_with_steps.ensures i.image i.cells i.limit p (want_of i.roster.waiting) i.roster.ready i.out.items free.2 1022 few es 0 after) entries end
+    end-now : CanRun c.lists_go_along_with_steps.ensures i.image i.cells i.limit p (want_of i.roster.waiting) i.roster.ready i.out.items free.2 1022 few history.items 0
+    end-now = subst (λ es. CanRun c.lists_go_along_with_steps.ensures i.image i.cells i.limit p (want_of i.roster.waiting) i.roster.ready i.out.items free.2 1022 few es 0) entries end
 
-    turns-now : after ≡ schedule_of history.items
-    turns-now = turns-are i.image i.cells p (schedule_of history.items) 0 after end-now.gone ∙ append-nil (schedule_of history.items)
+    turns-now : schedule_of history.items ≡ schedule_of h ++ replicate (n * 1023) p
+    turns-now = ap schedule_of (sym entries) ∙ schedule-many h p 1023 n
 
     after-it : IsMachineAfter i.image i.cells (schedule_of history.items) m
-    after-it = subst (λ ps. IsMachineAfter i.image i.cells ps m) turns-now gone-so.2
+    after-it =
+        subst (λ ps. IsMachineAfter i.image i.cells ps m) (turns-are i.image i.cells p (schedule_of h) (n * 1023) gone-so.0 gone-so.1 ∙ sym turns-now) gone-so.2
 
     made-same : m.made ≡ i.machine.made
     made-same = lives.made ∙ is.made
@@ -200,20 +193,17 @@ module _ (c : After-run_in_place) where
         λ j. record (core_value i) { history = entries j; stop = sym free.0.0 j; view = view j; given = sym count j }
 
     made : AreTurnsAtOnce p n c.args.self.now (placed_value now)
-    unfolding can at
+    unfolding can
     made =
-        let there = turns-made c.lists_go_along_with_steps.ensures i.image i.cells i.limit p (want_of i.roster.waiting) i.roster.ready i.out.items free.2 1022 few depend refl h n after can c.requires.some i.given left
-        (places_of i.image (snapshot_of i.machine)) (places_of i.image (snapshot_of m)) at.1 in
-        subst (λ (v : Placed). AreTurnsAtOnce p n v (placed_value now)) c.self.view_is (
-        subst (λ (core : CoreValue). AreTurnsAtOnce p n (record { core = core; places = places_of i.image (snapshot_of i.machine) }) (placed_value now)) begins (
-        subst (λ (core : CoreValue). AreTurnsAtOnce p n (record { core = at_core h i.given; places = places_of i.image (snapshot_of i.machine) }) (record { core = core; places = places_of i.image (snapshot_of m) })) ends there))
+        let there = turns-made c.lists_go_along_with_steps.ensures i.image i.cells i.limit p (want_of i.roster.waiting) i.roster.ready i.out.items free.2 1022 few laws is.after.few depend refl h n can c.requires.some i.given left
+        (placed_value now) (sym ends) (record { machine = snapshot_of m; after = after-it.after; places = refl }) in
+        subst (λ (v : Placed). AreTurnsAtOnce p n v (placed_value now)) ((λ j. record (placed_value i) { core = begins j; places = is.places j }) ∙ c.self.view_is) there
 
     leaves : LeavesNext p c.args.self.now (placed_value now)
     leaves =
         let law : AreReadStill = c.others_leave_what_is_read.ensures in
-        let turns = sym turns-now ∙ turns-are i.image i.cells p (schedule_of h) (n * 1023) after gone-so.1 in
         let stay = beside-again p (snapshot_of i.machine) (snapshot_of c.settle.new.self) (snapshot_of m) is.others lives.others in
-        let rest = entry-next law depend i c.self.invariant free.0 p (n * 1023) history.items turns m after-it stay (core_value now) refl in
+        let rest = entry-next law depend i c.self.invariant free.0 p (n * 1023) history.items turns-now m after-it stay (core_value now) refl in
         next-between p c.args.self.now (placed_value i) (placed_value now) (placed_value now) (ap (λ (v : Placed). v.places) c.self.view_is) (ap (λ (v : Placed). v.core.program) c.self.view_is)
         (ap (λ (v : Placed). state_of v.core) c.self.view_is) rest refl refl refl refl
 

@@ -1,8 +1,8 @@
 use Rattle.std.proofs.Common.{◌≡◌, refl, ap, ◌∙◌, subst, sym}
 use Rattle.hep_machine.specs.Words.{Units, unit_at}
-use Rattle.hep_image.specs.Private.{private_cells}
-use Rattle.hep_private.specs.Own.{begun}
-use Rattle.hep_step.specs.Simulation.{unit_code}
+use Rattle.hep_views.specs.ImagePrivate.{private_cells}
+use Rattle.hep_taking.specs.PrivateOwn.{begun}
+use Rattle.hep_views.specs.StepSimulation.{unit_code}
 use Rattle.hep_taking.specs.Stretches.{HasNoPrivate}
 use Rattle.hep_core.specs.Commits.{StandsAlone}
 use Rattle.hep_core.specs.Places.{Placed}

@@ -3,20 +3,20 @@ use Rattle.hep_machine.specs.declared.event.Entry.{Entry}
 use Rattle.hep_entries.specs.Entries.{Kept}
 use Rattle.hep_machine.specs.Words.{Units, is_number_among, living, run, schedule_of, state_after, progress_after, progress_after_step, State, is_waiting, step}
 use Rattle.hep_blocked.specs.Listing.{AreListed, IsBlocked, IsReadyNoMore, WaitsNow, is_noted}
-use Rattle.hep_purging.specs.Purged.{have_cell}
+use Rattle.hep_views.specs.PurgingPurged.{have_cell}
 use Rattle.hep_blocked.specs.Rolls.{KeepsRoll, Roll, want_of}
 use Rattle.hep_blocked.proofs.Keeping.{living-enrolled}
-use Rattle.hep_state.specs.declared.turn.Turned.{Turned}
-use Rattle.hep_state.specs.declared.turn.Turned.TheVariants.{Stepped, Purged, Waits}
-use Rattle.hep_state.specs.Words.{HasTurned, IsAfter, IsMachineAfter, IsSameButTop, KeepsRollFor, LeavesOthers, LeavesRest, snapshot_of, IsUnturned}
-use Rattle.hep_state.proofs.Unchanged.{on-err}
+use Rattle.hep_views.specs.StateTurnTurned.{Turned}
+use Rattle.hep_views.specs.StateTurnTurned.TheVariants.{Stepped, Purged, Waits}
+use Rattle.hep_views.specs.StateWords.{HasTurned, IsAfter, IsMachineAfter, IsSameButTop, KeepsRollFor, LeavesOthers, LeavesRest, snapshot_of, IsUnturned}
+use Rattle.hep_views.proofs.StateUnchanged.{on-err}
 use Rattle.hep_core.specs.Places.{places_of}
 use Rattle.hep_core.proofs.Settled.{places-same}
-use Rattle.hep_state.proofs.Histories.{after-history, still-after, turned-at, unturned-at}
-use Rattle.hep_state.proofs.Numbered.{length-stacks}
+use Rattle.hep_views.proofs.StateHistories.{after-history, still-after, turned-at, unturned-at}
+use Rattle.hep_views.proofs.StateNumbered.{length-stacks}
 use Rattle.hep_core.specs.Invariant.{CoreInvariant, core_value, placed_value}
 use Rattle.hep_core.specs.declared.scheduler.Core.TheInside.{Inside}
-use Rattle.hep_state.specs.declared.machine.Machine.{Machine}
+use Rattle.hep_views.specs.StateMachineMachine.{Machine}
 use Rattle.hep_views.specs.Seen.{machine_view}
 use Rattle.hep_core.specs.Tickets.{is_out}
 use Rattle.hep_core.specs.Commits.{LeavesNext}

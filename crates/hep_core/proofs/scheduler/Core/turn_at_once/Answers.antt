@@ -2,7 +2,7 @@ use Rattle.std.proofs.Common.{◌≡◌, ◌≢◌, ◌∙◌, ◌<◌, ◌+◌,
 use Rattle.hep_machine.specs.Words.{living}
 use Rattle.hep_core.specs.Commits.{HasMovedAtOnce, IsTurnAtOnce, most_tickets}
 use Rattle.hep_core.specs.Tickets.{is_out}
-use Rattle.hep_core.specs.Places.{Placed, with_core}
+use Rattle.hep_core.specs.Places.{ArePlaces, Placed, with_core}
 use Rattle.hep_core.specs.Value.{HasNoStop, next_ready_of, state_of}
 use Rattle.hep_core.proofs.AtOnce.{at-once, behind-at-once, moved-given}
 use Rattle.hep_core.proofs.Beside.{chosen-good, good-itself, next-between}
@@ -10,10 +10,10 @@ use Rattle.hep_core.proofs.Kept.{some-of}
 use Rattle.hep_core.proofs.scheduler.Core.turn_at_once.Goals as goal
 
 by-way : (old mid new : Placed) (p n : ℕ) → HasNoStop old.core → living (state_of old.core) p ≢ None → is_out p old.core.out ≡ false → old.core.given < most_tickets → next_ready_of old.core ≡ Some p
-    → new ≡ with_core mid (record mid.core { given = mid.core.given + 1 }) → HasMovedAtOnce old p n mid → IsTurnAtOnce old p n new
-by-way old mid new p n going lives home left next same (inl (one, alone, choices)) =
-    subst (λ k. IsTurnAtOnce old p k new) (sym one) (at-once old mid new p going lives home left next same alone choices)
-by-way old mid new p n going lives home left next same (inr (room, moved)) = behind-at-once old mid new p going lives home left next same n room moved
+    → new ≡ with_core mid (record mid.core { given = mid.core.given + 1 }) → ArePlaces new → HasMovedAtOnce old p n mid → IsTurnAtOnce old p n new
+by-way old mid new p n going lives home left next same placed (inl (one, alone, choices)) =
+    subst (λ k. IsTurnAtOnce old p k new) (sym one) (at-once old mid new p going lives home left next same placed alone choices)
+by-way old mid new p n going lives home left next same placed (inr (room, moved)) = behind-at-once old mid new p going lives home left next same placed n room moved
 
 -- what was looked at before
 pub returns-in-Some-clause-kept : goal.returns-in-Some-clause-kept
@@ -31,7 +31,7 @@ pub returns-clause-made : goal.returns-clause-made
 returns-clause-made c =
     by-way c.args.self.now c.move_at_once-steps.new.self c.count_ticket.new.self c.in_ok-p.p c.move_at_once-steps.result c.in_default.ensures.none
     (some-of (living (state_of c.args.self.now.core) c.in_ok-p.p) (sym c.lives.ensures ∙ c.if-not-lives.false)) (sym c.is_out.ensures ∙ c.if-is_out.false)
-    (omega (arith, c.given.ensures, c.given.type_inv, c.if-given-eq18446744073709551615.false)) (sym c.next_ready.ensures ∙ c.in_ok-p.was) c.count_ticket.ensures (c.move_at_once-steps.ensures.made (omega (arith, c.if-steps-eq0.false)))
+    (omega (arith, c.given.ensures, c.given.type_inv, c.if-given-eq18446744073709551615.false)) (sym c.next_ready.ensures ∙ c.in_ok-p.was) c.count_ticket.ensures c.headline.ensures.placed (c.move_at_once-steps.ensures.made (omega (arith, c.if-steps-eq0.false)))
 
 pub returns-clause-kept : goal.returns-clause-kept
 returns-clause-kept c =

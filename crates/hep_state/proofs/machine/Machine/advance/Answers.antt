@@ -1,23 +1,23 @@
 use Rattle.std.proofs.Common.{◌≡◌, ℕ, List, Option, ◌∷◌, refl, sym, ap, ◌∙◌, subst, vec_capacity}
 use Rattle.std.proofs.lemmas.Result.{IfOk-weaker, on_err_weaker}
 use Rattle.hep_machine.specs.Words.{Value}
-use Rattle.hep_proc.specs.Nodes.{nodes_of}
+use Rattle.hep_tops.specs.ProcNodes.{nodes_of}
 use Rattle.hep_cells.specs.declared.want.Want.{Want}
-use Rattle.hep_step.specs.declared.effect.Effect.{Effect}
-use Rattle.hep_step.specs.declared.effect.Effect.TheVariants.{Moved, Printed, Failed, Waits, Returned, Answered, Stopped, LeftOut}
-use Rattle.hep_step.specs.Changes.{changed_at}
-use Rattle.hep_step.specs.Effects as effects
-use Rattle.hep_step.specs.Effects.{effect_at}
-use Rattle.hep_step.specs.Performed as performed
-use Rattle.hep_step.specs.Performed.{changed_in}
-use Rattle.hep_step.specs.Simulation.{unit_arrays, unit_code}
-use Rattle.hep_proc.specs.declared.frames.Frames.{Frames}
+use Rattle.hep_tops.specs.StepEffectEffect.{Effect}
+use Rattle.hep_tops.specs.StepEffectEffect.TheVariants.{Moved, Printed, Failed, Waits, Returned, Answered, Stopped, LeftOut}
+use Rattle.hep_tops.specs.StepChanges.{changed_at}
+use Rattle.hep_tops.specs.StepEffects as effects
+use Rattle.hep_tops.specs.StepEffects.{effect_at}
+use Rattle.hep_tops.specs.StepPerformed as performed
+use Rattle.hep_tops.specs.StepPerformed.{changed_in}
+use Rattle.hep_tops.specs.StepSimulation.{unit_arrays, unit_code}
+use Rattle.hep_tops.specs.ProcFramesFrames.{Frames}
 use Rattle.std.specs.Vec.{with_item}
-use Rattle.hep_proc.specs.declared.process.Local.{Local}
+use Rattle.hep_tops.specs.ProcProcessLocal.{Local}
 use Rattle.hep_state.specs.declared.machine.Machine.{Machine}
-use Rattle.hep_proc.specs.declared.process.Process.{Process}
-use Rattle.hep_proc.specs.Stacks.{Stack, stack_of, stack_with}
-use Rattle.hep_proc.proofs.Levels.{last-there}
+use Rattle.hep_tops.specs.ProcProcessProcess.{Process}
+use Rattle.hep_tops.specs.ProcStacks.{Stack, stack_of, stack_with}
+use Rattle.hep_tops.proofs.ProcLevels.{last-there}
 use Rattle.hep_state.specs.Words.{AreNumbered, Changes, node_under, Snapshot, snapshot_of, IsLeft, StaysWaiting, turn_with, with_contents, with_stack}
 use Rattle.hep_state.proofs.Beside.{beside-set}
 use Rattle.hep_state.proofs.Moved.{top-node}

@@ -1,14 +1,14 @@
 use Rattle.std.proofs.Common.{◌≡◌, [], Result, sym, ◌∙◌, subst, vec_capacity}
 use Rattle.hep_machine.specs.Words.{Value}
 use Rattle.hep_machine.specs.declared.event.Kind.{Kind}
-use Rattle.hep_image.specs.Finding.{address_of, cells_in}
-use Rattle.hep_proc.specs.Nodes.{nodes_of}
-use Rattle.hep_proc.specs.declared.process.Local.{Local}
-use Rattle.hep_proc.proofs.Levels.{last-there}
-use Rattle.hep_step.specs.Cells.{HasFrame}
-use Rattle.hep_step.specs.Effects.{effect_of_answer, value_found}
-use Rattle.hep_step.specs.Ready.{IsAheadReady, IsReady, IsVariableReady, frame_in_arena}
-use Rattle.hep_step.specs.Simulation.{unit_arrays, unit_code}
+use Rattle.hep_tops.specs.ImageFinding.{address_of, cells_in}
+use Rattle.hep_tops.specs.ProcNodes.{nodes_of}
+use Rattle.hep_tops.specs.ProcProcessLocal.{Local}
+use Rattle.hep_tops.proofs.ProcLevels.{last-there}
+use Rattle.hep_tops.specs.StepCells.{HasFrame}
+use Rattle.hep_tops.specs.StepEffects.{effect_of_answer, value_found}
+use Rattle.hep_tops.specs.StepReady.{IsAheadReady, IsReady, IsVariableReady, frame_in_arena}
+use Rattle.hep_tops.specs.StepSimulation.{unit_arrays, unit_code}
 use Rattle.hep_state.specs.Words.{IsPlace, IsToEnd, IsToEndBy, frame_under, snapshot_of, turn_with}
 use Rattle.hep_state.proofs.Moved.{top-node}
 use Rattle.hep_state.proofs.Processes.{process-at}

@@ -1,19 +1,19 @@
 use Rattle.std.proofs.Common.{◌≡◌, ℕ, ◌+◌, ◌≤◌, true, List, length, Option, Some, if◌then◌else◌, refl, sym, ap, ◌∙◌, subst, arith, eq-eqb}
 use Rattle.hep_machine.specs.Words.{Units, unit_at, Layout, common_cells, frame_of, is_held, lowest_gap, Activation, Bounds, State, scope_of, frame_cells}
-use Rattle.hep_layout.specs.Words.{FrameNode, Nodes, is_stacked, new_node, with_node}
-use Rattle.hep_image.specs.Bound.{AreKept}
+use Rattle.hep_tops.specs.LayoutWords.{FrameNode, Nodes, is_stacked, new_node, with_node}
+use Rattle.hep_tops.specs.ImageBound.{AreKept}
 use Rattle.slab.specs.Slab.{ContainsKey}
-use Rattle.hep_proc.specs.Nodes.{nodes_of}
-use Rattle.hep_proc.proofs.Slabs.{some-value}
-use Rattle.hep_step.specs.Shapes.{AreShapesOf}
+use Rattle.hep_tops.specs.ProcNodes.{nodes_of}
+use Rattle.hep_tops.proofs.ProcSlabs.{some-value}
+use Rattle.hep_tops.specs.StepShapes.{AreShapesOf}
 use Rattle.hep_binding.specs.Calling.{ArePassed, CallOf, IsWritten, frames_with, layout_with, state_begun, unit_begun}
 use Rattle.hep_binding.proofs.Begun.{activation-is, long, unit-is}
 use Rattle.hep_binding.proofs.Calls.{made-begun, made-stacks, made-store}
 use Rattle.hep_binding.specs.Shapes.{AreShaping, cells_of_shapes, cells_to_bounds_of}
 use Rattle.hep_binding.proofs.Nodes.{node-new}
-use Rattle.hep_step.specs.declared.way.Way.{Way}
-use Rattle.hep_step.specs.Calls.{is_creation}
-use Rattle.hep_proc.specs.declared.process.Local.{Local}
+use Rattle.hep_tops.specs.StepWayWay.{Way}
+use Rattle.hep_tops.specs.StepCalls.{is_creation}
+use Rattle.hep_tops.specs.ProcProcessLocal.{Local}
 use Rattle.hep_state.specs.Words.{IsMaking, Makes, TurnOf, call_in, frames_before, node_under, snapshot_of, state_before, state_made, turn_of}
 use Rattle.hep_state.proofs.Moved.{kept-now, top-activation, top-node}
 use Rattle.hep_state.proofs.Begun.{IsBegunIn, begun-kept, passed-many, shapes-inside}

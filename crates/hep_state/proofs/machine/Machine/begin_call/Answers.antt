@@ -2,7 +2,7 @@ use Rattle.std.proofs.Common.{◌≡◌, ◌<◌, ◌≤◌, ℕ, List, arith, s
 use Rattle.hep_machine.specs.Words.{Units}
 use Rattle.hep_arena.specs.Holes.{first_fit}
 use Rattle.hep_code.specs.Words.{deepest}
-use Rattle.hep_step.specs.Simulation.{unit_code}
+use Rattle.hep_tops.specs.StepSimulation.{unit_code}
 use Rattle.hep_state.specs.declared.calling.Called.{Called}
 use Rattle.hep_state.specs.declared.machine.Machine.{Machine}
 use Rattle.hep_state.specs.Words.{HaveRoom, HoldsInTurn, IsMachineAfter, IsMaking, IsUnit, Makes, ShowsSame, Snapshot, snapshot_of, turn_of}

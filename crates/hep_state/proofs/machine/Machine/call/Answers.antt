@@ -2,11 +2,11 @@ use Rattle.std.proofs.Common.{◌≡◌, ◌≤◌, Bool, false, Some, [], ◌�
 use Rattle.std.specs.Vec.{with_item}
 use Rattle.hep_machine.specs.Words.{numbered, with_numbered}
 use Rattle.hep_code.specs.Words.{deepest}
-use Rattle.hep_proc.specs.Nodes.{nodes_of}
-use Rattle.hep_step.specs.Simulation.{unit_code}
-use Rattle.hep_proc.specs.declared.process.Local.{Local}
-use Rattle.hep_proc.specs.Stacks.{Stack, stack_with}
-use Rattle.hep_proc.proofs.Levels.{operands-are}
+use Rattle.hep_tops.specs.ProcNodes.{nodes_of}
+use Rattle.hep_tops.specs.StepSimulation.{unit_code}
+use Rattle.hep_tops.specs.ProcProcessLocal.{Local}
+use Rattle.hep_tops.specs.ProcStacks.{Stack, stack_with}
+use Rattle.hep_tops.proofs.ProcLevels.{operands-are}
 use Rattle.hep_state.specs.declared.machine.Machine.{Machine}
 use Rattle.hep_state.specs.Words.{HasMadeTurn, entered_level, snapshot_made_by, snapshot_of, stacks_of, turn_of}
 use Rattle.hep_state.proofs.Begun.{made-shown}

@@ -1,13 +1,13 @@
 use Rattle.std.proofs.Common.{true, ◌≡◌, ◌+◌, ◌≤◌, List, [], ◌∷◌, ◌++◌, length, refl, reverse, sym, ap, ◌∙◌, subst, arith, slice_set, vec_capacity, vec_len}
 use Rattle.hep_machine.specs.Words.{with_numbered}
 use Rattle.hep_code.specs.Words.{deepest}
-use Rattle.hep_proc.specs.Nodes.{nodes_of}
-use Rattle.hep_step.specs.Simulation.{unit_code}
-use Rattle.hep_step.specs.declared.way.Way.TheVariants.{Creates}
-use Rattle.hep_proc.specs.declared.process.Local.{Local}
+use Rattle.hep_tops.specs.ProcNodes.{nodes_of}
+use Rattle.hep_tops.specs.StepSimulation.{unit_code}
+use Rattle.hep_tops.specs.StepWayWay.TheVariants.{Creates}
+use Rattle.hep_tops.specs.ProcProcessLocal.{Local}
 use Rattle.hep_state.specs.declared.machine.Machine.{Machine}
-use Rattle.hep_proc.specs.declared.process.Process.{Process}
-use Rattle.hep_proc.specs.Stacks.{Stack, stack_of, stack_with}
+use Rattle.hep_tops.specs.ProcProcessProcess.{Process}
+use Rattle.hep_tops.specs.ProcStacks.{Stack, stack_of, stack_with}
 use Rattle.hep_state.specs.Words.{HasMadeTurn, HasRoom, entered_level, snapshot_made_by, snapshot_of, stacks_of, turn_of}
 use Rattle.hep_state.proofs.Begun.{made-shown}
 use Rattle.hep_state.proofs.Beside.{more-beside}

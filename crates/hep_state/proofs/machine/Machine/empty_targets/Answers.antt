@@ -1,6 +1,6 @@
 use Rattle.std.proofs.Common.{[], refl, ap, ◌∙◌, arith}
 use Rattle.hep_purging.specs.Purged.{purged}
-use Rattle.hep_proc.specs.Stacks.{stack_with}
+use Rattle.hep_tops.specs.ProcStacks.{stack_with}
 use Rattle.hep_state.specs.Words.{snapshot_of}
 use Rattle.hep_state.proofs.Processes.{process-at, room-moved, stacks-set, some-levels-at}
 use Rattle.hep_state.proofs.Unchanged.{rooms-set}

@@ -1,11 +1,11 @@
 use Rattle.std.proofs.Common.{◌≡◌, ◌∷◌, ◌++◌, List, [], reverse, refl, sym, ap, ◌∙◌, subst}
 use Rattle.hep_machine.specs.Words.{activations_on, is_held}
-use Rattle.hep_proc.specs.Keeping.{CanAllLeave, CanLeave}
-use Rattle.hep_layout.specs.Words.{is_stacked}
-use Rattle.hep_proc.specs.Nodes.{nodes_of}
-use Rattle.hep_proc.specs.declared.process.Local.{Local}
-use Rattle.hep_proc.specs.declared.process.Process.{Process}
-use Rattle.hep_proc.specs.Stacks.{keys_of, Stack}
+use Rattle.hep_tops.specs.ProcKeeping.{CanAllLeave, CanLeave}
+use Rattle.hep_tops.specs.LayoutWords.{is_stacked}
+use Rattle.hep_tops.specs.ProcNodes.{nodes_of}
+use Rattle.hep_tops.specs.ProcProcessLocal.{Local}
+use Rattle.hep_tops.specs.ProcProcessProcess.{Process}
+use Rattle.hep_tops.specs.ProcStacks.{keys_of, Stack}
 use Rattle.hep_state.specs.Words.{HasMadeTurn, fault_at, snapshot_of, snapshot_failed, state_before, state_failed, turn_of}
 use Rattle.hep_state.proofs.Moved.{can-all-leave, can-leave, failed-ended, failed-shown, lead-upwards}
 use Rattle.hep_state.proofs.Beside.{beside-set}

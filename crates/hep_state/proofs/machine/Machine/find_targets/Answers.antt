@@ -1,11 +1,11 @@
 use Rattle.std.proofs.Common.{◌≤◌, length, arith, Result, Ok, Err, IfOk, OnOk}
 use Rattle.std.proofs.lemmas.Result.{IfErr-weaker}
-use Rattle.hep_image.specs.Finding.{cells_in}
-use Rattle.hep_image.specs.Image.{most_cells}
-use Rattle.hep_step.specs.ReadyToPass.{ArePassable}
+use Rattle.hep_tops.specs.ImageFinding.{cells_in}
+use Rattle.hep_tops.specs.ImageImage.{most_cells}
+use Rattle.hep_tops.specs.StepReadyToPass.{ArePassable}
 use Rattle.hep_purging.specs.Ranges.{ranges_of}
 use Rattle.hep_purging.specs.Ready.{AreOut}
-use Rattle.hep_step.specs.Cells.{HasFrame}
+use Rattle.hep_tops.specs.StepCells.{HasFrame}
 use Rattle.hep_state.specs.Words.{snapshot_of, turn_of}
 use Rattle.hep_state.proofs.Callers.{IsRead, can-read, found-read, of-read, unit-inside}
 use Rattle.hep_state.proofs.Tops.{dropped-first}

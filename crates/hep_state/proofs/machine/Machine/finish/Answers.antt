@@ -1,9 +1,9 @@
 use Rattle.std.proofs.Common.{[], ◌∷◌, refl, sym, ap, ◌∙◌, subst, arith}
 use Rattle.hep_machine.specs.Words.{is_held}
-use Rattle.hep_proc.specs.Nodes.{nodes_of}
-use Rattle.hep_proc.proofs.Slabs.{some-value}
-use Rattle.hep_proc.specs.declared.process.Local.{Local}
-use Rattle.hep_proc.specs.Stacks.{Stack}
+use Rattle.hep_tops.specs.ProcNodes.{nodes_of}
+use Rattle.hep_tops.proofs.ProcSlabs.{some-value}
+use Rattle.hep_tops.specs.ProcProcessLocal.{Local}
+use Rattle.hep_tops.specs.ProcStacks.{Stack}
 use Rattle.hep_state.specs.Words.{HasMadeTurn, node_under, snapshot_of, snapshot_returned, state_before, state_returned, turn_of}
 use Rattle.hep_state.proofs.Moved.{kept-now, lead-upwards, returned-ended, returned-shown, top-node}
 use Rattle.hep_state.proofs.Beside.{beside-set}

@@ -2,17 +2,17 @@ use Rattle.std.proofs.Common.{◌≡◌, ℕ, ◌-◌, ◌≤◌, List, drop, le
 use Rattle.hep_machine.specs.Words.{unit_at}
 use Rattle.hep_machine.specs.declared.event.Kind.{Kind}
 use Rattle.hep_code.specs.Words.{operands_of_entries, passed_from}
-use Rattle.hep_image.specs.Finding.{cells_in}
-use Rattle.hep_image.specs.Dummies.{dummy_arguments}
-use Rattle.hep_image.specs.Image.{most_cells}
-use Rattle.hep_step.specs.declared.given.Given.{Given}
-use Rattle.hep_step.specs.Passing.{given_by}
-use Rattle.hep_step.specs.ReadyToPass.{ArePassable}
+use Rattle.hep_tops.specs.ImageFinding.{cells_in}
+use Rattle.hep_tops.specs.ImageDummies.{dummy_arguments}
+use Rattle.hep_tops.specs.ImageImage.{most_cells}
+use Rattle.hep_tops.specs.StepGivenGiven.{Given}
+use Rattle.hep_tops.specs.StepPassing.{given_by}
+use Rattle.hep_tops.specs.StepReadyToPass.{ArePassable}
 use Rattle.hep_binding.specs.Fitting.{AreShapable, are_fitting, shapes_of}
-use Rattle.hep_step.specs.Cells.{HasFrame}
-use Rattle.hep_step.specs.Effects.{fails}
-use Rattle.hep_step.specs.Ready.{frame_in_arena}
-use Rattle.hep_step.specs.Simulation.{unit_arrays}
+use Rattle.hep_tops.specs.StepCells.{HasFrame}
+use Rattle.hep_tops.specs.StepEffects.{fails}
+use Rattle.hep_tops.specs.StepReady.{frame_in_arena}
+use Rattle.hep_tops.specs.StepSimulation.{unit_arrays}
 use Rattle.hep_state.specs.Words.{HasCallAhead, HoldsInTurn, IsAtStep, IsMaking, given_of, operation_of, IsMachineAfter, snapshot_of, IsToEnd, top_frame, turn_of}
 use Rattle.hep_state.proofs.Unchanged.{carry}
 use Rattle.hep_state.proofs.Callers.{IsRead, behind-there, can-read, deepest-few, found-read, of-read, operands-there}

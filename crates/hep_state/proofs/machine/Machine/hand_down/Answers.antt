@@ -1,9 +1,9 @@
 use Rattle.std.proofs.Common.{◌∷◌, refl, sym, ap, ◌∙◌, subst, arith}
 use Rattle.hep_machine.specs.Words.{is_held}
-use Rattle.hep_proc.specs.Nodes.{nodes_of}
-use Rattle.hep_proc.proofs.Slabs.{some-value}
-use Rattle.hep_proc.specs.declared.process.Local.{Local}
-use Rattle.hep_proc.specs.Stacks.{operands_answered, pending_answered, Stack, stack_with}
+use Rattle.hep_tops.specs.ProcNodes.{nodes_of}
+use Rattle.hep_tops.proofs.ProcSlabs.{some-value}
+use Rattle.hep_tops.specs.ProcProcessLocal.{Local}
+use Rattle.hep_tops.specs.ProcStacks.{operands_answered, pending_answered, Stack, stack_with}
 use Rattle.hep_state.specs.Words.{HasMadeTurn, node_under, snapshot_answered, snapshot_of, state_answered, state_before, turn_of}
 use Rattle.hep_state.proofs.Moved.{answer-room, answered-ended, answered-shown, kept-now, lead-upwards, top-node}
 use Rattle.hep_state.proofs.Beside.{beside-set}

@@ -1,8 +1,8 @@
 use Rattle.std.proofs.Common.{◌≡◌, ◌∙◌, inl, inr, Some, not, false, sym, ap, subst, is_some, vec_len}
 use Rattle.hep_blocked.specs.Numbers.{AreRising}
 use Rattle.hep_machine.specs.Words.{is_number_among, numbered}
-use Rattle.hep_proc.specs.Stacks.{no_stack, stack_of}
-use Rattle.hep_proc.proofs.Levels.{levels-by}
+use Rattle.hep_tops.specs.ProcStacks.{no_stack, stack_of}
+use Rattle.hep_tops.proofs.ProcLevels.{levels-by}
 use Rattle.hep_state.specs.Words.{IsPlaceOf, numbers_of, snapshot_of}
 use Rattle.hep_state.proofs.Processes.{numbered-absent, numbered-of, some-levels-of}
 use Rattle.hep_state.proofs.Tops.{lives-by, none-lives}

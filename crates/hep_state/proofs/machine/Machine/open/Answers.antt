@@ -4,18 +4,18 @@ use Rattle.std.specs.Option.{unwrap_or}
 use Rattle.hep_machine.specs.Words.{no_unit, main_unit, Units}
 use Rattle.hep_code.specs.Words.{deepest}
 use Rattle.hep_arena.specs.Space.{Space}
-use Rattle.hep_layout.specs.Words.{Nodes}
-use Rattle.hep_proc.specs.Nodes.{nodes_of}
-use Rattle.hep_step.specs.Simulation.{unit_code}
+use Rattle.hep_tops.specs.LayoutWords.{Nodes}
+use Rattle.hep_tops.specs.ProcNodes.{nodes_of}
+use Rattle.hep_tops.specs.StepSimulation.{unit_code}
 use Rattle.hep_state.specs.Words.{AreNumbered, IsEntered, snapshot_opened, IsAfter, HasRoom, HasRoomToPass, IsMachineAfter, numbers_of, snapshot_of, stack_numbered, stacks_of}
 use Rattle.hep_state.proofs.Opened.{entered-out}
 use Rattle.hep_state.proofs.RoomToPass.{room-enough}
 use Rattle.hep_state.proofs.machine.Machine.open.Goals as goal
-use Rattle.hep_image.specs.Image.{most_cells}
-use Rattle.hep_proc.specs.declared.process.Local.{Local}
+use Rattle.hep_tops.specs.ImageImage.{most_cells}
+use Rattle.hep_tops.specs.ProcProcessLocal.{Local}
 use Rattle.hep_state.specs.declared.machine.Machine.{Machine}
-use Rattle.hep_proc.specs.declared.process.Process.{Process}
-use Rattle.hep_proc.specs.Stacks.{Stack, stack_of}
+use Rattle.hep_tops.specs.ProcProcessProcess.{Process}
+use Rattle.hep_tops.specs.ProcStacks.{Stack, stack_of}
 use Rattle.hep_blocked.specs.Numbers.{AreRising}
 use Rattle.hep_state.proofs.Processes.{room-alone, the-only}
 

@@ -1,10 +1,10 @@
 use Rattle.std.proofs.Common.{◌≡◌, ◌≤◌, List, [], ◌∷◌, ◌++◌, reverse, ap, ◌∙◌, arith, slice_set, vec_capacity}
 use Rattle.hep_code.specs.Words.{deepest}
-use Rattle.hep_step.specs.Simulation.{unit_code}
-use Rattle.hep_proc.specs.declared.process.Local.{Local}
-use Rattle.hep_proc.specs.declared.process.Process.{Process}
-use Rattle.hep_proc.specs.Nodes.{nodes_of}
-use Rattle.hep_proc.specs.Stacks.{Stack, stack_of}
+use Rattle.hep_tops.specs.StepSimulation.{unit_code}
+use Rattle.hep_tops.specs.ProcProcessLocal.{Local}
+use Rattle.hep_tops.specs.ProcProcessProcess.{Process}
+use Rattle.hep_tops.specs.ProcNodes.{nodes_of}
+use Rattle.hep_tops.specs.ProcStacks.{Stack, stack_of}
 use Rattle.hep_state.specs.declared.machine.Machine.{Machine}
 use Rattle.hep_state.specs.Words.{HasRoom, snapshot_of, stacks_of}
 use Rattle.hep_state.proofs.Numbered.{more-stacks}

@@ -2,9 +2,9 @@ use Rattle.std.proofs.Common.{◌≡◌, [], ◌∷◌, ◌++◌, length, Some, 
 use Rattle.hep_machine.specs.Words.{numbered}
 use Rattle.hep_purging.specs.Purged.{purged}
 use Rattle.hep_purging.specs.Ready.{AreReached}
-use Rattle.hep_step.specs.Effects.{fails}
-use Rattle.hep_proc.specs.Stacks.{stack_with}
-use Rattle.hep_proc.specs.declared.frames.Frames.{Frames}
+use Rattle.hep_tops.specs.StepEffects.{fails}
+use Rattle.hep_tops.specs.ProcStacks.{stack_with}
+use Rattle.hep_tops.specs.ProcFramesFrames.{Frames}
 use Rattle.hep_state.specs.declared.machine.Machine.{Machine}
 use Rattle.hep_state.specs.declared.machine.Passing.{Passing}
 use Rattle.hep_state.specs.Words.{HasLevels, HasMadeTurn, HasPurged, HasRoomToPass, Snapshot, snapshot_of, IsToEnd, snapshot_moved, turn_of}

@@ -1,6 +1,6 @@
 use Rattle.std.proofs.Common.{◌≡◌, ◌∙◌}
-use Rattle.hep_proc.specs.declared.frames.Frames.{Frames}
-use Rattle.hep_proc.specs.Nodes.{nodes_of}
+use Rattle.hep_tops.specs.ProcFramesFrames.{Frames}
+use Rattle.hep_tops.specs.ProcNodes.{nodes_of}
 use Rattle.hep_state.specs.declared.machine.Machine.{Machine}
 use Rattle.hep_state.specs.Words.{ShowsSame, snapshot_of}
 use Rattle.hep_state.proofs.machine.Machine.reserve_creation.Goals as goal

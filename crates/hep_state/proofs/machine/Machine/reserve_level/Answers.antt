@@ -1,6 +1,6 @@
 use Rattle.std.proofs.Common.{◌≡◌, ◌+◌, ◌<◌, ◌≤◌, OnOk, Result, Ok, Err, refl, sym, subst, ◌∙◌, reverse, vec_len, vec_capacity}
-use Rattle.hep_proc.specs.declared.process.Process.{Process}
-use Rattle.hep_proc.specs.Stacks.{stack_of}
+use Rattle.hep_tops.specs.ProcProcessProcess.{Process}
+use Rattle.hep_tops.specs.ProcStacks.{stack_of}
 use Rattle.hep_state.specs.Words.{snapshot_of}
 use Rattle.hep_state.proofs.Processes.{is-there, process-at, room-reserved, stacks-set}
 use Rattle.hep_state.proofs.Runs.{set-same}

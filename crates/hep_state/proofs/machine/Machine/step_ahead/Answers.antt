@@ -1,10 +1,10 @@
 use Rattle.std.proofs.Common.{◌≡◌, ◌-◌, ◌<◌, ◌≤◌, ◌∷◌, drop, length, refl, sym, ap, ◌∙◌, subst, arith, vec_capacity, length-set}
 use Rattle.std.specs.Vec.{with_item}
 use Rattle.hep_code.specs.Words.{values_ahead, deepest}
-use Rattle.hep_step.specs.Simulation.{unit_code}
-use Rattle.hep_proc.specs.declared.process.Local.{Local}
-use Rattle.hep_proc.specs.Stacks.{stack_with}
-use Rattle.hep_proc.proofs.Levels.{last-there, some-levels}
+use Rattle.hep_tops.specs.StepSimulation.{unit_code}
+use Rattle.hep_tops.specs.ProcProcessLocal.{Local}
+use Rattle.hep_tops.specs.ProcStacks.{stack_with}
+use Rattle.hep_tops.proofs.ProcLevels.{last-there, some-levels}
 use Rattle.hep_state.specs.Words.{HasLevels, IsAhead, IsInFront, Snapshot, snapshot_of, with_stack, IsAfter}
 use Rattle.hep_state.proofs.Ahead.{found-ahead}
 use Rattle.hep_state.proofs.Processes.{process-at, room-moved, stacks-set, some-levels-at}

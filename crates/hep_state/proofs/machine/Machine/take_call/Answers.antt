@@ -2,12 +2,12 @@ use Rattle.std.proofs.Common.{refl, ◌≡◌, ◌≤◌, ◌<◌, ◌+◌, ◌^
 use Rattle.hep_machine.specs.Words.{Units, schedule_of}
 use Rattle.hep_arena.specs.Holes.{first_fit}
 use Rattle.hep_code.specs.Words.{deepest}
-use Rattle.hep_image.specs.Image.{most_cells}
-use Rattle.hep_step.specs.declared.way.Way.{Way}
-use Rattle.hep_step.specs.declared.way.Way.TheVariants.{Calls, Creates, Refers}
-use Rattle.hep_step.specs.Calls.{is_creation}
-use Rattle.hep_step.specs.Effects.{fails}
-use Rattle.hep_step.specs.Simulation.{unit_code}
+use Rattle.hep_tops.specs.ImageImage.{most_cells}
+use Rattle.hep_tops.specs.StepWayWay.{Way}
+use Rattle.hep_tops.specs.StepWayWay.TheVariants.{Calls, Creates, Refers}
+use Rattle.hep_tops.specs.StepCalls.{is_creation}
+use Rattle.hep_tops.specs.StepEffects.{fails}
+use Rattle.hep_tops.specs.StepSimulation.{unit_code}
 use Rattle.hep_state.specs.declared.calling.Called.{Called}
 use Rattle.hep_state.specs.declared.machine.Machine.{Machine}
 use Rattle.hep_state.specs.Words.{AreNumbered, HasStepped, HoldsInTurn, IsAtCallAhead, IsMaking, IsRefused, IsTurn, IsUnit, LeavesAlone, Makes, ShowsSame, Changes, HaveRoom, Snapshot, snapshot_of, IsToEnd, HasGaps, cells_of, turn_of}

@@ -1,6 +1,6 @@
 use Rattle.std.proofs.Common.{◌≡◌, ◌<◌, ℕ, List, [], ◌∷◌, ◌++◌, ◌∙◌, ap, subst, sym, vec_capacity, vec_len}
 use Rattle.hep_machine.specs.Words.{schedule_of}
-use Rattle.hep_step.specs.declared.effect.Effect.{Effect}
+use Rattle.hep_tops.specs.StepEffectEffect.{Effect}
 use Rattle.hep_state.specs.Words.{Changes, HaveRoom, IsWithoutCall, IsMachineAfter, Snapshot, StaysWaiting, cells_of, snapshot_of}
 use Rattle.hep_state.proofs.Beside.{beside-again, beside-shown}
 use Rattle.hep_state.proofs.Unchanged.{alone, carry, machine-of, machine-written, on-err, rooms-of, shown-written, top-shown}

@@ -2,9 +2,9 @@ use Rattle.std.proofs.Common.{◌≡◌, ◌+◌, ◌<◌, ◌≤◌, [], ◌∷
 use Rattle.std.specs.Vec.{with_item}
 use Rattle.hep_machine.specs.Words.{numbered, schedule_of, with_numbered}
 use Rattle.hep_code.specs.Words.{deepest}
-use Rattle.hep_step.specs.Simulation.{unit_code}
-use Rattle.hep_proc.specs.declared.process.Local.{Local}
-use Rattle.hep_proc.specs.Stacks.{stack_with}
+use Rattle.hep_tops.specs.StepSimulation.{unit_code}
+use Rattle.hep_tops.specs.ProcProcessLocal.{Local}
+use Rattle.hep_tops.specs.ProcStacks.{stack_with}
 use Rattle.hep_state.specs.Words.{cells_of, HasLevels, HasStepped, Snapshot, snapshot_moved, snapshot_of, snapshot_parted, turn_of}
 use Rattle.hep_state.proofs.Beside.{beside-again, beside-set, beside-shown, more-beside}
 use Rattle.hep_state.proofs.Processes.{counted, none-by, process-at, room-moved, some-by, some-levels-at, stacks-set}

@@ -2,7 +2,7 @@ use Rattle.std.proofs.Common.{◌≡◌, ◌≤◌, ℕ, List, None, arith, refl
 use Rattle.std.proofs.lemmas.Result.{IfErr-weaker, IfOk-weaker}
 use Rattle.hep_machine.specs.Words.{schedule_of}
 use Rattle.hep_blocked.specs.Rolls.{Roll}
-use Rattle.hep_step.specs.Effects.{returns}
+use Rattle.hep_tops.specs.StepEffects.{returns}
 use Rattle.hep_state.specs.declared.machine.Machine.{Machine}
 use Rattle.hep_state.specs.declared.turn.Turned.{Turned}
 use Rattle.hep_state.specs.declared.turn.Turned.TheVariants.{Stepped}

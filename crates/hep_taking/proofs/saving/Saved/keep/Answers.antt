@@ -1,4 +1,4 @@
-use Rattle.hep_state.proofs.Processes.{process-at}
+use Rattle.hep_private_laws.proofs.StateProcesses.{process-at}
 use Rattle.hep_taking.proofs.Standing.{on-ok-too, standing}
 use Rattle.hep_taking.proofs.saving.Saved.keep.Goals as goal
 

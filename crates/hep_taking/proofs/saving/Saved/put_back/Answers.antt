@@ -1,7 +1,7 @@
 use Rattle.std.proofs.Common.{refl, arith}
 use Rattle.hep_proc.proofs.Levels.{last-there}
-use Rattle.hep_state.proofs.Processes.{process-at, room-moved}
-use Rattle.hep_state.proofs.Unchanged.{rooms-set}
+use Rattle.hep_private_laws.proofs.StateProcesses.{process-at, room-moved}
+use Rattle.hep_private_laws.proofs.StateUnchanged.{rooms-set}
 use Rattle.hep_taking.proofs.Standing.{standing}
 use Rattle.hep_taking.proofs.Taken.{shown-now}
 use Rattle.hep_taking.proofs.saving.Saved.put_back.Goals as goal

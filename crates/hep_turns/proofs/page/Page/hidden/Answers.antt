@@ -1,6 +1,6 @@
 use Rattle.std.proofs.Common.{◌≡◌, ◌∙◌, ◌+◌, ◌<◌, ◌&&◌, ℕ, Bool, true, false, ap, arith, nat_le, refl, sym}
 use Rattle.std.proofs.lemmas.Bool.{lt-leb}
-use Rattle.hep_traces.specs.Traces.{Shown, is_of, is_shown}
+use Rattle.hep_watching.specs.TracesTraces.{Shown, is_of, is_shown}
 use Rattle.hep_turns.specs.Pages.{shown_on}
 use Rattle.hep_turns.proofs.page.Page.hidden.Goals as goal
 

@@ -1,10 +1,10 @@
 use Rattle.std.proofs.Common.{◌∙◌}
 use Rattle.std.proofs.Math.Logic.{∥∥₁_map}
-use Rattle.hep_receipts.specs.Shared.{cancelled}
-use Rattle.hep_receipts.proofs.Shared.{of-one-run}
+use Rattle.hep_reports.specs.ReceiptsShared.{cancelled}
+use Rattle.hep_reports.proofs.ReceiptsShared.{by-cancellation}
 use Rattle.hep_workers.specs.Lists.{lists_of}
 use Rattle.hep_workers.proofs.Lists.{same-inside, same-logged}
-use Rattle.hep_workers.proofs.Shared.{cancelled-same, here}
+use Rattle.hep_workers.proofs.Shared.{cancelled-same}
 use Rattle.hep_workers.proofs.tied.Tied.cancel.Goals as goal
 
 pub invariant_of-self : goal.invariant_of-self
@@ -14,7 +14,7 @@ invariant_of-self g c =
     let new = c.cancel.new.self in
     let call = c.cancel.ensures.cancelled in
     let same = cancelled-same was.core new id c.cancel.result call in
-    let one = of-one-run was.core.core new (cancelled was.core new id c.cancel.result (here was.core) call) in
+    let one = by-cancellation was.core new id c.cancel.result call in
     record {
       program = one.program ∙ was.program;
       cells = one.cells ∙ was.cells;
@@ -24,3 +24,6 @@ invariant_of-self g c =
       logged = same-logged g.K.Whole.workers was.core.core.history new.core.history (lists_of was.lists.items) same was.logged;
       inside = same-inside was.core.core.history new.core.history (lists_of was.lists.items) same was.inside;
     }
+
+pub returns : goal.returns
+returns g c = (c.cancel.result, c.cancel.ensures.cancelled)

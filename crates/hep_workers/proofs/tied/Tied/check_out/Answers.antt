@@ -1,11 +1,10 @@
-use Rattle.std.proofs.Common.{◌∙◌, Err, subst}
+use Rattle.std.proofs.Common.{◌∙◌}
 use Rattle.std.proofs.Math.Logic.{∥∥₁_map}
-use Rattle.hep_core.specs.Commits.{IsCheckedOut}
-use Rattle.hep_receipts.specs.Shared.{checked_out}
-use Rattle.hep_receipts.proofs.Shared.{of-one-run}
+use Rattle.hep_reports.specs.ReceiptsShared.{checked_out}
+use Rattle.hep_reports.proofs.ReceiptsShared.{by-check-out}
 use Rattle.hep_workers.specs.Lists.{lists_of}
 use Rattle.hep_workers.proofs.Lists.{same-inside, same-logged}
-use Rattle.hep_workers.proofs.Shared.{checked-out-same, here}
+use Rattle.hep_workers.proofs.Shared.{checked-out-same}
 use Rattle.hep_workers.proofs.tied.Tied.check_out.Goals as goal
 
 pub invariant_of-self : goal.invariant_of-self
@@ -15,19 +14,13 @@ invariant_of-self g c =
     let new = c.check_out_again.new.self in
     let call = c.check_out_again.ensures.given in
     let same = checked-out-same was.core new p c.check_out_again.result call in
-    let one = of-one-run was.core.core new (checked_out was.core new p c.check_out_again.result (here was.core) call) in
+    let one = by-check-out was.core new p c.check_out_again.result call in
     record {
       program = one.program ∙ was.program;
       cells = one.cells ∙ was.cells;
       limit = one.limit ∙ was.limit;
-      shared = ∥∥₁_map was.shared (λ before. checked_out was.core new p c.check_out_again.result before call);
+      shared = ∥∥₁_map was.shared (λ before. checked_out was.core new p c.check_out_again.result before c.requires call);
       many = was.many;
       logged = same-logged g.K.Whole.workers was.core.core.history new.core.history (lists_of was.lists.items) same was.logged;
       inside = same-inside was.core.core.history new.core.history (lists_of was.lists.items) same was.inside;
     }
-
-pub invariant_of-result : goal.invariant_of-result
-invariant_of-result g c =
-    let was = c.args.self.now in
-    let met = subst (λ fault. IsCheckedOut was.core c.args.process (Err fault) c.check_out_again.new.self) c.in-Err-NoTicket.field-0-is c.in-Err-NoTicket.ensures.given in
-    record { given = ∥∥₁_map was.shared (λ before. (was.core, before, met.1)) }

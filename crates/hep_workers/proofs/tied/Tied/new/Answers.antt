@@ -1,6 +1,6 @@
 use Rattle.std.proofs.Common.{length, ap}
-use Rattle.hep_core.specs.Value.{CoreValue}
-use Rattle.hep_receipts.specs.Shared.{opened}
+use Rattle.hep_reports.specs.CoreValue.{CoreValue}
+use Rattle.hep_reports.specs.ReceiptsShared.{opened}
 use Rattle.hep_workers.proofs.Lists.{begun, begun-inside}
 use Rattle.hep_workers.proofs.tied.Tied.new.Goals as goal
 
@@ -12,7 +12,7 @@ invariant_of-result g c =
       program = ap (λ (v : CoreValue). v.program) c.requires.begun.0;
       cells = ap (λ (v : CoreValue). v.cells) c.requires.begun.0;
       limit = ap (λ (v : CoreValue). v.limit) c.requires.begun.0;
-      shared = ∣ opened c.args.core c.requires.begun.0 ∣₁;
+      shared = ∣ opened c.args.core c.requires.begun.0 c.headline.ensures.placed ∣₁;
       many = c.requires.many;
       logged = ∣ begun workers h c.args.lists.items c.requires.begun.1 c.requires.blank ∣₁;
       inside = begun-inside workers (length h) c.args.lists.items c.requires.blank;

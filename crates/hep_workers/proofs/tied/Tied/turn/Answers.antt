@@ -1,10 +1,10 @@
-use Rattle.std.proofs.Common.{◌-◌, ◌<◌, length, arith, refl, ap, ◌∙◌}
+use Rattle.std.proofs.Common.{◌-◌, ◌<◌, length, arith, refl, Ok, Err, ap, ◌∙◌, subst}
 use Rattle.std.proofs.Math.Logic.{∥∥₁_map}
-use Rattle.hep_core.specs.Offers.{offered}
-use Rattle.hep_receipts.specs.Turns.{entry_of}
-use Rattle.hep_receipts.proofs.Shared.{of-one-run}
+use Rattle.hep_reports.specs.CoreOffers.{offered}
+use Rattle.hep_reports.specs.ReceiptsTurns.{entry_of}
 use Rattle.hep_workers.proofs.Lists.{noted, noted-inside, own-inside, still, still-inside}
-use Rattle.hep_workers.proofs.Shared.{here, turned}
+use Rattle.hep_workers.proofs.Shared.{AreTold, one-turned, told-turned, told-unturned, turned}
+use Rattle.hep_workers.specs.Calls.{IsTurned}
 use Rattle.hep_workers.proofs.tied.Tied.turn.Goals as goal
 
 -- room is refused
@@ -33,15 +33,15 @@ invariant_of-self-in-Ok g c =
     let seat = c.args.seat.now in
     let s = offered was.core.core.program c.args.offer.now in
     let new = c.offer_turn.new.core in
-    let told = c.offer_turn.ensures in
-    let one = of-one-run was.core.core new (turned was.core.core was.core new s c.offer_turn.result (here was.core) told.made told.unmade) in
+    let told : AreTold was.core new s c.offer_turn.result = (c.offer_turn.ensures.made, c.offer_turn.ensures.unmade) in
+    let one = one-turned was.core new s c.offer_turn.result told in
     let lt : seat.number - 1 < length was.lists.items = omega (arith, seat.some, seat.few, was.many, was.lists.ok.0) in
     let count = c.len-index.ensures.count ∙ ap length c.history.ensures in
     record {
       program = one.program ∙ was.program;
       cells = one.cells ∙ was.cells;
       limit = one.limit ∙ was.limit;
-      shared = ∥∥₁_map was.shared (λ before. turned g.K.Whole.opening was.core new s c.offer_turn.result before told.made told.unmade);
+      shared = ∥∥₁_map was.shared (turned g.K.Whole.opening was.core new s c.offer_turn.result c.headline.ensures.placed told);
       many = was.many;
       logged =
           noted g.K.Whole.workers was.core.core.history new.core.history was.lists.items (seat.number - 1) c.index_mut-spans.result.now lt c.index_mut-spans.ensures.value was.inside c.add_entry.new.spans (entry_of c.in-Ok._receipt) c.make_room.new.spans c.len-index.result
@@ -52,20 +52,20 @@ invariant_of-self-in-Ok g c =
     }
 
 -- none is made
-pub invariant_of-self-in-Err-1 : goal.invariant_of-self-in-Err-1
-invariant_of-self-in-Err-1 g c =
+pub invariant_of-self-in-Err : goal.invariant_of-self-in-Err
+invariant_of-self-in-Err g c =
     let was = c.args.self.now in
     let seat = c.args.seat.now in
     let s = offered was.core.core.program c.args.offer.now in
     let new = c.offer_turn.new.core in
-    let told = c.offer_turn.ensures in
-    let one = of-one-run was.core.core new (turned was.core.core was.core new s c.offer_turn.result (here was.core) told.made told.unmade) in
+    let told : AreTold was.core new s c.offer_turn.result = (c.offer_turn.ensures.made, c.offer_turn.ensures.unmade) in
+    let one = one-turned was.core new s c.offer_turn.result told in
     let lt : seat.number - 1 < length was.lists.items = omega (arith, seat.some, seat.few, was.many, was.lists.ok.0) in
     record {
       program = one.program ∙ was.program;
       cells = one.cells ∙ was.cells;
       limit = one.limit ∙ was.limit;
-      shared = ∥∥₁_map was.shared (λ before. turned g.K.Whole.opening was.core new s c.offer_turn.result before told.made told.unmade);
+      shared = ∥∥₁_map was.shared (turned g.K.Whole.opening was.core new s c.offer_turn.result c.headline-in-Err.ensures.placed told);
       many = was.many;
       logged =
           still g.K.Whole.workers was.core.core.history new.core.history was.lists.items (seat.number - 1) c.index_mut-spans.result.now lt c.index_mut-spans.ensures.value was.inside c.make_room.new.spans c.in-Err.ensures.kept c.make_room.ensures.items was.logged;
@@ -82,3 +82,16 @@ add_entry-requires-clause-inside g c =
     let h = was.core.core.history in
     own-inside g.K.Whole.workers h h was.lists.items (seat.number - 1) c.index_mut-spans.result.now lt c.index_mut-spans.ensures.value was.inside c.make_room.new.spans c.len-index.result
     c.make_room.ensures.items (c.len-index.ensures.count ∙ ap length c.history.ensures)
+
+-- what is told of it
+pub returns-in-Ok : goal.returns-in-Ok
+returns-in-Ok g c =
+    let was = c.args.self.now in
+    let s = offered was.core.core.program c.args.offer.now in
+    subst (λ u. IsTurned was.core (offered u c.args.offer.now) (Ok tt) c.offer_turn.new.core) was.program (told-turned was.core c.offer_turn.new.core s c.in-Ok._receipt c.in-Ok.ensures.made)
+
+pub returns-in-Err : goal.returns-in-Err
+returns-in-Err g c =
+    let was = c.args.self.now in
+    let s = offered was.core.core.program c.args.offer.now in
+    subst (λ u. IsTurned was.core (offered u c.args.offer.now) (Err c.in-Err.fault) c.offer_turn.new.core) was.program (told-unturned was.core c.offer_turn.new.core s c.in-Err.fault c.in-Err.ensures.unmade)

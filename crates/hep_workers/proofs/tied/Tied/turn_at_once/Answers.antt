@@ -1,11 +1,11 @@
 use Rattle.std.proofs.Common.{◌≡◌, ◌-◌, ◌<◌, length, arith, refl, sym, ap, subst, ◌∙◌}
 use Rattle.std.proofs.Math.Logic.{∥∥₁_map}
-use Rattle.hep_core.specs.Places.{Placed}
-use Rattle.hep_receipts.specs.Turns.{entry_of}
-use Rattle.hep_receipts.proofs.Shared.{of-one-run}
-use Rattle.hep_receipts.specs.Shared.{IsSharedFrom}
+use Rattle.hep_reports.specs.CorePlaces.{Placed}
+use Rattle.hep_reports.specs.ReceiptsTurns.{entry_of}
+use Rattle.hep_reports.proofs.ReceiptsShared.{by-turn-at-once}
+use Rattle.hep_reports.specs.ReceiptsShared.{IsSharedFrom}
 use Rattle.hep_workers.proofs.Lists.{noted, noted-inside, own-inside, still, still-inside}
-use Rattle.hep_workers.proofs.Shared.{here, turned-at-once}
+use Rattle.hep_workers.proofs.Shared.{turned-at-once}
 use Rattle.hep_workers.proofs.tied.Tied.turn_at_once.Goals as goal
 
 pub turn_at_once-requires-clause-program : goal.turn_at_once-requires-clause-program
@@ -39,7 +39,7 @@ invariant_of-self-in-Some g c =
     let p = c.in-Some.receipt.process in
     let n = c.in-Some.receipt.steps in
     let made = c.in-Some.ensures.made in
-    let one = of-one-run was.core.core new (turned-at-once was.core.core was.core new p n (here was.core) made) in
+    let one = by-turn-at-once was.core new p n made in
     let lt : seat.number - 1 < length was.lists.items = omega (arith, seat.some, seat.few, was.many, was.lists.ok.0) in
     let count = c.len-index.ensures.count ∙ ap length c.history.ensures in
     record {

@@ -1,13 +1,13 @@
 use Rattle.std.proofs.Common.{◌≡◌, ◌+◌, ◌-◌, ◌<◌, length, arith, refl, sym, ap, subst, ◌∙◌}
 use Rattle.std.proofs.Math.Logic.{∥∥₁_map}
-use Rattle.hep_core.specs.Places.{Placed}
+use Rattle.hep_reports.specs.CorePlaces.{Placed}
 use Rattle.hep_machine.specs.declared.event.Entry.{Entry}
 use Rattle.hep_segments.specs.Segments.{most_records}
-use Rattle.hep_receipts.proofs.Shared.{of-one-run}
-use Rattle.hep_receipts.specs.Shared.{IsSharedFrom}
+use Rattle.hep_reports.proofs.ReceiptsShared.{by-turns-at-once}
+use Rattle.hep_reports.specs.ReceiptsShared.{IsSharedFrom}
 use Rattle.hep_workers.proofs.Lists.{own-inside, still, still-inside}
 use Rattle.hep_workers.proofs.Many.{many-inside, many-logged}
-use Rattle.hep_workers.proofs.Shared.{here, turned-several}
+use Rattle.hep_workers.proofs.Shared.{turned-several}
 use Rattle.hep_workers.proofs.tied.Tied.turns_at_once.Goals as goal
 
 pub turns_at_once-requires-clause-program : goal.turns_at_once-requires-clause-program
@@ -42,7 +42,7 @@ invariant_of-self-in-Some g c =
     let n = c.args.turns in
     let made = c.in-Some.ensures.made in
     let e : Entry = record { process = p; steps = most_records } in
-    let one = of-one-run was.core.core new (turned-several was.core.core p n was.core new (here was.core) made) in
+    let one = by-turns-at-once p n was.core new made in
     let lt : seat.number - 1 < length was.lists.items = omega (arith, seat.some, seat.few, was.many, was.lists.ok.0) in
     let count = c.len-index.ensures.count ∙ ap length c.history.ensures in
     record {

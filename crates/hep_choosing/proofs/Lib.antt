@@ -1,0 +1,2 @@
+pub use Rattle.hep_outcome.proofs.Counts as OutcomeCounts
+pub use Rattle.hep_outcome.proofs.Wanted as OutcomeWanted

@@ -1,0 +1,12 @@
+use Rattle.std.proofs.Common.{subst}
+use Rattle.hep_reports.specs.CoreOffers.{offered}
+use Rattle.hep_workers.specs.Calls.{IsTurned}
+use Rattle.hep_workers.proofs.Shared.{turned-last}
+use Rattle.hep_workers.proofs.floor.Floor.commit.Goals as goal
+
+pub returns-in-Ok : goal.returns-in-Ok
+returns-in-Ok g c =
+    let old = c.args.core.now.core in
+    let new = c.turn.new.self.core in
+    let s = offered g.K.Whole.opening.program c.args.offer.now in
+    λ yes. turned-last old new s (subst (λ r. IsTurned old s r new) c.in-Ok.is c.turn.ensures)
