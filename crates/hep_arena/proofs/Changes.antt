@@ -7,7 +7,7 @@ use Rattle.hep_arena.specs.Holes.{Hole, AreHoles, IsOut, first_fit, given, joine
 use Rattle.hep_arena.specs.Lengths.{holes_from, start_at}
 use Rattle.hep_arena.proofs.Blocks.{fit-inside}
 use Rattle.hep_arena.proofs.Giving.{IsFree, out-free}
-use Rattle.hep_arena.proofs.Lengths.{BeginFrom, fronted, holes-set, length-below, length-fits, length-kept, length-next, length_at, length-read, numbered, numbered-first, numbered-front, numbered-next, numbered-none, start-below, start-from, start-next, start-first}
+use Rattle.hep_arena.proofs.RowLengths.{BeginFrom, fronted, holes-set, length-below, length-fits, length-kept, length-next, length_at, length-read, numbered, numbered-first, numbered-front, numbered-next, numbered-none, start-below, start-from, start-next, start-first}
 
 -- ---- taking
 

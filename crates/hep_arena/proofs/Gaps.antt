@@ -1,7 +1,7 @@
 -- The holes are the gaps of the layout, whatever is taken and given.
 use Rattle.hep_arena.proofs.Taking.{holes_from_lower}
 use Rattle.hep_arena.proofs.Cases.{chosen}
-use Rattle.hep_arena.proofs.Lengths.{BeginFrom}
+use Rattle.hep_arena.proofs.RowLengths.{BeginFrom}
 use Rattle.std.proofs.lemmas.Bool.{cases_Bool, cond_both}
 use Rattle.std.proofs.Common.{◌≡◌, inl, inr, ℕ, suc, ◌+◌, ◌-◌, ◌<◌, ◌≤◌, Bool, true, false, List, [], ◌∷◌, ◌++◌, Option, Some, None, refl, sym, ap, ◌∙◌, subst, arith, append_assoc, if◌then◌else◌, nat_eq, nat_le, nat_lt}
 use Rattle.std.specs.List.{filter}

@@ -8,7 +8,7 @@ use Rattle.hep_arena.specs.Holes.{Hole, AreHoles, IsOut, first_fit, given, joine
 use Rattle.hep_arena.specs.declared.holes.Holes.{Holes}
 use Rattle.hep_arena.specs.Lengths.{IsLimited, hole_from, holes_from, holes_of, lower_holes, start_at}
 use Rattle.hep_arena.proofs.Giving.{IsFree, out-free}
-use Rattle.hep_arena.proofs.Lengths.{holes-set, length_at, numbered, numbered-first, numbered-next, numbered-none, start-first, start-from, start-next}
+use Rattle.hep_arena.proofs.RowLengths.{holes-set, length_at, numbered, numbered-first, numbered-next, numbered-none, start-first, start-from, start-next}
 
 -- ---- holes
 

@@ -1,3 +1,5 @@
+pub mod Places
+pub mod Trees
 pub mod Cells
 pub mod Ownership
 pub mod Lending

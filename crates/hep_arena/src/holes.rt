@@ -5,7 +5,7 @@ ghost use Rattle.std.specs.Option.{is_some};
 ghost use Rattle.hep_arena.specs.Holes.{IsOut, first_fit, given, taken};
 ghost use Rattle.hep_arena.specs.Lengths.{IsLimited, holes_of, lower_holes, start_at};
 
-use hep_lengths::Lengths;
+use crate::lengths::Lengths;
 use std::alloc::{AllocError, Global};
 
 /// The holes among so many cells. A search and a change cost the logarithm of their number at the most,

@@ -4,23 +4,23 @@ use Rattle.hep_machine.specs.Words.{Name, Statement, Units, dummies_of, unit_at,
 use Rattle.hep_machine.specs.Words.{referred, Layout, Scope, storage_of, dummy_at, Bounds, fits, Dummy, State, Store, local, Activation, further, with_value, activation_of, unit_of, is_owned, next_activation, scope_of}
 use Rattle.hep_machine.specs.declared.event.Kind.{Kind}
 use Rattle.hep_machine.specs.declared.event.Kind.TheVariants.{Shape}
-use Rattle.hep_step.specs.LayoutWords.{RunsFrom, IsLaid, also, frame_from, is_stacked}
-use Rattle.hep_step.proofs.LayoutPassed.{IsMadeScope, made-further, made-storage}
+use Rattle.hep_layout.specs.Words.{RunsFrom, IsLaid, also, frame_from, is_stacked}
+use Rattle.hep_layout.proofs.Passed.{IsMadeScope, made-further, made-storage}
 use Rattle.hep_step.specs.declared.given.Given.{Given}
 use Rattle.hep_step.specs.declared.given.Given.TheVariants as given
 use Rattle.hep_binding.specs.Calling.{AreActualsPassed, AreAllKept, ArePassed, CallOf, IsPassed, layout_with, IsPassing, called_activation, state_before_call, state_begun, unit_begun}
 use Rattle.hep_binding.specs.Giving.{AreGiven, IsGiven, with_given, AreDistinct}
-use Rattle.hep_step.proofs.LayoutStorages.{same-ok}
-use Rattle.hep_step.proofs.ImageActivations.{not-owned}
+use Rattle.hep_layout.proofs.Storages.{same-ok}
+use Rattle.hep_image.proofs.Activations.{not-owned}
 use Rattle.hep_machine.proofs.Ages.{aged, on_stack_made}
-use Rattle.hep_step.proofs.LayoutMemory.{activation-kept, activation-last, unmade}
-use Rattle.hep_step.proofs.LayoutRuns.{runs-entered}
-use Rattle.hep_step.proofs.LayoutFrameTree.{stacked-on, stacked-top}
-use Rattle.hep_step.specs.ImageBound.{AreKept}
+use Rattle.hep_layout.proofs.Memory.{activation-kept, activation-last, unmade}
+use Rattle.hep_layout.proofs.Runs.{runs-entered}
+use Rattle.hep_layout.proofs.FrameTree.{stacked-on, stacked-top}
+use Rattle.hep_image.specs.Bound.{AreKept}
 use Rattle.hep_arena.specs.Gaps.{frame_among}
-use Rattle.hep_step.proofs.LayoutFrames.{among-with_frame}
-use Rattle.hep_step.proofs.LayoutReferences.{references-made, unset-ahead}
-use Rattle.hep_step.proofs.LayoutStacks.{top-numbered}
+use Rattle.hep_layout.proofs.Frames.{among-with_frame}
+use Rattle.hep_layout.proofs.References.{references-made, unset-ahead}
+use Rattle.hep_layout.proofs.Stacks.{top-numbered}
 use Rattle.hep_proc.specs.Keeping.{IsBegun}
 use Rattle.hep_binding.specs.Writing.{IsBinding}
 

@@ -12,11 +12,11 @@ use Rattle.hep_machine.specs.declared.event.Kind.{Kind}
 use Rattle.hep_machine.specs.declared.event.Kind.TheVariants.{Shape}
 use Rattle.hep_machine.specs.declared.slot.Slot.{Slot}
 use Rattle.hep_arena.specs.Gaps.{frame_among}
-use Rattle.hep_step.specs.LayoutWords.{Holds}
-use Rattle.hep_step.specs.ImageDummyDummyArgument.{DummyArgument}
-use Rattle.hep_step.specs.ImageDummyDummyArgument.TheVariants.{Scalar, Array, Adjustable}
-use Rattle.hep_step.specs.ImageDummies.{common_cell, dummy_arguments, dummy_of}
-use Rattle.hep_step.proofs.ImageArrayExtents.{all-adjustable, bounds-length, bounds-same, none-adjustable}
+use Rattle.hep_layout.specs.Words.{Holds}
+use Rattle.hep_image.specs.declared.dummy.DummyArgument.{DummyArgument}
+use Rattle.hep_image.specs.declared.dummy.DummyArgument.TheVariants.{Scalar, Array, Adjustable}
+use Rattle.hep_image.specs.Dummies.{common_cell, dummy_arguments, dummy_of}
+use Rattle.hep_image.proofs.ArrayExtents.{all-adjustable, bounds-length, bounds-same, none-adjustable}
 use Rattle.hep_step.specs.declared.given.Given.{Given}
 use Rattle.hep_step.specs.declared.given.Given.TheVariants as giving
 use Rattle.hep_step.specs.Agreement.{AreGiven, IsGiven}

@@ -8,15 +8,15 @@ use Rattle.hep_step.specs.Calls.{comes_by, is_creation, unit_by}
 use Rattle.hep_binding.specs.Calling.{CallOf, caller, frames_before_call, frames_with, IsPassing, level_behind, level_called, state_before_call, state_begun, state_called, state_created, state_made_by, called_activation, IsWritten, unit_begun}
 use Rattle.hep_arena.specs.Space.{Space}
 use Rattle.hep_code.proofs.Moves.{after_statement_keeps}
-use Rattle.hep_step.specs.LayoutWords.{level_of, descriptor_slots, slot_by_dummy, slot_of_bounds, slot_of_dummy, slot_on_level, Nodes, also, is_stacked, FramePart, argument, bounds, header, iteration, variable, place_of_part}
-use Rattle.hep_step.proofs.LayoutStackChanges.{stacks-begun, stacks-created, stacks-same}
-use Rattle.hep_step.proofs.LayoutStacks.{top-numbered, level-found}
+use Rattle.hep_layout.specs.Words.{level_of, descriptor_slots, slot_by_dummy, slot_of_bounds, slot_of_dummy, slot_on_level, Nodes, also, is_stacked, FramePart, argument, bounds, header, iteration, variable, place_of_part}
+use Rattle.hep_layout.proofs.StackChanges.{stacks-begun, stacks-created, stacks-same}
+use Rattle.hep_layout.proofs.Stacks.{top-numbered, level-found}
 use Rattle.hep_proc.specs.Keeping.{FramesOf, Keeps}
 use Rattle.hep_step.specs.Simulation.{unit_addressed}
 use Rattle.std.specs.Option.{unwrap_or}
 use Rattle.std.proofs.lemmas.Option.{none-some, same_Some}
 use Rattle.hep_machine.specs.declared.slot.Slot.{Slot}
-use Rattle.hep_step.proofs.LayoutHeldFrames.{run-last}
+use Rattle.hep_layout.proofs.HeldFrames.{run-last}
 use Rattle.hep_binding.specs.Shapes.{cells_to_bounds, cells_to_bounds_of, cells_to_locals}
 use Rattle.hep_binding.specs.Writing.{unit_framed, written_up_to}
 use Rattle.hep_binding.proofs.Cells.{keeps-skipped, argument-place, bounds-place, cells-ordered, to-first}

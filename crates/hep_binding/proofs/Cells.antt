@@ -3,9 +3,9 @@ use Rattle.std.proofs.Common.{◌≡◌, ℕ, zero, suc, ◌+◌, ◌*◌, ◌<�
 use Rattle.std.proofs.lemmas.Option.{none-some, same_Some, slice_get_within}
 use Rattle.hep_machine.specs.Words.{Name, Statement, index_among, same_name, dummies_of, adjustable_dimensions, adjustable_dimensions_of_all, frame_cells, unset_cell, Frame, Location, Store, with_cell}
 use Rattle.hep_accepted_laws.proofs.Parts.{found_at}
-use Rattle.hep_step.specs.LayoutWords.{argument, bounds, frame_row, place_of_part, same_part, FramePart, address, cell_in, frame_address, DescriptorSlots, is_descriptor, descriptor_slots, Nodes}
-use Rattle.hep_step.proofs.LayoutFrameRows.{argument-first, bounds-first, equal_parts}
-use Rattle.hep_step.proofs.LayoutRows.{place-at, placed, owned-by}
+use Rattle.hep_layout.specs.Words.{argument, bounds, frame_row, place_of_part, same_part, FramePart, address, cell_in, frame_address, DescriptorSlots, is_descriptor, descriptor_slots, Nodes}
+use Rattle.hep_layout.proofs.FrameRows.{argument-first, bounds-first, equal_parts}
+use Rattle.hep_layout.proofs.Rows.{place-at, placed, owned-by}
 use Rattle.hep_binding.specs.Shapes.{cells_to_bounds, cells_to_bounds_of, cells_to_locals}
 use Rattle.hep_machine.specs.declared.slot.Slot.{Slot}
 use Rattle.hep_arena.specs.Gaps.{frame_among}

@@ -7,10 +7,10 @@ use Rattle.hep_machine.specs.Words.{Name, Statement, Value, index_among, dummies
 use Rattle.hep_machine.specs.declared.slot.Slot.{Slot}
 use Rattle.hep_arena.specs.Gaps.{frame_among}
 use Rattle.hep_arena.specs.Space.{Space}
-use Rattle.hep_step.specs.LayoutWords.{address, is_descriptor, is_value, number, slot_by_dummy, slot_of_dummy, slot_of_reference, slot_of_value, descriptor_slots, FramePart, argument, frame_row, place_of_part, same_part, header, Nodes}
-use Rattle.hep_step.proofs.LayoutFrameRows.{argument-first}
-use Rattle.hep_step.proofs.LayoutRows.{place-at}
-use Rattle.hep_step.proofs.LayoutRuns.{runs-value}
+use Rattle.hep_layout.specs.Words.{address, is_descriptor, is_value, number, slot_by_dummy, slot_of_dummy, slot_of_reference, slot_of_value, descriptor_slots, FramePart, argument, frame_row, place_of_part, same_part, header, Nodes}
+use Rattle.hep_layout.proofs.FrameRows.{argument-first}
+use Rattle.hep_layout.proofs.Rows.{place-at}
+use Rattle.hep_layout.proofs.Runs.{runs-value}
 use Rattle.hep_proc.specs.Keeping.{FramesOf, Keeps, with_unset}
 use Rattle.hep_step.specs.declared.given.Given.{Given}
 use Rattle.hep_step.specs.declared.given.Given.TheVariants as given

@@ -2,19 +2,19 @@
 use Rattle.std.proofs.Common.{◌≡◌, inl, inr, ℕ, ◌-◌, ◌≤◌, true, false, List, [], ◌∷◌, Some, refl, sym, ap, ◌∙◌, subst, arith, ◌⊎◌, ◌<◌, Bool, length, Option, None, nat_eq, if◌then◌else◌, eq-eqb, eqb-true, lt-ltb}
 use Rattle.std.proofs.lemmas.Grind.{flat_map-append}
 use Rattle.hep_machine.specs.Words.{Units, unit_at, activations_on, Frame, Layout, living, with_numbered, unit_of, Level, Process, State, Activation, Statement, unset_cell, frame_cells}
-use Rattle.hep_step.specs.LayoutWords.{level_of, Describes, loop_among, slot_of_loop, slot_on_level, descriptor_slots, times, IsLaid, cell_in, frame_address, frame_from, FramePart, argument, iteration, bounds, frame_row, place_of_part, same_part, AreNeededBut, also, is_stacked, IsFrameTree, Nodes}
-use Rattle.hep_step.proofs.LayoutStacks.{once, top-numbered}
+use Rattle.hep_layout.specs.Words.{level_of, Describes, loop_among, slot_of_loop, slot_on_level, descriptor_slots, times, IsLaid, cell_in, frame_address, frame_from, FramePart, argument, iteration, bounds, frame_row, place_of_part, same_part, AreNeededBut, also, is_stacked, IsFrameTree, Nodes}
+use Rattle.hep_layout.proofs.Stacks.{once, top-numbered}
 use Rattle.hep_binding.proofs.Found.{IsAmong, all_levels, among-numbered, among-parts, among-set, find-among, found, times-all}
 use Rattle.std.proofs.lemmas.Option.{none-some}
 use Rattle.hep_machine.specs.declared.slot.Slot.{Slot}
 use Rattle.hep_arena.specs.Gaps.{frame_among}
 use Rattle.hep_arena.specs.Space.{Space}
-use Rattle.hep_step.proofs.LayoutAddresses.{IsFramed, framed}
-use Rattle.hep_step.proofs.LayoutFrameRows.{equal_parts, frame_row-cells}
-use Rattle.hep_step.proofs.LayoutMemory.{one-of}
-use Rattle.hep_step.proofs.LayoutReferences.{references-made}
-use Rattle.hep_step.proofs.LayoutRows.{owned-by}
-use Rattle.hep_step.proofs.LayoutWants.{wanted-entered}
+use Rattle.hep_layout.proofs.Addresses.{IsFramed, framed}
+use Rattle.hep_layout.proofs.FrameRows.{equal_parts, frame_row-cells}
+use Rattle.hep_layout.proofs.Memory.{one-of}
+use Rattle.hep_layout.proofs.References.{references-made}
+use Rattle.hep_layout.proofs.Rows.{owned-by}
+use Rattle.hep_layout.proofs.Wants.{wanted-entered}
 use Rattle.hep_binding.specs.Calling.{CallOf, IsAllWritten, IsKeptIn, called_activation, frames_before_call, layout_with, level_behind, level_called, state_before_call, state_begun, state_called, state_created, state_made_by}
 use Rattle.hep_binding.proofs.Calls.{behind-keeps, entry-number, made-begun, made-stacks}
 use Rattle.hep_binding.specs.Writing.{is_before}

@@ -3,8 +3,8 @@ use Rattle.std.proofs.Common.{◌≡◌, ◌⊎◌, inl, inr, ℕ, zero, suc, �
 use Rattle.std.specs.List.{find, flat_map}
 use Rattle.std.proofs.lemmas.Option.{same_Some, none-some}
 use Rattle.hep_machine.specs.Words.{activations_on, numbered, Level, Process}
-use Rattle.hep_step.specs.LayoutWords.{times, times_on}
-use Rattle.hep_step.proofs.LayoutStacks.{times-append}
+use Rattle.hep_layout.specs.Words.{times, times_on}
+use Rattle.hep_layout.proofs.Stacks.{times-append}
 
 -- ---- levels among others
 

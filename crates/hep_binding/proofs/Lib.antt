@@ -1,9 +1,3 @@
-pub use Rattle.hep_accepted_laws.proofs.Closed as AcceptedLawsClosed
-pub use Rattle.hep_accepted_laws.proofs.Levels as AcceptedLawsLevels
-pub use Rattle.hep_accepted_laws.proofs.Meant as AcceptedLawsMeant
-pub use Rattle.hep_accepted_laws.proofs.Members as AcceptedLawsMembers
-pub use Rattle.hep_accepted_laws.proofs.Parts as AcceptedLawsParts
-pub use Rattle.hep_accepted_laws.proofs.RunCalls as AcceptedLawsRunCalls
 pub mod Readable
 pub mod Stored
 pub mod CommonCells

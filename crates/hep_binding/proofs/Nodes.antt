@@ -2,14 +2,14 @@
 use Rattle.std.proofs.Common.{◌≡◌, ℕ, Bool, true, false, Some, None, refl, sym, ap, ◌∙◌, suc, ◌+◌, ◌<◌, ◌≤◌, length, Option, subst, arith, if◌then◌else◌, nat_eq, eqb-true, eq-eqb}
 use Rattle.std.specs.Option.{option_map}
 use Rattle.std.proofs.lemmas.Option.{none-some}
-use Rattle.hep_step.specs.LayoutWords.{FrameNode, Nodes, with_node, with_one_more, IsMemory}
+use Rattle.hep_layout.specs.Words.{FrameNode, Nodes, with_node, with_one_more, IsMemory}
 use Rattle.hep_machine.specs.Words.{Frame, common_cells, lowest_gap, with_frame}
 use Rattle.hep_arena.specs.Gaps.{frame_among}
 use Rattle.hep_arena.specs.Holes.{IsOut, first_fit, taken}
 use Rattle.hep_arena.specs.Space.{Space}
 use Rattle.hep_arena.proofs.Gaps.{taken-gaps}
-use Rattle.hep_step.proofs.LayoutFrames.{among, among-out, among-with_frame, apart-with_frame}
-use Rattle.hep_step.proofs.LayoutMemory.{memory-fits}
+use Rattle.hep_layout.proofs.Frames.{among, among-out, among-with_frame, apart-with_frame}
+use Rattle.hep_layout.proofs.Memory.{memory-fits}
 use Rattle.hep_proc.specs.Keeping.{FramesOf, IsTaken}
 
 -- ---- the nodes

@@ -6,10 +6,10 @@ use Rattle.hep_machine.specs.Words.{Name, Statement, Units, dummies_of, adjustab
 use Rattle.hep_machine.specs.declared.slot.Slot.{Slot}
 use Rattle.hep_arena.specs.Holes.{Hole}
 use Rattle.hep_arena.specs.Space.{Space}
-use Rattle.hep_step.specs.LayoutWords.{IsMemory}
-use Rattle.hep_step.specs.ImageDummyDummyArgument.{DummyArgument}
-use Rattle.hep_step.specs.ImageDummyDummyArgument.TheVariants.{Scalar, Array, Adjustable}
-use Rattle.hep_step.specs.ImageDummies.{common_cell, dummy_arguments, dummy_of}
+use Rattle.hep_layout.specs.Words.{IsMemory}
+use Rattle.hep_image.specs.declared.dummy.DummyArgument.{DummyArgument}
+use Rattle.hep_image.specs.declared.dummy.DummyArgument.TheVariants.{Scalar, Array, Adjustable}
+use Rattle.hep_image.specs.Dummies.{common_cell, dummy_arguments, dummy_of}
 use Rattle.hep_step.specs.declared.given.Given.{Given}
 use Rattle.hep_step.specs.Agreement.{AreGiven}
 use Rattle.hep_code.specs.Sources.{adjustable_code}

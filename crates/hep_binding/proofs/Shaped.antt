@@ -5,7 +5,7 @@ use Rattle.hep_machine.specs.Words.{index_among, dummies_of, unset_cell, Frame, 
 use Rattle.hep_machine.specs.declared.shape.Bound.{Bound}
 use Rattle.hep_machine.specs.declared.slot.Slot.{Slot}
 use Rattle.hep_arena.specs.Space.{Space}
-use Rattle.hep_step.specs.LayoutWords.{number, slot_by_dummy, slot_of_bounds, slot_of_upper, descriptor_slots, FramePart, bounds, place_of_part, Nodes, FrameNode}
+use Rattle.hep_layout.specs.Words.{number, slot_by_dummy, slot_of_bounds, slot_of_upper, descriptor_slots, FramePart, bounds, place_of_part, Nodes, FrameNode}
 use Rattle.hep_proc.specs.Keeping.{FramesOf, Keeps}
 use Rattle.hep_binding.specs.Shapes.{IsBoundPut, IsShaping, cells_to_bounds_of, AreShaping, IsFramedBy, cells_of_shape, cells_of_shapes}
 use Rattle.hep_binding.specs.Writing.{IsSet, unit_framed, written_up_to}
@@ -13,8 +13,8 @@ use Rattle.hep_binding.proofs.Cells.{keeps-skipped, keeps-written, one-cell, pla
 use Rattle.hep_binding.proofs.Names.{index-found}
 use Rattle.hep_arena.specs.Gaps.{frame_among}
 use Rattle.hep_arena.specs.Holes.{IsOut}
-use Rattle.hep_step.proofs.LayoutFrames.{among}
-use Rattle.hep_step.proofs.LayoutMemory.{frame-is-out}
+use Rattle.hep_layout.proofs.Frames.{among}
+use Rattle.hep_layout.proofs.Memory.{frame-is-out}
 use Rattle.hep_step.specs.Shapes.{AreShapesOf, IsShapeOf}
 
 -- ---- the two cells of a dimension

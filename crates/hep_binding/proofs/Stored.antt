@@ -8,16 +8,16 @@ use Rattle.hep_machine.proofs.Locations.{equal_locations}
 use Rattle.hep_arena.specs.Gaps.{frame_among}
 use Rattle.hep_arena.specs.Holes.{Hole, IsOut}
 use Rattle.hep_arena.specs.Space.{Space}
-use Rattle.hep_step.specs.LayoutWords.{address, address_of_kept, cell_in, kept_in, Holds, IsMemory, FramePart, place_of_part}
-use Rattle.hep_step.proofs.LayoutAddresses.{address-out}
-use Rattle.hep_step.proofs.LayoutMemory.{location-self}
+use Rattle.hep_layout.specs.Words.{address, address_of_kept, cell_in, kept_in, Holds, IsMemory, FramePart, place_of_part}
+use Rattle.hep_layout.proofs.Addresses.{address-out}
+use Rattle.hep_layout.proofs.Memory.{location-self}
 use Rattle.hep_step.specs.declared.given.Given.{Given}
 use Rattle.hep_step.specs.declared.given.Given.TheVariants as giving
 use Rattle.hep_step.specs.Agreement.{AreGiven, AreUnitsOf, IsGiven}
 use Rattle.hep_binding.specs.Given.{AreReadable, IsCell, IsFirstCell, IsReadable, stored_by, stored_for, stored_in}
 use Rattle.hep_code.specs.Sources.{AreStored, IsNamedOnce, adjustable_code, source_by, source_of}
 use Rattle.hep_binding.proofs.Readable.{dimensions_readable}
-use Rattle.hep_step.proofs.ImageVariables.{further-none}
+use Rattle.hep_image.proofs.Variables.{further-none}
 
 -- ---- names and locations
 

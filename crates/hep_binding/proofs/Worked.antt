@@ -4,8 +4,8 @@ use Rattle.std.specs.Option.{option_map}
 use Rattle.hep_machine.specs.Words.{Int, Bounds}
 use Rattle.hep_machine.specs.declared.slot.Slot.{Slot}
 use Rattle.hep_code.specs.declared.bound.BoundOperation.TheVariants as operations
-use Rattle.hep_step.specs.ImageDummyDummyArgument.{DummyArgument}
-use Rattle.hep_step.specs.ImageDummyDummyArgument.TheVariants.{Scalar, Array, Adjustable}
+use Rattle.hep_image.specs.declared.dummy.DummyArgument.{DummyArgument}
+use Rattle.hep_image.specs.declared.dummy.DummyArgument.TheVariants.{Scalar, Array, Adjustable}
 use Rattle.hep_step.specs.declared.given.Given.{Given}
 use Rattle.hep_step.specs.declared.given.Given.TheVariants as giving
 use Rattle.hep_binding.specs.Fitting.{are_fitting, longest_code, shapes_of}

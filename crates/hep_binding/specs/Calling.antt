@@ -4,9 +4,9 @@ use Rattle.slab.specs.Slab.{ContainsKey, HasRoomFor}
 use Rattle.hep_machine.specs.Words.{Statement, Units, dummies_of, unit_at, Binding, first_element, from_element, level_after_statement, Actual, evaluated, referred, Layout, with_frame, Scope, storage_of, living, unit_of, with_process, run, Activation, Dummy, Level, Process, State, Top, binding_of, entry_level, next_activation, scope_of, unit_on_top, with_activation, with_new_process, frame_cells}
 use Rattle.hep_arena.specs.Holes.{first_fit}
 use Rattle.hep_arena.specs.Space.{Space}
-use Rattle.hep_step.specs.LayoutWords.{frame_from, RunsFrom, Nodes, also, is_stacked}
-use Rattle.hep_step.specs.ImageBound.{AreKept}
-use Rattle.hep_step.specs.ImageImage.{most_cells}
+use Rattle.hep_layout.specs.Words.{frame_from, RunsFrom, Nodes, also, is_stacked}
+use Rattle.hep_image.specs.Bound.{AreKept}
+use Rattle.hep_image.specs.Image.{most_cells}
 use Rattle.hep_proc.specs.declared.frames.Entrant.{Entrant}
 use Rattle.hep_proc.specs.declared.frames.Frames.{Frames}
 use Rattle.hep_proc.specs.Keeping.{AreOfSomeState, FramesOf, Keeps, frames_begun, frames_in}

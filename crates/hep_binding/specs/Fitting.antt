@@ -4,8 +4,8 @@ use Rattle.std.specs.Prelude.{ℕ, suc, max, ◌≤◌, ◌&&◌, Bool, true, fa
 use Rattle.hep_machine.specs.declared.slot.Slot.{Slot}
 use Rattle.hep_machine.specs.Words.{Bounds, fits}
 use Rattle.hep_arena.specs.Space.{Space}
-use Rattle.hep_step.specs.ImageDummyDummyArgument.{DummyArgument}
-use Rattle.hep_step.specs.ImageDummyDummyArgument.TheVariants.{Scalar, Array, Adjustable}
+use Rattle.hep_image.specs.declared.dummy.DummyArgument.{DummyArgument}
+use Rattle.hep_image.specs.declared.dummy.DummyArgument.TheVariants.{Scalar, Array, Adjustable}
 use Rattle.hep_step.specs.declared.given.Given.{Given}
 use Rattle.hep_step.specs.Shapes.{count_of_given}
 use Rattle.hep_binding.specs.Given.{AreReadable, shape_by_code}

@@ -4,7 +4,7 @@ use Rattle.hep_machine.specs.Words.{Value, Bounds}
 use Rattle.hep_machine.specs.declared.slot.Slot.{Slot}
 use Rattle.hep_arena.specs.Holes.{IsOut}
 use Rattle.hep_arena.specs.Space.{Space}
-use Rattle.hep_step.specs.ImageFinding.{cells_in}
+use Rattle.hep_image.specs.Finding.{cells_in}
 use Rattle.hep_step.specs.declared.given.Given.{Given}
 use Rattle.hep_step.specs.declared.given.Given.TheVariants as giving
 use Rattle.hep_code.specs.declared.bound.BoundOperation.{BoundOperation}

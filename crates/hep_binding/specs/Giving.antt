@@ -1,7 +1,7 @@
 -- What the actual arguments give to the dummy arguments of a new activation: X3.9-1978, 15.9.3.
 use Rattle.std.specs.Prelude.{◌≡◌, ℕ, ◌≤◌, false, List, [], ◌∷◌, Some, slice_get}
 use Rattle.hep_machine.specs.Words.{Name, Units, Layout, Dummy, local, State, Store, with_value, is_owned}
-use Rattle.hep_step.specs.LayoutWords.{RunsFrom}
+use Rattle.hep_layout.specs.Words.{RunsFrom}
 use Rattle.hep_step.specs.declared.given.Given.{Given}
 use Rattle.hep_step.specs.declared.given.Given.TheVariants as given
 

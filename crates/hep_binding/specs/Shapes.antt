@@ -3,7 +3,7 @@ use Rattle.std.specs.Prelude.{◌≡◌, ℕ, ◌+◌, ◌*◌, List, [], ◌∷
 use Rattle.hep_machine.specs.Words.{Name, Statement, Units, dummies_of, unit_at, adjustable_dimensions, cells_of_all, Frame, Layout, dummy_at, activation_of, unit_of, Bounds, State, adjustable_dimensions_of_all, do_statements, frame_cells, locals_of}
 use Rattle.hep_arena.specs.Gaps.{frame_among}
 use Rattle.hep_arena.specs.Space.{Space}
-use Rattle.hep_step.specs.LayoutWords.{number, FrameNode}
+use Rattle.hep_layout.specs.Words.{number, FrameNode}
 use Rattle.hep_step.specs.Shapes.{AreShapesOf}
 use Rattle.hep_binding.specs.Giving.{AreDistinct}
 use Rattle.hep_binding.specs.Writing.{IsSet}

@@ -5,8 +5,8 @@ use Rattle.hep_machine.specs.declared.slot.Slot.{Slot}
 use Rattle.hep_arena.specs.Gaps.{frame_among}
 use Rattle.hep_arena.specs.Holes.{IsOut}
 use Rattle.hep_arena.specs.Space.{Space}
-use Rattle.hep_step.specs.ImageImage.{most_cells}
-use Rattle.hep_step.specs.LayoutWords.{DescriptorSlots, number, descriptor_slots, place_of_part}
+use Rattle.hep_image.specs.Image.{most_cells}
+use Rattle.hep_layout.specs.Words.{DescriptorSlots, number, descriptor_slots, place_of_part}
 use Rattle.hep_proc.specs.Keeping.{FramesOf, with_unset}
 use Rattle.hep_step.specs.declared.given.Given.{Given}
 use Rattle.hep_step.specs.declared.given.Given.TheVariants as given

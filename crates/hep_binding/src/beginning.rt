@@ -2,7 +2,7 @@
 ghost use Rattle.std.specs.Prelude.{◌≡◌, ℕ, Bool, Some, None, length};
 ghost use Rattle.hep_machine.specs.Words.{Layout, common_cells, frame_of, lowest_gap, State};
 ghost use Rattle.hep_arena.specs.Holes.{first_fit};
-ghost use Rattle.hep_step.specs.LayoutWords.{new_node, with_node, FrameNode};
+ghost use Rattle.hep_layout.specs.Words.{new_node, with_node, FrameNode};
 ghost use Rattle.hep_proc.specs.Keeping.{Keeps};
 ghost use Rattle.hep_proc.specs.Nodes.{nodes_of};
 ghost use Rattle.hep_binding.specs.Calling.{ArePassed, CallOf, CanBeginWith, IsPassing, IsWritten, frames_before_call, state_begun, unit_begun};

@@ -2,7 +2,7 @@
 ghost use Rattle.std.specs.Prelude.{◌≡◌, ◌+◌, ◌*◌, ◌<◌, ◌≤◌, ℕ, Some, length};
 ghost use Rattle.hep_machine.specs.Words.{Name, dummies_of, unset_cell, State, local};
 ghost use Rattle.hep_arena.specs.Holes.{IsOut};
-ghost use Rattle.hep_step.specs.LayoutDescriptors.{number as slot_of_number};
+ghost use Rattle.hep_layout.specs.Descriptors.{number as slot_of_number};
 ghost use Rattle.hep_proc.specs.Keeping.{FramesOf, Keeps};
 ghost use Rattle.hep_proc.specs.Nodes.{nodes_of};
 ghost use Rattle.hep_proc.specs.Placing.{KeepsPlaces};

@@ -1,6 +1,6 @@
 //! Whether the arrays among the dummy arguments of a unit that is called fit what is given to them.
 ghost use Rattle.std.specs.Prelude.{◌≡◌, ◌<◌, ◌≤◌, ◌+◌, ◌++◌, ◌∷◌, [], true, length, slice_get, vec_len, vec_capacity};
-ghost use Rattle.hep_step.specs.ImageDummyDummyArgument.TheVariants.{Adjustable};
+ghost use Rattle.hep_image.specs.declared.dummy.DummyArgument.TheVariants.{Adjustable};
 ghost use Rattle.hep_step.specs.Shapes as passing;
 ghost use Rattle.hep_binding.specs.Fitting as definitions;
 ghost use Rattle.hep_binding.specs.Fitting.{AreShapable, IsShapable, are_fitting, shapes_of};

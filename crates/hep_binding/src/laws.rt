@@ -7,7 +7,7 @@ ghost use Rattle.hep_machine.specs.Words.{unit_on_top, adjustable_dimensions_of_
 ghost use Rattle.hep_machine.specs.declared.shape.Bound.{Bound};
 ghost use Rattle.hep_arena.specs.Gaps.{frame_among};
 ghost use Rattle.hep_arena.specs.Space.{Space};
-ghost use Rattle.hep_step.specs.LayoutWords.{IsLaid, Nodes};
+ghost use Rattle.hep_layout.specs.Words.{IsLaid, Nodes};
 ghost use Rattle.hep_proc.specs.Keeping.{FramesOf, IsBegun, Keeps};
 ghost use Rattle.hep_step.specs.declared.given.Given.{Given};
 ghost use Rattle.hep_step.specs.declared.way.Way.{Way};

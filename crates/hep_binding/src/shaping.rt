@@ -10,7 +10,7 @@ ghost use Rattle.hep_proc.specs.Placing.{KeepsPlaces};
 ghost use Rattle.hep_binding.specs.Shapes.{AreShaping, IsBoundPut, IsFramedBy, IsShaping, cells_of_shape, cells_of_shapes};
 ghost use Rattle.hep_binding.specs.Shapes.{cells_to_bounds_of};
 ghost use Rattle.hep_binding.specs.Writing.{AreCellsOut, unit_framed, written_up_to};
-ghost use Rattle.hep_step.specs.LayoutWords.{FrameNode};
+ghost use Rattle.hep_layout.specs.Words.{FrameNode};
 
 use crate::binding::number;
 use hep_machine::Bound;

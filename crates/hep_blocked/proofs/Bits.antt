@@ -6,7 +6,7 @@ use Rattle.std.proofs.Math.Nat.{div-div-eq-div-mul, div-one}
 use Rattle.std.proofs.lemmas.Bool.{cases_eq, ne_eqb, eq-eqb}
 use Rattle.std.proofs.lemmas.List.{get_or-set_same, get_or-set_other}
 use Rattle.std.proofs.lemmas.Nat.Bits.{bit_at-suc}
-use Rattle.hep_lengths.specs.Trees.{number}
+use Rattle.hep_arena.specs.Trees.{number}
 use Rattle.hep_blocked.specs.Numbers.{AreBits}
 
 pub bit_at-shifted : (p n i : ℕ) → bit_at (n / 2 ^ p) i ≡ bit_at n (p + i)

@@ -1,3 +1,4 @@
+pub mod Wants
 pub mod Adding
 pub mod Wanting
 pub mod Tying

@@ -4,7 +4,7 @@ use Rattle.std.proofs.lemmas.Bool.{cases_lt, lt-ltb, le-ltb, ne_eqb, eq-eqb}
 use Rattle.std.proofs.lemmas.List.{get_or_past}
 use Rattle.hep_machine.specs.Words.{first_above, is_number_among, without}
 use Rattle.hep_blocked.specs.Numbers.{AreRising, numbers_from, with_number}
-use Rattle.hep_lengths.specs.Trees.{number}
+use Rattle.hep_arena.specs.Trees.{number}
 
 -- ---- a number below all of them
 

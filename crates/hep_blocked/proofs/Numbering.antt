@@ -8,7 +8,7 @@ use Rattle.hep_machine.specs.Words.{is_number_among, without}
 use Rattle.hep_blocked.specs.Numbers.{Numbers, with_number}
 use Rattle.hep_cells.specs.declared.want.Want.{Want}
 use Rattle.hep_blocked.specs.Lists.{AreNumbers, IsTied, without_numbers}
-use Rattle.hep_wants.specs.Lists.{want_eq}
+use Rattle.hep_blocked.specs.Queues.{want_eq}
 use Rattle.hep_blocked.specs.Waiting.{awake, waiting_at, wants, with_want}
 use Rattle.hep_blocked.proofs.Adding.{among-one}
 use Rattle.hep_blocked.proofs.Tying.{grown-length, waiting-blocked}

@@ -5,11 +5,11 @@ use Rattle.std.proofs.Math.ListN.{get_or-eq_default}
 use Rattle.hep_machine.specs.Words.{is_number_among, without}
 use Rattle.hep_blocked.specs.Numbers.{Numbers}
 use Rattle.hep_cells.specs.declared.want.Want.{Want}
-use Rattle.hep_wants.specs.Lists.{without_process, want_eq}
+use Rattle.hep_blocked.specs.Queues.{without_process, want_eq}
 use Rattle.hep_blocked.specs.Lists.{AreApart, AreNumbers, IsTied}
 use Rattle.hep_blocked.specs.Waiting.{waiting_at, wants, without_want}
 use Rattle.hep_blocked.proofs.Numbering.{among-without}
-use Rattle.hep_wants.proofs.Wants.{want-apart}
+use Rattle.hep_blocked.proofs.Wants.{want-apart}
 
 -- ---- the lists
 

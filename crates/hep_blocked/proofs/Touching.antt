@@ -5,7 +5,7 @@ use Rattle.hep_machine.specs.Words.{signed_value, Binding, binding_for, binding_
 use Rattle.hep_machine.specs.Words.{Process, printing, purging, resuming, state_resumed, stopping, testing_condition, Actual, Next, does, wants, Redex, applying, combining, negating, signing, testing, next_of, is_purge, purges, top_purges, Scope, location_of_name, loop_at, Cell, Dummy, Level, Location, Loop, State, Store, Answer, fails, Top, answer_at}
 use Rattle.hep_machine.specs.Words.{answer_of, answer_of_read_at, answer_of_test_at, binding_of, by_result, iterations, next_activation, result_after_action, result_after_answer, result_after_assignment, result_after_call, result_after_create, result_after_do, result_after_increment, result_after_loop_end}
 use Rattle.hep_machine.specs.Words.{result_after_loop_variable, result_after_next, result_after_write, scope_of, step, unit_called, unit_on_top, written, same_location, with_cell}
-use Rattle.hep_machine.specs.Words.{evaluating, function_name, function_unit, referring, resuming, result_after_leaving, result_after_result, result_after_value, state_resumed, Name, Process}
+use Rattle.hep_machine.specs.Words.{evaluating, function_name, function_unit, referring, result_after_leaving, result_after_result, result_after_value, Name}
 use Rattle.hep_machine.specs.declared.event.Kind.{Kind}
 use Rattle.hep_machine.specs.Access as access
 use Rattle.hep_machine.specs.Evaluation.{reading}

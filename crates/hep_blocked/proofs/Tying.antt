@@ -6,12 +6,12 @@ use Rattle.std.proofs.lemmas.List.{ext_get_or, length-map, length-replicate}
 use Rattle.std.proofs.Math.ListN.{get_or-eq_default}
 use Rattle.hep_machine.specs.Words.{is_number_among}
 use Rattle.hep_cells.specs.declared.want.Want.{Want}
-use Rattle.hep_wants.specs.Lists.{with_process, without_list, want_eq}
+use Rattle.hep_blocked.specs.Queues.{with_process, without_list, want_eq}
 use Rattle.hep_blocked.specs.Lists.{AreApart, IsTied, cleared}
 use Rattle.hep_blocked.specs.Waiting.{awake, numbers_waiting, waiting_at, wants, with_numbers, with_want}
 use Rattle.hep_blocked.proofs.Adding.{among-behind, among-many, numbers-same}
 use Rattle.hep_blocked.proofs.Wanting.{among-waiting, at-awake, at-grown, awake-keeps, awake-wants, waiting-awake}
-use Rattle.hep_wants.proofs.Wants.{want-apart, want-is, want-same}
+use Rattle.hep_blocked.proofs.Wants.{want-apart, want-is, want-same}
 
 -- ---- the processes in a list wait no more
 

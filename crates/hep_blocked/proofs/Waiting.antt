@@ -5,7 +5,7 @@ use Rattle.hep_machine.specs.Words.{assigning, branching, calling, choosing, con
 use Rattle.hep_machine.specs.Words.{living, loop_at, unit_of, Level, Location, Loop, Process, State, Store, Answer, fails, Top, Wanted, answer_at, answer_of, answer_of_read_at, answer_of_test_at, binding_of, by_result, iterations, result_after_action, result_after_answer, result_after_assignment, result_after_call}
 use Rattle.hep_machine.specs.Words.{result_after_create, result_after_do, result_after_increment, result_after_loop_end, result_after_loop_variable, result_after_next, result_after_purge, result_after_write, scope_of, step_result_of, step_result_of_top, store_after_purge, unit_called, unit_on_top, wanted_by, wanted_of}
 use Rattle.hep_machine.specs.Words.{written}
-use Rattle.hep_machine.specs.Words.{evaluating, function_name, function_unit, referring, resuming, result_after_leaving, result_after_result, result_after_value, Name}
+use Rattle.hep_machine.specs.Words.{evaluating, function_name, function_unit, referring, result_after_leaving, result_after_result, result_after_value, Name}
 use Rattle.hep_machine.specs.declared.event.Kind.{Kind}
 use Rattle.hep_machine.specs.Access as access
 use Rattle.hep_machine.specs.Evaluation.{reading}

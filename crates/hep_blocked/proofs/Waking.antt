@@ -6,7 +6,7 @@ use mathlib.Core.Bool.{beq}
 use Rattle.hep_machine.specs.Words.{Units, Layout, is_held, layout_of, run, Location, State, step, is_waiting}
 use Rattle.hep_cells.specs.Changes.{full_after}
 use Rattle.hep_cells.specs.declared.want.Want.{Want}
-use Rattle.hep_wants.specs.Lists.{want_eq}
+use Rattle.hep_blocked.specs.Queues.{want_eq}
 use Rattle.hep_layout.specs.Words.{address}
 use Rattle.hep_blocked.specs.Awaiting.{NeedsCell}
 use Rattle.hep_blocked.proofs.Awaiting.{need-after, waits-by-state}

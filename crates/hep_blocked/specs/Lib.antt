@@ -1,3 +1,4 @@
+pub mod Queues
 pub mod Waiting
 pub mod Lists
 pub mod Numbers

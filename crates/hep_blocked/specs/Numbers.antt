@@ -1,8 +1,8 @@
 -- The ready processes by their numbers: docs/MACHINE.md, "Which process comes next".
 use Rattle.std.specs.Prelude.{◌≡◌, ℕ, zero, suc, ◌+◌, ◌<◌, ◌≤◌, nat_eq, nat_lt, if◌then◌else◌, List, [], ◌∷◌, Option, Some, None}
 use Rattle.std.specs.Int.{bit_at}
-use Rattle.hep_lengths.specs.declared.tree.Tree.{Tree}
-use Rattle.hep_lengths.specs.Trees.{IsTree, leaves_of, number}
+use Rattle.hep_arena.specs.declared.tree.Tree.{Tree}
+use Rattle.hep_arena.specs.Trees.{IsTree, leaves_of, number}
 
 -- how many numbers have room, which are those from 1 on, and the numbers of the ready processes, which rise
 pub record Numbers : Type 0 where

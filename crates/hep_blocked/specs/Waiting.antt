@@ -2,7 +2,7 @@
 use Rattle.std.specs.Prelude.{ℕ, zero, suc, ◌-◌, ◌&&◌, Bool, false, if◌then◌else◌, nat_lt, List, [], ◌∷◌, ◌++◌, length, replicate, slice_index_or, slice_set, Option, Some, None, is_some}
 use Rattle.hep_blocked.specs.Numbers.{with_number}
 use Rattle.hep_cells.specs.declared.want.Want.{Want}
-use Rattle.hep_wants.specs.Lists.{want_eq}
+use Rattle.hep_blocked.specs.Queues.{want_eq}
 
 -- what is waited for, if anything is, is this
 abbrev pub wants : Want → Option Want → Bool

@@ -1,3 +1,7 @@
+//! Who waits for what, in wait queues; who is ready; and that the source machine says the same.
+//!
+//! The processes that wait, in a list for each thing that they wait for.
+//!
 //! Which processes wait and which are ready: a process waits for a cell of the arena to be full or to be empty.
 //!
 //! A step that fills or empties a cell wakes those that wait for that and looks at no others. That the lists are those of the source
@@ -8,6 +12,7 @@ pub mod laws;
 mod lists;
 pub mod need_laws;
 mod places;
+pub mod queues;
 mod ready;
 mod roster;
 mod waits;

@@ -4,7 +4,7 @@ ghost use Rattle.hep_machine.specs.Words.{is_number_among};
 ghost use Rattle.hep_blocked.specs.Lists.{cleared, without_numbers};
 ghost use Rattle.hep_blocked.specs.Waiting.{with_numbers};
 
-use crate::Ready;
+use crate::ready::Ready;
 use hep_cells::Want;
 use std::alloc::AllocError;
 

@@ -4,7 +4,7 @@ ghost use Rattle.std.specs.Prelude.{◌≡◌, ◌==◌, ◌<◌, ◌≤◌, ℕ
 ghost use Rattle.hep_machine.specs.Words.{first_above, is_number_among, next_of_ready, without};
 ghost use Rattle.hep_blocked.specs.Numbers.{AreRising, IsNextBit, with_number};
 
-use hep_lengths::Tree;
+use hep_arena::Tree;
 use std::alloc::{AllocError, Global};
 use std::marker::Model;
 

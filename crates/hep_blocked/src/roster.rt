@@ -8,7 +8,8 @@ ghost use Rattle.hep_blocked.specs.Rolls.{KeepsRoll, is_enrolled, place_of, want
 ghost use Rattle.hep_blocked.specs.Waiting.{awake, waiting_at, wants};
 
 use crate::places::{append, number_at, place_of, places_to};
-use crate::{Ready, Waits};
+use crate::ready::Ready;
+use crate::waits::Waits;
 use hep_cells::Want;
 use std::alloc::{AllocError, Global};
 use std::marker::Model;

@@ -5,10 +5,10 @@ ghost use Rattle.hep_machine.specs.Words.{is_number_among};
 ghost use Rattle.hep_blocked.specs.Waiting.{awake, next_waiting, numbers_waiting, waiting_at, waits_for};
 ghost use Rattle.hep_blocked.specs.Waiting.{with_numbers, with_want, without_want};
 
-use crate::Ready;
 use crate::lists::{grow, wake_each};
+use crate::queues::{Lists, add, take, take_out};
+use crate::ready::Ready;
 use hep_cells::Want;
-use hep_wants::lists::{Lists, add, take, take_out};
 use indexmap::IndexMap;
 use std::alloc::{AllocError, Global};
 use std::marker::Model;
@@ -43,7 +43,7 @@ impl Model for Waits {
     ghost use Rattle.hep_cells.specs.declared.want.Want.{Want as PureWant};
     ghost use Rattle.hep_cells.specs.contracts.want.Want as want;
     ghost use Rattle.indexmap.specs.IndexMap.{IsUnique};
-    ghost use Rattle.hep_wants.specs.Lists.{list_of, want_eq};
+    ghost use Rattle.hep_blocked.specs.Queues.{list_of, want_eq};
     ghost use Rattle.hep_blocked.specs.Lists.{AreNumbers, IsTied};
 
     ghost Value = { List (Option PureWant) };

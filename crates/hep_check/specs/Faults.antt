@@ -9,8 +9,8 @@ use Rattle.hep_check.specs.declared.checked.Unaccepted.{Unaccepted}
 use Rattle.hep_check.specs.declared.checked.Unaccepted.TheVariants as unaccepted
 use Rattle.hep_check.specs.declared.checked.Rejected.{Rejected}
 use Rattle.hep_check.specs.declared.checked.Rejected.TheVariants as rejected
-use Rattle.hep_culprits.specs.Culprits.{culprit_of}
-use Rattle.hep_judging.specs.Further.{as_told, further}
+use Rattle.hep_check.specs.Culprits.{culprit_of}
+use Rattle.hep_check.specs.Further.{as_told, further}
 use Rattle.hep_machine.specs.Words.{spelling, Units}
 
 -- a refusal says what a violation is; want of memory says nothing of it

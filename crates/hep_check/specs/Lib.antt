@@ -1,2 +1,13 @@
+pub mod Trees
+pub mod Lone
+pub mod NameClashes
+pub mod Forms
+pub mod Culprits
+pub mod Texts
+pub mod Told
+pub mod Lines
+pub mod Found
+pub mod Further
+pub mod Resuming
 pub mod Faults
 pub mod Listing

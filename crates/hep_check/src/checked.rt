@@ -4,11 +4,11 @@ ghost use Rattle.hep_machine.specs.Words.{frame_cells};
 ghost use Rattle.hep_conditions.specs.Words.{IsAccepted, first_violation};
 ghost use Rattle.hep_check.specs.Faults.{IsRejectedBy, IsViolatedBy, Refuses, Reports};
 
+use crate::frames::frames;
+use crate::further::{Told, told_violations};
+use crate::program::first_violation;
 use hep_base::Refusal as CheckFault;
 use hep_conditions::{Checked, Violation};
-use hep_judging::frames::frames;
-use hep_judging::further::{Told, told_violations};
-use hep_judging::program::first_violation;
 use hep_names::ProgramSymbols;
 use hep_source::Program;
 use std::alloc::{AllocError, Global};

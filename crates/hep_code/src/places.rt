@@ -2,7 +2,7 @@
 ghost use Rattle.std.specs.Prelude.{◌≡◌};
 ghost use Rattle.hep_code.specs.Places as spec;
 
-use crate::Variable;
+use crate::variable::Variable;
 use hep_source::Name;
 use indexmap::IndexMap;
 

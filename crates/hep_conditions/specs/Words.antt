@@ -57,4 +57,3 @@ unfoldable pub use Rattle.hep_conditions.specs.Nesting.{is_loop_variable}
 unfoldable pub use Rattle.hep_conditions.specs.Arguments.{fits_reference, list_of}
 unfoldable pub use Rattle.hep_conditions.specs.Names.{function_names, function_names_alone, is_untyped, misnamed, misused_results, referenced_typed}
 unfoldable pub use Rattle.hep_conditions.specs.Names.{result_names}
-unfoldable pub use Rattle.hep_conditions.specs.Conditions.{is_resume, resume_violations}

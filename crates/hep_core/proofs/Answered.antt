@@ -1,26 +1,26 @@
 -- What a commit of a segment with steps answers, from the machine on in which constants ahead are operands.
 use Rattle.std.proofs.Common.{◌≡◌, ◌≢◌, ◌⊎◌, inl, inr, ℕ, suc, ◌+◌, ◌<◌, ◌≤◌, Bool, true, false, List, [], ◌∷◌, ◌++◌, length, Ok, Err, Some, None, refl, sym, ap, ◌∙◌, subst, arith, replicate}
 use Rattle.hep_machine.specs.Words.{AreSteps, is_waiting, run_from, schedule_of}
-use Rattle.hep_taking.specs.PrivateRecordRecord.{Record}
-use Rattle.hep_taking.specs.Segments.{IsMadeFrom, SegmentValue, Start, is_next_private}
-use Rattle.hep_views.specs.StateMachineMachine.{Machine}
-use Rattle.hep_views.specs.StateWords.{HasLevels, HasNoGap, Snapshot, snapshot_of}
-use Rattle.hep_taking.specs.Levels.{start_in}
-use Rattle.hep_taking.specs.Taking.{HasTakenIn, IsNextPrivateIn}
-use Rattle.hep_taking.proofs.Behind.{levels-taken, private-taken}
-use Rattle.hep_taking.proofs.Taken.{AreTurnsIn}
+use Rattle.hep_private.specs.declared.record.Record.{Record}
+use Rattle.hep_commit.specs.Segments.{IsMadeFrom, SegmentValue, Start, is_next_private}
+use Rattle.hep_state.specs.declared.core_state.CoreState.{CoreState}
+use Rattle.hep_state.specs.Words.{HasLevels, HasNoGap, Snapshot, snapshot_of}
+use Rattle.hep_commit.specs.Levels.{start_in}
+use Rattle.hep_commit.specs.Taking.{HasTakenIn, IsNextPrivateIn}
+use Rattle.hep_commit.proofs.Behind.{levels-taken, private-taken}
+use Rattle.hep_commit.proofs.Taken.{AreTurnsIn}
 use Rattle.hep_core.specs.Commits.{HasSteps, IsCommitted, IsGood, IsGoodAt, IsLeftOut, IsMadeBehind, IsOutBy, are_private, core_after_return, state_along}
 use Rattle.hep_core.specs.Invariant.{CoreInvariant, core_value, placed_value}
 use Rattle.hep_core.specs.Places.{Placed, with_core}
 use Rattle.hep_core.specs.Value.{CoreValue, core_after_choice, state_of}
 use Rattle.hep_core.specs.declared.fault.CommitFault.TheVariants as committing
-use Rattle.hep_core.specs.declared.scheduler.Core.TheInside.{Inside}
+use Rattle.hep_core.specs.declared.run_core.Core.TheInside.{Inside}
 use Rattle.hep_core.specs.declared.stop.ChoiceStop.TheVariants.{StepLimit}
 use Rattle.hep_core.specs.declared.stop.Turn.{Turn}
 use Rattle.hep_core.proofs.Behind.{taken-by}
 use Rattle.hep_core.proofs.Committing.{AreTopsRunning, DependOnReads, IsSettledIn, next-of, where-now}
 
-module _ (i : Inside) (s : SegmentValue) (out : IsOutBy (core_value i) s) (m : Machine) (is : IsSettledIn i s.id.process m) (tops : AreTopsRunning i.image) (law : DependOnReads) (made : IsMadeFrom i.image (start_in is.turn.living) s) (n : ℕ)
+module _ (i : Inside) (s : SegmentValue) (out : IsOutBy (core_value i) s) (m : CoreState) (is : IsSettledIn i s.id.process m) (tops : AreTopsRunning i.image) (law : DependOnReads) (made : IsMadeFrom i.image (start_in is.turn.living) s) (n : ℕ)
     (many : length s.records ≡ suc n) where
   abbrev here : Start
   here = start_in is.turn.living
@@ -67,7 +67,7 @@ module _ (i : Inside) (s : SegmentValue) (out : IsOutBy (core_value i) s) (m : M
         subst (λ j. (suc (suc n) ≡ suc j) × (are_private i.image here (suc j) ≡ false) × HasSteps back s.id.process (suc j) new.core) (sym many) (refl, other, (steps, same))))
 
   -- whether the step behind those of the segment is private
-  pub whether-private : AreTurnsIn i.image → (after : Machine) → HasTakenIn s m after → (b : Bool) → IsNextPrivateIn b i.image s.id.process after → b ≡ are_private i.image here (suc (suc n))
+  pub whether-private : AreTurnsIn i.image → (after : CoreState) → HasTakenIn s m after → (b : Bool) → IsNextPrivateIn b i.image s.id.process after → b ≡ are_private i.image here (suc (suc n))
   whether-private laws after taken b next =
       subst (λ (z : Snapshot). (levels : HasLevels z s.id.process) → b ≡ is_next_private i.image (start_in levels)) (taken is.turn.living) next (levels-taken is.turn.living s)
       ∙ (private-taken laws is.after.few is.after.after is.turn.running is.turn.living s made

@@ -1,13 +1,13 @@
 -- A turn in one is a check-out of the process that comes next, and the commit of the segment that is computed of its ticket.
 use Rattle.std.proofs.Common.{◌≡◌, ◌≢◌, ◌⊎◌, ℕ, suc, ◌+◌, ◌<◌, true, false, List, [], ◌∷◌, ◌++◌, length, Ok, Some, None, inl, inr, refl, sym, ap, ◌∙◌, subst, arith}
 use Rattle.hep_machine.specs.Words.{is_waiting, living, schedule_of}
-use Rattle.hep_taking.specs.PrivateOwn.{begun}
-use Rattle.hep_taking.specs.PrivateRecordRecord.{Record}
-use Rattle.hep_taking.specs.TicketId.{TicketId}
-use Rattle.hep_taking.specs.Segments.{IsKept, IsMadeOf, SegmentValue, Start, segment_value}
-use Rattle.hep_taking.specs.Levels.{ticket_of}
-use Rattle.hep_taking.specs.OwnCells.{own_cells_of}
-use Rattle.hep_views.specs.StateWords.{HasNoGap}
+use Rattle.hep_private.specs.Own.{begun}
+use Rattle.hep_private.specs.declared.record.Record.{Record}
+use Rattle.hep_commit.specs.TicketId.{TicketId}
+use Rattle.hep_commit.specs.Segments.{IsKept, IsMadeOf, SegmentValue, Start, segment_value}
+use Rattle.hep_commit.specs.Levels.{ticket_of}
+use Rattle.hep_commit.specs.OwnCells.{own_cells_of}
+use Rattle.hep_state.specs.Words.{HasNoGap}
 use Rattle.hep_core.specs.Commits.{HasMovedAtOnce, HasMovedBehind, HasSteps, IsLeftOut, IsMadeBehind, IsOutBy, IsTurnAtOnce, StandsAlone, are_private, core_after_return, core_after_ticket, most_tickets, next_id, state_along}
 use Rattle.hep_core.specs.Going.{AreChoices}
 use Rattle.hep_core.specs.Places.{ArePlaces, IsWhere, Placed, with_core}

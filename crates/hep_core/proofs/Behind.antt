@@ -6,31 +6,31 @@ use Rattle.hep_machine.specs.Words.{Layout, Progress, Units, is_held, is_number_
 use Rattle.hep_cells.specs.declared.want.Want.{Want}
 use Rattle.hep_blocked.specs.Listing.{AreListed, GoesAlong, GoesAlongEmptying, HasEmptied, awake_by, awake_where, is_noted, is_woken, is_woken_where}
 use Rattle.hep_blocked.specs.Rolls.{KeepsRoll, Roll, want_of}
-use Rattle.hep_entries.specs.Entries.{Kept}
-use Rattle.hep_taking.specs.Going.{HasGone, MakesMoves}
-use Rattle.hep_taking.specs.PrivateRecordRecord.{Record}
-use Rattle.hep_taking.specs.ProcStacks.{stack_with}
-use Rattle.hep_views.specs.PurgingPurged.{have_cell}
-use Rattle.hep_taking.specs.Segments.{IsMadeFrom, SegmentValue, Start}
-use Rattle.hep_views.specs.StateMachineMachine.{Machine}
-use Rattle.hep_views.specs.StateTurnTurned.{Turned}
-use Rattle.hep_views.specs.StateTurnTurned.TheVariants.{Stepped, Purged, Waits}
-use Rattle.hep_views.specs.StateWords.{CanTurn, HasLevels, HasNoGap, HasSettledTop, HasTurned, IsAfter, IsItsTurn, IsMachineAfter, IsSameButTop, LeavesOthers, Snapshot, snapshot_of}
-use Rattle.hep_views.proofs.StateBeside.{beside-again, beside-with}
-use Rattle.hep_taking.specs.declared.saving.Saved.{Saved}
-use Rattle.hep_views.proofs.StateHistories.{after-history}
-use Rattle.hep_views.proofs.StateNumbered.{length-stacks}
-use Rattle.hep_taking.specs.Levels.{snapshot_taken, start_in}
-use Rattle.hep_taking.specs.OwnCells.{own_cells_of}
-use Rattle.hep_taking.specs.Saved.{SavedValue, saved_of, snapshot_restored}
-use Rattle.hep_taking.specs.Taking.{HasRestored, HasTakenIn}
-use Rattle.hep_taking.proofs.Behind.{AreAsBefore, levels-left, levels-taken, unit-left, unit-taken}
+use Rattle.hep_history.specs.Entries.{Kept}
+use Rattle.hep_commit.specs.Going.{HasGone, MakesMoves}
+use Rattle.hep_private.specs.declared.record.Record.{Record}
+use Rattle.hep_proc.specs.Stacks.{stack_with}
+use Rattle.hep_step.specs.Purged.{have_cell}
+use Rattle.hep_commit.specs.Segments.{IsMadeFrom, SegmentValue, Start}
+use Rattle.hep_state.specs.declared.core_state.CoreState.{CoreState}
+use Rattle.hep_state.specs.declared.turn.Turned.{Turned}
+use Rattle.hep_state.specs.declared.turn.Turned.TheVariants.{Stepped, Purged, Waits}
+use Rattle.hep_state.specs.Words.{CanTurn, HasLevels, HasNoGap, HasSettledTop, HasTurned, IsAfter, IsItsTurn, IsMachineAfter, IsSameButTop, LeavesOthers, Snapshot, snapshot_of}
+use Rattle.hep_state.proofs.Beside.{beside-again, beside-with}
+use Rattle.hep_commit.specs.declared.saving.Saved.{Saved}
+use Rattle.hep_state.proofs.Histories.{after-history}
+use Rattle.hep_state.proofs.Numbered.{length-stacks}
+use Rattle.hep_commit.specs.Levels.{snapshot_taken, start_in}
+use Rattle.hep_commit.specs.OwnCells.{own_cells_of}
+use Rattle.hep_commit.specs.Saved.{SavedValue, saved_of, snapshot_restored}
+use Rattle.hep_commit.specs.Taking.{HasRestored, HasTakenIn}
+use Rattle.hep_commit.proofs.Behind.{AreAsBefore, levels-left, levels-taken, unit-left, unit-taken}
 use Rattle.hep_views.specs.Seen.{machine_view}
 use Rattle.hep_core.specs.Commits.{IsLeftOut, IsMadeBehind, IsTakenBy, core_after_return}
 use Rattle.hep_core.specs.Invariant.{CoreInvariant, core_value}
 use Rattle.hep_core.specs.Value.{CoreValue, HasNoStop, IsStop}
 use Rattle.hep_core.specs.Waking.{GoAlongTurn, HasRoomLeft, awake_after, is_woken_after}
-use Rattle.hep_core.specs.declared.scheduler.Core.TheInside.{Inside}
+use Rattle.hep_core.specs.declared.run_core.Core.TheInside.{Inside}
 use Rattle.hep_core.specs.declared.stop.ChoiceStop.{ChoiceStop}
 use Rattle.hep_core.specs.declared.stop.Turn.{Turn}
 use Rattle.hep_core.proofs.Going.{GoAlong}
@@ -43,12 +43,12 @@ use Rattle.hep_core.proofs.Private.{few-now, kept-after}
 pub roll-same : (roll : Roll) → KeepsRoll roll roll
 roll-same roll = record { grows = omega arith; ready = λ q. refl; waiting = λ q. refl; last = refl }
 
-pub settled-room : (i : Inside) → CoreInvariant i → (p : ℕ) (m : Machine) → IsSettledIn i p m → HasRoomLeft m i.roster
+pub settled-room : (i : Inside) → CoreInvariant i → (p : ℕ) (m : CoreState) → IsSettledIn i p m → HasRoomLeft m i.roster
 settled-room i k p m is = record { room = omega (arith, is.made, k.room.room); last = omega (arith, is.made, k.room.last) }
 
 -- ---- the machine, once the private steps were made
 
-pub record HasTakenSteps (i : Inside) (p n : ℕ) (m : Machine) : Type 0 where
+pub record HasTakenSteps (i : Inside) (p n : ℕ) (m : CoreState) : Type 0 where
   pub turns : List ℕ
   pub gone : HasGone i.image i.cells p (schedule_of i.history.items) (suc n) turns
   pub kept : IsMachineAfter i.image i.cells turns m
@@ -58,7 +58,7 @@ pub record HasTakenSteps (i : Inside) (p n : ℕ) (m : Machine) : Type 0 where
   pub living : HasLevels (snapshot_of m) p
   pub others : LeavesOthers p (snapshot_of i.machine) (snapshot_of m)
 
-pub taken-steps : (i : Inside) (k : CoreInvariant i) (s : SegmentValue) (before after : Machine) (is : IsSettledIn i s.id.process before) → HasNoStop (core_value i) → (n : ℕ) → length s.records ≡ suc n
+pub taken-steps : (i : Inside) (k : CoreInvariant i) (s : SegmentValue) (before after : CoreState) (is : IsSettledIn i s.id.process before) → HasNoStop (core_value i) → (n : ℕ) → length s.records ≡ suc n
     → MakesMoves i.image s.id.process before (length s.records) after → after ≡ record before { frames = after.frames; processes = after.processes } → HasTakenIn s before after → HasTakenSteps i s.id.process n after
 taken-steps i k s before after is going n many gone others taken =
     let h = i.history.items in
@@ -68,9 +68,9 @@ taken-steps i k s before after is going n many gone others taken =
       turns = g.0;
       gone = subst (λ m. HasGone i.image i.cells s.id.process (schedule_of h) m g.0) many g.1;
       kept = g.2;
-      activations = ap (λ (m : Machine). m.activations) others ∙ same;
-      made = ap (λ (m : Machine). m.made) others ∙ is.made;
-      running = ap (λ (m : Machine). m.halted) others ∙ is.turn.running;
+      activations = ap (λ (m : CoreState). m.activations) others ∙ same;
+      made = ap (λ (m : CoreState). m.made) others ∙ is.made;
+      running = ap (λ (m : CoreState). m.halted) others ∙ is.turn.running;
       living = subst (λ m. HasLevels m s.id.process) (sym (taken is.turn.living)) (levels-taken is.turn.living s);
       others =
           let p = s.id.process in
@@ -80,13 +80,13 @@ taken-steps i k s before after is going n many gone others taken =
           beside-with p (snapshot_of before) (snapshot_of after) (stack_with l.level l.below l.operands l.pending) came l.kept (ap (λ (m : Snapshot). m.processes) (taken l)));
     }
 
-module _ (i : Inside) (p n : ℕ) (m : Machine) (t : HasTakenSteps i p n m) where
+module _ (i : Inside) (p n : ℕ) (m : CoreState) (t : HasTakenSteps i p n m) where
   pub turn-behind : IsItsTurn i.image p m
   turn-behind = record { after = (i.cells, t.turns, t.kept); running = t.running; living = t.living }
 
 -- ---- the core behind them
 
-module _ (law : GoAlong) (i : Inside) (k : CoreInvariant i) (p n : ℕ) (m : Machine) (t : HasTakenSteps i p n m) (lt : length i.history.items < i.limit) (few : suc n ≤ most_steps) (es : List Entry) (is : es ≡ i.history.items ++ record { process = p; steps = suc n } ∷ []) where
+module _ (law : GoAlong) (i : Inside) (k : CoreInvariant i) (p n : ℕ) (m : CoreState) (t : HasTakenSteps i p n m) (lt : length i.history.items < i.limit) (few : suc n ≤ most_steps) (es : List Entry) (is : es ≡ i.history.items ++ record { process = p; steps = suc n } ∷ []) where
   abbrev back : CoreValue
   back = core_after_return (core_value i) p
 
@@ -108,7 +108,7 @@ module _ (law : GoAlong) (i : Inside) (k : CoreInvariant i) (p n : ℕ) (m : Mac
 
 -- ---- the machine, once what its process had for itself is put back
 
-module _ (law : AreAsBefore) (program : Units) (p : ℕ) (s : SegmentValue) (before taken after : Machine) (levels : HasLevels (snapshot_of before) p) (made : IsMadeFrom program (start_in levels) s) (is : snapshot_of taken ≡ snapshot_taken levels s)
+module _ (law : AreAsBefore) (program : Units) (p : ℕ) (s : SegmentValue) (before taken after : CoreState) (levels : HasLevels (snapshot_of before) p) (made : IsMadeFrom program (start_in levels) s) (is : snapshot_of taken ≡ snapshot_taken levels s)
     (top : IsSameButTop program p (snapshot_of taken) (snapshot_of after)) where
   but-top : IsSameButTop program p (snapshot_taken levels s) (snapshot_of after)
   but-top = subst (λ m. IsSameButTop program p m (snapshot_of after)) is top
@@ -119,7 +119,7 @@ module _ (law : AreAsBefore) (program : Units) (p : ℕ) (s : SegmentValue) (bef
   pub unit-undone : (there : HasLevels (snapshot_of after) p) → there.level.unit ≡ levels.level.unit
   unit-undone there = unit-left program (levels-taken levels s) there but-top ∙ unit-taken levels s
 
-  pub undone : (saved : SavedValue) → saved ≡ saved_of levels (own_cells_of program levels.level.unit) → (restored : Machine) → HasRestored program p saved after restored → snapshot_of restored ≡ snapshot_of before
+  pub undone : (saved : SavedValue) → saved ≡ saved_of levels (own_cells_of program levels.level.unit) → (restored : CoreState) → HasRestored program p saved after restored → snapshot_of restored ≡ snapshot_of before
   undone saved kept restored put =
       let there = levels-undone in
       put there
@@ -144,14 +144,14 @@ saved-kept i saved k =
     }
 
 -- the core keeps its invariant with a machine that keeps the same state
-pub left-kept : (i : Inside) → CoreInvariant i → (history : Kept) → history.items ≡ i.history.items → (machine : Machine) → IsMachineAfter i.image i.cells (schedule_of i.history.items) machine
+pub left-kept : (i : Inside) → CoreInvariant i → (history : Kept) → history.items ≡ i.history.items → (machine : CoreState) → IsMachineAfter i.image i.cells (schedule_of i.history.items) machine
     → (roster : Roll) → KeepsRoll i.roster roster → HasRoomLeft machine roster → (saved : Saved) → (stop : Option ChoiceStop) → IsStop i.image i.cells i.limit i.history.items stop
     → CoreInvariant (record i { history = history; stop = stop; machine = machine; roster = roster; saved = saved })
 left-kept i k history same machine after roster noted room saved stop named =
     unturned-kept (record i { saved = saved }) (saved-kept i saved k) history machine roster same after noted room stop named
 
 -- and is seen as before, but for the stop
-pub left-value : (i : Inside) → CoreInvariant i → (history : Kept) → history.items ≡ i.history.items → (machine : Machine) → IsMachineAfter i.image i.cells (schedule_of i.history.items) machine
+pub left-value : (i : Inside) → CoreInvariant i → (history : Kept) → history.items ≡ i.history.items → (machine : CoreState) → IsMachineAfter i.image i.cells (schedule_of i.history.items) machine
     → AreSeen i.image i.cells → (stop : Option ChoiceStop)
     → record (core_value i) { history = history.items; stop = stop; view = machine_view i.image (snapshot_of machine) } ≡ record (core_value i) { stop = stop }
 left-value i k history same machine after seen stop =
@@ -178,7 +178,7 @@ GoAlongPurges =
     → HasEmptied program choices p layout emptied → GoesAlongEmptying program choices p emptied waiting waiting_after ready ready_after
     → AreListed program cells (choices ++ p ∷ []) (progress_after_step program x p (run program (choices ++ p ∷ []))) waiting_after ready_after
 
-module _ (law : GoAlong) (purges : GoAlongPurges) (program : Units) (cells : ℕ) (choices : List ℕ) (x : Progress) (p : ℕ) (before after : Machine) (was : IsAfter program cells choices (snapshot_of before)) (is : IsAfter program cells (choices ++ p ∷ []) (snapshot_of after))
+module _ (law : GoAlong) (purges : GoAlongPurges) (program : Units) (cells : ℕ) (choices : List ℕ) (x : Progress) (p : ℕ) (before after : CoreState) (was : IsAfter program cells choices (snapshot_of before)) (is : IsAfter program cells (choices ++ p ∷ []) (snapshot_of after))
     (first roster now : Roll) (kept : KeepsRoll first roster) (listed : AreListed program cells choices x (want_of first.waiting) first.ready) where
   lives : Bool
   lives = is_some (living (run program (choices ++ p ∷ [])) p)

@@ -5,27 +5,27 @@ use Rattle.std.proofs.lemmas.Option.{none-some, same_Some}
 use Rattle.hep_machine.specs.declared.event.Entry.{Entry}
 use Rattle.hep_machine.specs.Words.{State, Units, is_number_among, living, numbered, run, schedule_of, state_after, unit_at}
 use Rattle.hep_code.specs.Words.{left_to_do}
-use Rattle.hep_views.specs.ImagePrivate.{private_cells}
-use Rattle.hep_taking.specs.PrivateOwn.{Own, Values, begun, values_at}
-use Rattle.hep_taking.specs.PrivateRecordRecord.{Record}
-use Rattle.hep_taking.specs.PrivateReads.{HaveRead}
-use Rattle.hep_taking.specs.PrivateRecorded.{recorded}
-use Rattle.hep_taking.specs.Beside.{IsBeside, values_beside}
-use Rattle.hep_taking.specs.Gone.{own_of}
-use Rattle.hep_taking.specs.ProcStacks.{Stack, stack_with}
-use Rattle.hep_taking.specs.ProcProcessLocal.{Local}
-use Rattle.hep_taking.specs.TicketId.{TicketId}
-use Rattle.hep_taking.specs.Segments.{IsComputed, IsKept, IsMadeFrom, IsMadeOf, SegmentValue, Start, TicketValue}
-use Rattle.hep_taking.specs.Levels.{ticket_of}
-use Rattle.hep_taking.specs.OwnCells.{own_cells_of}
-use Rattle.hep_views.specs.StepSimulation.{unit_code}
+use Rattle.hep_image.specs.Private.{private_cells}
+use Rattle.hep_private.specs.Own.{Own, Values, begun, values_at}
+use Rattle.hep_private.specs.declared.record.Record.{Record}
+use Rattle.hep_private.specs.Reads.{HaveRead}
+use Rattle.hep_private.specs.Recorded.{recorded}
+use Rattle.hep_commit.specs.Beside.{IsBeside, values_beside}
+use Rattle.hep_commit.specs.Gone.{own_of}
+use Rattle.hep_proc.specs.Stacks.{Stack, stack_with}
+use Rattle.hep_proc.specs.declared.process.Local.{Local}
+use Rattle.hep_commit.specs.TicketId.{TicketId}
+use Rattle.hep_commit.specs.Segments.{IsComputed, IsKept, IsMadeFrom, IsMadeOf, SegmentValue, Start, TicketValue}
+use Rattle.hep_commit.specs.Levels.{ticket_of}
+use Rattle.hep_commit.specs.OwnCells.{own_cells_of}
+use Rattle.hep_step.specs.Simulation.{unit_code}
 use Rattle.hep_cells.specs.declared.want.Want.{Want}
-use Rattle.hep_views.specs.StateMachineMachine.{Machine}
-use Rattle.hep_views.specs.StateTurnTurned.{Turned}
-use Rattle.hep_views.specs.StateTurnTurned.TheVariants.{Stepped, Purged, Waits}
-use Rattle.hep_views.specs.StateWords.{HasLevels, IsAfter, IsMachineAfter, IsTurning, LeavesOthers, LeavesRest, Snapshot, TurnOf, frame_under, snapshot_of, turn_settled, turn_with}
-use Rattle.hep_views.proofs.StateTops.{settled, turning}
-use Rattle.hep_views.proofs.StateUnchanged.{carry}
+use Rattle.hep_state.specs.declared.core_state.CoreState.{CoreState}
+use Rattle.hep_state.specs.declared.turn.Turned.{Turned}
+use Rattle.hep_state.specs.declared.turn.Turned.TheVariants.{Stepped, Purged, Waits}
+use Rattle.hep_state.specs.Words.{HasLevels, IsAfter, IsMachineAfter, IsTurning, LeavesOthers, LeavesRest, Snapshot, TurnOf, frame_under, snapshot_of, turn_settled, turn_with}
+use Rattle.hep_state.proofs.Tops.{settled, turning}
+use Rattle.hep_state.proofs.Unchanged.{carry}
 use Rattle.hep_core.specs.Commits.{AreGoodStill, ComesNext, IsCancelled, IsCheckedOut, IsCommitted, IsFresh, IsGivenTo, IsGood, IsTakenBy, LeavesNext, core_after_return, core_after_ticket, next_id}
 use Rattle.hep_core.specs.Places.{IsHere, IsWhere, Place, Placed, place_on, places_of, with_core}
 use Rattle.hep_core.specs.Tickets.{has_ticket, is_out, without_process}
@@ -37,7 +37,7 @@ use Rattle.hep_core.specs.declared.fault.CommitFault.TheVariants as committing
 use Rattle.hep_core.specs.declared.stop.ChoiceStop.TheVariants.{ArenaFull, StepLimit}
 use Rattle.hep_core.specs.declared.stop.Turn.{Turn}
 use Rattle.hep_core.specs.Invariant.{CoreInvariant, core_value, placed_value}
-use Rattle.hep_core.specs.declared.scheduler.Core.TheInside.{Inside}
+use Rattle.hep_core.specs.declared.run_core.Core.TheInside.{Inside}
 use Rattle.hep_core.proofs.Committing.{DependOnReads}
 use Rattle.hep_core.proofs.Histories.{state-is}
 use Rattle.hep_core.proofs.Kept.{halted-is}
@@ -173,7 +173,7 @@ module _ (law : AreReadStill) (depend : DependOnReads) (program : Units) (cells 
       (subst (λ (t : State). living t s.id.process ≢ None) (sym state) next.0, next.1)
 
 -- after so many turns of p, where a core has its entries of them
-pub entry-next : AreReadStill → DependOnReads → (i : Inside) → CoreInvariant i → HasNoStop (core_value i) → (p n : ℕ) (es : List Entry) → schedule_of es ≡ schedule_of i.history.items ++ replicate n p → (m : Machine) → IsMachineAfter i.image i.cells (schedule_of es) m
+pub entry-next : AreReadStill → DependOnReads → (i : Inside) → CoreInvariant i → HasNoStop (core_value i) → (p n : ℕ) (es : List Entry) → schedule_of es ≡ schedule_of i.history.items ++ replicate n p → (m : CoreState) → IsMachineAfter i.image i.cells (schedule_of es) m
     → LeavesOthers p (snapshot_of i.machine) (snapshot_of m) → (core : CoreValue) → state_after i.image core.history ≡ state_after i.image es
     → LeavesNext p (placed_value i) (record { core = record core { program = i.image }; places = places_of i.image (snapshot_of m) })
 entry-next law depend i k going p n es turns m after stay core same =

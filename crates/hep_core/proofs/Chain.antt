@@ -6,22 +6,22 @@ use Rattle.hep_source.proofs.Tests.{some-there}
 use Rattle.hep_machine.specs.declared.event.Entry.{Entry}
 use Rattle.hep_machine.specs.Histories.{most_steps}
 use Rattle.hep_machine.specs.Words.{AreSteps, State, Units, is_held, last_process, layout_of, living, next_of_ready, progress_after, ready_in, run, run_from, schedule_of, state_after, view_of}
-use Rattle.hep_views.specs.ImageImage.{most_cells}
+use Rattle.hep_image.specs.Image.{most_cells}
 use Rattle.hep_cells.specs.declared.want.Want.{Want}
-use Rattle.hep_taking.specs.ProcStacks.{stack_with}
+use Rattle.hep_proc.specs.Stacks.{stack_with}
 use Rattle.hep_blocked.specs.Listing.{AreListed}
 use Rattle.hep_blocked.proofs.Members.{ready-rise, rising-same}
-use Rattle.hep_views.specs.StateWords.{HasLevels, IsAfter, Snapshot}
-use Rattle.hep_taking.specs.Going.{HasGone, none, more}
-use Rattle.hep_taking.specs.Levels.{snapshot_taken, start_in}
-use Rattle.hep_taking.specs.Segments.{IsMadeFrom, SegmentValue, Start, most_records, segment_value}
-use Rattle.hep_taking.specs.TicketId.{TicketId}
-use Rattle.hep_taking.specs.Turning.{are_private}
-use Rattle.hep_taking.proofs.Calls.{set-numbered}
-use Rattle.hep_taking.proofs.Parts.{IsAhead, IsParted, ahead-at, next-start, private-fewer, recorded_at, start_ahead, start_behind}
-use Rattle.hep_taking.proofs.Runs.{steps-are}
-use Rattle.hep_taking.proofs.Taken as taken
-use Rattle.hep_taking.proofs.Taken.{AreTurnsIn}
+use Rattle.hep_state.specs.Words.{HasLevels, IsAfter, Snapshot}
+use Rattle.hep_commit.specs.Going.{HasGone, none, more}
+use Rattle.hep_commit.specs.Levels.{snapshot_taken, start_in}
+use Rattle.hep_commit.specs.Segments.{IsMadeFrom, SegmentValue, Start, most_records, segment_value}
+use Rattle.hep_commit.specs.TicketId.{TicketId}
+use Rattle.hep_commit.specs.Turning.{are_private}
+use Rattle.hep_commit.proofs.Calls.{set-numbered}
+use Rattle.hep_commit.proofs.Parts.{IsAhead, IsParted, ahead-at, next-start, private-fewer, recorded_at, start_ahead, start_behind}
+use Rattle.hep_commit.proofs.Runs.{steps-are}
+use Rattle.hep_commit.proofs.Taken as taken
+use Rattle.hep_commit.proofs.Taken.{AreTurnsIn}
 use Rattle.hep_core.specs.Commits.{AreTurnsAtOnce, HasMovedBehind, HasSteps, IsMovedBehind, IsTurnAtOnce, core_after_return, most_tickets}
 use Rattle.hep_core.specs.Going.{entries_along}
 use Rattle.hep_core.specs.Places.{ArePlaces, IsWhere, Placed, places_of, with_core}

@@ -7,11 +7,11 @@ use Rattle.hep_machine.specs.Words.{Units, first_above, is_number_among, living,
 use Rattle.hep_cells.specs.declared.want.Want.{Want}
 use Rattle.hep_blocked.specs.Listing.{AreListed}
 use Rattle.hep_blocked.proofs.Members.{among-ready}
-use Rattle.hep_taking.specs.ProcProcessLocal.{Local}
-use Rattle.hep_taking.specs.ProcStacks.{Stack}
-use Rattle.hep_taking.proofs.ProcLevels.{has-levels}
-use Rattle.hep_views.specs.StateWords.{HasLevels, IsAfter, Snapshot}
-use Rattle.hep_views.proofs.StateTops.{lives-by, none-lives}
+use Rattle.hep_proc.specs.declared.process.Local.{Local}
+use Rattle.hep_proc.specs.Stacks.{Stack}
+use Rattle.hep_proc.proofs.Levels.{has-levels}
+use Rattle.hep_state.specs.Words.{HasLevels, IsAfter, Snapshot}
+use Rattle.hep_state.proofs.Tops.{lives-by, none-lives}
 
 or-true : (a : Bool) {b : Bool} → b ≡ true → (a || b) ≡ true
 or-true true e = refl

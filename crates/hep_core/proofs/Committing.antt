@@ -3,30 +3,30 @@ use Rattle.std.proofs.Common.{◌≡◌, ◌≢◌, ◌≤◌, ◌↔◌, IsTrue
 use Rattle.std.proofs.lemmas.Option.{same_Some}
 use Rattle.hep_machine.specs.declared.event.Entry.{Entry}
 use Rattle.hep_machine.specs.Words.{State, Units, living, main_among, numbered, run, schedule_of, state_after, unit_at}
-use Rattle.hep_taking.proofs.Calls.{set-numbered}
+use Rattle.hep_commit.proofs.Calls.{set-numbered}
 use Rattle.hep_code.specs.Words.{IsPastPushes}
-use Rattle.hep_views.specs.ImageImage.{most_cells}
-use Rattle.hep_views.specs.ImagePrivate.{private_cells}
-use Rattle.hep_taking.specs.PrivateOwn.{Own, Values}
-use Rattle.hep_taking.specs.PrivateRecordRecord.{Record}
-use Rattle.hep_taking.specs.PrivateRecorded.{recorded}
-use Rattle.hep_taking.specs.Gone.{HaveGone, own_of}
-use Rattle.hep_taking.specs.ProcStacks.{stack_with}
-use Rattle.hep_taking.specs.Segments.{IsKept, IsMadeFrom, IsMadeOf, SegmentValue, Start}
-use Rattle.hep_views.specs.StepSimulation.{unit_code}
-use Rattle.hep_views.specs.StateMachineMachine.{Machine}
-use Rattle.hep_views.specs.StateWords.{HasLevels, HasSettledTop, IsItsTurn, IsMachineAfter, IsSameButTop, IsTopRunning, IsTurning, LeavesOthers, Snapshot, TurnOf, snapshot_of}
-use Rattle.hep_views.proofs.StateBeside.{beside-top}
-use Rattle.hep_taking.specs.Levels.{start_in}
-use Rattle.hep_taking.specs.Taking.{IsMadeIn, IsNextPrivateIn}
-use Rattle.hep_taking.proofs.Standing.{its-turn, turns}
-use Rattle.hep_taking.proofs.Taken.{AreTurnsIn}
+use Rattle.hep_image.specs.Image.{most_cells}
+use Rattle.hep_image.specs.Private.{private_cells}
+use Rattle.hep_private.specs.Own.{Own, Values}
+use Rattle.hep_private.specs.declared.record.Record.{Record}
+use Rattle.hep_private.specs.Recorded.{recorded}
+use Rattle.hep_commit.specs.Gone.{HaveGone, own_of}
+use Rattle.hep_proc.specs.Stacks.{stack_with}
+use Rattle.hep_commit.specs.Segments.{IsKept, IsMadeFrom, IsMadeOf, SegmentValue, Start}
+use Rattle.hep_step.specs.Simulation.{unit_code}
+use Rattle.hep_state.specs.declared.core_state.CoreState.{CoreState}
+use Rattle.hep_state.specs.Words.{HasLevels, HasSettledTop, IsItsTurn, IsMachineAfter, IsSameButTop, IsTopRunning, IsTurning, LeavesOthers, Snapshot, TurnOf, snapshot_of}
+use Rattle.hep_state.proofs.Beside.{beside-top}
+use Rattle.hep_commit.specs.Levels.{start_in}
+use Rattle.hep_commit.specs.Taking.{IsMadeIn, IsNextPrivateIn}
+use Rattle.hep_commit.proofs.Standing.{its-turn, turns}
+use Rattle.hep_commit.proofs.Taken.{AreTurnsIn}
 use Rattle.hep_views.proofs.Waiting.{living-top}
 use Rattle.hep_core.specs.Commits.{IsNextOf, IsWhetherNext}
 use Rattle.hep_core.specs.Invariant.{CoreInvariant, core_value, placed_value}
 use Rattle.hep_core.specs.Places.{IsHere, IsWhere, places_of}
 use Rattle.hep_core.specs.Value.{HasNoStop, state_of}
-use Rattle.hep_core.specs.declared.scheduler.Core.TheInside.{Inside}
+use Rattle.hep_core.specs.declared.run_core.Core.TheInside.{Inside}
 use Rattle.hep_core.proofs.Histories.{state-is}
 use Rattle.hep_core.proofs.Kept.{halted-is}
 use Rattle.hep_core.proofs.Settled.{here-at, place-at, place_in, places-same, start-once}
@@ -36,7 +36,7 @@ there-is None some = absurd (some refl)
 there-is (Some x) some = refl
 
 -- a process that lives has levels
-pub levels-of : (program : Units) (cells : ℕ) (history : List Entry) (m : Machine) (p : ℕ) → IsMachineAfter program cells (schedule_of history) m → living (state_after program history) p ≢ None → HasLevels (snapshot_of m) p
+pub levels-of : (program : Units) (cells : ℕ) (history : List Entry) (m : CoreState) (p : ℕ) → IsMachineAfter program cells (schedule_of history) m → living (state_after program history) p ≢ None → HasLevels (snapshot_of m) p
 levels-of program cells history m p after lives =
     let there : is_some (living (run program (schedule_of history)) p) ≡ true = ap (λ (s : State). is_some (living s p)) (sym (state-is program history)) ∙ there-is (living (state_after program history) p) lives in
     (living-top program cells (schedule_of history) m after p there).is_top.levels
@@ -76,7 +76,7 @@ pub record DependOnReads : Type 0 where
 
 -- ---- the machine, once the values ahead of a process are operands
 
-pub record IsSettledIn (i : Inside) (p : ℕ) (m : Machine) : Type 0 where
+pub record IsSettledIn (i : Inside) (p : ℕ) (m : CoreState) : Type 0 where
   pub after : IsMachineAfter i.image i.cells (schedule_of i.history.items) m
   pub made : m.made ≡ i.machine.made
   pub turn : IsItsTurn i.image p m
@@ -101,7 +101,7 @@ levels-now program {p} {old} {new} top before =
 but-top : (program : Units) {p : ℕ} {old new : Snapshot} → HasSettledTop program p old new → IsSameButTop program p old new
 but-top program top levels = let s = top levels in (s.0, s.1, s.2, s.3)
 
-pub settled-in : (i : Inside) → CoreInvariant i → HasNoStop (core_value i) → (p : ℕ) → HasLevels (snapshot_of i.machine) p → (m : Machine) → IsMachineAfter i.image i.cells (schedule_of i.history.items) m
+pub settled-in : (i : Inside) → CoreInvariant i → HasNoStop (core_value i) → (p : ℕ) → HasLevels (snapshot_of i.machine) p → (m : CoreState) → IsMachineAfter i.image i.cells (schedule_of i.history.items) m
     → HasSettledTop i.image p (snapshot_of i.machine) (snapshot_of m) → m.made ≡ i.machine.made → IsSettledIn i p m
 unfolding levels-now
 settled-in i k going p before m after top made =
@@ -118,7 +118,7 @@ settled-in i k going p before m after top made =
       others = beside-top p i.image (snapshot_of i.machine) (snapshot_of m) before (but-top i.image top);
     }
 
-module _ (i : Inside) (p : ℕ) (m : Machine) (is : IsSettledIn i p m) (tops : AreTopsRunning i.image) where
+module _ (i : Inside) (p : ℕ) (m : CoreState) (is : IsSettledIn i p m) (tops : AreTopsRunning i.image) where
   -- where it is
   abbrev pub start-now : Start
   start-now = start_in is.turn.living

@@ -6,30 +6,30 @@ use Rattle.hep_machine.specs.Histories.{most_steps}
 use Rattle.hep_machine.specs.Words.{is_waiting, progress_after, run, schedule_of, state_after, step}
 use Rattle.hep_blocked.specs.Rolls.{KeepsRoll, Roll}
 use Rattle.hep_code.specs.Words.{deepest}
-use Rattle.hep_entries.specs.Entries.{Kept}
-use Rattle.hep_taking.specs.TicketId.{TicketId}
-use Rattle.hep_taking.specs.Segments.{SegmentValue}
-use Rattle.hep_views.specs.StepSimulation.{unit_code}
-use Rattle.hep_views.specs.StateMachineMachine.{Machine}
-use Rattle.hep_views.specs.StateTurnTurned.{Turned}
-use Rattle.hep_views.specs.StateWords.{HasLevels, HasNoGap, HasTurned, IsAfter, IsItsTurn, IsMachineAfter, KeepsRoom, KeepsRollFor, LeavesAlone, snapshot_of}
-use Rattle.hep_views.proofs.StateUnchanged.{machine-of, rooms-of}
-use Rattle.hep_taking.specs.declared.saving.Saved.{Saved}
-use Rattle.hep_taking.specs.Levels.{start_in}
-use Rattle.hep_taking.specs.OwnCells.{own_cells_of}
-use Rattle.hep_taking.specs.Saved.{SavedValue, saved_of}
-use Rattle.hep_taking.specs.Taking.{HasRestored, HasTakenIn}
+use Rattle.hep_history.specs.Entries.{Kept}
+use Rattle.hep_commit.specs.TicketId.{TicketId}
+use Rattle.hep_commit.specs.Segments.{SegmentValue}
+use Rattle.hep_step.specs.Simulation.{unit_code}
+use Rattle.hep_state.specs.declared.core_state.CoreState.{CoreState}
+use Rattle.hep_state.specs.declared.turn.Turned.{Turned}
+use Rattle.hep_state.specs.Words.{HasLevels, HasNoGap, HasTurned, IsAfter, IsItsTurn, IsMachineAfter, KeepsRoom, KeepsRollFor, LeavesAlone, snapshot_of}
+use Rattle.hep_state.proofs.Unchanged.{machine-of, rooms-of}
+use Rattle.hep_commit.specs.declared.saving.Saved.{Saved}
+use Rattle.hep_commit.specs.Levels.{start_in}
+use Rattle.hep_commit.specs.OwnCells.{own_cells_of}
+use Rattle.hep_commit.specs.Saved.{SavedValue, saved_of}
+use Rattle.hep_commit.specs.Taking.{HasRestored, HasTakenIn}
 use Rattle.hep_core.specs.Commits.{HasMore, IsCommitted, IsOutBy, are_private}
 use Rattle.hep_core.specs.Invariant.{CoreInvariant, core_value, placed_value}
 use Rattle.hep_core.specs.Places.{places_of}
 use Rattle.hep_core.specs.Value.{IsStop}
 use Rattle.hep_core.specs.Waking.{GoAlongTurn, HasRoomLeft}
-use Rattle.hep_core.specs.declared.scheduler.Core.TheInside.{Inside}
+use Rattle.hep_core.specs.declared.run_core.Core.TheInside.{Inside}
 use Rattle.hep_core.specs.declared.stop.ChoiceStop.{ChoiceStop}
 use Rattle.hep_core.specs.declared.stop.ChoiceStop.TheVariants.{Halted}
 use Rattle.hep_core.specs.declared.stop.Turn.{Turn}
 use Rattle.hep_core.proofs.Answered.{answer-left, answer-made}
-use Rattle.hep_taking.proofs.Behind.{AreAsBefore, few-operands}
+use Rattle.hep_commit.proofs.Behind.{AreAsBefore, few-operands}
 use Rattle.hep_core.proofs.Behind.{GoAlongPurges, HasTakenSteps, listed-further, undone, levels-undone, unit-undone}
 use Rattle.hep_core.proofs.Committing.{AreTopsRunning, DependOnReads}
 use Rattle.hep_core.proofs.Going.{GoAlong}
@@ -64,8 +64,8 @@ popped h es mid p n None is none =
     absurd (omega (arith, long, ap length none.0))
 popped h es mid p n (Some e) is was = sym (before-last mid e) ∙ (ap but-last (sym was ∙ is) ∙ before-last h (record { process = p; steps = n }))
 
-module _ (go : GoAlong) (i : Inside) (k : CoreInvariant i) (s : SegmentValue) (out : IsOutBy (core_value i) s) (first : Machine) (at : IsUnderway i s first) (tops : AreTopsRunning i.image) (law : DependOnReads) (n : ℕ) (many : length s.records ≡ suc n)
-    (lt : length i.history.items < i.limit) (few : suc (suc n) ≤ most_steps) (m : Machine) (t : HasTakenSteps i s.id.process n m) (es : List Entry) (is : es ≡ i.history.items ++ record { process = s.id.process; steps = suc n } ∷ []) where
+module _ (go : GoAlong) (i : Inside) (k : CoreInvariant i) (s : SegmentValue) (out : IsOutBy (core_value i) s) (first : CoreState) (at : IsUnderway i s first) (tops : AreTopsRunning i.image) (law : DependOnReads) (n : ℕ) (many : length s.records ≡ suc n)
+    (lt : length i.history.items < i.limit) (few : suc (suc n) ≤ most_steps) (m : CoreState) (t : HasTakenSteps i s.id.process n m) (es : List Entry) (is : es ≡ i.history.items ++ record { process = s.id.process; steps = suc n } ∷ []) where
   abbrev p : ℕ
   p = s.id.process
 
@@ -76,7 +76,7 @@ module _ (go : GoAlong) (i : Inside) (k : CoreInvariant i) (s : SegmentValue) (o
   noted-after = kept-after go i k p n t.turns t.gone lt less m t.kept t.activations t.made es is
 
   -- a process that was made has room to be enrolled, and none was that wasn't made
-  pub left-room : (machine : Machine) → IsMachineAfter i.image i.cells (schedule_of es) machine → (roster : Roll) → KeepsRollFor machine i.roster roster → HasRoomLeft machine roster
+  pub left-room : (machine : CoreState) → IsMachineAfter i.image i.cells (schedule_of es) machine → (roster : Roll) → KeepsRollFor machine i.roster roster → HasRoomLeft machine roster
   left-room machine after roster kept =
       record {
         room = kept.numbers;
@@ -85,7 +85,7 @@ module _ (go : GoAlong) (i : Inside) (k : CoreInvariant i) (s : SegmentValue) (o
 
   -- ---- the next step was left out
 
-  module _ (machine : Machine) (after : IsMachineAfter i.image i.cells (schedule_of es) machine) (history : Kept) (same : history.items ≡ es) (back : Vec TicketId Global) (backs : back.items ≡ left go i k p) where
+  module _ (machine : CoreState) (after : IsMachineAfter i.image i.cells (schedule_of es) machine) (history : Kept) (same : history.items ≡ es) (back : Vec TicketId Global) (backs : back.items ≡ left go i k p) where
     unhalted : machine.halted ≡ false
     unhalted = halted-is i.image i.cells es (snapshot_of machine) after.after ∙ (sym (halted-is i.image i.cells es (snapshot_of m) noted-after.after) ∙ t.running)
 
@@ -106,7 +106,7 @@ module _ (go : GoAlong) (i : Inside) (k : CoreInvariant i) (s : SegmentValue) (o
 
   -- ---- it was made
 
-  module _ (purges : GoAlongPurges) (turned : Turned) (no_wait : IsNoWait turned) (machine : Machine) (done : HasTurned i.image i.cells (schedule_of es) p turned machine) (roster : Roll) (kept : KeepsRollFor machine i.roster roster) where
+  module _ (purges : GoAlongPurges) (turned : Turned) (no_wait : IsNoWait turned) (machine : CoreState) (done : HasTurned i.image i.cells (schedule_of es) p turned machine) (roster : Roll) (kept : KeepsRollFor machine i.roster roster) where
     stepped : (step i.image p (run i.image (schedule_of es)) ≢ None) × IsMachineAfter i.image i.cells (schedule_of es ++ p ∷ []) machine
     stepped = made-step i.image i.cells (schedule_of es) p turned machine no_wait done
 
@@ -141,7 +141,7 @@ module _ (go : GoAlong) (i : Inside) (k : CoreInvariant i) (s : SegmentValue) (o
 
   -- ---- all was put back
 
-  module _ (as_before : AreAsBefore) (taken : HasTakenIn s first m) (machine : Machine) (alone : LeavesAlone i.image es p m machine) where
+  module _ (as_before : AreAsBefore) (taken : HasTakenIn s first m) (machine : CoreState) (alone : LeavesAlone i.image es p m machine) where
     still : IsMachineAfter i.image i.cells (schedule_of es) machine
     still = subst (λ c. IsMachineAfter i.image c (schedule_of es) machine) noted-after.after.size alone.after
 
@@ -158,7 +158,7 @@ module _ (go : GoAlong) (i : Inside) (k : CoreInvariant i) (s : SegmentValue) (o
         let few = few-operands at.is.turn in
         omega (arith, few, ap (λ (v : SavedValue). length v.operands) kept, ap (λ u. deepest (unit_code i.image u)) unit)
 
-    module _ (saved : SavedValue) (kept : saved ≡ saved_of at.is.turn.living (own_cells_of i.image at.is.turn.living.level.unit)) (restored : Machine) (put : HasRestored i.image p saved machine restored) (rooms : KeepsRoom machine restored) where
+    module _ (saved : SavedValue) (kept : saved ≡ saved_of at.is.turn.living (own_cells_of i.image at.is.turn.living.level.unit)) (restored : CoreState) (put : HasRestored i.image p saved machine restored) (rooms : KeepsRoom machine restored) where
       shown : snapshot_of restored ≡ snapshot_of first
       shown = undone as_before i.image p s first m machine at.is.turn.living at.made (taken at.is.turn.living) alone.top saved kept restored put
 

@@ -11,17 +11,17 @@ use Rattle.hep_cells.specs.declared.want.Want.{Want}
 use Rattle.hep_blocked.specs.Listing.{AreListed, GoesAlong, HasChanged, is_noted}
 use Rattle.hep_blocked.specs.Rolls.{want_of}
 use Rattle.hep_blocked.proofs.Members.{ready-rise, rising-same}
-use Rattle.hep_entries.specs.Entries.{Kept}
-use Rattle.hep_views.specs.StateMachineMachine.{Machine}
-use Rattle.hep_views.specs.StateWords.{IsMachineAfter, snapshot_of}
-use Rattle.hep_taking.specs.Going.{HasGone, IsPlainTurn, none, more}
+use Rattle.hep_history.specs.Entries.{Kept}
+use Rattle.hep_state.specs.declared.core_state.CoreState.{CoreState}
+use Rattle.hep_state.specs.Words.{IsMachineAfter, snapshot_of}
+use Rattle.hep_commit.specs.Going.{HasGone, IsPlainTurn, none, more}
 use Rattle.hep_core.specs.Going.{AreChoices, AreMoves, AreRounds, CanMove, IsPlainChoice, again, begun, entries_along, goes_round, started}
 use Rattle.hep_core.specs.Invariant.{AreFew, AreLiving, CoreInvariant, core_value}
 use Rattle.hep_core.specs.Tickets.{is_out}
 use Rattle.hep_core.specs.Value.{CoreValue, HasNoStop, IsChoice, IsStop, free_of, next_ready_of, ready_of, stop_after}
 use Rattle.hep_core.specs.declared.stop.ChoiceStop.TheVariants.{Halted}
-use Rattle.hep_core.specs.declared.scheduler.Core.TheInside.{Inside}
-use Rattle.hep_taking.specs.TicketId.{TicketId}
+use Rattle.hep_core.specs.declared.run_core.Core.TheInside.{Inside}
+use Rattle.hep_commit.specs.TicketId.{TicketId}
 use Rattle.hep_core.proofs.Histories.{legal-stepped, state-is}
 use Rattle.hep_core.proofs.Outs.{all_free}
 use Rattle.hep_core.proofs.Kept.{AreSeen, halted-is, listed-next, living-next, next, few-next, schedule-next, state-next, steps-on, view-is}
@@ -130,7 +130,7 @@ core_gone old p n =
     }
 
 -- its inside with these entries and this machine
-abbrev pub core_along : Inside → Kept → Machine → Inside
+abbrev pub core_along : Inside → Kept → CoreState → Inside
 core_along i history machine = record i { history = history; machine = machine }
 
 module _ (law : GoAlong) (i : Inside) (p : ℕ) (k : CoreInvariant i) (running : i.stop ≡ None) (home : is_out p i.out.items ≡ false) where
@@ -144,7 +144,7 @@ module _ (law : GoAlong) (i : Inside) (p : ℕ) (k : CoreInvariant i) (running :
   come n after gone = come-so law i.image i.cells i.limit p (want_of i.roster.waiting) i.roster.ready i.out.items home h start n after gone
 
   -- it keeps what a core keeps
-  pub core-goes-on : (n : ℕ) (after : List ℕ) (machine : Machine) (history : Kept) → HasGone i.image i.cells p (schedule_of h) n after → IsMachineAfter i.image i.cells after machine
+  pub core-goes-on : (n : ℕ) (after : List ℕ) (machine : CoreState) (history : Kept) → HasGone i.image i.cells p (schedule_of h) n after → IsMachineAfter i.image i.cells after machine
       → machine.halted ≡ false → machine.made ≡ i.machine.made → length h + n ≤ i.limit → history.items ≡ entries_along h p n → CoreInvariant (core_along i history machine)
   core-goes-on n after machine history gone kept unhalted count room is =
       let c = come n after gone in
@@ -197,7 +197,7 @@ module _ (law : GoAlong) (i : Inside) (p : ℕ) (k : CoreInvariant i) (running :
       again (core_gone (core_value i) p 0) n (core_gone (core_value i) p n) (core_gone (core_value i) p (suc n)) (are-choices n after gone (omega (arith, room))) (plain n after gone is room)
 
   -- from the core that it was to the one with this inside
-  pub chosen-so : AreSeen i.image i.cells → (n : ℕ) (after : List ℕ) (machine : Machine) (history : Kept) → HasGone i.image i.cells p (schedule_of h) n after → CoreInvariant (core_along i history machine)
+  pub chosen-so : AreSeen i.image i.cells → (n : ℕ) (after : List ℕ) (machine : CoreState) (history : Kept) → HasGone i.image i.cells p (schedule_of h) n after → CoreInvariant (core_along i history machine)
       → length h + n ≤ i.limit → history.items ≡ entries_along h p n → AreChoices p (core_value i) n (core_value (core_along i history machine))
   chosen-so seen n after machine history gone kept room is =
       let first = view-is i.image i.cells h (snapshot_of i.machine) k.after.after seen in

@@ -3,18 +3,18 @@ use Rattle.std.proofs.Common.{◌≡◌, ◌⊎◌, ℕ, zero, suc, ◌+◌, ◌
 use Rattle.hep_machine.proofs.Others.{activations_after}
 use Rattle.hep_machine.specs.declared.event.Entry.{Entry}
 use Rattle.hep_machine.specs.Words.{IsSameOrOneMore, State, Units, run_from, schedule_of, state_after, state_after_turn}
-use Rattle.hep_taking.specs.Going.{HasGone}
-use Rattle.hep_taking.specs.Segments.{IsMadeFrom, SegmentValue, Start, most_records}
-use Rattle.hep_taking.specs.Levels.{start_in}
-use Rattle.hep_taking.specs.Turning.{IsMadeOfRecords, are_private}
-use Rattle.hep_taking.proofs.Behind.{same-start}
-use Rattle.hep_taking.proofs.Runs.{turns-are}
-use Rattle.hep_views.specs.StateMachineMachine.{Machine}
-use Rattle.hep_views.specs.StateWords.{HasLevels, IsMachineAfter, Snapshot, snapshot_of}
+use Rattle.hep_commit.specs.Going.{HasGone}
+use Rattle.hep_commit.specs.Segments.{IsMadeFrom, SegmentValue, Start, most_records}
+use Rattle.hep_commit.specs.Levels.{start_in}
+use Rattle.hep_commit.specs.Turning.{IsMadeOfRecords, are_private}
+use Rattle.hep_commit.proofs.Behind.{same-start}
+use Rattle.hep_commit.proofs.Runs.{turns-are}
+use Rattle.hep_state.specs.declared.core_state.CoreState.{CoreState}
+use Rattle.hep_state.specs.Words.{HasLevels, IsMachineAfter, Snapshot, snapshot_of}
 use Rattle.hep_core.specs.Commits.{HasSteps, IsLeftOut, IsMadeBehind, IsMovedBehind, core_after_return}
 use Rattle.hep_core.specs.Invariant.{core_value}
 use Rattle.hep_core.specs.Value.{CoreValue}
-use Rattle.hep_core.specs.declared.scheduler.Core.TheInside.{Inside}
+use Rattle.hep_core.specs.declared.run_core.Core.TheInside.{Inside}
 use Rattle.hep_core.specs.declared.stop.Turn.{Turn}
 use Rattle.hep_core.proofs.Committing.{AreTopsRunning, DependOnReads, IsSettledIn, next-of}
 use Rattle.hep_core.proofs.Histories.{schedule-several, state-several}
@@ -37,7 +37,7 @@ activations-rise program p (suc n) s =
     let same : length (run_from program s (replicate (suc n) p)).activations ≡ length (run_from program t (replicate n p)).activations = refl in
     omega (arith, same, as-many-still s.activations t.activations (activations_after program p s), activations-rise program p n t)
 
-module _ (program : Units) (cells p n : ℕ) (h : List Entry) (before after : Machine) (was : IsMachineAfter program cells (schedule_of h) before) (turns : List ℕ) (gone : HasGone program cells p (schedule_of h) n turns)
+module _ (program : Units) (cells p n : ℕ) (h : List Entry) (before after : CoreState) (was : IsMachineAfter program cells (schedule_of h) before) (turns : List ℕ) (gone : HasGone program cells p (schedule_of h) n turns)
     (is : IsMachineAfter program cells turns after) where
   abbrev es : List Entry
   es = h ++ record { process = p; steps = n } ∷ []
@@ -63,7 +63,7 @@ start-there {m} own e f = subst (λ r. (g : HasLevels m r) → start_in e ≡ st
 
 -- ---- what it is
 
-module _ (i : Inside) (p : ℕ) (m : Machine) (is : IsSettledIn i p m) (tops : AreTopsRunning i.image) (law : DependOnReads) (s : SegmentValue) (own : s.id.process ≡ p) (n : ℕ) (new : CoreValue) where
+module _ (i : Inside) (p : ℕ) (m : CoreState) (is : IsSettledIn i p m) (tops : AreTopsRunning i.image) (law : DependOnReads) (s : SegmentValue) (own : s.id.process ≡ p) (n : ℕ) (new : CoreValue) where
   abbrev here : Start
   here = start_in is.turn.living
 

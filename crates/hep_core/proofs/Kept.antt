@@ -6,34 +6,34 @@ use Rattle.hep_cells.specs.declared.want.Want.{Want}
 use Rattle.hep_blocked.specs.Listing.{AreListed, GoesAlong, GoesAlongEmptying, HasEmptied, IsBlocked, awake_by, awake_where, is_noted, is_woken, is_woken_where}
 use Rattle.hep_blocked.specs.Rolls.{KeepsRoll, Roll, want_of}
 use Rattle.hep_blocked.proofs.Keeping.{listed-alike}
-use Rattle.hep_entries.specs.Entries.{Kept}
-use Rattle.hep_views.specs.StateMachineMachine.{Machine}
-use Rattle.hep_views.specs.StateWords.{IsMachineAfter, Snapshot, snapshot_of, IsAfter, HasWaited, HasPurged, HasTurned, HasLevels}
+use Rattle.hep_history.specs.Entries.{Kept}
+use Rattle.hep_state.specs.declared.core_state.CoreState.{CoreState}
+use Rattle.hep_state.specs.Words.{IsMachineAfter, Snapshot, snapshot_of, IsAfter, HasWaited, HasPurged, HasTurned, HasLevels}
 use Rattle.hep_views.specs.Seen.{machine_view}
 use Rattle.hep_core.specs.Invariant.{AreFew, AreLiving, CoreInvariant}
 use Rattle.hep_core.specs.Value.{IsStop, CoreValue, IsChoice}
-use Rattle.hep_core.specs.declared.scheduler.Core.TheInside.{Inside}
+use Rattle.hep_core.specs.declared.run_core.Core.TheInside.{Inside}
 use Rattle.hep_core.specs.declared.stop.ChoiceStop.{ChoiceStop}
-use Rattle.hep_taking.specs.TicketId.{TicketId}
+use Rattle.hep_commit.specs.TicketId.{TicketId}
 use Rattle.hep_core.specs.Tickets.{is_out}
 use Rattle.hep_core.proofs.Staying.{living-stepped, living-waited}
 use Rattle.hep_core.proofs.Histories.{legal-stepped, legal-waited, progress-last, progress-stepped, schedule-stepped, schedule-waited, state-is, state-stepped, turned}
 use Rattle.hep_layout.proofs.HeldFrames.{run-last}
 use Rattle.hep_machine.proofs.Others.{activations_after, processes_after}
 use Rattle.hep_source.proofs.Tests.{some-there}
-use Rattle.hep_views.proofs.StateNumbered.{length-stacks}
+use Rattle.hep_state.proofs.Numbered.{length-stacks}
 use Rattle.std.specs.Result.{IsErrAnd}
 use Rattle.std.proofs.lemmas.Option.{none-some, same_Some, slice_get_within}
 use Rattle.std.proofs.lemmas.Result.{err_from_is_err_and}
 use Rattle.hep_layout.specs.Words.{address}
-use Rattle.hep_views.specs.ImageImage.{most_cells}
+use Rattle.hep_image.specs.Image.{most_cells}
 use Rattle.hep_blocked.proofs.Living.{waits-idle}
-use Rattle.hep_views.specs.PurgingRangeClosedRange.{ClosedRange}
-use Rattle.hep_views.specs.PurgingPurged.{have_cell}
-use Rattle.hep_views.specs.PurgingReady.{AreReached}
+use Rattle.hep_step.specs.declared.range.ClosedRange.{ClosedRange}
+use Rattle.hep_step.specs.Purged.{have_cell}
+use Rattle.hep_step.specs.PurgeReady.{AreReached}
 use Rattle.hep_blocked.specs.Needs.{need_of}
-use Rattle.hep_views.specs.StateTurnTurned.{Turned}
-use Rattle.hep_views.specs.StateTurnTurned.TheVariants.{Stepped, Purged, Waits}
+use Rattle.hep_state.specs.declared.turn.Turned.{Turned}
+use Rattle.hep_state.specs.declared.turn.Turned.TheVariants.{Stepped, Purged, Waits}
 use Rattle.hep_core.specs.declared.fault.ChooseFault.{ChooseFault}
 use Rattle.hep_core.specs.declared.fault.ChooseFault.TheVariants.{NoMemory}
 use Rattle.hep_core.specs.declared.stop.Turn.{Turn}
@@ -75,7 +75,7 @@ module _ (program : Units) (cells : ℕ) (history : List Entry) (m : Snapshot) (
 -- ---- a turn that wasn't taken
 
 -- a core with the same entries, whose machine keeps the same state
-module _ (c : Inside) (kept : CoreInvariant c) (history : Kept) (machine : Machine) (roster : Roll) (same : history.items ≡ c.history.items) (after : IsMachineAfter c.image c.cells (schedule_of c.history.items) machine)
+module _ (c : Inside) (kept : CoreInvariant c) (history : Kept) (machine : CoreState) (roster : Roll) (same : history.items ≡ c.history.items) (after : IsMachineAfter c.image c.cells (schedule_of c.history.items) machine)
     (noted : KeepsRoll c.roster roster) (room : HasRoomLeft machine roster) where
   pub unturned-kept : (stop : Option ChoiceStop) → IsStop c.image c.cells c.limit c.history.items stop → CoreInvariant (record c { history = history; stop = stop; machine = machine; roster = roster })
   unturned-kept stop named =
@@ -93,7 +93,7 @@ module _ (c : Inside) (kept : CoreInvariant c) (history : Kept) (machine : Machi
       }
 
 -- what is seen of it
-pub unturned-view : (c : Inside) (kept : CoreInvariant c) (machine : Machine) → IsMachineAfter c.image c.cells (schedule_of c.history.items) machine → AreSeen c.image c.cells
+pub unturned-view : (c : Inside) (kept : CoreInvariant c) (machine : CoreState) → IsMachineAfter c.image c.cells (schedule_of c.history.items) machine → AreSeen c.image c.cells
     → machine_view c.image (snapshot_of machine) ≡ machine_view c.image (snapshot_of c.machine)
 unturned-view c kept machine after seen =
     view-is c.image c.cells c.history.items (snapshot_of machine) after.after seen
@@ -148,7 +148,7 @@ module _ (program : Units) (cells : ℕ) (h : List Entry) (p : ℕ) (h' : List E
       subst (λ ps. AreListed program cells ps (progress_after program h') waits ready) (sym schedule-next) (
       subst (λ x. AreListed program cells (schedule_of h ++ p ∷ []) x waits ready) (sym (ap (progress_after program) is ∙ progress-stepped program h p state)) listed)
 
-  module _ (m : Machine) (after : IsMachineAfter program cells (schedule_of h ++ p ∷ []) m) where
+  module _ (m : CoreState) (after : IsMachineAfter program cells (schedule_of h ++ p ∷ []) m) where
     pub after-next : IsMachineAfter program cells (schedule_of h') m
     after-next = subst (λ ps. IsMachineAfter program cells ps m) (sym schedule-next) after
 
@@ -200,7 +200,7 @@ opening-goes program = refl
 -- ---- a core after a turn
 
 -- that made a step
-module _ (i : Inside) (k : CoreInvariant i) (p : ℕ) (lt : length i.history.items < i.limit) (home : is_out p i.out.items ≡ false) (history : Kept) (is : history.items ≡ i.history.items ++ record { process = p; steps = 1 } ∷ []) (m : Machine)
+module _ (i : Inside) (k : CoreInvariant i) (p : ℕ) (lt : length i.history.items < i.limit) (home : is_out p i.out.items ≡ false) (history : Kept) (is : history.items ≡ i.history.items ++ record { process = p; steps = 1 } ∷ []) (m : CoreState)
     (made : step i.image p (run i.image (schedule_of i.history.items)) ≢ None) (after : IsMachineAfter i.image i.cells (schedule_of i.history.items ++ p ∷ []) m) (roster : Roll)
     (listed : AreListed i.image i.cells (schedule_of i.history.items ++ p ∷ []) (progress_after_step i.image (progress_after i.image i.history.items) p (run i.image (schedule_of i.history.items ++ p ∷ []))) (want_of roster.waiting) roster.ready)
     (room : HasRoomLeft m roster) where
@@ -219,7 +219,7 @@ module _ (i : Inside) (k : CoreInvariant i) (p : ℕ) (lt : length i.history.ite
       }
 
 -- that found its process waiting
-module _ (i : Inside) (k : CoreInvariant i) (p : ℕ) (lt : length i.history.items < i.limit) (history : Kept) (is : history.items ≡ i.history.items ++ record { process = p; steps = 0 } ∷ []) (m : Machine)
+module _ (i : Inside) (k : CoreInvariant i) (p : ℕ) (lt : length i.history.items < i.limit) (history : Kept) (is : history.items ≡ i.history.items ++ record { process = p; steps = 0 } ∷ []) (m : CoreState)
     (after : IsMachineAfter i.image i.cells (schedule_of i.history.items) m) (waiting : is_waiting i.image (run i.image (schedule_of i.history.items)) p ≡ true) (roster : Roll)
     (listed : AreListed i.image i.cells (schedule_of i.history.items) (progress_after_entry i.image (progress_after i.image i.history.items) (record { process = p; steps = 0 }) 0) (want_of roster.waiting) roster.ready)
     (room : HasRoomLeft m roster) where
@@ -250,28 +250,28 @@ emptied-to-lists program cells choices p layout ranges laid h =
 abbrev pub IsNoWait : Turned → Type 0
 IsNoWait turned = (want : Want) → turned ≡ Waits want → ⊥
 
-pub made-step : (program : Units) (cells : ℕ) (choices : List ℕ) (p : ℕ) (turned : Turned) (new : Machine) → IsNoWait turned → HasTurned program cells choices p turned new
+pub made-step : (program : Units) (cells : ℕ) (choices : List ℕ) (p : ℕ) (turned : Turned) (new : CoreState) → IsNoWait turned → HasTurned program cells choices p turned new
     → (step program p (run program choices) ≢ None) × IsMachineAfter program cells (choices ++ p ∷ []) new
 made-step program cells choices p (Stepped changed) new other h = (h.0, h.1)
 made-step program cells choices p Purged new other h = (h.0, h.1)
 made-step program cells choices p (Waits want) new other h = absurd (other want refl)
 
-each-reached : (m : Machine) (ranges : List ClosedRange) → length m.frames.arena.contents ≤ most_cells → AreReached m.frames.arena ranges → (i : ℕ) (r : ClosedRange) → slice_get ranges i ≡ Some r → r.first + r.cells ≤ most_cells
+each-reached : (m : CoreState) (ranges : List ClosedRange) → length m.frames.arena.contents ≤ most_cells → AreReached m.frames.arena ranges → (i : ℕ) (r : ClosedRange) → slice_get ranges i ≡ Some r → r.first + r.cells ≤ most_cells
 each-reached m [] few h i r e = absurd (none-some r e)
 each-reached m (s ∷ ss) few h zero r e = subst (λ (x : ClosedRange). x.first + x.cells ≤ most_cells) (same_Some s r e) (omega (arith, few, h.0.inside))
 each-reached m (s ∷ ss) few h (suc i) r e = each-reached m ss few h.1 i r e
 
-pub in-arena : (program : Units) (cells : ℕ) (choices : List ℕ) (p : ℕ) (turned : Turned) (new : Machine) → HasTurned program cells choices p turned new → AreInArena turned new.passing.ranges.items
+pub in-arena : (program : Units) (cells : ℕ) (choices : List ℕ) (p : ℕ) (turned : Turned) (new : CoreState) → HasTurned program cells choices p turned new → AreInArena turned new.passing.ranges.items
 in-arena program cells choices p (Stepped changed) new h = tt
 in-arena program cells choices p Purged new h = each-reached new new.passing.ranges.items (omega (arith, h.1.few, h.1.after.size)) h.3
 in-arena program cells choices p (Waits want) new h = tt
 
 -- as many processes as the state has
-pub as-many : (program : Units) (cells : ℕ) (choices : List ℕ) (m : Machine) → IsAfter program cells choices (snapshot_of m) → m.made ≡ length (run program choices).processes
+pub as-many : (program : Units) (cells : ℕ) (choices : List ℕ) (m : CoreState) → IsAfter program cells choices (snapshot_of m) → m.made ≡ length (run program choices).processes
 as-many program cells choices m after = sym (length-stacks m.processes.items 1 m.made) ∙ after.shows.processes
 
 -- no process is taken back
-pub risen : (program : Units) (cells : ℕ) (choices : List ℕ) (p : ℕ) (turned : Turned) (old new : Machine) → IsAfter program cells choices (snapshot_of old) → IsNoWait turned → HasTurned program cells choices p turned new
+pub risen : (program : Units) (cells : ℕ) (choices : List ℕ) (p : ℕ) (turned : Turned) (old new : CoreState) → IsAfter program cells choices (snapshot_of old) → IsNoWait turned → HasTurned program cells choices p turned new
     → old.made ≤ new.made
 risen program cells choices p turned old new after other has =
     let s = run program choices in

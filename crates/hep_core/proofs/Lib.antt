@@ -1,6 +1,3 @@
-pub use Rattle.hep_views.proofs.Nodes as ViewsNodes
-pub use Rattle.hep_views.proofs.Waiting as ViewsWaiting
-pub use Rattle.hep_views.proofs.StateRuns
 pub mod Histories
 pub mod Outs
 pub mod Free

@@ -8,14 +8,14 @@ use Rattle.hep_machine.specs.Words.{AreSteps, IsLegal, State, Units, is_held, la
 use Rattle.hep_blocked.specs.Listing.{AreListed}
 use Rattle.hep_blocked.specs.Rolls.{KeepsRoll, Roll, want_of}
 use Rattle.hep_blocked.proofs.Keeping.{listed-alike}
-use Rattle.hep_entries.specs.Entries.{Kept}
-use Rattle.hep_taking.specs.Going.{HasGone}
-use Rattle.hep_taking.proofs.Runs.{steps-are}
-use Rattle.hep_taking.specs.TicketId.{TicketId}
-use Rattle.hep_views.specs.StateMachineMachine.{Machine}
-use Rattle.hep_views.specs.StateWords.{IsAfter, IsMachineAfter, Snapshot, snapshot_of}
-use Rattle.hep_views.proofs.StateNumbered.{length-stacks}
-use Rattle.hep_taking.specs.declared.saving.Saved.{Saved}
+use Rattle.hep_history.specs.Entries.{Kept}
+use Rattle.hep_commit.specs.Going.{HasGone}
+use Rattle.hep_commit.proofs.Runs.{steps-are}
+use Rattle.hep_commit.specs.TicketId.{TicketId}
+use Rattle.hep_state.specs.declared.core_state.CoreState.{CoreState}
+use Rattle.hep_state.specs.Words.{IsAfter, IsMachineAfter, Snapshot, snapshot_of}
+use Rattle.hep_state.proofs.Numbered.{length-stacks}
+use Rattle.hep_commit.specs.declared.saving.Saved.{Saved}
 use Rattle.hep_views.specs.Seen.{machine_view}
 use Rattle.hep_core.specs.Commits.{core_after_return, state_along}
 use Rattle.hep_core.specs.Going.{entries_along}
@@ -23,7 +23,7 @@ use Rattle.hep_core.specs.Invariant.{AreFew, AreLiving, CoreInvariant, core_valu
 use Rattle.hep_core.specs.Tickets.{is_out, without_process}
 use Rattle.hep_core.specs.Value.{IsStop, core_after_choice, stop_after}
 use Rattle.hep_core.specs.Waking.{HasRoomLeft}
-use Rattle.hep_core.specs.declared.scheduler.Core.TheInside.{Inside}
+use Rattle.hep_core.specs.declared.run_core.Core.TheInside.{Inside}
 use Rattle.hep_core.specs.declared.stop.ChoiceStop.{ChoiceStop}
 use Rattle.hep_core.specs.declared.stop.ChoiceStop.TheVariants.{Halted}
 use Rattle.hep_core.proofs.Going.{Far, GoAlong, HasCome, come-so}
@@ -51,7 +51,7 @@ module _ (law : GoAlong) (i : Inside) (k : CoreInvariant i) (p : ℕ) where
   start : Far law program i.cells i.limit p (want_of i.roster.waiting) i.roster.ready left home h
   start = record { layout = k.after.after.layout; laid = k.after.after.laid; listed = k.listed; few = k.few; legal = λ within. k.legal; living = left-live }
 
-  module _ (n : ℕ) (after : List ℕ) (gone : HasGone program i.cells p (schedule_of h) (suc n) after) (lt : length h < i.limit) (few : suc n ≤ most_steps) (made : Machine) (there : IsMachineAfter program i.cells after made)
+  module _ (n : ℕ) (after : List ℕ) (gone : HasGone program i.cells p (schedule_of h) (suc n) after) (lt : length h < i.limit) (few : suc n ≤ most_steps) (made : CoreState) (there : IsMachineAfter program i.cells after made)
       (acts : made.activations ≡ i.machine.activations) (procs : made.made ≡ i.machine.made) (es : List Entry) (is : es ≡ h ++ record { process = p; steps = suc n } ∷ []) where
     come : HasCome law program i.cells i.limit p (want_of i.roster.waiting) i.roster.ready left home h start (suc n) after
     come = come-so law program i.cells i.limit p (want_of i.roster.waiting) i.roster.ready left home h start (suc n) after gone
@@ -105,7 +105,7 @@ module _ (law : GoAlong) (i : Inside) (k : CoreInvariant i) (p : ℕ) where
           );
         }
 
-    module _ (machine : Machine) (after-it : IsMachineAfter program i.cells (schedule_of es) machine) (none : i.stop ≡ None) (unhalted : machine.halted ≡ false) where
+    module _ (machine : CoreState) (after-it : IsMachineAfter program i.cells (schedule_of es) machine) (none : i.stop ≡ None) (unhalted : machine.halted ≡ false) where
       unstopped : (state_after program es).halted ≡ false
       unstopped = sym (halted-is program i.cells es (snapshot_of machine) after-it.after) ∙ unhalted
 
@@ -138,7 +138,7 @@ module _ (law : GoAlong) (i : Inside) (k : CoreInvariant i) (p : ℕ) where
 
     -- ---- one step more, which isn't private
 
-    module _ (more : step program p (run program (schedule_of es)) ≢ None) (machine : Machine) (reached : IsMachineAfter program i.cells (schedule_of es ++ p ∷ []) machine) (entries : List Entry) (all : entries ≡ h ++ record { process = p; steps = suc (suc n) } ∷ []) where
+    module _ (more : step program p (run program (schedule_of es)) ≢ None) (machine : CoreState) (reached : IsMachineAfter program i.cells (schedule_of es ++ p ∷ []) machine) (entries : List Entry) (all : entries ≡ h ++ record { process = p; steps = suc (suc n) } ∷ []) where
       abbrev virtual : List Entry
       virtual = es ++ record { process = p; steps = 1 } ∷ []
 

@@ -1,8 +1,8 @@
 -- A choice of a core from which the tickets were put aside, as what came of a commit once all but one are put back.
 use Rattle.std.proofs.Common.{◌≡◌, ℕ, zero, suc, Bool, true, false, List, [], Ok, Err, inl, inr, sym, ap, ◌∙◌, subst}
 use Rattle.std.proofs.lemmas.Option.{none-some}
-use Rattle.hep_taking.specs.PrivateRecordRecord.{Record}
-use Rattle.hep_taking.specs.Segments.{SegmentValue, Start}
+use Rattle.hep_private.specs.declared.record.Record.{Record}
+use Rattle.hep_commit.specs.Segments.{SegmentValue, Start}
 use Rattle.hep_core.proofs.Outs.{home-again}
 use Rattle.hep_core.specs.Commits.{IsCommitted, IsGood, IsGoodAt, IsTakenBy, IsWhetherNext, core_after_return}
 use Rattle.hep_core.specs.Places.{Placed, with_core}
@@ -12,7 +12,7 @@ use Rattle.hep_core.specs.declared.fault.ChooseFault.TheVariants as choosing
 use Rattle.hep_core.specs.declared.fault.CommitFault.TheVariants as committing
 use Rattle.hep_core.specs.declared.stop.ChoiceStop.{ChoiceStop}
 use Rattle.hep_core.specs.declared.stop.Turn.{Turn}
-use Rattle.hep_taking.specs.TicketId.{TicketId}
+use Rattle.hep_commit.specs.TicketId.{TicketId}
 
 -- the core with these tickets out
 abbrev pub with_out : CoreValue → List TicketId → CoreValue

@@ -6,20 +6,20 @@ use Rattle.hep_machine.specs.Words.{Units, Value, numbered, with_numbered}
 use Rattle.hep_code.specs.declared.instruction.Instruction.{Instruction}
 use Rattle.hep_code.specs.declared.instruction.Instruction.TheVariants.{Push}
 use Rattle.hep_code.specs.Words.{IsPastPushes, left_to_do, values_ahead}
-use Rattle.hep_taking.specs.PrivateOwn as private
-use Rattle.hep_taking.specs.PrivateOwn.{Own, Values, begun, pushed_ahead, values_at}
-use Rattle.hep_taking.specs.PrivateRecorded.{if_room, made_ahead, next_made}
-use Rattle.hep_taking.specs.ProcStacks.{Stack, stack_with}
-use Rattle.hep_taking.specs.Segments.{Start}
-use Rattle.hep_views.specs.StepEffects.{effect_ahead}
-use Rattle.hep_views.specs.StepSimulation.{unit_arrays, unit_code}
-use Rattle.hep_views.specs.StateMachineMachine.{Machine}
-use Rattle.hep_views.specs.StateWords.{HasLevels, IsEffectOf, IsItsTurn, IsSameButTop, IsTopRunning, IsTurning, Snapshot, TurnOf, frame_under, snapshot_of, top_frame, turn_settled}
-use Rattle.hep_views.proofs.StateTaken.{ahead-simulated}
-use Rattle.hep_views.proofs.StateTops.{settled}
-use Rattle.hep_taking.specs.Levels.{start_in}
-use Rattle.hep_taking.proofs.Runs.{left-same, past-here}
-use Rattle.hep_taking.proofs.Standing.{its-turn, turns}
+use Rattle.hep_private.specs.Own as private
+use Rattle.hep_private.specs.Own.{Own, Values, begun, pushed_ahead, values_at}
+use Rattle.hep_private.specs.Recorded.{if_room, made_ahead, next_made}
+use Rattle.hep_proc.specs.Stacks.{Stack, stack_with}
+use Rattle.hep_commit.specs.Segments.{Start}
+use Rattle.hep_step.specs.Effects.{effect_ahead}
+use Rattle.hep_step.specs.Simulation.{unit_arrays, unit_code}
+use Rattle.hep_state.specs.declared.core_state.CoreState.{CoreState}
+use Rattle.hep_state.specs.Words.{HasLevels, IsEffectOf, IsItsTurn, IsSameButTop, IsTopRunning, IsTurning, Snapshot, TurnOf, frame_under, snapshot_of, top_frame, turn_settled}
+use Rattle.hep_state.proofs.Taken.{ahead-simulated}
+use Rattle.hep_state.proofs.Tops.{settled}
+use Rattle.hep_commit.specs.Levels.{start_in}
+use Rattle.hep_commit.proofs.Runs.{left-same, past-here}
+use Rattle.hep_commit.proofs.Standing.{its-turn, turns}
 use Rattle.hep_core.specs.Places.{IsHere, Place, place_on, places_of}
 
 -- ---- places
@@ -87,13 +87,13 @@ ahead-there t turning runs past = by_ahead (drop t.level.index (unit_code t.prog
       subst (λ rows. IsEffectOf t turning (effect_ahead (unit_code t.program t.level.unit) (unit_arrays t.program t.level.unit) (top_frame t).first rows t.machine.arena.contents t.operands t.level.index)) none simulated)
   by_ahead (x ∷ xs) some = drop-some (unit_code t.program t.level.unit) t.level.index x xs some
 
-pub here-at : {program : Units} {p : ℕ} {m : Machine} (turn : IsItsTurn program p m) → IsTopRunning (its-turn turn) (turns turn) → IsPastPushes (unit_code program turn.living.level.unit) turn.living.level.index
+pub here-at : {program : Units} {p : ℕ} {m : CoreState} (turn : IsItsTurn program p m) → IsTopRunning (its-turn turn) (turns turn) → IsPastPushes (unit_code program turn.living.level.unit) turn.living.level.index
     → IsHere program (place_in program turn.living) (start_in turn.living)
 here-at turn runs past = record { unit = refl; left = refl; values = refl; past = past; inside = ahead-there (its-turn turn) (turns turn) runs past }
 
 -- ---- behind the constants that stand ahead of a process
 
-module _ {program : Units} {p : ℕ} {m : Machine} (turn : IsItsTurn program p m) (tops : (t : TurnOf) → t.program ≡ program → (turning : IsTurning t) → IsTopRunning t turning) where
+module _ {program : Units} {p : ℕ} {m : CoreState} (turn : IsItsTurn program p m) (tops : (t : TurnOf) → t.program ≡ program → (turning : IsTurning t) → IsTopRunning t turning) where
   abbrev code : List Instruction
   code = unit_code program turn.living.level.unit
 

@@ -5,7 +5,7 @@ use Rattle.hep_machine.proofs.Others.{others_stay}
 use Rattle.hep_machine.specs.declared.event.Entry.{Entry}
 use Rattle.hep_machine.specs.Words.{State, Units, living, run, state_after, step, top_of}
 use Rattle.hep_core.proofs.Histories.{schedule-waited, state-is, state-stepped}
-use Rattle.hep_taking.specs.TicketId.{TicketId}
+use Rattle.hep_commit.specs.TicketId.{TicketId}
 use Rattle.hep_core.specs.Invariant.{AreLiving}
 use Rattle.hep_core.specs.Tickets.{is_out}
 use Rattle.hep_core.specs.Value.{CoreValue, IsTurn}

@@ -5,20 +5,20 @@ use Rattle.std.specs.Result.{IsErrAnd}
 use Rattle.std.proofs.lemmas.Result.{err_from_is_err_and}
 use Rattle.hep_machine.specs.Words.{Units, living, schedule_of}
 use Rattle.hep_code.specs.Words.{deepest}
-use Rattle.hep_entries.specs.Entries.{Kept}
-use Rattle.hep_taking.specs.TicketId.{TicketId}
-use Rattle.hep_taking.specs.Segments.{IsMadeFrom, SegmentValue}
-use Rattle.hep_views.specs.StepSimulation.{unit_code}
-use Rattle.hep_views.specs.StateMachineMachine.{Machine}
-use Rattle.hep_views.specs.StateWords.{HasLevels, HasSettledTop, IsItsTurn, IsMachineAfter, KeepsState, snapshot_of}
-use Rattle.hep_taking.specs.Levels.{start_in}
-use Rattle.hep_taking.specs.OwnCells.{AreOwnCells, own_cells_of}
-use Rattle.hep_taking.specs.declared.own_cells.Owned.{Owned}
-use Rattle.hep_taking.specs.Saved.{SavedValue, saved_of}
-use Rattle.hep_taking.specs.Offers.{IsKnownOffer, offered}
-use Rattle.hep_taking.specs.declared.offer.Offer.{Offer}
-use Rattle.hep_taking.specs.Taking.{CanRestore, IsMadeIn, IsSavedOf}
-use Rattle.hep_taking.proofs.Standing.{its-levels}
+use Rattle.hep_history.specs.Entries.{Kept}
+use Rattle.hep_commit.specs.TicketId.{TicketId}
+use Rattle.hep_commit.specs.Segments.{IsMadeFrom, SegmentValue}
+use Rattle.hep_step.specs.Simulation.{unit_code}
+use Rattle.hep_state.specs.declared.core_state.CoreState.{CoreState}
+use Rattle.hep_state.specs.Words.{HasLevels, HasSettledTop, IsItsTurn, IsMachineAfter, KeepsState, snapshot_of}
+use Rattle.hep_commit.specs.Levels.{start_in}
+use Rattle.hep_commit.specs.OwnCells.{AreOwnCells, own_cells_of}
+use Rattle.hep_commit.specs.declared.own_cells.Owned.{Owned}
+use Rattle.hep_commit.specs.Saved.{SavedValue, saved_of}
+use Rattle.hep_commit.specs.Offers.{IsKnownOffer, offered}
+use Rattle.hep_commit.specs.declared.offer.Offer.{Offer}
+use Rattle.hep_commit.specs.Taking.{CanRestore, IsMadeIn, IsSavedOf}
+use Rattle.hep_commit.proofs.Standing.{its-levels}
 use Rattle.hep_views.specs.Seen.{machine_view}
 use Rattle.hep_core.specs.Commits.{IsCommitted, IsOutBy}
 use Rattle.hep_core.specs.Invariant.{AreLiving, CoreInvariant, core_value, placed_value}
@@ -26,7 +26,7 @@ use Rattle.hep_core.specs.Places.{Placed, places_of, with_core}
 use Rattle.hep_core.specs.Value.{HasNoStop, state_of}
 use Rattle.hep_core.specs.declared.fault.CommitFault.{CommitFault}
 use Rattle.hep_core.specs.declared.fault.CommitFault.TheVariants as committing
-use Rattle.hep_core.specs.declared.scheduler.Core.TheInside.{Inside}
+use Rattle.hep_core.specs.declared.run_core.Core.TheInside.{Inside}
 use Rattle.hep_core.specs.declared.stop.ChoiceStop.{ChoiceStop}
 use Rattle.hep_core.specs.declared.stop.Turn.{Turn}
 use Rattle.hep_core.proofs.Behind.{left-value}
@@ -47,7 +47,7 @@ module _ (i : Inside) (k : CoreInvariant i) (old : Placed) (view : placed_value 
     pub turn-in : (p : ℕ) → p ≡ q → IsItsTurn i.image p i.machine
     turn-in p own = turn-of i k p going-in (its-levels (sym own) levels-in)
 
-    pub settled-by : (p : ℕ) → p ≡ q → (m : Machine) → KeepsState i.image i.machine m → HasSettledTop i.image p (snapshot_of i.machine) (snapshot_of m) → m.made ≡ i.machine.made → IsSettledIn i q m
+    pub settled-by : (p : ℕ) → p ≡ q → (m : CoreState) → KeepsState i.image i.machine m → HasSettledTop i.image p (snapshot_of i.machine) (snapshot_of m) → m.made ≡ i.machine.made → IsSettledIn i q m
     settled-by p own m after top made =
         settled-in i k going-in q levels-in m (after i.cells (schedule_of i.history.items) k.after) (subst (λ n. HasSettledTop i.image n (snapshot_of i.machine) (snapshot_of m)) own top) made
 
@@ -59,7 +59,7 @@ module _ (i : Inside) (old : Placed) (view : placed_value i ≡ old) (offer : Of
   pub known-in : IsKnownOffer old.core.program offer → IsKnownOffer i.image offer
   known-in is = subst (λ (v : Placed). IsKnownOffer v.core.program offer) (sym view) is
 
-  pub made-offered : (b : Bool) (m : Machine) → IsMadeIn b i.image m (offered i.image offer) → IsMadeIn b i.image m (offered old.core.program offer)
+  pub made-offered : (b : Bool) (m : CoreState) → IsMadeIn b i.image m (offered i.image offer) → IsMadeIn b i.image m (offered old.core.program offer)
   made-offered b m is = subst (λ (s : SegmentValue). IsMadeIn b i.image m s) offered-in is
 
   pub out-offered : IsOutBy old.core (offered old.core.program offer) → IsOutBy (core_value i) (offered i.image offer)
@@ -73,22 +73,22 @@ module _ (i : Inside) (old : Placed) (view : placed_value i ≡ old) (offer : Of
 
 -- ---- a segment whose steps come next
 
-pub record IsUnderway (i : Inside) (s : SegmentValue) (m : Machine) : Type 0 where
+pub record IsUnderway (i : Inside) (s : SegmentValue) (m : CoreState) : Type 0 where
   pub is : IsSettledIn i s.id.process m
   pub made : IsMadeFrom i.image (start_in is.turn.living) s
 
-pub underway : (i : Inside) (s : SegmentValue) (first m : Machine) → IsSettledIn i s.id.process first → AreTopsRunning i.image → DependOnReads → IsMadeIn true i.image first s → m ≡ first → IsUnderway i s m
+pub underway : (i : Inside) (s : SegmentValue) (first m : CoreState) → IsSettledIn i s.id.process first → AreTopsRunning i.image → DependOnReads → IsMadeIn true i.image first s → m ≡ first → IsUnderway i s m
 underway i s first m settled tops law made same =
     let is = subst (IsSettledIn i s.id.process) (sym same) settled in
     record { is = is; made = (made-in i s.id.process m is tops law s refl true (subst (λ z. IsMadeIn true i.image z s) (sym same) made)).0 refl }
 
-pub underway-still : (i : Inside) (s : SegmentValue) (m new : Machine) → IsUnderway i s m → new ≡ m → IsUnderway i s new
+pub underway-still : (i : Inside) (s : SegmentValue) (m new : CoreState) → IsUnderway i s m → new ≡ m → IsUnderway i s new
 underway-still i s m new at same = subst (IsUnderway i s) (sym same) at
 
 -- ---- nothing came of it
 
 -- the core is as it was, but for a stop
-pub left-placed : (i : Inside) → CoreInvariant i → (history : Kept) → history.items ≡ i.history.items → (m : Machine) → IsMachineAfter i.image i.cells (schedule_of i.history.items) m → places_of i.image (snapshot_of m) ≡ places_of i.image (snapshot_of i.machine)
+pub left-placed : (i : Inside) → CoreInvariant i → (history : Kept) → history.items ≡ i.history.items → (m : CoreState) → IsMachineAfter i.image i.cells (schedule_of i.history.items) m → places_of i.image (snapshot_of m) ≡ places_of i.image (snapshot_of i.machine)
     → AreSeen i.image i.cells → (stop : Option ChoiceStop)
     → record { core = record (core_value i) { history = history.items; stop = stop; view = machine_view i.image (snapshot_of m) }; places = places_of i.image (snapshot_of m) } ≡ with_core (placed_value i) (record (core_value i) { stop = stop })
 left-placed i k history same m after places seen stop = λ j. record { core = left-value i k history same m after seen stop j; places = places j }
@@ -98,7 +98,7 @@ pub refused-so : (old : Placed) (s : SegmentValue) (new : Placed) (r : Result Tu
 refused-so old s new r h given = let told = err_from_is_err_and r h in subst (λ x. IsCommitted old s x new) (sym (told.1 ∙ ap Err told.2)) given
 
 -- what was kept of the process
-pub saved-for : (program : Units) (p q : ℕ) (old new : Machine) (saved : SavedValue) → p ≡ q → new ≡ old → IsSavedOf program p old saved → (levels : HasLevels (snapshot_of new) q) → saved ≡ saved_of levels (own_cells_of program levels.level.unit)
+pub saved-for : (program : Units) (p q : ℕ) (old new : CoreState) (saved : SavedValue) → p ≡ q → new ≡ old → IsSavedOf program p old saved → (levels : HasLevels (snapshot_of new) q) → saved ≡ saved_of levels (own_cells_of program levels.level.unit)
 saved-for program p q old new saved own same kept = subst (λ z. IsSavedOf program q z saved) (sym same) (subst (λ n. IsSavedOf program n old saved) own kept)
 
 -- ---- tickets
@@ -120,6 +120,6 @@ out-kept i k out given living =
 
 -- ---- what a process had for itself can be put back
 
-pub can-restore : (owned : Owned) (p q : ℕ) (saved : SavedValue) (m : Machine) → q ≡ p → AreOwnCells owned.image.now owned.tables.now → (turn : IsItsTurn owned.image.now q m) → length saved.operands ≤ deepest (unit_code owned.image.now turn.living.level.unit)
+pub can-restore : (owned : Owned) (p q : ℕ) (saved : SavedValue) (m : CoreState) → q ≡ p → AreOwnCells owned.image.now owned.tables.now → (turn : IsItsTurn owned.image.now q m) → length saved.operands ≤ deepest (unit_code owned.image.now turn.living.level.unit)
     → CanRestore owned p saved m
 can-restore owned p q saved m same tables turn fits = subst (λ n. CanRestore owned n saved m) same (record { tables = tables; turn = turn; room = fits })

@@ -2,17 +2,17 @@
 use Rattle.std.specs.Prelude.{◌≡◌, ◌≢◌, ◌⊎◌, ℕ, zero, suc, ◌+◌, ◌<◌, Bool, true, false, List, [], ◌∷◌, ◌++◌, None, Some, Result, Ok, Err, is_some, length, replicate}
 use Rattle.hep_machine.specs.declared.event.Entry.{Entry}
 use Rattle.hep_machine.specs.Words.{AreSteps, State, Units, is_waiting, living, run_from, schedule_of, unit_at}
-use Rattle.hep_views.specs.ImagePrivate.{private_cells}
-use Rattle.hep_views.specs.StepSimulation.{unit_code}
-use Rattle.hep_taking.specs.PrivateRecordRecord.{Record}
-use Rattle.hep_taking.specs.PrivateOwn.{Values, begun}
-use Rattle.hep_taking.specs.PrivateRecorded.{next_made, recorded}
-use Rattle.hep_taking.specs.TicketId.{TicketId}
-use Rattle.hep_taking.specs.Segments.{IsComputed, IsKept, IsMadeOf, SegmentValue, Start, TicketValue, most_records}
-use Rattle.hep_views.specs.StateWords.{HasNoGap}
-use Rattle.hep_taking.specs.Levels.{ticket_of}
-use Rattle.hep_taking.specs.OwnCells.{own_cells_of}
-pub use Rattle.hep_taking.specs.Turning.{are_private}
+use Rattle.hep_image.specs.Private.{private_cells}
+use Rattle.hep_step.specs.Simulation.{unit_code}
+use Rattle.hep_private.specs.declared.record.Record.{Record}
+use Rattle.hep_private.specs.Own.{Values, begun}
+use Rattle.hep_private.specs.Recorded.{next_made, recorded}
+use Rattle.hep_commit.specs.TicketId.{TicketId}
+use Rattle.hep_commit.specs.Segments.{IsComputed, IsKept, IsMadeOf, SegmentValue, Start, TicketValue, most_records}
+use Rattle.hep_state.specs.Words.{HasNoGap}
+use Rattle.hep_commit.specs.Levels.{ticket_of}
+use Rattle.hep_commit.specs.OwnCells.{own_cells_of}
+pub use Rattle.hep_commit.specs.Turning.{are_private}
 use Rattle.hep_core.specs.Places.{ArePlaces, IsWhere, Placed, with_core}
 use Rattle.hep_core.specs.Value.{CoreValue, HasNoStop, IsChoice, IsFree, core_after_choice, next_ready_of, state_of}
 use Rattle.hep_core.specs.declared.fault.ChooseFault.{ChooseFault}

@@ -2,8 +2,8 @@
 use Rattle.std.specs.Prelude.{◌≡◌, ◌≢◌, ◌⊎◌, ℕ, zero, suc, Bool, true, false, List, [], ◌∷◌, ◌++◌, length, Ok, Some, None}
 use Rattle.hep_machine.specs.declared.event.Entry.{Entry}
 use Rattle.hep_machine.specs.Words.{living, schedule_of}
-use Rattle.hep_views.specs.StateWords.{Changes, IsAfter, Snapshot}
-use Rattle.hep_taking.specs.Going.{HasNoMoveAhead}
+use Rattle.hep_state.specs.Words.{Changes, IsAfter, Snapshot}
+use Rattle.hep_commit.specs.Going.{HasNoMoveAhead}
 use Rattle.hep_core.specs.declared.stop.Turn.{Turn}
 use Rattle.hep_core.specs.declared.stop.Turns.{Turns}
 use Rattle.hep_core.specs.Tickets.{is_out}

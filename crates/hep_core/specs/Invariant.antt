@@ -4,16 +4,16 @@ use Rattle.hep_machine.specs.declared.event.Entry.{Entry}
 use Rattle.hep_machine.specs.Words.{IsLegal, Units, living, progress_after, schedule_of, state_after}
 use Rattle.hep_blocked.specs.Listing.{AreListed}
 use Rattle.hep_blocked.specs.Rolls.{want_of}
-use Rattle.hep_taking.specs.UnitTables.{AreTables}
-use Rattle.hep_views.specs.StateWords.{IsMachineAfter, snapshot_of}
-use Rattle.hep_taking.specs.OwnCells.{AreOwnCells}
+use Rattle.hep_commit.specs.UnitTables.{AreTables}
+use Rattle.hep_state.specs.Words.{IsMachineAfter, snapshot_of}
+use Rattle.hep_commit.specs.OwnCells.{AreOwnCells}
 use Rattle.hep_views.specs.Seen.{machine_view}
 use Rattle.hep_core.specs.Places.{Placed, places_of}
 use Rattle.hep_core.specs.Tickets.{is_out}
 use Rattle.hep_core.specs.Value.{CoreValue, IsStop}
 use Rattle.hep_core.specs.Waking.{HasRoomLeft}
-use Rattle.hep_core.specs.declared.scheduler.Core.TheInside.{Inside}
-use Rattle.hep_taking.specs.TicketId.{TicketId}
+use Rattle.hep_core.specs.declared.run_core.Core.TheInside.{Inside}
+use Rattle.hep_commit.specs.TicketId.{TicketId}
 
 abbrev pub core_value : Inside → CoreValue
 core_value c =

@@ -5,12 +5,12 @@ use Rattle.hep_machine.specs.declared.slot.Slot.{Slot}
 use Rattle.hep_code.specs.declared.instruction.Instruction.{Instruction}
 use Rattle.hep_code.specs.Words.{IsPastPushes, left_to_do}
 use Rattle.hep_layout.specs.Words.{Nodes}
-use Rattle.hep_views.specs.StepSimulation.{unit_code}
-use Rattle.hep_taking.specs.PrivateOwn.{values_at}
-use Rattle.hep_taking.specs.ProcProcessLocal.{Local}
-use Rattle.hep_taking.specs.ProcStacks.{Stack}
-use Rattle.hep_taking.specs.Segments.{Start}
-use Rattle.hep_views.specs.StateWords.{IsAfter, Snapshot, frame_under}
+use Rattle.hep_step.specs.Simulation.{unit_code}
+use Rattle.hep_private.specs.Own.{values_at}
+use Rattle.hep_proc.specs.declared.process.Local.{Local}
+use Rattle.hep_proc.specs.Stacks.{Stack}
+use Rattle.hep_commit.specs.Segments.{Start}
+use Rattle.hep_state.specs.Words.{IsAfter, Snapshot, frame_under}
 use Rattle.hep_core.specs.Value.{CoreValue}
 
 -- the unit that the top activation of a process runs; what is to be done in the unit's code, in front of which its operands stand as constants; the

@@ -1,2 +1,2 @@
--- The tickets that are out: the words of `hep_tickets`.
-pub use Rattle.hep_tickets.specs.Tickets.{is_out, has_ticket, without_process}
+-- The tickets that are out: the words of `hep_private`.
+pub use Rattle.hep_private.specs.Tickets.{is_out, has_ticket, without_process}

@@ -5,7 +5,7 @@ use Rattle.std.specs.Option.{option_or}
 use Rattle.hep_machine.specs.declared.event.Entry.{Entry}
 use Rattle.hep_machine.specs.Words.{Units, CellView, State, step, is_waiting, schedule_of, state_after, is_held, last_process, opening_layout, living_from, next_of_ready, progress_after, ready_in, View, view_of, is_number_among, living}
 use Rattle.hep_machine.specs.declared.slot.Slot.{Slot}
-use Rattle.hep_views.specs.StateWords.{HasNoGap}
+use Rattle.hep_state.specs.Words.{HasNoGap}
 use Rattle.hep_views.specs.declared.listed.Listed.{Listed}
 use Rattle.hep_views.specs.Listed.{listed_by}
 use Rattle.hep_core.specs.declared.stop.ChoiceStop.{ChoiceStop}
@@ -17,7 +17,7 @@ use Rattle.hep_core.specs.declared.fault.ChooseFault.{ChooseFault}
 use Rattle.hep_core.specs.declared.fault.ChooseFault.TheVariants as refused
 use Rattle.hep_core.specs.declared.fault.NewFault.{NewFault}
 use Rattle.hep_core.specs.declared.fault.NewFault.TheVariants as unmade
-use Rattle.hep_taking.specs.TicketId.{TicketId}
+use Rattle.hep_commit.specs.TicketId.{TicketId}
 use Rattle.hep_core.specs.Tickets.{is_out}
 
 -- the program, the cells of the arena, the longest history, the history, the stop, what is seen of the state, the tickets that are out, and

@@ -3,31 +3,31 @@ use Rattle.std.specs.Prelude.{◌≡◌, ℕ, ◌+◌, ◌≤◌, ◌||◌, Bool
 use Rattle.std.specs.Option.{is_some}
 use Rattle.hep_machine.specs.Words.{Units, is_number_among, living, run}
 use Rattle.hep_cells.specs.declared.want.Want.{Want}
-use Rattle.hep_views.specs.ImageImage.{most_cells}
+use Rattle.hep_image.specs.Image.{most_cells}
 use Rattle.hep_blocked.specs.Listing.{awake_by, awake_where, is_noted, is_woken, is_woken_where}
 use Rattle.hep_blocked.specs.Rolls.{Roll, want_of}
-use Rattle.hep_views.specs.PurgingRangeClosedRange.{ClosedRange}
-use Rattle.hep_views.specs.PurgingPurged.{have_cell}
-use Rattle.hep_views.specs.StateMachineMachine.{Machine}
-use Rattle.hep_views.specs.StateTurnTurned.{Turned}
-use Rattle.hep_views.specs.StateTurnTurned.TheVariants.{Stepped, Purged, Waits}
-use Rattle.hep_views.specs.StateWords.{AreNumbered, snapshot_of, IsAfter}
+use Rattle.hep_step.specs.declared.range.ClosedRange.{ClosedRange}
+use Rattle.hep_step.specs.Purged.{have_cell}
+use Rattle.hep_state.specs.declared.core_state.CoreState.{CoreState}
+use Rattle.hep_state.specs.declared.turn.Turned.{Turned}
+use Rattle.hep_state.specs.declared.turn.Turned.TheVariants.{Stepped, Purged, Waits}
+use Rattle.hep_state.specs.Words.{AreNumbered, snapshot_of, IsAfter}
 
 -- of those that were ready these are left, and one that was made is added, after a step of process p, before which so many processes were
 -- made, in the state that a machine keeps, whatever turns led to it
-abbrev pub NotesReady : ℕ → ℕ → Machine → List ℕ → List ℕ → Type 0
+abbrev pub NotesReady : ℕ → ℕ → CoreState → List ℕ → List ℕ → Type 0
 NotesReady p made m old new =
     (program : Units) (cells : ℕ) (choices : List ℕ) → IsAfter program cells choices (snapshot_of m) → (q : ℕ)
     → is_number_among q new ≡ is_noted p (is_some (living (run program choices) p)) made m.made old q
 
 -- each process that was made has room to be enrolled, and none was that wasn't made
-pub record HasRoomLeft (m : Machine) (roster : Roll) : Type 0 where
+pub record HasRoomLeft (m : CoreState) (roster : Roll) : Type 0 where
   pub room : m.made ≤ roster.room
   pub last : roster.last ≤ m.made
 
 -- so many processes were made before, all that were enrolled among them; those that are made have room to be, and those that are kept rise by
 -- their numbers
-pub record CanNote (roster : Roll) (made : ℕ) (m : Machine) : Type 0 where
+pub record CanNote (roster : Roll) (made : ℕ) (m : CoreState) : Type 0 where
   pub last : roster.last ≤ made
   pub more : made ≤ m.made
   pub room : m.made ≤ roster.room
@@ -50,7 +50,7 @@ AreInArena Purged emptied = (i : ℕ) (r : ClosedRange) → slice_get emptied i 
 AreInArena _ emptied = Unit {0}
 
 -- who waits and who is ready once a turn of process p was noted that made a step, before which so many processes were made
-pub record GoAlongTurn (p made : ℕ) (turned : Turned) (m : Machine) (old new : Roll) : Type 0 where
+pub record GoAlongTurn (p made : ℕ) (turned : Turned) (m : CoreState) (old new : Roll) : Type 0 where
   pub waiting : (q : ℕ) → want_of new.waiting q ≡ awake_after turned m.passing.ranges.items (want_of old.waiting q)
   pub ready : (program : Units) (cells : ℕ) (choices : List ℕ) → IsAfter program cells choices (snapshot_of m) → (q : ℕ)
       → is_number_among q new.ready

@@ -6,13 +6,13 @@
 pub mod fault;
 mod lists;
 mod noting;
-pub mod scheduler;
+pub mod run_core;
 pub mod stop;
 
 pub use fault::{ChooseFault, CommitFault, NewFault};
+pub use hep_advance::{Breakpoints, DecodedImage, go_on, stands_watched, tables_of};
+pub use hep_commit::{Ahead, Offer, OwnCells, Saved, Segment, Ticket, TicketId, compute};
 pub use hep_machine::{Entry, Fault, Kind};
-pub use hep_taking::{Ahead, Offer, OwnCells, Saved, Segment, Ticket, TicketId, compute};
-pub use hep_unwatched::{Tabled, Watch, go_on, stands_watched, tables_of};
-pub use hep_views::{Listed, Machine, Place, Whereabouts};
-pub use scheduler::Core;
+pub use hep_views::{CoreState, Listed, Place, Whereabouts};
+pub use run_core::Core;
 pub use stop::{ChoiceStop, Turn, TurnAtOnce, Turns, Verdict};

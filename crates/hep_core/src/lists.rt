@@ -1,18 +1,18 @@
 //! Who is ready and who waits, around a turn.
 ghost use Rattle.std.specs.Prelude.{◌≡◌, ◌≤◌, ◌+◌, ◌||◌, ℕ, Some, slice_get};
 ghost use Rattle.hep_machine.specs.Words.{is_number_among};
-ghost use Rattle.hep_views.specs.ImageImage.{most_cells};
+ghost use Rattle.hep_image.specs.Image.{most_cells};
 ghost use Rattle.hep_blocked.specs.Listing.{awake_by, awake_where, is_woken, is_woken_where};
 ghost use Rattle.hep_blocked.specs.Rolls.{want_of};
-ghost use Rattle.hep_views.specs.PurgingRangeClosedRange.{ClosedRange as PureRange};
-ghost use Rattle.hep_views.specs.PurgingPurged.{has_cell, have_cell};
+ghost use Rattle.hep_step.specs.declared.range.ClosedRange.{ClosedRange as PureRange};
+ghost use Rattle.hep_step.specs.Purged.{has_cell, have_cell};
 ghost use Rattle.hep_core.specs.Waking.{AreInArena, CanNote, GoAlongTurn, HasRoomLeft, NotesReady, awake_after, is_woken_after};
 
 use hep_blocked::{Roster, Want};
-use hep_views::{ClosedRange, Machine, Turned};
+use hep_views::{ClosedRange, CoreState, Turned};
 
 /// After a step of process p, before which so many processes were made: p isn't ready once it has ended, and a process that it made is.
-pub(crate) fn note_ready(roster: &mut Roster, machine: &Machine, p: u64, made: u64)
+pub(crate) fn note_ready(roster: &mut Roster, machine: &CoreState, p: u64, made: u64)
     requires { CanNote roster.old made machine.now }
     ensures ready { NotesReady p made machine.now roster.old.ready roster.new.ready }
     ensures waiting { (q : ℕ) → want_of roster.new.waiting q ≡ want_of roster.old.waiting q }
@@ -85,7 +85,7 @@ pub(crate) fn wake_after(roster: &mut Roster, turned: Turned, emptied: &[ClosedR
 
 /// After a turn of process p that made a step, before which so many processes were made: p isn't ready once it has ended, and a process that it
 /// made is; and those wait no more, and are ready, that waited for what the turn has changed to be as it is now.
-pub(crate) fn note_step(roster: &mut Roster, machine: &Machine, p: u64, made: u64, turned: Turned)
+pub(crate) fn note_step(roster: &mut Roster, machine: &CoreState, p: u64, made: u64, turned: Turned)
     requires made { CanNote roster.old made machine.now }
     requires few { AreInArena turned machine.now.passing.ranges.items }
     ensures lists { GoAlongTurn p made turned machine.now roster.old roster.new }

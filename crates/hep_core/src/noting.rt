@@ -4,7 +4,7 @@ ghost use Rattle.hep_core.specs.Commits.{HasMore};
 ghost use Rattle.hep_core.specs.declared.stop.ChoiceStop.TheVariants.{Halted};
 
 use crate::stop::{ChoiceStop, Turn};
-use hep_entries::History;
+use hep_history::History;
 use hep_machine::Entry;
 
 /// The last entry, which is of process p, has so many steps.

@@ -1,5 +1,5 @@
-pub use Rattle.hep_core.proofs.Kept as CoreKept
 pub use Rattle.hep_core.proofs.Histories
+mod WorkedNames
 mod Counting
 mod Places
 mod Worked

@@ -1,9 +1,7 @@
 pub use Rattle.hep_core.specs.Standing as CoreStanding
-pub use Rattle.hep_core.specs.UnwatchedWatchWatch
-pub use Rattle.hep_core.specs.UnwatchedWatches
-pub use Rattle.hep_core.specs.Listed as ViewsListedListed
-pub use Rattle.hep_core.specs.Whereabouts as ViewsWhereaboutsWhereabouts
 pub use Rattle.hep_core.specs.Value
+pub mod Elements
+pub mod Naming
 pub mod Names
 pub mod Faults
 pub mod Waiting

@@ -6,7 +6,7 @@ use Rattle.hep_machine.specs.Words.{Units, common_cells, frame_cells, main_among
 use Rattle.hep_image.specs.Names.{names_in_order}
 use Rattle.hep_core.specs.Whereabouts.{Whereabouts}
 use Rattle.hep_core.specs.Standing.{whereabouts_by}
-use Rattle.hep_notes.specs.Shown.{words_text}
+use Rattle.hep_text.specs.Shown.{words_text}
 use Rattle.hep_dump.specs.Names.{name_found}
 
 -- ---- the arena is full at the opening

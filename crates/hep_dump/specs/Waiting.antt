@@ -6,8 +6,8 @@ use Rattle.hep_machine.specs.Words.{Units, state_after, unit_at}
 use Rattle.hep_image.specs.Names.{names_in_order}
 use Rattle.hep_core.specs.Listed.{Listed}
 use Rattle.hep_core.specs.Value.{listed_after}
-use Rattle.hep_notes.specs.Shown.{words_text}
-use Rattle.hep_naming.specs.Naming.{own_name}
+use Rattle.hep_text.specs.Shown.{words_text}
+use Rattle.hep_dump.specs.Naming.{own_name}
 use Rattle.hep_dump.specs.Names.{name_found}
 
 -- ---- places

@@ -9,7 +9,7 @@ use Rattle.hep_conditions.specs.Statements.{NameWithList, names_with_lists}
 use Rattle.hep_image.specs.Names.{names_in_order}
 use Rattle.hep_core.specs.Whereabouts.{Whereabouts}
 use Rattle.hep_core.specs.Standing.{whereabouts_by}
-use Rattle.hep_notes.specs.Shown.{words_text}
+use Rattle.hep_text.specs.Shown.{words_text}
 use Rattle.hep_dump.specs.declared.wants.Want.{Want}
 use Rattle.hep_dump.specs.Stops.{place_words}
 

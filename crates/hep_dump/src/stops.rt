@@ -1,15 +1,15 @@
 //! What is said behind a stop, where more is asked for.
 ghost use Rattle.std.specs.Prelude.{◌≡◌, ◌+◌, ◌<◌, ◌^◌, ◌++◌, IfOk, OnOk};
 ghost use Rattle.hep_image.specs.Names.{names_in_order};
-ghost use Rattle.hep_notes.specs.Shown.{words_text};
+ghost use Rattle.hep_text.specs.Shown.{words_text};
 ghost use Rattle.hep_dump.specs.Stops as stops;
 
 use crate::faults::name_of;
 use hep_base::Text;
 use hep_core::{Core, Whereabouts};
 use hep_image::Image;
-use hep_notes::append_words;
 use hep_output::append_number;
+use hep_text::append_words;
 use std::alloc::{AllocError, Global};
 
 /// The most cells that an arena may have.

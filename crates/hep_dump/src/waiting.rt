@@ -2,18 +2,18 @@
 ghost use Rattle.std.specs.Prelude.{◌≡◌, ◌++◌, IfOk, OnOk, false, slice_get};
 ghost use Rattle.hep_image.specs.Names.{names_in_order};
 ghost use Rattle.hep_machine.specs.Words as machine;
-ghost use Rattle.hep_naming.specs.Naming as naming;
+ghost use Rattle.hep_dump.specs.Naming as naming;
 ghost use Rattle.hep_dump.specs.Names.{name_found};
 ghost use Rattle.hep_dump.specs.Waiting as words;
 
 use crate::faults::name_of;
+use crate::naming::own_name;
 use hep_base::Text;
 use hep_core::{Core, Listed};
 use hep_image::Image;
-use hep_naming::own_name;
-use hep_notes::append_words;
 use hep_output::append_number;
 use hep_source::Statement;
+use hep_text::append_words;
 use std::alloc::{AllocError, Global};
 
 // A position of a common block of this name: `/block/#k`.

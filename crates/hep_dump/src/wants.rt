@@ -8,9 +8,9 @@ ghost use Rattle.hep_dump.specs.Wants as words;
 use crate::stops::append_place_words;
 use hep_core::{Core, Whereabouts};
 use hep_names::{Meaning, NameWithList, ProgramSymbols, Symbols, names_with_lists};
-use hep_notes::append_words;
 use hep_output::append_number;
 use hep_source::{Form, Name, Statement};
+use hep_text::append_words;
 use std::alloc::{AllocError, Global};
 
 /// The most cells that an arena may have.

@@ -1,20 +1,20 @@
 -- Indexes that were found are those of the definitions.
 use Rattle.std.proofs.Common.{◌≡◌, ℕ, zero, suc, ◌+◌, ◌-◌, ◌≤◌, List, [], ◌∷◌, length, refl, ap, ◌∙◌, arith, length-append, slice_get, le-leb}
 use Rattle.std.proofs.lemmas.List.{length-map}
-use Rattle.hep_operations.proofs.Flows.{called_at_most, referred_at_most}
+use Rattle.hep_emit.proofs.Flows.{called_at_most, referred_at_most}
 use Rattle.std.specs.Option.{option_map, unwrap_or}
 use Rattle.hep_machine.specs.Words.{Name, Form, Statement, no_statement, Tree, Units, line_at, value_among, constant_value, terminal_of, listed_meaning, unit_called, function_name, function_unit}
 use Rattle.hep_source.specs.declared.statement.Form.TheVariants as form
 use Rattle.hep_code.specs.declared.instruction.Instruction.TheVariants.{Step, To}
 use Rattle.hep_code.specs.declared.instruction.Operation.TheVariants.{Condition}
 use Rattle.hep_code.specs.Words.{tree_code, operands_code, operation_code, form_code, conditions_code, loop_end_code, statement_code, statements_code, instructions_before, Table, Target, at, end_of, onward, outward, inward, aside, labelled, AddressedUnit, names_of, table_by, unplaced, index_of, code_of}
-use Rattle.hep_arguments.specs.declared.names.Names.{Names}
-use Rattle.hep_operations.specs.declared.tables.Starts.{Starts}
-use Rattle.hep_operations.specs.declared.tables.Tables.{Tables}
+use Rattle.hep_emit.specs.declared.names.Names.{Names}
+use Rattle.hep_emit.specs.declared.tables.Starts.{Starts}
+use Rattle.hep_emit.specs.declared.tables.Tables.{Tables}
 use Rattle.hep_code.specs.Places.{variable_in, cells_in}
 use Rattle.hep_emit.specs.Starts.{starts_from, end_from}
-use Rattle.hep_arguments.specs.Names.{names_in, greatest, number_called, number_referred}
-use Rattle.hep_operations.specs.Tables.{start_in, index_in, table_in, addressed_in}
+use Rattle.hep_emit.specs.Names.{names_in, greatest, number_called, number_referred}
+use Rattle.hep_emit.specs.Tables.{start_in, index_in, table_in, addressed_in}
 
 -- ---- where statements begin
 

@@ -1,2 +1,10 @@
+pub mod ListLengths
+pub mod CodeLengths
+pub mod Given
+pub mod Asked
+pub mod ExpressionRefusals
+pub mod Uses
+pub mod Flows
+pub mod Forms
 pub mod Indexes
-pub mod Refusals
+pub mod UnitRefusals

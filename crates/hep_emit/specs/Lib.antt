@@ -1,2 +1,9 @@
-pub mod Limits
+pub mod Names
+pub mod ArgumentLimits
+pub mod Asked
+pub mod Uses
+pub mod Destinations
+pub mod Operations
+pub mod Tables
+pub mod UnitLimits
 pub mod Starts

@@ -1,13 +1,13 @@
 //! A unit's code with what is known of it.
 ghost use Rattle.std.specs.Prelude.{◌≡◌, ◌≤◌, None, length, IfOk, IfErr};
 ghost use Rattle.hep_code.specs.Words.{deepest, line_too_deep, most_instructions, most_operands, entry_index, code_of};
-ghost use Rattle.hep_emit.specs.Limits.{IsOverLimit};
-ghost use Rattle.hep_arguments.specs.Names.{greatest};
-ghost use Rattle.hep_operations.specs.Tables.{addressed_by};
+ghost use Rattle.hep_emit.specs.UnitLimits.{IsOverLimit};
+ghost use Rattle.hep_emit.specs.Names.{greatest};
+ghost use Rattle.hep_emit.specs.Tables.{addressed_by};
 
+use crate::fault::EmitFault;
+use crate::names::Names;
 use crate::unit::{EmittedUnit, emit_unit};
-use hep_arguments::fault::EmitFault;
-use hep_arguments::names::Names;
 use hep_code::{Depth, Instruction, Placement, depth_of};
 use hep_control::control::Control;
 use hep_control::labels::Labels;

@@ -4,13 +4,13 @@ ghost use Rattle.std.specs.List.{flat_map};
 ghost use Rattle.hep_code.specs.declared.instruction.Instruction.{Instruction as PureInstruction};
 ghost use Rattle.hep_code.specs.ExpressionCode as code_words;
 ghost use Rattle.hep_code.specs.Words.{NameTable};
-ghost use Rattle.hep_arguments.specs.Limits.{IsTooLong};
-ghost use Rattle.hep_arguments.specs.Names.{names_in};
+ghost use Rattle.hep_emit.specs.ArgumentLimits.{IsTooLong};
+ghost use Rattle.hep_emit.specs.Names.{names_in};
 
-use hep_arguments::emit::{Code, emit_value};
-use hep_arguments::fault::EmitFault;
-use hep_arguments::names::Names;
-use hep_postfix::expressions::{emit_actual, emit_all, emit_expression};
+use crate::emit::{Code, emit_value};
+use crate::expressions::{emit_actual, emit_all, emit_expression};
+use crate::fault::EmitFault;
+use crate::names::Names;
 use hep_source::{DoControl, Expr, PrintItem, Target, Value};
 
 /// What has operands.

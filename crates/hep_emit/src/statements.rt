@@ -1,16 +1,16 @@
 //! The code of a statement.
 ghost use Rattle.std.specs.Prelude.{◌≡◌, ◌++◌, ◌<◌, length, OnOk, IfErr};
 ghost use Rattle.hep_code.specs.Words.{operands_code, conditions_code, statement_code};
-ghost use Rattle.hep_arguments.specs.Limits.{IsTooLong};
-ghost use Rattle.hep_operations.specs.Tables.{table_in};
+ghost use Rattle.hep_emit.specs.ArgumentLimits.{IsTooLong};
+ghost use Rattle.hep_emit.specs.Tables.{table_in};
 
+use crate::emit::{Code, emit_step};
+use crate::expressions::{emit_all, emit_expression};
+use crate::fault::EmitFault;
 use crate::operands::{Operands, emit_each};
-use hep_arguments::emit::{Code, emit_step};
-use hep_arguments::fault::EmitFault;
+use crate::operations::{emit_loop_end, emit_operation};
+use crate::tables::Tables;
 use hep_code::Operation;
-use hep_operations::operations::{emit_loop_end, emit_operation};
-use hep_operations::tables::Tables;
-use hep_postfix::expressions::{emit_all, emit_expression};
 use hep_source::{Expr, Form, Statement};
 use std::alloc::Global;
 

@@ -3,19 +3,19 @@ ghost use Rattle.std.specs.Prelude.{◌≡◌, ◌<◌, ◌≤◌, length, IfOk,
 ghost use Rattle.hep_machine.specs.Words.{value_among, constant_value};
 ghost use Rattle.hep_source.specs.Units as units;
 ghost use Rattle.hep_code.specs.Words.{most_instructions, entry_index, statements_code, code_of};
-ghost use Rattle.hep_emit.specs.Limits.{IsOverLimit};
+ghost use Rattle.hep_emit.specs.UnitLimits.{IsOverLimit};
 ghost use Rattle.hep_emit.specs.Starts.{starts_from, end_from};
-ghost use Rattle.hep_arguments.specs.Names.{greatest};
-ghost use Rattle.hep_operations.specs.Tables.{table_in, addressed_in};
+ghost use Rattle.hep_emit.specs.Names.{greatest};
+ghost use Rattle.hep_emit.specs.Tables.{table_in, addressed_in};
 
+use crate::emit::{Code, emit_step};
+use crate::fault::EmitFault;
+use crate::names::Names;
 use crate::statements::emit_statement;
-use hep_arguments::emit::{Code, emit_step};
-use hep_arguments::fault::EmitFault;
-use hep_arguments::names::Names;
+use crate::tables::{Starts, Tables};
 use hep_code::Instruction;
 use hep_control::control::Control;
 use hep_control::labels::is_executable;
-use hep_operations::tables::{Starts, Tables};
 use hep_source::Statement;
 use std::alloc::Global;
 

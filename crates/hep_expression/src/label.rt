@@ -2,8 +2,7 @@
 ghost use Rattle.std.specs.Prelude.{◌≡◌, option_map};
 ghost use Rattle.hep_expression.specs.ReadingLabel as reading;
 
-use crate::Sizes;
-use crate::characters::{Context, integer_at};
+use crate::characters::{Context, Sizes, integer_at};
 
 /// The most digits of a label (X3.9-1978, 3.4) and of what STOP says (11.12).
 const MOST_DIGITS: usize = 5;

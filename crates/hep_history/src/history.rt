@@ -1,105 +1,350 @@
-//! The text of a history.
-ghost use Rattle.std.specs.Prelude.{◌≡◌, ◌++◌, List, IfOk, IfErr, OnOk, MatchResult, replicate};
-ghost use Rattle.hep_machine.specs.declared.event.Entry.{Entry};
-ghost use Rattle.hep_base.specs.declared.refusal.Refusal.TheVariants.{NoMemory};
-ghost use Rattle.hep_entries.specs.Runs.{entry_of};
-ghost use Rattle.hep_history.specs.Lines.{AreLines, IsRefusedText, ReportsLine};
-ghost use Rattle.hep_history.specs.Histories.{entry_text, history_text, IsAllowed};
+//! The history of a run.
+ghost use Rattle.std.specs.Prelude.{◌≡◌, ◌+◌, ◌-◌, ◌≤◌, ◌<◌, ◌^◌, ◌↔◌, ◌++◌, [], ◌∷◌, IfOk, IsOk, IsTrue, MatchOption, OnOk, OnErr, length, replicate, slice_get, vec_len, vec_capacity};
+ghost use Rattle.hep_history.specs.Runs.{AreFilled, AreRising, entries_of, last_run, runs_in};
 
-use crate::lines::{FromLine, Row, read_lines};
-use hep_base::Refusal as HistFault;
-use hep_entries::{History, Run};
+use crate::entries::Entries;
+use crate::finding::{end_of, long_at, short_at};
+use crate::run::{Run, Short, shortened};
+use crate::runs::Runs;
 use hep_machine::Entry;
-use hep_numbers::number_before;
-use hep_output::append_number;
 use std::alloc::{AllocError, Global};
+use std::marker::Model;
 
-/// The most bytes of a text of a history or of choices.
-pub const MOST_BYTES: usize = 150_000_000;
-
-/// The highest number of a process.
-pub const MOST_PROCESS: u64 = 9_223_372_036_854_775_807;
-
-/// The most steps of an entry.
-const MOST_STEPS: u64 = 1_024;
-
-// Appends the line of an entry.
-fn append_entry(text: &mut Vec<u8>, entry: Entry) -> Result<(), AllocError>
-    ensures { OnOk result (text.new.items ≡ text.old.items ++ entry_text entry) }
-{
-    append_number(text, entry.process)?;
-    text.extend_from_slice(b" ")?;
-    append_number(text, entry.steps)?;
-    text.extend_from_slice(b"\n")?;
-    Ok(())
-}
-
-// Appends the lines of a run. The line is made once, in `line`.
-fn append_run(text: &mut Vec<u8>, line: &mut Vec<u8>, run: Run) -> Result<(), AllocError>
-    ensures { OnOk result (text.new.items ≡ text.old.items ++ history_text (replicate run.count (entry_of run))) }
-{
-    line.clear();
-    append_entry(line, run.entry())?;
-    let bytes = line.as_slice();
-    for _ in 0..run.count {
-        text.extend_from_slice(bytes)?;
-    }
-    Ok(())
-}
-
-/// The text of a history: a line `p n` for each entry, with its process and its steps.
+/// The entries of a run in order. Contracts see the list of them, and for how many there is room.
 ///
-/// # Errors
-///
-/// Only where memory was refused.
-pub fn write_text(alloc: Global, history: &History) -> Result<Vec<u8>, AllocError>
-    ensures { IfOk result (λ text. text.items ≡ history_text history.now.items) }
+/// They are kept in runs of equal ones. A run takes eight bytes, and sixteen from the first one on
+/// that is of a process above 2,097,151, or of more than 2,047 steps, or ends behind the entry
+/// 4,294,967,295; the last takes none. There are 9,223,372,036,854,775,808 entries at most.
+#[derive(Debug)]
+pub struct History {
+    shorts: Vec<Short>,
+    longs: Vec<Run>,
+    // How many entries these runs have.
+    closed: u64,
+    // The last run, which gets more entries.
+    last: Run,
+}
+
+// Written out, so that a caller's proof has one call of it at each exit.
+impl Drop for History {
+    fn drop(self) {
+        let History {
+            shorts,
+            longs,
+            closed,
+            last,
+        } = self;
+    }
+}
+
+impl Model for History {
+    ghost use Rattle.hep_history.specs.Entries.{Kept};
+
+    ghost Value = { Kept };
+
+    ghost use Rattle.hep_history.specs.Kept.{IsCounted, kept_of};
+
+    ghost view = { kept_of };
+
+    ghost invariant = { IsCounted };
+}
+
+// The most entries.
+const MOST: u64 = 0x8000_0000_0000_0000;
+
+// Adds an item, for which there is room.
+#[inline(always)]
+fn put<T: Copy>(items: &mut Vec<T>, item: T)
+    requires { vec_len items.old < vec_capacity items.old }
+    ensures items { items.new.items ≡ items.old.items ++ item ∷ [] }
+    ensures len { vec_len items.new ≡ vec_len items.old + 1 }
+    ensures capacity { vec_capacity items.old ≤ vec_capacity items.new }
 {
-    let mut text = Vec::new(alloc);
-    let mut line = Vec::new(alloc);
-    let mut runs = history.runs();
-    while let Some(run) = runs.next() {
-        append_run(&mut text, &mut line, run)?;
-    }
-    Ok(text)
+    items.push_reserved(item);
 }
 
-impl Row<Entry> for History {
-    ghost items = { λ history. history.items };
-
-    fn append(&mut self, item: Entry, count: u32) -> Result<(), AllocError> {
-        self.append(item, count)
-    }
+// Adds a run in sixteen bytes, for which there is room. A function of its own, so that a run in eight bytes needs no room for it.
+#[cold]
+#[inline(never)]
+fn put_long(longs: &mut Vec<Run>, run: Run)
+    requires { vec_len longs.old < vec_capacity longs.old }
+    ensures items { longs.new.items ≡ longs.old.items ++ run ∷ [] }
+    ensures len { vec_len longs.new ≡ vec_len longs.old + 1 }
+    ensures capacity { vec_capacity longs.old ≤ vec_capacity longs.new }
+{
+    longs.push_reserved(run);
 }
 
-impl FromLine for Entry {
-    ghost line = { entry_text };
+// Adds a run behind the others, of so many entries. It takes no memory.
+#[inline(always)]
+fn close(shorts: &mut Vec<Short>, longs: &mut Vec<Run>, closed: u64, run: Run)
+    requires rising { AreRising 0 shorts.old.items }
+    requires closed { closed ≡ length (entries_of (runs_in shorts.old.items longs.old.items)) }
+    requires few { closed + run.count ≤ 2 ^ 63 }
+    requires some { 0 < run.count }
+    requires filled { AreFilled longs.old.items }
+    requires room { (vec_len shorts.old < vec_capacity shorts.old) × (vec_len longs.old < vec_capacity longs.old) }
+    ensures runs { runs_in shorts.new.items longs.new.items ≡ runs_in shorts.old.items longs.old.items ++ run ∷ [] }
+    ensures rising { AreRising 0 shorts.new.items }
+    ensures filled { AreFilled longs.new.items }
+    ensures shorts_room { (vec_capacity shorts.old ≤ vec_capacity shorts.new) × (vec_len shorts.new ≤ vec_len shorts.old + 1) }
+    ensures longs_room { (vec_capacity longs.old ≤ vec_capacity longs.new) × (vec_len longs.new ≤ vec_len longs.old + 1) }
+{
+    if longs.as_slice().is_empty() {
+        if let Some(short) = shortened(closed, run) {
+            put(shorts, short);
+            return;
+        }
+    }
+    put_long(longs, run);
+}
 
-    ghost allows = { IsAllowed };
+// Takes the last one of the runs, if there is one, which has an entry.
+fn open(shorts: &mut Vec<Short>, longs: &mut Vec<Run>) -> Option<Run>
+    requires rising { AreRising 0 shorts.old.items }
+    requires filled { AreFilled longs.old.items }
+    ensures runs { MatchOption result (runs_in shorts.new.items longs.new.items ≡ []) (λ run. 0 < run.count) }
+    ensures taken { runs_in shorts.old.items longs.old.items ≡ runs_in shorts.new.items longs.new.items ++ last_run result }
+    ensures rising { AreRising 0 shorts.new.items }
+    ensures filled { AreFilled longs.new.items }
+    ensures shorts_room { (vec_capacity shorts.old ≤ vec_capacity shorts.new) × (vec_len shorts.new ≤ vec_len shorts.old) }
+    ensures longs_room { (vec_capacity longs.old ≤ vec_capacity longs.new) × (vec_len longs.new ≤ vec_len longs.old) }
+{
+    if let Some(run) = longs.pop() {
+        return Some(run);
+    }
+    let short = shorts.pop()?;
+    Some(short.run(end_of(shorts)))
+}
 
-    fn from_front(text: &[u8]) -> Option<(Entry, &[u8])> {
-        let (process, rest_after) = number_before(text, b' ', MOST_PROCESS)?;
-        let (steps, rest) = number_before(rest_after, b'\n', MOST_STEPS)?;
-        if process == 0 {
+impl History {
+    /// No entries. This takes no memory.
+    pub fn new(alloc: Global) -> History
+        ensures items { result.items ≡ [] }
+    {
+        History {
+            shorts: Vec::new(alloc),
+            longs: Vec::new(alloc),
+            closed: 0,
+            last: Run {
+                process: 0,
+                steps: 0,
+                count: 0,
+            },
+        }
+    }
+
+    /// Makes room for an entry, so many times, if there is none.
+    ///
+    /// # Errors
+    ///
+    /// Only where memory was refused, or where there would be more than 9,223,372,036,854,775,808 entries.
+    #[inline(always)]
+    pub fn reserve(&mut self, count: u32) -> Result<(), AllocError>
+        ensures room { OnOk result (0 < self.new.room) }
+        ensures few { OnOk result (length self.new.items + count ≤ 2 ^ 63) }
+        ensures items { self.new.items ≡ self.old.items }
+        ensures grows { self.old.room ≤ self.new.room }
+        ensures made { 0 < self.old.room → length self.old.items + count ≤ 2 ^ 63 → IsOk result }
+    {
+        if self.len() > MOST - count as u64 {
+            return Err(AllocError);
+        }
+        if self.shorts.len() == self.shorts.capacity()
+            || self.longs.len() == self.longs.capacity()
+        {
+            return self.grow();
+        }
+        Ok(())
+    }
+
+    // Makes room for an entry, so many times, where there may be none. A function of its own, so that who has room needs no room for it.
+    #[cold]
+    #[inline(never)]
+    fn grow(&mut self) -> Result<(), AllocError>
+        ensures room { OnOk result (0 < self.new.room) }
+        ensures items { self.new.items ≡ self.old.items }
+        ensures grows { self.old.room ≤ self.new.room }
+        ensures made { 0 < self.old.room → IsOk result }
+    {
+        self.longs.reserve(1)?;
+        self.shorts.reserve(1)
+    }
+
+    // Begins a run behind the last one, of so many entries. It takes no memory.
+    #[inline(always)]
+    fn begin(&mut self, entry: Entry, count: u32)
+        requires room { 0 < self.old.room }
+        requires few { length self.old.items + count ≤ 2 ^ 63 }
+        requires some { 0 < count }
+        ensures items { self.new.items ≡ self.old.items ++ replicate count entry }
+        ensures room { self.old.room ≤ self.new.room + 1 }
+    {
+        if self.last.count > 0 {
+            close(&mut self.shorts, &mut self.longs, self.closed, self.last);
+            self.closed += self.last.count as u64;
+        }
+        self.last = Run {
+            process: entry.process,
+            steps: entry.steps,
+            count,
+        };
+    }
+
+    /// Adds an entry so many times. It takes a constant time, and no memory.
+    #[inline(always)]
+    pub fn push_many(&mut self, entry: Entry, count: u32)
+        requires room { 0 < self.old.room }
+        requires few { length self.old.items + count ≤ 2 ^ 63 }
+        ensures items { self.new.items ≡ self.old.items ++ replicate count entry }
+        ensures room { self.old.room ≤ self.new.room + 1 }
+    {
+        if self.last.has(entry) && count <= u32::MAX - self.last.count {
+            self.last.count += count;
+        } else if count > 0 {
+            self.begin(entry, count);
+        }
+    }
+
+    /// Adds an entry. It takes a constant time, and no memory.
+    #[inline(always)]
+    pub fn push(&mut self, entry: Entry)
+        requires room { 0 < self.old.room }
+        requires few { length self.old.items < 2 ^ 63 }
+        ensures items { self.new.items ≡ self.old.items ++ entry ∷ [] }
+        ensures room { self.old.room ≤ self.new.room + 1 }
+    {
+        self.push_many(entry, 1);
+    }
+
+    /// Takes the last entry off, if there is one. It takes a constant time, and no memory.
+    pub fn pop(&mut self) -> Option<Entry>
+        ensures items { MatchOption result ((self.old.items ≡ []) × (self.new.items ≡ [])) (λ entry. self.old.items ≡ self.new.items ++ entry ∷ []) }
+        ensures room { self.old.room ≤ self.new.room }
+    {
+        if self.last.count == 0 {
             return None;
         }
-        let steps = steps as u32;
-        Some((Entry { process, steps }, rest))
+        let entry = self.last.entry();
+        if self.last.count > 1 {
+            self.last.count -= 1;
+            return Some(entry);
+        }
+        match open(&mut self.shorts, &mut self.longs) {
+            Some(run) => {
+                self.closed -= run.count as u64;
+                self.last = run;
+            }
+            None => self.last.count = 0,
+        }
+        Some(entry)
     }
-}
 
-/// The history that a text has.
-///
-/// # Errors
-///
-/// `Refused` with 601 at the first bad line, or at line 0 where the text has more than 150,000,000
-/// bytes; `NoMemory`.
-pub fn read_text(alloc: Global, text: &[u8]) -> Result<History, HistFault>
-    ensures read { IfOk result (λ history. AreLines entry_text IsAllowed text.now history.items) }
-    ensures refused { IfErr result (λ fault.
-        ReportsLine 601 (IsRefusedText entry_text IsAllowed text.now) fault) }
-    ensures accepted { (es : List Entry) → AreLines entry_text IsAllowed text.now es
-        → MatchResult result (λ history. history.items ≡ es) (λ fault. fault ≡ NoMemory) }
-{
-    read_lines(alloc, text, 601, History::new(alloc))
+    /// Adds an entry so many times, and makes room for them.
+    ///
+    /// # Errors
+    ///
+    /// Only where memory was refused, or where there would be more than 9,223,372,036,854,775,808 entries.
+    pub fn append(&mut self, entry: Entry, count: u32) -> Result<(), AllocError>
+        ensures items { OnOk result (self.new.items ≡ self.old.items ++ replicate count entry) }
+        ensures refused { OnErr result (self.new.items ≡ self.old.items) }
+    {
+        self.reserve(count)?;
+        self.push_many(entry, count);
+        Ok(())
+    }
+
+    /// How many entries there are.
+    #[inline(always)]
+    pub fn len(&self) -> u64
+        ensures count { result ≡ length self.now.items }
+        ensures few { result ≤ 2 ^ 63 }
+    {
+        self.closed + self.last.count as u64
+    }
+
+    /// The entry at an index. It takes the logarithm of the number of runs in eight bytes, and a step for each of the others.
+    pub fn get(&self, index: u64) -> Option<Entry>
+        ensures { result ≡ slice_get self.now.items index }
+    {
+        let end = end_of(&self.shorts) as u64;
+        if index < end {
+            return short_at(&self.shorts, index);
+        }
+        if index < self.closed {
+            return long_at(&self.longs, index - end);
+        }
+        if index - self.closed < self.last.count as u64 {
+            return Some(self.last.entry());
+        }
+        None
+    }
+
+    /// The last entry. It takes a constant time.
+    #[inline(always)]
+    pub fn last(&self) -> Option<Entry>
+        ensures { result ≡ slice_get self.now.items (length self.now.items - 1) }
+    {
+        if self.last.count == 0 {
+            return None;
+        }
+        Some(self.last.entry())
+    }
+
+    /// The runs, in order, of which none is empty. Runs that stand in a row have the same entry only where they
+    /// have more than 4,294,967,295 together.
+    pub fn runs(&self) -> Runs<'_>
+        ensures filled { AreFilled result }
+        ensures entries { entries_of result ≡ self.now.items }
+    {
+        let last = if self.last.count > 0 {
+            Some(self.last)
+        } else {
+            None
+        };
+        Runs::new(&self.shorts, &self.longs, last)
+    }
+
+    /// The entries, in order.
+    pub fn iter(&self) -> Entries<'_>
+        ensures { result ≡ self.now.items }
+    {
+        Entries::new(self.runs())
+    }
+
+    /// Whether another history has the same entries. It takes a step for each of them.
+    pub fn same(&self, other: &History) -> bool
+        ensures { IsTrue result ↔ (self.now.items ≡ other.now.items) }
+    {
+        let len = self.len();
+        if other.len() != len {
+            return false;
+        }
+        let mut entries = self.iter();
+        let mut others = other.iter();
+        for _index in 0..len {
+            if entries.next() != others.next() {
+                return false;
+            }
+        }
+        true
+    }
+
+    /// A copy.
+    ///
+    /// # Errors
+    ///
+    /// Only where memory was refused.
+    pub fn copy(&self, alloc: Global) -> Result<History, AllocError>
+        ensures { IfOk result (λ copy. copy.items ≡ self.now.items) }
+    {
+        let shorts = self.shorts.as_slice().to_vec(alloc)?;
+        let longs = self.longs.as_slice().to_vec(alloc)?;
+        Ok(History {
+            shorts,
+            longs,
+            closed: self.closed,
+            last: self.last,
+        })
+    }
 }

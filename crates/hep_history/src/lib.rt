@@ -1,28 +1,13 @@
-//! Histories and choices as texts, and histories made again.
-//!
-//! A text has one line for each entry or choice. [`read_text`] and [`read_choices`] take just the texts
-//! of histories and choices in range, each of which has one spelling. [`replay`] makes a history again on
-//! a new core.
+//! The history of a run: its entries in order, kept as runs of equal ones.
 #![tactic(auto)]
 
-pub mod choices;
-pub mod fault;
-pub mod first;
-pub mod following;
-pub mod history;
-pub mod laws;
-mod lines;
-pub mod replays;
+mod entries;
+mod finding;
+mod history;
+mod run;
+mod runs;
 
-pub use choices::{Choices, read_choices};
-pub use fault::ReplayFault;
-pub use first::First;
-pub use following::{choices_of_history, read_followed};
-pub use hep_core::{Tabled, Watch, go_on, stands_watched, tables_of};
-/// Why a text is refused: 601 for a history, 602 for choices, with the first bad line, and line 0
-/// where the text is too long. Neither is about a name.
-pub use hep_base::Refusal as HistFault;
-pub use hep_core::{ChoiceStop, ChooseFault, Core, Fault, NewFault, Verdict};
-pub use hep_entries::History;
-pub use history::{read_text, write_text};
-pub use replays::{make_run, replay, replay_first};
+pub use entries::Entries;
+pub use history::History;
+pub use run::Run;
+pub use runs::Runs;

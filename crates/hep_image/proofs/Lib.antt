@@ -1,3 +1,4 @@
+mod Children
 pub mod Openings
 pub mod Mains
 pub mod Lookups

@@ -2,17 +2,17 @@
 use Rattle.std.proofs.Common.{◌≡◌, ℕ, ◌≤◌, ◌∙◌, List, [], Bool, Option, Result, inl, inr, length, ap, IfOk}
 use Rattle.std.proofs.lemmas.Result.{IfOk-weaker}
 use Rattle.std.specs.Io.KnownBytes.{Consumes, IsAtEnd}
-use Rattle.hep_survey.specs.CoreValue.{CoreValue}
-use Rattle.hep_comparing.specs.DifferencesDifferences.{diff_text}
+use Rattle.hep_core.specs.Value.{CoreValue}
+use Rattle.hep_diff.specs.Differences.{diff_text}
 use Rattle.hep_machine.specs.declared.event.Entry.{Entry}
 use Rattle.hep_machine.specs.Words.{Units}
 use Rattle.hep_run.specs.declared.options.Run.{Run}
-use Rattle.hep_comparing.specs.OutcomeTranscriptTranscript.{Transcript}
+use Rattle.hep_outcome.specs.declared.transcript.Transcript.{Transcript}
 use Rattle.hep_run.specs.Checks.{outcome_of_text}
 use Rattle.hep_run.specs.Delivery.{LeavesOfSource, status_alone}
-use Rattle.hep_comparing.specs.OutcomeOutcome.{Outcome}
+use Rattle.hep_outcome.specs.Outcome.{Outcome}
 use Rattle.hep_run.specs.Sources.{IsRefusedProgram, IsRunnable}
-use Rattle.hep_comparing.specs.OutcomeTranscripts.{outcome_of}
+use Rattle.hep_outcome.specs.Transcripts.{outcome_of}
 use Rattle.hep_run.specs.Transcripts.{LeavesMade}
 use Rattle.hep_run.proofs.Accepted.{left_alone}
 use Rattle.hep_run.proofs.Fronts.{source_left}

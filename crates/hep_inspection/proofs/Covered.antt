@@ -2,19 +2,19 @@
 use Rattle.std.proofs.Common.{◌≡◌, ℕ, ◌+◌, ◌<◌, ◌≤◌, List, [], ◌∷◌, ◌++◌, Bool, Option, Result, Some, None, inl, inr, length, map, drop, get_or, refl, sym, subst, ap, ◌∙◌, IfOk, Vec, Global}
 use Rattle.std.proofs.lemmas.List.{drop_all, drop_more}
 use Rattle.std.specs.Io.KnownBytes.{Consumes, IsAtEnd}
-use Rattle.hep_begins.specs.Begins.{operations_by_line}
-use Rattle.hep_coverage.specs.Coverage.{counted_in, counted_in_all, unbegun}
-use Rattle.hep_coverage.specs.Lines.{lines_text}
+use Rattle.hep_cover.specs.Begins.{operations_by_line}
+use Rattle.hep_cover.specs.Coverage.{counted_in, counted_in_all, unbegun}
+use Rattle.hep_cover.specs.Lines.{lines_text}
 use Rattle.hep_machine.specs.declared.event.Entry.{Entry}
 use Rattle.hep_machine.specs.Words.{Units}
 use Rattle.hep_text.specs.Line.{lines}
 use Rattle.hep_run.specs.declared.options.Run.{Run}
-use Rattle.hep_comparing.specs.OutcomeTranscriptTranscript.{Transcript}
+use Rattle.hep_outcome.specs.declared.transcript.Transcript.{Transcript}
 use Rattle.hep_run.specs.Checks.{outcome_of_text}
 use Rattle.hep_run.specs.Delivery.{LeavesOfSource, status_alone}
-use Rattle.hep_comparing.specs.OutcomeOutcome.{Outcome}
+use Rattle.hep_outcome.specs.Outcome.{Outcome}
 use Rattle.hep_run.specs.Sources.{IsRefusedProgram, IsRunnable}
-use Rattle.hep_comparing.specs.OutcomeTranscripts.{outcome_of}
+use Rattle.hep_outcome.specs.Transcripts.{outcome_of}
 use Rattle.hep_run.specs.Transcripts.{LeavesMade}
 use Rattle.hep_run.proofs.Accepted.{left_alone}
 use Rattle.hep_run.proofs.Fronts.{read_left, same_outcome}

@@ -1,3 +1,5 @@
+mod Framed
+mod Surveyed
 mod Remaking
 mod Told
 mod Covered

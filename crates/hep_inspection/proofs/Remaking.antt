@@ -1,13 +1,13 @@
 -- Histories that are made again, and what is refused of them.
 use Rattle.std.proofs.Common.{◌≡◌, ℕ, ◌≤◌, ◌∙◌, List, [], Bool, inl, inr, IsSome, ap, subst, sym}
-use Rattle.hep_coverage.specs.CausesWatches.{IsReplayed}
-use Rattle.hep_survey.specs.CoreValue.{CoreValue}
-use Rattle.hep_coverage.specs.HistoryHistories.{entry_text, IsAllowed}
-use Rattle.hep_coverage.specs.HistoryLines.{AreLines}
-use Rattle.hep_coverage.specs.HistoryReplays.{replayed}
+use Rattle.hep_why.specs.Watches.{IsReplayed}
+use Rattle.hep_core.specs.Value.{CoreValue}
+use Rattle.hep_replay.specs.Histories.{entry_text, IsAllowed}
+use Rattle.hep_replay.specs.Lines.{AreLines}
+use Rattle.hep_replay.specs.Replays.{replayed}
 use Rattle.hep_machine.specs.declared.event.Entry.{Entry}
 use Rattle.hep_machine.specs.Words.{Units, opening_layout}
-use Rattle.hep_comparing.specs.OutcomeOutcome.{Outcome}
+use Rattle.hep_outcome.specs.Outcome.{Outcome}
 use Rattle.hep_inspection.specs.Covers.{AreRefused, IsHistory, IsRefusedHistory}
 use Rattle.hep_inspection.specs.Remade.{AreMadeOrRefused, IsMadeOrRefused}
 use Rattle.hep_inspection.specs.declared.remade.Remade.{Remade}

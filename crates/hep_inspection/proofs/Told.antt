@@ -1,26 +1,26 @@
 -- What everything holds after entries is what it holds after these one step at a time; and what is left of a source whose state is told.
 use Rattle.std.proofs.Common.{◌≡◌, ℕ, ◌≤◌, List, [], ◌++◌, Bool, Option, Result, inl, inr, length, take, ap, ◌∙◌, IfOk}
 use Rattle.std.specs.Io.KnownBytes.{Consumes, IsAtEnd}
-use Rattle.hep_survey.specs.CoreValue.{CoreValue}
-use Rattle.hep_coverage.specs.HistoryReplays.{replayed, single_entries}
-use Rattle.hep_coverage.proofs.HistoryTurns.{state_singles}
+use Rattle.hep_core.specs.Value.{CoreValue}
+use Rattle.hep_replay.specs.Replays.{replayed, single_entries}
+use Rattle.hep_replay.proofs.Turns.{state_singles}
 use Rattle.hep_machine.specs.declared.event.Entry.{Entry}
 use Rattle.hep_machine.specs.Words.{Units, opening}
-use Rattle.hep_states.specs.Lines as lines
-use Rattle.hep_states.specs.States.{contents_text, state_text}
-use Rattle.hep_survey.specs.Shown.{line_shown}
+use Rattle.hep_state_text.specs.Lines as lines
+use Rattle.hep_state_text.specs.States.{contents_text, state_text}
+use Rattle.hep_state_text.specs.Shown.{line_shown}
 use Rattle.hep_text.specs.Line as rows_of
 use Rattle.hep_run.specs.declared.options.Run.{Run}
-use Rattle.hep_comparing.specs.OutcomeTranscriptTranscript.{Transcript}
+use Rattle.hep_outcome.specs.declared.transcript.Transcript.{Transcript}
 use Rattle.hep_run.specs.Delivery.{LeavesOfSource, status_alone}
-use Rattle.hep_comparing.specs.OutcomeOutcome.{Outcome}
+use Rattle.hep_outcome.specs.Outcome.{Outcome}
 use Rattle.hep_run.specs.Sources.{IsRefusedProgram, IsRunnable}
 use Rattle.hep_inspection.specs.States.{IsFirstOutcome, IsSourceTold, told}
 use Rattle.hep_inspection.specs.declared.state.Telling.{Telling}
 use Rattle.hep_inspection.specs.declared.state.Telling.TheVariants.{State}
 use Rattle.hep_inspection.proofs.Remaking.{refused-none}
-use Rattle.hep_coverage.proofs.CausesFound.{progress-singles}
-use Rattle.hep_comparing.specs.OutcomeTranscripts.{outcome_of}
+use Rattle.hep_why.proofs.Found.{progress-singles}
+use Rattle.hep_outcome.specs.Transcripts.{outcome_of}
 use Rattle.hep_run.specs.Transcripts.{LeavesMade}
 use Rattle.hep_run.proofs.Accepted.{left_alone}
 use Rattle.hep_run.proofs.Fronts.{read_left, same_outcome}

@@ -1,10 +1,10 @@
 -- What comes of the text of a history that is counted.
 use Rattle.std.specs.Prelude.{◌≡◌, ℕ, Bool, List, Option, Some, None}
-use Rattle.hep_coverage.specs.Coverage.{counted_in}
+use Rattle.hep_cover.specs.Coverage.{counted_in}
 use Rattle.hep_machine.specs.declared.event.Entry.{Entry}
 use Rattle.hep_machine.specs.Words.{Units}
-use Rattle.hep_comparing.specs.OutcomeTranscripts.{outcome_of}
-use Rattle.hep_comparing.specs.OutcomeTranscriptTranscript.{Transcript}
+use Rattle.hep_outcome.specs.Transcripts.{outcome_of}
+use Rattle.hep_outcome.specs.declared.transcript.Transcript.{Transcript}
 use Rattle.hep_inspection.specs.Covers.{IsHistory, IsRefusedHistory}
 use Rattle.hep_inspection.specs.declared.cover.Counting.{Counting}
 

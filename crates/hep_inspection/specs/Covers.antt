@@ -2,14 +2,14 @@
 use Rattle.std.specs.Prelude.{◌≡◌, ◌⊎◌, ℕ, Bool, List, [], ◌∷◌, ◌++◌, length, None, IsSome}
 use Rattle.hep_machine.specs.declared.event.Entry.{Entry}
 use Rattle.hep_machine.specs.Words.{Units, opening_layout}
-use Rattle.hep_coverage.specs.HistoryLines.{AreLines, IsRefusedText}
-use Rattle.hep_coverage.specs.HistoryHistories.{entry_text, IsAllowed}
-use Rattle.hep_coverage.specs.HistoryReplays.{ArePossible, IsFirstImpossible}
-use Rattle.hep_coverage.specs.Lines.{cover_text}
+use Rattle.hep_replay.specs.Lines.{AreLines, IsRefusedText}
+use Rattle.hep_replay.specs.Histories.{entry_text, IsAllowed}
+use Rattle.hep_replay.specs.Replays.{ArePossible, IsFirstImpossible}
+use Rattle.hep_cover.specs.Lines.{cover_text}
 use Rattle.hep_run.specs.Checks.{outcome_of_text}
-use Rattle.hep_comparing.specs.OutcomeOutcome.{Outcome, outcome_of_full_arena}
+use Rattle.hep_outcome.specs.Outcome.{Outcome, outcome_of_full_arena}
 use Rattle.hep_run.specs.Outcome.{RunsTo}
-use Rattle.hep_comparing.specs.OutcomeReplay.{outcome_of_refused_history}
+use Rattle.hep_outcome.specs.Replay.{outcome_of_refused_history}
 
 -- the main program's frame has a gap in an arena of so many cells, and each of these entries is possible after those before it
 abbrev pub CanBeMade : Units → ℕ → List Entry → Type 0

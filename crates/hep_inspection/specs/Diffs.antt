@@ -2,9 +2,9 @@
 use Rattle.std.specs.Prelude.{◌≡◌, ◌⊎◌, ℕ, Bool, List}
 use Rattle.hep_machine.specs.declared.event.Entry.{Entry}
 use Rattle.hep_machine.specs.Words.{Units}
-use Rattle.hep_comparing.specs.DifferencesDifferences.{diff_text}
+use Rattle.hep_diff.specs.Differences.{diff_text}
 use Rattle.hep_run.specs.Checks.{outcome_of_text}
-use Rattle.hep_comparing.specs.OutcomeOutcome.{Outcome}
+use Rattle.hep_outcome.specs.Outcome.{Outcome}
 use Rattle.hep_run.specs.Outcome.{RunsTo}
 use Rattle.hep_inspection.specs.Covers.{IsHistory, IsRefusedHistory}
 

@@ -1,3 +1,5 @@
+pub use Rattle.hep_state_text.specs.Shown
+pub mod Frames
 pub mod States
 pub mod Covers
 pub mod Counted

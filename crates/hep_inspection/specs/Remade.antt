@@ -1,9 +1,9 @@
 -- What comes of a history that is made again.
 use Rattle.std.specs.Prelude.{◌≡◌, ℕ, Bool, List}
 use Rattle.hep_machine.specs.declared.event.Entry.{Entry}
-use Rattle.hep_coverage.specs.CausesWatches.{IsReplayed}
+use Rattle.hep_why.specs.Watches.{IsReplayed}
 use Rattle.hep_machine.specs.Words.{Units}
-use Rattle.hep_comparing.specs.OutcomeTranscripts.{outcome_of}
+use Rattle.hep_outcome.specs.Transcripts.{outcome_of}
 use Rattle.hep_inspection.specs.Covers.{AreRefused, CanBeMade, IsHistory, IsRefusedHistory}
 use Rattle.hep_inspection.specs.declared.remade.Remade.{Remade}
 use Rattle.hep_inspection.specs.declared.remade.Remade.TheVariants.{Made, Refused}

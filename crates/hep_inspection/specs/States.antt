@@ -2,21 +2,21 @@
 use Rattle.std.specs.Prelude.{◌≡◌, ◌⊎◌, ℕ, Bool, List, length, take}
 use Rattle.hep_machine.specs.declared.event.Entry.{Entry}
 use Rattle.hep_machine.specs.Words.{Units}
-use Rattle.hep_coverage.specs.HistoryLines.{AreLines, IsRefusedText}
-use Rattle.hep_coverage.specs.HistoryHistories.{entry_text, IsAllowed}
-use Rattle.hep_coverage.specs.CausesReasons.{why_text}
-use Rattle.hep_states.specs.States.{state_text}
-use Rattle.hep_survey.specs.Shown.{line_shown}
+use Rattle.hep_replay.specs.Lines.{AreLines, IsRefusedText}
+use Rattle.hep_replay.specs.Histories.{entry_text, IsAllowed}
+use Rattle.hep_cover.specs.CausesReasons.{why_text}
+use Rattle.hep_state_text.specs.States.{state_text}
+use Rattle.hep_state_text.specs.Shown.{line_shown}
 use Rattle.hep_text.specs.Line.{lines}
-use Rattle.hep_turns.specs.TracesTraces.{trace_text}
-use Rattle.hep_turns.specs.Pages.{shown_on}
+use Rattle.hep_event.specs.Traces.{trace_text}
+use Rattle.hep_trace.specs.Pages.{shown_on}
 use Rattle.hep_inspection.specs.Covers.{AreRefused, CanBeMade}
 use Rattle.hep_inspection.specs.declared.state.Telling.{Telling}
 use Rattle.hep_inspection.specs.declared.state.Telling.TheVariants.{State, Trace, Why}
 use Rattle.hep_run.specs.Checks.{outcome_of_text}
-use Rattle.hep_comparing.specs.OutcomeOutcome.{Outcome}
+use Rattle.hep_outcome.specs.Outcome.{Outcome}
 use Rattle.hep_run.specs.Outcome.{RunsTo}
-use Rattle.hep_comparing.specs.OutcomeReplay.{outcome_of_refused_history}
+use Rattle.hep_outcome.specs.Replay.{outcome_of_refused_history}
 
 -- what is told of entries of a source: what everything holds after them, what each step did, or why processes wait
 abbrev pub told : Telling → List ℕ → Units → List Entry → List ℕ

@@ -1,16 +1,15 @@
 //! The bytes of a source and of histories to how often the statement of each line began in them.
 ghost use Rattle.std.specs.Prelude.{◌≡◌, ◌≤◌, [], IfOk, OnErr, map};
-ghost use Rattle.hep_begins.specs.Begins.{operations_by_line};
-ghost use Rattle.hep_coverage.specs.Coverage.{unbegun};
+ghost use Rattle.hep_cover.specs.Begins.{operations_by_line};
+ghost use Rattle.hep_cover.specs.Coverage.{unbegun};
 ghost use Rattle.hep_inspection.specs.Covers.{IsCovered, IsSourceCovered};
 ghost use Rattle.hep_inspection.specs.Counted.{IsCountedOrRefused};
-ghost use Rattle.hep_comparing.specs.OutcomeTranscripts.{outcome_of};
+ghost use Rattle.hep_outcome.specs.Transcripts.{outcome_of};
 ghost use Rattle.hep_run.specs.Delivery.{LeavesOfSource, status_alone};
 ghost use Rattle.hep_run.specs.Memory.{MayReadOn, RefusesLargeSource};
 
 use crate::remade::{Remade, make_again};
-use hep_begins::operations_by_line;
-use hep_coverage::{append_lines, count_history, line_count, unbegun};
+use hep_cover::{append_lines, count_history, line_count, operations_by_line, unbegun};
 use hep_image::Image;
 use hep_run::deliver::deliver_made;
 use hep_run::front::image_of_source;

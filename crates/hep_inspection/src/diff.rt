@@ -1,14 +1,15 @@
 //! The bytes of a source and of two histories to what differs between the two runs.
 ghost use Rattle.std.specs.Prelude.{◌≡◌, ◌≤◌, IfOk, OnErr};
-ghost use Rattle.hep_coverage.specs.CausesWatches.{IsReplayed};
+ghost use Rattle.hep_why.specs.Watches.{IsReplayed};
 ghost use Rattle.hep_inspection.specs.Diffs.{IsCompared, IsComparedWith, IsSourceCompared};
-ghost use Rattle.hep_comparing.specs.OutcomeTranscripts.{outcome_of};
+ghost use Rattle.hep_outcome.specs.Transcripts.{outcome_of};
 ghost use Rattle.hep_run.specs.Delivery.{LeavesOfSource, status_alone};
 ghost use Rattle.hep_run.specs.Memory.{MayReadOn, RefusesLargeSource};
 
 use crate::remade::{Remade, make_again};
-use hep_comparing::diff_text;
-use hep_coverage::History;
+use hep_core::Core;
+use hep_cover::History;
+use hep_diff::diff_text;
 use hep_image::Image;
 use hep_run::deliver::deliver_made;
 use hep_run::front::image_of_source;
@@ -16,7 +17,6 @@ use hep_run::input::read_input;
 use hep_run::say_unread;
 use hep_run::source::MOST_BYTES;
 use hep_run::transcript::{Transcript, fault_transcript, text_transcript};
-use hep_survey::Core;
 use std::alloc::{AllocError, Global};
 use std::io::{Read, Write};
 

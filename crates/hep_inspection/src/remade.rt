@@ -1,13 +1,13 @@
 //! Histories of an accepted program that are made again.
 ghost use Rattle.std.specs.Prelude.{◌≤◌, IfOk, OnErr};
 ghost use Rattle.hep_inspection.specs.Remade.{AreMadeOrRefused, IsMadeOrRefused};
-ghost use Rattle.hep_comparing.specs.OutcomeMemory.{MayOpen};
+ghost use Rattle.hep_outcome.specs.Memory.{MayOpen};
 
 use hep_base::Refusal;
-use hep_coverage::{History, ReplayFault, read_text, replay};
+use hep_core::Core;
+use hep_cover::{History, ReplayFault, read_text, replay};
 use hep_image::Image;
 use hep_run::transcript::{Transcript, full_transcript, history_transcript, opening_notes_when};
-use hep_survey::Core;
 use std::alloc::{AllocError, Global};
 
 /// What comes of a history.

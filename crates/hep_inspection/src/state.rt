@@ -1,23 +1,25 @@
 //! The bytes of a source and of a history to what everything holds after the history's first entries.
 ghost use Rattle.std.specs.Prelude.{◌≡◌, ◌≤◌, false, IfErr, IfOk, OnErr, OnOk, take};
 ghost use Rattle.hep_inspection.specs.declared.state.Telling.TheVariants.{State};
-ghost use Rattle.hep_coverage.specs.HistoryFirst.{first_of};
-ghost use Rattle.hep_coverage.specs.HistoryReplays.{IsUnmade};
+ghost use Rattle.hep_replay.specs.First.{first_of};
+ghost use Rattle.hep_replay.specs.Replays.{IsUnmade};
 ghost use Rattle.hep_run.specs.Delivery.{LeavesOfSource, status_alone};
 ghost use Rattle.hep_run.specs.Memory.{MayReadOn, RefusesLargeSource};
-ghost use Rattle.hep_states.specs.States as words;
-ghost use Rattle.hep_survey.specs.Shown.{line_shown};
+ghost use Rattle.hep_state_text.specs.States as words;
+ghost use Rattle.hep_state_text.specs.Shown.{line_shown};
 ghost use Rattle.hep_text.specs.Line.{lines};
 ghost use Rattle.hep_inspection.specs.Covers.{CanBeMade};
 ghost use Rattle.hep_inspection.specs.States.{IsFirstOutcome, IsSourceTold, IsToldOutcome, told};
-ghost use Rattle.hep_coverage.specs.CausesReasons as reasons;
-ghost use Rattle.hep_turns.specs.TracesTraces as traces;
-ghost use Rattle.hep_turns.specs.Pages.{shown_on};
-ghost use Rattle.hep_comparing.specs.OutcomeMemory.{MayOpen};
-ghost use Rattle.hep_comparing.specs.OutcomeTranscripts.{outcome_of};
+ghost use Rattle.hep_cover.specs.CausesReasons as reasons;
+ghost use Rattle.hep_event.specs.Traces as traces;
+ghost use Rattle.hep_trace.specs.Pages.{shown_on};
+ghost use Rattle.hep_outcome.specs.Memory.{MayOpen};
+ghost use Rattle.hep_outcome.specs.Transcripts.{outcome_of};
 
+use crate::survey::state_text;
 use hep_base::Refusal;
-use hep_coverage::{First, History, ReplayFault, read_text, replay_first, why_text};
+use hep_core::Core;
+use hep_cover::{First, History, ReplayFault, read_text, replay_first, why_text};
 use hep_image::Image;
 use hep_run::deliver::deliver_made;
 use hep_run::front::image_of_source;
@@ -28,8 +30,8 @@ use hep_run::transcript::{
     Transcript, fault_transcript, full_transcript, history_transcript, opening_notes_when,
     text_transcript,
 };
-use hep_survey::{Core, Listing, state_text};
-use hep_turns::{Page, trace_history};
+use hep_state_text::Listing;
+use hep_trace::{Page, trace_history};
 use std::alloc::{AllocError, Global};
 use std::io::{Read, Write};
 

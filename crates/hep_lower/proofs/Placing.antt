@@ -8,17 +8,17 @@ use Rattle.hep_code.specs.Words.{most_instructions, addressed_unit, code_of}
 use Rattle.hep_image.specs.declared.array.Array.{Array}
 use Rattle.hep_image.specs.Image.{most_cells}
 use Rattle.hep_image.specs.Places.{addresses_of, loop_cells, variable_of}
-use Rattle.hep_data.specs.Frame.{IsMainFrame}
+use Rattle.hep_places.specs.Frame.{IsMainFrame}
 use Rattle.hep_places.specs.declared.unit.UnitPlaces.{UnitPlaces}
 use Rattle.hep_places.specs.Unit.{ArePlaces}
 use Rattle.hep_code.specs.declared.places.Placement.{Placement}
 use Rattle.hep_code.specs.Places.{cells_in, variable_in}
 use Rattle.hep_accepted_laws.specs.Placed.{code_in}
-use Rattle.hep_arguments.specs.declared.fault.EmitFault.{EmitFault}
-use Rattle.hep_arguments.specs.declared.fault.EmitFault.TheVariants as emit_fault
-use Rattle.hep_emit.specs.Limits.{IsOverLimit}
+use Rattle.hep_emit.specs.declared.fault.EmitFault.{EmitFault}
+use Rattle.hep_emit.specs.declared.fault.EmitFault.TheVariants as emit_fault
+use Rattle.hep_emit.specs.UnitLimits.{IsOverLimit}
 use Rattle.hep_lower.specs.Refusals.{RefusesCode, fault_by}
-use Rattle.hep_operations.specs.Tables.{addressed_by}
+use Rattle.hep_emit.specs.Tables.{addressed_by}
 use Rattle.hep_lower.proofs.Counts.{as-many}
 
 module _ (program : Units) (u : ℕ) (unit : List Statement) (places : Placement) (same : unit ≡ unit_at program u)

@@ -6,18 +6,17 @@ ghost use Rattle.hep_code.specs.Words.{most_instructions};
 ghost use Rattle.hep_image.specs.Image.{most_cells};
 ghost use Rattle.hep_common.specs.Starts.{AreStarts};
 ghost use Rattle.hep_lower.specs.Refusals.{RefusesCode, fault_by};
-ghost use Rattle.hep_arguments.specs.Names.{greatest};
+ghost use Rattle.hep_emit.specs.Names.{greatest};
 ghost use Rattle.hep_lower.specs.Units.{AreRows, AreUnits, IsUnit};
 ghost use Rattle.hep_places.specs.Unit.{ArePlaces};
 
 use hep_base::{Refusal as LowerFault, Sequence};
 use hep_code::Instruction;
 use hep_common::CommonStarts;
-use hep_data::{MainFrame, data_rows};
 use hep_emit::{EmitFault, MOST_INSTRUCTIONS, lower_unit};
 use hep_image::{DataRow, UnitCode};
 use hep_names::{ProgramSymbols, Symbols};
-use hep_places::{UnitPlaces, unit_places};
+use hep_places::{MainFrame, UnitPlaces, data_rows, unit_places};
 use std::alloc::{AllocError, Global};
 
 /// A unit, or the line of its first statement that has too many operands.

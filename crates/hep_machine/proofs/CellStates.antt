@@ -3,7 +3,7 @@ use Rattle.std.proofs.Common.{◌≡◌, ℕ, Bool, true, false, List, [], ◌�
 use Rattle.hep_machine.specs.declared.event.Kind.{Kind}
 use Rattle.hep_machine.specs.Words.{Process, evaluating, referring, resuming, function_name, function_unit, result_after_leaving, result_after_result, result_after_value, state_resumed, StateFunction, IsFull, IsEmpty, ValueOf, SetEmpty, WaitFull, Name, Statement, Value, Int, Outcome, reading_asynchronous, setting_empty, waiting_full, integer_of, integer_or_overflow, signed_value, negated_value, combined_value, function_value, Binding, binding_for}
 use Rattle.hep_machine.specs.Words.{binding_with_shapes, with_store, with_shapes, with_actual, with_actuals, dummies_for, level_after_statement, variable_of, Redex, signing, negating, combining, applying, testing, Actual, evaluated, referred, Action, assigning, jumping, choosing, branching, testing_condition}
-use Rattle.hep_machine.specs.Words.{entering_block, entering_loop, ending_loop, calling, creating, purging, printing, continuing, leaving, resuming, stopping, Next, wants, does, KeepsStatesBut, purges, top_purges, is_purge, Scope, location_of_name, Dummy, Level, Loop, State, Location, local, common, Cell, Store, Answer, fails}
+use Rattle.hep_machine.specs.Words.{entering_block, entering_loop, ending_loop, calling, creating, purging, printing, continuing, leaving, stopping, Next, wants, does, KeepsStatesBut, purges, top_purges, is_purge, Scope, location_of_name, Dummy, Level, Loop, State, Location, local, common, Cell, Store, Answer, fails}
 use Rattle.hep_machine.specs.Words.{by_result, answer_at, answer_of_read, answer_of_read_at, answer_of_test, answer_of_test_at, answer_of, Top, unit_on_top, scope_of, result_after_answer, written, result_after_write, result_after_store, result_after_assignment, iterations, result_after_do, result_after_increment}
 use Rattle.hep_machine.specs.Words.{result_after_loop_variable, result_after_loop_end, next_activation, result_after_call, result_after_create, unit_called, binding_of, result_after_action, result_after_next, step, same_location, with_cell, with_value, Units, unit_at, dummies_of, loop_at}
 use Rattle.hep_machine.specs.Access as access

@@ -98,7 +98,7 @@ unfoldable pub use Rattle.hep_machine.specs.Evaluation.{then_part, actuals_in, p
 pub use Rattle.hep_machine.specs.Evaluation.{Sought, evaluating, referring, resuming}
 pub use Rattle.hep_machine.specs.Evaluation.{Action, Actual, applying, assigning, branching, calling, choosing, combining, continuing}
 pub use Rattle.hep_machine.specs.Evaluation.{creating, does, ending_loop, entering_block, entering_loop, evaluated, first_redex, jumping}
-pub use Rattle.hep_machine.specs.Evaluation.{leaving, negating, Next, Part, printing, purging, Redex, referred, resuming, signing, stopping, testing}
+pub use Rattle.hep_machine.specs.Evaluation.{leaving, negating, Next, Part, printing, purging, Redex, referred, signing, stopping, testing}
 pub use Rattle.hep_machine.specs.Evaluation.{testing_condition, wants, whole}
 unfoldable pub use Rattle.hep_machine.specs.Control.{after_condition, alternative_of, before_alternative, before_end_if, end_if_after}
 unfoldable pub use Rattle.hep_machine.specs.Control.{following, has_label, index_labelled, index_of_label, is_ended_at, is_labelled}

@@ -6,14 +6,14 @@ use Rattle.std.proofs.lemmas.Option.{none-some, slice_get_past}
 use Rattle.std.proofs.Math.Seq.{take-append_seam}
 use Rattle.hep_machine.specs.declared.event.Entry.{Entry}
 use Rattle.hep_machine.specs.Words.{Units, last_process, living, next_of_ready, next_ready, progress_after, ready_in, state_after}
-use Rattle.hep_history.specs.ChoiceStop.{ChoiceStop}
-use Rattle.hep_history.specs.Turn.{Turn}
-use Rattle.hep_history.specs.ChooseFault.TheVariants.{NoSuchProcess, Stopped}
-use Rattle.hep_history.specs.Value.{CoreValue, IsChoice, IsStop, opening_of, ready_of, state_of}
-use Rattle.hep_history.proofs.Outs.{all_free}
-use Rattle.hep_lots.specs.Drawing.{drawn, next_drawn, stay_of, word_of}
-use Rattle.hep_lots.specs.Kept.{LotsValue, lots_after, next_in}
-use Rattle.hep_lots.proofs.Draws.{drawn-comes, drawn-none}
+use Rattle.hep_replay.specs.ChoiceStop.{ChoiceStop}
+use Rattle.hep_replay.specs.Turn.{Turn}
+use Rattle.hep_replay.specs.ChooseFault.TheVariants.{NoSuchProcess, Stopped}
+use Rattle.hep_replay.specs.Value.{CoreValue, IsChoice, IsStop, opening_of, ready_of, state_of}
+use Rattle.hep_replay.proofs.Outs.{all_free}
+use Rattle.hep_outcome.specs.Drawing.{drawn, next_drawn, stay_of, word_of}
+use Rattle.hep_outcome.specs.Kept.{LotsValue, lots_after, next_in}
+use Rattle.hep_outcome.proofs.Draws.{drawn-comes, drawn-none}
 use Rattle.hep_machine.specs.Words.{IsLegal}
 use Rattle.hep_outcome.specs.declared.options.LotOptions.{LotOptions}
 use Rattle.hep_outcome.specs.Outcome.{Outcome, next_process, outcome_of_end}

@@ -1,4 +1,7 @@
-pub use Rattle.hep_history.proofs.Going
+pub use Rattle.hep_replay.proofs.Going
+pub mod Draws
+mod Made
+mod Worked
 pub mod Schedules
 pub mod Outcomes
 mod Drawings

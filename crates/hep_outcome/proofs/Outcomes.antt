@@ -1,10 +1,10 @@
 -- The outcome of a run, from the core that it left.
 use Rattle.std.proofs.Common.{◌≡◌, ℕ, Bool, Option, Some, None, refl, ap, ◌∙◌, subst, inl, inr}
 use Rattle.hep_machine.specs.Words.{IsLegal, Units}
-use Rattle.hep_history.specs.ChoiceStop.{ChoiceStop}
-use Rattle.hep_history.specs.ChoiceStop.TheVariants.{Halted, ArenaFull, StepLimit}
-use Rattle.hep_history.specs.Value as core
-use Rattle.hep_history.specs.Value.{CoreValue}
+use Rattle.hep_replay.specs.ChoiceStop.{ChoiceStop}
+use Rattle.hep_replay.specs.ChoiceStop.TheVariants.{Halted, ArenaFull, StepLimit}
+use Rattle.hep_replay.specs.Value as core
+use Rattle.hep_replay.specs.Value.{CoreValue}
 use Rattle.hep_outcome.specs.declared.options.Options.{Options}
 use Rattle.hep_outcome.specs.declared.halt.Halt.TheVariants.{NoSuchProcess}
 use Rattle.hep_outcome.specs.Outcome.{Outcome, IsHistory, IsOver, IsRunOutcome, next_process, outcome_of_refused_choice, outcome_of_end}

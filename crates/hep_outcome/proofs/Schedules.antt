@@ -1,24 +1,24 @@
 -- A choice makes a history longer by one entry, of the process that comes next.
 use Rattle.std.proofs.Common.{◌≡◌, ℕ, zero, suc, ◌+◌, ◌<◌, ◌≤◌, Bool, true, false, List, [], ◌∷◌, ◌++◌, length, take, Option, Some, None, refl, sym, ap, ◌∙◌, subst, arith, inl, inr, Ok, Err, length-append, ◌≢◌, slice_get, nat_lt, not, true≢false, replicate, cond, if◌then◌else◌}
 use Rattle.std.specs.List.{filter}
-use Rattle.hep_history.specs.States.{HasNoGap}
-use Rattle.hep_history.specs.ChoiceStop.{ChoiceStop}
-use Rattle.hep_history.specs.ChoiceStop.TheVariants.{ArenaFull, Halted, StepLimit}
-use Rattle.hep_history.specs.ChooseFault.{ChooseFault}
-use Rattle.hep_history.specs.ChooseFault.TheVariants.{IsOut, NoSuchProcess, Stopped}
+use Rattle.hep_replay.specs.States.{HasNoGap}
+use Rattle.hep_replay.specs.ChoiceStop.{ChoiceStop}
+use Rattle.hep_replay.specs.ChoiceStop.TheVariants.{ArenaFull, Halted, StepLimit}
+use Rattle.hep_replay.specs.ChooseFault.{ChooseFault}
+use Rattle.hep_replay.specs.ChooseFault.TheVariants.{IsOut, NoSuchProcess, Stopped}
 use Rattle.std.proofs.lemmas.Bool.{cases_lt}
 use Rattle.std.proofs.lemmas.List.{take-append-le}
 use Rattle.std.proofs.Math.Seq.{take-append_seam}
 use Rattle.std.proofs.lemmas.Option.{slice_get_within, slice_get_past}
 use Rattle.hep_machine.specs.declared.event.Entry.{Entry}
 use Rattle.hep_machine.specs.Words.{Units, State, Process, schedule_of, state_after, progress_after, living_from, ready_in, last_process, first_above, next_of_ready, next_ready, living, top_of, is_number_among}
-use Rattle.hep_history.specs.Turn.{Turn}
-use Rattle.hep_history.specs.Turns.{Turns}
-use Rattle.hep_history.specs.Going.{AreChoices, AreRounds, AreTurns, again, begun, goes_round, started}
-use Rattle.hep_history.proofs.Histories.{progress-state}
-use Rattle.hep_history.proofs.Going.{choices-began, rounds-going, rounds-none, unmoved}
-use Rattle.hep_history.proofs.Outs.{all_free}
-use Rattle.hep_history.specs.Value.{CoreValue, state_of, core_after_choice, free_of, next_ready_of, ready_of, stop_after, HasNoStop, IsFree, IsTurn, IsChoice}
+use Rattle.hep_replay.specs.Turn.{Turn}
+use Rattle.hep_replay.specs.Turns.{Turns}
+use Rattle.hep_replay.specs.Going.{AreChoices, AreRounds, AreTurns, again, begun, goes_round, started}
+use Rattle.hep_replay.proofs.Histories.{progress-state}
+use Rattle.hep_replay.proofs.Going.{choices-began, rounds-going, rounds-none, unmoved}
+use Rattle.hep_replay.proofs.Outs.{all_free}
+use Rattle.hep_replay.specs.Value.{CoreValue, state_of, core_after_choice, free_of, next_ready_of, ready_of, stop_after, HasNoStop, IsFree, IsTurn, IsChoice}
 use Rattle.hep_outcome.specs.declared.options.Options.{Options}
 use Rattle.hep_outcome.specs.declared.halt.Halt.TheVariants as halts
 use Rattle.hep_outcome.specs.Outcome.{first_choice, next_process, IsNextEntry, IsScheduled}

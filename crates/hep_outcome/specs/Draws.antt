@@ -2,8 +2,8 @@
 use Rattle.std.specs.Prelude.{◌≡◌, ◌⊎◌, ℕ, ◌<◌, ◌≤◌, Bool, List, ◌++◌, length, map, take, slice_get, None}
 use Rattle.hep_machine.specs.declared.event.Entry.{Entry}
 use Rattle.hep_machine.specs.Words.{Units, opening_layout}
-use Rattle.hep_history.specs.Value.{CoreValue}
-use Rattle.hep_lots.specs.Drawing.{next_drawn}
+use Rattle.hep_replay.specs.Value.{CoreValue}
+use Rattle.hep_outcome.specs.Drawing.{next_drawn}
 use Rattle.hep_outcome.specs.declared.options.Options.{Options}
 use Rattle.hep_outcome.specs.declared.options.LotOptions.{LotOptions}
 use Rattle.hep_outcome.specs.Outcome.{Outcome, IsRunOutcome, next_process, outcome_of_full_arena}

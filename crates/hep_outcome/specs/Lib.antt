@@ -1,21 +1,16 @@
-pub use Rattle.hep_dump.specs.Names as DumpNames
-pub use Rattle.hep_dump.specs.Waiting as DumpWaiting
-pub use Rattle.hep_lots.specs.ViewsListed
-pub use Rattle.hep_lots.specs.ViewsListedListed
-pub use Rattle.hep_lots.specs.ViewsPlacePlace
-pub use Rattle.hep_lots.specs.ViewsStanding
-pub use Rattle.hep_lots.specs.ViewsWhereaboutsWhereabouts
-pub use Rattle.hep_history.specs.Lines as HistoryLines
-pub use Rattle.hep_history.specs.Histories
-pub use Rattle.hep_history.specs.Choices
-pub use Rattle.hep_history.specs.Following
-pub use Rattle.hep_history.specs.Verdict
-pub use Rattle.hep_history.specs.ChoiceStop
-pub use Rattle.hep_history.specs.Turns
-pub use Rattle.hep_history.specs.ChooseFault
-pub use Rattle.hep_history.specs.Going
-pub use Rattle.hep_history.specs.Replays
-pub use Rattle.hep_history.specs.Value
+pub use Rattle.hep_replay.specs.Histories
+pub use Rattle.hep_replay.specs.Choices
+pub use Rattle.hep_replay.specs.Following
+pub use Rattle.hep_replay.specs.Verdict
+pub use Rattle.hep_replay.specs.ChoiceStop
+pub use Rattle.hep_replay.specs.Turns
+pub use Rattle.hep_replay.specs.ChooseFault
+pub use Rattle.hep_replay.specs.Going
+pub use Rattle.hep_replay.specs.Replays
+pub use Rattle.hep_replay.specs.Value
+pub use Rattle.hep_replay.specs.Lines as OutcomeHistoryLines
+pub mod Drawing
+pub mod Kept
 pub mod Texts
 pub mod Lines
 pub mod Statuses

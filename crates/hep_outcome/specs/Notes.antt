@@ -2,8 +2,8 @@
 use Rattle.std.specs.Prelude.{ℕ, Bool, true, false, List, [], ◌++◌, Option, Some, None}
 use Rattle.hep_machine.specs.declared.event.Entry.{Entry}
 use Rattle.hep_machine.specs.Words.{is_held, state_after, Units, used_cells}
-use Rattle.hep_history.specs.ChoiceStop.{ChoiceStop}
-use Rattle.hep_history.specs.ChoiceStop.TheVariants.{ArenaFull, Halted, StepLimit}
+use Rattle.hep_replay.specs.ChoiceStop.{ChoiceStop}
+use Rattle.hep_replay.specs.ChoiceStop.TheVariants.{ArenaFull, Halted, StepLimit}
 use Rattle.hep_dump.specs.Stops.{all_places_notes, opening_notes, used_notes}
 use Rattle.hep_dump.specs.Wants.{all_wants_notes}
 

@@ -3,12 +3,12 @@ use Rattle.std.specs.Prelude.{◌≡◌, ◌≢◌, ◌⊎◌, ℕ, ◌+◌, ◌
 use Rattle.hep_machine.specs.declared.event.Entry.{Entry}
 use Rattle.hep_machine.specs.declared.event.Fault.{Fault}
 use Rattle.hep_machine.specs.Words.{Units, opening_layout, living_from, next_ready, progress_after, ready_in, schedule_of, state_after, IsLegal, living}
-use Rattle.hep_history.specs.States.{HasNoGap}
-use Rattle.hep_history.specs.ChoiceStop.{ChoiceStop}
-use Rattle.hep_history.specs.ChoiceStop.TheVariants.{Halted, ArenaFull, StepLimit}
-use Rattle.hep_history.specs.Verdict.{Verdict}
-use Rattle.hep_history.specs.Verdict.TheVariants as verdicts
-use Rattle.hep_history.specs.Value.{verdict_by}
+use Rattle.hep_replay.specs.States.{HasNoGap}
+use Rattle.hep_replay.specs.ChoiceStop.{ChoiceStop}
+use Rattle.hep_replay.specs.ChoiceStop.TheVariants.{Halted, ArenaFull, StepLimit}
+use Rattle.hep_replay.specs.Verdict.{Verdict}
+use Rattle.hep_replay.specs.Verdict.TheVariants as verdicts
+use Rattle.hep_replay.specs.Value.{verdict_by}
 use Rattle.hep_image.specs.Names.{names_in_order}
 use Rattle.hep_outcome.specs.declared.options.Options.{Options}
 use Rattle.hep_outcome.specs.declared.status.Status.{Status}

@@ -1,8 +1,8 @@
 -- How far a run has come: docs/ARCHITECTURE.md, "Forms".
 use Rattle.std.specs.Prelude.{◌≡◌, ℕ, ◌+◌, List, [], length, Option, Some, None}
-use Rattle.hep_history.specs.ChoiceStop.{ChoiceStop}
-use Rattle.hep_history.specs.ChoiceStop.TheVariants.{Halted, ArenaFull, StepLimit}
-use Rattle.hep_history.specs.Value.{CoreValue}
+use Rattle.hep_replay.specs.ChoiceStop.{ChoiceStop}
+use Rattle.hep_replay.specs.ChoiceStop.TheVariants.{Halted, ArenaFull, StepLimit}
+use Rattle.hep_replay.specs.Value.{CoreValue}
 use Rattle.hep_outcome.specs.declared.options.Options.{Options}
 use Rattle.hep_outcome.specs.declared.halt.Halt.{Halt}
 use Rattle.hep_outcome.specs.declared.halt.Halt.TheVariants.{NoMemory, NoSuchProcess}

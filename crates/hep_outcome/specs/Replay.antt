@@ -2,15 +2,15 @@
 use Rattle.std.specs.Prelude.{◌≡◌, ◌⊎◌, ℕ, Bool, List, [], ◌++◌, codes, length, None, IsSome}
 use Rattle.hep_machine.specs.declared.event.Entry.{Entry}
 use Rattle.hep_machine.specs.Words.{Units, opening_layout}
-use Rattle.hep_history.specs.Verdict.{Verdict}
-use Rattle.hep_history.specs.Verdict.TheVariants.{Running}
+use Rattle.hep_replay.specs.Verdict.{Verdict}
+use Rattle.hep_replay.specs.Verdict.TheVariants.{Running}
 use Rattle.hep_image.specs.Names.{names_in_order}
-use Rattle.hep_history.specs.Value.{CoreValue, state_of, verdict_of}
+use Rattle.hep_replay.specs.Value.{CoreValue, state_of, verdict_of}
 use Rattle.hep_output.specs.Records.{records_text}
 use Rattle.hep_dump.specs.Faults.{faults_text}
-use Rattle.hep_history.specs.Lines.{AreLines, IsRefusedText}
-use Rattle.hep_history.specs.Histories.{entry_text, IsAllowed}
-use Rattle.hep_history.specs.Replays.{replayed, ArePossible, IsFirstImpossible}
+use Rattle.hep_replay.specs.Lines.{AreLines, IsRefusedText}
+use Rattle.hep_replay.specs.Histories.{entry_text, IsAllowed}
+use Rattle.hep_replay.specs.Replays.{replayed, ArePossible, IsFirstImpossible}
 use Rattle.hep_outcome.specs.declared.status.Status.TheVariants as statuses
 use Rattle.hep_outcome.specs.Outcome.{Outcome, dump_text, outcome_of_full_arena, status_of}
 use Rattle.hep_outcome.specs.Notes.{stop_notes}

@@ -1,8 +1,8 @@
 -- The lines that the program writes of itself: docs/MACHINE.md, "The program".
 use Rattle.std.specs.Prelude.{ℕ, List, [], ◌∷◌, ◌++◌, codes, Option, Some, None}
 use Rattle.std.specs.Fmt.{decimal}
-use Rattle.hep_history.specs.ChoiceStop.{ChoiceStop}
-use Rattle.hep_history.specs.ChoiceStop.TheVariants.{Halted, ArenaFull, StepLimit}
+use Rattle.hep_replay.specs.ChoiceStop.{ChoiceStop}
+use Rattle.hep_replay.specs.ChoiceStop.TheVariants.{Halted, ArenaFull, StepLimit}
 
 -- ---- refusals
 

@@ -1,15 +1,15 @@
 //! A program's run by lots: what it writes.
 ghost use Rattle.std.specs.Prelude.{◌≡◌, [], List, ℕ, IfOk, OnErr, OnOk};
-ghost use Rattle.hep_history.specs.Value.{opening_of};
+ghost use Rattle.hep_replay.specs.Value.{opening_of};
 ghost use Rattle.hep_outcome.specs.Draws.{IsDrawing, IsDrawnOut, IsDrawnOutcome};
 ghost use Rattle.hep_outcome.specs.Memory.{MayOpen};
 ghost use Rattle.hep_outcome.specs.Transcripts.{outcome_of};
 
 use crate::options::LotOptions;
+use crate::random::Lots;
 use crate::transcript::{Transcript, ended_transcript, full_transcript, opening_notes_when};
-use hep_history::{ChooseFault, Core, NewFault};
 use hep_image::Image;
-use hep_lots::Lots;
+use hep_replay::{ChooseFault, Core, NewFault};
 use std::alloc::{AllocError, Global};
 
 // Chooses what is drawn, until nothing is ready or the run stops.

@@ -1,7 +1,7 @@
 //! What a run is asked to do.
 ghost use Rattle.std.specs.Prelude.{◌≡◌, ◌≤◌, []};
 
-use hep_history::Choices;
+use hep_replay::Choices;
 use std::alloc::Global;
 
 /// How a source is run.

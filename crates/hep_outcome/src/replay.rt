@@ -8,8 +8,8 @@ use crate::transcript::{
     Transcript, core_transcript, full_transcript, history_transcript, opening_notes_when,
 };
 use hep_base::Refusal;
-use hep_history::{ReplayFault, read_text, replay};
 use hep_image::Image;
+use hep_replay::{ReplayFault, read_text, replay};
 use std::alloc::{AllocError, Global};
 
 /// All that the replay of an accepted program comes to.

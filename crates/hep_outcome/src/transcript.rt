@@ -15,10 +15,10 @@ use hep_base::Text;
 use hep_dump::{
     append_all_waiting, append_all_wants, append_faults, append_places, opening_notes, used_notes,
 };
-use hep_entries::History;
-use hep_history::{ChoiceStop, Core, Fault, Verdict};
+use hep_history::History;
 use hep_image::Image;
 use hep_output::append_records;
+use hep_replay::{ChoiceStop, Core, Fault, Verdict};
 use std::alloc::{AllocError, Global};
 
 /// What a run writes to both outputs, its status and its history.

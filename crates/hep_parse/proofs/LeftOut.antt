@@ -7,14 +7,14 @@ use Rattle.hep_expression.specs.declared.characters.Context.{Context}
 use Rattle.hep_expression.specs.Expression.{equivalence}
 use Rattle.hep_expression.specs.Reading.{◌>>=◌, if_some, Fails, after_text}
 use Rattle.hep_expression.proofs.Leaves.{bind_some, either_some, text_is, fits}
-use Rattle.hep_rule.specs.Rules.{rule_of}
-use Rattle.hep_rule.specs.declared.rule.Rule.{Rule}
-use Rattle.hep_rule.specs.declared.rule.Rule.TheVariants.{Assignment, BlockIf, SignIf, LogicalIf, Unclosed, Worded}
-use Rattle.hep_statement.specs.Statement.{IsLogicalIf}
+use Rattle.hep_parse.specs.Rules.{rule_of}
+use Rattle.hep_parse.specs.declared.rule.Rule.{Rule}
+use Rattle.hep_parse.specs.declared.rule.Rule.TheVariants.{Assignment, BlockIf, SignIf, LogicalIf, Unclosed, Worded}
+use Rattle.hep_parse.specs.Statement.{IsLogicalIf}
 use Rattle.hep_parse.specs.Program.{left_out_words, BeginsWith, IsLeftOut}
-use Rattle.hep_statement.specs.ReadingStatement.{logical_if}
+use Rattle.hep_parse.specs.ReadingStatement.{logical_if}
 use Rattle.hep_parse.specs.ReadingProgram.{word_at, by_rule, left_out}
-use Rattle.hep_statement.proofs.Forms.{logical_if_is, logical_if_read}
+use Rattle.hep_parse.proofs.Forms.{logical_if_is, logical_if_read}
 use Rattle.std.proofs.lemmas.Option.{same_Some, none-some}
 use Rattle.std.proofs.lemmas.Bool.{and_parts, eq-eqb}
 

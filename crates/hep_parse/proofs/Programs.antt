@@ -12,9 +12,9 @@ use Rattle.hep_parse.specs.declared.program.Stage.{Stage}
 use Rattle.hep_parse.specs.declared.program.Stage.TheVariants.{Start, Opening, Specification, Actions}
 use Rattle.hep_parse.specs.declared.program.State.{State}
 use Rattle.hep_parse.specs.Program.{IsStatement, class_of, may_precede, MayStandAfter, AreOrdered, begins_main, AreSubroutines, AreUnits, AreAllStatements, IsProgram}
-use Rattle.hep_statement.specs.ReadingStatement.{form}
+use Rattle.hep_parse.specs.ReadingStatement.{form}
 use Rattle.hep_parse.specs.ReadingProgram.{Refusal, or_refusal, with_line, refusal_of, statement, is_start, may_follow, stage_after, state_after_statement, placed, after_one, ended, units, nothing_read, program}
-use Rattle.hep_statement.proofs.Forms.{form_is, form_read}
+use Rattle.hep_parse.proofs.Forms.{form_is, form_read}
 use Rattle.hep_source.proofs.Tests.{and-assoc, and-false, and-true}
 use Rattle.std.proofs.lemmas.Bool.{not-true, and_parts}
 use Rattle.std.proofs.lemmas.Option.{same_Some, none-some}

@@ -10,11 +10,11 @@ use Rattle.hep_expression.specs.declared.characters.Sizes.TheVariants.{Fitting, 
 use Rattle.hep_expression.specs.declared.characters.Context.{Context}
 use Rattle.hep_base.specs.declared.refusal.Refusal.{Refusal as ParseFault}
 use Rattle.hep_base.specs.declared.refusal.Refusal.TheVariants.{NoMemory, Refused}
-use Rattle.hep_rule.specs.Rules.{rule_of}
-use Rattle.hep_rule.specs.declared.rule.Rule.TheVariants.{Worded}
+use Rattle.hep_parse.specs.Rules.{rule_of}
+use Rattle.hep_parse.specs.declared.rule.Rule.TheVariants.{Worded}
 use Rattle.hep_parse.specs.declared.program.StatementClass.{StatementClass}
 use Rattle.hep_parse.specs.declared.program.StatementClass.TheVariants as part
-use Rattle.hep_statement.specs.Statement.{IsLogicalIf, context, IsForm}
+use Rattle.hep_parse.specs.Statement.{IsLogicalIf, context, IsForm}
 
 -- A text with its line and label is this statement.
 abbrev pub IsStatement : Stmt → Statement → Type 0

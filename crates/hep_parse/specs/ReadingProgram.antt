@@ -9,17 +9,17 @@ use Rattle.hep_expression.specs.declared.characters.Context.{Context}
 use Rattle.hep_expression.specs.Reading.{◌>>=◌, if_some, after_text}
 use Rattle.hep_base.specs.declared.refusal.Refusal.{Refusal as ParseFault}
 use Rattle.hep_base.specs.declared.refusal.Refusal.TheVariants.{NoMemory, Refused}
-use Rattle.hep_rule.specs.Rules.{rule_of}
-use Rattle.hep_rule.specs.declared.rule.Rule.{Rule}
-use Rattle.hep_rule.specs.declared.rule.Rule.TheVariants.{LogicalIf, Worded}
+use Rattle.hep_parse.specs.Rules.{rule_of}
+use Rattle.hep_parse.specs.declared.rule.Rule.{Rule}
+use Rattle.hep_parse.specs.declared.rule.Rule.TheVariants.{LogicalIf, Worded}
 use Rattle.hep_parse.specs.declared.program.StatementClass.{StatementClass}
 use Rattle.hep_parse.specs.declared.program.StatementClass.TheVariants as part
 use Rattle.hep_parse.specs.declared.program.Stage.{Stage}
 use Rattle.hep_parse.specs.declared.program.Stage.TheVariants.{Start, Opening, Specification, Actions}
 use Rattle.hep_parse.specs.declared.program.State.{State}
-use Rattle.hep_statement.specs.Statement.{context}
+use Rattle.hep_parse.specs.Statement.{context}
 use Rattle.hep_parse.specs.Program.{class_of, may_precede, begins_main, left_out_words}
-use Rattle.hep_statement.specs.ReadingStatement.{form, logical_if}
+use Rattle.hep_parse.specs.ReadingStatement.{form, logical_if}
 
 -- ---- answers
 

@@ -4,10 +4,10 @@ ghost use Rattle.hep_expression.specs.Reading.{Gives};
 ghost use Rattle.hep_parse.specs.Program as grammar;
 ghost use Rattle.hep_parse.specs.ReadingProgram as reading;
 
+use crate::rule::{Rule, rule_of};
+use crate::statement::logical_if;
 use hep_expression::Unread;
 use hep_expression::characters::{Context, after_text};
-use hep_rule::{Rule, rule_of};
-use hep_statement::logical_if;
 use std::alloc::Global;
 
 /// The words with which these statements begin, each with the name that is reported.

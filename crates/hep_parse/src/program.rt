@@ -9,11 +9,11 @@ ghost use Rattle.hep_base.specs.Refusals.{Reports};
 ghost use Rattle.hep_parse.specs.ReadingProgram.{Answers};
 
 use crate::left_out::left_out;
+use crate::statement::form;
 use hep_base::Refusal as ParseFault;
 use hep_expression::Unread;
 use hep_expression::characters::{Context, Sizes};
 use hep_source::{Expr, Form, Program, Sequence, Statement, Unit};
-use hep_statement::form;
 use hep_text::Stmt;
 use std::alloc::Global;
 

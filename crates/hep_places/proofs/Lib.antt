@@ -12,3 +12,11 @@ mod InFrame
 mod Final
 mod Counts
 mod Arguments
+pub mod Giving
+pub mod Grouping
+pub mod Naming
+pub mod Located
+pub mod Beginning
+pub mod Owning
+pub mod Fitting
+pub mod Taking

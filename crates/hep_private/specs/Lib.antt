@@ -1,15 +1,18 @@
-pub use Rattle.hep_step.specs.Cells as StepCells
-pub use Rattle.hep_step.specs.Effects as StepEffects
-pub use Rattle.hep_step.specs.ImageArrayArray
-pub use Rattle.hep_step.specs.ImageArrays
-pub use Rattle.hep_step.specs.ImageFinding
-pub use Rattle.hep_step.specs.ImageImage
-pub use Rattle.hep_step.specs.ImagePlaces
-pub use Rattle.hep_step.specs.ImagePrivate
-pub use Rattle.hep_step.specs.Performed as StepPerformed
-pub use Rattle.hep_step.specs.Ready as StepReady
-pub use Rattle.hep_step.specs.Simulation as StepSimulation
-pub use Rattle.hep_step.specs.declared.frame.Frame as StepFrameFrame
 pub mod Own
 pub mod Recorded
 pub mod Reads
+pub mod Records
+pub mod Bases
+pub mod Stored
+pub mod Stores
+pub mod Recent
+pub mod Deeds
+pub mod Progress
+pub mod Taken
+pub mod Segments
+pub mod Places
+pub mod SegmentProgress
+pub mod Tickets
+pub mod InPlace
+pub mod Private
+pub mod Batches

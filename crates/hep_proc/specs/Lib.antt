@@ -2,3 +2,4 @@ pub mod Nodes
 pub mod Keeping
 pub mod Placing
 pub mod Stacks
+pub mod Leaving

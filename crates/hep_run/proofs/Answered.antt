@@ -3,11 +3,11 @@ use Rattle.std.proofs.Common.{◌≡◌, ℕ, ◌≤◌, Bool, List, [], length,
 use Rattle.std.specs.Io.KnownBytes.{Consumes, IsAtEnd}
 use Rattle.hep_warnings.specs.Warnings.{warnings}
 use Rattle.hep_run.specs.declared.options.Run.{Run}
-use Rattle.hep_choosing.specs.OutcomeTranscriptTranscript.{Transcript}
-use Rattle.hep_choosing.specs.OutcomeOutcome.{Outcome}
+use Rattle.hep_outcome.specs.declared.transcript.Transcript.{Transcript}
+use Rattle.hep_outcome.specs.Outcome.{Outcome}
 use Rattle.hep_run.specs.Delivery.{LeavesOfSource, status_alone}
 use Rattle.hep_run.specs.Sources.{IsRefusedProgram, IsRunnable}
-use Rattle.hep_choosing.specs.OutcomeTranscripts.{outcome_of}
+use Rattle.hep_outcome.specs.Transcripts.{outcome_of}
 use Rattle.hep_run.specs.Transcripts.{LeavesMade}
 use Rattle.hep_run.specs.Warned.{IsWarnOutcome, outcome_of_warnings}
 use Rattle.hep_run.proofs.Accepted.{left_alone}

@@ -2,10 +2,10 @@
 use Rattle.std.proofs.Common.{◌≡◌, ℕ, zero, suc, ◌+◌, ◌<◌, Bool, List, [], ◌∷◌, ◌++◌, length, length-append, Some, refl, sym, ap, ◌∙◌, subst, arith, inl, inr, slice_get}
 use Rattle.std.proofs.lemmas.Bool.{cases_lt}
 use Rattle.std.proofs.lemmas.Option.{none-some, same_Some, slice_get_within}
-use Rattle.hep_choosing.specs.OutcomeOptionsSampleOptions.{SampleOptions}
-use Rattle.hep_choosing.specs.OutcomeOutcome.{Outcome}
-use Rattle.hep_choosing.specs.OutcomeTallies.{Tally, counted, nth_seed, tallied, tally_of}
-use Rattle.hep_choosing.proofs.OutcomeCounts.{tallied-more}
+use Rattle.hep_outcome.specs.declared.options.SampleOptions.{SampleOptions}
+use Rattle.hep_outcome.specs.Outcome.{Outcome}
+use Rattle.hep_outcome.specs.Tallies.{Tally, counted, nth_seed, tallied, tally_of}
+use Rattle.hep_outcome.proofs.Counts.{tallied-more}
 use Rattle.hep_run.specs.Samples.{IsNthOutcome, IsTallied}
 
 before : (xs : List Outcome) (y : Outcome) (k : ℕ) → k < length xs → slice_get (xs ++ y ∷ []) k ≡ slice_get xs k

@@ -6,10 +6,10 @@ use Rattle.std.specs.Io.KnownBytes.{Consumes, IsAtEnd}
 use Rattle.hep_text.specs.Reading.{Refusal, statements_of, refusal}
 use Rattle.hep_text.specs.declared.statement.Stmt.{Stmt}
 use Rattle.hep_machine.specs.Words.{Units}
-use Rattle.hep_notes.specs.Refusals.{line_notes}
+use Rattle.hep_text.specs.Refusals.{line_notes}
 use Rattle.hep_run.specs.Notes.{AreNotes}
 use Rattle.hep_run.specs.Sources.{IsRefusedFor, IsUnrunnableProgram}
-use Rattle.hep_choosing.specs.OutcomeOutcome.{Outcome}
+use Rattle.hep_outcome.specs.Outcome.{Outcome}
 use Rattle.hep_run.specs.Outcome.{ComesTo}
 use Rattle.hep_run.specs.declared.options.Run.{Run}
 use Rattle.hep_run.specs.Delivery.{IsOutcomeOf, LeavesOneOf, LeavesOfSource}

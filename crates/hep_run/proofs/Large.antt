@@ -7,13 +7,13 @@ use Rattle.hep_text.specs.Reading.{is_too_large}
 use Rattle.hep_text.proofs.Joining as text
 use Rattle.hep_machine.specs.Words.{Units}
 use Rattle.hep_run.specs.declared.options.Run.{Run}
-use Rattle.hep_choosing.specs.OutcomeTranscriptTranscript.{Transcript}
+use Rattle.hep_outcome.specs.declared.transcript.Transcript.{Transcript}
 use Rattle.hep_run.specs.Delivery.{Leaves, status_alone}
 use Rattle.hep_run.specs.Memory.{IsKnownLarge, MayReadOn, RefusesLarge, RefusesLargeSource}
 use Rattle.hep_run.specs.Notes.{AreNotes}
-use Rattle.hep_choosing.specs.OutcomeOutcome.{Outcome}
+use Rattle.hep_outcome.specs.Outcome.{Outcome}
 use Rattle.hep_run.specs.Outcome.{ComesTo, refused}
-use Rattle.hep_choosing.specs.OutcomeTranscripts.{outcome_of}
+use Rattle.hep_outcome.specs.Transcripts.{outcome_of}
 use Rattle.hep_run.specs.Transcripts.{LeavesMade}
 use Rattle.hep_run.proofs.Accepted.{alone}
 use Rattle.hep_run.proofs.Fronts.{unread}

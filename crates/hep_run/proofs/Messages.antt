@@ -7,8 +7,8 @@ use Rattle.std.proofs.KnownBytes.{Appends-trans}
 use Rattle.hep_base.specs.declared.refusal.Refusal.{Refusal}
 use Rattle.hep_base.specs.declared.refusal.Refusal.TheVariants as refusals
 use Rattle.hep_run.specs.declared.options.Run.{Run}
-use Rattle.hep_choosing.specs.OutcomeHistoryLines.{ReportsLine}
-use Rattle.hep_choosing.specs.OutcomeOutcome.{Outcome}
+use Rattle.hep_outcome.specs.OutcomeHistoryLines.{ReportsLine}
+use Rattle.hep_outcome.specs.Outcome.{Outcome}
 use Rattle.hep_run.specs.Delivery.{SomeOf, WritesMessages, Leaves}
 use Rattle.hep_run.specs.Files.{SaysFault, SaysRefusal, SaysRefusalAt}
 

@@ -1,8 +1,8 @@
 -- What is left of a transcript that was made.
 use Rattle.std.proofs.Common.{ℕ, List, Option, Result, Ok, Err, inl, inr, IfOk}
-use Rattle.hep_choosing.specs.OutcomeTranscriptTranscript.{Transcript}
-use Rattle.hep_choosing.specs.OutcomeOutcome.{Outcome}
-use Rattle.hep_choosing.specs.OutcomeTranscripts.{outcome_of}
+use Rattle.hep_outcome.specs.declared.transcript.Transcript.{Transcript}
+use Rattle.hep_outcome.specs.Outcome.{Outcome}
+use Rattle.hep_outcome.specs.Transcripts.{outcome_of}
 use Rattle.hep_run.specs.declared.options.Run.{Run}
 use Rattle.hep_run.specs.Delivery.{LeavesOneOf}
 use Rattle.hep_run.specs.Transcripts.{LeavesMade}

@@ -10,13 +10,13 @@ use Rattle.hep_base.specs.declared.refusal.Refusal.TheVariants as told
 use Rattle.hep_machine.specs.Words.{Units}
 use Rattle.hep_run.specs.Memory.{IsWant, MayReadOn, tells_large}
 use Rattle.hep_run.specs.Notes.{AreNotes, line_notes_when}
-use Rattle.hep_choosing.proofs.OutcomeWanted.{none-there}
+use Rattle.hep_outcome.proofs.Wanted.{none-there}
 use Rattle.hep_run.specs.Outcome.{refused}
 use Rattle.hep_run.specs.Refusals.{Tells, noted}
 use Rattle.hep_run.specs.Sources.{IsRefusedFor, IsSourceOf}
 use Rattle.hep_run.specs.declared.refusal.SourceFault.{SourceFault}
 use Rattle.hep_run.specs.declared.refusal.SourceFault.TheVariants.{NoMemory, Refused}
-use Rattle.hep_choosing.specs.OutcomeTexts.{refusal_text}
+use Rattle.hep_outcome.specs.Texts.{refusal_text}
 use Rattle.hep_run.proofs.Fronts.{unread}
 
 number_in : Result (List Stmt) Refusal → ℕ

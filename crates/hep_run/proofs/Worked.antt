@@ -2,15 +2,15 @@
 use Rattle.std.proofs.Common.{◌≡◌, ◌≢◌, ℕ, Bool, Some, IsSome, inr, refl, sym, ap, ◌∙◌, subst}
 use Rattle.std.proofs.lemmas.Option.{none-some}
 use Rattle.hep_machine.specs.Words.{IsLegal, opening_layout, Units}
-use Rattle.hep_choosing.specs.OutcomeValue.{CoreValue, IsStop}
-use Rattle.hep_workers.specs.CloseFault.{CloseFault}
+use Rattle.hep_outcome.specs.Value.{CoreValue, IsStop}
+use Rattle.hep_workers.specs.declared.close_fault.CloseFault.{CloseFault}
 use Rattle.hep_workers.specs.declared.fault.WorkFault.{WorkFault}
 use Rattle.hep_workers.specs.declared.fault.WorkFault.TheVariants.{NoMemory, ArenaFull, NoTicket, NoThread, Close}
-use Rattle.hep_workers.specs.WorkOptions.{WorkOptions}
+use Rattle.hep_workers.specs.declared.options.WorkOptions.{WorkOptions}
 use Rattle.hep_workers.specs.Reports.{IsOfRun}
 use Rattle.hep_workers.specs.Faults.{IsSharedBy, IsWorkFault, number_of}
-use Rattle.hep_choosing.specs.OutcomeVerdict.TheVariants.{Running}
-use Rattle.hep_choosing.specs.OutcomeOutcome.{Outcome, outcome_of_end, verdict_after}
+use Rattle.hep_outcome.specs.Verdict.TheVariants.{Running}
+use Rattle.hep_outcome.specs.Outcome.{Outcome, outcome_of_end, verdict_after}
 use Rattle.hep_run.specs.Workers.{IsImageWorked}
 
 pub outcome-worked : (long : Bool) (program : Units) (options : WorkOptions) (core : CoreValue) (o : Outcome)

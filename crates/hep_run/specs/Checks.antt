@@ -2,9 +2,9 @@
 use Rattle.std.specs.Prelude.{◌≡◌, ℕ, Bool, List, []}
 use Rattle.hep_conditions.specs.Words.{IsAccepted}
 use Rattle.hep_check.specs.Listing.{listing}
-use Rattle.hep_choosing.specs.OutcomeStatusStatus.TheVariants as statuses
+use Rattle.hep_outcome.specs.declared.status.Status.TheVariants as statuses
 use Rattle.hep_run.specs.Sources.{IsViolatingProgram}
-use Rattle.hep_choosing.specs.OutcomeOutcome.{Outcome}
+use Rattle.hep_outcome.specs.Outcome.{Outcome}
 use Rattle.hep_run.specs.Outcome.{ComesTo, RunsTo}
 
 -- this text is the answer

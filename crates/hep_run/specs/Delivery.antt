@@ -6,11 +6,11 @@ use Rattle.hep_machine.specs.declared.event.Entry.{Entry}
 use Rattle.hep_run.specs.declared.input.ReadFault.{ReadFault}
 use Rattle.hep_run.specs.declared.input.ReadFault.TheVariants as unread
 use Rattle.hep_run.specs.declared.options.Run.{Run}
-use Rattle.hep_choosing.specs.OutcomeStatusStatus.{Status}
-use Rattle.hep_choosing.specs.OutcomeStatusStatus.TheVariants.{NoMemory, DeviceFailed}
-use Rattle.hep_choosing.specs.OutcomeStatuses.{status_code}
+use Rattle.hep_outcome.specs.declared.status.Status.{Status}
+use Rattle.hep_outcome.specs.declared.status.Status.TheVariants.{NoMemory, DeviceFailed}
+use Rattle.hep_outcome.specs.Statuses.{status_code}
 use Rattle.hep_run.specs.Inputs.{HasLost}
-use Rattle.hep_choosing.specs.OutcomeOutcome.{Outcome}
+use Rattle.hep_outcome.specs.Outcome.{Outcome}
 
 -- the run has this outcome, and both outputs took all of it
 pub record IsDelivered (o : Outcome) (run : Run) (output output' messages messages' : Option (List ℕ)) : Type 0 where

@@ -3,14 +3,14 @@ use Rattle.std.specs.Prelude.{◌≡◌, ◌⊎◌, ℕ, ◌<◌, ◌≤◌, Lis
 use Rattle.std.specs.Io.KnownBytes.{Appends, Keeps, Consumes, IsAtEnd}
 use Rattle.hep_base.specs.declared.refusal.Refusal.{Refusal}
 use Rattle.hep_base.specs.declared.refusal.Refusal.TheVariants as refusals
-use Rattle.hep_choosing.specs.OutcomeHistoryLines.{AreLines, IsRefusedText, most_bytes}
-use Rattle.hep_choosing.specs.OutcomeChoices.{choice_text, IsProcess}
-use Rattle.hep_choosing.specs.OutcomeFollowing.{AreFollowed}
-use Rattle.hep_choosing.specs.OutcomeHistories.{entry_text, history_text, IsAllowed}
+use Rattle.hep_outcome.specs.OutcomeHistoryLines.{AreLines, IsRefusedText, most_bytes}
+use Rattle.hep_outcome.specs.Choices.{choice_text, IsProcess}
+use Rattle.hep_outcome.specs.Following.{AreFollowed}
+use Rattle.hep_outcome.specs.Histories.{entry_text, history_text, IsAllowed}
 use Rattle.hep_run.specs.declared.options.Run.{Run}
-use Rattle.hep_choosing.specs.OutcomeStatusStatus.TheVariants.{Usage, NoMemory, DeviceFailed}
-use Rattle.hep_choosing.specs.OutcomeStatuses.{status_code}
-use Rattle.hep_choosing.specs.OutcomeTexts.{refusal_text}
+use Rattle.hep_outcome.specs.declared.status.Status.TheVariants.{Usage, NoMemory, DeviceFailed}
+use Rattle.hep_outcome.specs.Statuses.{status_code}
+use Rattle.hep_outcome.specs.Texts.{refusal_text}
 use Rattle.hep_run.specs.Delivery.{write_fault_text, SaysLines, WritesStartOf}
 
 -- ---- what is read

@@ -8,12 +8,12 @@ use Rattle.hep_parse.specs.Program.{IsProgram}
 use Rattle.hep_machine.specs.Words.{spelling, Units}
 use Rattle.hep_conditions.specs.declared.violation.Violation.{Violation}
 use Rattle.hep_conditions.specs.Words.{first_violation}
-use Rattle.hep_judging.specs.declared.further.Told.{Told}
-use Rattle.hep_judging.specs.Further.{as_told, further}
-use Rattle.hep_culprits.specs.declared.culprit.Culprit.{Culprit}
-use Rattle.hep_culprits.specs.Culprits.{culprit_of}
-use Rattle.hep_culprits.specs.Texts.{position_of, text_of}
-use Rattle.hep_notes.specs.Refusals.{also_notes, line_notes, statement_notes}
+use Rattle.hep_check.specs.declared.further.Told.{Told}
+use Rattle.hep_check.specs.Further.{as_told, further}
+use Rattle.hep_check.specs.declared.culprit.Culprit.{Culprit}
+use Rattle.hep_check.specs.Culprits.{culprit_of}
+use Rattle.hep_check.specs.Texts.{position_of, text_of}
+use Rattle.hep_text.specs.Refusals.{also_notes, line_notes, statement_notes}
 use Rattle.hep_run.specs.Sources.{IsRefusedFor, IsUnrunnableProgram}
 
 -- notes by the line alone, and none, which is where they aren't asked for

@@ -1,13 +1,13 @@
 -- What a source comes to, from its bytes to the bytes that its run writes: docs/MACHINE.md, "The program".
 use Rattle.std.specs.Prelude.{◌≡◌, ◌⊎◌, ℕ, Bool, List, [], ◌++◌}
 use Rattle.hep_machine.specs.Words.{Units}
-use Rattle.hep_choosing.specs.OutcomeOptionsLotOptions.{LotOptions}
-use Rattle.hep_choosing.specs.OutcomeOptionsOptions.{Options}
-use Rattle.hep_choosing.specs.OutcomeStatusStatus.TheVariants as statuses
-use Rattle.hep_choosing.specs.OutcomeDraws.{IsDrawnOutcome}
-use Rattle.hep_choosing.specs.OutcomeOutcome.{Outcome, IsProgramOutcome}
-use Rattle.hep_choosing.specs.OutcomeReplay.{IsTextOutcome}
-use Rattle.hep_choosing.specs.OutcomeTexts.{refusal_text}
+use Rattle.hep_outcome.specs.declared.options.LotOptions.{LotOptions}
+use Rattle.hep_outcome.specs.declared.options.Options.{Options}
+use Rattle.hep_outcome.specs.declared.status.Status.TheVariants as statuses
+use Rattle.hep_outcome.specs.Draws.{IsDrawnOutcome}
+use Rattle.hep_outcome.specs.Outcome.{Outcome, IsProgramOutcome}
+use Rattle.hep_outcome.specs.Replay.{IsTextOutcome}
+use Rattle.hep_outcome.specs.Texts.{refusal_text}
 use Rattle.hep_run.specs.Notes.{AreNotes}
 use Rattle.hep_run.specs.Sources.{IsRefusedFor, IsRefusedProgram, IsRunnable, IsSourceOf}
 

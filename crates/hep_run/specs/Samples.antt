@@ -1,11 +1,11 @@
 -- What a sample of a source comes to: docs/RUNS.md, "Lots".
 use Rattle.std.specs.Prelude.{◌≡◌, ◌⊎◌, ℕ, Bool, false, List, [], length, map, slice_get, Some}
 use Rattle.hep_machine.specs.Words.{Units}
-use Rattle.hep_choosing.specs.OutcomeHistories.{history_text}
-use Rattle.hep_choosing.specs.OutcomeOptionsLotOptions.{LotOptions}
-use Rattle.hep_choosing.specs.OutcomeOptionsSampleOptions.{SampleOptions}
-use Rattle.hep_choosing.specs.OutcomeOutcome.{Outcome}
-use Rattle.hep_choosing.specs.OutcomeTallies.{IsNth, Tally, sample_text, tallied}
+use Rattle.hep_outcome.specs.Histories.{history_text}
+use Rattle.hep_outcome.specs.declared.options.LotOptions.{LotOptions}
+use Rattle.hep_outcome.specs.declared.options.SampleOptions.{SampleOptions}
+use Rattle.hep_outcome.specs.Outcome.{Outcome}
+use Rattle.hep_outcome.specs.Tallies.{IsNth, Tally, sample_text, tallied}
 use Rattle.hep_run.specs.Checks.{outcome_of_text}
 use Rattle.hep_run.specs.Outcome.{IsLotOutcome, RunsTo}
 use Rattle.hep_run.specs.Sources.{IsRunnableSource}

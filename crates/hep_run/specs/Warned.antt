@@ -2,8 +2,8 @@
 use Rattle.std.specs.Prelude.{◌≡◌, ℕ, Bool, List, []}
 use Rattle.hep_warnings.specs.Lines.{Warnings, warning_text}
 use Rattle.hep_warnings.specs.Warnings.{warnings}
-use Rattle.hep_choosing.specs.OutcomeStatusStatus.TheVariants as statuses
-use Rattle.hep_choosing.specs.OutcomeOutcome.{Outcome}
+use Rattle.hep_outcome.specs.declared.status.Status.TheVariants as statuses
+use Rattle.hep_outcome.specs.Outcome.{Outcome}
 use Rattle.hep_run.specs.Outcome.{RunsTo}
 
 -- these warnings are all that is said

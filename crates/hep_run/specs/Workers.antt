@@ -3,13 +3,13 @@ use Rattle.std.specs.Prelude.{◌≡◌, ◌≢◌, ◌⊎◌, ℕ, Bool, List, 
 use Rattle.std.specs.Fmt.{decimal}
 use Rattle.hep_machine.specs.declared.event.Entry.{Entry}
 use Rattle.hep_machine.specs.Words.{IsLegal, opening_layout, Units}
-use Rattle.hep_choosing.specs.OutcomeChoiceStop.{ChoiceStop}
-use Rattle.hep_choosing.specs.OutcomeVerdict.TheVariants.{Running}
-use Rattle.hep_choosing.specs.OutcomeValue.{CoreValue, IsStop}
-use Rattle.hep_workers.specs.WorkOptions.{WorkOptions}
+use Rattle.hep_outcome.specs.ChoiceStop.{ChoiceStop}
+use Rattle.hep_outcome.specs.Verdict.TheVariants.{Running}
+use Rattle.hep_outcome.specs.Value.{CoreValue, IsStop}
+use Rattle.hep_workers.specs.declared.options.WorkOptions.{WorkOptions}
 use Rattle.hep_workers.specs.Faults.{IsSharedBy}
-use Rattle.hep_choosing.specs.OutcomeStatusStatus.TheVariants as statuses
-use Rattle.hep_choosing.specs.OutcomeOutcome.{Outcome, outcome_of_end, outcome_of_full_arena, verdict_after}
+use Rattle.hep_outcome.specs.declared.status.Status.TheVariants as statuses
+use Rattle.hep_outcome.specs.Outcome.{Outcome, outcome_of_end, outcome_of_full_arena, verdict_after}
 use Rattle.hep_run.specs.Outcome.{RunsTo}
 
 -- workers have made a core with this history and this stop of the opening: so each entry is that of one commit

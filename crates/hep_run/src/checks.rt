@@ -2,11 +2,12 @@
 ghost use Rattle.std.specs.Prelude.{IfOk, OnErr};
 ghost use Rattle.hep_run.specs.Memory.{MayReadOn};
 ghost use Rattle.hep_run.specs.Checks.{IsCheckOutcome, IsListOutcome};
-ghost use Rattle.hep_choosing.specs.OutcomeTranscripts.{outcome_of};
+ghost use Rattle.hep_outcome.specs.Transcripts.{outcome_of};
 
 use crate::front::{checked_source, image_of_source};
-use crate::transcript::{Transcript, fault_transcript, text_transcript};
+use crate::transcript::{fault_transcript, text_transcript};
 use hep_check::list_text;
+use hep_outcome::Transcript;
 use std::alloc::{AllocError, Global};
 
 /// All that `check` of a source comes to, before a byte of it is written.

@@ -2,15 +2,14 @@
 ghost use Rattle.std.specs.Prelude.{OnOk, IfErr};
 ghost use Rattle.std.specs.Io.KnownBytes.{Appends};
 ghost use Rattle.hep_run.specs.Delivery.{write_fault_text, Leaves, SaysLines, WritesMessages, SomeOf};
-ghost use Rattle.hep_choosing.specs.OutcomeTranscripts.{outcome_of};
+ghost use Rattle.hep_outcome.specs.Transcripts.{outcome_of};
 ghost use Rattle.hep_run.specs.Transcripts.{LeavesMade};
 ghost use Rattle.hep_run.specs.Files.{PutsText};
 
 use crate::options::Run;
 use crate::source::NO_MEMORY;
-use crate::transcript::Transcript;
-use hep_choosing::Status;
-use hep_entries::History;
+use hep_history::History;
+use hep_outcome::{Status, Transcript};
 use hep_output::{PutFault, put_all};
 use itoa::Buffer;
 use std::alloc::{AllocError, Global};

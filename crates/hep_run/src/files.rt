@@ -4,17 +4,17 @@
 //! why, so that nothing more is to be written.
 ghost use Rattle.std.specs.Prelude.{◌≡◌, ◌≢◌, codes, IfOk, IfErr, Ok, Err};
 ghost use Rattle.std.specs.Io.KnownBytes.{Keeps};
-ghost use Rattle.hep_choosing.specs.OutcomeHistoryLines.{most_bytes};
+ghost use Rattle.hep_outcome.specs.OutcomeHistoryLines.{most_bytes};
 ghost use Rattle.hep_run.specs.Delivery.{CannotRead, SaysLines, SaysUnread, SomeOf, write_fault_text};
 ghost use Rattle.hep_run.specs.Files.{HasReadText, KeepsHistory, PutsText, ReadsChoices, ReadsFollowed, SaysFault, SaysRefusal};
-ghost use Rattle.hep_choosing.specs.OutcomeStatusStatus.TheVariants.{DeviceFailed, NoMemory, Usage};
+ghost use Rattle.hep_outcome.specs.declared.status.Status.TheVariants.{DeviceFailed, NoMemory, Usage};
 
 use crate::deliver::{put_text, put_write_fault, say};
 use crate::input::{ReadFault, read_input};
 use crate::options::Run;
 use crate::source::NO_MEMORY;
 use hep_base::Refusal;
-use hep_choosing::{
+use hep_outcome::{
     Choices, MOST_BYTES, Status, put_refusal, read_choices, read_followed, write_text,
 };
 use std::alloc::Global;

@@ -5,7 +5,7 @@ ghost use Rattle.hep_text.specs.Reading.{statements_of};
 ghost use Rattle.hep_machine.specs.Words.{Units};
 ghost use Rattle.hep_lower.specs.Parts.{HaveStatements, parts_of};
 ghost use Rattle.hep_lower.specs.Refusals.{IsCodeBeyond};
-ghost use Rattle.hep_notes.specs.Refusals.{statement_notes};
+ghost use Rattle.hep_text.specs.Refusals.{statement_notes};
 ghost use Rattle.hep_run.specs.Notes as told;
 ghost use Rattle.hep_run.specs.Notes.{also_of, line_notes_when, no_notes};
 ghost use Rattle.hep_run.specs.Memory.{IsWant};
@@ -14,15 +14,15 @@ ghost use Rattle.hep_run.specs.Refusals.{IsCheckRefusal, IsSourceRefusal, noted,
 
 use crate::refusal::SourceFault;
 use hep_base::{Refusal, Text};
-use hep_check::{Checked, Rejected, Told, Unaccepted, fault_of, judge, judge_further};
+use hep_check::{
+    Checked, Rejected, Told, Unaccepted, culprit_text, fault_of, judge, judge_further, position_of,
+};
 use hep_conditions::Violation;
-use hep_culprits::{culprit_text, position_of};
 use hep_image::Image;
 use hep_lower::laws::limits_are_wide;
 use hep_lower::lower;
-use hep_notes::{Subject, append_also, line_notes, statement_notes};
 use hep_parse::parse;
-use hep_text::{Stmt, statements};
+use hep_text::{Stmt, Subject, append_also, line_notes, statement_notes, statements};
 use std::alloc::{AllocError, Global};
 
 // What is said behind the line of a refusal where more is asked for, by its number, its line and its name.

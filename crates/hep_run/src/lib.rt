@@ -22,21 +22,20 @@ pub use files::{
     answer, choices_of, followed_of, history_text, read_text_file, say_unread, say_unwritten,
 };
 pub use hep_check::{Checked, check};
-pub use hep_choosing::{
-    MOST_SEED, ReplayFault, dump_text, read_text, replay as history_replay, write_text,
-};
 pub use hep_lower::lower;
+pub use hep_outcome::{
+    AskedLots, AskedReplay, AskedRun, AskedSample, LotOptions, MOST_SEED, Options, ReplayFault,
+    SampleOptions, dump_text, read_text, write_text,
+};
+pub use hep_replay::replay as history_replay;
 pub use hep_workers::{
-    Ahead, ChoiceStop, ChooseFault, CloseFault, CommitFault, Core, Entry, Fault, Gate, Log,
-    NewFault, NoGate, Offer, Receipt, Report, Segment, Stretch, Ticket, Turn, Verdict, WorkFault,
+    Ahead, Batch, ChoiceStop, ChooseFault, CloseFault, CommitFault, Core, Entry, Fault, Gate, Log,
+    NewFault, NoGate, Offer, Receipt, Report, Segment, Ticket, Turn, Verdict, WorkFault,
     WorkOptions, close, compute, run_workers, worker_turn,
 };
 pub use input::ReadFault;
 pub use lots::{lots_bytes, lots_noted};
-pub use options::{
-    AskedLots, AskedReplay, AskedRun, AskedSample, AskedWork, LotOptions, Options, Run,
-    SampleOptions,
-};
+pub use options::{AskedWork, Run};
 pub use sample::{Sample, lots_history, sample_bytes};
 pub use source::{
     check_noted, check_source, list_noted, list_source, replay_bytes, replay_noted, replay_source,

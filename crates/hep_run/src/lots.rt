@@ -1,6 +1,6 @@
 //! A source's run by lots.
 ghost use Rattle.std.specs.Prelude.{IfOk, OnErr};
-ghost use Rattle.hep_choosing.specs.OutcomeTranscripts.{outcome_of};
+ghost use Rattle.hep_outcome.specs.Transcripts.{outcome_of};
 ghost use Rattle.hep_run.specs.Delivery.{LeavesOfSource, LeavesOneOf};
 ghost use Rattle.hep_run.specs.Memory.{MayReadOn, RefusesLarge, RefusesLargeSource};
 ghost use Rattle.hep_run.specs.Outcome.{IsLotOutcome};
@@ -9,11 +9,11 @@ use crate::deliver::deliver_made;
 use crate::files::say_unread;
 use crate::front::image_of_source;
 use crate::input::read_input;
-use crate::options::{AskedLots, LotOptions, Run};
+use crate::options::Run;
 use crate::source::MOST_BYTES;
-use crate::transcript::{Transcript, fault_transcript};
-use hep_choosing::lots_transcript as image_transcript;
-use hep_entries::History;
+use crate::transcript::fault_transcript;
+use hep_history::History;
+use hep_outcome::{AskedLots, LotOptions, Transcript, lots_transcript as image_transcript};
 use std::alloc::{AllocError, Global};
 use std::io::{Read, Write};
 

@@ -1,12 +1,12 @@
 //! What a run is asked to do, and what it leaves.
 ghost use Rattle.std.specs.Prelude.{◌≡◌};
-ghost use Rattle.hep_choosing.specs.OutcomeStatuses.{status_code};
+ghost use Rattle.hep_outcome.specs.Statuses.{status_code};
 
-use hep_choosing::Status;
-pub use hep_choosing::{
+use hep_history::History;
+use hep_outcome::Status;
+pub use hep_outcome::{
     AskedLots, AskedReplay, AskedRun, AskedSample, LotOptions, Options, SampleOptions,
 };
-use hep_entries::History;
 use hep_workers::WorkOptions;
 
 /// What a run by workers is asked for.

@@ -1,13 +1,12 @@
 //! The bytes of a source and of a history to what a replay writes.
 ghost use Rattle.std.specs.Prelude.{IfOk, OnErr};
-ghost use Rattle.hep_choosing.specs.OutcomeTranscripts.{outcome_of};
+ghost use Rattle.hep_outcome.specs.Transcripts.{outcome_of};
 ghost use Rattle.hep_run.specs.Memory.{MayReadOn};
 ghost use Rattle.hep_run.specs.Outcome.{IsReplayOutcome};
 
 use crate::front::image_of_source;
-use crate::options::AskedReplay;
-use crate::transcript::{Transcript, fault_transcript};
-use hep_choosing::replay_transcript as image_transcript;
+use crate::transcript::fault_transcript;
+use hep_outcome::{AskedReplay, Transcript, replay_transcript as image_transcript};
 use std::alloc::{AllocError, Global};
 
 /// All that a replay of a source comes to, before a byte of it is written.

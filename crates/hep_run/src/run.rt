@@ -1,13 +1,13 @@
 //! From a source's bytes to what its run writes.
 ghost use Rattle.std.specs.Prelude.{IfOk, OnErr};
-ghost use Rattle.hep_choosing.specs.OutcomeTranscripts.{outcome_of};
+ghost use Rattle.hep_outcome.specs.Transcripts.{outcome_of};
 ghost use Rattle.hep_run.specs.Memory.{MayReadOn};
 ghost use Rattle.hep_run.specs.Outcome.{IsOutcome};
 
 use crate::front::image_of_source;
-use crate::options::Options;
-use crate::transcript::{Transcript, fault_transcript};
-use hep_choosing::run::image_transcript;
+use crate::transcript::fault_transcript;
+use hep_outcome::run::image_transcript;
+use hep_outcome::{Options, Transcript};
 use std::alloc::{AllocError, Global};
 
 /// All that a run of a source comes to, before a byte of it is written, with notes where `long` is true.

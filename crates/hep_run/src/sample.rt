@@ -1,19 +1,21 @@
 //! Many runs of a source by lots, counted.
 ghost use Rattle.std.specs.Io.KnownBytes.{Keeps};
 ghost use Rattle.std.specs.Prelude.{◌≡◌, [], codes, IfOk, IfErr, OnErr};
-ghost use Rattle.hep_choosing.specs.OutcomeStatusStatus.TheVariants.{NoMemory};
+ghost use Rattle.hep_outcome.specs.declared.status.Status.TheVariants.{NoMemory};
 ghost use Rattle.hep_run.specs.Delivery.{LeavesOneOf, SaysLines, status_alone};
 ghost use Rattle.hep_run.specs.Memory.{MayReadOn, RefusesLarge};
 ghost use Rattle.hep_run.specs.Samples.{AreFirstSeeds, HasLotHistory, IsSampleOutcome, IsSampled, IsTallied};
-ghost use Rattle.hep_choosing.specs.OutcomeTranscripts.{outcome_of};
+ghost use Rattle.hep_outcome.specs.Transcripts.{outcome_of};
 
 use crate::deliver::{deliver, say};
 use crate::front::image_of_source;
 use crate::lots::lots_transcript;
-use crate::options::{AskedSample, LotOptions, SampleOptions};
 use crate::source::NO_MEMORY;
-use crate::transcript::{Transcript, fault_transcript, text_transcript};
-use hep_choosing::{Status, Tally, count, nth_options, seeds_of, text_of, write_text};
+use crate::transcript::{fault_transcript, text_transcript};
+use hep_outcome::{
+    AskedSample, LotOptions, SampleOptions, Status, Tally, Transcript, count, nth_options,
+    seeds_of, text_of, write_text,
+};
 use std::alloc::{AllocError, Global};
 use std::io::Write;
 

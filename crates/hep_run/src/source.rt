@@ -9,10 +9,11 @@ use crate::checks::{check_transcript, list_transcript};
 use crate::deliver::deliver_made;
 use crate::files::say_unread;
 use crate::input::read_input;
-use crate::options::{AskedReplay, AskedRun, Options, Run};
+use crate::options::Run;
 use crate::replay::replay_transcript;
 use crate::run::transcript_of;
-use hep_entries::History;
+use hep_history::History;
+use hep_outcome::{AskedReplay, AskedRun, Options};
 use std::alloc::Global;
 use std::io::{Read, Write};
 

@@ -1,6 +1,6 @@
 //! What is written where a source isn't run, or a text is the answer.
 ghost use Rattle.std.specs.Prelude.{◌≡◌, [], false, IfOk, OnErr};
-ghost use Rattle.hep_choosing.specs.OutcomeTranscripts.{outcome_of};
+ghost use Rattle.hep_outcome.specs.Transcripts.{outcome_of};
 ghost use Rattle.hep_run.specs.Checks.{outcome_of_text};
 ghost use Rattle.hep_run.specs.Memory.{tells_large};
 ghost use Rattle.hep_run.specs.Outcome as outcome;
@@ -9,9 +9,9 @@ ghost use Rattle.hep_run.specs.declared.refusal.SourceFault.TheVariants.{Refused
 
 use crate::refusal::SourceFault;
 use hep_base::Text;
-use hep_choosing::{Lines, Status, put_refusal};
-pub use hep_choosing::{Transcript, full_transcript, history_transcript, opening_notes_when};
-use hep_entries::History;
+use hep_history::History;
+use hep_outcome::{Lines, Status, put_refusal};
+pub use hep_outcome::{Transcript, full_transcript, history_transcript, opening_notes_when};
 use std::alloc::{AllocError, Global};
 
 // A source that is refused so, with nothing behind it, is too large.

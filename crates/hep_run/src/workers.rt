@@ -1,9 +1,9 @@
 //! A source's run by workers.
 ghost use Rattle.std.specs.Prelude.{◌≡◌, IfOk, OnErr, false};
 ghost use Rattle.hep_run.specs.Delivery.{LeavesOfSource};
-ghost use Rattle.hep_choosing.specs.OutcomeMemory.{MayOpen};
+ghost use Rattle.hep_outcome.specs.Memory.{MayOpen};
 ghost use Rattle.hep_run.specs.Memory.{MayReadOn, RefusesLargeSource};
-ghost use Rattle.hep_choosing.specs.OutcomeTranscripts.{outcome_of};
+ghost use Rattle.hep_outcome.specs.Transcripts.{outcome_of};
 ghost use Rattle.hep_run.specs.Workers.{IsImageWorked, IsWorkOutcome, outcome_of_refused_workers};
 
 use crate::deliver::deliver_made;
@@ -12,10 +12,12 @@ use crate::front::image_of_source;
 use crate::input::read_input;
 use crate::options::{AskedWork, Run};
 use crate::source::MOST_BYTES;
-use crate::transcript::{Transcript, fault_transcript, full_transcript, opening_notes_when};
-use hep_choosing::{Lines, Status, ended_transcript};
-use hep_entries::History;
+use crate::transcript::fault_transcript;
+use hep_history::History;
 use hep_image::Image;
+use hep_outcome::{
+    Lines, Status, Transcript, ended_transcript, full_transcript, opening_notes_when,
+};
 use hep_output::append_number;
 use hep_workers::{Gate, WorkFault, WorkOptions, run_unlogged};
 use std::alloc::{AllocError, Global};

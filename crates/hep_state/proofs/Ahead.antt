@@ -7,8 +7,8 @@ use Rattle.hep_code.specs.declared.instruction.Instruction.TheVariants.{Step}
 use Rattle.hep_code.specs.declared.instruction.Operation.{Operation}
 use Rattle.hep_code.specs.declared.instruction.Operation.TheVariants.{Call, Create, Refer, Purge, Resume, Return, Answer}
 use Rattle.hep_code.specs.Words.{IsPastPushes}
-use Rattle.hep_tops.specs.StepSimulation.{IsNotLeftOut, is_left_out, unit_code}
-use Rattle.hep_state.specs.declared.machine.Machine.{Machine}
+use Rattle.hep_step.specs.Simulation.{IsNotLeftOut, is_left_out, unit_code}
+use Rattle.hep_state.specs.declared.core_state.CoreState.{CoreState}
 use Rattle.hep_state.specs.declared.upcoming.StepAhead.{StepAhead}
 use Rattle.hep_state.specs.declared.upcoming.StepAhead.TheVariants as ahead
 use Rattle.hep_state.specs.Words.{HasLevels, HasNone, IsAhead, IsInFront, IsMachineAfter, IsTurning, Snapshot, turn_with}
@@ -34,7 +34,7 @@ unfolding is-left-there
 other-left-out code index line o behind other found rest p more ahead = sym (ap is-left-there (sym found ∙ ahead)) ∙ other
 
 -- what stands in front of the instructions that are ahead, once the values in front of it are operands
-pub found-ahead : (program : Units) (old : Machine) {m : Snapshot} {p : ℕ} (levels : HasLevels m p)
+pub found-ahead : (program : Units) (old : CoreState) {m : Snapshot} {p : ℕ} (levels : HasLevels m p)
     → ((cells : ℕ) (choices : List ℕ) → IsMachineAfter program cells choices old → (top : SourceLevel × SourceProcess) × IsTurning (turn_with program cells choices levels top))
     → IsPastPushes (unit_code program levels.level.unit) levels.level.index
     → (ahead : StepAhead) → IsInFront levels.level.index (drop levels.level.index (unit_code program levels.level.unit)) ahead → IsAhead program p old m ahead

@@ -5,16 +5,16 @@ use Rattle.hep_machine.specs.Words.{Name, Value, Units, executable_from, functio
 use Rattle.hep_arena.specs.Space.{Space}
 use Rattle.hep_code.specs.Words.{Awaits, Stands}
 use Rattle.hep_code.proofs.Moves.{StandsAt, after_statement_stands, entry_stands}
-use Rattle.hep_tops.specs.ImageBound.{AreKept}
-use Rattle.hep_tops.specs.LayoutWords.{FrameNode, Nodes, also, is_stacked, new_node, frame_from}
-use Rattle.hep_tops.proofs.LayoutMemory.{memory-fits}
-use Rattle.hep_tops.specs.ProcKeeping.{AreOfSomeState as ArenaKept}
-use Rattle.hep_tops.specs.StepWayWay.{Way}
-use Rattle.hep_tops.specs.StepWayWay.TheVariants.{Calls, Creates, Refers}
-use Rattle.hep_tops.specs.StepCalls.{GoesOn, is_creation}
-use Rattle.hep_tops.specs.StepSimulation.{unit_addressed}
-use Rattle.hep_tops.specs.ProcProcessLocal.{Local}
-use Rattle.hep_tops.specs.ProcStacks.{Stack}
+use Rattle.hep_image.specs.Bound.{AreKept}
+use Rattle.hep_layout.specs.Words.{FrameNode, Nodes, also, is_stacked, new_node, frame_from}
+use Rattle.hep_layout.proofs.Memory.{memory-fits}
+use Rattle.hep_proc.specs.Keeping.{AreOfSomeState as ArenaKept}
+use Rattle.hep_step.specs.declared.way.Way.{Way}
+use Rattle.hep_step.specs.declared.way.Way.TheVariants.{Calls, Creates, Refers}
+use Rattle.hep_step.specs.Calls.{GoesOn, is_creation}
+use Rattle.hep_step.specs.Simulation.{unit_addressed}
+use Rattle.hep_proc.specs.declared.process.Local.{Local}
+use Rattle.hep_proc.specs.Stacks.{Stack}
 use Rattle.hep_state.specs.Words.{Snapshot, IsTurning, TurnOf, call_in, frames_before, state_before, state_failed, HasMadeTurn, HasGaps, HasNoGap, HasEntered, HasResultBy, IsAfterCall, entered_level, snapshot_made_by, stacks_made_by, state_made, IsMaking, IsUnit, IsEnding}
 use Rattle.hep_state.proofs.Leaving.{kept-entered}
 use Rattle.hep_state.proofs.Standing.{AreOn, AreMade, AreStanding, AreStandingBelow, IsHere, StandsOnTop, below-still, here-at, here-still, keeps-last, made-more}
@@ -26,13 +26,13 @@ use Rattle.hep_binding.proofs.Calls.{behind-keeps, entry-number, made-begun, mad
 use Rattle.hep_binding.proofs.Entered.{made-keeps}
 use Rattle.hep_binding.proofs.Nodes.{node-new, node-stays}
 use Rattle.hep_arena.specs.Holes.{first_fit}
-use Rattle.hep_tops.specs.StepGivenGiven.{Given}
+use Rattle.hep_step.specs.declared.given.Given.{Given}
 use Rattle.hep_binding.specs.Shapes.{AreShaping, IsFramedBy, cells_of_shapes, cells_to_locals}
 use Rattle.hep_binding.specs.Writing.{written_up_to}
 use Rattle.hep_binding.proofs.Shaped.{shapes-last}
 use Rattle.std.specs.Option.{option_map}
 use Rattle.hep_machine.specs.declared.event.Kind.{Kind}
-use Rattle.hep_tops.specs.StepEffects.{fails}
+use Rattle.hep_step.specs.Effects.{fails}
 use Rattle.hep_machine.proofs.Others.{step-is}
 
 module _ {t : TurnOf} (h : IsTurning t) (u : ℕ) (actuals : List Actual) (b : Binding) where

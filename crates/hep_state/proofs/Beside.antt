@@ -3,9 +3,9 @@ use Rattle.std.proofs.Common.{◌≡◌, ◌≢◌, ℕ, zero, suc, ◌-◌, ◌
 use Rattle.std.proofs.lemmas.Option.{none-some, slice_get_within}
 use Rattle.hep_machine.specs.Words.{Units, numbered, with_numbered}
 use Rattle.hep_machine.proofs.Others.{front_numbered, other_numbered}
-use Rattle.hep_tops.specs.ProcProcessProcess.{Process}
-use Rattle.hep_tops.specs.ProcStacks.{Stack, stack_of, stack_with}
-use Rattle.hep_state.specs.declared.machine.Machine.{Machine}
+use Rattle.hep_proc.specs.declared.process.Process.{Process}
+use Rattle.hep_proc.specs.Stacks.{Stack, stack_of, stack_with}
+use Rattle.hep_state.specs.declared.core_state.CoreState.{CoreState}
 use Rattle.hep_state.specs.declared.turn.Turned.{Turned}
 use Rattle.hep_state.specs.declared.turn.Turned.TheVariants.{Stepped, Purged, Waits}
 use Rattle.hep_state.specs.Words.{AreNumbered, HasLevels, IsSameButTop, LeavesOthers, LeavesRest, Snapshot, snapshot_of, stacks_of}
@@ -58,7 +58,7 @@ module _ (p : ℕ) where
       beside-with old new (stack_with levels.level levels.below levels.operands levels.pending) (stack_with (record levels.level { index = came.1 }) levels.below came.0 levels.pending) levels.kept (ap (λ (m : Snapshot). m.processes) came.2)
 
   -- where the process at its place is another one
-  pub beside-set : (m : Machine) {at : ℕ} {was : Stack} {q : Process} (r : Process) → AreNumbered m → IsAt m.processes.items p at was q → numbered (snapshot_of m).processes p ≡ Some was → r.number ≡ q.number
+  pub beside-set : (m : CoreState) {at : ℕ} {was : Stack} {q : Process} (r : Process) → AreNumbered m → IsAt m.processes.items p at was q → numbered (snapshot_of m).processes p ≡ Some was → r.number ≡ q.number
       → (n : ℕ) (k : Stack) → n ≢ p → numbered (snapshot_of m).processes n ≡ Some k → numbered (stacks_of (slice_set m.processes.items at r) m.made) n ≡ Some k
   beside-set m {at} {was} r numbers it there same = set-beside (snapshot_of m).processes (stacks_of (slice_set m.processes.items at r) m.made) was (stack_of r) there (stacks-set m p r (stack_of r) numbers it same refl)
 

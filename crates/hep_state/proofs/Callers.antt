@@ -8,13 +8,13 @@ use Rattle.std.specs.List.{flat_map}
 use Rattle.std.proofs.Math.Seq.{take-append_seam}
 use Rattle.hep_code.specs.Words.{deepest, most_operands, operands_of_actual, operands_of_entries, Passed, passed_from}
 use Rattle.hep_code.proofs.Depths.{stands_within}
-use Rattle.hep_tops.specs.ImageArrayArray.{Array}
-use Rattle.hep_tops.specs.ImagePlaces.{variable_of}
-use Rattle.hep_tops.specs.StepAgreement.{CallerOf, IsCaller, AreGiven, AreGivenAs, ArePlaced, IsGiven, arrays_calling, caller_running, given_passed, passed_by_entries, scope_calling, variables_calling}
-use Rattle.hep_tops.specs.StepWayWay.{Way}
-use Rattle.hep_tops.specs.StepCalls.{GoesOn, IsCallAhead, comes_by, is_creation, last_operands, making, unit_by}
-use Rattle.hep_tops.specs.StepSimulation.{IsRunning, code_on_top, unit_addressed, unit_arrays, unit_code, Simulates, RunningTop, code_ahead}
-use Rattle.hep_binding.specs.AcceptedLawsWorks.{ComesFrom}
+use Rattle.hep_image.specs.declared.array.Array.{Array}
+use Rattle.hep_image.specs.Places.{variable_of}
+use Rattle.hep_step.specs.Agreement.{CallerOf, IsCaller, AreGiven, AreGivenAs, ArePlaced, IsGiven, arrays_calling, caller_running, given_passed, passed_by_entries, scope_calling, variables_calling}
+use Rattle.hep_step.specs.declared.way.Way.{Way}
+use Rattle.hep_step.specs.Calls.{GoesOn, IsCallAhead, comes_by, is_creation, last_operands, making, unit_by}
+use Rattle.hep_step.specs.Simulation.{IsRunning, code_on_top, unit_addressed, unit_arrays, unit_code, Simulates, RunningTop, code_ahead}
+use Rattle.hep_accepted_laws.specs.Works.{ComesFrom}
 use Rattle.hep_state.specs.declared.upcoming.CallAhead.{CallAhead}
 use Rattle.hep_state.specs.Words.{AreNumbered, HasResultBy, HoldsInTurn, IsAfterCall, IsAtCall, IsAtStep, IsMadeOf, IsTopRunning, IsTurning, TurnOf, given_of, AreRunning, IsKnown, snapshot_of, state_before, top_before, top_frame, turn_of, IsMaking, call_in, IsEnding, IsBehind, IsPlaceOf, IsThere, running_top}
 use Rattle.hep_state.proofs.Standing.{are-on}
@@ -24,28 +24,28 @@ use Rattle.hep_machine.specs.declared.event.Kind.{Kind}
 use Rattle.hep_arena.specs.Gaps.{frame_among}
 use Rattle.hep_code.specs.declared.instruction.Instruction.{Instruction}
 use Rattle.hep_code.specs.declared.variable.Variable.TheVariants.{Absent}
-use Rattle.hep_tops.specs.LayoutWords.{IsMemory, RunsFrom}
-use Rattle.hep_tops.specs.ImageFinding.{cells_in}
-use Rattle.hep_tops.specs.StepGivenGiven.{Given}
-use Rattle.hep_tops.specs.StepGivenGiven.TheVariants as giving
-use Rattle.hep_tops.specs.StepPassing.{given_by}
-use Rattle.hep_tops.specs.StepShapes.{AreShapesOf}
-use Rattle.hep_tops.specs.StepEffects.{fails}
-use Rattle.hep_tops.proofs.StepActions.{passed_last}
-use Rattle.hep_binding.specs.AcceptedLawsActuals.{FitsDummy, IsVariableOf}
+use Rattle.hep_layout.specs.Words.{IsMemory, RunsFrom}
+use Rattle.hep_image.specs.Finding.{cells_in}
+use Rattle.hep_step.specs.declared.given.Given.{Given}
+use Rattle.hep_step.specs.declared.given.Given.TheVariants as giving
+use Rattle.hep_step.specs.Passing.{given_by}
+use Rattle.hep_step.specs.Shapes.{AreShapesOf}
+use Rattle.hep_step.specs.Effects.{fails}
+use Rattle.hep_step.proofs.Actions.{passed_last}
+use Rattle.hep_accepted_laws.specs.Actuals.{FitsDummy, IsVariableOf}
 use Rattle.hep_binding.specs.Calling.{AreActualsPassed, CallOf, IsPassed, IsPassing, caller, state_before_call, state_made_by}
 use Rattle.hep_binding.specs.Giving.{AreDistinct}
 use Rattle.hep_state.proofs.Tops.{there-too, dropped-first}
 use Rattle.std.proofs.lemmas.Option.{slice_get_within}
 use Rattle.hep_code.proofs.Ahead.{drop_one_more}
-use Rattle.hep_tops.specs.ProcNodes.{nodes_of}
-use Rattle.hep_tops.specs.StepFrameFrame.{Frame as CellFrame}
-use Rattle.hep_tops.specs.StepReady.{frame_in_arena}
-use Rattle.hep_tops.specs.ProcProcessLocal.{Local}
-use Rattle.hep_state.specs.declared.machine.Machine.{Machine}
-use Rattle.hep_tops.specs.ProcProcessProcess.{Process}
-use Rattle.hep_tops.specs.ProcStacks.{stack_of, stack_with}
-use Rattle.hep_tops.proofs.ProcLevels.{operands-are}
+use Rattle.hep_proc.specs.Nodes.{nodes_of}
+use Rattle.hep_step.specs.declared.frame.Frame.{Frame as CellFrame}
+use Rattle.hep_step.specs.Ready.{frame_in_arena}
+use Rattle.hep_proc.specs.declared.process.Local.{Local}
+use Rattle.hep_state.specs.declared.core_state.CoreState.{CoreState}
+use Rattle.hep_proc.specs.declared.process.Process.{Process}
+use Rattle.hep_proc.specs.Stacks.{stack_of, stack_with}
+use Rattle.hep_proc.proofs.Levels.{operands-are}
 use Rattle.hep_state.proofs.Unchanged.{carry}
 use Rattle.hep_state.proofs.Processes.{process-at}
 use Rattle.hep_state.proofs.Taken.{inside}
@@ -292,14 +292,14 @@ module _ {t : TurnOf} (call : CallAhead) (at : IsAtCall t call) (all : IsKnownTo
 -- ---- what is read of a machine where a process is at a CALL, CREATE or PURGE, and what its entries and operands give by that
 
 -- what is read of process p of a machine, with the operands past so many
-pub record IsRead (program : Units) (m : Machine) (p at : ℕ) (q : Process) (entries : List Instruction) (arrays : List Array) (frame : CellFrame) (past : ℕ) (vs : List Value) : Type 0 where
+pub record IsRead (program : Units) (m : CoreState) (p at : ℕ) (q : Process) (entries : List Instruction) (arrays : List Array) (frame : CellFrame) (past : ℕ) (vs : List Value) : Type 0 where
   pub numbers : AreNumbered m
   pub place : IsPlaceOf m.processes.items p at
   pub process : q ≡ get_or m.processes.items at q
   pub behind : (l : Local) (ls : List Local) (before pending : List Value) → stack_of q ≡ stack_with l ls before pending → IsBehind program (nodes_of m.frames.nodes) l entries arrays frame
   pub operands : vs ≡ drop past q.operands.items
 
-module _ {program : Units} {cells : ℕ} {choices : List ℕ} {p : ℕ} (m : Machine) {line : ℕ} {o : Operation} (at : HoldsInTurn program cells choices p (snapshot_of m) (λ t. IsAtStep t line o)) where
+module _ {program : Units} {cells : ℕ} {choices : List ℕ} {p : ℕ} (m : CoreState) {line : ℕ} {o : Operation} (at : HoldsInTurn program cells choices p (snapshot_of m) (λ t. IsAtStep t line o)) where
   pub unit-inside : at.levels.level.unit < length program
   unit-inside = inside at.holds.turning
 
@@ -312,7 +312,7 @@ module _ {program : Units} {cells : ℕ} {choices : List ℕ} {p : ℕ} (m : Mac
       (l, at.levels.below, at.levels.operands, at.levels.pending, there.stack, (unit-inside, top-node at.holds.turning), slice_get_within code l.index _ (dropped-first code l.index _ at.holds.behind at.holds.ahead))
 
 -- what is said of the frame, the arrays and the actual arguments of the caller is said of what was read
-module _ {program : Units} {cells : ℕ} {choices : List ℕ} {p : ℕ} {m : Machine} {line : ℕ} {o : Operation} {place : ℕ} {q : Process} {entries : List Instruction} {arrays : List Array} {frame : CellFrame} {past : ℕ} {operands : List Value}
+module _ {program : Units} {cells : ℕ} {choices : List ℕ} {p : ℕ} {m : CoreState} {line : ℕ} {o : Operation} {place : ℕ} {q : Process} {entries : List Instruction} {arrays : List Array} {frame : CellFrame} {past : ℕ} {operands : List Value}
     (read : IsRead program m p place q entries arrays frame past operands) (count : ℕ) (at : HoldsInTurn program cells choices p (snapshot_of m) (λ t. IsAtStep t line o)) where
   abbrev t : TurnOf
   t = turn_of at

@@ -3,8 +3,8 @@ use Rattle.std.proofs.Common.{◌≡◌, ℕ, Bool, true, false, List, [], ◌�
 use Rattle.std.specs.Option.{unwrap_or}
 use Rattle.std.proofs.lemmas.Option.{none-some, same_Some, slice_get_within}
 use Rattle.hep_machine.specs.Words.{assigning, does, evaluating, purging, referring, wants, Next, is_held, is_purge, layout_of, purges, top_purges, Layout, Location, State, line_at, run, step, unit_of}
-use Rattle.hep_tops.specs.LayoutWords.{address}
-use Rattle.hep_tops.proofs.LayoutHeldFrames.{run-last}
+use Rattle.hep_layout.specs.Words.{address}
+use Rattle.hep_layout.proofs.HeldFrames.{run-last}
 use Rattle.hep_cells.specs.Changes.{full_after}
 use Rattle.hep_cells.specs.declared.want.Want.{Want}
 use Rattle.hep_blocked.specs.Needs.{on_top, touched_by, touched_by_next}
@@ -14,16 +14,16 @@ use Rattle.hep_code.specs.declared.instruction.Instruction.TheVariants.{Step}
 use Rattle.hep_code.specs.declared.instruction.Operation.{Operation}
 use Rattle.hep_code.specs.Words.{IsPastPushes}
 use Rattle.hep_code.proofs.Ahead.{step_is_ahead}
-use Rattle.hep_tops.specs.StepEffectEffect.{Effect}
-use Rattle.hep_tops.specs.StepChanges.{AreChanged, changed_ahead, changed_at, may_change}
-use Rattle.hep_tops.specs.StepEffects as effects
-use Rattle.hep_tops.specs.StepEffects.{effect_ahead, effect_at}
-use Rattle.hep_tops.specs.StepPerformed as performed
-use Rattle.hep_tops.specs.StepPerformed.{changed_in, performed as done, snapshot}
-use Rattle.hep_tops.specs.StepSimulation.{IsNotLeftOut, RunningTop, addressed_on_top, arrays_running, code_on_top, code_running, unit_arrays, unit_code, unit_running}
-use Rattle.hep_tops.proofs.StepChanges.{changes-told, none-changed, none-told}
-use Rattle.hep_tops.proofs.StepOperations.{operation_simulated}
-use Rattle.hep_tops.proofs.StepRunning.{Comes, coming, next_is, scope_running}
+use Rattle.hep_step.specs.declared.effect.Effect.{Effect}
+use Rattle.hep_step.specs.Changes.{AreChanged, changed_ahead, changed_at, may_change}
+use Rattle.hep_step.specs.Effects as effects
+use Rattle.hep_step.specs.Effects.{effect_ahead, effect_at}
+use Rattle.hep_step.specs.Performed as performed
+use Rattle.hep_step.specs.Performed.{changed_in, performed as done, snapshot}
+use Rattle.hep_step.specs.Simulation.{IsNotLeftOut, RunningTop, addressed_on_top, arrays_running, code_on_top, code_running, unit_arrays, unit_code, unit_running}
+use Rattle.hep_step.proofs.Changes.{changes-told, none-changed, none-told}
+use Rattle.hep_step.proofs.Operations.{operation_simulated}
+use Rattle.hep_step.proofs.Running.{Comes, coming, next_is, scope_running}
 use Rattle.hep_state.specs.Words.{Changes, IsTopRunning, IsTurning, TurnOf, running_top, state_before, top_before, top_frame}
 use Rattle.hep_state.proofs.Moved.{unit-is}
 use Rattle.hep_state.proofs.Taken.{AreAlike, alike-by, before, full-there}

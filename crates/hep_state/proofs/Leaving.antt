@@ -4,19 +4,19 @@ use Rattle.std.proofs.lemmas.Option.{none-some}
 use Rattle.hep_machine.specs.Words.{Units, unit_at, level_after_statement, Layout, activations_on, is_held, with_frame, is_number_among, numbered, unit_of, with_numbered, activation_of, run, Level, Process, State, Activation, Dummy, Location, common, local, stack_after_return, stack_after_value, Value, dummy_at, further, is_owned}
 use Rattle.hep_machine.specs.declared.slot.Slot.{Slot}
 use Rattle.hep_code.proofs.Moves.{after_statement_keeps}
-use Rattle.hep_tops.specs.LayoutWords.{level_of, slot_on_level, slot_of_loop, loop_among, descriptor_slots, FramePart, header, argument, variable, iteration, bounds, times, but, IsLaid, frame_from, RunsFrom}
-use Rattle.hep_tops.proofs.LayoutDescriptors.{wanted-same}
-use Rattle.hep_tops.proofs.LayoutStacks.{once}
-use Rattle.hep_tops.specs.StepSimulation.{unit_addressed}
-use Rattle.hep_tops.specs.ProcKeeping.{all_but, frames_of}
+use Rattle.hep_layout.specs.Words.{level_of, slot_on_level, slot_of_loop, loop_among, descriptor_slots, FramePart, header, argument, variable, iteration, bounds, times, but, IsLaid, frame_from, RunsFrom}
+use Rattle.hep_layout.proofs.Descriptors.{wanted-same}
+use Rattle.hep_layout.proofs.Stacks.{once}
+use Rattle.hep_step.specs.Simulation.{unit_addressed}
+use Rattle.hep_proc.specs.Keeping.{all_but, frames_of}
 use Rattle.hep_binding.proofs.Found.{IsAmong, all_levels, among-numbered, among-parts, among-set, find-among, found, times-all}
 use Rattle.std.proofs.lemmas.Bool.{cases_Bool, eqb-true}
 use Rattle.hep_arena.specs.Gaps.{frame_among}
-use Rattle.hep_tops.proofs.LayoutAddresses.{address-alike}
-use Rattle.hep_tops.proofs.LayoutMemory.{activation-kept, address-same, same-activation}
-use Rattle.hep_tops.proofs.LayoutReferences.{references-held}
-use Rattle.hep_tops.proofs.LayoutRuns.{runs-entered, owned-further}
-use Rattle.hep_tops.specs.ImageBound.{AreKept}
+use Rattle.hep_layout.proofs.Addresses.{address-alike}
+use Rattle.hep_layout.proofs.Memory.{activation-kept, address-same, same-activation}
+use Rattle.hep_layout.proofs.References.{references-held}
+use Rattle.hep_layout.proofs.Runs.{runs-entered, owned-further}
+use Rattle.hep_image.specs.Bound.{AreKept}
 
 -- ---- stacks that leave
 

@@ -7,17 +7,17 @@ use Rattle.hep_machine.specs.State.{Level as SourceLevel}
 use Rattle.hep_machine.specs.Step.{wanted_of}
 use Rattle.hep_code.specs.Words.{Awaits, Stands, deepest}
 use Rattle.hep_code.proofs.Depths.{stands_within}
-use Rattle.hep_tops.specs.LayoutWords.{descriptor_slots, AreNeededBut, is_stacked, IsFrameTree, but, FrameNode, Nodes, IsAbove, IsOwnedAbove, times}
-use Rattle.hep_tops.proofs.LayoutBeginning.{tree-same, needed-same}
-use Rattle.hep_tops.proofs.LayoutDescriptors.{described-same, wanted-same}
-use Rattle.hep_tops.proofs.LayoutMemory.{memory-same}
-use Rattle.hep_tops.proofs.LayoutStackChanges.{stacks-same, stacks-emptied, stacks-ended}
-use Rattle.hep_tops.proofs.LayoutStacks.{once, times_on-numbered}
-use Rattle.hep_tops.specs.ProcKeeping.{Keeps, AreOfSomeState, CanAllLeave, CanLeave, IsEnded, LeadUpwards, all_but, frames_of, frames_in}
-use Rattle.hep_tops.specs.StepEffects.{answers, moves, prints, waits, fails, returns, stops}
-use Rattle.hep_tops.specs.StepSimulation.{state_with_record, Reaches, unit_addressed, unit_code}
-use Rattle.hep_tops.specs.ProcProcessLocal.{Local}
-use Rattle.hep_tops.specs.ProcStacks.{keys_of, operands_answered, pending_answered, Stack, stack_with}
+use Rattle.hep_layout.specs.Words.{descriptor_slots, AreNeededBut, is_stacked, IsFrameTree, but, FrameNode, Nodes, IsAbove, IsOwnedAbove, times}
+use Rattle.hep_layout.proofs.Beginning.{tree-same, needed-same}
+use Rattle.hep_layout.proofs.Descriptors.{described-same, wanted-same}
+use Rattle.hep_layout.proofs.Memory.{memory-same}
+use Rattle.hep_layout.proofs.StackChanges.{stacks-same, stacks-emptied, stacks-ended}
+use Rattle.hep_layout.proofs.Stacks.{once, times_on-numbered}
+use Rattle.hep_proc.specs.Keeping.{Keeps, AreOfSomeState, CanAllLeave, CanLeave, IsEnded, LeadUpwards, all_but, frames_of, frames_in}
+use Rattle.hep_step.specs.Effects.{answers, moves, prints, waits, fails, returns, stops}
+use Rattle.hep_step.specs.Simulation.{state_with_record, Reaches, unit_addressed, unit_code}
+use Rattle.hep_proc.specs.declared.process.Local.{Local}
+use Rattle.hep_proc.specs.Stacks.{keys_of, operands_answered, pending_answered, Stack, stack_with}
 use Rattle.hep_state.specs.Words.{frames_before, Snapshot, HasMadeTurn, HaveLeft, snapshot_answered, state_answered, kept_by, IsEffectOf, IsStack, IsTurning, TurnOf, fault_at, snapshot_moved, snapshot_printed, snapshot_stopped, top_before, top_frame, snapshot_failed, snapshot_returned, state_before, state_failed, state_returned, HasWaited, node_under, running_top}
 use Rattle.hep_state.proofs.Leaving.{AreOf, answered-of, kept-same, all-fewer, but-fewer, kept-left, still-above, all_but-is, caller-of, no-more, none-of}
 use Rattle.hep_state.proofs.Runs.{layout-left, next, there, all-remain, set-same, standing-changed, stepped-after, held-after, remaining-after}
@@ -28,9 +28,9 @@ use Rattle.std.proofs.lemmas.Option.{same_Some}
 use Rattle.hep_machine.specs.declared.event.Fault.{Fault}
 use Rattle.hep_machine.specs.declared.event.Kind.{Kind}
 use Rattle.hep_arena.specs.Space.{Space}
-use Rattle.hep_tops.proofs.LayoutReferences.{references}
-use Rattle.hep_tops.proofs.LayoutFrameTree.{on-stacked}
-use Rattle.hep_tops.specs.ImageBound.{AreKept as kept_of}
+use Rattle.hep_layout.proofs.References.{references}
+use Rattle.hep_layout.proofs.FrameTree.{on-stacked}
+use Rattle.hep_image.specs.Bound.{AreKept as kept_of}
 use Rattle.hep_machine.proofs.Changes.{on-stack_after_return, on-stack_after_value}
 
 -- ---- what leads upwards

@@ -6,8 +6,8 @@ use Rattle.std.proofs.lemmas.Bool.{cases_Bool, cases_eq, eq-eqb, ne_eqb}
 use Rattle.std.proofs.lemmas.Bool.Decides.{nat_tests}
 use Rattle.std.proofs.lemmas.Option.{none-some, same_Some, slice_get_past, slice_get_within}
 use Rattle.hep_machine.specs.Words.{is_number_among, numbered, with_numbered}
-use Rattle.hep_tops.specs.ProcProcessProcess.{Process}
-use Rattle.hep_tops.specs.ProcStacks.{Stack, is_left, no_stack, stack_of}
+use Rattle.hep_proc.specs.declared.process.Process.{Process}
+use Rattle.hep_proc.specs.Stacks.{Stack, is_left, no_stack, stack_of}
 use Rattle.hep_blocked.specs.Numbers.{AreRising}
 use Rattle.hep_state.specs.Words.{numbers_of, stack_numbered, stacks_from, stacks_of}
 

@@ -7,17 +7,17 @@ use Rattle.hep_machine.specs.declared.slot.Slot.{Slot}
 use Rattle.hep_code.specs.Words.{entry_index}
 use Rattle.hep_code.proofs.Moves.{StandsAt, entry_stands}
 use Rattle.hep_arena.specs.Gaps.{gaps}
-use Rattle.hep_tops.specs.LayoutWords.{Holds, IsLaid, IsMemory, address, Describes, descriptor_slots, is_stacked, FrameNode, Nodes, first_nodes}
-use Rattle.hep_tops.proofs.LayoutBeginning.{tree-same, needed-same}
-use Rattle.hep_tops.proofs.LayoutDescriptors.{descriptor-apart, described-same, wanted-same}
-use Rattle.hep_tops.proofs.LayoutHeldFrames.{opening-is}
-use Rattle.hep_tops.proofs.LayoutMemory.{address-same, laid-same}
-use Rattle.hep_tops.proofs.LayoutFrameTree.{rest-held}
-use Rattle.hep_tops.specs.ImageDataDataRow.{DataRow}
-use Rattle.hep_tops.specs.ImageData.{AreOfUnits, AreInitial, first_frames, value_in_rows}
-use Rattle.hep_tops.specs.ProcKeeping.{IsOpening, Keeps, IsUnused, frames_in}
-use Rattle.hep_tops.specs.ProcStacks.{Stack}
-use Rattle.hep_tops.specs.StepSimulation.{unit_addressed}
+use Rattle.hep_layout.specs.Words.{Holds, IsLaid, IsMemory, address, Describes, descriptor_slots, is_stacked, FrameNode, Nodes, first_nodes}
+use Rattle.hep_layout.proofs.Beginning.{tree-same, needed-same}
+use Rattle.hep_layout.proofs.Descriptors.{descriptor-apart, described-same, wanted-same}
+use Rattle.hep_layout.proofs.HeldFrames.{opening-is}
+use Rattle.hep_layout.proofs.Memory.{address-same, laid-same}
+use Rattle.hep_layout.proofs.FrameTree.{rest-held}
+use Rattle.hep_image.specs.declared.data.DataRow.{DataRow}
+use Rattle.hep_image.specs.Data.{AreOfUnits, AreInitial, first_frames, value_in_rows}
+use Rattle.hep_proc.specs.Keeping.{IsOpening, Keeps, IsUnused, frames_in}
+use Rattle.hep_proc.specs.Stacks.{Stack}
+use Rattle.hep_step.specs.Simulation.{unit_addressed}
 use Rattle.hep_arena.specs.Space.{Space}
 use Rattle.hep_state.specs.Words.{IsEntered, IsGiven, snapshot_opened, unset_opening, IsStack, IsAfter, AreOut}
 use Rattle.hep_state.proofs.Leaving.{none-kept}
@@ -27,7 +27,7 @@ use Rattle.std.proofs.lemmas.Bool.Decides.{nat_tests}
 use Rattle.std.proofs.lemmas.List.{drop_more, get_or-reverse, length-reverse}
 use Rattle.hep_arena.specs.Holes.{IsOut, first_fit}
 use Rattle.hep_arena.proofs.Gaps.{fit-gaps}
-use Rattle.hep_tops.proofs.LayoutAddresses.{address-out}
+use Rattle.hep_layout.proofs.Addresses.{address-out}
 use Rattle.hep_state.proofs.Processes.{numbered-only}
 use Rattle.hep_state.proofs.Unchanged.{carry}
 

@@ -8,12 +8,12 @@ use Rattle.hep_machine.specs.Words.{Value, Units, is_number_among, numbered, wit
 use Rattle.hep_binding.proofs.Calls.{set-numbered}
 use Rattle.hep_blocked.specs.Numbers.{AreRising}
 use Rattle.hep_code.specs.Words.{deepest}
-use Rattle.hep_tops.specs.StepSimulation.{unit_code}
-use Rattle.hep_tops.specs.ProcProcessLocal.{Local}
-use Rattle.hep_tops.specs.ProcProcessProcess.{Process}
-use Rattle.hep_tops.specs.ProcStacks.{Stack, no_stack, stack_of, stack_with}
-use Rattle.hep_tops.proofs.ProcLevels.{has-levels, last-index, last-there, levels-are, some-levels}
-use Rattle.hep_state.specs.declared.machine.Machine.{Machine}
+use Rattle.hep_step.specs.Simulation.{unit_code}
+use Rattle.hep_proc.specs.declared.process.Local.{Local}
+use Rattle.hep_proc.specs.declared.process.Process.{Process}
+use Rattle.hep_proc.specs.Stacks.{Stack, no_stack, stack_of, stack_with}
+use Rattle.hep_proc.proofs.Levels.{has-levels, last-index, last-there, levels-are, some-levels}
+use Rattle.hep_state.specs.declared.core_state.CoreState.{CoreState}
 use Rattle.hep_state.specs.Words.{AreNumbered, HasLevels, HasRoom, IsPlaceOf, numbers_of, snapshot_of, stacks_of}
 use Rattle.hep_state.proofs.Numbered.{number-within, numbered-past, numbered-stack, numbered-there, numbers-set, one-place, set-stacks, stack-absent, stack-found}
 use Rattle.hep_source.proofs.Tests.{at-front}
@@ -28,7 +28,7 @@ pub record IsAt (qs : List Process) (p at : ℕ) (k : Stack) (q : Process) : Typ
   pub stack : stack_of q ≡ k
 
 -- the one at the place of p, where p has a stack
-pub process-at : (m : Machine) (p : ℕ) {at : ℕ} {k : Stack} {q : Process} → AreNumbered m → IsPlaceOf m.processes.items p at → numbered (snapshot_of m).processes p ≡ Some k → q ≡ get_or m.processes.items at q → IsAt m.processes.items p at k q
+pub process-at : (m : CoreState) (p : ℕ) {at : ℕ} {k : Stack} {q : Process} → AreNumbered m → IsPlaceOf m.processes.items p at → numbered (snapshot_of m).processes p ≡ Some k → q ≡ get_or m.processes.items at q → IsAt m.processes.items p at k q
 process-at m p {at} {k} {q} numbers place kept is =
     let qs = m.processes.items in
     let there : slice_get qs at ≡ Some q = slice_get-get_or qs at q place.inside ∙ ap (λ z. Some z) (sym is) in
@@ -45,38 +45,38 @@ pub some-levels-at : {qs : List Process} {p at : ℕ} {l : Local} {ls : List Loc
 some-levels-at {qs} {p} {at} {l} {ls} {operands} {pending} {q} it = some-levels q l ls operands pending it.stack
 
 -- in a machine with the same processes
-pub numbers-still : (old new : Machine) → new.processes.items ≡ old.processes.items → new.made ≡ old.made → AreNumbered old → AreNumbered new
+pub numbers-still : (old new : CoreState) → new.processes.items ≡ old.processes.items → new.made ≡ old.made → AreNumbered old → AreNumbered new
 numbers-still old new same made numbers = subst (λ n. AreRising 1 n (numbers_of new.processes.items)) (sym made) (subst (λ qs. AreRising 1 old.made (numbers_of qs)) (sym same) numbers)
 
-pub process-still : (old new : Machine) (p : ℕ) {at : ℕ} {k : Stack} {q : Process} → new.processes.items ≡ old.processes.items → new.made ≡ old.made → AreNumbered old → IsPlaceOf old.processes.items p at → numbered (snapshot_of old).processes p ≡ Some k
+pub process-still : (old new : CoreState) (p : ℕ) {at : ℕ} {k : Stack} {q : Process} → new.processes.items ≡ old.processes.items → new.made ≡ old.made → AreNumbered old → IsPlaceOf old.processes.items p at → numbered (snapshot_of old).processes p ≡ Some k
     → q ≡ get_or new.processes.items at q → IsAt new.processes.items p at k q
 process-still old new p {at} same made numbers place kept is =
     process-at new p (numbers-still old new same made numbers) (subst (λ qs. IsPlaceOf qs p at) (sym same) place) ((λ i. numbered (stacks_of (same i) (made i)) p) ∙ kept) is
 
 -- where one has another stack, and the same number
-pub stacks-set : (m : Machine) (p : ℕ) {at : ℕ} {before : Stack} {q : Process} (r : Process) (k : Stack) → AreNumbered m → IsAt m.processes.items p at before q → r.number ≡ q.number → stack_of r ≡ k
+pub stacks-set : (m : CoreState) (p : ℕ) {at : ℕ} {before : Stack} {q : Process} (r : Process) (k : Stack) → AreNumbered m → IsAt m.processes.items p at before q → r.number ≡ q.number → stack_of r ≡ k
     → stacks_of (slice_set m.processes.items at r) m.made ≡ with_numbered (snapshot_of m).processes p k
 stacks-set m p {at} {before} {q} r k numbers it same is = set-stacks m.processes.items m.made p at q r k numbers it.there it.number (same ∙ it.number) is
 
 -- and so it has that one
-pub kept-set : (m : Machine) (p : ℕ) {at : ℕ} {before : Stack} {q : Process} (r : Process) (k : Stack) → AreNumbered m → IsAt m.processes.items p at before q → numbered (snapshot_of m).processes p ≡ Some before → r.number ≡ q.number → stack_of r ≡ k
+pub kept-set : (m : CoreState) (p : ℕ) {at : ℕ} {before : Stack} {q : Process} (r : Process) (k : Stack) → AreNumbered m → IsAt m.processes.items p at before q → numbered (snapshot_of m).processes p ≡ Some before → r.number ≡ q.number → stack_of r ≡ k
     → numbered (stacks_of (slice_set m.processes.items at r) m.made) p ≡ Some k
 kept-set m p {at} {before} r k numbers it kept same is = ap (λ ks. numbered ks p) (stacks-set m p r k numbers it same is) ∙ set-numbered (snapshot_of m).processes p before k kept
 
-pub numbered-set : (m : Machine) (p : ℕ) {at : ℕ} {before : Stack} {q : Process} (r : Process) → AreNumbered m → IsAt m.processes.items p at before q → r.number ≡ q.number → AreRising 1 m.made (numbers_of (slice_set m.processes.items at r))
+pub numbered-set : (m : CoreState) (p : ℕ) {at : ℕ} {before : Stack} {q : Process} (r : Process) → AreNumbered m → IsAt m.processes.items p at before q → r.number ≡ q.number → AreRising 1 m.made (numbers_of (slice_set m.processes.items at r))
 numbered-set m p {at} {before} {q} r numbers it same = subst (AreRising 1 m.made) (sym (numbers-set m.processes.items at q r it.there same)) numbers
 
 -- ---- which processes have levels
 
 -- one that is kept
-pub numbered-at : (m : Machine) (p at : ℕ) (q : Process) → AreNumbered m → slice_get m.processes.items at ≡ Some q → q.number ≡ p → numbered (snapshot_of m).processes p ≡ Some (stack_of q)
+pub numbered-at : (m : CoreState) (p at : ℕ) (q : Process) → AreNumbered m → slice_get m.processes.items at ≡ Some q → q.number ≡ p → numbered (snapshot_of m).processes p ≡ Some (stack_of q)
 numbered-at m p at q numbers there own =
     let within = number-within 1 m.made m.processes.items at q numbers there in
     numbered-stack m.processes.items m.made p (omega (arith, within.0, own)) (omega (arith, within.1, own))
     ∙ ap (λ k. Some k) (stack-found p 1 m.made m.processes.items at q numbers there own)
 
 -- the one at the place of p
-pub numbered-of : (m : Machine) (p : ℕ) {at : ℕ} {q : Process} → AreNumbered m → IsPlaceOf m.processes.items p at → q ≡ get_or m.processes.items at q → numbered (snapshot_of m).processes p ≡ Some (stack_of q)
+pub numbered-of : (m : CoreState) (p : ℕ) {at : ℕ} {q : Process} → AreNumbered m → IsPlaceOf m.processes.items p at → q ≡ get_or m.processes.items at q → numbered (snapshot_of m).processes p ≡ Some (stack_of q)
 numbered-of m p {at} {q} numbers place is =
     let qs = m.processes.items in
     let there : slice_get qs at ≡ Some q = slice_get-get_or qs at q place.inside ∙ ap (λ z. Some z) (sym is) in
@@ -84,7 +84,7 @@ numbered-of m p {at} {q} numbers place is =
     numbered-at m p at q numbers there own
 
 -- one that isn't
-pub numbered-absent : (m : Machine) (p : ℕ) → is_number_among p (numbers_of m.processes.items) ≡ false → (numbered (snapshot_of m).processes p ≡ None) ⊎ (numbered (snapshot_of m).processes p ≡ Some no_stack)
+pub numbered-absent : (m : CoreState) (p : ℕ) → is_number_among p (numbers_of m.processes.items) ≡ false → (numbered (snapshot_of m).processes p ≡ None) ⊎ (numbered (snapshot_of m).processes p ≡ Some no_stack)
 numbered-absent m zero none = inl refl
 numbered-absent m (suc i) none = elim (cases_lt m.made (suc i)) [
   | inl past ↦ inl (numbered-past m.processes.items m.made (suc i) past)
@@ -99,7 +99,7 @@ some-levels-of ks p q there some = by_levels (reverse q.levels.items) refl some 
   by_levels (l ∷ ls) e h = (l, ls, there ∙ (λ i. Some (record { levels = e i; operands = q.operands.items; pending = q.pending.items })))
 
 -- one that has levels is kept
-pub levels-kept : (m : Machine) (p : ℕ) → HasLevels (snapshot_of m) p → is_number_among p (numbers_of m.processes.items) ≡ true
+pub levels-kept : (m : CoreState) (p : ℕ) → HasLevels (snapshot_of m) p → is_number_among p (numbers_of m.processes.items) ≡ true
 levels-kept m p levels = elim (cases_Bool (is_number_among p (numbers_of m.processes.items))) [
   | inl among ↦ among
   | inr none ↦ absurd (no-levels levels.level levels.below (ap (λ (k : Stack). k.levels) (sym (stack-absent p m.processes.items none) ∙ (numbered-there m.processes.items m.made p (stack_with levels.level levels.below levels.operands levels.pending) levels.kept).2)))
@@ -205,7 +205,7 @@ slice_set_there (z ∷ zs) zero x h = refl
 slice_set_there (z ∷ zs) (suc i) x h = slice_set_there zs i x (omega (arith, h))
 
 -- it is the one process of its number
-pub is-there : (m : Machine) (p : ℕ) {at : ℕ} {before : Stack} {q : Process} (r : Process) → AreNumbered m → IsAt m.processes.items p at before q → r.number ≡ q.number
+pub is-there : (m : CoreState) (p : ℕ) {at : ℕ} {before : Stack} {q : Process} (r : Process) → AreNumbered m → IsAt m.processes.items p at before q → r.number ≡ q.number
     → (i : ℕ) (z : Process) → slice_get (slice_set m.processes.items at r) i ≡ Some z → z.number ≡ p → r ≡ z
 is-there m p {at} r numbers it same i z e own =
     let rs = slice_set m.processes.items at r in

@@ -11,19 +11,19 @@ use Rattle.hep_code.specs.declared.instruction.Argument.TheVariants.{Referred}
 use Rattle.hep_code.specs.declared.instruction.Instruction.{Instruction}
 use Rattle.hep_code.specs.declared.instruction.Instruction.TheVariants.{Pass}
 use Rattle.hep_code.specs.Words.{passed_from}
-use Rattle.hep_tops.specs.LayoutWords.{address}
-use Rattle.hep_tops.proofs.LayoutMemory.{address-same}
-use Rattle.hep_tops.specs.ImageArrayArray.{Array}
-use Rattle.hep_tops.specs.ImageFinding.{cells_in}
-use Rattle.hep_binding.specs.AcceptedLawsInstructions.{variables_in}
-use Rattle.hep_binding.specs.AcceptedLawsPlaced.{ArePlaced, code_in}
-use Rattle.hep_purging.specs.declared.range.ClosedRange.{ClosedRange}
-use Rattle.hep_purging.specs.Placed.{AreEntriesPlaced}
-use Rattle.hep_purging.specs.Purged.{effect_of_purge, effect_of_ranges, have_cell, purged}
-use Rattle.hep_purging.specs.Ranges.{ranges_of}
-use Rattle.hep_purging.specs.Ready.{AreReached}
-use Rattle.hep_tops.specs.StepEffects.{Effect, fails, moves}
-use Rattle.hep_tops.specs.StepSimulation.{arrays_on_top, unit_arrays}
+use Rattle.hep_layout.specs.Words.{address}
+use Rattle.hep_layout.proofs.Memory.{address-same}
+use Rattle.hep_image.specs.declared.array.Array.{Array}
+use Rattle.hep_image.specs.Finding.{cells_in}
+use Rattle.hep_accepted_laws.specs.Instructions.{variables_in}
+use Rattle.hep_accepted_laws.specs.Placed.{ArePlaced, code_in}
+use Rattle.hep_step.specs.declared.range.ClosedRange.{ClosedRange}
+use Rattle.hep_step.specs.Placed.{AreEntriesPlaced}
+use Rattle.hep_step.specs.Purged.{effect_of_purge, effect_of_ranges, have_cell, purged}
+use Rattle.hep_step.specs.Ranges.{ranges_of}
+use Rattle.hep_step.specs.PurgeReady.{AreReached}
+use Rattle.hep_step.specs.Effects.{Effect, fails, moves}
+use Rattle.hep_step.specs.Simulation.{arrays_on_top, unit_arrays}
 use Rattle.hep_state.specs.declared.upcoming.PurgeAhead.{PurgeAhead}
 use Rattle.hep_state.specs.Words.{IsAtPurge, ranges_ahead, HasPurged, IsEffectOf, IsEnding, IsTurning, TurnOf, snapshot_moved, state_before, top_before, top_frame, HasGaps, HasMadeTurn}
 use Rattle.hep_state.proofs.Moved.{moved-shown, next-is, unit-is}

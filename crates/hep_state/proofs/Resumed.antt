@@ -6,18 +6,18 @@ use Rattle.hep_machine.specs.Words.{Layout, Process, State, Top, Units, Value, a
 use Rattle.hep_machine.specs.State.{Level as SourceLevel}
 use Rattle.hep_machine.proofs.Changes.{on-stack_after_return}
 use Rattle.hep_code.proofs.Moves.{after_statement_keeps}
-use Rattle.hep_tops.specs.LayoutWords.{AreNeededBut, IsFrameTree, also, but, descriptor_slots, is_stacked}
-use Rattle.hep_tops.proofs.LayoutBeginning.{needed-same, tree-same}
-use Rattle.hep_tops.proofs.LayoutDescriptors.{described-same}
-use Rattle.hep_tops.proofs.LayoutFrameTree.{on-stacked}
-use Rattle.hep_tops.proofs.LayoutMemory.{memory-same}
-use Rattle.hep_tops.proofs.LayoutStackChanges.{stacks-created, stacks-ended}
-use Rattle.hep_tops.proofs.LayoutStacks.{once}
-use Rattle.hep_tops.specs.ProcKeeping.{Keeps, frames_in}
-use Rattle.hep_tops.specs.StepResuming.{IsResumeAhead}
-use Rattle.hep_tops.specs.StepSimulation.{unit_addressed}
-use Rattle.hep_tops.specs.ProcProcessLocal.{Local}
-use Rattle.hep_tops.specs.ProcStacks.{Stack}
+use Rattle.hep_layout.specs.Words.{AreNeededBut, IsFrameTree, also, but, descriptor_slots, is_stacked}
+use Rattle.hep_layout.proofs.Beginning.{needed-same, tree-same}
+use Rattle.hep_layout.proofs.Descriptors.{described-same}
+use Rattle.hep_layout.proofs.FrameTree.{on-stacked}
+use Rattle.hep_layout.proofs.Memory.{memory-same}
+use Rattle.hep_layout.proofs.StackChanges.{stacks-created, stacks-ended}
+use Rattle.hep_layout.proofs.Stacks.{once}
+use Rattle.hep_proc.specs.Keeping.{Keeps, frames_in}
+use Rattle.hep_step.specs.Resuming.{IsResumeAhead}
+use Rattle.hep_step.specs.Simulation.{unit_addressed}
+use Rattle.hep_proc.specs.declared.process.Local.{Local}
+use Rattle.hep_proc.specs.Stacks.{Stack}
 use Rattle.hep_state.specs.Words.{HasGaps, HasMadeTurn, IsTurning, TurnOf, running_top, snapshot_resumed, state_before, top_before}
 use Rattle.hep_code.specs.Words.{Stands}
 use Rattle.hep_state.proofs.Leaving.{AreOf, alone-of, caller-of, kept-same, no-more-parted}

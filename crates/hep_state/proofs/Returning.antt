@@ -9,11 +9,11 @@ use Rattle.hep_code.specs.declared.instruction.Instruction.{Instruction}
 use Rattle.hep_code.specs.declared.instruction.Instruction.TheVariants.{Step}
 use Rattle.hep_code.specs.declared.instruction.Operation.{Operation}
 use Rattle.hep_code.specs.declared.instruction.Operation.TheVariants.{Answer}
-use Rattle.hep_tops.specs.ImageFinding.{address_of, cells_in}
-use Rattle.hep_tops.specs.StepChanges.{changed_ahead}
-use Rattle.hep_tops.specs.StepEffects.{Effect, answers, effect_ahead, effect_of_answer, fails, value_found}
-use Rattle.hep_tops.specs.StepPerformed.{Snapshot as Standing, changed_in, performed, snapshot}
-use Rattle.hep_tops.specs.StepSimulation.{unit_arrays, unit_code}
+use Rattle.hep_image.specs.Finding.{address_of, cells_in}
+use Rattle.hep_step.specs.Changes.{changed_ahead}
+use Rattle.hep_step.specs.Effects.{Effect, answers, effect_ahead, effect_of_answer, fails, value_found}
+use Rattle.hep_step.specs.Performed.{Snapshot as Standing, changed_in, performed, snapshot}
+use Rattle.hep_step.specs.Simulation.{unit_arrays, unit_code}
 use Rattle.hep_state.specs.declared.upcoming.AnswerAhead.{AnswerAhead}
 use Rattle.hep_state.specs.Words.{Changes, IsAfter, IsAtAnswer, IsAtOther, IsEffectOf, IsEnding, IsToEnd, IsTopRunning, IsTurning, Snapshot, TurnOf, frame_under, turn_with}
 use Rattle.hep_state.proofs.Changes.{changes-only}

@@ -4,13 +4,13 @@ use Rattle.std.proofs.lemmas.Bool.{cases_lt}
 use Rattle.std.proofs.lemmas.Option.{slice_get_past}
 use Rattle.std.specs.Option.{unwrap_or}
 use Rattle.hep_machine.specs.Words.{Units, dummies_of, unit_at}
-use Rattle.hep_tops.specs.ImageDummies.{dummy_arguments}
+use Rattle.hep_image.specs.Dummies.{dummy_arguments}
 use Rattle.hep_binding.specs.Fitting.{longest_code}
-use Rattle.hep_tops.specs.StepSimulation.{unit_code}
-use Rattle.hep_purging.specs.Room.{most_of, most_targets}
-use Rattle.hep_purging.proofs.Most.{targets-within, within-most}
+use Rattle.hep_step.specs.Simulation.{unit_code}
+use Rattle.hep_step.specs.Room.{most_of, most_targets}
+use Rattle.hep_step.proofs.Most.{targets-within, within-most}
 use Rattle.hep_state.specs.Words.{HasRoomToPass, IsRoomToPass}
-use Rattle.hep_state.specs.declared.machine.Passing.{Passing}
+use Rattle.hep_state.specs.declared.core_state.Passing.{Passing}
 
 -- a unit that isn't there has no dummy arguments
 dummies-within : (program : Units) (u : ℕ) → length (dummies_of (unit_at program u)) ≤ most_of (λ u. length (dummies_of (unit_at program u))) (length program)

@@ -7,16 +7,16 @@ use Rattle.std.proofs.lemmas.Bool.Decides.{nat_tests}
 use Rattle.hep_machine.specs.Words.{Units, IsSameOrOneMore, Frame, Layout, Placing, common_cells, frame_of, is_held, layout_after_step, layout_after_turn, layout_of, layout_with_activation, lowest_gap, opening_layout, placing_from, placing_turn, remaining_layout, with_frame, opening, run, run_from, state_after_turn, State, Process, step, numbered, with_numbered}
 use Rattle.hep_machine.proofs.Others.{activations_after, other_numbered, processes_after}
 use Rattle.hep_arena.specs.Gaps.{frame_among}
-use Rattle.hep_tops.specs.LayoutWords.{frame_from, IsAtRest, is_stacked, FrameNode, Nodes}
-use Rattle.hep_tops.proofs.LayoutHeldFrames.{run-last}
-use Rattle.hep_tops.specs.ProcKeeping.{frames_of, Keeps, frames_in}
-use Rattle.hep_tops.specs.ProcStacks.{Stack}
+use Rattle.hep_layout.specs.Words.{frame_from, IsAtRest, is_stacked, FrameNode, Nodes}
+use Rattle.hep_layout.proofs.HeldFrames.{run-last}
+use Rattle.hep_proc.specs.Keeping.{frames_of, Keeps, frames_in}
+use Rattle.hep_proc.specs.Stacks.{Stack}
 use Rattle.std.proofs.lemmas.Option.{same_Some, none-some, slice_get_within}
 use Rattle.hep_arena.specs.Space.{Space}
-use Rattle.hep_tops.specs.ImageBound.{AreKept}
-use Rattle.hep_tops.proofs.LayoutFrameTree.{rest-held}
+use Rattle.hep_image.specs.Bound.{AreKept}
+use Rattle.hep_layout.proofs.FrameTree.{rest-held}
 use Rattle.hep_state.specs.Words.{HasMadeTurn, HoldsInTurn, IsStack, IsTurning, Shows, Snapshot, TurnOf, state_before}
-use Rattle.hep_tops.proofs.LayoutStacks.{top-numbered}
+use Rattle.hep_layout.proofs.Stacks.{top-numbered}
 use Rattle.hep_state.proofs.Standing.{AreOn, are-on, AreMade, AreStanding, stack-again, stack-standing, standing-still}
 use Rattle.hep_binding.proofs.Calls.{set-numbered}
 

@@ -9,7 +9,7 @@ use Rattle.std.proofs.lemmas.Bool.Decides.{nat_tests}
 use Rattle.std.proofs.lemmas.Cmp.{ranked}
 use Rattle.std.proofs.lemmas.Option.{get_or_from_slice_get, slice_get-get_or, slice_get-map, slice_get_within}
 use Rattle.hep_machine.specs.Words.{is_number_among}
-use Rattle.hep_tops.specs.ProcProcessProcess.{Process}
+use Rattle.hep_proc.specs.declared.process.Process.{Process}
 use Rattle.hep_blocked.specs.Numbers.{AreRising}
 use Rattle.hep_state.specs.Words.{IsPlaceOf, numbers_of}
 

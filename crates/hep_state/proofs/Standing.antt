@@ -7,19 +7,19 @@ use Rattle.hep_machine.specs.State.{Level as SourceLevel}
 use Rattle.hep_arena.specs.Gaps.{frame_among}
 use Rattle.hep_code.specs.Words.{AreBelow, AreLevels, Awaits, IsOf, HoldsLoops, Stands}
 use Rattle.hep_code.proofs.Moves.{StandsAt, after_statement_keeps, after_statement_stands}
-use Rattle.hep_tops.specs.LayoutWords.{Describes, level_of, descriptor_slots, AreFramed, is_stacked, FrameNode, Nodes, times}
-use Rattle.hep_tops.proofs.LayoutMemory.{activation-kept}
-use Rattle.hep_tops.proofs.ImageCounted.{counted}
-use Rattle.hep_tops.specs.ImagePlaces.{addresses_of}
-use Rattle.hep_tops.specs.StepSimulation.{counts_in, unit_addressed}
-use Rattle.hep_tops.specs.ProcProcessLocal.{Local}
-use Rattle.hep_tops.specs.ProcStacks.{operands_answered, pending_answered, Stack}
+use Rattle.hep_layout.specs.Words.{Describes, level_of, descriptor_slots, AreFramed, is_stacked, FrameNode, Nodes, times}
+use Rattle.hep_layout.proofs.Memory.{activation-kept}
+use Rattle.hep_image.proofs.Counted.{counted}
+use Rattle.hep_image.specs.Places.{addresses_of}
+use Rattle.hep_step.specs.Simulation.{counts_in, unit_addressed}
+use Rattle.hep_proc.specs.declared.process.Local.{Local}
+use Rattle.hep_proc.specs.Stacks.{operands_answered, pending_answered, Stack}
 use Rattle.hep_state.specs.Words.{AreThere, IsStack, IsThere, code_level, code_levels, kept_below, kept_by, levels_below, node_under}
 use Rattle.std.proofs.lemmas.Bool.{cases_Bool, eq-eqb}
 use Rattle.std.proofs.lemmas.List.{drop_all}
 use Rattle.std.proofs.Math.Seq.{drop-append_seam, take-append_seam}
-use Rattle.hep_tops.proofs.LayoutStacks.{once}
-use Rattle.hep_tops.proofs.LayoutFrameTree.{on-stacked}
+use Rattle.hep_layout.proofs.Stacks.{once}
+use Rattle.hep_layout.proofs.FrameTree.{on-stacked}
 use Rattle.hep_binding.proofs.Found.{IsAmong, all_levels, among-numbered, found, times-all}
 
 -- ---- on stacks, where each is found by its activation

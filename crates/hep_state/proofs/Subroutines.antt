@@ -6,10 +6,10 @@ use Rattle.hep_machine.specs.Words.{purging, printing, jumping, continuing, leav
 use Rattle.hep_source.specs.Units.{subroutine_by_header}
 use Rattle.hep_source.specs.declared.statement.Form.TheVariants as form
 use Rattle.hep_conditions.specs.Words.{IsAccepted, argument_violations, common_violations, count_violations, data_violations, function_types, jump_violations, label_violations, name_violations, resume_violations, structure_violations, type_missing_violations, type_violations, unknown_name_violations, violations_in, is_resume}
-use Rattle.hep_binding.proofs.AcceptedLawsParts.{none-append, none-each, none-when}
-use Rattle.hep_binding.specs.AcceptedLawsFilled.{IsFilledForm}
-use Rattle.hep_binding.specs.AcceptedLawsWorks.{ComesFrom}
-use Rattle.hep_tops.proofs.ImageNumbers.{unit-there}
+use Rattle.hep_accepted_laws.proofs.Parts.{none-append, none-each, none-when}
+use Rattle.hep_accepted_laws.specs.Filled.{IsFilledForm}
+use Rattle.hep_accepted_laws.specs.Works.{ComesFrom}
+use Rattle.hep_image.proofs.Numbers.{unit-there}
 
 -- ---- what comes next is RESUME of RESUME alone
 

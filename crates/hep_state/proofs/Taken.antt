@@ -6,22 +6,22 @@ use Rattle.hep_machine.specs.Words.{unit_at, unset_cell, Layout, is_held, layout
 use Rattle.hep_machine.specs.declared.slot.Slot.{Slot}
 use Rattle.hep_code.specs.Words.{IsPastPushes, values_ahead, deepest}
 use Rattle.hep_code.proofs.Depths.{room_for}
-use Rattle.hep_tops.specs.ImageArrays.{ArePlacedArrays}
-use Rattle.hep_tops.specs.LayoutWords.{address}
-use Rattle.hep_tops.proofs.LayoutHeldFrames.{run-last}
-use Rattle.hep_tops.specs.ImageFinding.{cells_in}
-use Rattle.hep_tops.specs.ImageImage.{most_cells}
+use Rattle.hep_image.specs.Arrays.{ArePlacedArrays}
+use Rattle.hep_layout.specs.Words.{address}
+use Rattle.hep_layout.proofs.HeldFrames.{run-last}
+use Rattle.hep_image.specs.Finding.{cells_in}
+use Rattle.hep_image.specs.Image.{most_cells}
 use Rattle.hep_cells.specs.declared.want.Want.{Want}
-use Rattle.hep_tops.specs.StepEffectEffect.{Effect}
-use Rattle.hep_tops.specs.StepEffects as effects
-use Rattle.hep_tops.specs.StepEffects.{answers, effect_at, fails, moves, prints, returns, stops, left_out, waits}
-use Rattle.hep_tops.specs.StepPerformed as performed
-use Rattle.hep_tops.specs.StepPerformed.{performed as done, snapshot}
-use Rattle.hep_tops.specs.StepReady.{IsReady, frame_in_arena}
-use Rattle.hep_tops.specs.StepSimulation.{IsNotLeftOut, unit_addressed, unit_arrays, unit_code}
-use Rattle.hep_tops.proofs.StepOperations.{operation_simulated}
-use Rattle.hep_tops.proofs.StepReady.{is_ready}
-use Rattle.hep_tops.specs.ProcStacks.{stack_with}
+use Rattle.hep_step.specs.declared.effect.Effect.{Effect}
+use Rattle.hep_step.specs.Effects as effects
+use Rattle.hep_step.specs.Effects.{answers, effect_at, fails, moves, prints, returns, stops, left_out, waits}
+use Rattle.hep_step.specs.Performed as performed
+use Rattle.hep_step.specs.Performed.{performed as done, snapshot}
+use Rattle.hep_step.specs.Ready.{IsReady, frame_in_arena}
+use Rattle.hep_step.specs.Simulation.{IsNotLeftOut, unit_addressed, unit_arrays, unit_code}
+use Rattle.hep_step.proofs.Operations.{operation_simulated}
+use Rattle.hep_step.proofs.Ready.{is_ready}
+use Rattle.hep_proc.specs.Stacks.{stack_with}
 use Rattle.hep_state.specs.Words.{Snapshot, IsEnding, IsLeft, IsToEnd, IsEffectOf, IsTopRunning, IsTurning, TurnOf, snapshot_moved, snapshot_stopped, state_before, top_before, top_frame, HasMadeTurn, HasWaited, running_top}
 use Rattle.hep_state.proofs.Unchanged.{carry}
 use Rattle.hep_state.proofs.Moved.{next-is, moved-shown, printed-shown, standing-before, stopped-shown, unit-is, waited-shown}

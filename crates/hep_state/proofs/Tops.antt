@@ -11,29 +11,29 @@ use Rattle.hep_code.specs.declared.instruction.Operation.{Operation}
 use Rattle.hep_code.specs.declared.instruction.Operation.TheVariants.{Evaluate, Store, EnterLoop, EndLoop, Answer}
 use Rattle.hep_code.specs.declared.variable.Variable.TheVariants.{Absent}
 use Rattle.hep_code.specs.Words.{IsAddressed, HoldsLoops, Stands}
-use Rattle.hep_tops.specs.LayoutWords.{address, Describes, level_of, descriptor_slots, times, is_stacked}
-use Rattle.hep_tops.proofs.LayoutStacks.{level-found, levels-stay, once, times_on-numbered}
-use Rattle.hep_tops.proofs.LayoutFrameTree.{on-stacked}
-use Rattle.hep_tops.specs.ImageBound.{AreClosed, IsBound}
-use Rattle.hep_tops.specs.ImageConstant.{HasConstantShape}
-use Rattle.hep_tops.proofs.ImageCounted.{counted, loop-at}
-use Rattle.hep_tops.proofs.ImageNamed.{array-listed}
-use Rattle.hep_tops.proofs.ImageVariables.{any-addressed}
-use Rattle.hep_tops.proofs.ImageWithin.{few-dimensions}
-use Rattle.hep_tops.specs.ImageArrays.{ArePlacedArrays}
-use Rattle.hep_tops.specs.ImagePlaces.{arrays_of, start_of, variable_of}
-use Rattle.hep_tops.specs.ImageArrayStart.{Start}
-use Rattle.hep_tops.proofs.ImageNumbers.{unit-there}
-use Rattle.hep_binding.specs.AcceptedLawsInstructions.{variables_in_operation}
-use Rattle.hep_binding.specs.AcceptedLawsPlaced.{ArePlaced, code_in}
-use Rattle.hep_tops.specs.StepSimulation.{counts_in, found_in, unit_addressed, unit_code, variable_in}
-use Rattle.hep_tops.specs.ProcProcessLocal.{Local}
-use Rattle.hep_tops.specs.ProcStacks.{Stack, stack_with}
-use Rattle.hep_tops.proofs.ProcLevels.{has-levels}
+use Rattle.hep_layout.specs.Words.{address, Describes, level_of, descriptor_slots, times, is_stacked}
+use Rattle.hep_layout.proofs.Stacks.{level-found, levels-stay, once, times_on-numbered}
+use Rattle.hep_layout.proofs.FrameTree.{on-stacked}
+use Rattle.hep_image.specs.Bound.{AreClosed, IsBound}
+use Rattle.hep_image.specs.Constant.{HasConstantShape}
+use Rattle.hep_image.proofs.Counted.{counted, loop-at}
+use Rattle.hep_image.proofs.Named.{array-listed}
+use Rattle.hep_image.proofs.Variables.{any-addressed}
+use Rattle.hep_image.proofs.Within.{few-dimensions}
+use Rattle.hep_image.specs.Arrays.{ArePlacedArrays}
+use Rattle.hep_image.specs.Places.{arrays_of, start_of, variable_of}
+use Rattle.hep_image.specs.declared.array.Start.{Start}
+use Rattle.hep_image.proofs.Numbers.{unit-there}
+use Rattle.hep_accepted_laws.specs.Instructions.{variables_in_operation}
+use Rattle.hep_accepted_laws.specs.Placed.{ArePlaced, code_in}
+use Rattle.hep_step.specs.Simulation.{counts_in, found_in, unit_addressed, unit_code, variable_in}
+use Rattle.hep_proc.specs.declared.process.Local.{Local}
+use Rattle.hep_proc.specs.Stacks.{Stack, stack_with}
+use Rattle.hep_proc.proofs.Levels.{has-levels}
 use Rattle.hep_state.specs.Words.{HasLevels, Snapshot, IsTopRunning, IsTurning, TurnOf, state_before, top_before, top_frame, turn_settled, turn_with, Shows, IsAbsent, IsAfter}
 use Rattle.hep_state.proofs.Moved.{top-activation, top-node, standing-before, unit-is}
 use Rattle.hep_binding.proofs.Found.{all_levels, among-numbered, found, times-all}
-use Rattle.hep_tops.proofs.ImageDistinct.{index_of}
+use Rattle.hep_image.proofs.Distinct.{index_of}
 use Rattle.hep_binding.proofs.Calls.{set-numbered}
 use Rattle.hep_state.proofs.Standing.{are-on, AreStanding, made-same, stack-again, stack-standing, top-stands}
 use Rattle.hep_state.proofs.Runs.{set-same, standing-changed, there}

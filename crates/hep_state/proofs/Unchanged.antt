@@ -9,11 +9,11 @@ use Rattle.hep_machine.specs.Words.{Units, Value, numbered, schedule_of}
 use Rattle.hep_arena.specs.Space.{Space}
 use Rattle.hep_binding.proofs.Calls.{set-numbered}
 use Rattle.hep_blocked.specs.Numbers.{AreRising}
-pub use Rattle.hep_tops.proofs.Carried.{carry}
-use Rattle.hep_state.specs.declared.machine.Machine.{Machine}
-use Rattle.hep_tops.specs.ProcProcessLocal.{Local}
-use Rattle.hep_tops.specs.ProcProcessProcess.{Process}
-use Rattle.hep_tops.specs.ProcStacks.{Stack, is_left, stack_with}
+pub use Rattle.hep_state.proofs.Carried.{carry}
+use Rattle.hep_state.specs.declared.core_state.CoreState.{CoreState}
+use Rattle.hep_proc.specs.declared.process.Local.{Local}
+use Rattle.hep_proc.specs.declared.process.Process.{Process}
+use Rattle.hep_proc.specs.Stacks.{Stack, is_left, stack_with}
 use Rattle.hep_state.specs.declared.turn.Turned.TheVariants.{Stepped}
 use Rattle.hep_state.specs.declared.turn.TurnFault.{TurnFault}
 use Rattle.hep_state.specs.declared.turn.TurnFault.TheVariants.{NoMemory}
@@ -34,14 +34,14 @@ on-err (Ok x) h given = absurd cc
 
 -- ---- machines
 
-pub rooms-of : (program : Units) (cells : ℕ) (choices : List ℕ) (m : Machine) → IsMachineAfter program cells choices m → HaveRoom program cells m
+pub rooms-of : (program : Units) (cells : ℕ) (choices : List ℕ) (m : CoreState) → IsMachineAfter program cells choices m → HaveRoom program cells m
 rooms-of program cells choices m h = record { few = h.few; to_pass = h.to_pass; room = h.room; numbers = h.numbers }
 
-pub machine-of : (program : Units) (cells : ℕ) (choices : List ℕ) (m : Machine) → IsAfter program cells choices (snapshot_of m) → HaveRoom program cells m → IsMachineAfter program cells choices m
+pub machine-of : (program : Units) (cells : ℕ) (choices : List ℕ) (m : CoreState) → IsAfter program cells choices (snapshot_of m) → HaveRoom program cells m → IsMachineAfter program cells choices m
 machine-of program cells choices m after rooms = record { after = after; few = rooms.few; to_pass = rooms.to_pass; room = rooms.room; numbers = rooms.numbers }
 
 -- in which one process has another stack, and the same number
-pub rooms-set : (program : Units) (cells : ℕ) (old new : Machine) {p at : ℕ} {k : Stack} {q : Process} (r : Process) → IsAt old.processes.items p at k q → r.number ≡ q.number
+pub rooms-set : (program : Units) (cells : ℕ) (old new : CoreState) {p at : ℕ} {k : Stack} {q : Process} (r : Process) → IsAt old.processes.items p at k q → r.number ≡ q.number
     → new.processes.items ≡ slice_set old.processes.items at r → new.made ≡ old.made → new.passing ≡ old.passing → HasRoom program r → HaveRoom program cells old → HaveRoom program cells new
 rooms-set program cells old new {p} {at} r it same set made passing room h =
     record {
@@ -52,7 +52,7 @@ rooms-set program cells old new {p} {at} r it same set made passing room h =
     }
 
 -- in which there is one process more, with the next number
-pub rooms-more : (program : Units) (cells : ℕ) (old new : Machine) (rs : List Process) (r : Process) → new.processes.items ≡ rs ++ r ∷ [] → new.made ≡ old.made + 1 → r.number ≡ old.made + 1 → new.passing ≡ old.passing
+pub rooms-more : (program : Units) (cells : ℕ) (old new : CoreState) (rs : List Process) (r : Process) → new.processes.items ≡ rs ++ r ∷ [] → new.made ≡ old.made + 1 → r.number ≡ old.made + 1 → new.passing ≡ old.passing
     → AreRising 1 old.made (numbers_of rs) → ((i : ℕ) (q : Process) → slice_get rs i ≡ Some q → HasRoom program q) → HasRoom program r → HaveRoom program cells old → HaveRoom program cells new
 rooms-more program cells old new rs r more made next passing numbers others own h =
     record {
@@ -64,15 +64,15 @@ rooms-more program cells old new rs r more made next passing numbers others own 
     }
 
 -- in which at most those went of which nothing is left
-abbrev pub AreLeft : Machine → Machine → Type 0
+abbrev pub AreLeft : CoreState → CoreState → Type 0
 AreLeft old new = (new.processes.items ≡ old.processes.items) ⊎ (new.processes.items ≡ filter is_left old.processes.items)
 
-pub shows-left : (old new : Machine) → AreNumbered old → AreLeft old new → new ≡ record old { processes = new.processes } → ShowsSame old new
+pub shows-left : (old new : CoreState) → AreNumbered old → AreLeft old new → new ≡ record old { processes = new.processes } → ShowsSame old new
 shows-left old new numbers left others =
     record {
       shown = ap snapshot_of others ∙ (λ i. record (snapshot_of old) { processes = stacks left i });
-      made = ap (λ (m : Machine). m.made) others;
-      passing = ap (λ (m : Machine). m.passing) others;
+      made = ap (λ (m : CoreState). m.made) others;
+      passing = ap (λ (m : CoreState). m.passing) others;
       rooms = λ program cells h. subst (HaveRoom program cells) (sym others) (
           record { few = h.few; to_pass = h.to_pass; room = room program h left; numbers = rise h.numbers left });
     }
@@ -90,15 +90,15 @@ shows-left old new numbers left others =
     room program h (inr fewer) i q e = let was = got-left old.processes.items i q (ap (λ qs. slice_get qs i) (sym fewer) ∙ e) in h.room was.0 q was.1
 
 -- in which room was made
-pub machine-reserved : (program : Units) (cells : ℕ) (choices : List ℕ) (old new : Machine) → snapshot_of new ≡ snapshot_of old → (HaveRoom program cells old → HaveRoom program cells new) → IsMachineAfter program cells choices old → IsMachineAfter program cells choices new
+pub machine-reserved : (program : Units) (cells : ℕ) (choices : List ℕ) (old new : CoreState) → snapshot_of new ≡ snapshot_of old → (HaveRoom program cells old → HaveRoom program cells new) → IsMachineAfter program cells choices old → IsMachineAfter program cells choices new
 machine-reserved program cells choices old new shown rooms h = machine-of program cells choices new (subst (IsAfter program cells choices) (sym shown) h.after) (rooms (rooms-of program cells choices old h))
 
 -- in which an activation has begun
-pub rooms-begun : (program : Units) (cells : ℕ) (old new : Machine) → new ≡ record old { frames = new.frames; activations = old.activations + 1 } → HaveRoom program cells old → HaveRoom program cells new
+pub rooms-begun : (program : Units) (cells : ℕ) (old new : CoreState) → new ≡ record old { frames = new.frames; activations = old.activations + 1 } → HaveRoom program cells old → HaveRoom program cells new
 rooms-begun program cells old new others h = subst (HaveRoom program cells) (sym others) (record { few = h.few; to_pass = h.to_pass; room = h.room; numbers = h.numbers })
 
 -- another one that shows the same, with the same processes and the same room to pass
-pub machine-same : (program : Units) (cells : ℕ) (choices : List ℕ) (old new : Machine) → snapshot_of new ≡ snapshot_of old → new.processes ≡ old.processes → new.made ≡ old.made → new.passing ≡ old.passing → IsMachineAfter program cells choices old → IsMachineAfter program cells choices new
+pub machine-same : (program : Units) (cells : ℕ) (choices : List ℕ) (old new : CoreState) → snapshot_of new ≡ snapshot_of old → new.processes ≡ old.processes → new.made ≡ old.made → new.passing ≡ old.passing → IsMachineAfter program cells choices old → IsMachineAfter program cells choices new
 machine-same program cells choices old new shown processes made passing h =
     record {
       after = subst (IsAfter program cells choices) (sym shown) h.after;
@@ -109,16 +109,16 @@ machine-same program cells choices old new shown processes made passing h =
     }
 
 -- records and faults stay, with other room
-pub shown-written : (old new : Machine) → new ≡ record old { records = new.records; faults = new.faults } → new.records.items ≡ old.records.items → new.faults.items ≡ old.faults.items → snapshot_of new ≡ snapshot_of old
+pub shown-written : (old new : CoreState) → new ≡ record old { records = new.records; faults = new.faults } → new.records.items ≡ old.records.items → new.faults.items ≡ old.faults.items → snapshot_of new ≡ snapshot_of old
 shown-written old new others records faults = ap snapshot_of others ∙ (λ i. record (snapshot_of old) { records = records i; faults = faults i })
 
-pub machine-written : (program : Units) (cells : ℕ) (choices : List ℕ) (old new : Machine) → new ≡ record old { records = new.records; faults = new.faults } → new.records.items ≡ old.records.items → new.faults.items ≡ old.faults.items
+pub machine-written : (program : Units) (cells : ℕ) (choices : List ℕ) (old new : CoreState) → new ≡ record old { records = new.records; faults = new.faults } → new.records.items ≡ old.records.items → new.faults.items ≡ old.faults.items
     → IsMachineAfter program cells choices old → IsMachineAfter program cells choices new
 machine-written program cells choices old new others records faults =
-    machine-same program cells choices old new (shown-written old new others records faults) (ap (λ (m : Machine). m.processes) others) (ap (λ (m : Machine). m.made) others) (ap (λ (m : Machine). m.passing) others)
+    machine-same program cells choices old new (shown-written old new others records faults) (ap (λ (m : CoreState). m.processes) others) (ap (λ (m : CoreState). m.made) others) (ap (λ (m : CoreState). m.passing) others)
 
 -- with the room that there was
-pub rooms-written : (program : Units) (cells : ℕ) (old new : Machine) → new ≡ record old { records = new.records; faults = new.faults } → HaveRoom program cells old → HaveRoom program cells new
+pub rooms-written : (program : Units) (cells : ℕ) (old new : CoreState) → new ≡ record old { records = new.records; faults = new.faults } → HaveRoom program cells old → HaveRoom program cells new
 rooms-written program cells old new others h = subst (HaveRoom program cells) (sym others) (record { few = h.few; to_pass = h.to_pass; room = h.room; numbers = h.numbers })
 
 -- ---- machines that are seen as others
@@ -207,15 +207,15 @@ module _ (p : ℕ) where
       )
 
 -- as many processes
-pub as-many : (old new : Machine) → IsSeenSame (snapshot_of old) (snapshot_of new) → new.made ≡ old.made
+pub as-many : (old new : CoreState) → IsSeenSame (snapshot_of old) (snapshot_of new) → new.made ≡ old.made
 as-many old new h = sym (length-stacks new.processes.items 1 new.made) ∙ (h.processes ∙ length-stacks old.processes.items 1 old.made)
 
 -- as large an arena
-pub as-large : (old new : Machine) → IsSeenSame (snapshot_of old) (snapshot_of new) → cells_of new ≡ cells_of old
+pub as-large : (old new : CoreState) → IsSeenSame (snapshot_of old) (snapshot_of new) → cells_of new ≡ cells_of old
 as-large old new h = ap (λ (a : Space). length a.contents) h.arena
 
 -- one that shows the same, with the room that there was
-pub alone : (program : Units) (history : List Entry) (p : ℕ) (old new : Machine) → snapshot_of new ≡ snapshot_of old → (HaveRoom program (cells_of old) old → HaveRoom program (cells_of old) new) → IsAfterHistory program history old → LeavesAlone program history p old new
+pub alone : (program : Units) (history : List Entry) (p : ℕ) (old new : CoreState) → snapshot_of new ≡ snapshot_of old → (HaveRoom program (cells_of old) old → HaveRoom program (cells_of old) new) → IsAfterHistory program history old → LeavesAlone program history p old new
 alone program history p old new shown rooms h =
     let same = seen-shown (snapshot_of old) (snapshot_of new) shown in
     record {
@@ -226,7 +226,7 @@ alone program history p old new shown rooms h =
     }
 
 -- one that is left alone after it was seen the same, but for the top of a process
-pub alone-after : (program : Units) (history : List Entry) (p : ℕ) (old mid new : Machine) → IsSeenSame (snapshot_of old) (snapshot_of mid) → IsSameButTop program p (snapshot_of old) (snapshot_of mid)
+pub alone-after : (program : Units) (history : List Entry) (p : ℕ) (old mid new : CoreState) → IsSeenSame (snapshot_of old) (snapshot_of mid) → IsSameButTop program p (snapshot_of old) (snapshot_of mid)
     → LeavesAlone program history p mid new → LeavesAlone program history p old new
 alone-after program history p old mid new same top h =
     record {
@@ -237,10 +237,10 @@ alone-after program history p old mid new same top h =
     }
 
 -- by the size of its own arena
-pub own-size : (program : Units) (cells : ℕ) (choices : List ℕ) (m : Machine) → IsMachineAfter program cells choices m → IsMachineAfter program (cells_of m) choices m
+pub own-size : (program : Units) (cells : ℕ) (choices : List ℕ) (m : CoreState) → IsMachineAfter program cells choices m → IsMachineAfter program (cells_of m) choices m
 own-size program cells choices m h = subst (λ n. IsMachineAfter program n choices m) (sym h.after.size) h
 
 -- ---- a step that filled and emptied nothing
 
-pub turned-so : (program : Units) (cells : ℕ) (choices : List ℕ) (p : ℕ) (new : Machine) → Changes program cells choices p None → HasStepped program cells choices p (snapshot_of new) → HaveRoom program cells new → HasTurned program cells choices p (Stepped None) new
+pub turned-so : (program : Units) (cells : ℕ) (choices : List ℕ) (p : ℕ) (new : CoreState) → Changes program cells choices p None → HasStepped program cells choices p (snapshot_of new) → HaveRoom program cells new → HasTurned program cells choices p (Stepped None) new
 turned-so program cells choices p new unchanged stepped rooms = (stepped.stepped, machine-of program cells (choices ++ p ∷ []) new stepped.after rooms, unchanged)

@@ -3,18 +3,18 @@ use Rattle.std.specs.Prelude.{◌≡◌, ℕ, ◌+◌, ◌<◌, ◌≤◌, Bool,
 use Rattle.hep_machine.specs.Words.{Name, Units, function_name, unit_at, Binding, Actual, common_cells, frame_of, lowest_gap, with_numbered, State, step, Bounds, frame_cells}
 use Rattle.hep_arena.specs.Space.{Space}
 use Rattle.hep_code.specs.Words.{entry_index}
-use Rattle.hep_tops.specs.ImageBound.{AreKept}
-use Rattle.hep_tops.specs.LayoutWords.{Nodes, new_node, with_node}
-use Rattle.hep_tops.specs.StepGivenGiven.{Given}
-use Rattle.hep_tops.specs.StepShapes.{AreShapesOf}
-use Rattle.hep_tops.specs.StepWayWay.{Way}
-use Rattle.hep_tops.specs.StepWayWay.TheVariants.{Calls, Creates, Refers}
-use Rattle.hep_tops.specs.StepCalls.{GoesOn, is_creation}
-use Rattle.hep_tops.specs.StepSimulation.{unit_addressed}
+use Rattle.hep_image.specs.Bound.{AreKept}
+use Rattle.hep_layout.specs.Words.{Nodes, new_node, with_node}
+use Rattle.hep_step.specs.declared.given.Given.{Given}
+use Rattle.hep_step.specs.Shapes.{AreShapesOf}
+use Rattle.hep_step.specs.declared.way.Way.{Way}
+use Rattle.hep_step.specs.declared.way.Way.TheVariants.{Calls, Creates, Refers}
+use Rattle.hep_step.specs.Calls.{GoesOn, is_creation}
+use Rattle.hep_step.specs.Simulation.{unit_addressed}
 use Rattle.hep_state.specs.declared.calling.Called.{Called}
-use Rattle.hep_tops.specs.ProcProcessLocal.{Local}
-use Rattle.hep_tops.specs.ProcStacks.{Stack}
-use Rattle.hep_state.specs.declared.machine.Machine.{Machine}
+use Rattle.hep_proc.specs.declared.process.Local.{Local}
+use Rattle.hep_proc.specs.Stacks.{Stack}
+use Rattle.hep_state.specs.declared.core_state.CoreState.{CoreState}
 use Rattle.hep_state.specs.Snapshots.{Snapshot, snapshot_of}
 use Rattle.hep_state.specs.Tops.{HoldsInTurn, IsTurning, TurnOf, frames_before, state_before}
 use Rattle.hep_binding.specs.Calling.{ArePassed, CallOf, IsAllWritten, IsPassing, layout_with, state_made_by}
@@ -97,6 +97,6 @@ abbrev pub state_made : {way : Way} {t : TurnOf} {u kept index : ℕ} {given : L
 state_made {way} {t} {u} h = state_made_by (is_creation way) (call_in t u h.actuals h.binding)
 
 -- the step of process p does so in a machine where just this is given, and this is called
-pub record Makes (way : Way) (program : Units) (cells : ℕ) (choices : List ℕ) (p : ℕ) (m : Machine) (called : Called) (kept index : ℕ) : Type 0 where
+pub record Makes (way : Way) (program : Units) (cells : ℕ) (choices : List ℕ) (p : ℕ) (m : CoreState) (called : Called) (kept index : ℕ) : Type 0 where
   pub making : HoldsInTurn program cells choices p (snapshot_of m) (λ t. IsMaking way t called.unit kept index m.passing.given.items m.passing.shapes.items)
   pub unit : IsUnit program called.unit called.cells called.entry

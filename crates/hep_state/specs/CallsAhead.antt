@@ -7,14 +7,14 @@ use Rattle.hep_code.specs.declared.instruction.Instruction.TheVariants.{Step}
 use Rattle.hep_code.specs.declared.instruction.Operation.{Operation}
 use Rattle.hep_code.specs.declared.instruction.Operation.TheVariants.{Call, Create, Refer, Purge, Resume, Return, Answer}
 use Rattle.hep_code.specs.Words.{IsPastPushes, passed_from}
-use Rattle.hep_tops.specs.ImageFinding.{cells_in}
-use Rattle.hep_tops.specs.StepGivenGiven.{Given}
-use Rattle.hep_tops.specs.StepPassing.{given_by}
-use Rattle.hep_purging.specs.declared.range.ClosedRange.{ClosedRange}
-use Rattle.hep_purging.specs.Ranges.{ranges_of}
-use Rattle.hep_tops.specs.StepCalls.{IsBehindEntries, last_operands, making}
-use Rattle.hep_tops.specs.StepSimulation.{IsNotLeftOut, unit_arrays, unit_code}
-use Rattle.hep_state.specs.declared.machine.Machine.{Machine}
+use Rattle.hep_image.specs.Finding.{cells_in}
+use Rattle.hep_step.specs.declared.given.Given.{Given}
+use Rattle.hep_step.specs.Passing.{given_by}
+use Rattle.hep_step.specs.declared.range.ClosedRange.{ClosedRange}
+use Rattle.hep_step.specs.Ranges.{ranges_of}
+use Rattle.hep_step.specs.Calls.{IsBehindEntries, last_operands, making}
+use Rattle.hep_step.specs.Simulation.{IsNotLeftOut, unit_arrays, unit_code}
+use Rattle.hep_state.specs.declared.core_state.CoreState.{CoreState}
 use Rattle.hep_state.specs.declared.upcoming.StepAhead.{StepAhead}
 use Rattle.hep_state.specs.declared.upcoming.StepAhead.TheVariants as ahead
 use Rattle.hep_state.specs.declared.upcoming.AnswerAhead.{AnswerAhead}
@@ -101,7 +101,7 @@ abbrev pub IsAtAnswer : Units → ℕ → Snapshot → AnswerAhead → Type 0
 IsAtAnswer program p m answer = IsAtOther program p m answer.line (Answer answer.variable)
 
 -- what was found ahead of process p, of what a machine kept, once the values in front of it are operands
-abbrev pub IsAhead : Units → ℕ → Machine → Snapshot → StepAhead → Type 0
+abbrev pub IsAhead : Units → ℕ → CoreState → Snapshot → StepAhead → Type 0
 IsAhead program p old m (ahead.Call call) = (cells : ℕ) (choices : List ℕ) → IsMachineAfter program cells choices old → HasCallAhead program cells choices p m call
 IsAhead program p old m (ahead.Purge purge) = (cells : ℕ) (choices : List ℕ) → IsMachineAfter program cells choices old → HasPurgeAhead program cells choices p m purge
 IsAhead program p old m (ahead.Resume next) = (cells : ℕ) (choices : List ℕ) → IsMachineAfter program cells choices old → HasResumeAhead program cells choices p m next

@@ -3,8 +3,8 @@ use Rattle.std.specs.Prelude.{◌≡◌, ℕ, ◌<◌, List, length, Some}
 use Rattle.hep_machine.specs.Words.{Value}
 use Rattle.hep_arena.specs.Holes.{IsOut}
 use Rattle.hep_arena.specs.Space.{Space}
-use Rattle.hep_tops.specs.ImageDataDataRow.{DataRow}
-use Rattle.hep_tops.specs.ImageData.{value_in_rows}
+use Rattle.hep_image.specs.declared.data.DataRow.{DataRow}
+use Rattle.hep_image.specs.Data.{value_in_rows}
 
 -- each cell to which they give a value is one of the arena's, and out
 abbrev pub AreOut : List DataRow → Space → Type 0

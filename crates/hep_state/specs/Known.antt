@@ -4,11 +4,11 @@ use Rattle.hep_machine.specs.Words.{Name, Units, dummies_of, function_name, unit
 use Rattle.hep_machine.specs.State.{Level as SourceLevel}
 use Rattle.hep_code.specs.declared.instruction.Instruction.{Instruction}
 use Rattle.hep_code.specs.declared.instruction.Instruction.TheVariants.{Step}
-use Rattle.hep_tops.specs.ImageBound.{AreClosed, IsBound}
-use Rattle.hep_tops.specs.StepWayWay.{Way}
-use Rattle.hep_tops.specs.StepCalls.{IsBehindEntries, IsCallAhead, comes_by, making, unit_by}
-use Rattle.hep_tops.specs.StepSimulation.{IsRunning, RunningTop, code_ahead}
-use Rattle.hep_binding.specs.AcceptedLawsWorks.{ComesFrom}
+use Rattle.hep_image.specs.Bound.{AreClosed, IsBound}
+use Rattle.hep_step.specs.declared.way.Way.{Way}
+use Rattle.hep_step.specs.Calls.{IsBehindEntries, IsCallAhead, comes_by, making, unit_by}
+use Rattle.hep_step.specs.Simulation.{IsRunning, RunningTop, code_ahead}
+use Rattle.hep_accepted_laws.specs.Works.{ComesFrom}
 use Rattle.hep_state.specs.Calls.{HasResultBy}
 use Rattle.hep_state.specs.Tops.{IsTopRunning, IsTurning, TurnOf}
 

@@ -3,11 +3,11 @@ use Rattle.std.specs.Prelude.{◌≡◌, ◌<◌, ◌≤◌, ◌+◌, ◌^◌, �
 use Rattle.hep_machine.specs.Words.{Units, frame_cells, unit_at}
 use Rattle.hep_arena.specs.Holes.{first_fit}
 use Rattle.hep_code.specs.Words.{IsPastPushes}
-use Rattle.hep_tops.specs.StepCalls.{is_creation}
-use Rattle.hep_tops.specs.StepEffects.{Effect}
-use Rattle.hep_tops.specs.StepSimulation.{unit_code}
-use Rattle.hep_tops.specs.ProcProcessLocal.{Local}
-use Rattle.hep_state.specs.declared.machine.Machine.{Machine}
+use Rattle.hep_step.specs.Calls.{is_creation}
+use Rattle.hep_step.specs.Effects.{Effect}
+use Rattle.hep_step.specs.Simulation.{unit_code}
+use Rattle.hep_proc.specs.declared.process.Local.{Local}
+use Rattle.hep_state.specs.declared.core_state.CoreState.{CoreState}
 use Rattle.hep_state.specs.declared.turn.Turned.TheVariants.{Stepped}
 use Rattle.hep_state.specs.declared.upcoming.AnswerAhead.{AnswerAhead}
 use Rattle.hep_state.specs.declared.upcoming.CallAhead.{CallAhead}
@@ -22,50 +22,50 @@ use Rattle.hep_state.specs.Tops.{HasLevels, HoldsInTurn}
 -- ---- what it asks for
 
 -- it is the turn of process p, and no value stands in front of the operation ahead of it
-pub record IsSettledTurn (program : Units) (p : ℕ) (m : Machine) : Type 0 where
+pub record IsSettledTurn (program : Units) (p : ℕ) (m : CoreState) : Type 0 where
   pub turn : IsItsTurn program p m
   pub past : IsPastPushes (unit_code program turn.living.level.unit) turn.living.level.index
 
 -- and an activation more has a number
-pub record CanLiveOn (program : Units) (p : ℕ) (m : Machine) : Type 0 where
+pub record CanLiveOn (program : Units) (p : ℕ) (m : CoreState) : Type 0 where
   pub settled : IsSettledTurn program p m
   pub countable : m.activations + 1 < 2 ^ 64
 
 -- process p is at a CALL or reference
-pub record CanMakeCall (program : Units) (p : ℕ) (m : Machine) (call : CallAhead) : Type 0 where
+pub record CanMakeCall (program : Units) (p : ℕ) (m : CoreState) (call : CallAhead) : Type 0 where
   pub at : IsAtCallAhead program p m call
   pub above : is_creation call.way ≡ false
   pub countable : m.activations + 1 < 2 ^ 64
 
 -- this is given to its dummy arguments, so many operands are kept, and there is a gap for the frame of its activation
-pub record CanBeginCall (program : Units) (p : ℕ) (m : Machine) (call : CallAhead) (kept : ℕ) : Type 0 where
+pub record CanBeginCall (program : Units) (p : ℕ) (m : CoreState) (call : CallAhead) (kept : ℕ) : Type 0 where
   pub calling : CanMakeCall program p m call
   pub making : AfterTurns program m (λ cells choices. HoldsInTurn program cells choices p (snapshot_of m) (λ t. IsMaking call.way t call.unit kept call.next m.passing.given.items m.passing.shapes.items))
   pub gap : IsSome (first_fit (frame_cells (unit_at program call.unit)) m.frames.arena.holes)
 
 -- at RETURN or the END of a subroutine
-pub record CanReturn (program : Units) (p : ℕ) (m : Machine) : Type 0 where
+pub record CanReturn (program : Units) (p : ℕ) (m : CoreState) : Type 0 where
   pub turn : IsItsTurn program p m
   pub at : IsAtReturn program p (snapshot_of m)
 
 -- at the END of a function
-pub record CanAnswer (program : Units) (p : ℕ) (m : Machine) (answer : AnswerAhead) : Type 0 where
+pub record CanAnswer (program : Units) (p : ℕ) (m : CoreState) (answer : AnswerAhead) : Type 0 where
   pub turn : IsItsTurn program p m
   pub at : IsAtAnswer program p (snapshot_of m) answer
 
 -- the top activation of process p is to end with this effect
-abbrev pub IsToEndBy : Units → ℕ → Machine → Effect → Type 0
+abbrev pub IsToEndBy : Units → ℕ → CoreState → Effect → Type 0
 IsToEndBy program p m effect = AfterTurns program m (λ cells choices. IsToEnd program cells choices p (snapshot_of m) effect)
 
 -- ---- what comes of it
 
 -- a turn of process p was a step, which filled and emptied no storage unit
-abbrev pub StepsBy : Units → ℕ → Machine → Machine → Type 0
+abbrev pub StepsBy : Units → ℕ → CoreState → CoreState → Type 0
 StepsBy program p old new = AfterTurns program old (λ cells choices. HasTurned program cells choices p (Stepped None) new)
 
 -- process p, which has activations still, can go on, no process was made, and no more activations than so many; the other processes stand
 -- where they stood
-pub record LivesOn (p more : ℕ) (old new : Machine) : Type 0 where
+pub record LivesOn (p more : ℕ) (old new : CoreState) : Type 0 where
   pub living : HasLevels (snapshot_of new) p
   pub running : new.halted ≡ old.halted
   pub made : new.made ≡ old.made
@@ -73,21 +73,21 @@ pub record LivesOn (p more : ℕ) (old new : Machine) : Type 0 where
   pub others : LeavesOthers p (snapshot_of old) (snapshot_of new)
 
 -- this is so where an activation was below its top one
-abbrev pub LivesOnBelow : ℕ → Machine → Machine → Type 0
+abbrev pub LivesOnBelow : ℕ → CoreState → CoreState → Type 0
 LivesOnBelow p old new = (levels : HasLevels (snapshot_of old) p) (l : Local) (ls : List Local) → levels.below ≡ l ∷ ls → LivesOn p 0 old new
 
 -- and the process lives on
-pub record StepsOn (program : Units) (p : ℕ) (old new : Machine) : Type 0 where
+pub record StepsOn (program : Units) (p : ℕ) (old new : CoreState) : Type 0 where
   pub turned : StepsBy program p old new
   pub lives : LivesOn p 1 old new
 
 -- the same is shown, with the room that there was
-pub record StaysShown (program : Units) (old new : Machine) : Type 0 where
+pub record StaysShown (program : Units) (old new : CoreState) : Type 0 where
   pub shown : snapshot_of new ≡ snapshot_of old
   pub made : new.made ≡ old.made
   pub rooms : KeepsRoomOf program old new
 
 -- such a turn was made, or nothing has changed that is shown
-abbrev pub HasLivedOn : Units → ℕ → Machine → Bool → Machine → Type 0
+abbrev pub HasLivedOn : Units → ℕ → CoreState → Bool → CoreState → Type 0
 HasLivedOn program p old true new = StepsOn program p old new
 HasLivedOn program p old false new = StaysShown program old new

@@ -1,7 +1,7 @@
 -- The processes that are kept, by their numbers: docs/ARCHITECTURE.md, "Forms".
 use Rattle.std.specs.Prelude.{◌≡◌, ◌<◌, ℕ, zero, suc, List, [], ◌∷◌, length, map, Some, if◌then◌else◌, nat_eq, slice_get}
-use Rattle.hep_tops.specs.ProcProcessProcess.{Process}
-use Rattle.hep_tops.specs.ProcStacks.{Stack, no_stack, stack_of}
+use Rattle.hep_proc.specs.declared.process.Process.{Process}
+use Rattle.hep_proc.specs.Stacks.{Stack, no_stack, stack_of}
 
 abbrev pub numbers_of : List Process → List ℕ
 numbers_of qs = map (λ (q : Process). q.number) qs

@@ -3,15 +3,15 @@ use Rattle.std.specs.Prelude.{◌≡◌, ◌≤◌, ℕ, false, List, [], ◌∷
 use Rattle.std.specs.Option.{option_map}
 use Rattle.hep_machine.specs.Words.{Units, main_unit, unset_cell, Layout, opening_layout, cell_given, run, State}
 use Rattle.hep_arena.specs.Space.{Space}
-use Rattle.hep_tops.specs.LayoutWords.{FrameNode, Nodes}
+use Rattle.hep_layout.specs.Words.{FrameNode, Nodes}
 use Rattle.hep_code.specs.Words.{deepest}
-use Rattle.hep_tops.specs.ImageDataDataRow.{DataRow}
-use Rattle.hep_tops.specs.ImageData.{value_in_rows}
-use Rattle.hep_tops.specs.ImageImage.{most_cells}
-use Rattle.hep_tops.specs.StepSimulation.{unit_code}
-use Rattle.hep_tops.specs.ProcProcessProcess.{Process}
-use Rattle.hep_tops.specs.ProcKeeping.{Keeps, frames_in}
-use Rattle.hep_state.specs.declared.machine.Machine.{Machine}
+use Rattle.hep_image.specs.declared.data.DataRow.{DataRow}
+use Rattle.hep_image.specs.Data.{value_in_rows}
+use Rattle.hep_image.specs.Image.{most_cells}
+use Rattle.hep_step.specs.Simulation.{unit_code}
+use Rattle.hep_proc.specs.declared.process.Process.{Process}
+use Rattle.hep_proc.specs.Keeping.{Keeps, frames_in}
+use Rattle.hep_state.specs.declared.core_state.CoreState.{CoreState}
 use Rattle.hep_state.specs.Snapshots.{Snapshot}
 
 -- a machine of a program can be opened with an arena of so many cells: one at least, and no more than it may have, and COMMON and the
@@ -53,13 +53,13 @@ snapshot_opened program key entry arena nodes =
     }
 
 -- a machine keeps one process, with room for just as many operands as the main program has at once at most
-pub record HasOneProcess (program : Units) (m : Machine) : Type 0 where
+pub record HasOneProcess (program : Units) (m : CoreState) : Type 0 where
   pub process : Process
   pub alone : m.processes.items ≡ process ∷ []
   pub room : vec_capacity process.operands ≡ deepest (unit_code program (main_unit program))
 
 -- a machine has written nothing, and nothing has stopped it
-pub record IsQuiet (m : Machine) : Type 0 where
+pub record IsQuiet (m : CoreState) : Type 0 where
   pub running : m.halted ≡ false
   pub records : m.records.items ≡ []
   pub faults : m.faults.items ≡ []

@@ -2,14 +2,14 @@
 use Rattle.std.specs.Prelude.{◌≡◌, ◌≢◌, ℕ, true, false, not, List, [], ◌∷◌, ◌++◌, Option, Some, None}
 use Rattle.hep_machine.specs.Words.{Units, Layout, is_held, layout_of, run, Location, step}
 use Rattle.hep_cells.specs.declared.want.Want.{Want}
-use Rattle.hep_tops.specs.LayoutWords.{address}
+use Rattle.hep_layout.specs.Words.{address}
 use Rattle.hep_blocked.specs.Listing.{HasChanged}
-use Rattle.hep_purging.specs.declared.range.ClosedRange.{ClosedRange}
-use Rattle.hep_purging.specs.Purged.{have_cell}
-use Rattle.hep_purging.specs.Ready.{AreReached}
-use Rattle.hep_tops.specs.StepEffectEffect.{Effect}
-use Rattle.hep_tops.specs.StepEffectEffect.TheVariants as effect
-use Rattle.hep_state.specs.declared.machine.Machine.{Machine}
+use Rattle.hep_step.specs.declared.range.ClosedRange.{ClosedRange}
+use Rattle.hep_step.specs.Purged.{have_cell}
+use Rattle.hep_step.specs.PurgeReady.{AreReached}
+use Rattle.hep_step.specs.declared.effect.Effect.{Effect}
+use Rattle.hep_step.specs.declared.effect.Effect.TheVariants as effect
+use Rattle.hep_state.specs.declared.core_state.CoreState.{CoreState}
 use Rattle.hep_state.specs.declared.turn.Turned.{Turned}
 use Rattle.hep_state.specs.declared.turn.Turned.TheVariants.{Stepped, Purged, Waits}
 use Rattle.hep_state.specs.Rooms.{IsMachineAfter}
@@ -32,7 +32,7 @@ pub record HasPurged (program : Units) (cells : ℕ) (choices : List ℕ) (p : �
       → ((run program (choices ++ p ∷ [])).store at).full ≡ ((run program choices).store at).full
 
 -- after turns of these processes p made a step, which changed this cell alone, if one is told, or emptied the cells of a PURGE; or it waits
-abbrev pub HasTurned : Units → ℕ → List ℕ → ℕ → Turned → Machine → Type 0
+abbrev pub HasTurned : Units → ℕ → List ℕ → ℕ → Turned → CoreState → Type 0
 HasTurned program cells choices p (Stepped changed) new =
     (step program p (run program choices) ≢ None) × IsMachineAfter program cells (choices ++ p ∷ []) new
     × Changes program cells choices p changed

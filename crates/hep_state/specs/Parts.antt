@@ -6,29 +6,29 @@ use Rattle.hep_machine.specs.Words.{Layout, State, Units}
 use Rattle.hep_machine.specs.declared.event.Kind.{Kind}
 use Rattle.hep_arena.specs.Holes.{first_fit}
 use Rattle.hep_code.specs.Words.{deepest}
-use Rattle.hep_tops.specs.ProcFramesFrames.{Frames}
-use Rattle.hep_tops.specs.ProcKeeping.{CanLeave, HasLeft, IsEnded, Keeps, LeadUpwards, all_but, frames_in}
-use Rattle.hep_tops.specs.ProcNodes.{nodes_of}
-use Rattle.hep_tops.specs.ImageImage.{most_cells}
-use Rattle.hep_tops.specs.LayoutWords.{is_stacked}
+use Rattle.hep_proc.specs.declared.frames.Frames.{Frames}
+use Rattle.hep_proc.specs.Keeping.{CanLeave, HasLeft, IsEnded, Keeps, LeadUpwards, all_but, frames_in}
+use Rattle.hep_proc.specs.Nodes.{nodes_of}
+use Rattle.hep_image.specs.Image.{most_cells}
+use Rattle.hep_layout.specs.Words.{is_stacked}
 use Rattle.hep_machine.specs.Words.{living, run}
 use Rattle.std.specs.Option.{is_some}
-use Rattle.hep_purging.specs.declared.range.ClosedRange.{ClosedRange}
-use Rattle.hep_purging.specs.Purged.{purged}
-use Rattle.hep_purging.specs.Ready.{AreReached}
+use Rattle.hep_step.specs.declared.range.ClosedRange.{ClosedRange}
+use Rattle.hep_step.specs.Purged.{purged}
+use Rattle.hep_step.specs.PurgeReady.{AreReached}
 use Rattle.hep_cells.specs.declared.want.Want.{Want}
-use Rattle.hep_tops.specs.StepEffectEffect.{Effect as Performed}
-use Rattle.hep_tops.specs.StepWayWay.{Way}
-use Rattle.hep_tops.specs.StepWayWay.TheVariants.{Creates}
-use Rattle.hep_tops.specs.StepCalls.{is_creation}
-use Rattle.hep_tops.specs.StepEffects.{Effect, fails}
-use Rattle.hep_tops.specs.StepSimulation.{unit_code}
+use Rattle.hep_step.specs.declared.effect.Effect.{Effect as Performed}
+use Rattle.hep_step.specs.declared.way.Way.{Way}
+use Rattle.hep_step.specs.declared.way.Way.TheVariants.{Creates}
+use Rattle.hep_step.specs.Calls.{is_creation}
+use Rattle.hep_step.specs.Effects.{Effect, fails}
+use Rattle.hep_step.specs.Simulation.{unit_code}
 use Rattle.hep_state.specs.declared.calling.Called.{Called}
-use Rattle.hep_tops.specs.ProcProcessLocal.{Local}
-use Rattle.hep_state.specs.declared.machine.Machine.{Machine}
-use Rattle.hep_state.specs.declared.machine.Passing.{Passing}
-use Rattle.hep_tops.specs.ProcProcessProcess.{Process}
-use Rattle.hep_tops.specs.ProcStacks.{keys_of}
+use Rattle.hep_proc.specs.declared.process.Local.{Local}
+use Rattle.hep_state.specs.declared.core_state.CoreState.{CoreState}
+use Rattle.hep_state.specs.declared.core_state.Passing.{Passing}
+use Rattle.hep_proc.specs.declared.process.Process.{Process}
+use Rattle.hep_proc.specs.Stacks.{keys_of}
 use Rattle.hep_state.specs.declared.turn.Turned.TheVariants.{Purged}
 use Rattle.hep_state.specs.declared.upcoming.CallAhead.{CallAhead}
 use Rattle.hep_state.specs.declared.upcoming.PurgeAhead.{PurgeAhead}
@@ -44,29 +44,29 @@ use Rattle.hep_state.specs.Turns.{HasStepped, HasWaited, IsAfter}
 -- ---- states
 
 -- a machine keeps a state of the program, that after some turns
-abbrev pub IsReached : Units → Machine → Type 0
+abbrev pub IsReached : Units → CoreState → Type 0
 IsReached program m = (cells : ℕ) × (choices : List ℕ) × IsMachineAfter program cells choices m
 
 -- this is so of an arena's size and turns after which a machine keeps the state, whichever these are
-abbrev pub AfterTurns : Units → Machine → (ℕ → List ℕ → Type 0) → Type 0
+abbrev pub AfterTurns : Units → CoreState → (ℕ → List ℕ → Type 0) → Type 0
 AfterTurns program m IsSo = (cells : ℕ) (choices : List ℕ) → IsMachineAfter program cells choices m → IsSo cells choices
 
 -- a machine keeps a state of the program, and process p of it, which has activations, has its turn
-pub record IsItsTurn (program : Units) (p : ℕ) (m : Machine) : Type 0 where
+pub record IsItsTurn (program : Units) (p : ℕ) (m : CoreState) : Type 0 where
   pub after : IsReached program m
   pub running : m.halted ≡ false
   pub living : HasLevels (snapshot_of m) p
 
 -- a state that a machine keeps is kept still
-abbrev pub KeepsState : Units → Machine → Machine → Type 0
+abbrev pub KeepsState : Units → CoreState → CoreState → Type 0
 KeepsState program old new = AfterTurns program old (λ cells choices. IsMachineAfter program cells choices new)
 
 -- there is the room that there was for a program
-abbrev pub KeepsRoomOf : Units → Machine → Machine → Type 0
+abbrev pub KeepsRoomOf : Units → CoreState → CoreState → Type 0
 KeepsRoomOf program old new = (cells : ℕ) → HaveRoom program cells old → HaveRoom program cells new
 
 -- this is whether process p lives in the state that a machine keeps
-abbrev pub IsWhetherLives : Bool → ℕ → Machine → Type 0
+abbrev pub IsWhetherLives : Bool → ℕ → CoreState → Type 0
 IsWhetherLives lives p m =
     (program : Units) (cells : ℕ) (choices : List ℕ) → IsAfter program cells choices (snapshot_of m)
     → lives ≡ is_some (living (run program choices) p)
@@ -74,68 +74,68 @@ IsWhetherLives lives p m =
 -- ---- the end of activations
 
 -- the top activation of process p is to end with this effect
-abbrev pub IsEndingBy : Effect → ℕ → Machine → Type 0
+abbrev pub IsEndingBy : Effect → ℕ → CoreState → Type 0
 IsEndingBy effect p m =
     (program : Units) × (cells : ℕ) × (choices : List ℕ) × IsToEnd program cells choices p (snapshot_of m) effect × AreNumbered m
 
 -- and there is room for operands
-abbrev pub IsEndingWithRoom : Effect → ℕ → Machine → Type 0
+abbrev pub IsEndingWithRoom : Effect → ℕ → CoreState → Type 0
 IsEndingWithRoom effect p m =
     (program : Units) × (cells : ℕ) × (choices : List ℕ) × IsToEnd program cells choices p (snapshot_of m) effect
     × HaveRoom program cells m
 
 -- where it was to end so, the step of process p was made
-abbrev pub EndsBy : Effect → ℕ → Machine → Machine → Type 0
+abbrev pub EndsBy : Effect → ℕ → CoreState → CoreState → Type 0
 EndsBy effect p old new =
     (program : Units) (cells : ℕ) (choices : List ℕ) → IsToEnd program cells choices p (snapshot_of old) effect
     → HasStepped program cells choices p (snapshot_of new)
 
 -- an operation is ahead of process p that calls, creates, refers to, purges and resumes nothing
-pub record IsAtOperation (program : Units) (p : ℕ) (m : Machine) : Type 0 where
+pub record IsAtOperation (program : Units) (p : ℕ) (m : CoreState) : Type 0 where
   pub after : IsReached program m
   pub running : m.halted ≡ false
   pub plain : IsWithoutCall program p (snapshot_of m)
 
 -- it was performed, with this effect
-abbrev pub LeavesBy : Units → ℕ → Machine → Machine → Performed → Type 0
+abbrev pub LeavesBy : Units → ℕ → CoreState → CoreState → Performed → Type 0
 LeavesBy program p old new effect =
     AfterTurns program old (λ cells choices. IsLeft program cells choices p (snapshot_of new) effect)
 
 -- and fills or empties this cell alone, if one is told
-abbrev pub ChangesNext : Units → ℕ → Machine → Option Want → Type 0
+abbrev pub ChangesNext : Units → ℕ → CoreState → Option Want → Type 0
 ChangesNext program p old changed =
     AfterTurns program old (λ cells choices. Changes program cells choices p changed)
 
 -- it was performed, with this effect; and where the process waits by it, the same is shown as before
-abbrev pub Performs : Units → ℕ → Machine → Machine → Performed → Type 0
+abbrev pub Performs : Units → ℕ → CoreState → CoreState → Performed → Type 0
 Performs program p old new effect =
     LeavesBy program p old new effect × StaysWaiting effect (snapshot_of old) (snapshot_of new)
 
 -- what was written, how many processes were made, and the room that there was
-pub record KeepsWritten (program : Units) (old new : Machine) : Type 0 where
+pub record KeepsWritten (program : Units) (old new : CoreState) : Type 0 where
   pub rooms : KeepsRoomOf program old new
   pub records : new.records ≡ old.records
   pub faults : new.faults ≡ old.faults
   pub made : new.made ≡ old.made
 
 -- the operation ahead of process p was performed, with an effect, and there is room for operands
-abbrev pub IsLeftWithRoom : Performed → ℕ → Machine → Type 0
+abbrev pub IsLeftWithRoom : Performed → ℕ → CoreState → Type 0
 IsLeftWithRoom effect p m =
     (program : Units) × (cells : ℕ) × (choices : List ℕ) × IsLeft program cells choices p (snapshot_of m) effect × HaveRoom program cells m
 
 -- and for a record and a fault
-abbrev pub CanEndTurn : Performed → ℕ → Machine → Type 0
+abbrev pub CanEndTurn : Performed → ℕ → CoreState → Type 0
 CanEndTurn effect p m =
     IsLeftWithRoom effect p m × (vec_len m.records < vec_capacity m.records) × (vec_len m.faults < vec_capacity m.faults)
 
 -- where that was its effect, the step was made
-abbrev pub StepsAfter : Performed → ℕ → Machine → Machine → Type 0
+abbrev pub StepsAfter : Performed → ℕ → CoreState → CoreState → Type 0
 StepsAfter effect p old new =
     (program : Units) (cells : ℕ) (choices : List ℕ) → IsLeft program cells choices p (snapshot_of old) effect
     → HasStepped program cells choices p (snapshot_of new)
 
 -- or the process waits
-abbrev pub WaitsAfter : Performed → ℕ → Machine → Machine → Want → Type 0
+abbrev pub WaitsAfter : Performed → ℕ → CoreState → CoreState → Want → Type 0
 WaitsAfter effect p old new want =
     (program : Units) (cells : ℕ) (choices : List ℕ) → IsLeft program cells choices p (snapshot_of old) effect
     → HasWaited program cells choices p want.cell want.full (snapshot_of new)
@@ -152,25 +152,25 @@ HaveFramesLeft leaving old new =
 -- ---- CALL, CREATE and references
 
 -- process p is at one of them
-abbrev pub IsAtCallAhead : Units → ℕ → Machine → CallAhead → Type 0
+abbrev pub IsAtCallAhead : Units → ℕ → CoreState → CallAhead → Type 0
 IsAtCallAhead program p m call =
     (cells : ℕ) × (choices : List ℕ) × IsMachineAfter program cells choices m × HasCallAhead program cells choices p (snapshot_of m) call
 
 -- this is given to the dummy arguments, and so many operands are kept
-abbrev pub IsGivenBy : Units → ℕ → Machine → CallAhead → ℕ → Passing → Type 0
+abbrev pub IsGivenBy : Units → ℕ → CoreState → CallAhead → ℕ → Passing → Type 0
 IsGivenBy program p m call kept passing =
     AfterTurns program m (λ cells choices. HasCallAhead program cells choices p (snapshot_of m) call
     → HoldsInTurn program cells choices p (snapshot_of m)
     (λ t. IsMaking call.way t call.unit kept call.next passing.given.items passing.shapes.items))
 
 -- it is a fault
-abbrev pub FailsAtCall : Units → ℕ → Machine → CallAhead → Kind → Type 0
+abbrev pub FailsAtCall : Units → ℕ → CoreState → CallAhead → Kind → Type 0
 FailsAtCall program p m call kind =
     AfterTurns program m (λ cells choices. HasCallAhead program cells choices p (snapshot_of m) call
     → IsToEnd program cells choices p (snapshot_of m) (fails call.line kind))
 
 -- the activation of a unit can begin: its frame has a gap and its node room
-pub record CanBegin (p : ℕ) (m : Machine) (called : Called) : Type 0 where
+pub record CanBegin (p : ℕ) (m : CoreState) (called : Called) : Type 0 where
   pub making : (way : Way) × (program : Units) × (cells : ℕ) × (choices : List ℕ) × (kept : ℕ) × (index : ℕ)
       × Makes way program cells choices p m called kept index
   pub few : length m.frames.arena.contents ≤ most_cells
@@ -180,7 +180,7 @@ pub record CanBegin (p : ℕ) (m : Machine) (called : Called) : Type 0 where
   pub numbers : AreNumbered m
 
 -- its frame has entered, with its node under a key
-abbrev pub Begins : ℕ → Called → Machine → ℕ → Machine → Type 0
+abbrev pub Begins : ℕ → Called → CoreState → ℕ → CoreState → Type 0
 Begins p called old key new =
     (way : Way) (program : Units) (cells : ℕ) (choices : List ℕ) (kept index : ℕ)
     → (e : Makes way program cells choices p old called kept index)
@@ -188,7 +188,7 @@ Begins p called old key new =
     new.frames.arena (nodes_of new.frames.nodes)
 
 -- it can begin above the top activation of process p, by CALL or reference
-pub record CanCall (p : ℕ) (m : Machine) (called : Called) (kept index : ℕ) : Type 0 where
+pub record CanCall (p : ℕ) (m : CoreState) (called : Called) (kept index : ℕ) : Type 0 where
   pub calling : (way : Way) × (program : Units) × (cells : ℕ) × (choices : List ℕ) × (is_creation way ≡ false)
       × Makes way program cells choices p m called kept index
   pub few : length m.frames.arena.contents ≤ most_cells
@@ -200,18 +200,18 @@ pub record CanCall (p : ℕ) (m : Machine) (called : Called) (kept index : ℕ) 
   pub numbers : AreNumbered m
 
 -- where it is called or referred to, the step was made
-abbrev pub StepsByCall : ℕ → Called → ℕ → ℕ → Machine → Machine → Type 0
+abbrev pub StepsByCall : ℕ → Called → ℕ → ℕ → CoreState → CoreState → Type 0
 StepsByCall p called kept index old new =
     (way : Way) (program : Units) (cells : ℕ) (choices : List ℕ) → is_creation way ≡ false
     → Makes way program cells choices p old called kept index → HasStepped program cells choices p (snapshot_of new)
 
 -- where the operands of process p have room for those of the unit, there is the room that there was
-abbrev pub KeepsRoomAt : ℕ → ℕ → Machine → Machine → Type 0
+abbrev pub KeepsRoomAt : ℕ → ℕ → CoreState → CoreState → Type 0
 KeepsRoomAt p unit old new =
     (program : Units) (cells : ℕ) → HaveRoom program cells old → HasRoomAt program p unit old → HaveRoom program cells new
 
 -- it can begin as the one activation of a process, which is empty so far and has the next number
-pub record CanCreate (p : ℕ) (m : Machine) (called : Called) (index : ℕ) (made : Process) : Type 0 where
+pub record CanCreate (p : ℕ) (m : CoreState) (called : Called) (index : ℕ) (made : Process) : Type 0 where
   pub creating : (program : Units) × (cells : ℕ) × (choices : List ℕ) × (kept : ℕ)
       × Makes Creates program cells choices p m called kept index
   pub few : length m.frames.arena.contents ≤ most_cells
@@ -225,13 +225,13 @@ pub record CanCreate (p : ℕ) (m : Machine) (called : Called) (index : ℕ) (ma
   pub numbers : AreNumbered m
 
 -- where it is created, the step was made
-abbrev pub StepsByCreation : ℕ → Called → ℕ → Machine → Machine → Type 0
+abbrev pub StepsByCreation : ℕ → Called → ℕ → CoreState → CoreState → Type 0
 StepsByCreation p called index old new =
     (program : Units) (cells : ℕ) (choices : List ℕ) (kept : ℕ) → Makes Creates program cells choices p old called kept index
     → HasStepped program cells choices p (snapshot_of new)
 
 -- where the operands of the process that is made have room for those of the unit, there is the room that there was
-abbrev pub KeepsRoomWith : Process → ℕ → Machine → Machine → Type 0
+abbrev pub KeepsRoomWith : Process → ℕ → CoreState → CoreState → Type 0
 KeepsRoomWith made unit old new =
     (program : Units) (cells : ℕ) → HaveRoom program cells old → deepest (unit_code program unit) ≤ vec_capacity made.operands
     → HaveRoom program cells new
@@ -239,7 +239,7 @@ KeepsRoomWith made unit old new =
 -- ---- RESUME
 
 -- the top activation of process p can become a process of its own, which is empty so far and has the next number
-pub record CanPart (p : ℕ) (m : Machine) (made : Process) : Type 0 where
+pub record CanPart (p : ℕ) (m : CoreState) (made : Process) : Type 0 where
   pub levels : HasLevels (snapshot_of m) p
   pub empty : (made.levels.items ≡ []) × (made.operands.items ≡ []) × (made.pending.items ≡ [])
   pub level : vec_len made.levels < vec_capacity made.levels
@@ -248,11 +248,11 @@ pub record CanPart (p : ℕ) (m : Machine) (made : Process) : Type 0 where
   pub numbers : AreNumbered m
 
 -- it is one, at an index
-abbrev pub PartsAt : ℕ → ℕ → Machine → Machine → Type 0
+abbrev pub PartsAt : ℕ → ℕ → CoreState → CoreState → Type 0
 PartsAt p index old new = (levels : HasLevels (snapshot_of old) p) → snapshot_of new ≡ snapshot_parted levels index
 
 -- where its operands have room for those of its unit, there is the room that there was
-abbrev pub KeepsRoomParting : ℕ → Process → Machine → Machine → Type 0
+abbrev pub KeepsRoomParting : ℕ → Process → CoreState → CoreState → Type 0
 KeepsRoomParting p made old new =
     (program : Units) (cells : ℕ) → HaveRoom program cells old → (levels : HasLevels (snapshot_of old) p)
     → deepest (unit_code program levels.level.unit) ≤ vec_capacity made.operands → HaveRoom program cells new
@@ -260,38 +260,38 @@ KeepsRoomParting p made old new =
 -- ---- PURGE
 
 -- process p is at one
-abbrev pub IsAtPurgeAhead : Units → ℕ → Machine → PurgeAhead → Type 0
+abbrev pub IsAtPurgeAhead : Units → ℕ → CoreState → PurgeAhead → Type 0
 IsAtPurgeAhead program p m purge =
     (cells : ℕ) × (choices : List ℕ) × IsMachineAfter program cells choices m × HasPurgeAhead program cells choices p (snapshot_of m) purge
 
 -- its targets name these cells
-abbrev pub NamesRanges : Units → ℕ → Machine → PurgeAhead → List ClosedRange → Type 0
+abbrev pub NamesRanges : Units → ℕ → CoreState → PurgeAhead → List ClosedRange → Type 0
 NamesRanges program p m purge ranges =
     (cells : ℕ) (choices : List ℕ) → (at : HasPurgeAhead program cells choices p (snapshot_of m) purge)
     → ranges_ahead purge at.holds ≡ Ok ranges
 
 -- it is a fault
-abbrev pub FailsAtPurge : Units → ℕ → Machine → PurgeAhead → Kind → Type 0
+abbrev pub FailsAtPurge : Units → ℕ → CoreState → PurgeAhead → Kind → Type 0
 FailsAtPurge program p m purge kind =
     (cells : ℕ) (choices : List ℕ) → HasPurgeAhead program cells choices p (snapshot_of m) purge
     → IsToEnd program cells choices p (snapshot_of m) (fails purge.line kind)
 
 -- process p lives, and the cells that were found are in the arena
-pub record CanEmpty (p : ℕ) (m : Machine) : Type 0 where
+pub record CanEmpty (p : ℕ) (m : CoreState) : Type 0 where
   pub living : HasLevels (snapshot_of m) p
   pub numbers : AreNumbered m
   pub reached : AreReached m.frames.arena m.passing.ranges.items
   pub few : length m.frames.arena.contents ≤ most_cells
 
 -- they are empty, and it is to go on at an index
-abbrev pub EmptiesTargets : ℕ → ℕ → Machine → Machine → Type 0
+abbrev pub EmptiesTargets : ℕ → ℕ → CoreState → CoreState → Type 0
 EmptiesTargets p index old new =
     (levels : HasLevels (snapshot_of old) p)
     → snapshot_of new ≡ with_stack (with_contents (snapshot_of old) (purged old.passing.ranges.items old.frames.arena.contents)) p
     (record levels.level { index = index } ∷ levels.below) [] levels.pending
 
 -- its turn was made
-abbrev pub TurnsByPurge : Units → ℕ → PurgeAhead → Machine → Machine → Type 0
+abbrev pub TurnsByPurge : Units → ℕ → PurgeAhead → CoreState → CoreState → Type 0
 TurnsByPurge program p purge old new =
     AfterTurns program old (λ cells choices. HasPurgeAhead program cells choices p (snapshot_of old) purge
     → HasTurned program cells choices p Purged new)

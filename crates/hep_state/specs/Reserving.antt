@@ -3,9 +3,9 @@ use Rattle.std.specs.Prelude.{◌≡◌, ◌+◌, ◌^◌, ◌<◌, ◌≤◌, �
 use Rattle.slab.specs.Slab.{HasRoomFor}
 use Rattle.hep_machine.specs.Words.{Units}
 use Rattle.hep_blocked.specs.Rolls.{KeepsRoll, Roll}
-use Rattle.hep_entries.specs.Entries.{Kept}
-use Rattle.hep_state.specs.declared.machine.Machine.{Machine}
-use Rattle.hep_tops.specs.ProcProcessProcess.{Process}
+use Rattle.hep_history.specs.Entries.{Kept}
+use Rattle.hep_state.specs.declared.core_state.CoreState.{CoreState}
+use Rattle.hep_proc.specs.declared.process.Process.{Process}
 use Rattle.hep_state.specs.Rooms.{HaveRoom, HoldsOfProcess}
 use Rattle.hep_state.specs.Snapshots.{AreNumbered, snapshot_of}
 
@@ -16,40 +16,40 @@ pub record HasRoomForEntry {A E : Type 0} (old : Kept) (result : Result A E) (ne
   pub entries : new.items ≡ old.items
 
 -- the same processes are ready, and wait for the same; and each process of a machine has room to be enrolled
-pub record KeepsRollFor (m : Machine) (old new : Roll) : Type 0 where
+pub record KeepsRollFor (m : CoreState) (old new : Roll) : Type 0 where
   pub numbers : m.made ≤ new.room
   pub kept : KeepsRoll old new
 
 -- whatever program runs in an arena of whatever size, there is the room that there was
-abbrev pub KeepsRoom : Machine → Machine → Type 0
+abbrev pub KeepsRoom : CoreState → CoreState → Type 0
 KeepsRoom old new = (program : Units) (cells : ℕ) → HaveRoom program cells old → HaveRoom program cells new
 
 -- a machine shows what it showed, with the room that it had
-pub record ShowsSame (old new : Machine) : Type 0 where
+pub record ShowsSame (old new : CoreState) : Type 0 where
   pub shown : snapshot_of new ≡ snapshot_of old
   pub made : new.made ≡ old.made
   pub passing : new.passing ≡ old.passing
   pub rooms : KeepsRoom old new
 
 -- process p has room for a level more, for so many operands at once, and for so many more that are pending; and a node has room
-pub record HasRoomForLevel (m : Machine) (p deep kept : ℕ) : Type 0 where
+pub record HasRoomForLevel (m : CoreState) (p deep kept : ℕ) : Type 0 where
   pub node : HasRoomFor m.frames.nodes 1
   pub level : HoldsOfProcess m p (λ q. vec_len q.levels < vec_capacity q.levels)
   pub operands : HoldsOfProcess m p (λ q. deep ≤ vec_capacity q.operands)
   pub pending : HoldsOfProcess m p (λ q. vec_len q.pending + kept ≤ vec_capacity q.pending)
 
 -- a process more can have a number
-pub record CanBeMore (m : Machine) : Type 0 where
+pub record CanBeMore (m : CoreState) : Type 0 where
   pub numbers : AreNumbered m
   pub few : m.made + 1 < 2 ^ 64
 
 -- it has room, and its number to be enrolled
-pub record HasRoomForProcess (m : Machine) (roster : Roll) : Type 0 where
+pub record HasRoomForProcess (m : CoreState) (roster : Roll) : Type 0 where
   pub process : vec_len m.processes < vec_capacity m.processes
   pub numbers : m.made + 1 ≤ roster.room
 
 -- and the node of its activation has room
-pub record HasRoomForCreation (m : Machine) (roster : Roll) : Type 0 where
+pub record HasRoomForCreation (m : CoreState) (roster : Roll) : Type 0 where
   pub process : vec_len m.processes < vec_capacity m.processes
   pub numbers : m.made + 1 ≤ roster.room
   pub node : HasRoomFor m.frames.nodes 1

@@ -4,15 +4,15 @@ use Rattle.hep_machine.specs.Words.{Units, dummies_of, unit_at}
 use Rattle.hep_code.specs.declared.instruction.Instruction.TheVariants.{Step}
 use Rattle.hep_code.specs.declared.instruction.Operation.TheVariants.{Purge}
 use Rattle.hep_code.specs.Words.{deepest}
-use Rattle.hep_tops.specs.ImageDummies.{dummy_arguments}
-use Rattle.hep_tops.specs.ImageImage.{most_cells}
+use Rattle.hep_image.specs.Dummies.{dummy_arguments}
+use Rattle.hep_image.specs.Image.{most_cells}
 use Rattle.hep_binding.specs.Fitting.{longest_code}
-use Rattle.hep_purging.specs.Room.{most_of, most_targets}
-use Rattle.hep_tops.specs.StepSimulation.{unit_code}
-use Rattle.hep_tops.specs.ProcProcessLocal.{Local}
-use Rattle.hep_state.specs.declared.machine.Machine.{Machine}
-use Rattle.hep_state.specs.declared.machine.Passing.{Passing}
-use Rattle.hep_tops.specs.ProcProcessProcess.{Process}
+use Rattle.hep_step.specs.Room.{most_of, most_targets}
+use Rattle.hep_step.specs.Simulation.{unit_code}
+use Rattle.hep_proc.specs.declared.process.Local.{Local}
+use Rattle.hep_state.specs.declared.core_state.CoreState.{CoreState}
+use Rattle.hep_state.specs.declared.core_state.Passing.{Passing}
+use Rattle.hep_proc.specs.declared.process.Process.{Process}
 use Rattle.hep_state.specs.Snapshots.{AreNumbered, snapshot_of}
 use Rattle.hep_state.specs.Turns.{IsAfter}
 
@@ -37,23 +37,23 @@ pub record IsRoomToPass (program : Units) (r : Passing) : Type 0 where
   pub ranges : vec_capacity r.ranges ≡ most_of (λ u. most_targets (unit_code program u)) (length program)
 
 -- this is so of process p, if it is kept
-abbrev pub HoldsOfProcess : Machine → ℕ → (Process → Type 0) → Type 0
+abbrev pub HoldsOfProcess : CoreState → ℕ → (Process → Type 0) → Type 0
 HoldsOfProcess m p IsSo = (i : ℕ) (q : Process) → slice_get m.processes.items i ≡ Some q → q.number ≡ p → IsSo q
 
 -- the operands of process p have room for the deepest stack of unit u
-abbrev pub HasRoomAt : Units → ℕ → ℕ → Machine → Type 0
+abbrev pub HasRoomAt : Units → ℕ → ℕ → CoreState → Type 0
 HasRoomAt program p u m = HoldsOfProcess m p (λ q. deepest (unit_code program u) ≤ vec_capacity q.operands)
 
 -- each process that is kept has room for operands, and they rise by their numbers; there is room to pass, and the arena has no more cells
 -- than it may have
-pub record HaveRoom (program : Units) (cells : ℕ) (m : Machine) : Type 0 where
+pub record HaveRoom (program : Units) (cells : ℕ) (m : CoreState) : Type 0 where
   pub few : cells ≤ most_cells
   pub to_pass : HasRoomToPass program m.passing
   pub room : (i : ℕ) (q : Process) → slice_get m.processes.items i ≡ Some q → HasRoom program q
   pub numbers : AreNumbered m
 
 -- a machine keeps the state after turns of these processes, with that room
-pub record IsMachineAfter (program : Units) (cells : ℕ) (choices : List ℕ) (m : Machine) : Type 0 where
+pub record IsMachineAfter (program : Units) (cells : ℕ) (choices : List ℕ) (m : CoreState) : Type 0 where
   pub after : IsAfter program cells choices (snapshot_of m)
   pub few : cells ≤ most_cells
   pub to_pass : HasRoomToPass program m.passing

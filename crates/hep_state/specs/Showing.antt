@@ -3,14 +3,14 @@ use Rattle.std.specs.Prelude.{◌≡◌, ◌+◌, ◌-◌, ℕ, true, List, [], 
 use Rattle.hep_machine.specs.Words.{Value, Units, unit_at, Layout, is_held, numbered, Process, State}
 use Rattle.hep_machine.specs.declared.slot.Slot.{Slot}
 use Rattle.hep_code.specs.Words.{AreLevels, CodeLevel}
-use Rattle.hep_tops.specs.LayoutWords.{is_stacked, Nodes}
-use Rattle.hep_tops.specs.ImagePlaces.{addresses_of}
-use Rattle.hep_tops.specs.ImageBound.{AreKept}
-use Rattle.hep_tops.specs.ProcKeeping.{Keeps, frames_in}
-use Rattle.hep_tops.specs.StepSimulation.{counts_in}
-use Rattle.hep_tops.specs.ProcProcessLocal.{Local}
-use Rattle.hep_tops.specs.ProcStacks.{Stack}
-use Rattle.hep_tops.specs.Tops.{IsThere, node_under}
+use Rattle.hep_layout.specs.Words.{is_stacked, Nodes}
+use Rattle.hep_image.specs.Places.{addresses_of}
+use Rattle.hep_image.specs.Bound.{AreKept}
+use Rattle.hep_proc.specs.Keeping.{Keeps, frames_in}
+use Rattle.hep_step.specs.Simulation.{counts_in}
+use Rattle.hep_proc.specs.declared.process.Local.{Local}
+use Rattle.hep_proc.specs.Stacks.{Stack}
+use Rattle.hep_state.specs.TopPlace.{IsThere, node_under}
 use Rattle.hep_state.specs.Snapshots.{Snapshot}
 
 -- ---- levels

@@ -4,11 +4,11 @@ use Rattle.hep_machine.specs.declared.event.Fault.{Fault}
 use Rattle.hep_machine.specs.declared.record.Item.{Item}
 use Rattle.hep_arena.specs.Space.{Space}
 use Rattle.hep_blocked.specs.Numbers.{AreRising}
-use Rattle.hep_tops.specs.LayoutWords.{Nodes}
-use Rattle.hep_tops.specs.ProcNodes.{nodes_of}
-use Rattle.hep_tops.specs.ProcStacks.{Stack}
+use Rattle.hep_layout.specs.Words.{Nodes}
+use Rattle.hep_proc.specs.Nodes.{nodes_of}
+use Rattle.hep_proc.specs.Stacks.{Stack}
 use Rattle.hep_state.specs.Numbered.{numbers_of, stacks_of}
-use Rattle.hep_state.specs.declared.machine.Machine.{Machine}
+use Rattle.hep_state.specs.declared.core_state.CoreState.{CoreState}
 
 pub record Snapshot : Type 0 where
   pub arena : Space
@@ -21,10 +21,10 @@ pub record Snapshot : Type 0 where
   pub halted : Bool
 
 -- the processes that are kept rise by their numbers, the last of which is that of the last one that was made at most
-abbrev pub AreNumbered : Machine → Type 0
+abbrev pub AreNumbered : CoreState → Type 0
 AreNumbered m = AreRising 1 m.made (numbers_of m.processes.items)
 
-abbrev pub snapshot_of : Machine → Snapshot
+abbrev pub snapshot_of : CoreState → Snapshot
 snapshot_of m =
     record {
       arena = m.frames.arena;

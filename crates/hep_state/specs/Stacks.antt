@@ -3,15 +3,15 @@ use Rattle.std.specs.Prelude.{◌≡◌, ◌+◌, ◌<◌, ◌≤◌, ℕ, List,
 use Rattle.hep_machine.specs.Words.{Value, Units}
 use Rattle.hep_code.specs.declared.instruction.Instruction.{Instruction}
 use Rattle.hep_code.specs.Words.{values_ahead}
-use Rattle.hep_tops.specs.ProcFramesFrames.{Frames}
-use Rattle.hep_tops.specs.ProcNodes.{nodes_of}
-use Rattle.hep_tops.specs.ImageArrayArray.{Array}
-use Rattle.hep_tops.specs.StepFrameFrame.{Frame as CellFrame}
-use Rattle.hep_tops.specs.StepSimulation.{unit_code}
-use Rattle.hep_tops.specs.ProcProcessLocal.{Local}
-use Rattle.hep_tops.specs.ProcProcessProcess.{Process}
-use Rattle.hep_tops.specs.ProcStacks.{HoldsOfTop, stack_of, stack_with}
-use Rattle.hep_tops.specs.Tops.{IsThere}
+use Rattle.hep_proc.specs.declared.frames.Frames.{Frames}
+use Rattle.hep_proc.specs.Nodes.{nodes_of}
+use Rattle.hep_image.specs.declared.array.Array.{Array}
+use Rattle.hep_step.specs.declared.frame.Frame.{Frame as CellFrame}
+use Rattle.hep_step.specs.Simulation.{unit_code}
+use Rattle.hep_proc.specs.declared.process.Local.{Local}
+use Rattle.hep_proc.specs.declared.process.Process.{Process}
+use Rattle.hep_proc.specs.Stacks.{HoldsOfTop, stack_of, stack_with}
+use Rattle.hep_state.specs.TopPlace.{IsThere}
 use Rattle.hep_state.specs.Taking.{IsBehind, IsSettled, LeavesSame}
 
 -- ---- the top level

@@ -3,17 +3,17 @@ use Rattle.std.specs.Prelude.{◌≡◌, ◌≢◌, ◌≤◌, ◌+◌, ℕ, Lis
 use Rattle.hep_machine.specs.Words.{Value, Units, Work, numbered}
 use Rattle.hep_code.specs.declared.instruction.Instruction.{Instruction}
 use Rattle.hep_code.specs.Words.{IsPastPushes, Stands, deepest, left_to_do, most_operands}
-use Rattle.hep_tops.specs.LayoutWords.{Nodes}
-use Rattle.hep_tops.specs.ImageArrayArray.{Array}
-use Rattle.hep_tops.specs.StepFrameFrame.{Frame as CellFrame}
-use Rattle.hep_tops.specs.StepEffectEffect.{Effect}
-use Rattle.hep_tops.specs.StepEffectEffect.TheVariants.{Moved, Printed, Failed, Waits, Returned, Answered, Stopped, LeftOut}
-use Rattle.hep_tops.specs.StepEffects as effects
-use Rattle.hep_tops.specs.StepReady.{frame_in_arena}
-use Rattle.hep_tops.specs.StepSimulation.{unit_addressed, unit_arrays, unit_code}
-use Rattle.hep_tops.specs.ProcProcessLocal.{Local}
-use Rattle.hep_tops.specs.ProcStacks.{Stack}
-use Rattle.hep_tops.specs.Tops.{frame_under}
+use Rattle.hep_layout.specs.Words.{Nodes}
+use Rattle.hep_image.specs.declared.array.Array.{Array}
+use Rattle.hep_step.specs.declared.frame.Frame.{Frame as CellFrame}
+use Rattle.hep_step.specs.declared.effect.Effect.{Effect}
+use Rattle.hep_step.specs.declared.effect.Effect.TheVariants.{Moved, Printed, Failed, Waits, Returned, Answered, Stopped, LeftOut}
+use Rattle.hep_step.specs.Effects as effects
+use Rattle.hep_step.specs.Ready.{frame_in_arena}
+use Rattle.hep_step.specs.Simulation.{unit_addressed, unit_arrays, unit_code}
+use Rattle.hep_proc.specs.declared.process.Local.{Local}
+use Rattle.hep_proc.specs.Stacks.{Stack}
+use Rattle.hep_state.specs.TopPlace.{frame_under}
 use Rattle.hep_state.specs.Snapshots.{Snapshot}
 use Rattle.hep_state.specs.Tops.{HasLevels, HoldsInTurn, IsEffectOf, IsTurning, TurnOf, snapshot_stopped, with_stack}
 use Rattle.hep_state.specs.Turns.{HasStepped, HasWaited}

@@ -7,13 +7,13 @@ use Rattle.hep_machine.specs.declared.record.Item.{Item}
 use Rattle.hep_machine.specs.declared.slot.Slot.{Slot}
 use Rattle.hep_machine.specs.State.{Level as SourceLevel}
 use Rattle.hep_arena.specs.Space.{Space}
-use Rattle.hep_tops.specs.LayoutWords.{Nodes}
-use Rattle.hep_tops.specs.ProcKeeping.{FramesOf, HasLeft, frames_in}
-use Rattle.hep_tops.specs.StepEffects.{Effect}
-use Rattle.hep_tops.specs.StepSimulation.{IsRunning, RunningTop, Simulates}
-use Rattle.hep_tops.specs.ProcProcessLocal.{Local}
-use Rattle.hep_tops.specs.ProcStacks.{Stack, operands_answered, pending_answered, stack_with}
-use Rattle.hep_tops.specs.Tops.{frame_under}
+use Rattle.hep_layout.specs.Words.{Nodes}
+use Rattle.hep_proc.specs.Keeping.{FramesOf, HasLeft, frames_in}
+use Rattle.hep_step.specs.Effects.{Effect}
+use Rattle.hep_step.specs.Simulation.{IsRunning, RunningTop, Simulates}
+use Rattle.hep_proc.specs.declared.process.Local.{Local}
+use Rattle.hep_proc.specs.Stacks.{Stack, operands_answered, pending_answered, stack_with}
+use Rattle.hep_state.specs.TopPlace.{frame_under}
 use Rattle.hep_state.specs.Snapshots.{Snapshot}
 use Rattle.hep_state.specs.Turns.{HasStepped, IsAfter}
 

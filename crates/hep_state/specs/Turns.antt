@@ -1,7 +1,7 @@
 -- What a turn of a process makes of what a core keeps: docs/MACHINE.md, "Steps" and "The opening and runs".
 use Rattle.std.specs.Prelude.{◌≡◌, ◌≢◌, ◌⊎◌, ℕ, Bool, true, false, List, [], ◌∷◌, ◌++◌, length, Some, None}
 use Rattle.hep_machine.specs.Words.{Units, Layout, is_held, layout_of, living, run, Wanted, step, wanted_by}
-use Rattle.hep_tops.specs.LayoutWords.{address}
+use Rattle.hep_layout.specs.Words.{address}
 use Rattle.hep_state.specs.Showing.{Shows}
 use Rattle.hep_state.specs.Snapshots.{Snapshot}
 

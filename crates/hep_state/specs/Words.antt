@@ -3,7 +3,7 @@ unfoldable pub use Rattle.hep_state.specs.Numbered.{numbers_of, stack_numbered, 
 pub use Rattle.hep_state.specs.Numbered.{IsPlaceOf}
 unfoldable pub use Rattle.hep_state.specs.Snapshots.{AreNumbered, snapshot_of}
 pub use Rattle.hep_state.specs.Snapshots.{Snapshot}
-pub use Rattle.hep_tops.specs.Tops.{IsPlace, IsThere, frame_under, node_under}
+pub use Rattle.hep_state.specs.TopPlace.{IsPlace, IsThere, frame_under, node_under}
 unfoldable pub use Rattle.hep_state.specs.Showing.{AreThere}
 pub use Rattle.hep_state.specs.Showing.{code_level, code_levels, IsStack, kept_below, kept_by, levels_below, Shows}
 unfoldable pub use Rattle.hep_state.specs.Turns.{HasGaps}

@@ -1,10 +1,12 @@
 //! What stands ahead of a process: what is behind the operation, and values that are put behind the operands.
-ghost use Rattle.hep_tops.specs.ProcStacks.{IsSameProcess};
+ghost use Rattle.hep_proc.specs.Stacks.{IsSameProcess};
 ghost use Rattle.hep_state.specs.Words.{CanSettle, HasBehind, IsInCode, Settles};
 
+use crate::top_place::place;
 use hep_code::Instruction;
 use hep_code::operands::settle;
-use hep_tops::{Array, Frame, Frames, Image, Process, place};
+use hep_proc::{Frames, Process};
+use hep_step::{Array, Frame, Image};
 
 // What is behind the operation ahead of a process in its unit's code, the unit's arrays, and its frame in the arena.
 pub(crate) fn behind<'a>(

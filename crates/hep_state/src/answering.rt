@@ -1,19 +1,20 @@
 //! The END of a function: the value of the variable of its name is that of its reference (X3.9-1978, 15.5.3).
 ghost use Rattle.std.specs.Prelude.{◌≡◌, ◌<◌, [], IfErr, IfOk, vec_capacity, vec_len};
-ghost use Rattle.hep_tops.specs.ImageFinding.{address_of, cells_in};
-ghost use Rattle.hep_tops.specs.StepCells.{HasFrame};
-ghost use Rattle.hep_tops.specs.StepEffects.{answers, fails, value_found};
-ghost use Rattle.hep_tops.specs.StepReady.{IsVariableReady};
+ghost use Rattle.hep_image.specs.Finding.{address_of, cells_in};
+ghost use Rattle.hep_step.specs.Cells.{HasFrame};
+ghost use Rattle.hep_step.specs.Effects.{answers, fails, value_found};
+ghost use Rattle.hep_step.specs.Ready.{IsVariableReady};
 ghost use Rattle.hep_state.specs.Words.{CanAnswer, IsToEndBy, LeavesOthers, StepsBy, snapshot_of};
 
+use crate::core_state::CoreState;
 use crate::laws;
-use crate::machine::Machine;
+use crate::top_place::place;
 use crate::upcoming::AnswerAhead;
 use hep_arena::Arena;
 use hep_code::Variable;
 use hep_machine::Kind;
 use hep_source::Value;
-use hep_tops::{Array, Frame, Image, address, place};
+use hep_step::{Array, Frame, Image, address};
 
 // The value of a variable in a frame, in a unit with these arrays.
 #[inline(always)]
@@ -35,7 +36,7 @@ fn value_of(
     }
 }
 
-impl Machine {
+impl CoreState {
     // The value with which the function on top of process p ends, whose END is ahead.
     //
     // Fails with Undefined where its variable has none.

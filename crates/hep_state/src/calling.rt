@@ -3,9 +3,9 @@ ghost use Rattle.std.specs.Prelude.{◌≡◌, ◌+◌};
 ghost use Rattle.hep_state.specs.Words.{Begins, CanBegin, CanCall, CanCreate, KeepsRoomAt, KeepsRoomWith, LeavesOthers, LivesOn, StepsByCall};
 ghost use Rattle.hep_state.specs.Words.{StepsByCreation, snapshot_of};
 
-use crate::machine::{Machine, append};
+use crate::core_state::{CoreState, append};
 use hep_binding::{begin, shape_all};
-use hep_tops::{Entrant, Local, Process};
+use hep_proc::{Entrant, Local, Process};
 
 /// A unit that is called, created or referred to: its index in the program, how many cells its frame has, and where its first executable
 /// statement is in its code.
@@ -16,7 +16,7 @@ pub struct Called {
     pub entry: usize,
 }
 
-impl Machine {
+impl CoreState {
     // The activation of a unit that process p calls or refers to, or of which it makes a process, begins: its frame enters, with what is
     // given to its dummy arguments and their shapes. Answers its level.
     //
@@ -28,7 +28,7 @@ impl Machine {
         ensures level { result ≡ record { key = result.key; unit = called.unit; kept = 0; index = called.entry } }
         ensures others { self.new ≡ record self.old { frames = self.new.frames; activations = self.old.activations + 1 } }
     {
-        hep_tops::children_are_activations();
+        hep_proc::laws::children_are_activations();
         hep_binding::laws::dummies_are_bound();
         hep_binding::laws::other_cells_are_unset();
         hep_binding::laws::references_are_kept();

@@ -1,18 +1,17 @@
 //! A PURGE: the cells that its targets name are found, and then all of them are emptied (docs/LANGUAGE.md, 9).
 ghost use Rattle.std.specs.Prelude.{◌≡◌, ◌<◌, IfErr, OnOk, vec_len, vec_capacity};
-ghost use Rattle.hep_purging.specs.Ready.{AreReached};
+ghost use Rattle.hep_step.specs.PurgeReady.{AreReached};
 ghost use Rattle.hep_state.specs.Words.{CanEmpty, EmptiesTargets, FailsAtPurge, IsAtPurgeAhead, KeepsRoom, KeepsRoomOf, NamesRanges};
 ghost use Rattle.hep_state.specs.Words.{LeavesOthers, TurnsByPurge, snapshot_of};
 
 use crate::advancing::behind;
+use crate::core_state::CoreState;
 use crate::laws;
-use crate::machine::Machine;
 use crate::upcoming::PurgeAhead;
 use hep_machine::Kind;
-use hep_purging::find_ranges;
-use hep_tops::{AllPassed, Image};
+use hep_step::{AllPassed, Image, find_ranges};
 
-impl Machine {
+impl CoreState {
     // The cells that the targets of the PURGE ahead of process p name, into `passing`.
     //
     // Fails with Range where one of them isn't there. Nothing but `passing` changes.
@@ -50,7 +49,7 @@ impl Machine {
         ensures made { self.new.made ≡ self.old.made }
     {
         let at = self.place(p);
-        hep_purging::purge(&mut self.frames.arena, &self.passing.ranges);
+        hep_step::purge(&mut self.frames.arena, &self.passing.ranges);
         self.processes[at].go_on(index);
     }
 

@@ -1,19 +1,19 @@
 //! What a turn comes to once its operation was performed: a record, a fault, the end of an activation, or a stop.
 ghost use Rattle.std.specs.Prelude.{◌≡◌, ◌<◌, [], IfSome, MatchOption, length, reverse, vec_len, vec_capacity};
-ghost use Rattle.hep_tops.specs.ProcKeeping.{CanAllLeave};
-ghost use Rattle.hep_tops.specs.ProcNodes.{nodes_of};
-ghost use Rattle.hep_tops.specs.ProcStacks.{keys_of};
-ghost use Rattle.hep_tops.specs.StepEffectEffect.TheVariants.{Waits};
-ghost use Rattle.hep_tops.specs.StepEffects.{answers, fails, returns};
+ghost use Rattle.hep_proc.specs.Keeping.{CanAllLeave};
+ghost use Rattle.hep_proc.specs.Nodes.{nodes_of};
+ghost use Rattle.hep_proc.specs.Stacks.{keys_of};
+ghost use Rattle.hep_step.specs.declared.effect.Effect.TheVariants.{Waits};
+ghost use Rattle.hep_step.specs.Effects.{answers, fails, returns};
 ghost use Rattle.hep_state.specs.Words.{CanEndTurn, EndsBy, HaveFramesLeft, IsEndingBy, IsEndingWithRoom};
 ghost use Rattle.hep_state.specs.Words.{KeepsRoom, LeavesOthers, LivesOnBelow, StepsAfter, WaitsAfter, snapshot_of};
 
-use crate::machine::{Machine, append};
+use crate::core_state::{CoreState, append};
 use hep_cells::Want;
-use hep_leaving::{Leaving, leave};
 use hep_machine::{Fault, Kind};
+use hep_proc::{Frames, Leaving, Local, leave};
 use hep_source::Value;
-use hep_tops::{Effect, Frames, Local};
+use hep_step::Effect;
 
 // Several activations have ended, the last one first: their frames leave, and no levels are left.
 fn leave_all(frames: &mut Frames, levels: &mut Vec<Local>)
@@ -27,7 +27,7 @@ fn leave_all(frames: &mut Frames, levels: &mut Vec<Local>)
     }
 }
 
-impl Machine {
+impl CoreState {
     // The top activation of process p has ended, by RETURN or END of its unit.
     #[inline(always)]
     pub(crate) fn finish(&mut self, p: u64)

@@ -11,28 +11,28 @@ ghost use Rattle.hep_machine.specs.declared.event.Kind.TheVariants.{Shape};
 ghost use Rattle.hep_conditions.specs.Words.{IsAccepted};
 ghost use Rattle.hep_arena.specs.Space.{Space};
 ghost use Rattle.hep_code.specs.Words.{deepest, entry_index, operands_of_entries, Stands, passed_from};
-ghost use Rattle.hep_tops.specs.LayoutWords.{descriptor_slots, FrameNode, Nodes, but, is_stacked};
-ghost use Rattle.hep_tops.specs.ImageArrays.{ArePlacedArrays};
-ghost use Rattle.hep_tops.specs.ImageDataDataRow.{DataRow};
-ghost use Rattle.hep_tops.specs.ImageData.{AreInitial, AreOfUnits, first_frames};
-ghost use Rattle.hep_tops.specs.ProcKeeping.{AreOfSomeState, CanAllLeave, CanLeave, IsEnded, IsOpening, Keeps, LeadUpwards, all_but};
+ghost use Rattle.hep_layout.specs.Words.{descriptor_slots, FrameNode, Nodes, but, is_stacked};
+ghost use Rattle.hep_image.specs.Arrays.{ArePlacedArrays};
+ghost use Rattle.hep_image.specs.declared.data.DataRow.{DataRow};
+ghost use Rattle.hep_image.specs.Data.{AreInitial, AreOfUnits, first_frames};
+ghost use Rattle.hep_proc.specs.Keeping.{AreOfSomeState, CanAllLeave, CanLeave, IsEnded, IsOpening, Keeps, LeadUpwards, all_but};
 ghost use Rattle.hep_arena.specs.Holes.{first_fit};
-ghost use Rattle.hep_tops.specs.ImageDummies.{dummy_arguments};
-ghost use Rattle.hep_tops.specs.ImageImage.{most_cells};
-ghost use Rattle.hep_tops.specs.StepGivenGiven.{Given};
-ghost use Rattle.hep_tops.specs.StepReadyToPass.{ArePassable};
-ghost use Rattle.hep_purging.specs.declared.range.ClosedRange.{ClosedRange};
-ghost use Rattle.hep_purging.specs.Purged.{purged};
-ghost use Rattle.hep_purging.specs.Ready.{AreOut};
+ghost use Rattle.hep_image.specs.Dummies.{dummy_arguments};
+ghost use Rattle.hep_image.specs.Image.{most_cells};
+ghost use Rattle.hep_step.specs.declared.given.Given.{Given};
+ghost use Rattle.hep_step.specs.ReadyToPass.{ArePassable};
+ghost use Rattle.hep_step.specs.declared.range.ClosedRange.{ClosedRange};
+ghost use Rattle.hep_step.specs.Purged.{purged};
+ghost use Rattle.hep_step.specs.PurgeReady.{AreOut};
 ghost use Rattle.hep_binding.specs.Fitting.{AreShapable, are_fitting, longest_code, shapes_of};
-ghost use Rattle.hep_tops.specs.StepWayWay.{Way};
-ghost use Rattle.hep_tops.specs.StepCalls.{is_creation, last_operands};
-ghost use Rattle.hep_tops.specs.StepCells.{HasFrame};
-ghost use Rattle.hep_tops.specs.StepReady.{frame_in_arena};
-ghost use Rattle.hep_tops.specs.StepEffects.{answers, fails, moves, prints, returns, stops, waits};
-ghost use Rattle.hep_tops.specs.StepSimulation.{unit_addressed, unit_arrays, unit_code};
+ghost use Rattle.hep_step.specs.declared.way.Way.{Way};
+ghost use Rattle.hep_step.specs.Calls.{is_creation, last_operands};
+ghost use Rattle.hep_step.specs.Cells.{HasFrame};
+ghost use Rattle.hep_step.specs.Ready.{frame_in_arena};
+ghost use Rattle.hep_step.specs.Effects.{answers, fails, moves, prints, returns, stops, waits};
+ghost use Rattle.hep_step.specs.Simulation.{unit_addressed, unit_arrays, unit_code};
 ghost use Rattle.hep_binding.specs.Calling.{state_made_by};
-ghost use Rattle.hep_tops.specs.ProcProcessLocal.{Local};
+ghost use Rattle.hep_proc.specs.declared.process.Local.{Local};
 ghost use Rattle.hep_state.specs.Words.{Changes, HasEntered, HasGaps, HasLevels, HasMadeTurn, HasNoGap, HasPurged, HasWaited, HaveLeft, IsAbsent};
 ghost use Rattle.hep_state.specs.Words.{IsAfter, IsAfterCall, IsAtCall, IsAtPurge, IsAtResume, IsEffectOf, IsEnding, IsEntered, IsGiven, IsKnown};
 ghost use Rattle.hep_state.specs.Words.{IsMaking, IsTopRunning, IsTurning, IsUnit, IsWithoutCall, Snapshot, TurnOf, given_of};
@@ -41,8 +41,8 @@ ghost use Rattle.hep_state.specs.Words.{snapshot_moved, snapshot_opened, snapsho
 ghost use Rattle.hep_state.specs.Words.{state_answered, state_before, state_failed, state_returned, top_frame, turn_settled, turn_with, unset_opening};
 ghost use Rattle.hep_state.specs.declared.upcoming.CallAhead.{CallAhead};
 ghost use Rattle.hep_state.specs.declared.upcoming.PurgeAhead.{PurgeAhead};
-ghost use Rattle.hep_tops.specs.ProcKeeping.{frames_in};
-ghost use Rattle.hep_tops.specs.ProcStacks.{keys_of};
+ghost use Rattle.hep_proc.specs.Keeping.{frames_in};
+ghost use Rattle.hep_proc.specs.Stacks.{keys_of};
 
 /// A process that has levels lives, and it is its turn where the processes weren't stopped; one that has none, or that isn't
 /// there, doesn't live.
@@ -166,7 +166,7 @@ fn programs_are_known()
     hep_binding::programs_are_closed();
     hep_binding::units_are_there();
     hep_binding::activations_are_bound_in_runs();
-    hep_tops::calls_are_ahead();
+    hep_step::laws::calls_are_ahead();
     tops_are_running();
 }
 
@@ -186,7 +186,7 @@ pub fn calls_can_be_made()
     ensures few { (t : TurnOf) (call : CallAhead) → IsAccepted t.program → is_some (main_among t.program) ≡ true
         → (at : IsAtCall t call) → length t.operands ≤ deepest (unit_code t.program t.level.unit) }
 {
-    hep_tops::callers_can_pass();
+    hep_step::passing_laws::callers_can_pass();
     programs_are_known();
     tops_are_running();
 }
@@ -202,7 +202,7 @@ pub fn purges_can_be_made()
         → (at : IsAtPurge t purge) → AreOut t.machine.arena (unit_arrays t.program t.level.unit) (frame_in_arena (top_frame t))
         (passed_from purge.count at.behind t.operands) }
 {
-    hep_purging::laws::purges_are_ready();
+    hep_step::purge_laws::purges_are_ready();
     programs_are_known();
     tops_are_running();
 }
@@ -225,8 +225,8 @@ pub fn purges_are_shown()
         → HasGaps t.program t.cells t.choices t.process }
 {
     hep_binding::variables_of_the_code_are_placed();
-    hep_purging::laws::purges_do_what_the_machine_does();
-    hep_purging::laws::ranges_are_emptied();
+    hep_step::purge_laws::purges_do_what_the_machine_does();
+    hep_step::purge_laws::ranges_are_emptied();
     gaps_are_told();
     programs_are_known();
 }
@@ -244,7 +244,7 @@ pub fn resumes_are_shown()
         → HasGaps t.program t.cells t.choices t.process }
 {
     hep_binding::works_come_from_statements();
-    hep_tops::resumes_are_ahead();
+    hep_step::laws::resumes_are_ahead();
     tops_are_running();
 }
 
@@ -281,11 +281,11 @@ pub fn calls_give_what_is_bound()
     hep_binding::actual_arguments_fit();
     hep_binding::variables_are_placed();
     hep_binding::names_are_given_once();
-    hep_tops::all_actuals_are_passed();
+    hep_step::passing_laws::all_actuals_are_passed();
     hep_binding::shape_laws::calls_are_shapable();
     hep_binding::shape_laws::shapes_decide_bindings();
     hep_binding::laws::calls_make_activations();
-    hep_tops::calls_are_ahead();
+    hep_step::laws::calls_are_ahead();
     programs_are_known();
 }
 
@@ -309,7 +309,7 @@ pub fn other_steps_find_gaps()
         → is_some (main_among program) ≡ true → IsAfter program cells choices m → m.halted ≡ false → IsWithoutCall program p m
         → HasGaps program cells choices p }
 {
-    hep_tops::operations_do_what_the_machine_does();
+    hep_step::laws::operations_do_what_the_machine_does();
     turns_are_taken();
     tops_are_running();
 }

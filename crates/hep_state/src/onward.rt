@@ -1,13 +1,13 @@
 //! Turns that begin or end an activation of a process, which lives on, and do nothing else: CALL, references, RETURN and END.
 ghost use Rattle.std.specs.Prelude.{◌≡◌, OnErr, OnOk};
-ghost use Rattle.hep_tops.specs.StepCalls.{is_creation};
+ghost use Rattle.hep_step.specs.Calls.{is_creation};
 ghost use Rattle.hep_state.specs.Words.{CanAnswer, CanBeginCall, CanLiveOn, CanMakeCall, CanReturn, HasLivedOn, ShowsSame, StepsOn};
 
 use crate::calling::Called;
+use crate::core_state::CoreState;
 use crate::laws;
-use crate::machine::Machine;
 use crate::upcoming::{AnswerAhead, CallAhead, StepAhead};
-use hep_tops::{Image, Way};
+use hep_step::{Image, Way};
 use std::alloc::AllocError;
 
 // The activation that is made is a process of its own.
@@ -21,7 +21,7 @@ pub(crate) fn creates(way: Way) -> bool
     }
 }
 
-impl Machine {
+impl CoreState {
     // Begins the activation of the CALL or reference ahead of process p, by what it is given, and keeps so many operands of the one below it. There
     // is a gap for its frame.
     //

@@ -5,23 +5,23 @@ ghost use Rattle.std.specs.Option.{is_some};
 ghost use Rattle.slab.specs.Slab.{HasRoomFor};
 ghost use Rattle.hep_machine.specs.Words.{dummies_of, main_unit, unit_at, common_cells, opening_layout};
 ghost use Rattle.hep_arena.specs.Holes.{IsOut};
-ghost use Rattle.hep_tops.specs.ImageDummies.{dummy_arguments};
-ghost use Rattle.hep_tops.specs.ImageImage.{IsUnitCode};
-ghost use Rattle.hep_tops.specs.ProcKeeping.{IsUnused};
-ghost use Rattle.hep_tops.specs.ProcNodes.{nodes_of};
-ghost use Rattle.hep_purging.specs.Room as room;
-ghost use Rattle.hep_purging.specs.Room.{most_of};
+ghost use Rattle.hep_image.specs.Dummies.{dummy_arguments};
+ghost use Rattle.hep_image.specs.Image.{IsUnitCode};
+ghost use Rattle.hep_proc.specs.Keeping.{IsUnused};
+ghost use Rattle.hep_proc.specs.Nodes.{nodes_of};
+ghost use Rattle.hep_step.specs.Room as room;
+ghost use Rattle.hep_step.specs.Room.{most_of};
 ghost use Rattle.hep_binding.specs.Fitting as shaping;
-ghost use Rattle.hep_tops.specs.StepSimulation.{unit_code};
+ghost use Rattle.hep_step.specs.Simulation.{unit_code};
 ghost use Rattle.hep_state.specs.Words.{AreOut, CanOpen, HasOneProcess, IsEntered, IsGiven, IsMachineAfter, IsQuiet, IsRoomToPass};
 
+use crate::core_state::{CoreState, Passing};
 use crate::laws;
-use crate::machine::{Machine, Passing};
 use hep_binding::longest_code;
 use hep_machine::Slot;
-use hep_purging::most_targets;
+use hep_proc::{Frames, Local, Process};
 use hep_source::{Form, Statement, Unit, Value};
-use hep_tops::{DataRow, Frames, Image, Local, Process, UnitCode};
+use hep_step::{DataRow, Image, UnitCode, most_targets};
 use std::alloc::{AllocError, Global};
 
 // What a core runs of the main program.
@@ -35,7 +35,7 @@ fn main_program(image: &Image) -> &UnitCode
 pub fn fits(image: &Image, cells: u32) -> bool
     ensures { result ≡ is_some (opening_layout image.now cells) }
 {
-    hep_tops::openings_fit_by_numbers();
+    hep_step::openings_fit_by_numbers();
     image.common() + main_program(image).cells <= cells
 }
 
@@ -46,8 +46,8 @@ fn enter_main(frames: &mut Frames, image: &Image) -> usize
     requires fits { IsSome (opening_layout image.now (length frames.old.arena.contents)) }
     ensures { IsEntered image.now (length frames.old.arena.contents) result frames.new.arena (nodes_of frames.new.nodes) }
 {
-    hep_tops::openings_fit_by_numbers();
-    hep_tops::openings_want_unset_cells();
+    hep_step::openings_fit_by_numbers();
+    hep_proc::laws::openings_want_unset_cells();
     hep_binding::programs_are_closed();
     laws::openings_are_shown();
     frames.open(image.main(), main_program(image).cells)
@@ -175,7 +175,7 @@ fn begun(alloc: Global, level: Local, operands: u32) -> Result<Process, AllocErr
     })
 }
 
-impl Machine {
+impl CoreState {
     /// The machine of a program before its first turn, with an arena of so many cells.
     ///
     /// There is one cell at least, and no more than 16,777,216, and the program [`fits`].
@@ -183,7 +183,7 @@ impl Machine {
     /// # Errors
     ///
     /// Only where memory was refused.
-    pub fn open(alloc: Global, image: &Image, cells: u32) -> Result<Machine, AllocError>
+    pub fn open(alloc: Global, image: &Image, cells: u32) -> Result<CoreState, AllocError>
         requires { CanOpen image.now cells }
         ensures opened { IfOk result (λ machine. IsMachineAfter image.now cells [] machine) }
         ensures alone { IfOk result (λ machine. machine.made ≡ 1) }
@@ -191,7 +191,7 @@ impl Machine {
         ensures quiet { IfOk result (λ machine. IsQuiet machine) }
         ensures room { IfOk result (λ machine. IsRoomToPass image.now machine.passing) }
     {
-        hep_tops::openings_fit_by_numbers();
+        hep_step::openings_fit_by_numbers();
         laws::openings_are_shown();
         let main = main_program(image);
         let mut frames = Frames::new(alloc, cells, image.common())?;
@@ -205,7 +205,7 @@ impl Machine {
             index: main.entry as usize,
         };
         let process = begun(alloc, level, main.operands)?;
-        Ok(Machine {
+        Ok(CoreState {
             frames,
             processes: vec![in alloc; process]?,
             made: 1,

@@ -3,13 +3,13 @@ ghost use Rattle.std.specs.Prelude.{◌≡◌, ◌≤◌, IfErr, IfOk, drop, len
 ghost use Rattle.hep_state.specs.Words.{FailsAtCall, IsAtCallAhead, IsGivenBy, KeepsRoomOf};
 
 use crate::advancing::behind;
+use crate::core_state::{CoreState, Passing};
 use crate::laws;
-use crate::machine::{Machine, Passing};
 use crate::upcoming::CallAhead;
 use hep_binding::find_shapes;
 use hep_machine::Kind;
 use hep_source::Value;
-use hep_tops::{AllPassed, Image, give_actuals, in_front};
+use hep_step::{AllPassed, Image, give_actuals, in_front};
 
 // The operands behind the first ones, so many.
 #[inline(always)]
@@ -29,7 +29,7 @@ fn narrowed(number: usize) -> u32
     number as u32
 }
 
-impl Machine {
+impl CoreState {
     // What the actual arguments of the CALL, CREATE or reference ahead of process p give. Answers how many operands stand in front of
     // those that they pass.
     //

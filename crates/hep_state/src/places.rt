@@ -2,12 +2,12 @@
 ghost use Rattle.std.specs.Prelude.{◌≡◌, ◌⊎◌, ◌+◌, ◌++◌, ◌<◌, ◌∷◌, [], ℕ, false, true, IfNone, IfSome, OnOk, vec_capacity, vec_len};
 ghost use Rattle.std.specs.List.{filter};
 ghost use Rattle.hep_machine.specs.Words.{is_number_among};
-ghost use Rattle.hep_tops.specs.ProcStacks.{is_left};
+ghost use Rattle.hep_proc.specs.Stacks.{is_left};
 ghost use Rattle.hep_blocked.specs.Numbers.{AreRising};
 ghost use Rattle.hep_state.specs.Words.{AreNumbered, HasLevels, IsPlaceOf, IsWhetherLives, numbers_of, snapshot_of};
 
-use crate::machine::{Machine, append};
-use hep_tops::Process;
+use crate::core_state::{CoreState, append};
+use hep_proc::Process;
 use std::alloc::AllocError;
 
 // At which place a process with a number stands among others.
@@ -52,7 +52,7 @@ pub(crate) fn make_room(processes: &mut Vec<Process>) -> Result<(), AllocError>
     processes.reserve(left + 1)
 }
 
-impl Machine {
+impl CoreState {
     /// At which place among the processes that are kept process p stands, which lives.
     ///
     /// This costs a constant time where each process up to p is kept, and else the logarithm of how many are.

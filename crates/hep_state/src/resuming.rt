@@ -4,15 +4,15 @@ ghost use Rattle.hep_state.specs.declared.turn.Turned.TheVariants.{Stepped};
 ghost use Rattle.hep_state.specs.Words.{CanPart, CanTakeResume, HasRoomForEntry, IsTurn, KeepsRollFor, KeepsRoomParting, LeavesAlone, LeavesOthers, PartsAt};
 ghost use Rattle.hep_state.specs.Words.{snapshot_of};
 
+use crate::core_state::{CoreState, append};
 use crate::laws;
-use crate::machine::{Machine, append};
 use hep_blocked::Roster;
-use hep_entries::History;
-use hep_leaving::{Leaving, leave};
-use hep_tops::{Image, Local, Process};
+use hep_history::History;
+use hep_proc::{Leaving, Local, Process, leave};
+use hep_step::Image;
 use std::alloc::AllocError;
 
-impl Machine {
+impl CoreState {
     // The top activation of process p becomes a process of its own, which was empty, and goes on at an index there; the one below it goes
     // on. There is room for the process and for its level, and it has the next number.
     fn part(&mut self, p: u64, index: usize, mut process: Process)

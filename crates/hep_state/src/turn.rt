@@ -1,6 +1,6 @@
 //! One turn of a process.
 ghost use Rattle.std.specs.Prelude.{◌≡◌, ◌<◌, ◌≤◌, ◌+◌, IfOk, IfErr, OnErr, OnOk, vec_len, vec_capacity};
-ghost use Rattle.hep_tops.specs.StepPerformed.{changed_in};
+ghost use Rattle.hep_step.specs.Performed.{changed_in};
 ghost use Rattle.hep_blocked.specs.Rolls.{KeepsRoll};
 ghost use Rattle.hep_state.specs.Words.{AreNumbered, CanBeMore, CanTakeCall, CanTakeOperation, CanTurn, ChangesNext, HasLevels};
 ghost use Rattle.hep_state.specs.Words.{HasRoomForCreation, HasRoomForEntry, HasRoomForLevel, HasRoomForProcess, IsAtOperation, IsEmptyProcess};
@@ -8,15 +8,17 @@ ghost use Rattle.hep_state.specs.Words.{IsRefused, IsTurn, KeepsRollFor, KeepsWr
 ghost use Rattle.hep_state.specs.Words.{snapshot_of};
 
 use crate::calling::Called;
+use crate::core_state::CoreState;
 use crate::laws;
-use crate::machine::Machine;
 use crate::onward::creates;
 use crate::places::make_room;
+use crate::top_place::advance;
 use crate::upcoming::{CallAhead, StepAhead};
 use hep_blocked::Roster;
 use hep_cells::Want;
-use hep_entries::History;
-use hep_tops::{Effect, Image, Process, advance};
+use hep_history::History;
+use hep_proc::Process;
+use hep_step::{Effect, Image};
 use std::alloc::{AllocError, Global};
 use thiserror::Error;
 
@@ -54,7 +56,7 @@ pub enum Turned {
     Waits(Want),
 }
 
-impl Machine {
+impl CoreState {
     // Room for what a turn may write: a record, a fault, and its entry of the history.
     fn reserve(&mut self, history: &mut History) -> Result<(), AllocError>
         ensures records { OnOk result (vec_len self.new.records < vec_capacity self.new.records) }

@@ -7,9 +7,10 @@ ghost use Rattle.hep_state.specs.Words.{IsItsTurn, HasLevels, HasSettledTop, IsA
 ghost use Rattle.hep_state.specs.Words.{snapshot_of};
 
 use crate::advancing::settle_top;
-use crate::machine::Machine;
+use crate::core_state::CoreState;
 use hep_code::{Instruction, Operation, Variable};
-use hep_tops::{Image, Local, Way};
+use hep_proc::Local;
+use hep_step::{Image, Way};
 
 /// A CALL, CREATE or reference that stands ahead of a process.
 #[derive(Clone, Copy)]
@@ -111,7 +112,7 @@ fn ahead_at(code: &[Instruction], index: usize) -> StepAhead
     }
 }
 
-impl Machine {
+impl CoreState {
     // What stands ahead of process p, once the values in front of it are operands.
     pub(crate) fn step_ahead(&mut self, image: &Image, p: u64) -> StepAhead
         requires { IsItsTurn image.now p self.old }

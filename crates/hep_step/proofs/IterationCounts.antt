@@ -1,2 +1,2 @@
 -- Iteration counts of DOs, passed on. Declares nothing.
-pub use Rattle.hep_loops.proofs.IterationCounts.{iterations_are}
+pub use Rattle.hep_cells.proofs.IterationCounts.{iterations_are}

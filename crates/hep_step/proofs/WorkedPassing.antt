@@ -10,7 +10,7 @@ use Rattle.hep_code.specs.declared.variable.Variable.{Variable}
 use Rattle.hep_code.specs.declared.variable.Variable.TheVariants as variables
 use Rattle.hep_code.specs.Words.{passed_from}
 use Rattle.hep_image.specs.Finding.{cells_in}
-use Rattle.hep_step.proofs.Worked.{array, contents}
+use Rattle.hep_step.proofs.WorkedAddresses.{array, contents}
 use Rattle.hep_step.specs.declared.given.Given.{Given}
 use Rattle.hep_step.specs.declared.given.Given.TheVariants as giving
 use Rattle.hep_step.specs.Passing.{given_by, passed_at}

@@ -4,8 +4,8 @@ ghost use Rattle.hep_step.specs.Cells.{HasFrame};
 ghost use Rattle.hep_step.specs.All.{AreAllPassable, made_of_all};
 ghost use Rattle.hep_step.specs.Passing.{given_for};
 
-use crate::Frame;
 use crate::entry::Passed;
+use crate::frame::Frame;
 use crate::given::Given;
 use crate::making::{AllPassed, FromPassed, make_from_entries};
 use crate::passing::passed;

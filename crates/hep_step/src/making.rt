@@ -3,8 +3,8 @@ ghost use Rattle.std.specs.Prelude.{◌≡◌, ◌≤◌, Ok, Err, IfOk, IfErr, 
 ghost use Rattle.hep_step.specs.Cells.{HasFrame};
 ghost use Rattle.hep_step.specs.All.{AreAllPassable, made_of_all};
 
-use crate::Frame;
 use crate::entry::{Passed, first_of, passed_ahead};
+use crate::frame::Frame;
 use hep_arena::Arena;
 use hep_code::Instruction;
 use hep_image::Array;

@@ -9,7 +9,7 @@ ghost use Rattle.hep_step.specs.Passing as definitions;
 ghost use Rattle.hep_step.specs.Passing.{given_units, passed_at, passed_of_array, passed_of_scalar};
 ghost use Rattle.hep_step.specs.ReadyToPass.{AreUnitsIn, IsPassable};
 
-use crate::finding::number_in;
+use crate::addresses::number_in;
 use crate::frame::{Frame, base, bounds, rest};
 use crate::given::Given;
 use hep_arena::Arena;

@@ -8,7 +8,7 @@ ghost use Rattle.hep_step.specs.Ready.{IsReady};
 
 use crate::effect::Effect;
 use crate::iterating::{Loop, end_loop, enter_loop};
-use crate::moving::jump;
+use crate::leading_on::jump;
 use crate::printing::print;
 use crate::standing::Standing;
 use crate::storage::Storage;

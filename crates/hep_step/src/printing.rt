@@ -6,7 +6,7 @@ ghost use Rattle.hep_step.specs.declared.effect.Effect.TheVariants.{Printed as P
 ghost use Rattle.hep_step.specs.Items.{item_ahead as item_read, items_in};
 
 use crate::effect::Effect;
-use crate::moving::go_on;
+use crate::leading_on::go_on;
 use crate::standing::Standing;
 use hep_code::{Duplicate, Instruction, Printed};
 use hep_machine::{Item, Record};

@@ -9,8 +9,8 @@ ghost use Rattle.hep_step.specs.Effects.{effect_of, effect_of_evaluation, subscr
 ghost use Rattle.hep_step.specs.Performed.{IsPerformed, KeepsHoles, seen};
 ghost use Rattle.hep_step.specs.Ready.{IsEvaluationReady, IsVariableReady};
 
+use crate::addresses::address;
 use crate::effect::Effect;
-use crate::finding::address;
 use crate::granted::granted;
 use crate::reply::{reply_of, reply_to_store};
 use crate::standing::Standing;

@@ -9,13 +9,13 @@ use Rattle.hep_conditions.specs.Words.{count_of_items, holds_at_each_place, leas
 use Rattle.hep_conditions.proofs.Lines.{least_line-or, least_line_of-same, least_line_of-both, least_line_of-turned, reported-append, reported-of, reported-when, least_line_of-nones, least_line-assoc, least_line-comm}
 use Rattle.hep_storage.specs.Agreement.{Summed, nothing_summed, with_list, with_block, with_length, is_other_length, place_count, differs_from, line_after, least_after, least_of_blocks}
 use Rattle.hep_storage.specs.Blocks.{KnownPlaces, Block, run_of, known_places, block_in}
-use Rattle.hep_runs.specs.Runs.{alike, positions_in}
+use Rattle.hep_storage.specs.Runs.{alike, positions_in}
 use Rattle.hep_storage.specs.Shared.{departs}
-use Rattle.hep_runs.specs.Spread.{repeat_before, spread, agree_as_far}
+use Rattle.hep_storage.specs.Spread.{repeat_before, spread, agree_as_far}
 use Rattle.hep_storage.specs.declared.summary.Lengths.{Lengths}
-use Rattle.hep_runs.specs.declared.runs.Position.{Position}
-use Rattle.hep_runs.proofs.Meetings.{length-repeat, map-repeat}
-use Rattle.hep_runs.proofs.Places.{at_each_place}
+use Rattle.hep_storage.specs.declared.runs.Position.{Position}
+use Rattle.hep_storage.proofs.Meetings.{length-repeat, map-repeat}
+use Rattle.hep_storage.proofs.Places.{at_each_place}
 use Rattle.hep_storage.proofs.Sharing.{one-more}
 
 -- ---- two lists of a block

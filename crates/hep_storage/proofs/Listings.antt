@@ -6,10 +6,10 @@ use Rattle.hep_source.proofs.NameTests.{equal_names, name_eq-is, same_name-turne
 use Rattle.hep_conditions.specs.Common as conditions
 use Rattle.hep_conditions.specs.Words.{known_before, nothing_more}
 use Rattle.hep_storage.specs.Blocks.{AreNoted, KnownPlaces, is_first_block, names_into, no_run, places_of, run_of, run_of_name, with_noted, with_run, with_known_run, known_places, places_of_names}
-use Rattle.hep_runs.specs.Runs.{alike, positions_in}
-use Rattle.hep_runs.specs.Spread.{repeat_before}
-use Rattle.hep_runs.specs.declared.runs.Run.{Run}
-use Rattle.hep_runs.proofs.Meetings.{alike-equal, positions-append, repeat-append, repeat-parts}
+use Rattle.hep_storage.specs.Runs.{alike, positions_in}
+use Rattle.hep_storage.specs.Spread.{repeat_before}
+use Rattle.hep_storage.specs.declared.runs.Run.{Run}
+use Rattle.hep_storage.proofs.Meetings.{alike-equal, positions-append, repeat-append, repeat-parts}
 use Rattle.hep_machine.proofs.Locations.{equal_blocks, block-self}
 
 -- ---- names

@@ -4,12 +4,12 @@ use Rattle.std.proofs.lemmas.List.{drop_more, take_more_set}
 use Rattle.hep_machine.specs.Words.{is_nonempty}
 use Rattle.hep_storage.specs.Shared.{InCommon, departs, with_position, in_common, Compares}
 use Rattle.hep_storage.specs.declared.common.Comparison.TheVariants.{Parted, Within, Beyond}
-use Rattle.hep_runs.specs.Spread.{repeat_before, agree_as_far}
-use Rattle.hep_runs.specs.Runs.{alike, positions_in, IsPlace, first_places, later_places, front, rest, heads_differ}
-use Rattle.hep_runs.specs.declared.runs.Place.{Place}
-use Rattle.hep_runs.specs.declared.runs.Position.{Position}
-use Rattle.hep_runs.specs.declared.runs.Run.{Run}
-use Rattle.hep_runs.proofs.Meetings.{alike-self, alike-equal, front-rest, positions-append, rest-none}
+use Rattle.hep_storage.specs.Spread.{repeat_before, agree_as_far}
+use Rattle.hep_storage.specs.Runs.{alike, positions_in, IsPlace, first_places, later_places, front, rest, heads_differ}
+use Rattle.hep_storage.specs.declared.runs.Place.{Place}
+use Rattle.hep_storage.specs.declared.runs.Position.{Position}
+use Rattle.hep_storage.specs.declared.runs.Run.{Run}
+use Rattle.hep_storage.proofs.Meetings.{alike-self, alike-equal, front-rest, positions-append, rest-none}
 use Rattle.hep_source.proofs.Tests.{or-false, or-true}
 
 -- ---- what departs from several lists departs from one of them

@@ -4,12 +4,12 @@ use Rattle.std.specs.List.{list_any}
 use Rattle.hep_machine.specs.Words.{Units, BlockName, is_block_among}
 use Rattle.hep_conditions.specs.Words.{least_line, line_when, least_line_of}
 use Rattle.hep_storage.specs.Blocks.{KnownPlaces, Block, block_in}
-use Rattle.hep_runs.specs.Runs.{positions_in}
+use Rattle.hep_storage.specs.Runs.{positions_in}
 use Rattle.hep_storage.specs.Shared.{departs, in_common}
 use Rattle.hep_storage.specs.declared.summary.Lengths.{Lengths}
 use Rattle.hep_storage.specs.declared.summary.Lengths.TheVariants as lengths
 use Rattle.hep_storage.specs.declared.summary.Summary.{Summary}
-use Rattle.hep_runs.specs.declared.runs.Position.{Position}
+use Rattle.hep_storage.specs.declared.runs.Position.{Position}
 
 -- ---- lengths
 

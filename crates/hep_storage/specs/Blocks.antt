@@ -6,11 +6,11 @@ use Rattle.hep_machine.specs.Words.{CommonBlock, Name, Statement, is_among, same
 use Rattle.hep_conditions.specs.Common as conditions
 use Rattle.hep_conditions.specs.Known.{Known as Items}
 use Rattle.hep_storage.specs.declared.contents.Contents.{Contents}
-use Rattle.hep_runs.specs.declared.runs.Known.{Known}
-use Rattle.hep_runs.specs.Runs.{positions_in}
-use Rattle.hep_runs.specs.Spread.{repeat_before}
-use Rattle.hep_runs.specs.declared.runs.Position.{Position}
-use Rattle.hep_runs.specs.declared.runs.Run.{Run}
+use Rattle.hep_storage.specs.declared.runs.Known.{Known}
+use Rattle.hep_storage.specs.Runs.{positions_in}
+use Rattle.hep_storage.specs.Spread.{repeat_before}
+use Rattle.hep_storage.specs.declared.runs.Position.{Position}
+use Rattle.hep_storage.specs.declared.runs.Run.{Run}
 
 abbrev pub run_of : Repeated conditions.Position → Run
 run_of r = record { position = record { asynchronous = r.item.0; value_type = r.item.1 }; count = r.count }

@@ -1,4 +1,10 @@
+pub mod Runs
+pub mod Spread
 pub mod Shared
 pub mod Blocks
 pub mod Agreement
 pub mod Table
+pub mod Given
+pub mod Groups
+pub mod Named
+pub mod Shapes

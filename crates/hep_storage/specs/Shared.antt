@@ -1,11 +1,11 @@
 -- What the lists of a common block in several units have in common: X3.9-1978, 8.3.
 use Rattle.std.specs.Prelude.{◌≡◌, Bool, true, false, not, ◌&&◌, ◌||◌, if◌then◌else◌, List, [], ◌∷◌}
 use Rattle.hep_machine.specs.Words.{is_nonempty}
-use Rattle.hep_runs.specs.Runs.{alike, positions_in, IsPlace, front, rest}
+use Rattle.hep_storage.specs.Runs.{alike, positions_in, IsPlace, front, rest}
 use Rattle.hep_storage.specs.declared.common.Comparison.{Comparison}
 use Rattle.hep_storage.specs.declared.common.Comparison.TheVariants.{Parted, Within, Beyond}
-use Rattle.hep_runs.specs.declared.runs.Position.{Position}
-use Rattle.hep_runs.specs.declared.runs.Run.{Run}
+use Rattle.hep_storage.specs.declared.runs.Position.{Position}
+use Rattle.hep_storage.specs.declared.runs.Run.{Run}
 
 -- the places up to which several lists agree; where these are cut, two of the lists go on otherwise
 pub record InCommon : Type 0 where

@@ -1,10 +1,10 @@
 //! What the lists of a common block in several units have in common (X3.9-1978, 8.3).
 ghost use Rattle.std.specs.Prelude.{◌≡◌, false, []};
 ghost use Rattle.hep_machine.specs.Words.{is_nonempty};
-ghost use Rattle.hep_runs.specs.Runs.{positions_in, IsPlace, front, rest};
+ghost use Rattle.hep_storage.specs.Runs.{positions_in, IsPlace, front, rest};
 ghost use Rattle.hep_storage.specs.Shared.{departs, in_common, Compares};
 
-use hep_runs::{Place, Run, meet};
+use crate::runs::{Place, Run, meet};
 use std::alloc::Global;
 use std::mem::swap;
 

@@ -6,11 +6,11 @@ ghost use Rattle.indexmap.specs.IndexSet.{contains};
 ghost use Rattle.hep_machine.specs.Words.{name_eq, same_name, BlockName, same_block, names_declared, elements};
 ghost use Rattle.hep_source.specs.declared.name.Name.{Name as PureName};
 ghost use Rattle.hep_storage.specs.Blocks as blocks;
-ghost use Rattle.hep_runs.specs.Runs.{positions_in};
+ghost use Rattle.hep_storage.specs.Runs.{positions_in};
 ghost use Rattle.hep_types.specs.Known.{known};
 
+use crate::runs::{Known, Position, Run};
 use hep_names::Symbols;
-use hep_runs::{Known, Position, Run};
 use hep_source::{Declarator, Name};
 use hep_types::{KnownShape, Shapes};
 use indexmap::IndexSet;

@@ -4,7 +4,7 @@ ghost use Rattle.hep_storage.specs.Blocks as blocks;
 ghost use Rattle.hep_storage.specs.Agreement as agreement;
 
 use crate::common::Shared;
-use hep_runs::{Known, place_count};
+use crate::runs::{Known, place_count};
 use hep_source::Name;
 use std::alloc::Global;
 

@@ -1,6 +1,6 @@
 //! Calls of the crates, with memory and without, and with readers and writers that behave badly. Whole runs
 //! with their bytes are cases of the folder `tests` at the top of the repository.
-ghost use Rattle.hep_segments.specs.Segments.{IsMadeBy};
+ghost use Rattle.hep_private.specs.Segments.{IsMadeBy};
 
 mod cells;
 mod commits;
@@ -12,9 +12,8 @@ mod segments;
 mod streams;
 mod workers;
 
-use hep_copies::Syntax;
-use hep_entries::History;
-use hep_image::Image;
+use hep_history::History;
+use hep_image::{Image, Syntax};
 use hep_parse::parse;
 use hep_run::{
     ChooseFault, CommitFault, Core, Segment, Ticket, Turn, Verdict, check, compute, lower,

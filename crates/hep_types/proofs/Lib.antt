@@ -3,3 +3,4 @@ pub mod KnownShapes
 pub mod Passes
 pub mod Results
 pub mod BoundedArrays
+pub mod CallPasses

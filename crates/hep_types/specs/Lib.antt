@@ -3,3 +3,5 @@ pub mod Bounds
 pub mod Shapes
 pub mod Known
 pub mod Passes
+pub mod Actuals
+pub mod CallPasses

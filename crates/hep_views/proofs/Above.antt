@@ -5,8 +5,8 @@ use Rattle.std.proofs.lemmas.Option.{none-some, same_Some}
 use Rattle.hep_machine.specs.Words.{Name, Value, index_among, Units, dummies_of, unit_at, BlockName, common_block, next_of, Scope, dummy_at, element_of, location_in, location_of_name, start_by_block, storage_by_dummy, storage_of, activation_of, living, parent_of, unit_of, Level, Location, Process, State, common, local, Wanted, scope_of, further}
 use Rattle.hep_machine.specs.declared.event.Kind.{Kind}
 use Rattle.hep_layout.specs.Words.{IsAbove, IsOwnedAbove}
-use Rattle.hep_state.specs.BlockedNeeds.{need_of, need_of_next, on_top}
-use Rattle.hep_state.proofs.BlockedHolding.{need-named}
+use Rattle.hep_blocked.specs.Needs.{need_of, need_of_next, on_top}
+use Rattle.hep_blocked.proofs.Holding.{need-named}
 
 -- ---- what is above an activation and isn't it is above its parent
 

@@ -9,8 +9,8 @@ use Rattle.hep_machine.proofs.Ages.{run_older}
 use Rattle.hep_machine.proofs.Held.{held_is}
 use Rattle.hep_layout.specs.Words.{IsFrameTree, FrameNode, Nodes, is_stacked}
 use Rattle.hep_layout.proofs.FrameTree.{under-parts}
-use Rattle.hep_state.specs.ProcProcessLocal.{Local}
-use Rattle.hep_state.specs.ProcStacks.{keys_of, Stack}
+use Rattle.hep_proc.specs.declared.process.Local.{Local}
+use Rattle.hep_proc.specs.Stacks.{keys_of, Stack}
 use Rattle.hep_state.specs.Words.{Snapshot, IsAfter}
 use Rattle.hep_state.proofs.Standing.{AreStanding, AreStandingBelow, IsHere, stack-standing}
 use Rattle.hep_views.specs.Nodes.{is_of, node_above, node_among, parent_in, node_of}

@@ -5,17 +5,17 @@ use Rattle.slab.specs.Slab.{get}
 use Rattle.hep_machine.specs.Words.{Name, Statement, Units, dummies_of, main_among, unit_at, BlockName, Layout, common_cells, frame_of, is_held, parent_of, unit_of, run, Location, State, common, local}
 use Rattle.hep_machine.proofs.Ages.{run_older}
 use Rattle.hep_conditions.specs.Words.{IsAccepted}
-use Rattle.hep_state.proofs.AcceptedLawsMeant.{dummies_once}
+use Rattle.hep_accepted_laws.proofs.Meant.{dummies_once}
 use Rattle.hep_layout.specs.Words.{IsLaid, address, IsOwnedAbove, FramePart, argument, common_row, frame_row, owner_in, variable, FrameNode, is_stacked}
 use Rattle.hep_layout.proofs.Frames.{among}
-use Rattle.hep_state.specs.ImageImage.{most_cells}
-use Rattle.hep_state.specs.ImageOwners.{AreGivenOnce, IsBlockTold, IsTold}
-use Rattle.hep_state.proofs.ImageBlockOwners.{tells_block}
-use Rattle.hep_state.proofs.ImageFrameOwners.{tells_argument, tells_variable}
-use Rattle.hep_state.specs.ProcNodes.{nodes_of}
-use Rattle.hep_state.proofs.ProcSlabs.{some-value}
-use Rattle.hep_state.proofs.AcceptedLawsClosed.{units-there}
-use Rattle.hep_state.specs.declared.machine.Machine.{Machine}
+use Rattle.hep_image.specs.Image.{most_cells}
+use Rattle.hep_image.specs.Owners.{AreGivenOnce, IsBlockTold, IsTold}
+use Rattle.hep_image.proofs.BlockOwners.{tells_block}
+use Rattle.hep_image.proofs.FrameOwners.{tells_argument, tells_variable}
+use Rattle.hep_proc.specs.Nodes.{nodes_of}
+use Rattle.hep_proc.proofs.Slabs.{some-value}
+use Rattle.hep_accepted_laws.proofs.Closed.{units-there}
+use Rattle.hep_state.specs.declared.core_state.CoreState.{CoreState}
 use Rattle.hep_views.specs.Waited.{unit_in_frame, unit_of_block, unit_of_part}
 use Rattle.hep_views.proofs.Cells.{common-told, frame-told}
 use Rattle.hep_views.specs.declared.place.Place.{Place}
@@ -62,7 +62,7 @@ variable-told a unit n x i once e =
 
 -- ---- what is sought
 
-module _ (program : Units) (cells : ℕ) (choices : List ℕ) (m : Machine) (key cell : ℕ) (at : Location) (h : IsSought program cells choices m key cell at) where
+module _ (program : Units) (cells : ℕ) (choices : List ℕ) (m : CoreState) (key cell : ℕ) (at : Location) (h : IsSought program cells choices m key cell at) where
   abbrev s : State
   s = run program choices
 

@@ -12,7 +12,7 @@ use Rattle.hep_layout.specs.Words.{Holds, address, Describes, number, descriptor
 use Rattle.hep_layout.proofs.Rows.{place-at}
 use Rattle.hep_layout.proofs.Runs.{runs-local, runs-value}
 use Rattle.hep_layout.proofs.Telling.{tells-rest, tells-value}
-use Rattle.hep_state.specs.ImageFinding.{cells_in}
+use Rattle.hep_image.specs.Finding.{cells_in}
 use Rattle.hep_views.specs.Reading.{HasDummies, block_read, cells_read, common_read, frame_read, frame_read_in, frames_read, local_read, value_read}
 
 -- ---- lists

@@ -13,12 +13,12 @@ use Rattle.hep_layout.specs.Words.{Describes, descriptor_slots, is_stacked}
 use Rattle.hep_layout.proofs.Beginning.{tree-same, needed-same}
 use Rattle.hep_layout.proofs.Descriptors.{described-same, wanted-same}
 use Rattle.hep_layout.proofs.Memory.{address-same, memory-same}
-use Rattle.hep_state.specs.ImageBound.{AreKept}
-use Rattle.hep_state.specs.ImagePlaces.{addresses_of}
-use Rattle.hep_state.specs.StepEffects.{Effect, waits}
-use Rattle.hep_state.specs.StepSimulation.{unit_arrays, unit_code}
-use Rattle.hep_state.specs.ProcProcessLocal.{Local}
-use Rattle.hep_state.specs.ProcStacks.{Stack}
+use Rattle.hep_image.specs.Bound.{AreKept}
+use Rattle.hep_image.specs.Places.{addresses_of}
+use Rattle.hep_step.specs.Effects.{Effect, waits}
+use Rattle.hep_step.specs.Simulation.{unit_arrays, unit_code}
+use Rattle.hep_proc.specs.declared.process.Local.{Local}
+use Rattle.hep_proc.specs.Stacks.{Stack}
 use Rattle.hep_state.specs.Words.{Shows, code_levels, node_under, Snapshot}
 use Rattle.hep_views.specs.Nodes.{node_of}
 use Rattle.hep_views.specs.Waited.{effect_behind, unit_among, unit_in_common, unit_kept_at, unit_under, wanted_by_levels, wanted_by_stack, wanted_for, wanted_seen}

@@ -10,10 +10,10 @@ use Rattle.hep_source.proofs.NameTests.{equal_names, same_name-self}
 use Rattle.hep_machine.specs.declared.event.Kind.{Kind}
 use Rattle.hep_machine.proofs.Changes.{Makes, by_step, next_on, top_in}
 use Rattle.hep_conditions.specs.Words.{IsAccepted}
-use Rattle.hep_state.proofs.AcceptedLawsMeant.{dummies_once}
+use Rattle.hep_accepted_laws.proofs.Meant.{dummies_once}
 use Rattle.hep_layout.proofs.References.{each-state}
-use Rattle.hep_state.proofs.ImageAdded.{Adds, Binds, added-next}
-use Rattle.hep_state.specs.ImageBound.{CallsAgree, IsBound, NextAgrees}
+use Rattle.hep_image.proofs.Added.{Adds, Binds, added-next}
+use Rattle.hep_image.specs.Bound.{CallsAgree, IsBound, NextAgrees}
 use Rattle.hep_views.specs.Reading.{HasDummies, frame_read, frame_read_in, frames_read}
 use Rattle.hep_arena.specs.Gaps.{frame_among}
 use Rattle.hep_code.specs.declared.instruction.Instruction.{Instruction}
@@ -22,11 +22,11 @@ use Rattle.hep_code.specs.Words.{operands_of_action, operands_of_actual, operand
 use Rattle.hep_code.proofs.Works.{NextIs, work_is}
 use Rattle.hep_layout.specs.Words.{FrameNode}
 use Rattle.hep_views.proofs.Read.{common-is-read, frames-are-read}
-use Rattle.hep_state.specs.ProcProcessLocal.{Local}
-use Rattle.hep_state.specs.ProcStacks.{Stack}
+use Rattle.hep_proc.specs.declared.process.Local.{Local}
+use Rattle.hep_proc.specs.Stacks.{Stack}
 use Rattle.hep_state.specs.Words.{Snapshot, IsAfter}
 use Rattle.hep_state.proofs.Standing.{AreStanding, stack-standing}
-use Rattle.hep_state.specs.StepSimulation.{unit_addressed, unit_code}
+use Rattle.hep_step.specs.Simulation.{unit_addressed, unit_code}
 use Rattle.hep_views.specs.Nodes.{node_of}
 use Rattle.hep_views.specs.Seen.{frame_seen, frames_seen, machine_view, process_seen, processes_seen}
 use Rattle.hep_views.specs.Waited.{wanted_by_levels, wanted_by_stack, wanted_seen}

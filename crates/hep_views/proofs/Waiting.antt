@@ -11,16 +11,16 @@ use Rattle.hep_code.specs.Words.{operands_of_action, operands_of_actual, operand
 use Rattle.hep_code.proofs.Works.{NextIs, work_is}
 use Rattle.hep_layout.specs.Words.{IsOwnedAbove, FrameNode, Nodes}
 use Rattle.hep_layout.proofs.References.{references}
-use Rattle.hep_state.specs.BlockedNeeds.{need_of, unmet}
-use Rattle.hep_state.proofs.BlockedWaiting.{waits-unmet}
-use Rattle.hep_state.specs.ProcNodes.{nodes_of}
-use Rattle.hep_state.specs.ProcProcessLocal.{Local}
-use Rattle.hep_state.specs.ProcStacks.{Stack}
-use Rattle.hep_state.specs.declared.machine.Machine.{Machine}
+use Rattle.hep_blocked.specs.Needs.{need_of, unmet}
+use Rattle.hep_blocked.proofs.Waiting.{waits-unmet}
+use Rattle.hep_proc.specs.Nodes.{nodes_of}
+use Rattle.hep_proc.specs.declared.process.Local.{Local}
+use Rattle.hep_proc.specs.Stacks.{Stack}
+use Rattle.hep_state.specs.declared.core_state.CoreState.{CoreState}
 use Rattle.hep_state.specs.Words.{HasLevels, IsMachineAfter, snapshot_of}
 use Rattle.hep_state.proofs.Standing.{AreStanding, stack-standing}
-use Rattle.hep_state.specs.StepSimulation.{unit_addressed, unit_code}
-use Rattle.hep_state.specs.BlockedListing.{IsBlocked}
+use Rattle.hep_step.specs.Simulation.{unit_addressed, unit_code}
+use Rattle.hep_blocked.specs.Listing.{IsBlocked}
 use Rattle.hep_views.specs.declared.place.Place.{Place}
 use Rattle.hep_views.specs.Listed.{listed_by, listed_with, place_of}
 use Rattle.hep_views.specs.Sought.{IsSought}
@@ -68,14 +68,14 @@ top-there (Some (level ∷ levels)) top e =
     ap (λ (t : SourceLevel × Process). Some (t.0 ∷ t.1)) (same_Some (level, levels) top e)
 
 -- what a machine keeps of the top activation of process p
-pub record IsTop (program : Units) (s : State) (m : Machine) (p : ℕ) (top : SourceLevel × Process) : Type 0 where
+pub record IsTop (program : Units) (s : State) (m : CoreState) (p : ℕ) (top : SourceLevel × Process) : Type 0 where
   pub levels : HasLevels (snapshot_of m) p
   pub inside : levels.level.unit < length program
   pub there : (n : FrameNode) × (nodes_of m.frames.nodes levels.level.key ≡ Some n) × (top.0.activation ≡ n.activation)
   pub unit : unit_of s top.0.activation ≡ levels.level.unit
   pub line : line_ahead (drop levels.level.index (unit_code program levels.level.unit)) ≡ line_at (unit_at program (unit_of s top.0.activation)) top.0.statement
 
-module _ (program : Units) (cells : ℕ) (choices : List ℕ) (m : Machine) (h : IsMachineAfter program cells choices m) where
+module _ (program : Units) (cells : ℕ) (choices : List ℕ) (m : CoreState) (h : IsMachineAfter program cells choices m) where
   abbrev s : State
   s = run program choices
 

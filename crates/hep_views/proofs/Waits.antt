@@ -6,9 +6,9 @@ use Rattle.hep_machine.specs.declared.slot.Slot.{Slot}
 use Rattle.hep_code.specs.declared.instruction.Instruction.{Instruction}
 use Rattle.hep_code.specs.declared.instruction.Instruction.TheVariants.{Push, Step}
 use Rattle.hep_code.specs.Words.{Stands, IsPastPushes}
-use Rattle.hep_state.specs.ImageArrayArray.{Array}
-use Rattle.hep_state.specs.StepEffects.{effect_ahead, effect_at, Effect, effect_of, fails, moves, prints, answers, returns, stops, left_out, waits}
-use Rattle.hep_state.specs.StepSimulation.{unit_addressed, unit_code, IsNotLeftOut, IsRunning, RunningTop, Simulates, arrays_running, code_running, is_left_out, unit_arrays}
+use Rattle.hep_image.specs.declared.array.Array.{Array}
+use Rattle.hep_step.specs.Effects.{effect_ahead, effect_at, Effect, effect_of, fails, moves, prints, answers, returns, stops, left_out, waits}
+use Rattle.hep_step.specs.Simulation.{unit_addressed, unit_code, IsNotLeftOut, IsRunning, RunningTop, Simulates, arrays_running, code_running, is_left_out, unit_arrays}
 use Rattle.hep_state.specs.Words.{HasLevels, IsEffectOf, IsSettled, IsTopRunning, Shows, Snapshot, IsTurning, TurnOf, state_before, top_frame, turn_settled, turn_with, IsAbsent, IsAfter, running_top}
 use Rattle.hep_code.proofs.Ahead.{drop_one_more, pushed}
 use Rattle.hep_views.specs.Waited.{effect_behind, wanted_by_levels, wanted_by_stack, wanted_for, wanted_on, wanted_seen}
@@ -18,8 +18,8 @@ use Rattle.hep_machine.specs.Step.{wanted_of}
 use Rattle.hep_code.specs.declared.instruction.Operation.{Operation}
 use Rattle.hep_code.specs.declared.instruction.Operation.TheVariants.{Call, Create, Refer, Purge, Resume}
 use Rattle.hep_layout.specs.Words.{address}
-use Rattle.hep_state.specs.ProcProcessLocal.{Local}
-use Rattle.hep_state.specs.ProcStacks.{Stack}
+use Rattle.hep_proc.specs.declared.process.Local.{Local}
+use Rattle.hep_proc.specs.Stacks.{Stack}
 use Rattle.hep_state.proofs.Moved.{unit-is}
 use Rattle.hep_views.proofs.Cells.{kept-told}
 use Rattle.hep_views.proofs.Stopped.{going_again, seen-halted, shown-going, stop-of}

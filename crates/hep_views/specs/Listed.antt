@@ -1,7 +1,7 @@
 -- A process that waits, as a person reads of it: docs/MACHINE.md, "Lines of processes that wait".
 use Rattle.std.specs.Prelude.{ℕ, if◌then◌else◌, Option, Some, None}
 use Rattle.hep_machine.specs.Words.{Name, Units, line_at, unit_at, BlockName, is_array, living, unit_of, Level, Location, Process, State, common, local, Wanted, wanted_by}
-use Rattle.hep_state.specs.ImageNames.{block_number, variable_number}
+use Rattle.hep_image.specs.Names.{block_number, variable_number}
 use Rattle.hep_views.specs.declared.listed.Listed.{Listed}
 use Rattle.hep_views.specs.declared.place.Place.{Place}
 

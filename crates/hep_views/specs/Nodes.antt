@@ -3,7 +3,7 @@ use Rattle.std.specs.Prelude.{ℕ, zero, suc, Bool, false, nat_eq, if◌then◌e
 use Rattle.std.specs.List.{flat_map}
 use Rattle.std.specs.Option.{option_map_or, option_or}
 use Rattle.hep_layout.specs.Words.{FrameNode, Nodes}
-use Rattle.hep_state.specs.ProcStacks.{keys_of, Stack}
+use Rattle.hep_proc.specs.Stacks.{keys_of, Stack}
 use Rattle.hep_state.specs.Words.{Snapshot}
 
 abbrev pub is_of : ℕ → Option FrameNode → Bool

@@ -4,9 +4,9 @@ use Rattle.std.specs.List.{flat_map}
 use Rattle.hep_machine.specs.Words.{Name, Statement, index_among, Units, dummies_of, unit_at, cells_of, BlockName, blocks_of, Frame, Layout, block_cells, activation_of, unit_of, Activation, Location, State, common, local, further, locals_of, CellView}
 use Rattle.hep_machine.specs.declared.slot.Slot.{Slot}
 use Rattle.hep_arena.specs.Gaps.{frame_among}
-use Rattle.hep_state.specs.ImageBound.{IsBound}
+use Rattle.hep_image.specs.Bound.{IsBound}
 use Rattle.hep_layout.specs.Words.{argument, first_of_block, first_of_part, variable}
-use Rattle.hep_state.specs.ImageFinding.{cells_in}
+use Rattle.hep_image.specs.Finding.{cells_in}
 
 -- so many cells of the arena from one on, as those of storage units from a location on
 abbrev pub cells_read : List Slot → Location → ℕ → ℕ → List CellView

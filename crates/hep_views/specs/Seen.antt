@@ -5,9 +5,9 @@ use Rattle.hep_machine.specs.declared.slot.Slot.{Slot}
 use Rattle.hep_code.specs.Words.{line_ahead}
 use Rattle.hep_layout.specs.Words.{FrameNode}
 use Rattle.hep_views.specs.Reading.{common_read, frame_read}
-use Rattle.hep_state.specs.StepSimulation.{unit_code}
-use Rattle.hep_state.specs.ProcProcessLocal.{Local}
-use Rattle.hep_state.specs.ProcStacks.{Stack}
+use Rattle.hep_step.specs.Simulation.{unit_code}
+use Rattle.hep_proc.specs.declared.process.Local.{Local}
+use Rattle.hep_proc.specs.Stacks.{Stack}
 use Rattle.hep_state.specs.Words.{Snapshot}
 use Rattle.hep_views.specs.Nodes.{node_of}
 use Rattle.hep_views.specs.Waited.{wanted_on}

@@ -3,10 +3,10 @@ use Rattle.std.specs.Prelude.{◌≡◌, ◌+◌, ◌≤◌, ℕ, zero, suc, ◌
 use Rattle.std.specs.Option.{option_map_or}
 use Rattle.hep_machine.specs.Words.{Units, run, Location}
 use Rattle.hep_layout.specs.Words.{address, IsOwnedAbove, FrameNode, Nodes}
-use Rattle.hep_state.specs.ImageImage.{most_cells}
-use Rattle.hep_state.specs.ProcNodes.{nodes_of}
-use Rattle.hep_state.specs.declared.machine.Machine.{Machine}
-use Rattle.hep_state.specs.BlockedListing.{IsBlocked}
+use Rattle.hep_image.specs.Image.{most_cells}
+use Rattle.hep_proc.specs.Nodes.{nodes_of}
+use Rattle.hep_state.specs.declared.core_state.CoreState.{CoreState}
+use Rattle.hep_blocked.specs.Listing.{IsBlocked}
 use Rattle.hep_cells.specs.declared.want.Want.{Want}
 use Rattle.hep_state.specs.Words.{snapshot_of, IsAfter, IsMachineAfter}
 use Rattle.hep_views.specs.declared.listed.Listed.{Listed}
@@ -29,7 +29,7 @@ holder_above nodes cell (suc n) key = if has_among cell (nodes key) then Some ke
 
 -- after turns of these processes a machine keeps a storage unit in a cell, and it is of COMMON, of the activation whose node is under a key, or of one
 -- above that
-pub record IsSought (program : Units) (cells : ℕ) (choices : List ℕ) (m : Machine) (key cell : ℕ) (at : Location) : Type 0 where
+pub record IsSought (program : Units) (cells : ℕ) (choices : List ℕ) (m : CoreState) (key cell : ℕ) (at : Location) : Type 0 where
   pub after : IsAfter program cells choices (snapshot_of m)
   pub few : cells ≤ most_cells
   pub kept : address program (run program choices) after.layout at ≡ Some cell
@@ -38,12 +38,12 @@ pub record IsSought (program : Units) (cells : ℕ) (choices : List ℕ) (m : Ma
   pub owned : IsOwnedAbove (run program choices) node.activation at
 
 -- some turns were made, after which it is sought so
-abbrev pub CanBeSought : Units → Machine → ℕ → ℕ → Type 0
+abbrev pub CanBeSought : Units → CoreState → ℕ → ℕ → Type 0
 CanBeSought program m key cell =
     (cells : ℕ) × (choices : List ℕ) × (at : Location) × IsSought program cells choices m key cell at
 
 -- after whichever turns it is sought so, a person reads of it as this place
-abbrev pub IsPlaceSought : Units → Machine → ℕ → ℕ → Place → Type 0
+abbrev pub IsPlaceSought : Units → CoreState → ℕ → ℕ → Place → Type 0
 IsPlaceSought program m key cell place =
     (cells : ℕ) (choices : List ℕ) (at : Location) → IsSought program cells choices m key cell at
     → place ≡ place_of program (run program choices) at
@@ -51,12 +51,12 @@ IsPlaceSought program m key cell place =
 -- ---- the process that waits
 
 -- some turns were made, after which a machine keeps the state, and process p waits for a cell to be so
-abbrev pub CanBeListed : Units → Machine → ℕ → Want → Type 0
+abbrev pub CanBeListed : Units → CoreState → ℕ → Want → Type 0
 CanBeListed program m p want =
     (cells : ℕ) × (choices : List ℕ) × IsMachineAfter program cells choices m × IsBlocked program cells choices p want
 
 -- after whichever turns it waits so, a person reads this of it
-abbrev pub IsListedAs : Units → Machine → ℕ → Want → Listed → Type 0
+abbrev pub IsListedAs : Units → CoreState → ℕ → Want → Listed → Type 0
 IsListedAs program m p want listed =
     (cells : ℕ) (choices : List ℕ) → IsMachineAfter program cells choices m → IsBlocked program cells choices p want
     → listed_by program p (run program choices) ≡ Some listed

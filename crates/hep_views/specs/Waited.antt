@@ -6,11 +6,11 @@ use Rattle.hep_machine.specs.declared.slot.Slot.{Slot}
 use Rattle.hep_code.specs.declared.instruction.Instruction.{Instruction}
 use Rattle.hep_code.specs.declared.instruction.Instruction.TheVariants.{Push}
 use Rattle.hep_layout.specs.Words.{FramePart, argument, common_row, frame_row, owner_in, variable, FrameNode}
-use Rattle.hep_state.specs.ImageArrayArray.{Array}
-use Rattle.hep_state.specs.StepEffects.{Effect, effect_ahead, waits}
-use Rattle.hep_state.specs.StepSimulation.{unit_arrays, unit_code}
-use Rattle.hep_state.specs.ProcProcessLocal.{Local}
-use Rattle.hep_state.specs.ProcStacks.{Stack}
+use Rattle.hep_image.specs.declared.array.Array.{Array}
+use Rattle.hep_step.specs.Effects.{Effect, effect_ahead, waits}
+use Rattle.hep_step.specs.Simulation.{unit_arrays, unit_code}
+use Rattle.hep_proc.specs.declared.process.Local.{Local}
+use Rattle.hep_proc.specs.Stacks.{Stack}
 use Rattle.hep_state.specs.Words.{node_under, Snapshot}
 use Rattle.hep_views.specs.Nodes.{node_of}
 

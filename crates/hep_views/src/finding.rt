@@ -4,9 +4,9 @@ ghost use Rattle.slab.specs.Slab.{ContainsKey};
 ghost use Rattle.hep_machine.specs.Words.{Name, unit_at, BlockName, living, run};
 ghost use Rattle.hep_code.specs.Depths as depths;
 ghost use Rattle.hep_layout.specs.Words.{FrameNode};
-ghost use Rattle.hep_state.specs.ImageImage.{most_cells};
-ghost use Rattle.hep_state.specs.ImageOwners.{IsBlockTold, IsTold};
-ghost use Rattle.hep_state.specs.ProcNodes.{nodes_of};
+ghost use Rattle.hep_image.specs.Image.{most_cells};
+ghost use Rattle.hep_image.specs.Owners.{IsBlockTold, IsTold};
+ghost use Rattle.hep_proc.specs.Nodes.{nodes_of};
 ghost use Rattle.hep_state.specs.Words.{AreNumbered, IsMachineAfter, snapshot_of, HasLevels};
 ghost use Rattle.hep_views.specs.Listed.{block_place, variable_place};
 ghost use Rattle.hep_views.specs.Standing.{whereabouts_by};
@@ -16,10 +16,10 @@ use crate::listed::Listed;
 use crate::place::Place;
 use crate::whereabouts::Whereabouts;
 use hep_code::Instruction;
-use hep_state::{Frames, Image, Local, Machine, Want};
+use hep_state::{CoreState, Frames, Image, Local, Want};
 
 // The level of the top activation of process p.
-fn top(machine: &Machine, p: u64) -> Local
+fn top(machine: &CoreState, p: u64) -> Local
     requires numbers { AreNumbered machine.now }
     requires living { HasLevels (snapshot_of machine.now) p }
     ensures { (levels : HasLevels (snapshot_of machine.now) p) → result ≡ levels.level }
@@ -106,7 +106,7 @@ fn in_frame(image: &Image, unit: usize, cell: u32, owner: u64) -> Place
 /// The storage unit that is kept in a cell: of COMMON, or of the activation whose node is under a key or of one above it.
 ///
 /// This costs the logarithm of the variables of a unit, and a step for each activation from that one up to the one whose variable it is.
-pub fn place_at(machine: &Machine, image: &Image, key: usize, cell: u32) -> Place
+pub fn place_at(machine: &CoreState, image: &Image, key: usize, cell: u32) -> Place
     requires { CanBeSought image.now machine.now key cell }
     ensures { IsPlaceSought image.now machine.now key cell result }
 {
@@ -128,7 +128,7 @@ pub fn place_at(machine: &Machine, image: &Image, key: usize, cell: u32) -> Plac
 ///
 /// This costs the logarithm of the variables of a unit, and a step for each activation from the process's top one up to the one whose
 /// variable it is.
-pub fn listed(machine: &Machine, image: &Image, p: u64, want: Want) -> Listed
+pub fn listed(machine: &CoreState, image: &Image, p: u64, want: Want) -> Listed
     requires { CanBeListed image.now machine.now p want }
     ensures { IsListedAs image.now machine.now p want result }
 {
@@ -148,7 +148,7 @@ pub fn listed(machine: &Machine, image: &Image, p: u64, want: Want) -> Listed
 }
 
 /// Where process p is, which lives.
-pub fn whereabouts(machine: &Machine, image: &Image, p: u64) -> Whereabouts
+pub fn whereabouts(machine: &CoreState, image: &Image, p: u64) -> Whereabouts
     requires { (cells : ℕ) × (choices : List ℕ) × IsMachineAfter image.now cells choices machine.now
         × IsSome (living (run image.now choices) p) }
     ensures { (cells : ℕ) (choices : List ℕ) → IsMachineAfter image.now cells choices machine.now → IsSome (living (run image.now choices) p)

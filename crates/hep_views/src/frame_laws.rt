@@ -5,7 +5,7 @@ ghost use Rattle.hep_machine.specs.Words.{view_of};
 ghost use Rattle.hep_arena.specs.Gaps.{frame_among};
 ghost use Rattle.hep_arena.specs.Space.{Space};
 ghost use Rattle.hep_layout.specs.Words.{Nodes};
-ghost use Rattle.hep_state.specs.ProcKeeping.{FramesOf, Keeps, as_wanted};
+ghost use Rattle.hep_proc.specs.Keeping.{FramesOf, Keeps, as_wanted};
 ghost use Rattle.hep_views.specs.Reading.{HasDummies, common_read, frame_read, frames_read};
 
 /// The cells of COMMON's blocks at the arena's front are those that are seen of it.

@@ -14,7 +14,7 @@ mod whereabouts;
 
 pub use hep_state::laws::{activations_are_few, tops_are_running};
 pub use hep_state::{
-    ClosedRange, Image, Machine, TurnFault, Turned, fits, place as state_place,
+    ClosedRange, CoreState, Image, TurnFault, Turned, fits, place as state_place,
     variables_of_the_code_are_placed,
 };
 pub use listed::Listed;

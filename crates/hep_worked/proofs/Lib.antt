@@ -14,3 +14,7 @@ mod WorkedResume
 mod WorkedFunctions
 mod WorkedWarnings
 mod Rising
+mod WorkedTrace
+mod WorkedWhy
+mod WorkedCover
+mod WorkedDiff

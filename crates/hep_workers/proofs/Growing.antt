@@ -5,8 +5,8 @@ use Rattle.std.proofs.lemmas.Bool.Decides.{nat_tests}
 use Rattle.std.proofs.lemmas.List.{append-nil}
 use Rattle.std.proofs.lemmas.Option.{slice_get-get_or, slice_get_past}
 use Rattle.hep_machine.specs.declared.event.Entry.{Entry}
-use Rattle.hep_entries.proofs.InRuns.{slice_get-append_left, slice_get-append_right}
-use Rattle.hep_reports.specs.ReceiptsReceiptReceipt.{Receipt}
+use Rattle.hep_history.proofs.InRuns.{slice_get-append_left, slice_get-append_right}
+use Rattle.hep_workers.specs.declared.receipt.Receipt.{Receipt}
 use Rattle.hep_workers.specs.declared.spans.Span.{Span}
 use Rattle.hep_workers.specs.Spans.{are_inside, log_of, receipt_at, receipt_of, receipts_in, with_entry}
 

@@ -1,4 +1,8 @@
-mod Shared
+pub mod Committed
+pub mod Shared
+mod Marks
+mod Passing
+mod SharedCalls
 mod Reasons
 mod Growing
 mod Noting

@@ -5,10 +5,10 @@ use Rattle.std.proofs.lemmas.Bool.Decides.{nat_tests}
 use Rattle.std.proofs.lemmas.List.{length-append, length-replicate, length-set}
 use Rattle.std.proofs.lemmas.Option.{slice_get_within}
 use Rattle.hep_machine.specs.declared.event.Entry.{Entry}
-use Rattle.hep_entries.proofs.InRuns.{slice_get-append_left, slice_get-append_right}
-use Rattle.hep_reports.specs.ReceiptsReceiptReceipt.{Receipt}
-use Rattle.hep_reports.specs.ReceiptsTurns.{are_of, entry_of}
-use Rattle.hep_reports.specs.Receipts.{AllName, AreEntries, Names, all_rise, are_numbered, one_where, receipts_of, rises, times_named}
+use Rattle.hep_history.proofs.InRuns.{slice_get-append_left, slice_get-append_right}
+use Rattle.hep_workers.specs.declared.receipt.Receipt.{Receipt}
+use Rattle.hep_workers.specs.Turns.{are_of, entry_of}
+use Rattle.hep_workers.specs.Receipts.{AllName, AreEntries, Names, all_rise, are_numbered, one_where, receipts_of, rises, times_named}
 use Rattle.hep_workers.specs.Lists.{AreLogsOf}
 
 -- ---- what they name

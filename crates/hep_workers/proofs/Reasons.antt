@@ -5,15 +5,15 @@ use Rattle.std.proofs.Math.Logic.{∥∥₁_elim}
 use Rattle.std.specs.Global.{Vec}
 use Rattle.hep_machine.specs.Words.{opening_layout, Units}
 use Rattle.hep_machine.specs.declared.event.Entry.{Entry}
-use Rattle.hep_reports.specs.CoreValue.{CoreValue, opening_of, verdict_of}
-use Rattle.hep_reports.specs.CoreStopVerdict.TheVariants.{Running}
-use Rattle.hep_reports.specs.ReceiptsShared.{IsOfOneRun}
-use Rattle.hep_reports.specs.ReceiptsReceiptReceipt.{Receipt}
-use Rattle.hep_reports.specs.Receipts.{are_of_workers}
-use Rattle.hep_reports.specs.Reports.{IsOfRun, IsUnclosed}
-use Rattle.hep_reports.specs.declared.fault.CloseFault.{CloseFault}
-use Rattle.hep_reports.specs.declared.fault.CloseFault.TheVariants as close
-use Rattle.hep_reports.specs.declared.options.WorkOptions.{WorkOptions}
+use Rattle.hep_core.specs.Value.{CoreValue, opening_of, verdict_of}
+use Rattle.hep_core.specs.declared.stop.Verdict.TheVariants.{Running}
+use Rattle.hep_workers.specs.Shared.{IsOfOneRun}
+use Rattle.hep_workers.specs.declared.receipt.Receipt.{Receipt}
+use Rattle.hep_workers.specs.Receipts.{are_of_workers}
+use Rattle.hep_workers.specs.Reports.{IsOfRun, IsUnclosed}
+use Rattle.hep_workers.specs.declared.close_fault.CloseFault.{CloseFault}
+use Rattle.hep_workers.specs.declared.close_fault.CloseFault.TheVariants as close
+use Rattle.hep_workers.specs.declared.options.WorkOptions.{WorkOptions}
 use Rattle.hep_workers.specs.Faults.{IsWorkFault, of_crew}
 use Rattle.hep_workers.specs.Lists.{AreLogsOf, lists_of, logs_of}
 use Rattle.hep_workers.specs.declared.spans.Span.{Span}

@@ -1,82 +1,85 @@
--- What a call makes of a core that is shared.
-use Rattle.std.proofs.Common.{◌≡◌, ◌≢◌, ℕ, zero, suc, false, Option, Some, None, Result, Ok, Err, IfOk, IfErr, inl, inr, refl, sym, ap, ◌∙◌, subst}
-use Rattle.hep_segments.specs.declared.ticket.TicketId.{TicketId}
-use Rattle.hep_segments.specs.Segments.{SegmentValue, TicketValue, most_records}
-use Rattle.hep_reports.specs.CoreCommits.{AreTurnsAtOnce, IsCancelled, IsCheckedOut, IsCommitted, IsTurnAtOnce}
-use Rattle.hep_reports.specs.CorePlaces.{ArePlaces, Placed}
-use Rattle.hep_reports.specs.CoreValue.{CoreValue}
-use Rattle.hep_reports.specs.CoreFaultChooseFault.{ChooseFault}
-use Rattle.hep_reports.specs.CoreFaultChooseFault.TheVariants as choosing
-use Rattle.hep_reports.specs.CoreFaultCommitFault.{CommitFault}
-use Rattle.hep_reports.specs.CoreFaultCommitFault.TheVariants as committing
-use Rattle.hep_reports.specs.ReceiptsReceiptReceipt.{Receipt}
-use Rattle.hep_reports.specs.ReceiptsShared.{IsOfOneRun, IsSharedFrom, checked_out, committed}
-use Rattle.hep_reports.proofs.CoreGoing.{last-more}
-use Rattle.hep_machine.specs.Words.{last_process}
-use Rattle.hep_reports.proofs.ReceiptsCommitted.{one-entry}
-use Rattle.hep_reports.proofs.ReceiptsShared.{by-commit}
-use Rattle.hep_reports.specs.ReceiptsTurns.{HasCommitted}
-use Rattle.hep_workers.specs.Calls.{IsAnswered, IsTurned, IsUnfree}
+-- Each call that is made of a core that workers share leaves it one of the same run.
+use Rattle.std.proofs.Common.{◌≡◌, ℕ, zero, suc, Bool, true, false, List, [], ◌∷◌, Result, Ok, Err, inl, inr, refl, sym, ap, ◌∙◌, subst}
+use Rattle.hep_private.specs.declared.record.Record.{Record}
+use Rattle.hep_private.specs.declared.ticket.TicketId.{TicketId}
+use Rattle.hep_private.specs.Segments.{SegmentValue, Start, TicketValue, most_records}
+use Rattle.hep_core.specs.Commits.{AreTurnsAtOnce, IsCancelled, IsCheckedOut, IsCommitted, IsTakenBy, IsTurnAtOnce, core_after_return}
+use Rattle.hep_core.specs.Places.{Placed}
+use Rattle.hep_core.specs.Value.{CoreValue, IsTurn}
+use Rattle.hep_core.specs.declared.fault.ChooseFault.{ChooseFault}
+use Rattle.hep_core.specs.declared.fault.ChooseFault.TheVariants as choosing
+use Rattle.hep_core.specs.declared.fault.CommitFault.{CommitFault}
+use Rattle.hep_core.specs.declared.fault.CommitFault.TheVariants as committing
+use Rattle.hep_core.specs.declared.stop.Turn.{Turn}
+use Rattle.hep_workers.specs.Shared.{IsOfOneRun}
 
-abbrev pub AreTold : Placed → Placed → SegmentValue → Result Receipt CommitFault → Type 0
-AreTold old new s r = IfOk r (λ receipt. HasCommitted old s receipt new) × IfErr r (λ fault. IsCommitted old s (Err fault) new)
+same-core : (a b : CoreValue) → b ≡ a → IsOfOneRun a b
+same-core a b is = record { program = ap (λ (v : CoreValue). v.program) is; cells = ap (λ (v : CoreValue). v.cells) is; limit = ap (λ (v : CoreValue). v.limit) is }
 
-pub turned : (opening : CoreValue) (old new : Placed) (s : SegmentValue) (r : Result Receipt CommitFault) → ArePlaces new → AreTold old new s r → IsSharedFrom opening old → IsSharedFrom opening new
-turned opening old new s (Ok receipt) placed told before = committed old new s (Ok told.0.0) before told.0.2 placed
-turned opening old new s (Err fault) placed told before = committed old new s (Err fault) before told.1 placed
+-- one that has these of another one
+changed : (old mid new : CoreValue) → IsOfOneRun old mid → new ≡ mid → IsOfOneRun old new
+changed old mid new one is =
+    record {
+      program = ap (λ (v : CoreValue). v.program) is ∙ one.program;
+      cells = ap (λ (v : CoreValue). v.cells) is ∙ one.cells;
+      limit = ap (λ (v : CoreValue). v.limit) is ∙ one.limit;
+    }
 
-pub one-turned : (old new : Placed) (s : SegmentValue) (r : Result Receipt CommitFault) → AreTold old new s r → IsOfOneRun old.core new.core
-one-turned old new s (Ok receipt) told = by-commit old new s (Ok told.0.0) told.0.2
-one-turned old new s (Err fault) told = by-commit old new s (Err fault) told.1
+-- one after the other
+then : (opening old new : CoreValue) → IsOfOneRun opening old → IsOfOneRun old new → IsOfOneRun opening new
+then opening old new one two = record { program = two.program ∙ one.program; cells = two.cells ∙ one.cells; limit = two.limit ∙ one.limit }
 
--- a turn in one is a check-out and a commit
-pub turned-at-once : (opening : CoreValue) (old new : Placed) (p n : ℕ) → IsSharedFrom opening old → IsTurnAtOnce old p n new → IsSharedFrom opening new
-turned-at-once opening old new p n before turn =
-    committed turn.out new turn.segment (Ok (record { steps = n; blocked = false })) (checked_out old turn.out p (Ok turn.ticket) before (inl turn.next) turn.checked_out) turn.committed turn.placed
+-- seen of the whole
+placed : (old : Placed) (core : CoreValue) (new with : Placed) → with.core ≡ core → IsOfOneRun old.core core → new ≡ with → IsOfOneRun old.core new.core
+placed old core new with seen one is = changed old.core core new.core one (ap (λ (v : Placed). v.core) is ∙ seen)
 
--- and several of them are as many
-pub turned-several : (opening : CoreValue) (p n : ℕ) (old new : Placed) → IsSharedFrom opening old → AreTurnsAtOnce p n old new → IsSharedFrom opening new
-turned-several opening p zero old new before same = subst (IsSharedFrom opening) (sym same) before
-turned-several opening p (suc n) old new before (mid, first, full, rest) = turned-several opening p n mid new (turned-at-once opening old mid p most_records before first) rest
+-- ---- turns
 
--- ---- no entry
+by-turn : (old : CoreValue) (p n : ℕ) (blocked : Bool) (new : CoreValue) → IsTurn old p n blocked new → IsOfOneRun old new
+by-turn old p zero true new t = changed old _ new (record { program = refl; cells = refl; limit = refl }) t.1
+by-turn old p zero false new t = absurd t
+by-turn old p (suc zero) true new t = absurd t
+by-turn old p (suc zero) false new t = changed old _ new (record { program = refl; cells = refl; limit = refl }) t.2
+by-turn old p (suc (suc n)) blocked new t = absurd t
 
-abbrev pub HasSame : Placed → Placed → Type 0
-HasSame old new = new.core.history ≡ old.core.history
+by-steps : (rs : List Record) (old : CoreValue) (start : Start) (s : SegmentValue) (turn : Turn) (new : CoreValue) → IsTakenBy rs old start s turn new → IsOfOneRun old new
+by-steps [] old start s turn new chosen = by-turn old s.id.process turn.steps turn.blocked new chosen.3
+by-steps (r ∷ rs) old start s turn new (room, going, inl (many, other, made)) = changed old _ new (record { program = refl; cells = refl; limit = refl }) made.1
+by-steps (r ∷ rs) old start s turn new (room, going, inr (many, made, left)) = changed old _ new (record { program = refl; cells = refl; limit = refl }) made.1
 
-pub checked-out-same : (old new : Placed) (p : ℕ) (answer : Result TicketValue ChooseFault) → IsCheckedOut old p answer new → HasSame old new
-checked-out-same old new p (Ok ticket) (free, left, room, given) = ap (λ (x : Placed). x.core.history) given.3
-checked-out-same old new p (Err (choosing.Stopped stop)) (inl (at, is)) = ap (λ (x : Placed). x.core.history) is
-checked-out-same old new p (Err (choosing.Stopped stop)) (inr (free, left, full, at, is)) = ap (λ (x : Placed). x.core.history) is
-checked-out-same old new p (Err choosing.NoSuchProcess) (going, none, is) = ap (λ (x : Placed). x.core.history) is
-checked-out-same old new p (Err choosing.IsOut) (going, lives, out, is) = ap (λ (x : Placed). x.core.history) is
-checked-out-same old new p (Err choosing.NoTicket) (free, none, is) = ap (λ (x : Placed). x.core.history) is
-checked-out-same old new p (Err choosing.NoMemory) (free, left, room, is) = ap (λ (x : Placed). x.core.history) is
+-- ---- the calls
 
-pub cancelled-same : (old new : Placed) (id : TicketId) (answer : Result (Unit {0}) CommitFault) → IsCancelled old id answer new → HasSame old new
-cancelled-same old new id (Ok done) (going, lives, ticket, is) = ap (λ (x : Placed). x.core.history) is
-cancelled-same old new id (Err (committing.Stopped stop)) (at, is) = ap (λ (x : Placed). x.core.history) is
-cancelled-same old new id (Err committing.Stale) (going, other, is) = ap (λ (x : Placed). x.core.history) is
-cancelled-same old new id (Err committing.NoMemory) none = absurd none
+pub by-check-out : (old new : Placed) (p : ℕ) (answer : Result TicketValue ChooseFault) → IsCheckedOut old p answer new → IsOfOneRun old.core new.core
+by-check-out old new p (Ok ticket) (free, left, room, given) = placed old _ new _ refl (record { program = refl; cells = refl; limit = refl }) given.3
+by-check-out old new p (Err (choosing.Stopped stop)) (inl (at, is)) = placed old _ new _ refl (same-core old.core old.core refl) is
+by-check-out old new p (Err (choosing.Stopped stop)) (inr (free, left, full, at, is)) = placed old _ new _ refl (record { program = refl; cells = refl; limit = refl }) is
+by-check-out old new p (Err choosing.NoSuchProcess) (going, none, is) = placed old _ new _ refl (same-core old.core old.core refl) is
+by-check-out old new p (Err choosing.IsOut) (going, lives, out, is) = placed old _ new _ refl (same-core old.core old.core refl) is
+by-check-out old new p (Err choosing.NoTicket) (free, none, is) = placed old _ new _ refl (same-core old.core old.core refl) is
+by-check-out old new p (Err choosing.NoMemory) (free, left, room, is) = placed old _ new _ refl (same-core old.core old.core refl) is
 
--- ---- what is told of a call
+pub by-commit : (old new : Placed) (s : SegmentValue) (answer : Result Turn CommitFault) → IsCommitted old s answer new → IsOfOneRun old.core new.core
+by-commit old new s (Ok turn) (start, good, taken) =
+    let one = by-steps s.records (core_after_return old.core s.id.process) start s turn new.core taken in
+    record { program = one.program; cells = one.cells; limit = one.limit }
+by-commit old new s (Err (committing.Stopped stop)) (inl (at, is)) = placed old _ new _ refl (same-core old.core old.core refl) is
+by-commit old new s (Err (committing.Stopped stop)) (inr (inl (good, full, at, is))) = placed old _ new _ refl (record { program = refl; cells = refl; limit = refl }) is
+by-commit old new s (Err (committing.Stopped stop)) (inr (inr (good, room, none, gap, at, is))) = placed old _ new _ refl (record { program = refl; cells = refl; limit = refl }) is
+by-commit old new s (Err committing.Stale) (going, bad, is) = placed old _ new _ refl (same-core old.core old.core refl) is
+by-commit old new s (Err committing.NoMemory) (good, room, gap, is) = placed old _ new _ refl (same-core old.core old.core refl) is
 
--- a turn is told by its commit
-pub told-turned : (old new : Placed) (s : SegmentValue) (receipt : Receipt) → HasCommitted old s receipt new → IsTurned old s (Ok tt) new
-told-turned old new s receipt (turn, steps, made) = (turn, made)
+pub by-cancellation : (old new : Placed) (id : TicketId) (answer : Result (Unit {0}) CommitFault) → IsCancelled old id answer new → IsOfOneRun old.core new.core
+by-cancellation old new id (Ok done) (going, lives, ticket, is) = placed old _ new _ refl (record { program = refl; cells = refl; limit = refl }) is
+by-cancellation old new id (Err (committing.Stopped stop)) (at, is) = placed old _ new _ refl (same-core old.core old.core refl) is
+by-cancellation old new id (Err committing.Stale) (going, other, is) = placed old _ new _ refl (same-core old.core old.core refl) is
+by-cancellation old new id (Err committing.NoMemory) none = absurd none
 
-pub told-unturned : (old new : Placed) (s : SegmentValue) (fault : CommitFault) → IsCommitted old s (Err fault) new → IsTurned old s (Err fault) new
-told-unturned old new s (committing.Stopped stop) is = is
-told-unturned old new s committing.Stale is = is
-told-unturned old new s committing.NoMemory (good, room, gap, same) = same
+-- ---- turns in one
 
--- behind it its process has made the last entry
-pub turned-last : (old new : Placed) (s : SegmentValue) → IsTurned old s (Ok tt) new → last_process new.core.history ≡ s.id.process
-turned-last old new s (turn, made) =
-    ap last_process (one-entry old new s turn made) ∙ last-more old.core.history (record { process = s.id.process; steps = turn.steps })
+pub by-turn-at-once : (old new : Placed) (p n : ℕ) → IsTurnAtOnce old p n new → IsOfOneRun old.core new.core
+by-turn-at-once old new p n turn =
+    then old.core turn.out.core new.core (by-check-out old turn.out p (Ok turn.ticket) turn.checked_out) (by-commit turn.out new turn.segment (Ok (record { steps = n; blocked = false })) turn.committed)
 
--- nothing was noted then
-pub unfree-same : (old new : Placed) (p : ℕ) → IsUnfree old p new → HasSame old new
-unfree-same old new p (inl (stop, is)) = checked-out-same old new p (Err (choosing.Stopped stop)) is
-unfree-same old new p (inr (inl is)) = checked-out-same old new p (Err choosing.NoSuchProcess) is
-unfree-same old new p (inr (inr is)) = checked-out-same old new p (Err choosing.IsOut) is
+pub by-turns-at-once : (p n : ℕ) (old new : Placed) → AreTurnsAtOnce p n old new → IsOfOneRun old.core new.core
+by-turns-at-once p zero old new same = same-core old.core new.core (ap (λ (v : Placed). v.core) same)
+by-turns-at-once p (suc n) old new (mid, first, full, rest) = then old.core mid.core new.core (by-turn-at-once old mid p most_records first) (by-turns-at-once p n mid new rest)

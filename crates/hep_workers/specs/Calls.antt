@@ -1,14 +1,14 @@
 -- What the calls of workers under the lock come to: docs/MACHINE.md, "Workers".
 use Rattle.std.specs.Prelude.{◌≡◌, ◌⊎◌, ℕ, Option, Some, None, Result, Ok, Err}
-use Rattle.hep_segments.specs.declared.ticket.TicketId.{TicketId}
-use Rattle.hep_segments.specs.Segments.{SegmentValue, TicketValue}
-use Rattle.hep_reports.specs.CoreCommits.{IsCancelled, IsCheckedOut, IsCommitted}
-use Rattle.hep_reports.specs.CorePlaces.{Placed}
-use Rattle.hep_reports.specs.CoreFaultChooseFault.TheVariants as choosing
-use Rattle.hep_reports.specs.CoreFaultCommitFault.{CommitFault}
-use Rattle.hep_reports.specs.CoreFaultCommitFault.TheVariants as committing
-use Rattle.hep_reports.specs.CoreStopChoiceStop.{ChoiceStop}
-use Rattle.hep_reports.specs.CoreStopTurn.{Turn}
+use Rattle.hep_private.specs.declared.ticket.TicketId.{TicketId}
+use Rattle.hep_private.specs.Segments.{SegmentValue, TicketValue}
+use Rattle.hep_core.specs.Commits.{IsCancelled, IsCheckedOut, IsCommitted}
+use Rattle.hep_core.specs.Places.{Placed}
+use Rattle.hep_core.specs.declared.fault.ChooseFault.TheVariants as choosing
+use Rattle.hep_core.specs.declared.fault.CommitFault.{CommitFault}
+use Rattle.hep_core.specs.declared.fault.CommitFault.TheVariants as committing
+use Rattle.hep_core.specs.declared.stop.ChoiceStop.{ChoiceStop}
+use Rattle.hep_core.specs.declared.stop.Turn.{Turn}
 
 -- no ticket was given to p: at a stop, or since it doesn't live or is out
 abbrev pub IsUnfree : Placed → ℕ → Placed → Type 0

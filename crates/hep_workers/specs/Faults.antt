@@ -2,14 +2,14 @@
 use Rattle.std.specs.Prelude.{◌≡◌, ℕ, if◌then◌else◌, List, Option, Some, None, IsSome, Result, Ok, Err, is_ok}
 use Rattle.std.specs.List.{list_all}
 use Rattle.hep_machine.specs.Words.{opening_layout, Units}
-use Rattle.hep_reports.specs.CoreFaultNewFault.{NewFault}
-use Rattle.hep_reports.specs.CoreFaultNewFault.TheVariants as new
-use Rattle.hep_reports.specs.CorePlaces.{Place, Placed}
-use Rattle.hep_reports.specs.CoreValue.{CoreValue, opening_of}
-use Rattle.hep_reports.specs.declared.fault.CloseFault.{CloseFault}
-use Rattle.hep_reports.specs.declared.fault.CloseFault.TheVariants as close
-use Rattle.hep_reports.specs.declared.options.WorkOptions.{WorkOptions}
-use Rattle.hep_reports.specs.ReceiptsShared.{IsSharedFrom}
+use Rattle.hep_core.specs.declared.fault.NewFault.{NewFault}
+use Rattle.hep_core.specs.declared.fault.NewFault.TheVariants as new
+use Rattle.hep_core.specs.Places.{Place, Placed}
+use Rattle.hep_core.specs.Value.{CoreValue, opening_of}
+use Rattle.hep_workers.specs.declared.close_fault.CloseFault.{CloseFault}
+use Rattle.hep_workers.specs.declared.close_fault.CloseFault.TheVariants as close
+use Rattle.hep_workers.specs.declared.options.WorkOptions.{WorkOptions}
+use Rattle.hep_workers.specs.Shared.{IsSharedFrom}
 use Rattle.hep_workers.specs.declared.fault.CrewFault.{CrewFault}
 use Rattle.hep_workers.specs.declared.fault.CrewFault.TheVariants as crew
 use Rattle.hep_workers.specs.declared.fault.WorkFault.{WorkFault}

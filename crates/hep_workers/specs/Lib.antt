@@ -1,7 +1,9 @@
-pub use Rattle.hep_reports.specs.ReceiptsReceiptReceipt
-pub use Rattle.hep_reports.specs.declared.fault.CloseFault
-pub use Rattle.hep_reports.specs.declared.options.WorkOptions
-pub use Rattle.hep_reports.specs.Reports
+pub use Rattle.hep_core.specs.Offers as CoreOffers
+pub mod Turns
+pub mod Shared
+pub mod Receipts
+pub mod Marks
+pub mod Reports
 pub mod Calls
 pub mod Faults
 pub mod Hands

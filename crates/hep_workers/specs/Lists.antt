@@ -3,13 +3,13 @@ use Rattle.std.specs.Prelude.{◌≡◌, ◌≢◌, ℕ, zero, suc, ◌+◌, Boo
 use Rattle.std.specs.Global.{Vec}
 use Rattle.std.specs.List.{list_all}
 use Rattle.hep_machine.specs.declared.event.Entry.{Entry}
-use Rattle.hep_reports.specs.CorePlaces.{Placed}
-use Rattle.hep_reports.specs.CoreValue.{CoreValue, verdict_of}
-use Rattle.hep_reports.specs.CoreStopVerdict.TheVariants.{Running}
-use Rattle.hep_reports.specs.ReceiptsShared.{IsOfOneRun, IsSharedFrom}
-use Rattle.hep_reports.specs.ReceiptsReceiptReceipt.{Receipt}
+use Rattle.hep_core.specs.Places.{Placed}
+use Rattle.hep_core.specs.Value.{CoreValue, verdict_of}
+use Rattle.hep_core.specs.declared.stop.Verdict.TheVariants.{Running}
+use Rattle.hep_workers.specs.Shared.{IsOfOneRun, IsSharedFrom}
+use Rattle.hep_workers.specs.declared.receipt.Receipt.{Receipt}
 use Rattle.hep_workers.specs.declared.spans.Span.{Span}
-use Rattle.hep_reports.specs.Receipts.{AreEntries, all_rise, are_of_workers, receipts_of}
+use Rattle.hep_workers.specs.Receipts.{AreEntries, all_rise, are_of_workers, receipts_of}
 use Rattle.hep_workers.specs.Spans.{are_inside, log_of}
 
 -- the numbers of so many workers

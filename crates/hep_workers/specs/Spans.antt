@@ -2,7 +2,7 @@
 use Rattle.std.specs.Prelude.{ℕ, zero, suc, ◌+◌, Bool, nat_eq, nat_le, if◌then◌else◌, List, [], ◌∷◌, ◌++◌, Option, Some, None, slice_get}
 use Rattle.std.specs.List.{list_all}
 use Rattle.hep_machine.specs.declared.event.Entry.{Entry}
-use Rattle.hep_reports.specs.ReceiptsReceiptReceipt.{Receipt}
+use Rattle.hep_workers.specs.declared.receipt.Receipt.{Receipt}
 use Rattle.hep_workers.specs.declared.spans.Span.{Span}
 
 -- the receipt of the entry at an index, if there is one

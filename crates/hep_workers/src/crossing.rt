@@ -4,18 +4,18 @@ ghost use Rattle.std.specs.Thread.{IsSend, IsSync};
 ghost use Rattle.hep_image.specs.contracts.image.Image as image;
 ghost use Rattle.hep_source.specs.contracts.expression.Expr as expression;
 ghost use Rattle.hep_source.specs.contracts.program.Program as program;
-ghost use Rattle.hep_core.specs.contracts.scheduler.Core as core;
-ghost use Rattle.hep_stretches.specs.contracts.table.PrivateTable as tables;
+ghost use Rattle.hep_core.specs.contracts.run_core.Core as core;
+ghost use Rattle.hep_private.specs.contracts.table.PrivateTable as tables;
 ghost use Rattle.hep_workers.specs.contracts.spans.Span as spans;
 
 use crate::spans::Span;
 use hep_blocked::Roster;
-use hep_entries::History;
+use hep_core::{CoreState, OwnCells, Saved};
+use hep_fast::Table;
+use hep_history::History;
 use hep_image::{BlockStart, DataRow, UnitCode};
-use hep_quick::Table;
-use hep_reports::{Machine, OwnCells, Saved};
+use hep_private::PrivateTable;
 use hep_source::{Expr, Sequence, Text};
-use hep_stretches::PrivateTable;
 
 fn cross<T: Send + Sync>()
     ensures send { IsSend T.row }
@@ -77,7 +77,7 @@ pub(crate) fn cores_cross()
     pass::<Table>();
     pass::<OwnCells>();
     pass::<History>();
-    pass::<Machine>();
+    pass::<CoreState>();
     pass::<Roster>();
     pass::<Saved>();
 }

@@ -2,7 +2,8 @@
 ghost use Rattle.std.specs.Prelude.{◌≡◌};
 ghost use Rattle.hep_workers.specs.Faults.{number_of};
 
-use hep_reports::{CloseFault, NewFault};
+use crate::close_fault::CloseFault;
+use hep_core::NewFault;
 use std::alloc::AllocError;
 use thiserror::Error;
 

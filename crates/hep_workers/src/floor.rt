@@ -1,25 +1,26 @@
 //! The workers at their work: threads that share a core under a lock.
 ghost use Rattle.std.specs.Prelude.{◌≡◌, ◌≢◌, ◌≤◌, IfErr, IfOk, IsSome, Ok, OnOk, is_ok, true, vec_len};
 ghost use Rattle.std.specs.List.{list_all};
-ghost use Rattle.hep_reports.specs.CoreOffers.{IsKnownOffer, offered};
-ghost use Rattle.hep_reports.specs.CoreValue.{opening_of, verdict_of};
-ghost use Rattle.hep_reports.specs.CoreStopVerdict.TheVariants.{Running};
+ghost use Rattle.hep_core.specs.Offers.{IsKnownOffer, offered};
+ghost use Rattle.hep_core.specs.Value.{opening_of, verdict_of};
+ghost use Rattle.hep_core.specs.declared.stop.Verdict.TheVariants.{Running};
 ghost use Rattle.hep_machine.specs.Words.{last_process, opening_layout};
-ghost use Rattle.hep_reports.specs.Receipts as receipts;
-ghost use Rattle.hep_reports.specs.Reports.{IsOfRun, IsReport};
+ghost use Rattle.hep_workers.specs.Receipts as receipts;
+ghost use Rattle.hep_workers.specs.Reports.{IsOfRun, IsReport};
 ghost use Rattle.hep_workers.specs.Faults.{IsSharedBy, IsWorkFault, end_of};
-ghost use Rattle.hep_workers.specs.Hands.{HasMade, IsStretchOf};
+ghost use Rattle.hep_workers.specs.Hands.{HasMade, IsBatchOf};
 ghost use Rattle.hep_workers.specs.Lists.{HasLeftLists, IsAtOpening};
 
 use crate::crossing::{cores_cross, images_cross, spans_cross, tables_cross};
 use crate::fault::{CrewFault, WorkFault};
 use crate::gate::Gate;
+use crate::options::WorkOptions;
+use crate::report::{Report, close};
 use crate::spans::Span;
 use crate::tied::{Known, Seat, Tied, Whole, blank_lists, logs_of};
+use hep_core::{CommitFault, Core, Offer};
 use hep_image::Image;
-use hep_reports::{CommitFault, Core, Offer, Report, WorkOptions, close};
-use hep_segments::{MOST_RECORDS, Segment, Ticket};
-use hep_stretches::{Ahead, Stretch, private_tables_of};
+use hep_private::{Ahead, Batch, MOST_RECORDS, Segment, Ticket, private_tables_of};
 use std::alloc::{AllocError, Global};
 use std::hint::spin_loop;
 use std::marker::Brand;
@@ -88,14 +89,14 @@ struct Stand {
     ticket: Ticket,
 }
 
-// What a worker makes of its ticket: a segment; or a stretch, and up to three more, each of which follows the one before it. They have the room of
+// What a worker makes of its ticket: a segment; or a batch, and up to three more, each of which follows the one before it. They have the room of
 // those of earlier turns.
 #[derive(Drop)]
 struct Hand {
-    first: Stretch,
-    second: Stretch,
-    third: Stretch,
-    fourth: Stretch,
+    first: Batch,
+    second: Batch,
+    third: Batch,
+    fourth: Batch,
     segment: Segment,
 }
 
@@ -332,15 +333,15 @@ impl Hand {
     // Room for what a worker makes.
     fn new(alloc: Global) -> Result<Hand, AllocError> {
         Ok(Hand {
-            first: Stretch::new(alloc)?,
-            second: Stretch::new(alloc)?,
-            third: Stretch::new(alloc)?,
-            fourth: Stretch::new(alloc)?,
+            first: Batch::new(alloc)?,
+            second: Batch::new(alloc)?,
+            third: Batch::new(alloc)?,
+            fourth: Batch::new(alloc)?,
             segment: Segment::new(),
         })
     }
 
-    // Makes the private steps of a ticket, and says how many stretches they are: none where they are a segment.
+    // Makes the private steps of a ticket, and says how many batches they are: none where they are a segment.
     fn make<K: Whole, G: Gate>(
         &mut self,
         known: &Known<'_, K>,
@@ -358,7 +359,7 @@ impl Hand {
             segment,
         } = self;
         let (turn, ticket) = (stand.turn, &stand.ticket);
-        if !gate.stretch_into(worker, turn, &known.ahead, ticket, first) {
+        if !gate.batch_into(worker, turn, &known.ahead, ticket, first) {
             gate.segment_into(worker, turn, known.ahead.image(), ticket, segment);
             return 0;
         }
@@ -393,20 +394,20 @@ impl Call {
     }
 }
 
-// Makes the stretch that follows another one, where that has as many steps as it may have. False where there is none, or it has no step: a commit
+// Makes the batch that follows another one, where that has as many steps as it may have. False where there is none, or it has no step: a commit
 // makes the next step behind private ones where it isn't private too.
 fn follows<K: Whole, G: Gate>(
     known: &Known<'_, K>,
     gate: &G,
     call: Call,
-    before: &Stretch,
-    stretch: &mut Stretch,
+    before: &Batch,
+    batch: &mut Batch,
 ) -> bool
-    ensures { result ≡ true → IsStretchOf K.opening.program before.now.id.process stretch.new }
+    ensures { result ≡ true → IsBatchOf K.opening.program before.now.id.process batch.new }
 {
     before.is_full()
-        && gate.stretch_behind(call.worker, call.turn, &known.ahead, before, stretch)
-        && 0 < stretch.steps()
+        && gate.batch_behind(call.worker, call.turn, &known.ahead, before, batch)
+        && 0 < batch.steps()
 }
 
 impl<K: Whole> Floor<K> {
@@ -547,7 +548,7 @@ impl<K: Whole> Floor<K> {
             };
             return self.commit(core, seat, stand, &offer);
         }
-        let offer = Offer::Made { stretch: first };
+        let offer = Offer::Made { batch: first };
         if !self.commit(core, seat, stand, &offer)? {
             return Ok(false);
         }
@@ -564,7 +565,7 @@ impl<K: Whole> Floor<K> {
     }
 
     // Makes turns in one, up to so many, of whichever process comes next, until one can't be made so, and says whether one of them was long. While no other
-    // worker is busy they may have as many private steps as entries have; while others are, one that has just made a long stretch makes none, since another
+    // worker is busy they may have as many private steps as entries have; while others are, one that has just made a long batch makes none, since another
     // one is better made without the lock. The processes that were ready are ready still.
     fn turns_at_once(
         &self,
@@ -613,29 +614,29 @@ impl<K: Whole> Floor<K> {
         self.busy.load(Ordering::SeqCst) == 1 && !self.called.load(Ordering::SeqCst)
     }
 
-    // Checks the process out again, though others may be free, and commits the stretch that follows. Nothing where it can't be checked out. False
+    // Checks the process out again, though others may be free, and commits the batch that follows. Nothing where it can't be checked out. False
     // where the run is over.
     fn commit_behind(
         &self,
         core: &mut Tied<K>,
         seat: &Seat<K>,
         stand: &mut Stand,
-        stretch: &mut Stretch,
+        batch: &mut Batch,
     ) -> Result<bool, AllocError>
-        requires { IsStretchOf K.opening.program (last_process core.old.core.core.history) stretch.old }
+        requires { IsBatchOf K.opening.program (last_process core.old.core.core.history) batch.old }
         ensures { result ≡ Ok true → last_process core.new.core.core.history ≡ last_process core.old.core.core.history }
     {
-        let process = stretch.ticket().process;
+        let process = batch.ticket().process;
         let used = stand.take_ticket();
         let Some(ticket) = core.check_out(process, used)? else {
             return Ok(true);
         };
-        stretch.give_ticket(ticket.id());
+        batch.give_ticket(ticket.id());
         stand.ticket = ticket;
-        self.commit(core, seat, stand, &Offer::Made { stretch })
+        self.commit(core, seat, stand, &Offer::Made { batch })
     }
 
-    // Commits a segment or a stretch. False where the run is over.
+    // Commits a segment or a batch. False where the run is over.
     fn commit(
         &self,
         core: &mut Tied<K>,

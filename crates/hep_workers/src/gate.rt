@@ -1,11 +1,10 @@
 //! Where private steps are made.
 ghost use Rattle.std.specs.Prelude.{◌≡◌, true};
-ghost use Rattle.hep_segments.specs.Segments.{IsComputed};
-ghost use Rattle.hep_stretches.specs.Stretches.{IsMadeBehind, IsStretchedFrom};
+ghost use Rattle.hep_private.specs.Segments.{IsComputed};
+ghost use Rattle.hep_private.specs.Batches.{IsMadeBehind, IsBatchedFrom};
 
 use hep_image::Image;
-use hep_segments::{Segment, Ticket, compute, compute_into};
-use hep_stretches::{Ahead, Stretch, make_behind, make_stretch};
+use hep_private::{Ahead, Batch, Segment, Ticket, compute, compute_into, make_batch, make_behind};
 
 /// Makes the segments of workers, without the lock. Both numbers count from 1: the worker's, and that of its turn.
 ///
@@ -36,30 +35,30 @@ pub trait Gate {
 
     /// The same steps without a record of each, which is what workers ask for first. A gate need not make any: where it answers false its
     /// segment is asked for.
-    fn stretch_into(
+    fn batch_into(
         &self,
         worker: u32,
         turn: u64,
         ahead: &Ahead<'_>,
         ticket: &Ticket,
-        stretch: &mut Stretch,
+        batch: &mut Batch,
     ) -> bool
-        ensures { result ≡ true → IsStretchedFrom ahead.now ticket.now stretch.new }
+        ensures { result ≡ true → IsBatchedFrom ahead.now ticket.now batch.new }
     {
         false
     }
 
-    /// The stretch that follows one that this worker has made for the same process, and not committed yet. It is asked for where that one has as many
+    /// The batch that follows one that this worker has made for the same process, and not committed yet. It is asked for where that one has as many
     /// steps as it may have, so that several are committed at once. A gate need not make any.
-    fn stretch_behind(
+    fn batch_behind(
         &self,
         worker: u32,
         turn: u64,
         ahead: &Ahead<'_>,
-        before: &Stretch,
-        stretch: &mut Stretch,
+        before: &Batch,
+        batch: &mut Batch,
     ) -> bool
-        ensures { result ≡ true → IsMadeBehind ahead.now before.now stretch.new }
+        ensures { result ≡ true → IsMadeBehind ahead.now before.now batch.new }
     {
         false
     }
@@ -93,26 +92,26 @@ impl Gate for NoGate {
     }
 
     #[inline(always)]
-    fn stretch_into(
+    fn batch_into(
         &self,
         _worker: u32,
         _turn: u64,
         ahead: &Ahead<'_>,
         ticket: &Ticket,
-        stretch: &mut Stretch,
+        batch: &mut Batch,
     ) -> bool {
-        make_stretch(ahead, ticket, stretch)
+        make_batch(ahead, ticket, batch)
     }
 
     #[inline(always)]
-    fn stretch_behind(
+    fn batch_behind(
         &self,
         _worker: u32,
         _turn: u64,
         ahead: &Ahead<'_>,
-        before: &Stretch,
-        stretch: &mut Stretch,
+        before: &Batch,
+        batch: &mut Batch,
     ) -> bool {
-        make_behind(ahead, before, stretch)
+        make_behind(ahead, before, batch)
     }
 }

@@ -2,8 +2,9 @@
 ghost use Rattle.std.specs.Prelude.{◌≡◌, ◌≤◌, ◌<◌, ◌^◌, ◌++◌, IfOk, OnOk, length, true, vec_capacity};
 ghost use Rattle.hep_workers.specs.Spans.{are_inside, log_of, receipts_in, with_entries, with_entry};
 
-use hep_entries::History;
-use hep_reports::{Finder, Log, Receipt};
+use crate::finder::Finder;
+use crate::receipt::{Log, Receipt};
+use hep_history::History;
 use std::alloc::{AllocError, Global};
 
 /// Entries of one worker that stand one behind the other in the history.

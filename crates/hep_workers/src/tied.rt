@@ -3,21 +3,20 @@
 ghost use Rattle.std.specs.Prelude.{◌≡◌, ◌≢◌, ◌≤◌, ◌<◌, ◌^◌, IfOk, OnOk, ℕ, false, true, [], length, map, replicate, vec_capacity, vec_len};
 ghost use Rattle.std.specs.Coded.{Coded-set, codes};
 ghost use Rattle.hep_source.specs.contracts.expression.Expr as expression;
-ghost use Rattle.hep_reports.specs.CoreValue.{CoreValue, next_ready_of, opening_of, verdict_of};
-ghost use Rattle.hep_reports.specs.CoreOffers.{IsKnownOffer, offered};
-ghost use Rattle.hep_reports.specs.CoreStopVerdict.TheVariants.{Running};
-ghost use Rattle.hep_reports.specs.ReceiptsShared.{IsDue, IsSharedFrom};
-ghost use Rattle.hep_segments.specs.Segments.{most_records};
+ghost use Rattle.hep_core.specs.Value.{CoreValue, next_ready_of, opening_of, verdict_of};
+ghost use Rattle.hep_core.specs.Offers.{IsKnownOffer, offered};
+ghost use Rattle.hep_core.specs.declared.stop.Verdict.TheVariants.{Running};
+ghost use Rattle.hep_workers.specs.Shared.{IsDue, IsSharedFrom};
+ghost use Rattle.hep_private.specs.Segments.{most_records};
 ghost use Rattle.hep_workers.specs.Calls.{HasCancelled, IsAnswered, IsTurned};
 ghost use Rattle.hep_workers.specs.Lists.{AreLogsOf, HasLeftLists, IsAtOpening, all_inside, lists_of, logs_of, worker_numbers};
 
+use crate::receipt::Log;
 use crate::spans::{Span, add_entries, add_entry, log_of};
-use hep_entries::History;
-use hep_reports::{
-    ChooseFault, CommitFault, Core, Log, Offer, Ticket, Verdict, offer_turn, turn_at_once,
-    turns_at_once,
-};
-use hep_stretches::Ahead;
+use crate::turn::{offer_turn, turn_at_once, turns_at_once};
+use hep_core::{ChooseFault, CommitFault, Core, Offer, Ticket, Verdict};
+use hep_history::History;
+use hep_private::Ahead;
 use std::alloc::{AllocError, Global};
 use std::marker::{Brand, PhantomData};
 

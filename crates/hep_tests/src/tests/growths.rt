@@ -5,9 +5,8 @@
 
 use super::{checked_out, chosen, committed, image_from, program_of, source_of};
 use hep_base::Refusal;
-use hep_copies::Syntax;
-use hep_entries::History;
-use hep_image::Image;
+use hep_history::History;
+use hep_image::{Image, Syntax};
 use hep_output::output_text;
 use hep_parse::parse;
 use hep_run::{

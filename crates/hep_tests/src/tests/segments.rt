@@ -2,8 +2,7 @@
 
 use super::image_from;
 use hep_image::Image;
-use hep_private::Record;
-use hep_segments::{Copied, Segment, Ticket, TicketId, compute, compute_into};
+use hep_private::{Copied, Record, Segment, Ticket, TicketId, compute, compute_into};
 use hep_source::Value;
 use std::alloc::Global;
 use std::process::Abort;

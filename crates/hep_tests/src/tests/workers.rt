@@ -4,8 +4,8 @@ ghost use Rattle.std.specs.Prelude.{◌≤◌};
 use super::{checked_out, chosen, committed, computed, core_of, image_from, source_of};
 use hep_image::Image;
 use hep_run::{
-    Ahead, ChoiceStop, ChooseFault, CloseFault, CommitFault, Core, Gate, Log, NoGate, Receipt,
-    Segment, Stretch, Ticket, Verdict, WorkOptions, close, compute, run_workers, worker_turn,
+    Ahead, Batch, ChoiceStop, ChooseFault, CloseFault, CommitFault, Core, Gate, Log, NoGate,
+    Receipt, Segment, Ticket, Verdict, WorkOptions, close, compute, run_workers, worker_turn,
 };
 use hep_source::Value;
 use std::alloc::Global;
@@ -581,17 +581,17 @@ const LOOPING: [&[u8]; 9] = [
     b"      END",
 ];
 
-// As many private steps as a stretch of the loop has at least.
+// As many private steps as a batch of the loop has at least.
 const LONG: u32 = 1_000;
 
-// Holds the worker that has the first call for process 2 until another one has a call too; and a worker that has a long stretch until two have one. The main
-// program has no stretches, so that a worker which waits is woken behind each of its turns.
+// Holds the worker that has the first call for process 2 until another one has a call too; and a worker that has a long batch until two have one. The main
+// program has no batches, so that a worker which waits is woken behind each of its turns.
 #[derive(Drop)]
 struct Beside<'a, R> {
     rt: &'a R,
-    // A bit for each worker that has had a call, and for each that has had a long stretch.
+    // A bit for each worker that has had a call, and for each that has had a long batch.
     called: AtomicU32,
-    stretched: AtomicU32,
+    batched: AtomicU32,
     polls: AtomicU64,
 }
 
@@ -600,7 +600,7 @@ impl<'a, R: Clock> Beside<'a, R> {
         Beside {
             rt,
             called: AtomicU32::new(0),
-            stretched: AtomicU32::new(0),
+            batched: AtomicU32::new(0),
             polls: AtomicU64::new(0),
         }
     }
@@ -626,13 +626,13 @@ impl<R: Clock> Gate for Beside<'_, R> {
         false
     }
 
-    fn stretch_into(
+    fn batch_into(
         &self,
         worker: u32,
         turn: u64,
         ahead: &Ahead<'_>,
         ticket: &Ticket,
-        stretch: &mut Stretch,
+        batch: &mut Batch,
     ) -> bool {
         let bit = if worker == 1 { 1 } else { 2 };
         self.called.fetch_or(bit, Ordering::SeqCst);
@@ -643,23 +643,23 @@ impl<R: Clock> Gate for Beside<'_, R> {
         if process == 2 {
             self.meet(&self.called);
         }
-        let is_made = NoGate.stretch_into(worker, turn, ahead, ticket, stretch);
-        if LONG <= stretch.steps() {
-            self.stretched.fetch_or(bit, Ordering::SeqCst);
-            self.meet(&self.stretched);
+        let is_made = NoGate.batch_into(worker, turn, ahead, ticket, batch);
+        if LONG <= batch.steps() {
+            self.batched.fetch_or(bit, Ordering::SeqCst);
+            self.meet(&self.batched);
         }
         is_made
     }
 }
 
-// Two workers have a long stretch each at one time.
+// Two workers have a long batch each at one time.
 fn two_loops_beside<R: Abort + Clock + Threads + Wait + Sync>(rt: &R, alloc: Global) {
     let image = image_from(rt, alloc, &source_of(rt, alloc, &LOOPING));
     let gate = Beside::new(rt);
     let options = options_of(10_000, 2);
     let report = run_workers(rt, alloc, image, &options, &gate).expect(rt, "no report");
     assert!(rt; gate.polls.load(Ordering::SeqCst) < MOST_POLLS);
-    assert!(rt; gate.stretched.load(Ordering::SeqCst) == 3);
+    assert!(rt; gate.batched.load(Ordering::SeqCst) == 3);
     assert!(rt; report.core().verdict() == Verdict::Done);
     for log in report.logs() {
         assert!(rt; log.receipts().iter().any(|receipt| LONG <= receipt.steps));
@@ -700,20 +700,20 @@ impl<R: Clock> Gate for Late<'_, R> {
         false
     }
 
-    fn stretch_into(
+    fn batch_into(
         &self,
         worker: u32,
         turn: u64,
         ahead: &Ahead<'_>,
         ticket: &Ticket,
-        stretch: &mut Stretch,
+        batch: &mut Batch,
     ) -> bool {
         let bit = if worker == 1 { 1 } else { 2 };
         self.beside.called.fetch_or(bit, Ordering::SeqCst);
         if LATE_TURN <= turn {
             self.beside.meet(&self.beside.called);
         }
-        NoGate.stretch_into(worker, turn, ahead, ticket, stretch)
+        NoGate.batch_into(worker, turn, ahead, ticket, batch)
     }
 }
 
@@ -747,7 +747,7 @@ fn short_turns_shared<R: Abort + Clock + Threads + Wait + Sync>(rt: &R, alloc: G
     }
 }
 
-// The program's own mode: two workers make long stretches side by side, and share short turns.
+// The program's own mode: two workers make long batches side by side, and share short turns.
 #[test]
 fn workers_are_not_asked(rt: HostRuntime) {
     let alloc = rt.alloc();

@@ -2,9 +2,9 @@ use Rattle.std.proofs.Common.{◌≡◌, ℕ, List, length, Some, refl, sym, ap,
 use Rattle.hep_machine.specs.Words.{frame_of, Activation, State}
 use Rattle.hep_arena.specs.Space.{Space}
 use Rattle.hep_arena.specs.Holes.{first_fit}
-use Rattle.hep_step.specs.LayoutWords.{Nodes, new_node, with_node}
-use Rattle.hep_step.proofs.LayoutMemory.{memory-fits}
-use Rattle.hep_step.proofs.LayoutReferences.{unset-ahead}
+use Rattle.hep_layout.specs.Words.{Nodes, new_node, with_node}
+use Rattle.hep_layout.proofs.Memory.{memory-fits}
+use Rattle.hep_layout.proofs.References.{unset-ahead}
 use Rattle.hep_proc.specs.Keeping.{FramesOf, frames_begun, Keeps}
 use Rattle.hep_proc.specs.Nodes.{nodes_of}
 use Rattle.hep_proc.proofs.Slabs.{some-value}

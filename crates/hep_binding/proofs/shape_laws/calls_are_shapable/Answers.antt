@@ -2,7 +2,7 @@ use Rattle.hep_machine.specs.Words.{unit_at}
 use Rattle.hep_binding.proofs.CommonCells.{common_some}
 use Rattle.hep_binding.proofs.Shapable.{call_shapable}
 use Rattle.hep_binding.proofs.shape_laws.calls_are_shapable.Goals as goal
-use Rattle.hep_step.proofs.ImageNumbers.{unit-there}
+use Rattle.hep_image.proofs.Numbers.{unit-there}
 
 pub returns : goal.returns
 returns c = λ program s layout contents holes u a room actuals given ds accepted less.

@@ -2,7 +2,7 @@ use Rattle.hep_machine.specs.Words.{unit_at}
 use Rattle.hep_binding.proofs.Bound.{fit_bound, unfit_faults}
 use Rattle.hep_binding.proofs.CommonCells.{common_some}
 use Rattle.hep_binding.proofs.shape_laws.shapes_decide_bindings.Goals as goal
-use Rattle.hep_step.proofs.ImageNumbers.{unit-there}
+use Rattle.hep_image.proofs.Numbers.{unit-there}
 
 pub returns-clause-fit : goal.returns-clause-fit
 returns-clause-fit c = λ program s layout contents u a scope actuals given ds accepted less frameless holds gives bound.

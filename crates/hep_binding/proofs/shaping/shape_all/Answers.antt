@@ -4,7 +4,7 @@ use Rattle.hep_proc.proofs.Slabs.{node-there}
 use Rattle.hep_binding.proofs.Shaped.{begins-behind, frame-inside, frame-out}
 use Rattle.hep_binding.proofs.shaping.shape_all.Goals.{After-cells}
 use Rattle.hep_binding.proofs.shaping.shape_all.Goals as goal
-use Rattle.hep_step.specs.LayoutWords.{FrameNode}
+use Rattle.hep_layout.specs.Words.{FrameNode}
 
 -- the node, and the cells of its frame
 here : (c : After-cells) → (n : FrameNode) × (nodes_of c.args.frames.now.nodes c.args.key ≡ Some n)

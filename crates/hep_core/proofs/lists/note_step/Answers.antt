@@ -1,6 +1,6 @@
 use Rattle.std.proofs.Common.{◌≡◌, ◌∙◌, ◌||◌, List, ap, sym}
 use Rattle.hep_machine.specs.Words.{is_number_among}
-use Rattle.hep_views.specs.PurgingRangeClosedRange.{ClosedRange}
+use Rattle.hep_step.specs.declared.range.ClosedRange.{ClosedRange}
 use Rattle.hep_core.specs.Waking.{awake_after, is_woken_after}
 use Rattle.hep_core.proofs.lists.note_step.Goals as goal
 

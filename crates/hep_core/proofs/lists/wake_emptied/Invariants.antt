@@ -2,7 +2,7 @@ use Rattle.std.proofs.Common.{◌≡◌, ◌||◌, ℕ, drop}
 use Rattle.hep_machine.specs.Words.{is_number_among}
 use Rattle.hep_blocked.specs.Rolls.{want_of}
 use Rattle.hep_blocked.specs.Listing.{awake_where, is_woken_where}
-use Rattle.hep_views.specs.PurgingPurged.{have_cell}
+use Rattle.hep_step.specs.Purged.{have_cell}
 use Rattle.hep_core.proofs.lists.wake_emptied.Given as goal
 
 abbrev pub invariant-loop-range : goal.invariant-loop-range

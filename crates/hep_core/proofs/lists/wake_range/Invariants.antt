@@ -2,7 +2,7 @@ use Rattle.std.proofs.Common.{◌≡◌, ◌+◌, ◌-◌, ◌||◌, ℕ}
 use Rattle.hep_machine.specs.Words.{is_number_among}
 use Rattle.hep_blocked.specs.Rolls.{want_of}
 use Rattle.hep_blocked.specs.Listing.{awake_where, is_woken_where}
-use Rattle.hep_views.specs.PurgingPurged.{has_cell}
+use Rattle.hep_step.specs.Purged.{has_cell}
 use Rattle.hep_core.proofs.lists.wake_range.Given as goal
 
 abbrev pub invariant-loop-cell : goal.invariant-loop-cell

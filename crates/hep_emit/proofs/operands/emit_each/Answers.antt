@@ -1,5 +1,5 @@
-use Rattle.hep_arguments.specs.Names.{names_in}
-use Rattle.hep_emit.proofs.Refusals.{of_item}
+use Rattle.hep_emit.specs.Names.{names_in}
+use Rattle.hep_emit.proofs.UnitRefusals.{of_item}
 use Rattle.hep_emit.proofs.operands.emit_each.Goals as goal
 
 pub returns-in_err-emit-clause-refused : goal.returns-in_err-emit-clause-refused

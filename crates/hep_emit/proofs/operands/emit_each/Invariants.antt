@@ -1,6 +1,6 @@
 use Rattle.std.proofs.Common.{◌≡◌, ◌++◌, drop}
 use Rattle.std.specs.List.{flat_map}
-use Rattle.hep_arguments.specs.Names.{names_in}
+use Rattle.hep_emit.specs.Names.{names_in}
 use Rattle.hep_emit.proofs.operands.emit_each.Given as goal
 
 abbrev pub invariant-loop-item : goal.invariant-loop-item

@@ -1,7 +1,7 @@
 use Rattle.std.proofs.Common.{◌≡◌, ◌++◌, drop, length}
 use Rattle.hep_code.specs.Words.{statements_code}
 use Rattle.hep_emit.specs.Starts.{starts_from, end_from}
-use Rattle.hep_operations.specs.Tables.{table_in}
+use Rattle.hep_emit.specs.Tables.{table_in}
 use Rattle.hep_emit.proofs.unit.emit_statements.Given as goal
 
 abbrev pub invariant-loop-index : goal.invariant-loop-index

@@ -1,10 +1,10 @@
 use Rattle.std.proofs.Common.{◌∙◌, ap, length, refl}
 use Rattle.hep_machine.specs.Words.{executable_from}
 use Rattle.hep_code.specs.Words.{instructions_before, unplaced}
-use Rattle.hep_operations.specs.declared.tables.Tables.{Tables}
-use Rattle.hep_operations.specs.Tables.{addressed_in}
+use Rattle.hep_emit.specs.declared.tables.Tables.{Tables}
+use Rattle.hep_emit.specs.Tables.{addressed_in}
 use Rattle.hep_emit.proofs.Indexes.{AreBlank, blank-long, found-start, found-code}
-use Rattle.hep_emit.proofs.Refusals.{over_same}
+use Rattle.hep_emit.proofs.UnitRefusals.{over_same}
 use Rattle.hep_emit.proofs.unit.emit_unit.Goals as goal
 use Rattle.hep_emit.proofs.unit.emit_unit.Goals.{After-emit_statements}
 

@@ -1,5 +1,5 @@
 use Rattle.std.proofs.Common.{List, ℕ, refl, subst, ◌∙◌}
-use Rattle.hep_coverage.specs.Coverage.{counted_in}
+use Rattle.hep_cover.specs.Coverage.{counted_in}
 use Rattle.hep_inspection.specs.Remade.{IsMadeOrRefused}
 use Rattle.hep_inspection.proofs.cover.count_text.Goals as goal
 

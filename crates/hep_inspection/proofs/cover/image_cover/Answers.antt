@@ -1,8 +1,8 @@
 use Rattle.std.proofs.Common.{rules, subst, ℕ, Vec, Global, ap, sym, ◌∙◌}
-use Rattle.hep_begins.specs.Begins.{operations_by_line}
-use Rattle.hep_coverage.specs.Coverage.{unbegun}
+use Rattle.hep_cover.specs.Begins.{operations_by_line}
+use Rattle.hep_cover.specs.Coverage.{unbegun}
 use Rattle.hep_inspection.specs.Counted.{IsCountedOrRefused}
-use Rattle.hep_comparing.specs.OutcomeTranscripts.{outcome_of}
+use Rattle.hep_outcome.specs.Transcripts.{outcome_of}
 use Rattle.hep_inspection.proofs.Covered.{all-counted, along-begins, along-ends, step-counted, step-refused, texts-of}
 use Rattle.hep_inspection.proofs.cover.image_cover.Goals as goal
 

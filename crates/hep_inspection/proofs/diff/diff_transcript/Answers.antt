@@ -1,6 +1,6 @@
 use Rattle.std.proofs.Common.{inr}
 use Rattle.hep_run.specs.Sources.{IsRefusedProgram, IsRunnable}
-use Rattle.hep_comparing.proofs.OutcomeWanted.{on-err-anyway, on-err-so}
+use Rattle.hep_outcome.proofs.Wanted.{on-err-anyway, on-err-so}
 use Rattle.hep_run.proofs.Wanted.{may-read-on, program-small}
 use Rattle.hep_inspection.proofs.diff.diff_transcript.Goals as goal
 

@@ -1,5 +1,5 @@
 use Rattle.std.proofs.Common.{ap, refl}
-use Rattle.hep_survey.specs.CoreValue.{CoreValue}
+use Rattle.hep_core.specs.Value.{CoreValue}
 use Rattle.hep_inspection.proofs.Remaking.{replayed-again}
 use Rattle.hep_inspection.proofs.remade.make_entries.Goals as goal
 

@@ -1,8 +1,8 @@
 use Rattle.std.proofs.Common.{◌∙◌, ap, inl, inr, subst, take}
 use Rattle.std.proofs.lemmas.Result.{IfOk-weaker}
-use Rattle.hep_coverage.specs.HistoryReplays.{IsUnmade}
-use Rattle.hep_comparing.specs.OutcomeOutcome.{full_with}
-use Rattle.hep_comparing.proofs.OutcomeWanted.{noted-full, on-err-so}
+use Rattle.hep_replay.specs.Replays.{IsUnmade}
+use Rattle.hep_outcome.specs.Outcome.{full_with}
+use Rattle.hep_outcome.proofs.Wanted.{noted-full, on-err-so}
 use Rattle.hep_run.specs.Checks.{outcome_of_text}
 use Rattle.hep_inspection.proofs.state.entries_state.Goals as goal
 

@@ -1,7 +1,7 @@
 use Rattle.std.proofs.Common.{◌∙◌, ap}
-use Rattle.hep_coverage.specs.HistoryFirst.{first_of}
-use Rattle.hep_states.specs.States.{state_text}
-use Rattle.hep_survey.specs.Shown.{line_shown}
+use Rattle.hep_replay.specs.First.{first_of}
+use Rattle.hep_state_text.specs.States.{state_text}
+use Rattle.hep_state_text.specs.Shown.{line_shown}
 use Rattle.hep_text.specs.Line.{lines}
 use Rattle.hep_inspection.proofs.Told.{state-told}
 use Rattle.hep_inspection.proofs.state.state_told.Goals as goal

@@ -1,5 +1,5 @@
 use Rattle.std.proofs.Common.{◌≡◌, IfOk, subst, sym}
-use Rattle.hep_coverage.specs.HistoryFirst.{first_of}
+use Rattle.hep_replay.specs.First.{first_of}
 use Rattle.hep_inspection.specs.declared.state.Telling.{Telling}
 use Rattle.hep_inspection.specs.States.{told}
 use Rattle.hep_inspection.proofs.state.told_text.Goals as goal

@@ -1,7 +1,7 @@
 use Rattle.std.proofs.Common.{◌∙◌, ap}
-use Rattle.hep_survey.specs.CoreValue.{CoreValue}
-use Rattle.hep_coverage.specs.HistoryFirst.{first_of}
-use Rattle.hep_coverage.specs.CausesReasons.{why_text}
+use Rattle.hep_core.specs.Value.{CoreValue}
+use Rattle.hep_replay.specs.First.{first_of}
+use Rattle.hep_cover.specs.CausesReasons.{why_text}
 use Rattle.hep_inspection.proofs.Remaking.{replayed-again}
 use Rattle.hep_inspection.proofs.state.why_told.Goals as goal
 

@@ -1,9 +1,9 @@
 use Rattle.std.proofs.Common.{◌≡◌, ◌∙◌, ℕ, [], Some, ap, arith, length, sym}
-use Rattle.hep_history.specs.ChooseFault.TheVariants.{NoSuchProcess, Stopped}
-use Rattle.hep_history.specs.Value.{CoreValue}
-use Rattle.hep_lots.specs.Drawing.{next_drawn}
-use Rattle.hep_lots.specs.Kept.{LotsValue, lots_after, lots_next, next_in}
-use Rattle.hep_lots.proofs.Draws.{lots-step}
+use Rattle.hep_replay.specs.ChooseFault.TheVariants.{NoSuchProcess, Stopped}
+use Rattle.hep_replay.specs.Value.{CoreValue}
+use Rattle.hep_outcome.specs.Drawing.{next_drawn}
+use Rattle.hep_outcome.specs.Kept.{LotsValue, lots_after, lots_next, next_in}
+use Rattle.hep_outcome.proofs.Draws.{lots-step}
 use Rattle.hep_outcome.specs.declared.options.LotOptions.{LotOptions}
 use Rattle.hep_outcome.specs.Draws.{IsDrawing}
 use Rattle.hep_outcome.proofs.Drawings.{drawing-more, drawn-in, drawn-lives, drawn-out-ended, drawn-out-stopped, one-more, room, same-limit, same-program, same-program-stopped}

@@ -1,5 +1,5 @@
 use Rattle.std.proofs.Common.{◌≡◌, ◌-◌, [], length}
-use Rattle.hep_lots.specs.Kept.{lots_after}
+use Rattle.hep_outcome.specs.Kept.{lots_after}
 use Rattle.hep_outcome.specs.Draws.{IsDrawing}
 use Rattle.hep_outcome.proofs.lots.draw_on.Given as goal
 

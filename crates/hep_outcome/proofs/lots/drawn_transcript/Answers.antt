@@ -1,5 +1,5 @@
 use Rattle.std.proofs.Common.{ap, inr, subst, sym}
-use Rattle.hep_history.specs.Value.{CoreValue}
+use Rattle.hep_replay.specs.Value.{CoreValue}
 use Rattle.hep_outcome.specs.Draws.{IsDrawing}
 use Rattle.hep_outcome.specs.Transcripts.{outcome_of}
 use Rattle.hep_outcome.proofs.Drawings.{drawing-opening, drawn-outcome}

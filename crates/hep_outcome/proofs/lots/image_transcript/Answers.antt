@@ -1,7 +1,7 @@
 use Rattle.std.proofs.Common.{◌≡◌, ◌∙◌, ap, inl, inr, subst, sym}
 use Rattle.hep_outcome.proofs.Wanted.{noted-full, on-err-anyway, on-err-so}
 use Rattle.hep_machine.specs.Words.{Units}
-use Rattle.hep_history.specs.Value.{CoreValue, IsNewFault, opening_of}
+use Rattle.hep_replay.specs.Value.{CoreValue, IsNewFault, opening_of}
 use Rattle.hep_outcome.specs.Draws.{IsDrawnOutcome}
 use Rattle.hep_outcome.specs.Outcome.{full_with}
 use Rattle.hep_outcome.specs.Transcripts.{outcome_of}

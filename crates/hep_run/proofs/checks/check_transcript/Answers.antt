@@ -1,5 +1,5 @@
 use Rattle.hep_run.specs.Sources.{IsRefusedProgram}
-use Rattle.hep_choosing.proofs.OutcomeWanted.{on-err-so}
+use Rattle.hep_outcome.proofs.Wanted.{on-err-so}
 use Rattle.hep_run.proofs.Wanted.{may-read-on}
 use Rattle.hep_run.proofs.checks.check_transcript.Goals as goal
 

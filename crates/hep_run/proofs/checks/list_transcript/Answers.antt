@@ -1,7 +1,7 @@
 use Rattle.std.proofs.Common.{inr}
 use Rattle.hep_conditions.specs.Words.{IsAccepted}
 use Rattle.hep_run.specs.Sources.{IsViolatingProgram}
-use Rattle.hep_choosing.proofs.OutcomeWanted.{on-err-anyway, on-err-so}
+use Rattle.hep_outcome.proofs.Wanted.{on-err-anyway, on-err-so}
 use Rattle.hep_run.proofs.Wanted.{may-read-on, program-small}
 use Rattle.hep_run.proofs.checks.list_transcript.Goals as goal
 

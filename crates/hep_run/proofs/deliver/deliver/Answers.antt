@@ -1,8 +1,8 @@
 use Rattle.std.proofs.Common.{ℕ, ◌<◌, List, ap, length, take, subst, inl, inr}
 use Rattle.std.specs.Io.KnownBytes.{Appends}
-use Rattle.hep_entries.specs.Entries.{Kept}
+use Rattle.hep_history.specs.Entries.{Kept}
 use Rattle.hep_run.specs.Delivery.{WritesMessages}
-use Rattle.hep_choosing.specs.OutcomeTranscripts.{outcome_of}
+use Rattle.hep_outcome.specs.Transcripts.{outcome_of}
 use Rattle.hep_run.proofs.Messages.{left_by}
 use Rattle.hep_run.proofs.deliver.deliver.Goals as goal
 

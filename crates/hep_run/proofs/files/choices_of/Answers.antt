@@ -1,5 +1,5 @@
-use Rattle.hep_choosing.specs.OutcomeChoices.{choice_text, IsProcess}
-use Rattle.hep_choosing.specs.OutcomeHistoryLines.{IsRefusedText}
+use Rattle.hep_outcome.specs.Choices.{choice_text, IsProcess}
+use Rattle.hep_outcome.specs.OutcomeHistoryLines.{IsRefusedText}
 use Rattle.hep_run.proofs.Messages.{said_at}
 use Rattle.hep_run.proofs.files.choices_of.Goals as goal
 

@@ -1,5 +1,5 @@
-use Rattle.hep_choosing.specs.OutcomeHistories.{entry_text, IsAllowed}
-use Rattle.hep_choosing.specs.OutcomeHistoryLines.{IsRefusedText}
+use Rattle.hep_outcome.specs.Histories.{entry_text, IsAllowed}
+use Rattle.hep_outcome.specs.OutcomeHistoryLines.{IsRefusedText}
 use Rattle.hep_run.proofs.Messages.{said_at}
 use Rattle.hep_run.proofs.files.followed_of.Goals as goal
 

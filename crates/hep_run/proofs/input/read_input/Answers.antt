@@ -1,6 +1,6 @@
 use Rattle.std.proofs.Common.{◌+◌, ◌≤◌, ◌++◌, length, length-append, take, arith}
 use Rattle.std.proofs.KnownBytes.{Consumes-trans}
-use Rattle.hep_choosing.proofs.OutcomeWanted.{on-err-anyway}
+use Rattle.hep_outcome.proofs.Wanted.{on-err-anyway}
 use Rattle.hep_run.proofs.input.read_input.Goals as goal
 
 pub returns-in_err-extend_from_slice-in-Ok-clause-lost : goal.returns-in_err-extend_from_slice-in-Ok-clause-lost

@@ -1,4 +1,4 @@
-use Rattle.hep_choosing.specs.OutcomeDraws.{IsDrawnOutcome}
+use Rattle.hep_outcome.specs.Draws.{IsDrawnOutcome}
 use Rattle.hep_run.specs.Outcome.{IsLotOutcome}
 use Rattle.hep_run.specs.Sources.{IsRefusedProgram, IsRunnable}
 use Rattle.hep_run.proofs.Large.{large-left}

@@ -1,12 +1,12 @@
 use Rattle.std.proofs.Common.{◌≡◌, ◌∙◌, Bool, List, [], Option, ap, arith, inl, inr, sym, ℕ}
-use Rattle.hep_choosing.specs.OutcomeOptionsSampleOptions.{SampleOptions}
-use Rattle.hep_choosing.specs.OutcomeOutcome.{Outcome}
-use Rattle.hep_choosing.specs.OutcomeStatuses.{status_code}
+use Rattle.hep_outcome.specs.declared.options.SampleOptions.{SampleOptions}
+use Rattle.hep_outcome.specs.Outcome.{Outcome}
+use Rattle.hep_outcome.specs.Statuses.{status_code}
 use Rattle.hep_run.specs.declared.options.Run.{Run}
 use Rattle.hep_run.specs.Delivery.{Leaves}
 use Rattle.hep_run.specs.Sources.{IsRefusedProgram, IsRunnable}
 use Rattle.hep_run.specs.Samples.{IsSampleOutcome, IsSampled}
-use Rattle.hep_choosing.specs.OutcomeTranscripts.{outcome_of}
+use Rattle.hep_outcome.specs.Transcripts.{outcome_of}
 use Rattle.hep_run.proofs.Accepted.{left_alone}
 use Rattle.hep_run.proofs.Large.{large-delivered, large-status, wanted-small}
 use Rattle.hep_run.proofs.sample.sample_bytes.Goals as goal

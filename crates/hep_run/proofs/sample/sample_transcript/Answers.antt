@@ -3,14 +3,14 @@ use Rattle.std.proofs.lemmas.Result.{IfOk-weaker}
 use Rattle.hep_machine.specs.Words.{Units}
 use Rattle.hep_run.specs.declared.refusal.SourceFault.{SourceFault}
 use Rattle.hep_run.specs.declared.refusal.SourceFault.TheVariants.{NoMemory, Refused}
-use Rattle.hep_choosing.specs.OutcomeOutcome.{Outcome}
+use Rattle.hep_outcome.specs.Outcome.{Outcome}
 use Rattle.hep_run.specs.Outcome.{RunsTo}
 use Rattle.hep_run.specs.Refusals.{IsSourceRefusal}
 use Rattle.hep_run.specs.Sources.{IsRefusedProgram, IsRunnable}
 use Rattle.hep_run.specs.Samples.{AreFirstSeeds, IsSampled}
-use Rattle.hep_choosing.specs.OutcomeTranscripts.{outcome_of}
+use Rattle.hep_outcome.specs.Transcripts.{outcome_of}
 use Rattle.hep_run.specs.Transcripts.{IsOutcomeOfFault}
-use Rattle.hep_choosing.proofs.OutcomeWanted.{on-err-anyway}
+use Rattle.hep_outcome.proofs.Wanted.{on-err-anyway}
 use Rattle.hep_run.proofs.Wanted.{may-read-on, program-small}
 use Rattle.hep_run.proofs.sample.sample_transcript.Goals as goal
 

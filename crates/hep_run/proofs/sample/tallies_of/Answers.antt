@@ -1,8 +1,8 @@
 use Rattle.std.proofs.Common.{◌+◌, ◌∙◌, List, ap, subst, sym}
-use Rattle.hep_choosing.specs.OutcomeOutcome.{Outcome}
-use Rattle.hep_choosing.specs.OutcomeTallies.{Tally, counted, tally_of}
+use Rattle.hep_outcome.specs.Outcome.{Outcome}
+use Rattle.hep_outcome.specs.Tallies.{Tally, counted, tally_of}
 use Rattle.hep_run.specs.Samples.{IsTallied}
-use Rattle.hep_choosing.specs.OutcomeTranscripts.{outcome_of}
+use Rattle.hep_outcome.specs.Transcripts.{outcome_of}
 use Rattle.hep_run.proofs.Counts.{tallied-run}
 use Rattle.hep_run.proofs.sample.tallies_of.Goals as goal
 

@@ -1,4 +1,4 @@
-use Rattle.hep_choosing.specs.OutcomeReplay.{IsTextOutcome}
+use Rattle.hep_outcome.specs.Replay.{IsTextOutcome}
 use Rattle.hep_run.specs.Outcome.{IsReplayOutcome}
 use Rattle.hep_run.specs.Sources.{IsRefusedProgram, IsRunnable}
 use Rattle.hep_run.proofs.Large.{large-left}

@@ -1,6 +1,6 @@
 use Rattle.std.proofs.Common.{inl}
 use Rattle.std.proofs.KnownBytes.{Keeps-refl}
-use Rattle.hep_choosing.specs.OutcomeReplay.{IsTextOutcome}
+use Rattle.hep_outcome.specs.Replay.{IsTextOutcome}
 use Rattle.hep_run.specs.Sources.{IsRefusedProgram, IsRunnable}
 use Rattle.hep_run.proofs.Fronts.{source_left}
 use Rattle.hep_run.proofs.Large.{large-source}

@@ -1,4 +1,4 @@
-use Rattle.hep_choosing.specs.OutcomeOutcome.{IsProgramOutcome}
+use Rattle.hep_outcome.specs.Outcome.{IsProgramOutcome}
 use Rattle.hep_run.specs.Outcome.{IsOutcome}
 use Rattle.hep_run.specs.Sources.{IsRefusedProgram, IsRunnable}
 use Rattle.hep_run.proofs.Large.{large-left}

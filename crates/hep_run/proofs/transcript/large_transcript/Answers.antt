@@ -1,6 +1,6 @@
 use Rattle.std.proofs.Common.{sym, ap, ◌∙◌}
-use Rattle.hep_entries.specs.Entries.{Kept}
-use Rattle.hep_choosing.specs.OutcomeLines.{lines_text}
+use Rattle.hep_history.specs.Entries.{Kept}
+use Rattle.hep_outcome.specs.Lines.{lines_text}
 use Rattle.hep_run.proofs.Wanted.{large-text}
 use Rattle.hep_run.proofs.transcript.large_transcript.Goals as goal
 

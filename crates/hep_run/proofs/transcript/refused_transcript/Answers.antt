@@ -1,5 +1,5 @@
 use Rattle.std.proofs.Common.{sym, ◌∙◌}
-use Rattle.hep_choosing.proofs.OutcomeWanted.{on-err-anyway}
+use Rattle.hep_outcome.proofs.Wanted.{on-err-anyway}
 use Rattle.hep_run.proofs.Wanted.{large-refused}
 use Rattle.hep_run.proofs.transcript.refused_transcript.Goals as goal
 

@@ -1,7 +1,7 @@
 use Rattle.std.proofs.Common.{ap, inr, ◌∙◌}
 use Rattle.std.proofs.lemmas.Result.{IfOk-weaker}
 use Rattle.hep_run.specs.Sources.{IsRefusedProgram, IsRunnable}
-use Rattle.hep_choosing.proofs.OutcomeWanted.{on-err-anyway, on-err-so}
+use Rattle.hep_outcome.proofs.Wanted.{on-err-anyway, on-err-so}
 use Rattle.hep_run.proofs.Wanted.{may-read-on, program-small}
 use Rattle.hep_warnings.specs.Warnings.{warnings}
 use Rattle.hep_run.specs.Warned.{outcome_of_warnings}

@@ -1,8 +1,8 @@
 use Rattle.std.proofs.Common.{rules, ap, inl, inr, subst, sym, ◌∙◌}
 use Rattle.hep_workers.specs.Faults.{IsWorkFault}
-use Rattle.hep_choosing.specs.OutcomeOutcome.{full_with}
-use Rattle.hep_choosing.specs.OutcomeTranscripts.{outcome_of}
-use Rattle.hep_choosing.proofs.OutcomeWanted.{noted-full, on-err-anyway, on-err-so}
+use Rattle.hep_outcome.specs.Outcome.{full_with}
+use Rattle.hep_outcome.specs.Transcripts.{outcome_of}
+use Rattle.hep_outcome.proofs.Wanted.{noted-full, on-err-anyway, on-err-so}
 use Rattle.hep_run.proofs.Worked.{by-number, fits-by-number, fits-else, outcome-worked}
 use Rattle.hep_run.specs.Workers.{outcome_of_refused_workers}
 use Rattle.hep_run.proofs.workers.image_transcript.Goals as goal

@@ -1,8 +1,8 @@
 use Rattle.std.proofs.Common.{drop, length, sym, ap, ◌∙◌, arith, ◌≡◌, ℕ, List, subst}
 use Rattle.hep_code.specs.Words.{values_ahead, IsPastPushes, Stands, AddressedUnit, code_of, left_to_do}
-use Rattle.hep_tops.specs.StepSimulation.{unit_code, unit_addressed}
-use Rattle.hep_tops.specs.ProcProcessLocal.{Local}
-use Rattle.hep_tops.proofs.ProcLevels.{operands-are, some-levels}
+use Rattle.hep_step.specs.Simulation.{unit_code, unit_addressed}
+use Rattle.hep_proc.specs.declared.process.Local.{Local}
+use Rattle.hep_proc.proofs.Levels.{operands-are, some-levels}
 use Rattle.hep_state.proofs.advancing.settle_top.Goals as goal
 use Rattle.hep_machine.specs.Words.{Value, Units, Work}
 use Rattle.hep_code.specs.declared.instruction.Instruction.{Instruction}

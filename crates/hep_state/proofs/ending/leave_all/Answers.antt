@@ -1,13 +1,13 @@
 use Rattle.std.proofs.Common.{◌≡◌, List, [], ◌∷◌, ◌++◌, length, reverse, refl, sym, ap, ◌∙◌, subst, arith}
 use Rattle.std.proofs.lemmas.List.{reverse-append}
-use Rattle.hep_tops.specs.LayoutWords.{is_stacked}
-use Rattle.hep_tops.specs.ProcKeeping.{all_but, frames_in, frames_left}
-use Rattle.hep_tops.specs.ProcNodes.{nodes_of}
-use Rattle.hep_tops.proofs.ProcSeveral.{AreLeaving, leaving-begins, leaving-ends, leaving-goes_on, leaving-next}
-use Rattle.hep_tops.proofs.ProcSlabs.{some-value}
-use Rattle.hep_tops.proofs.ProcStays.{ended-left}
-use Rattle.hep_tops.specs.ProcProcessLocal.{Local}
-use Rattle.hep_tops.specs.ProcStacks.{keys_of}
+use Rattle.hep_layout.specs.Words.{is_stacked}
+use Rattle.hep_proc.specs.Keeping.{all_but, frames_in, frames_left}
+use Rattle.hep_proc.specs.Nodes.{nodes_of}
+use Rattle.hep_proc.proofs.Several.{AreLeaving, leaving-begins, leaving-ends, leaving-goes_on, leaving-next}
+use Rattle.hep_proc.proofs.Slabs.{some-value}
+use Rattle.hep_proc.proofs.Stays.{ended-left}
+use Rattle.hep_proc.specs.declared.process.Local.{Local}
+use Rattle.hep_proc.specs.Stacks.{keys_of}
 use Rattle.hep_state.proofs.ending.leave_all.Goals as goal
 
 -- the key of the level that was taken off, and those of the levels that are left

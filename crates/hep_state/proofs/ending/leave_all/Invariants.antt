@@ -1,8 +1,8 @@
 use Rattle.std.proofs.Common.{◌≡◌, ℕ, List, length, reverse, vec_len}
-use Rattle.hep_tops.specs.ProcNodes.{nodes_of}
-use Rattle.hep_tops.specs.ProcKeeping.{CanLeave, FramesOf, Keeps, LeadUpwards, as_wanted}
-use Rattle.hep_tops.proofs.ProcSeveral.{AreLeaving}
-use Rattle.hep_tops.specs.ProcStacks.{keys_of}
+use Rattle.hep_proc.specs.Nodes.{nodes_of}
+use Rattle.hep_proc.specs.Keeping.{CanLeave, FramesOf, Keeps, LeadUpwards, as_wanted}
+use Rattle.hep_proc.proofs.Several.{AreLeaving}
+use Rattle.hep_proc.specs.Stacks.{keys_of}
 use Rattle.hep_state.proofs.ending.leave_all.Given as goal
 
 abbrev pub invariant-loop-level : goal.invariant-loop-level

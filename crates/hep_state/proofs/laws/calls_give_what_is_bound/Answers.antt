@@ -3,15 +3,15 @@ use Rattle.hep_machine.specs.Words.{Actual, Name, Units, Work, dummies_of, next_
 use Rattle.hep_machine.specs.declared.event.Kind.TheVariants.{Shape}
 use Rattle.hep_state.specs.Words.{state_before}
 use Rattle.hep_conditions.specs.Words.{IsAccepted}
-use Rattle.hep_tops.specs.ImageDummies.{dummy_arguments}
+use Rattle.hep_image.specs.Dummies.{dummy_arguments}
 use Rattle.hep_binding.specs.Fitting.{shapes_of}
-use Rattle.hep_tops.specs.StepWayWay.{Way}
-use Rattle.hep_tops.specs.StepWayWay.TheVariants.{Calls, Creates, Refers}
-use Rattle.hep_tops.specs.StepCalls.{comes_by, unit_by}
-use Rattle.hep_binding.specs.AcceptedLawsActuals.{FitsDummy}
-use Rattle.hep_binding.specs.AcceptedLawsWorks.{ComesFrom}
+use Rattle.hep_step.specs.declared.way.Way.{Way}
+use Rattle.hep_step.specs.declared.way.Way.TheVariants.{Calls, Creates, Refers}
+use Rattle.hep_step.specs.Calls.{comes_by, unit_by}
+use Rattle.hep_accepted_laws.specs.Actuals.{FitsDummy}
+use Rattle.hep_accepted_laws.specs.Works.{ComesFrom}
 use Rattle.hep_state.proofs.Callers.{IsKnownToBind, actuals, called-so, dummies-given, fault-ends, frameless, range-bound, called-inside}
-use Rattle.hep_tops.proofs.ImageNumbers.{unit-there}
+use Rattle.hep_image.proofs.Numbers.{unit-there}
 use Rattle.hep_state.proofs.laws.calls_give_what_is_bound.Goals as goal
 
 -- the actual arguments of a CALL, of a CREATE, and of a reference, fit

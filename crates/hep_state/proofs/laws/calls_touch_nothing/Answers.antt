@@ -1,8 +1,8 @@
 use Rattle.std.proofs.Common.{◌≡◌, ℕ, false, refl}
-use Rattle.hep_tops.specs.StepWayWay.{Way}
-use Rattle.hep_tops.specs.StepWayWay.TheVariants.{Calls, Creates, Refers}
-use Rattle.hep_tops.specs.StepCalls.{making}
-use Rattle.hep_tops.specs.StepChanges.{may_change}
+use Rattle.hep_step.specs.declared.way.Way.{Way}
+use Rattle.hep_step.specs.declared.way.Way.TheVariants.{Calls, Creates, Refers}
+use Rattle.hep_step.specs.Calls.{making}
+use Rattle.hep_step.specs.Changes.{may_change}
 use Rattle.hep_state.proofs.Callers.{ahead-on-top}
 use Rattle.hep_state.proofs.Changes.{none-ahead}
 use Rattle.hep_state.proofs.laws.calls_touch_nothing.Goals as goal

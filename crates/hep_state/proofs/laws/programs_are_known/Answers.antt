@@ -1,10 +1,10 @@
 use Rattle.std.proofs.Common.{◌≡◌, ℕ, List, true, is_some, subst, sym}
 use Rattle.hep_machine.specs.Words.{Name, Actual, Units, main_among, next_of, unit_at, Work}
 use Rattle.hep_conditions.specs.Words.{IsAccepted}
-use Rattle.hep_tops.specs.StepWayWay.{Way}
-use Rattle.hep_tops.specs.StepWayWay.TheVariants.{Calls, Creates, Refers}
-use Rattle.hep_tops.specs.StepCalls.{comes_by}
-use Rattle.hep_binding.specs.AcceptedLawsWorks.{ComesFrom, IsCalledBy}
+use Rattle.hep_step.specs.declared.way.Way.{Way}
+use Rattle.hep_step.specs.declared.way.Way.TheVariants.{Calls, Creates, Refers}
+use Rattle.hep_step.specs.Calls.{comes_by}
+use Rattle.hep_accepted_laws.specs.Works.{ComesFrom, IsCalledBy}
 use Rattle.hep_state.specs.Words.{IsMadeOf}
 use Rattle.hep_state.proofs.laws.programs_are_known.Goals as goal
 

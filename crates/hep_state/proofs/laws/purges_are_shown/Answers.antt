@@ -2,8 +2,8 @@ use Rattle.std.proofs.Common.{◌≡◌, true, Ok, Err, is_some}
 use Rattle.hep_machine.specs.Words.{main_among}
 use Rattle.hep_conditions.specs.Words.{IsAccepted}
 use Rattle.hep_code.specs.Words.{passed_from}
-use Rattle.hep_purging.specs.Purged.{effect_of_purge}
-use Rattle.hep_tops.specs.StepSimulation.{arrays_on_top}
+use Rattle.hep_step.specs.Purged.{effect_of_purge}
+use Rattle.hep_step.specs.Simulation.{arrays_on_top}
 use Rattle.hep_state.specs.declared.upcoming.PurgeAhead.{PurgeAhead}
 use Rattle.hep_state.specs.Words.{IsAtPurge, IsEffectOf, TurnOf, top_before, top_frame, running_top}
 use Rattle.hep_state.proofs.Callers.{ahead-on-top, calls-so, runs}

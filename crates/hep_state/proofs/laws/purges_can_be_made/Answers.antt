@@ -1,10 +1,10 @@
 use Rattle.std.proofs.Common.{sym, subst}
 use Rattle.hep_machine.specs.Words.{unit_at}
 use Rattle.hep_code.specs.Words.{passed_from}
-use Rattle.hep_tops.specs.ImageArrays.{ArePlacedArrays}
-use Rattle.hep_tops.specs.StepReadyToPass.{ArePassable}
-use Rattle.hep_purging.specs.Ready.{AreOut}
-use Rattle.hep_tops.specs.StepReady.{frame_in_arena}
+use Rattle.hep_image.specs.Arrays.{ArePlacedArrays}
+use Rattle.hep_step.specs.ReadyToPass.{ArePassable}
+use Rattle.hep_step.specs.PurgeReady.{AreOut}
+use Rattle.hep_step.specs.Ready.{frame_in_arena}
 use Rattle.hep_state.specs.Words.{top_frame, running_top}
 use Rattle.hep_state.proofs.Callers.{ahead-on-top, calls-so, runs}
 use Rattle.hep_state.proofs.Moved.{unit-is}

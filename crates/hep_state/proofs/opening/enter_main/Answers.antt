@@ -2,9 +2,9 @@ use Rattle.std.proofs.Common.{◌≡◌, [], length, Some, refl, sym, ap, ◌∙
 use Rattle.std.specs.Option.{unwrap_or}
 use Rattle.hep_machine.specs.Words.{no_unit, dummies_of, main_unit, unit_at, common_cells, frame_of, frame_cells}
 use Rattle.hep_arena.specs.Holes.{first_fit}
-use Rattle.hep_tops.specs.LayoutWords.{descriptor_slots, Nodes}
-use Rattle.hep_tops.specs.ImageData.{first_frames}
-use Rattle.hep_tops.specs.ProcNodes.{nodes_of}
+use Rattle.hep_layout.specs.Words.{descriptor_slots, Nodes}
+use Rattle.hep_image.specs.Data.{first_frames}
+use Rattle.hep_proc.specs.Nodes.{nodes_of}
 use Rattle.hep_state.specs.Words.{unset_opening}
 use Rattle.hep_state.proofs.Opened.{first-fit, first_node, node-there}
 use Rattle.hep_state.proofs.opening.enter_main.Goals as goal

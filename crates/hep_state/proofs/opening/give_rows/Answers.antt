@@ -2,7 +2,7 @@ use Rattle.std.proofs.Common.{◌≡◌, ◌+◌, ◌-◌, List, [], ◌∷◌, 
 use Rattle.std.proofs.lemmas.Iterator.Adapters.{YieldsList-from_rev_slice}
 use Rattle.std.proofs.lemmas.Iterator.Consumers.{YieldsList-end, YieldsList-turn}
 use Rattle.std.proofs.lemmas.List.{drop_all, length_push, length-reverse}
-use Rattle.hep_tops.specs.ImageDataDataRow.{DataRow}
+use Rattle.hep_image.specs.declared.data.DataRow.{DataRow}
 use Rattle.hep_state.specs.Words.{IsGiven}
 use Rattle.hep_state.proofs.Opened.{from-last, given-turn, nothing-given, out-given, row-out}
 use Rattle.hep_state.proofs.opening.give_rows.Goals as goal

@@ -1,5 +1,5 @@
 use Rattle.std.proofs.Common.{◌≡◌, ◌-◌, drop, length}
-use Rattle.hep_tops.specs.ProcNodes.{nodes_of}
+use Rattle.hep_proc.specs.Nodes.{nodes_of}
 use Rattle.hep_state.specs.Words.{IsGiven}
 use Rattle.hep_state.proofs.opening.give_rows.Given as goal
 

@@ -1,7 +1,7 @@
 use Rattle.std.proofs.Common.{◌≡◌}
 use Rattle.hep_machine.specs.Words.{unit_at}
-use Rattle.hep_tops.specs.ImageDummies.{dummy_arguments}
-use Rattle.hep_purging.specs.Room.{most_of}
+use Rattle.hep_image.specs.Dummies.{dummy_arguments}
+use Rattle.hep_step.specs.Room.{most_of}
 use Rattle.hep_binding.specs.Fitting.{longest_code}
 use Rattle.hep_state.proofs.opening.longest_code_of_all.Given as goal
 

@@ -1,6 +1,6 @@
 use Rattle.std.proofs.Common.{◌≡◌}
-use Rattle.hep_purging.specs.Room.{most_of, most_targets}
-use Rattle.hep_tops.specs.StepSimulation.{unit_code}
+use Rattle.hep_step.specs.Room.{most_of, most_targets}
+use Rattle.hep_step.specs.Simulation.{unit_code}
 use Rattle.hep_state.proofs.opening.most_targets_of_all.Given as goal
 
 abbrev pub invariant-loop-unit : goal.invariant-loop-unit

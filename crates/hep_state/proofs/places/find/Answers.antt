@@ -1,5 +1,5 @@
 use Rattle.std.proofs.Common.{◌-◌, ◌<◌, ◌∙◌, ap, arith, length}
-use Rattle.hep_tops.specs.ProcProcessProcess.{Process}
+use Rattle.hep_proc.specs.declared.process.Process.{Process}
 use Rattle.hep_state.proofs.Searching.{place-read}
 use Rattle.hep_state.proofs.places.find.Goals as goal
 

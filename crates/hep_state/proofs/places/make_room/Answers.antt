@@ -1,6 +1,6 @@
 use Rattle.std.proofs.Common.{inr, ◌∙◌, rules}
 use Rattle.std.proofs.lemmas.Fn.{filter_same}
-use Rattle.hep_tops.specs.ProcStacks.{is_left}
+use Rattle.hep_proc.specs.Stacks.{is_left}
 use Rattle.hep_state.proofs.places.make_room.Goals as goal
 
 pub returns-then-left-all-clause-left : goal.returns-then-left-all-clause-left

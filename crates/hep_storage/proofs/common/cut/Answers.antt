@@ -1,6 +1,6 @@
 use Rattle.std.proofs.Common.{◌<◌, ◌∙◌, ap, refl, length, arith}
-use Rattle.hep_runs.specs.Runs.{positions_in}
-use Rattle.hep_runs.specs.declared.runs.Run.{Run}
+use Rattle.hep_storage.specs.Runs.{positions_in}
+use Rattle.hep_storage.specs.declared.runs.Run.{Run}
 use Rattle.hep_storage.proofs.Sharing.{cut-within}
 use Rattle.hep_storage.proofs.common.cut.Goals as goal
 

@@ -1,7 +1,7 @@
 use Rattle.std.proofs.Common.{◌<◌, ◌≡◌, ◌∙◌, true, nat_lt, length, get_or, None, false, arith}
 use Rattle.std.proofs.lemmas.Bool.Decides.{nat_tests}
 use Rattle.hep_storage.proofs.Sharing.{more-here}
-use Rattle.hep_runs.specs.declared.runs.Run.{Run}
+use Rattle.hep_storage.specs.declared.runs.Run.{Run}
 use Rattle.hep_storage.proofs.common.has_more.Goals as goal
 
 pub returns-then-place-runs-2 : goal.returns-then-place-runs-2

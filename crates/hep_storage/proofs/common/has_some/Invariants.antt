@@ -1,6 +1,6 @@
 use Rattle.std.proofs.Common.{◌≡◌, drop}
 use Rattle.hep_machine.specs.Words.{is_nonempty}
-use Rattle.hep_runs.specs.Runs.{positions_in}
+use Rattle.hep_storage.specs.Runs.{positions_in}
 use Rattle.hep_storage.proofs.common.has_some.Given as goal
 
 abbrev pub invariant-loop-run : goal.invariant-loop-run

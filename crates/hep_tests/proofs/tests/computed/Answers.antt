@@ -1,5 +1,5 @@
 use Rattle.std.proofs.Common.{subst}
-use Rattle.hep_segments.specs.Segments.{IsMadeBy, value_copied}
+use Rattle.hep_private.specs.Segments.{IsMadeBy, value_copied}
 use Rattle.hep_tests.proofs.tests.computed.Goals as goal
 
 pub returns : goal.returns

@@ -1,5 +1,5 @@
 use Rattle.std.proofs.Common.{sym, ◌∙◌, subst, IsSome}
-use Rattle.hep_state.specs.ProcNodes.{nodes_of}
+use Rattle.hep_proc.specs.Nodes.{nodes_of}
 use Rattle.hep_views.proofs.Holders.{walk-ends, walk-goes_on}
 use Rattle.hep_views.proofs.finding.holder.Goals as goal
 

@@ -1,5 +1,5 @@
 use Rattle.std.proofs.Common.{◌≡◌, ◌-◌}
-use Rattle.hep_state.specs.ProcNodes.{nodes_of}
+use Rattle.hep_proc.specs.Nodes.{nodes_of}
 use Rattle.hep_views.specs.Sought.{holder_above}
 use Rattle.hep_views.proofs.finding.holder.Given as goal
 

@@ -1,6 +1,6 @@
 use Rattle.std.proofs.Common.{◌<◌, drop, length, sym, ap, ◌∙◌, subst}
 use Rattle.hep_code.specs.Words.{line_ahead}
-use Rattle.hep_state.specs.ProcProcessLocal.{Local}
+use Rattle.hep_proc.specs.declared.process.Local.{Local}
 use Rattle.hep_views.specs.Sought.{IsSought}
 use Rattle.hep_views.proofs.Waiting.{blocked-waits, listed-is}
 use Rattle.hep_views.proofs.finding.listed.Goals as goal

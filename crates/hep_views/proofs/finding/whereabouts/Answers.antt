@@ -1,6 +1,6 @@
 use Rattle.std.proofs.Common.{◌<◌, drop, length, sym, ap, ◌∙◌, subst}
 use Rattle.hep_code.specs.Words.{line_ahead}
-use Rattle.hep_state.specs.ProcProcessLocal.{Local}
+use Rattle.hep_proc.specs.declared.process.Local.{Local}
 use Rattle.hep_views.proofs.Waiting.{living-top, whereabouts-is}
 use Rattle.hep_views.proofs.finding.whereabouts.Goals as goal
 

@@ -4,14 +4,14 @@ use denote.Struct.Field.{u32-field, u64-field}
 use denote.Param.Send.{IsSend, sendable, view_send}
 use denote.Param.SendFields.{as_row_send, declared_send, variants_send}
 use Rattle.hep_blocked.specs.contracts.roster.Roster as roster
-use Rattle.hep_entries.specs.contracts.history.History as history
-use Rattle.hep_core.specs.contracts.scheduler.Core.TheInside as inside
+use Rattle.hep_history.specs.contracts.history.History as history
+use Rattle.hep_core.specs.contracts.run_core.Core.TheInside as inside
 use Rattle.hep_core.specs.contracts.stop.ChoiceStop as stop
-use Rattle.hep_quick.specs.contracts.table.Table as table
-use Rattle.hep_state.specs.contracts.machine.Machine as machine
-use Rattle.hep_segments.specs.contracts.ticket.TicketId as ticket
-use Rattle.hep_taking.specs.contracts.own_cells.OwnCells as own
-use Rattle.hep_taking.specs.contracts.saving.Saved as saved
+use Rattle.hep_fast.specs.contracts.table.Table as table
+use Rattle.hep_state.specs.contracts.core_state.CoreState as machine
+use Rattle.hep_private.specs.contracts.ticket.TicketId as ticket
+use Rattle.hep_commit.specs.contracts.own_cells.OwnCells as own
+use Rattle.hep_commit.specs.contracts.saving.Saved as saved
 use Rattle.hep_image.specs.contracts.image.Image as image
 use Rattle.hep_workers.proofs.crossing.cores_cross.Goals as goal
 

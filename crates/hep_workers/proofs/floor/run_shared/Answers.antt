@@ -1,6 +1,6 @@
 use Rattle.std.proofs.Common.{ap, subst, ◌∙◌}
-use Rattle.hep_reports.specs.CoreValue.{CoreValue}
-use Rattle.hep_reports.proofs.ReceiptsCommitted.{fault-so}
+use Rattle.hep_core.specs.Value.{CoreValue}
+use Rattle.hep_workers.proofs.Committed.{fault-so}
 use Rattle.hep_workers.specs.Faults.{IsWorkFault, of_crew}
 use Rattle.hep_workers.specs.Lists.{HasLeftLists}
 use Rattle.hep_workers.proofs.Reasons.{crew-met}

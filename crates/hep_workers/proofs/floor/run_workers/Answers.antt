@@ -1,11 +1,11 @@
 use Rattle.std.proofs.Common.{◌≡◌, true, List, ap, arith, length, refl, subst, sym}
-use Rattle.hep_reports.specs.CoreValue.{CoreValue}
+use Rattle.hep_core.specs.Value.{CoreValue}
 use Rattle.hep_machine.specs.Words.{Units}
-use Rattle.hep_reports.specs.ReceiptsShared.{IsSharedFrom}
-use Rattle.hep_reports.proofs.ReceiptsCommitted.{fault-so}
-use Rattle.hep_reports.specs.ReceiptsReceiptReceipt.{Receipt}
-use Rattle.hep_reports.specs.Receipts.{are_of_workers}
-use Rattle.hep_reports.specs.Reports.{IsReport, IsUnclosed}
+use Rattle.hep_workers.specs.Shared.{IsSharedFrom}
+use Rattle.hep_workers.proofs.Committed.{fault-so}
+use Rattle.hep_workers.specs.declared.receipt.Receipt.{Receipt}
+use Rattle.hep_workers.specs.Receipts.{are_of_workers}
+use Rattle.hep_workers.specs.Reports.{IsReport, IsUnclosed}
 use Rattle.hep_workers.specs.Faults.{IsWorkFault}
 use Rattle.hep_workers.specs.declared.fault.WorkFault.TheVariants.{Close}
 use Rattle.hep_workers.proofs.Reasons.{logs-made, of-run, of-workers, opening_for, unreported}

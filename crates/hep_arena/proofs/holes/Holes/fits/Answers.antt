@@ -1,7 +1,7 @@
 use Rattle.std.proofs.Common.{ap, length, ◌∙◌, arith}
 use Rattle.std.specs.Option.{is_some}
 use Rattle.hep_arena.specs.Lengths.{lower_holes}
-use Rattle.hep_arena.proofs.Lengths.{fit-read}
+use Rattle.hep_arena.proofs.RowLengths.{fit-read}
 use Rattle.hep_arena.proofs.Limits.{fits-below, fits-last}
 use Rattle.hep_arena.proofs.holes.Holes.fits.Goals as goal
 

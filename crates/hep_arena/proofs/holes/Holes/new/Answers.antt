@@ -2,7 +2,7 @@ use Rattle.std.proofs.Common.{◌≡◌, ℕ, ◌-◌, [], ◌∷◌, ◌++◌, 
 use Rattle.std.proofs.lemmas.List.{length-replicate}
 use Rattle.hep_arena.specs.Holes.{AreHoles}
 use Rattle.hep_arena.specs.Lengths.{hole_from, holes_from}
-use Rattle.hep_arena.proofs.Lengths.{holes-none}
+use Rattle.hep_arena.proofs.RowLengths.{holes-none}
 use Rattle.hep_arena.proofs.Limits.{last-some}
 use Rattle.hep_arena.proofs.holes.Holes.new.Goals as goal
 

@@ -1,6 +1,6 @@
 use Rattle.std.proofs.Common.{◌≡◌, ◌-◌, length, sym, arith}
 use Rattle.hep_arena.specs.Lengths.{lower_holes}
-use Rattle.hep_arena.proofs.Lengths.{IsLast, last-found, last-missing, length-fits, length-read, length_at}
+use Rattle.hep_arena.proofs.RowLengths.{IsLast, last-found, last-missing, length-fits, length-read, length_at}
 use Rattle.hep_arena.proofs.Limits.{apart-up_to}
 use Rattle.hep_arena.proofs.holes.Holes.start_at.Goals.{After-get, In-Some}
 use Rattle.hep_arena.proofs.holes.Holes.start_at.Goals as goal

@@ -1,7 +1,7 @@
 use Rattle.std.proofs.Common.{◌≡◌, None, Some, ◌-◌, ◌+◌, ◌≤◌, length, sym, ◌∙◌, arith, refl}
 use Rattle.hep_arena.specs.Holes.{first_fit, taken}
 use Rattle.hep_arena.specs.Lengths.{hole_from, lower_holes}
-use Rattle.hep_arena.proofs.Lengths.{fit-read}
+use Rattle.hep_arena.proofs.RowLengths.{fit-read}
 use Rattle.hep_arena.proofs.Limits.{apart-up_to, changed-holes, changed-limited, fit-front, fit-last, fit-none, taken-front, taken-last}
 use Rattle.hep_arena.proofs.Taking.{taken-apart}
 use Rattle.hep_arena.proofs.holes.Holes.take.Goals.{In-Some, In_default}

@@ -1,6 +1,6 @@
 use Rattle.std.proofs.Common.{◌≡◌, ◌-◌, ◌+◌, ◌<◌, length, length-drop, sym, ap, ◌∙◌, arith}
 use Rattle.hep_blocked.specs.Numbers.{Numbers, numbers_from}
-use Rattle.hep_lengths.specs.Trees.{leaves_of}
+use Rattle.hep_arena.specs.Trees.{leaves_of}
 use Rattle.hep_blocked.proofs.Listed.{numbers-with}
 use Rattle.hep_blocked.proofs.ready.Ready.add.Goals as goal
 

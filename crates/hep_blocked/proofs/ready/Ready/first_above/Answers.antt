@@ -1,9 +1,9 @@
 use Rattle.std.proofs.Common.{◌≡◌, ◌+◌, inl, inr, None, Some, sym, subst, ap, ◌∙◌, arith}
 use Rattle.std.proofs.lemmas.Bool.{cases_lt}
-use Rattle.hep_lengths.specs.Trees.{leaves_of}
+use Rattle.hep_arena.specs.Trees.{leaves_of}
 use Rattle.hep_blocked.specs.Numbers.{IsNextBit}
 use Rattle.hep_blocked.proofs.Listed.{first-found, first-none, rise-from_one}
-use Rattle.hep_lengths.proofs.Nodes.{number-past}
+use Rattle.hep_arena.proofs.Nodes.{number-past}
 use Rattle.hep_blocked.proofs.ready.Ready.first_above.Goals as goal
 
 pub returns-then-p-size-clause-next : goal.returns-then-p-size-clause-next

@@ -1,5 +1,5 @@
 use Rattle.std.proofs.Common.{◌≡◌, ◌-◌, ◌+◌, length-drop, sym, ap, ◌∙◌, arith, nat_lt}
-use Rattle.hep_lengths.specs.Trees.{leaves_of}
+use Rattle.hep_arena.specs.Trees.{leaves_of}
 use Rattle.hep_blocked.proofs.Listed.{among-before, among-marked, among-past}
 use Rattle.hep_blocked.proofs.ready.Ready.has.Goals as goal
 

@@ -1,4 +1,4 @@
-use Rattle.hep_lengths.specs.Trees.{leaves_of}
+use Rattle.hep_arena.specs.Trees.{leaves_of}
 use Rattle.hep_blocked.proofs.Listed.{empty-told}
 use Rattle.hep_blocked.proofs.ready.Ready.is_empty.Goals as goal
 

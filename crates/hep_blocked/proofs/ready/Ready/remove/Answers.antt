@@ -1,6 +1,6 @@
 use Rattle.std.proofs.Common.{◌≡◌, ◌-◌, ◌+◌, length-drop, sym, ap, ◌∙◌, arith}
 use Rattle.hep_blocked.specs.Numbers.{numbers_from}
-use Rattle.hep_lengths.specs.Trees.{leaves_of}
+use Rattle.hep_arena.specs.Trees.{leaves_of}
 use Rattle.hep_blocked.proofs.Listed.{numbers-without, without-above, without-below}
 use Rattle.hep_blocked.proofs.ready.Ready.remove.Goals as goal
 use Rattle.hep_blocked.proofs.ready.Ready.remove.Goals.{else-p-gt0-via-then-p-gt0+else-p-size, else-p-gt0-via-else-p-gt0}

@@ -1,6 +1,6 @@
 use Rattle.std.proofs.Common.{ap, ◌∙◌}
 use Rattle.hep_blocked.specs.Numbers.{numbers_from}
-use Rattle.hep_lengths.specs.Trees.{leaves_of}
+use Rattle.hep_arena.specs.Trees.{leaves_of}
 use Rattle.hep_blocked.proofs.Listed.{numbers-behind}
 use Rattle.hep_blocked.proofs.ready.Ready.reserve.Goals as goal
 

@@ -1,7 +1,7 @@
 use Rattle.std.proofs.Common.{◌≡◌, ◌-◌, ◌≤◌, List, Option, Some, None, set, ap, ◌∙◌, arith}
 use Rattle.hep_blocked.specs.Numbers.{with_number}
 use Rattle.hep_cells.specs.declared.want.Want.{Want}
-use Rattle.hep_wants.specs.Lists.{list_of}
+use Rattle.hep_blocked.specs.Queues.{list_of}
 use Rattle.hep_blocked.specs.Waiting.{waiting_at}
 use Rattle.hep_blocked.proofs.Numbering.{numbers-blocked}
 use Rattle.hep_blocked.proofs.Tying.{blocked-items, tied-blocked, waiting-blocked}

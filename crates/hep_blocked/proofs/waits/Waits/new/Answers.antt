@@ -1,5 +1,5 @@
 use Rattle.std.proofs.Common.{refl}
-use Rattle.hep_wants.specs.Lists.{list_of}
+use Rattle.hep_blocked.specs.Queues.{list_of}
 use Rattle.hep_blocked.proofs.Numbering.{numbers-none}
 use Rattle.hep_blocked.proofs.Tying.{tied-none}
 use Rattle.hep_blocked.proofs.waits.Waits.new.Goals as goal

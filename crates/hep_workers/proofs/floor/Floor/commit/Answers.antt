@@ -1,7 +1,7 @@
 use Rattle.std.proofs.Common.{subst}
-use Rattle.hep_reports.specs.CoreOffers.{offered}
+use Rattle.hep_core.specs.Offers.{offered}
 use Rattle.hep_workers.specs.Calls.{IsTurned}
-use Rattle.hep_workers.proofs.Shared.{turned-last}
+use Rattle.hep_workers.proofs.SharedCalls.{turned-last}
 use Rattle.hep_workers.proofs.floor.Floor.commit.Goals as goal
 
 pub returns-in-Ok : goal.returns-in-Ok

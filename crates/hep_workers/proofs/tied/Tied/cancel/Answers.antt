@@ -1,10 +1,10 @@
 use Rattle.std.proofs.Common.{◌∙◌}
 use Rattle.std.proofs.Math.Logic.{∥∥₁_map}
-use Rattle.hep_reports.specs.ReceiptsShared.{cancelled}
-use Rattle.hep_reports.proofs.ReceiptsShared.{by-cancellation}
+use Rattle.hep_workers.specs.Shared.{cancelled}
+use Rattle.hep_workers.proofs.Shared.{by-cancellation}
 use Rattle.hep_workers.specs.Lists.{lists_of}
 use Rattle.hep_workers.proofs.Lists.{same-inside, same-logged}
-use Rattle.hep_workers.proofs.Shared.{cancelled-same}
+use Rattle.hep_workers.proofs.SharedCalls.{cancelled-same}
 use Rattle.hep_workers.proofs.tied.Tied.cancel.Goals as goal
 
 pub invariant_of-self : goal.invariant_of-self

@@ -1,10 +1,10 @@
 use Rattle.std.proofs.Common.{◌∙◌}
 use Rattle.std.proofs.Math.Logic.{∥∥₁_map}
-use Rattle.hep_reports.specs.ReceiptsShared.{checked_out}
-use Rattle.hep_reports.proofs.ReceiptsShared.{by-check-out}
+use Rattle.hep_workers.specs.Shared.{checked_out}
+use Rattle.hep_workers.proofs.Shared.{by-check-out}
 use Rattle.hep_workers.specs.Lists.{lists_of}
 use Rattle.hep_workers.proofs.Lists.{same-inside, same-logged}
-use Rattle.hep_workers.proofs.Shared.{checked-out-same}
+use Rattle.hep_workers.proofs.SharedCalls.{checked-out-same}
 use Rattle.hep_workers.proofs.tied.Tied.check_out.Goals as goal
 
 pub invariant_of-self : goal.invariant_of-self

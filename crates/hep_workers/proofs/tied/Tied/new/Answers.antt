@@ -1,6 +1,6 @@
 use Rattle.std.proofs.Common.{length, ap}
-use Rattle.hep_reports.specs.CoreValue.{CoreValue}
-use Rattle.hep_reports.specs.ReceiptsShared.{opened}
+use Rattle.hep_core.specs.Value.{CoreValue}
+use Rattle.hep_workers.specs.Shared.{opened}
 use Rattle.hep_workers.proofs.Lists.{begun, begun-inside}
 use Rattle.hep_workers.proofs.tied.Tied.new.Goals as goal
 

@@ -1,9 +1,9 @@
 use Rattle.std.proofs.Common.{◌-◌, ◌<◌, length, arith, refl, Ok, Err, ap, ◌∙◌, subst}
 use Rattle.std.proofs.Math.Logic.{∥∥₁_map}
-use Rattle.hep_reports.specs.CoreOffers.{offered}
-use Rattle.hep_reports.specs.ReceiptsTurns.{entry_of}
+use Rattle.hep_core.specs.Offers.{offered}
+use Rattle.hep_workers.specs.Turns.{entry_of}
 use Rattle.hep_workers.proofs.Lists.{noted, noted-inside, own-inside, still, still-inside}
-use Rattle.hep_workers.proofs.Shared.{AreTold, one-turned, told-turned, told-unturned, turned}
+use Rattle.hep_workers.proofs.SharedCalls.{AreTold, one-turned, told-turned, told-unturned, turned}
 use Rattle.hep_workers.specs.Calls.{IsTurned}
 use Rattle.hep_workers.proofs.tied.Tied.turn.Goals as goal
 

@@ -1,11 +1,11 @@
 use Rattle.std.proofs.Common.{◌≡◌, ◌-◌, ◌<◌, length, arith, refl, sym, ap, subst, ◌∙◌}
 use Rattle.std.proofs.Math.Logic.{∥∥₁_map}
-use Rattle.hep_reports.specs.CorePlaces.{Placed}
-use Rattle.hep_reports.specs.ReceiptsTurns.{entry_of}
-use Rattle.hep_reports.proofs.ReceiptsShared.{by-turn-at-once}
-use Rattle.hep_reports.specs.ReceiptsShared.{IsSharedFrom}
+use Rattle.hep_core.specs.Places.{Placed}
+use Rattle.hep_workers.specs.Turns.{entry_of}
+use Rattle.hep_workers.proofs.Shared.{by-turn-at-once}
+use Rattle.hep_workers.specs.Shared.{IsSharedFrom}
 use Rattle.hep_workers.proofs.Lists.{noted, noted-inside, own-inside, still, still-inside}
-use Rattle.hep_workers.proofs.Shared.{turned-at-once}
+use Rattle.hep_workers.proofs.SharedCalls.{turned-at-once}
 use Rattle.hep_workers.proofs.tied.Tied.turn_at_once.Goals as goal
 
 pub turn_at_once-requires-clause-program : goal.turn_at_once-requires-clause-program

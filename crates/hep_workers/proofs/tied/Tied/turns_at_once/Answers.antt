@@ -1,13 +1,13 @@
 use Rattle.std.proofs.Common.{◌≡◌, ◌+◌, ◌-◌, ◌<◌, length, arith, refl, sym, ap, subst, ◌∙◌}
 use Rattle.std.proofs.Math.Logic.{∥∥₁_map}
-use Rattle.hep_reports.specs.CorePlaces.{Placed}
+use Rattle.hep_core.specs.Places.{Placed}
 use Rattle.hep_machine.specs.declared.event.Entry.{Entry}
-use Rattle.hep_segments.specs.Segments.{most_records}
-use Rattle.hep_reports.proofs.ReceiptsShared.{by-turns-at-once}
-use Rattle.hep_reports.specs.ReceiptsShared.{IsSharedFrom}
+use Rattle.hep_private.specs.Segments.{most_records}
+use Rattle.hep_workers.proofs.Shared.{by-turns-at-once}
+use Rattle.hep_workers.specs.Shared.{IsSharedFrom}
 use Rattle.hep_workers.proofs.Lists.{own-inside, still, still-inside}
 use Rattle.hep_workers.proofs.Many.{many-inside, many-logged}
-use Rattle.hep_workers.proofs.Shared.{turned-several}
+use Rattle.hep_workers.proofs.SharedCalls.{turned-several}
 use Rattle.hep_workers.proofs.tied.Tied.turns_at_once.Goals as goal
 
 pub turns_at_once-requires-clause-program : goal.turns_at_once-requires-clause-program

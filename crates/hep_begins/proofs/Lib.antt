@@ -1,2 +1,0 @@
-pub mod InCode
-mod Taken

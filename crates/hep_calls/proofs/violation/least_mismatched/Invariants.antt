@@ -1,8 +1,0 @@
-use Rattle.std.proofs.Common.{◌≡◌, drop}
-use Rattle.hep_conditions.specs.Words.{least_line, least_line_where}
-use Rattle.hep_names.specs.Passes.{line_of}
-use Rattle.hep_calls.specs.Passes.{is_mismatched}
-use Rattle.hep_calls.proofs.violation.least_mismatched.Given as goal
-
-abbrev pub invariant-loop-statement : goal.invariant-loop-statement
-invariant-loop-statement l = least_line l.least (least_line_where (is_mismatched l.program l.symbols) line_of (drop l.statement-index l.statement-items)) ≡ least_line_where (is_mismatched l.program l.symbols) line_of l.statement-items

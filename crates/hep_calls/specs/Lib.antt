@@ -1,2 +1,0 @@
-pub mod Actuals
-pub mod Passes

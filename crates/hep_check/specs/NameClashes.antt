@@ -1,0 +1,43 @@
+-- The names that 309 is about, by lines: docs/MACHINE.md, "Notes".
+use Rattle.std.specs.Prelude.{ℕ, Bool, find, nat_eq, if◌then◌else◌, List, [], ◌∷◌, Option, Some, None}
+use Rattle.std.specs.Option.{option_map, option_or, unwrap_or}
+use Rattle.hep_source.specs.declared.statement.Form.TheVariants as form
+use Rattle.hep_machine.specs.Words.{Form, Name, Occurrence, Statement, Units, name_eq, occurrences_in_statement}
+use Rattle.hep_uses.specs.declared.ambiguity.Ambiguity.{Ambiguity}
+use Rattle.hep_uses.specs.Ambiguities.{ambiguities}
+use Rattle.hep_check.specs.Trees.{Found}
+
+-- the name that is ambiguous at a line
+abbrev pub named_at : ℕ → Ambiguity → Option Name
+named_at line a = if nat_eq a.line line then a.name else None
+
+-- the first of these names
+abbrev pub name_at : ℕ → List Ambiguity → Option Name
+name_at line [] = None
+name_at line (a ∷ rest) = option_or (named_at line a) (name_at line rest)
+
+-- a name, unless there is one
+abbrev pub noted : Option Name → Bool → Name → Option Name
+noted (Some y) is_met x = Some y
+noted None is_met x = if is_met then Some x else None
+
+abbrev pub is_named : Name → Occurrence → Bool
+is_named x p = name_eq p.name x
+
+-- the unit that a statement calls, creates or begins, if it has this name
+abbrev pub unit_named : Name → Form → Found
+unit_named x (form.Call p ts) = find (is_named x) (p ∷ [])
+unit_named x (form.Create p ts) = find (is_named x) (p ∷ [])
+unit_named x (form.Program p) = find (is_named x) (p ∷ [])
+unit_named x (form.Subroutine p dummies) = find (is_named x) (p ∷ [])
+unit_named x (form.Function t p dummies) = find (is_named x) (p ∷ [])
+unit_named x _ = None
+
+-- where a name stands in a statement, if a unit has it there, or else where a variable or constant has it; else in front of the statement
+abbrev pub place_of : List Statement → Statement → Name → Occurrence
+place_of unit s x =
+    unwrap_or (option_or (unit_named x s.form) (find (is_named x) (occurrences_in_statement unit s))) (record { name = x; position = 0 })
+
+-- the name of a statement that stands for two things, or is given something twice
+abbrev pub ambiguous_name : Units → List Statement → Statement → Found
+ambiguous_name program unit s = option_map (place_of unit s) (name_at s.line (ambiguities program))

@@ -1,4 +1,0 @@
-pub mod OneName
-pub mod Standing
-pub mod Answered
-pub mod Accessed

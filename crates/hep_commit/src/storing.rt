@@ -1,0 +1,51 @@
+//! What the steps of a batch stored.
+ghost use Rattle.std.specs.Prelude.{◌≡◌, ◌<◌, ◌↔◌, IsTrue, length};
+ghost use Rattle.hep_private.specs.Own.{values_at};
+ghost use Rattle.hep_commit.specs.Gone.{contents_with};
+ghost use Rattle.hep_private.specs.Batches as batches;
+ghost use Rattle.hep_private.specs.Batches.{IsBatch};
+ghost use Rattle.hep_commit.specs.Fitting.{AreThere};
+ghost use Rattle.hep_commit.specs.OwnCells.{AreOwnCells};
+
+use crate::fitting::are_there;
+use crate::own_cells::Owned;
+use crate::slots::{apply_over, put_values_over};
+use hep_arena::Arena;
+use hep_private::{Batch, Image, segment_of};
+
+// The start of a batch is there, in these cells of a frame. The arena stays as it is.
+#[inline(always)]
+fn has_start(arena: &mut Arena, first: u32, cells: &[usize], batch: &Batch) -> bool
+    ensures there { IsTrue result ↔ AreThere first arena.old.contents (values_at batch.now.start 0) cells.now }
+    ensures same { arena.new ≡ arena.old }
+{
+    are_there(arena.slots_mut(), first, cells, batch.start())
+}
+
+// The same as `store_over` has it, by the records of its steps, which are made again.
+#[cold]
+#[inline(never)]
+fn store_again(arena: &mut Arena, first: u32, image: &Image, batch: &Batch)
+    requires { IsBatch image.now batch.now }
+    ensures contents { arena.new.contents ≡ contents_with first arena.old.contents (batches.segment_of image.now batch.now).records }
+    ensures holes { arena.new.holes ≡ arena.old.holes }
+{
+    apply_over(arena, first, segment_of(image, batch).records());
+}
+
+/// What the steps of a batch stored, where the frame begins at a cell of an arena: most often its end, since its start is there.
+pub(crate) fn store_over(arena: &mut Arena, first: u32, owned: &Owned<'_>, batch: &Batch)
+    requires tables { AreOwnCells owned.now.image.now owned.now.tables.now }
+    requires inside { batch.now.unit < length owned.now.image.now }
+    requires made { IsBatch owned.now.image.now batch.now }
+    ensures contents { arena.new.contents ≡ contents_with first arena.old.contents (batches.segment_of owned.now.image.now batch.now).records }
+    ensures holes { arena.new.holes ≡ arena.old.holes }
+{
+    crate::noninterference::private_steps_store_in_own_cells();
+    let cells = owned.cells(batch.unit() as usize);
+    if has_start(arena, first, cells, batch) {
+        put_values_over(arena, first, cells, batch.end());
+    } else {
+        store_again(arena, first, owned.image, batch);
+    }
+}

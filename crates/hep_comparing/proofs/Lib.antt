@@ -1,7 +1,0 @@
-pub use Rattle.hep_differences.proofs.OutcomeWanted
-mod Noting
-mod Asked
-mod Living
-mod Rows
-mod Told
-mod Sides

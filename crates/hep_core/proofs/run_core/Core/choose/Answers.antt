@@ -1,0 +1,44 @@
+use Rattle.std.proofs.Common.{◌≡◌, ◌∙◌, false, ap, arith, refl, subst, sym}
+use Rattle.hep_core.specs.Places.{Placed}
+use Rattle.hep_core.specs.Tickets.{is_out}
+use Rattle.hep_core.specs.Value.{IsChoice}
+use Rattle.hep_core.proofs.Beside.{chosen-good, chosen-through, good-itself}
+use Rattle.hep_core.proofs.Going.{chosen-once, unmoved}
+use Rattle.hep_core.proofs.run_core.Core.choose.Goals.{After-is_out}
+use Rattle.hep_core.proofs.run_core.Core.choose.Goals as goal
+
+pub returns-in-Ok-eq0-clause-chosen : goal.returns-in-Ok-eq0-clause-chosen
+returns-in-Ok-eq0-clause-chosen c =
+    let same : c.args.self.now.core ≡ c.move_alone.new.self.core = unmoved c.args.p c.args.self.now.core c.in-Ok-eq0.field-0 c.move_alone.new.self.core c.in-Ok-eq0.field-0-test c.in-Ok-eq0.ensures.chosen in
+    subst (λ v. IsChoice v c.args.p c.turn-in-Ok-eq0.result c.turn-in-Ok-eq0.new.self.core) (sym same) c.turn-in-Ok-eq0.ensures.chosen
+
+pub returns-in-Ok-clause-chosen : goal.returns-in-Ok-clause-chosen
+returns-in-Ok-clause-chosen c =
+    let once : c.in-Ok.field-0 ≡ 1 = omega (arith, c.in-Ok.ensures.few, c.in-Ok.field-0-test) in
+    chosen-once c.args.p c.args.self.now.core c.in-Ok.field-0 c.move_alone.new.self.core once c.in-Ok.ensures.chosen
+
+pub returns-in-Some-clause-kept : goal.returns-in-Some-clause-kept
+returns-in-Some-clause-kept c = good-itself c.args.self.now c.args.self.now refl
+
+pub returns-then-is_out-clause-kept : goal.returns-then-is_out-clause-kept
+returns-then-is_out-clause-kept c = good-itself c.args.self.now c.args.self.now refl
+
+-- p isn't out
+home : (c : After-is_out) → c.is_out.result ≡ false → is_out c.args.p c.args.self.now.core.out ≡ false
+home c e = sym c.is_out.ensures ∙ e
+
+pub returns-then-rests-clause-kept : goal.returns-then-rests-clause-kept
+returns-then-rests-clause-kept c = chosen-good c.args.p c.args.self.now c.turn.new.self (home (goal.at.returns-then-rests-clause-kept c).After-is_out c.if-is_out.false) c.turn.ensures.others
+
+pub returns-in-Ok-eq0-clause-kept : goal.returns-in-Ok-eq0-clause-kept
+returns-in-Ok-eq0-clause-kept c =
+    let same : c.args.self.now.core ≡ c.move_alone.new.self.core = unmoved c.args.p c.args.self.now.core c.in-Ok-eq0.field-0 c.move_alone.new.self.core c.in-Ok-eq0.field-0-test c.in-Ok-eq0.ensures.chosen in
+    chosen-through c.args.p c.args.self.now c.move_alone.new.self c.turn-in-Ok-eq0.new.self (home (goal.at.returns-in-Ok-eq0-clause-kept c).After-is_out c.if-is_out.false) (sym same) (c.move_alone.ensures.others) c.turn-in-Ok-eq0.ensures.others
+
+pub returns-in-Ok-clause-kept : goal.returns-in-Ok-clause-kept
+returns-in-Ok-clause-kept c = chosen-good c.args.p c.args.self.now c.move_alone.new.self (home (goal.at.returns-in-Ok-clause-kept c).After-is_out c.if-is_out.false) (c.move_alone.ensures.others)
+
+pub returns-in-Err-clause-kept : goal.returns-in-Err-clause-kept
+returns-in-Err-clause-kept c =
+    let same = c.in-Err.ensures.refused in
+    chosen-through c.args.p c.args.self.now c.move_alone.new.self c.turn-in-Err.new.self (home (goal.at.returns-in-Err-clause-kept c).After-is_out c.if-is_out.false) (ap (λ (v : Placed). v.core) same) (c.move_alone.ensures.others) c.turn-in-Err.ensures.others

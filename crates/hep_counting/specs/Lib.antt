@@ -1,3 +1,0 @@
-pub mod Counts
-pub mod Marks
-pub mod Tallies

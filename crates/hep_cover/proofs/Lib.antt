@@ -1,0 +1,5 @@
+pub mod InCode
+mod Taken
+pub mod Marking
+pub mod Tallied
+mod Remade

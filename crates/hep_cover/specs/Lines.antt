@@ -1,0 +1,32 @@
+-- The lines of a source, each with how often its statement began: docs/RUNS.md, "How often lines began".
+use Rattle.std.specs.Prelude.{ℕ, suc, ◌-◌, nat_eq, if◌then◌else◌, List, [], ◌∷◌, ◌++◌, codes, length, replicate, Option, Some, None, slice_get}
+use Rattle.std.specs.Fmt.{decimal}
+use Rattle.std.specs.Option.{option_flatten}
+use Rattle.hep_machine.specs.declared.event.Entry.{Entry}
+use Rattle.hep_machine.specs.Words.{Units}
+use Rattle.hep_text.specs.Line.{lines}
+use Rattle.hep_cover.specs.Coverage.{coverage}
+
+-- blanks before a text, so that both have so many characters at least
+abbrev pub padded : ℕ → List ℕ → List ℕ
+padded width text = replicate (width - length text) 32 ++ text
+
+abbrev pub count_text : Option ℕ → List ℕ
+count_text None = codes "-"
+count_text (Some n) = if nat_eq n 0 then codes "#####" else decimal n
+
+abbrev pub number_text : ℕ → List ℕ
+number_text number = decimal number
+
+-- a line with its number
+abbrev pub line_text : Option ℕ → ℕ → List ℕ → List ℕ
+line_text count number line = padded 9 (count_text count) ++ codes ":" ++ padded 5 (number_text number) ++ codes ":" ++ line ++ codes "\n"
+
+-- those from the one with so many before it on
+abbrev pub lines_text : List (Option ℕ) → ℕ → List (List ℕ) → List ℕ
+lines_text counts before [] = []
+lines_text counts before (l ∷ ls) = line_text (option_flatten (slice_get counts before)) (suc before) l ++ lines_text counts (suc before) ls
+
+-- all lines of a source
+abbrev pub cover_text : Units → List ℕ → List (List Entry) → List ℕ
+cover_text program source histories = lines_text (coverage program (length (lines source)) histories) 0 (lines source)

@@ -1,4 +1,0 @@
-pub mod Cells
-pub mod Given
-pub mod Left
-pub mod Frame

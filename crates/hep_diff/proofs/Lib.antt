@@ -1,0 +1,7 @@
+mod Unlike
+mod Noting
+mod Asked
+mod Living
+mod Rows
+mod Told
+mod Sides

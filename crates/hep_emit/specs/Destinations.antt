@@ -1,0 +1,8 @@
+-- Where one goes, as contracts see it.
+use Rattle.hep_code.specs.Words.{Target, at, end_of}
+use Rattle.hep_emit.specs.declared.flow.Destination.{Destination}
+use Rattle.hep_emit.specs.declared.flow.Destination.TheVariants as destinations
+
+abbrev pub destination : Destination → Target
+destination (destinations.Statement k) = at k
+destination (destinations.LoopEnd d) = end_of d

@@ -1,0 +1,91 @@
+//! Where one goes on from the statements of a unit (X3.9-1978, section 11).
+ghost use Rattle.std.specs.Prelude.{◌≡◌, ◌<◌, ◌≤◌, length};
+ghost use Rattle.hep_machine.specs.Control as control_words;
+ghost use Rattle.hep_source.specs.Units as units;
+ghost use Rattle.hep_code.specs.Targets as targets;
+ghost use Rattle.hep_emit.specs.Destinations.{destination};
+
+use hep_control::control::Control;
+use hep_source::Statement;
+
+/// Where one goes in a unit.
+#[derive(Clone, Copy, PartialEq, Eq)]
+pub enum Destination {
+    /// To the statement at an index.
+    Statement(usize),
+    /// To the end of the DO at an index.
+    LoopEnd(usize),
+}
+
+// Past the last statement no other one follows.
+#[tactic(auto, using(crate::proofs::Flows::following_past))]
+fn following(control: &Control, index: usize) -> usize
+    requires { index ≤ length control.now }
+    ensures { result ≡ control_words.following control.now index }
+{
+    if index < control.unit().len() {
+        control.following(index)
+    } else {
+        index + 1
+    }
+}
+
+/// On from a statement.
+#[tactic(auto, unfolding(hep_code::specs::Targets::onward), using(crate::proofs::Flows::behind_none, crate::proofs::Flows::behind_some))]
+pub fn onward(control: &Control, index: usize) -> Destination
+    requires { index < length control.now }
+    ensures { destination result ≡ targets.onward control.now index }
+{
+    match control.innermost_loop(index) {
+        Some(innermost) => Destination::LoopEnd(innermost),
+        None => Destination::Statement(control.following(index)),
+    }
+}
+
+/// On from a DO.
+#[tactic(auto, unfolding(hep_code::specs::Targets::outward), using(crate::proofs::Flows::behind_none, crate::proofs::Flows::behind_some, crate::proofs::Flows::terminal_at_most))]
+pub fn outward(control: &Control, index: usize) -> Destination
+    requires { index < length control.now }
+    ensures { destination result ≡ targets.outward control.now index }
+{
+    match control.outer_loop(index) {
+        Some(outer) => Destination::LoopEnd(outer),
+        None => Destination::Statement(following(control, control.terminal_of(index))),
+    }
+}
+
+/// Into the range of a DO, or the block of an IF THEN or ELSE IF.
+#[tactic(auto, unfolding(hep_code::specs::Targets::inward))]
+pub fn inward(control: &Control, index: usize) -> Destination
+    requires { index < length control.now }
+    ensures { destination result ≡ targets.inward control.now index }
+{
+    Destination::Statement(control.following(index))
+}
+
+/// Where the condition of an IF THEN or ELSE IF is false.
+#[tactic(auto, unfolding(hep_code::specs::Targets::aside))]
+pub fn aside(control: &Control, index: usize) -> Destination
+    requires { index < length control.now }
+    ensures { destination result ≡ targets.aside control.now index }
+{
+    Destination::Statement(control.alternative_of(index))
+}
+
+/// To a label.
+#[tactic(auto, unfolding(hep_code::specs::Targets::labelled))]
+pub fn labelled(control: &Control, label: u32) -> Destination
+    ensures { destination result ≡ targets.labelled control.now label }
+{
+    Destination::Statement(control.index_of_label(label))
+}
+
+/// The initial line of the statement at an index.
+pub fn line_at(unit: &[Statement], index: usize) -> u32
+    ensures { result ≡ units.line_at unit.now index }
+{
+    match unit.get(index) {
+        Some(statement) => statement.line,
+        None => 0,
+    }
+}

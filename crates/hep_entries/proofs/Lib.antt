@@ -1,2 +1,0 @@
-pub mod InRuns
-mod Worked

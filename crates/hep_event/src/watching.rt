@@ -1,0 +1,139 @@
+//! The indexes of the code from which a step may access a variable of one name.
+ghost use Rattle.std.specs.Prelude.{◌≡◌, drop, slice_get, IfOk};
+ghost use Rattle.hep_event.specs.Variables.{AreVariablesOf};
+ghost use Rattle.hep_event.specs.Watched as words;
+ghost use Rattle.hep_event.specs.Watched.{AreWatchesOf, CanSeek, IsWatchOf, IsWatchedAhead, IsWatchedBy, IsWatchedVariable};
+
+use crate::variables::Variables;
+use hep_code::{Evaluation, Instruction, Operation, Variable};
+use hep_dump::Breakpoints;
+use hep_image::{Array, Image, Start};
+use std::alloc::{AllocError, Global};
+
+/// A name that is sought in the code of a unit of an image, and which variables the names of its units are.
+#[derive(Clone, Copy)]
+pub(crate) struct Seeker<'a> {
+    pub image: &'a Image,
+    pub variables: &'a Variables,
+    pub unit: usize,
+    pub name: &'a [u8],
+}
+
+// An array is a dummy argument, or there is none with this index.
+fn is_passed(arrays: &[Array], array: u32) -> bool
+    ensures { result ≡ words.is_passed (slice_get arrays.now array) }
+{
+    match arrays.get(array as usize) {
+        Some(array) => matches!(array.start, Start::Dummy(_)),
+        None => true,
+    }
+}
+
+// A variable of a unit with these arrays is a dummy argument, and so may stand for a variable with another name.
+fn is_dummy(arrays: &[Array], variable: Variable) -> bool
+    ensures { result ≡ words.is_dummy arrays.now variable }
+{
+    match variable {
+        Variable::Dummy { .. } => true,
+        Variable::Array { array, .. } => is_passed(arrays, array),
+        _ => false,
+    }
+}
+
+// A variable may go by the name that is sought: it has that name in the unit, or is a dummy argument.
+fn is_watched_variable(seeker: &Seeker<'_>, variable: Variable) -> bool
+    requires { CanSeek seeker.now }
+    ensures { IsWatchedVariable seeker.now.image.now seeker.now.unit seeker.now.name.now variable result }
+{
+    if is_dummy(seeker.image.unit(seeker.unit).arrays.as_slice(), variable) {
+        return true;
+    }
+    let Some(number) = seeker
+        .variables
+        .number_of(seeker.image, seeker.unit, variable)
+    else {
+        return true;
+    };
+    match seeker.image.name(number) {
+        Some(name) => seeker.name == name,
+        None => true,
+    }
+}
+
+// An operation may access a variable with the name that is sought.
+fn is_watched_by(seeker: &Seeker<'_>, operation: Operation) -> bool
+    requires { CanSeek seeker.now }
+    ensures { IsWatchedBy seeker.now.image.now seeker.now.unit seeker.now.name.now operation result }
+{
+    match operation {
+        Operation::Evaluate(Evaluation::Load { variable, .. }) => {
+            is_watched_variable(seeker, variable)
+        }
+        Operation::Evaluate(Evaluation::Test { variable, .. }) => {
+            is_watched_variable(seeker, variable)
+        }
+        Operation::Store { variable, .. } => is_watched_variable(seeker, variable),
+        Operation::EnterLoop { variable, .. } => is_watched_variable(seeker, variable),
+        Operation::EndLoop { variable, .. } => is_watched_variable(seeker, variable),
+        Operation::Purge { .. } => true,
+        _ => false,
+    }
+}
+
+// So may the operation that stands ahead from an index on; where none stands there, it may be any.
+fn is_watched_ahead(seeker: &Seeker<'_>, code: &[Instruction], index: usize) -> bool
+    requires { CanSeek seeker.now }
+    ensures { IsWatchedAhead seeker.now.image.now seeker.now.unit seeker.now.name.now (drop index code.now) result }
+{
+    let mut at = index;
+    while let Some(instruction) = code.get(at) {
+        match instruction {
+            Instruction::Push(_) => at += 1,
+            Instruction::Step { operation, .. } => return is_watched_by(seeker, *operation),
+            _ => return true,
+        }
+    }
+    true
+}
+
+// The indexes of the code of a unit from which a step may access one.
+fn watch_of(alloc: Global, seeker: &Seeker<'_>) -> Result<Breakpoints, AllocError>
+    requires { CanSeek seeker.now }
+    ensures { IfOk result (IsWatchOf seeker.now.image.now seeker.now.unit seeker.now.name.now) }
+{
+    let code = seeker.image.unit(seeker.unit).code.as_slice();
+    let mut watched = Vec::with_capacity(alloc, code.len())?;
+    for index in 0..code.len() {
+        watched.push(is_watched_ahead(seeker, code, index))?;
+    }
+    Ok(Breakpoints { watched })
+}
+
+/// The indexes of the code of each unit of an image from which a step may access a variable of a name, in the order of the source.
+///
+/// # Errors
+///
+/// Only where memory was refused.
+pub fn watches_of(
+    alloc: Global,
+    image: &Image,
+    variables: &Variables,
+    name: &[u8],
+) -> Result<Vec<Breakpoints>, AllocError>
+    requires { AreVariablesOf image.now variables.now }
+    ensures { IfOk result (λ watches. AreWatchesOf image.now name.now watches.items) }
+{
+    let count = image.program().as_slice().len();
+    let mut watches = Vec::with_capacity(alloc, count)?;
+    for unit in 0..count {
+        let seeker = Seeker {
+            image,
+            variables,
+            unit,
+            name,
+        };
+        let watch = watch_of(alloc, &seeker)?;
+        watches.push(watch)?;
+    }
+    Ok(watches)
+}

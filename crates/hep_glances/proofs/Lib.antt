@@ -1,8 +1,0 @@
-mod Next
-mod Told
-mod Made
-mod Lines
-mod Loop
-mod Sought
-mod Looked
-mod Deed

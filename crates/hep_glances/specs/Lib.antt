@@ -1,2 +1,0 @@
-pub use Rattle.hep_sights.specs.StateWords
-pub mod Sights

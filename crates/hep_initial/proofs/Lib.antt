@@ -1,5 +1,0 @@
-pub mod Groups
-pub mod Naming
-pub mod ArrayShapes
-pub mod Giving
-pub mod DataLines

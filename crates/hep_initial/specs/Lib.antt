@@ -1,4 +1,0 @@
-pub mod Given
-pub mod Groups
-pub mod Named
-pub mod Shapes

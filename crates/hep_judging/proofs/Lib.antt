@@ -1,4 +1,0 @@
-pub mod Gathering
-mod Others
-pub mod Sums
-mod Judged

@@ -1,6 +1,0 @@
-//! How the top activation of a process leaves its stack.
-#![tactic(auto)]
-
-pub mod leaving;
-
-pub use leaving::{Leaving, leave};

@@ -1,5 +1,0 @@
-pub mod Nodes
-pub mod Climbing
-pub mod Listed
-pub mod Numbering
-mod Worked

@@ -1,3 +1,0 @@
-pub mod Draws
-mod Made
-mod Worked

@@ -1,7 +1,0 @@
-use Rattle.std.proofs.Common.{◌≡◌, ◌-◌, ◌≤◌}
-use Rattle.hep_core.specs.Value.{free_of}
-use Rattle.hep_lots.specs.Drawing.{further}
-use Rattle.hep_lots.proofs.lots.further.Given as goal
-
-abbrev pub invariant-loop : goal.invariant-loop
-invariant-loop l = further l.count l.p (free_of l.core.core) ≡ further (l.count - l.counter) l.at (free_of l.core.core)

@@ -1,4 +1,0 @@
-pub mod Shown
-pub mod Places
-pub mod Reasons
-pub mod Refusals

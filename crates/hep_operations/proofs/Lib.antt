@@ -1,2 +1,0 @@
-pub mod Flows
-pub mod Forms

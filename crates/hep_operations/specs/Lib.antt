@@ -1,3 +1,0 @@
-pub mod Destinations
-pub mod Operations
-pub mod Tables

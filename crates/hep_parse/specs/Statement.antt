@@ -1,0 +1,89 @@
+-- Which form a statement has: docs/LANGUAGE.md, 5.
+use Rattle.std.specs.Prelude.{◌≡◌, ℕ, true, false, codes, List, [], ◌∷◌, ◌++◌, length, Some}
+use Rattle.hep_source.specs.Tree.{Tree}
+use Rattle.hep_source.specs.Units.{is_executable}
+use Rattle.hep_source.specs.declared.statement.Form.{Form}
+use Rattle.hep_source.specs.declared.statement.Form.TheVariants.{Program, Subroutine, Function, Resume, Implicit, Declare, Dimension, Common, Parameter, Data, Assign, GoTo, ComputedGoTo, ArithmeticIf, IfThen, ElseIf, Else, EndIf, Do, Call, Create, Purge, Print, Continue, Return, Stop, End}
+use Rattle.hep_expression.specs.declared.characters.Sizes.{Sizes}
+use Rattle.hep_expression.specs.declared.characters.Context.{Context}
+use Rattle.hep_expression.specs.Characters.{ReadsOccurrence, ReadsPlainOccurrence}
+use Rattle.hep_expression.specs.Expression.{ReadsExpression}
+use Rattle.hep_parse.specs.Lists.{AreListed, AreEnclosed, AreArguments, AreParenthesized}
+use Rattle.hep_parse.specs.Target.{ReadsTarget}
+use Rattle.hep_parse.specs.Declaration.{type_spelling, function_spelling, ReadsImplicit, ReadsDeclarator, ReadsArrayDeclarator, AreBlocks, ReadsNamedConstant, AreGroups}
+use Rattle.hep_parse.specs.Executable.{IsPrint, IsAssignment, IsGoTo, IsComputedGoTo, IsArithmeticIf, IsIfThen, IsElseIf, IsDo, IsStopText}
+use Rattle.hep_parse.specs.declared.rule.Rule.{Rule}
+use Rattle.hep_parse.specs.declared.rule.Rule.TheVariants.{Assignment, BlockIf, SignIf, LogicalIf, Unclosed, Worded}
+use Rattle.hep_parse.specs.Rules.{after_closing, rule_of}
+
+module _ (k : Context) where
+  -- a form that begins with its word
+  abbrev pub IsWorded : Form → List ℕ → Type 0
+  IsWorded (Program p) s = (m : List ℕ) × (s ≡ codes "PROGRAM" ++ m) × ReadsPlainOccurrence k p m []
+  IsWorded (Subroutine p ds) s = (m : List ℕ) × (n : List ℕ) × (s ≡ codes "SUBROUTINE" ++ m) × ReadsPlainOccurrence k p m n × AreArguments (ReadsOccurrence k) ds n
+  IsWorded (Function t p ds) s = (m : List ℕ) × (n : List ℕ) × (s ≡ function_spelling t ++ m) × ReadsPlainOccurrence k p m n × AreParenthesized (ReadsOccurrence k) ds n
+  IsWorded (Implicit xs) s = (m : List ℕ) × (s ≡ codes "IMPLICIT" ++ m) × AreListed ReadsImplicit xs m []
+  IsWorded (Declare t xs) s = (m : List ℕ) × (s ≡ type_spelling t ++ m) × AreListed (ReadsDeclarator k) xs m []
+  IsWorded (Dimension xs) s = (m : List ℕ) × (s ≡ codes "DIMENSION" ++ m) × AreListed (ReadsArrayDeclarator k) xs m []
+  IsWorded (Common xs) s = (m : List ℕ) × (s ≡ codes "COMMON" ++ m) × AreBlocks k xs m
+  IsWorded (Parameter xs) s = (m : List ℕ) × (s ≡ codes "PARAMETER" ++ m) × AreEnclosed (ReadsNamedConstant k) xs m []
+  IsWorded (Data xs) s = (m : List ℕ) × (s ≡ codes "DATA" ++ m) × AreGroups k xs m
+  IsWorded (Assign x t) s = ⊥
+  IsWorded (GoTo x) s = IsGoTo k x s
+  IsWorded (ComputedGoTo xs t) s = IsComputedGoTo k xs t s
+  IsWorded (ArithmeticIf t x) s = ⊥
+  IsWorded (IfThen t) s = ⊥
+  IsWorded (ElseIf t) s = IsElseIf k t s
+  IsWorded Else s = s ≡ codes "ELSE"
+  IsWorded EndIf s = s ≡ codes "ENDIF"
+  IsWorded (Do x) s = IsDo k x s
+  IsWorded (Call p ts) s = (m : List ℕ) × (n : List ℕ) × (s ≡ codes "CALL" ++ m) × ReadsPlainOccurrence k p m n × AreArguments (ReadsExpression k) ts n
+  IsWorded (Create p ts) s = (m : List ℕ) × (n : List ℕ) × (s ≡ codes "CREATE" ++ m) × ReadsPlainOccurrence k p m n × AreArguments (ReadsExpression k) ts n
+  IsWorded (Purge xs) s = (m : List ℕ) × (s ≡ codes "PURGE" ++ m) × AreListed (ReadsTarget k) xs m []
+  IsWorded (Print items) s = IsPrint k items s
+  IsWorded Continue s = s ≡ codes "CONTINUE"
+  IsWorded Return s = s ≡ codes "RETURN"
+  IsWorded Resume s = s ≡ codes "RESUME"
+  IsWorded Stop s = (m : List ℕ) × (s ≡ codes "STOP" ++ m) × IsStopText m
+  IsWorded End s = s ≡ codes "END"
+
+  abbrev pub IsOfAssignment : Form → List ℕ → Type 0
+  IsOfAssignment (Assign x t) s = IsAssignment k x t s
+  IsOfAssignment _ s = ⊥
+
+  abbrev pub IsOfBlockIf : Form → List ℕ → Type 0
+  IsOfBlockIf (IfThen t) s = IsIfThen k t s
+  IsOfBlockIf _ s = ⊥
+
+  abbrev pub IsOfSignIf : Form → List ℕ → Type 0
+  IsOfSignIf (ArithmeticIf t x) s = IsArithmeticIf k t x s
+  IsOfSignIf _ s = ⊥
+
+  -- the form of a statement that is no logical IF, by the rule that applies
+  abbrev pub IsFormBy : Rule → Form → List ℕ → Type 0
+  IsFormBy Assignment f s = IsOfAssignment f s
+  IsFormBy BlockIf f s = IsOfBlockIf f s
+  IsFormBy SignIf f s = IsOfSignIf f s
+  IsFormBy LogicalIf f s = ⊥
+  IsFormBy Unclosed f s = ⊥
+  IsFormBy Worded f s = IsWorded f s
+
+  -- The text is a logical IF with this condition, and r is the statement that it holds (X3.9-1978,
+  -- 11.5).
+  abbrev pub IsLogicalIf : Tree → List ℕ → List ℕ → Type 0
+  IsLogicalIf t s r =
+      (m : List ℕ) × (s ≡ codes "IF(" ++ m) × (rule_of s ≡ LogicalIf) × (after_closing 0 false m ≡ Some r)
+      × ReadsExpression k t m (codes ")" ++ r)
+
+  -- The whole text has this form, after these conditions of logical IFs; a logical IF holds an
+  -- executable statement.
+  abbrev pub HasForm : List Tree → Form → List ℕ → Type 0
+  HasForm [] f s = IsFormBy (rule_of s) f s
+  HasForm (t ∷ more) f s = (r : List ℕ) × IsLogicalIf t s r × (is_executable f ≡ true) × HasForm more f r
+
+abbrev pub context : Sizes → List ℕ → Context
+context z s = record { sizes = z; length = length s }
+
+-- The whole text is this statement's.
+abbrev pub IsForm : Sizes → List ℕ → List Tree → Form → Type 0
+IsForm z s conditions f = HasForm (context z s) conditions f s

@@ -1,5 +1,0 @@
-pub mod Lengths
-pub mod Given
-pub mod Asked
-pub mod Refusals
-pub mod Uses

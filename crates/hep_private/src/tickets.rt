@@ -1,0 +1,28 @@
+//! Lists of tickets that are out, with one for a process at most.
+ghost use Rattle.std.specs.Prelude.{◌≡◌};
+ghost use Rattle.hep_private.specs.Tickets as spec;
+ghost use Rattle.hep_private.specs.Tickets.{without_process};
+
+use crate::ticket::TicketId;
+
+/// Process p is out.
+pub fn is_out(out: &[TicketId], p: u64) -> bool
+    ensures { result ≡ spec.is_out p out.now }
+{
+    out.iter().any(|id| id.process == p)
+}
+
+/// A ticket is the one that is out for its process.
+pub fn has_ticket(out: &[TicketId], id: TicketId) -> bool
+    ensures { result ≡ spec.has_ticket id out.now }
+{
+    out.iter()
+        .any(|out| out.process == id.process && out.number == id.number)
+}
+
+/// Process p isn't out any more; the others are still.
+pub fn come_back(out: &mut Vec<TicketId>, p: u64)
+    ensures { out.new.items ≡ without_process p out.old.items }
+{
+    out.retain(|id| id.process != p);
+}

@@ -1,5 +1,0 @@
-use Rattle.hep_private_laws.proofs.Turns.{turns-made}
-use Rattle.hep_private_laws.proofs.laws.private_steps_are_turns.Goals as goal
-
-pub returns : goal.returns
-returns c t n records end accepted main few turns is = turns-made c.tops_are_running.ensures.running c.tops_are_running.ensures.arrays t n records end accepted main few turns is

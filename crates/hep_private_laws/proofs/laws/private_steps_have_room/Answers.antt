@@ -1,5 +1,0 @@
-use Rattle.hep_private_laws.proofs.Turns.{none-left-out}
-use Rattle.hep_private_laws.proofs.laws.private_steps_have_room.Goals as goal
-
-pub returns : goal.returns
-returns c t accepted main few turns shallow = none-left-out c.tops_are_running.ensures.running c.tops_are_running.ensures.arrays t accepted main few turns shallow

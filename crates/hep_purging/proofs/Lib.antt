@@ -1,6 +1,0 @@
-pub mod Cells
-pub mod Reached
-pub mod Targets
-pub mod Purges
-mod Worked
-pub mod Most

@@ -1,5 +1,0 @@
-use Rattle.hep_purging.proofs.Cells.{emptied-elsewhere, emptied-within, length-purged}
-use Rattle.hep_purging.proofs.laws.ranges_are_emptied.Goals as goal
-
-pub returns : goal.returns
-returns c = record { within = emptied-within; elsewhere = emptied-elsewhere; cells = length-purged }

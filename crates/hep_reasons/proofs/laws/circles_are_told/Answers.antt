@@ -1,7 +1,0 @@
-use Rattle.hep_reasons.specs.Reasons.{reasons_of}
-use Rattle.hep_reasons.proofs.Processes.{circle-told}
-use Rattle.hep_reasons.proofs.Rising.{reasons-rise}
-use Rattle.hep_reasons.proofs.laws.circles_are_told.Goals as goal
-
-pub returns : goal.returns
-returns c program history ps = circle-told (reasons_of program history) (reasons-rise program history) ps

@@ -1,5 +1,0 @@
-use Rattle.hep_reasons.proofs.Leading.{lead}
-use Rattle.hep_reasons.proofs.laws.circles_lead_back.Goals as goal
-
-pub returns : goal.returns
-returns c nexts first most indexes e = lead nexts first most first indexes e

@@ -1,5 +1,0 @@
-use Rattle.hep_reasons.proofs.Leading.{next-changed}
-use Rattle.hep_reasons.proofs.laws.next_ones_changed_it.Goals as goal
-
-pub returns : goal.returns
-returns c = next-changed

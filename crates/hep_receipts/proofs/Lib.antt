@@ -1,3 +1,0 @@
-pub use Rattle.hep_core.proofs.Going as CoreGoing
-pub mod Committed
-pub mod Shared

@@ -1,6 +1,0 @@
-use Rattle.std.proofs.Common.{◌≡◌, ◌-◌, drop}
-use Rattle.hep_reports.specs.Receipts.{rises}
-use Rattle.hep_reports.proofs.report.rises.Given as goal
-
-abbrev pub invariant-loop-i : goal.invariant-loop-i
-invariant-loop-i l = rises (drop (l.i - 1) l.receipts) ≡ rises l.fn.receipts

@@ -1,9 +1,0 @@
-pub use Rattle.hep_repeating.specs.Copied
-pub use Rattle.hep_repeating.specs.Bases
-pub use Rattle.hep_repeating.specs.Records
-pub use Rattle.hep_repeating.specs.Record
-pub use Rattle.hep_repeating.specs.Recorded
-pub use Rattle.hep_repeating.specs.Own
-pub mod Segments
-pub mod Places
-pub mod Progress

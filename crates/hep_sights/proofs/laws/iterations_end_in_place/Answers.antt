@@ -1,7 +1,0 @@
-use Rattle.hep_sights.proofs.Loops.{loop-stays, value-stays}
-use Rattle.hep_sights.proofs.laws.iterations_end_in_place.Goals as goal
-
-pub returns : goal.returns
-returns c program t after d lives made sound next =
-    let h = loop-stays program t lives after sound d next made in
-    (h.level, h.lives, h.halted, value-stays program t lives after sound h)

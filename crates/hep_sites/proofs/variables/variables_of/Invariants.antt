@@ -1,6 +1,0 @@
-use Rattle.std.proofs.Common.{◌≡◌, ◌++◌, drop, map}
-use Rattle.hep_code.specs.Places.{variable_in}
-use Rattle.hep_sites.proofs.variables.variables_of.Given as goal
-
-abbrev pub invariant-loop-name : goal.invariant-loop-name
-invariant-loop-name l = l.variables.items ++ map (variable_in l.places) (drop l.name-index l.names) ≡ map (variable_in l.places) l.names

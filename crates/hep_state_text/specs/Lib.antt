@@ -1,0 +1,15 @@
+pub use Rattle.hep_text.specs.Shown
+pub mod Subscripts
+pub mod Values
+pub mod Contents
+pub mod Lines
+pub mod States
+pub mod Listed
+pub mod Kept
+pub mod Variables
+pub mod Levels
+pub mod Waits
+pub mod Keys
+pub mod Storage
+pub mod Activations
+pub mod Blocks

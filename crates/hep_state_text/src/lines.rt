@@ -1,0 +1,137 @@
+//! The lines of processes, common blocks and activations, by names and numbers.
+ghost use Rattle.std.specs.Prelude.{◌≡◌, ◌++◌, OnOk};
+ghost use Rattle.hep_state_text.specs.Lines as words;
+
+use crate::values::state_text;
+use hep_output::append_number;
+use std::alloc::AllocError;
+
+/// Appends the first line: how many entries were made.
+///
+/// # Errors
+///
+/// Only where memory was refused.
+pub fn append_head(text: &mut Vec<u8>, entries: u64) -> Result<(), AllocError>
+    ensures { OnOk result (text.new.items ≡ text.old.items ++ words.head_text entries) }
+{
+    text.extend_from_slice(b"AFTER ")?;
+    append_number(text, entries)?;
+    text.extend_from_slice(b" ENTRIES\n")?;
+    Ok(())
+}
+
+/// Appends where an activation of the unit of this name is: `unit LINE n IN ACTIVATION a`.
+///
+/// # Errors
+///
+/// Only where memory was refused.
+pub fn append_level(
+    text: &mut Vec<u8>,
+    unit: &[u8],
+    line: u32,
+    activation: u64,
+) -> Result<(), AllocError>
+    ensures { OnOk result (text.new.items ≡ text.old.items ++ words.place_text unit.now line activation) }
+{
+    text.extend_from_slice(unit)?;
+    text.extend_from_slice(b" LINE ")?;
+    append_number(text, line)?;
+    text.extend_from_slice(b" IN ACTIVATION ")?;
+    append_number(text, activation)?;
+    Ok(())
+}
+
+/// Appends the first line of a common block of this name, whose variables are named as in a unit.
+///
+/// # Errors
+///
+/// Only where memory was refused.
+pub fn append_block(text: &mut Vec<u8>, name: &[u8], unit: &[u8]) -> Result<(), AllocError>
+    ensures { OnOk result (text.new.items ≡ text.old.items ++ words.block_text name.now unit.now) }
+{
+    text.extend_from_slice(b"COMMON /")?;
+    text.extend_from_slice(name)?;
+    text.extend_from_slice(b"/ AS IN ")?;
+    text.extend_from_slice(unit)?;
+    text.extend_from_slice(b"\n")?;
+    Ok(())
+}
+
+// Behind a number the name of a unit, with which the line ends.
+fn append_name(text: &mut Vec<u8>, unit: &[u8]) -> Result<(), AllocError>
+    ensures { OnOk result (text.new.items ≡ text.old.items ++ words.name_text unit.now) }
+{
+    text.extend_from_slice(b" ")?;
+    text.extend_from_slice(unit)?;
+    text.extend_from_slice(b"\n")?;
+    Ok(())
+}
+
+/// Appends the first line of an activation of the unit of this name.
+///
+/// # Errors
+///
+/// Only where memory was refused.
+pub fn append_activation(text: &mut Vec<u8>, activation: u64, unit: &[u8]) -> Result<(), AllocError>
+    ensures { OnOk result (text.new.items ≡ text.old.items ++ words.activation_text activation unit.now) }
+{
+    text.extend_from_slice(b"ACTIVATION ")?;
+    append_number(text, activation)?;
+    append_name(text, unit)?;
+    Ok(())
+}
+
+/// Appends a common block by its name: `/name/`.
+///
+/// # Errors
+///
+/// Only where memory was refused.
+pub fn append_block_name(text: &mut Vec<u8>, name: &[u8]) -> Result<(), AllocError>
+    ensures { OnOk result (text.new.items ≡ text.old.items ++ words.block_name name.now) }
+{
+    text.extend_from_slice(b"/")?;
+    text.extend_from_slice(name)?;
+    text.extend_from_slice(b"/")?;
+    Ok(())
+}
+
+/// Appends to the name of a variable or of a common block an element or a position by its number.
+///
+/// # Errors
+///
+/// Only where memory was refused.
+pub fn append_element(name: &mut Vec<u8>, element: u32) -> Result<(), AllocError>
+    ensures { OnOk result (name.new.items ≡ words.element_text name.old.items element) }
+{
+    name.extend_from_slice(b"#")?;
+    append_number(name, element)?;
+    Ok(())
+}
+
+/// Appends to the name of a variable, or of an element, whose it is.
+///
+/// # Errors
+///
+/// Only where memory was refused.
+pub fn append_owner(name: &mut Vec<u8>, owner: u64) -> Result<(), AllocError>
+    ensures { OnOk result (name.new.items ≡ words.owned_text name.old.items owner) }
+{
+    name.extend_from_slice(b" OF ")?;
+    append_number(name, owner)?;
+    Ok(())
+}
+
+/// Appends that a process waits until what has this name is full, or is empty.
+///
+/// # Errors
+///
+/// Only where memory was refused.
+pub fn append_waiting(text: &mut Vec<u8>, full: bool, place: &[u8]) -> Result<(), AllocError>
+    ensures { OnOk result (text.new.items ≡ text.old.items ++ words.waiting_text full place.now) }
+{
+    text.extend_from_slice(b" WAITING FOR")?;
+    text.extend_from_slice(state_text(full))?;
+    text.extend_from_slice(b" ")?;
+    text.extend_from_slice(place)?;
+    Ok(())
+}

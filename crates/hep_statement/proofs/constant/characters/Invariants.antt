@@ -1,7 +1,0 @@
-use Rattle.std.proofs.Common.{◌≡◌, ◌-◌, length}
-use Rattle.hep_statement.specs.ReadingConstant.{characters}
-use Rattle.hep_statement.proofs.CharacterLoops.{with_characters}
-use Rattle.hep_statement.proofs.constant.characters.Given as goal
-
-abbrev pub invariant-loop-turn : goal.invariant-loop-turn
-invariant-loop-turn l = with_characters l.read.items (characters (length l.fn.s - l._turn) l.rest) ≡ characters (length l.fn.s) l.fn.s

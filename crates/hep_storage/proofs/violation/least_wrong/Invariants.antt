@@ -1,0 +1,14 @@
+use Rattle.std.proofs.Common.{◌≡◌, List, [], drop}
+use Rattle.indexmap.specs.IndexMap.{get}
+use Rattle.hep_machine.specs.Words.{name_eq, Stretch}
+use Rattle.hep_conditions.specs.Words.{least_line}
+use Rattle.hep_storage.specs.Given.{IsGiven}
+use Rattle.hep_storage.specs.Groups.{data_line}
+use Rattle.hep_storage.specs.Shapes.{IsTable}
+use Rattle.hep_storage.proofs.violation.least_wrong.Given as goal
+
+abbrev pub invariant-loop-statement : goal.invariant-loop-statement
+invariant-loop-statement l =
+    IsTable l.symbols l.shapes.constants (get name_eq l.shapes.shapes)
+    × ((given : List Stretch) × IsGiven l.symbols given l.given
+    × (least_line l.least (data_line l.symbols l.constants given (drop l.statement-index l.statement-items)) ≡ data_line l.symbols [] [] l.statement-items))

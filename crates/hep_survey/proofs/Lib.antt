@@ -1,2 +1,0 @@
-mod Framed
-mod Surveyed

@@ -1,7 +1,0 @@
-use Rattle.std.proofs.Common.{◌≡◌, ◌++◌, drop}
-use Rattle.hep_private_laws.specs.PrivateOwn.{values_at}
-use Rattle.hep_taking.specs.Levels.{copies_of}
-use Rattle.hep_taking.proofs.slots.copy_cells.Given as goal
-
-abbrev pub invariant-loop-cell : goal.invariant-loop-cell
-invariant-loop-cell l = l.copies.items ++ copies_of (values_at l.slots l.first) (drop l.cell-index l.cells) ≡ l.initial.copies.items ++ copies_of (values_at l.slots l.first) l.cells

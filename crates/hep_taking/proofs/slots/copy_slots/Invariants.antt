@@ -1,6 +1,0 @@
-use Rattle.std.proofs.Common.{◌≡◌, ◌++◌, drop}
-use Rattle.hep_taking.specs.Saved.{slots_of}
-use Rattle.hep_taking.proofs.slots.copy_slots.Given as goal
-
-abbrev pub invariant-loop-cell : goal.invariant-loop-cell
-invariant-loop-cell l = l.kept.items ++ slots_of l.first (drop l.cell-index l.cells) l.slots ≡ l.initial.kept.items ++ slots_of l.first l.cells l.slots

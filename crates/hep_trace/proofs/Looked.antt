@@ -1,0 +1,28 @@
+-- A process of a core that is looked at, in the machine that the core keeps.
+use Rattle.std.proofs.Common.{◌≡◌, true, Option, Some, None, refl, sym, ap, ◌∙◌, is_some, ℕ}
+use Rattle.std.proofs.lemmas.Bool.{false≢true}
+use Rattle.hep_core.specs.Value.{CoreValue, state_of}
+use Rattle.hep_core.proofs.Histories.{state-is}
+use Rattle.hep_machine.specs.Words.{Level, Process, State, living, run, schedule_of}
+use Rattle.hep_trace.specs.declared.reference.Ahead.{Ahead}
+use Rattle.hep_trace.specs.Freed.{top_in}
+use Rattle.hep_trace.specs.References.{top_after}
+use Rattle.hep_trace.specs.Sights.{IsAheadOf}
+
+pub some-is : {A : Type 0} (o : Option A) → is_some o ≡ true → (x : A) × (o ≡ Some x)
+some-is None e = absurd (false≢true e)
+some-is (Some x) e = (x, refl)
+
+-- it lives in the state after the turns of the core's history
+pub lives-after : (core : CoreValue) (p : ℕ) (top : Level × Process) → living (state_of core) p ≡ Some top → living (run core.program (schedule_of core.history)) p ≡ Some top
+lives-after core p top lives = ap (λ (s : State). living s p) (sym (state-is core.program core.history)) ∙ lives
+
+module _ (core : CoreValue) (ahead : Ahead) (top : Level × Process) (h : IsAheadOf core ahead top) where
+  pub state-same : run ahead.image.now (schedule_of core.history) ≡ state_of core
+  state-same = ap (λ u. run u (schedule_of core.history)) h.program ∙ sym (state-is core.program core.history)
+
+  pub top-same : top_after ahead.image.now (schedule_of core.history) ahead.process top ≡ top_in core ahead.process top
+  top-same = λ i. record { state = state-same i; process = ahead.process; level = top.0; below = top.1 }
+
+  pub lives-in : living (state_of core) ahead.process ≡ Some top
+  lives-in = ap (λ (s : State). living s ahead.process) (sym state-same) ∙ h.ahead_is.lives.lives

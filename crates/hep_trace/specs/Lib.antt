@@ -1,0 +1,12 @@
+pub use Rattle.hep_event.specs.CoreStanding
+pub use Rattle.hep_event.specs.Faults
+pub mod Woken
+pub mod Ancestry
+pub mod Freed
+pub mod Turns
+pub mod References
+pub mod Values
+pub mod Sights
+pub mod Pages
+pub mod Making
+pub mod Tellers

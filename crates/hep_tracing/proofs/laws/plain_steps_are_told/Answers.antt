@@ -1,6 +1,0 @@
-use Rattle.hep_tracing.proofs.PlainSteps.{plain-told}
-use Rattle.hep_tracing.proofs.laws.plain_steps_are_told.Goals as goal
-
-pub returns : goal.returns
-returns c program t addresses after called operands index o behind lives made sound plain is_name is =
-    plain-told program t addresses after called operands index o behind lives made sound plain is_name is

@@ -1,4 +1,0 @@
-mod Along
-mod Left
-mod Lined
-mod Silent

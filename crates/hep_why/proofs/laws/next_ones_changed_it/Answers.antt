@@ -1,0 +1,5 @@
+use Rattle.hep_why.proofs.Leading.{next-changed}
+use Rattle.hep_why.proofs.laws.next_ones_changed_it.Goals as goal
+
+pub returns : goal.returns
+returns c = next-changed

@@ -1,0 +1,11 @@
+pub use Rattle.hep_replay.specs.Replays
+pub use Rattle.hep_replay.specs.Progress
+pub mod Called
+pub mod Changes
+pub mod Circles
+pub mod Lines
+pub mod Notes
+pub mod Reasons
+pub mod Rounds
+pub mod Watches
+pub mod Making
