@@ -39,7 +39,8 @@ C     Who has read $NEXT has it alone until the next number is stored.
       L = L+1
       GO TO 20
 C     $BEST is the first N of the longest sequence, so no order counts.
-   30 LENGTH(N) = L
+C     LENGTH(1) is 0 from the start: who finds 1 in $BEST reads it at once.
+   30 IF (N .GT. 1) LENGTH(N) = L
       K = $BEST
       IF (L .GT. LENGTH(K) .OR. L .EQ. LENGTH(K) .AND. N .LT. K) K = N
       $BEST = K

@@ -1,0 +1,9 @@
+pub mod Footprints
+pub mod Patches
+pub mod Sites
+pub mod Patched
+pub mod OverPatch
+pub mod AsPatch
+pub mod Exchanged
+pub mod Uses
+pub mod Worked

@@ -1,0 +1,10 @@
+pub mod Elements
+pub mod Orders
+pub mod Pasts
+pub mod Clocks
+pub mod Firsts
+pub mod Sites
+pub mod SameRows
+pub mod RowsAreRaces
+pub mod RowsAreDistinct
+pub mod Reordered
