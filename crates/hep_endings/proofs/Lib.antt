@@ -1,0 +1,11 @@
+pub mod Turns
+pub mod Independence
+pub mod Kept
+pub mod Closed
+pub mod Bounded
+pub mod Cycles
+pub mod Rooms
+pub mod Tables
+pub mod Stacks
+pub mod Pure
+mod Worked

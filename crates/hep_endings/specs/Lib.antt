@@ -1,0 +1,4 @@
+pub mod Endings
+pub mod Independence
+pub mod Closed
+pub mod Pure

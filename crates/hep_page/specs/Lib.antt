@@ -1,0 +1,4 @@
+pub mod Changes
+pub mod Html
+pub mod Pages
+pub mod Worked

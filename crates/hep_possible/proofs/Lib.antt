@@ -1,0 +1,4 @@
+pub mod Living
+pub mod Finished
+pub mod Texts
+pub mod Outcomes

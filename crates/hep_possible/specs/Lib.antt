@@ -1,0 +1,3 @@
+pub mod Finished
+pub mod Texts
+pub mod Possible
