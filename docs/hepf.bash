@@ -56,9 +56,11 @@ _hepf() {
         list) options="--long --help" ;;
         run) options="--arena --steps --workers --seed --choices --follow --history --long --help" ;;
         sample) options="--runs --seed --arena --steps --keep --long --help" ;;
-        replay | why | cover | diff) options="--arena --long --help" ;;
-        state) options="--at --arena --long --help" ;;
-        trace) options="--from --to --process --cell --arena --long --help" ;;
+        replay) options="--arena --long --help" ;;
+        why | diff) options="--choices --seed --arena --steps --long --help" ;;
+        cover) options="--choices --seed --runs --arena --steps --long --help" ;;
+        state) options="--at --choices --seed --arena --steps --long --help" ;;
+        trace) options="--from --to --process --cell --choices --seed --arena --steps --long --help" ;;
         explain)
             if ((COMP_CWORD == at + 1)); then
                 options="--long --help 101 102 103 104 105 106 107 201 202 203 204 205 301 302 303 304 305 306 307 308 309 310 311 312 401 402 501 506 601 602 603 701 702 703 704 705 OVERFLOW DIVIDE RANGE UNDEFINED SHAPE STEP FAULT WAITING STOPPED ARENA NO WORKERS READ WRITE REFUSED STILL WARNING STATUS"

@@ -47,26 +47,35 @@ _hepf_words() {
                 '--steps=[entries of the history]:entries:' '--keep=[how the files of histories begin]:prefix:_files' \
                 '--long[say more of what went wrong]' '--help[show help]' '1:source:_files -g "*.(f|for|hep)"'
             ;;
-        replay | why)
+        replay)
             _arguments '--arena=[cells of storage]:cells:' '--long[say more of what went wrong]' '--help[show help]' '1:source:_files -g "*.(f|for|hep)"' \
                 '2:history:_files'
             ;;
+        why)
+            _arguments '--choices=[choices of a run that is looked at]:choices:_files' '--seed=[lots of a run that is looked at]:seed:' '--arena=[cells of storage]:cells:' \
+                '--steps=[entries of the history]:entries:' '--long[say more of what went wrong]' '--help[show help]' '1:source:_files -g "*.(f|for|hep)"' \
+                '2:history:_files'
+            ;;
         cover)
-            _arguments '--arena=[cells of storage]:cells:' '--long[say more of what went wrong]' '--help[show help]' '1:source:_files -g "*.(f|for|hep)"' \
+            _arguments '--runs=[runs by lots, 1 to 1000000]:runs:' '--choices=[choices of a run that is looked at]:choices:_files' '--seed=[lots of a run that is looked at]:seed:' '--arena=[cells of storage]:cells:' \
+                '--steps=[entries of the history]:entries:' '--long[say more of what went wrong]' '--help[show help]' '1:source:_files -g "*.(f|for|hep)"' \
                 '*:history:_files'
             ;;
         diff)
-            _arguments '--arena=[cells of storage]:cells:' '--long[say more of what went wrong]' '--help[show help]' '1:source:_files -g "*.(f|for|hep)"' \
+            _arguments '--choices=[choices of a run that is looked at]:choices:_files' '*--seed=[lots of a run that is looked at]:seed:' '--arena=[cells of storage]:cells:' \
+                '--steps=[entries of the history]:entries:' '--long[say more of what went wrong]' '--help[show help]' '1:source:_files -g "*.(f|for|hep)"' \
                 '2:history:_files' '3:history:_files'
             ;;
         state)
-            _arguments '--at=[after how many entries]:entries:' '--arena=[cells of storage]:cells:' '--long[say more of what went wrong]' \
-                '--help[show help]' '1:source:_files -g "*.(f|for|hep)"' '2:history:_files'
+            _arguments '--at=[after how many entries]:entries:' '--choices=[choices of a run that is looked at]:choices:_files' '--seed=[lots of a run that is looked at]:seed:' '--arena=[cells of storage]:cells:' \
+                '--steps=[entries of the history]:entries:' '--long[say more of what went wrong]' '--help[show help]' '1:source:_files -g "*.(f|for|hep)"' \
+                '2:history:_files'
             ;;
         trace)
             _arguments '--from=[first entry]:entry:' '--to=[last entry]:entry:' '--process=[process by its number]:process:' \
-                '--cell=[name of a variable]:name:' '--arena=[cells of storage]:cells:' '--long[say more of what went wrong]' \
-                '--help[show help]' '1:source:_files -g "*.(f|for|hep)"' '2:history:_files'
+                '--cell=[name of a variable]:name:' '--choices=[choices of a run that is looked at]:choices:_files' '--seed=[lots of a run that is looked at]:seed:' '--arena=[cells of storage]:cells:' \
+                '--steps=[entries of the history]:entries:' '--long[say more of what went wrong]' '--help[show help]' '1:source:_files -g "*.(f|for|hep)"' \
+                '2:history:_files'
             ;;
         explain)
             _arguments '--long[say more of what went wrong]' '--help[show help]' '1:number or name:(101 102 103 104 105 106 107 201 202 203 204 205 301 302 303 304 305 306 307 308 309 310 311 312 401 402 501 506 601 602 603 701 702 703 704 705 OVERFLOW DIVIDE RANGE UNDEFINED SHAPE STEP FAULT WAITING STOPPED ARENA NO WORKERS READ WRITE REFUSED STILL WARNING STATUS)' \

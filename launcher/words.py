@@ -18,7 +18,7 @@ COLUMNS = 80
 FILES = ("FILE", "HISTORY", "PREFIX")
 # What is standard input: a file, and its name.
 STANDARD = ("FILE", "-")
-# Behind what stands there for one word or more.
+# Behind what stands there for as many words as there are, and behind an option that may be given twice.
 MORE = ".."
 # What every command takes, before it or behind it, and what asks for help.
 FLAGS = ("--long",)
@@ -34,6 +34,9 @@ TWO_ORDERS = {
     "--workers": "USAGE: --choices excludes --workers\n",
     "--choices": "",
 }
+# What it says of a history and of options that say which run is looked at, and of an option that is given too often.
+TWO_RUNS = "USAGE: HISTORY, --choices and --seed or --runs exclude each other\n"
+NO_MEANING = "error: these words have no meaning\n"
 
 
 class Mistake(Exception):
@@ -51,26 +54,40 @@ class Unread(Exception):
 
 @dataclass
 class Form:
-    """What a command takes: its line, what it has to be given, by option what that is given, and options that stand alone."""
+    """What a command takes: its line, what it has to be given and may be, by option what that is given, options that stand alone, and
+    those that may be given twice."""
 
     line: str
     operands: list
+    further: list
     options: dict
     flags: list
+    repeated: list
 
     def takes_more(self):
         """Whether the last operand may be given more than once."""
-        return self.operands[-1:] != [] and self.operands[-1].endswith(MORE)
+        return (self.operands + self.further)[-1].endswith(MORE)
 
     def kinds(self, count):
         """What each of so many operands is."""
-        named = [it.removesuffix(MORE) for it in self.operands]
+        named = [it.removesuffix(MORE) for it in self.operands + self.further]
         return named + named[-1:] * (count - len(named))
+
+    def looks_at_runs(self):
+        """Whether a history may be left out, so that a run is made in its place."""
+        return "HISTORY" in self.kinds(0)[len(self.operands) :]
 
 
 TABLE = (HERE / "commands").read_text()
 FORMS = {
-    name: Form(line, operands.split(), dict(re.findall(r"\[(--\w+) (\w+)\]", line)), re.findall(r"\[(--\w+)\]", line))
+    name: Form(
+        line,
+        operands.split(),
+        re.findall(r"\[([A-Z]\S*)\]", line),
+        dict(re.findall(r"\[(--\w+) (\w+)\]", line)),
+        re.findall(r"\[(--\w+)\]", line),
+        re.findall(r"\[(--\w+) \w+\]\.\.", line),
+    )
     for line, name, operands in re.findall(r"^(hepf (\w+) ([^[]*).*)$", TABLE, re.M)
 }
 # By option, its least and its greatest number.
@@ -175,7 +192,7 @@ def taken(command, form, words):
             job.operands.append(word)
         elif name not in form.options:
             raise Mistake(f"error: {command} has no option {name}\n")
-        elif name in dict(job.options):
+        elif name in dict(job.options) and name not in form.repeated:
             raise Mistake(f"error: {command} gets {name} twice\n")
         elif not has_value and (not left or left[0].startswith("-") and left[0] != "-"):
             raise Mistake(f"error: {name} wants {form.options[name]}\n")
@@ -187,14 +204,21 @@ def taken(command, form, words):
 def judge(job, form):
     """Raises the mistake that a job has, if it has one."""
     lacking = form.operands[len(job.operands) :]
-    if lacking or len(job.operands) > len(form.operands) and not form.takes_more():
-        wrong = f"lacks {' '.join(lacking)}" if lacking else f"doesn't take {job.operands[len(form.operands)]}"
+    most = len(form.operands + form.further)
+    if lacking or len(job.operands) > most and not form.takes_more():
+        wrong = f"lacks {' '.join(lacking)}" if lacking else f"doesn't take {job.operands[most]}"
         raise Mistake(f"error: {job.command} {wrong}\n\nUsage: {form.line}\n")
     for name, value in job.options:
         least, most = NUMBERS.get(name, (0, 0))
         if name in NUMBERS and not (re.fullmatch(r"\+?[0-9]+", value) and least <= int(value) <= most):
             raise Mistake(f"error: {name} takes a number, {least} to {most}, and not {value}\n")
     given = dict(job.options)
+    if len(job.options) > len(given) + 1:
+        raise Mistake(NO_MEANING)
+    if form.looks_at_runs():
+        if len([it for it in (job.operands[1:], "--choices" in given, {"--seed", "--runs"} & given.keys()) if it]) > 1:
+            raise Mistake(TWO_RUNS)
+        return
     choices, follow, history = (given.get(it) for it in ("--choices", "--follow", "--history"))
     if history is not None and history in (choices, follow, *job.operands):
         raise Mistake(SAME_FILE)

@@ -12,20 +12,20 @@ use Rattle.hep_conditions.specs.Words.{FunctionTypes, NameWithList, function_typ
 use Rattle.hep_conditions.specs.Words.{value, variable, whole_array, actual_class, fits_array, fits_dummy, fits_scalar, given_name, given_with_list, IsAccepted, count_of, Calling, calls_in, trees_in_declarator, trees_in_form, trees_in_statement, KnownType, agree, same_declared, type_of_tree}
 use Rattle.hep_accepted_laws.specs.Agreement.{FitPairwise}
 use Rattle.hep_accepted_laws.specs.Typing.{IsListOf}
-use Rattle.hep_accepted_laws.proofs.Formed.{occurrence_in_statement, operands_have_types}
+use Rattle.hep_accepted_laws.proofs.StatementForms.{occurrence_in_statement, operands_have_types}
 use Rattle.hep_accepted_laws.proofs.Executed.{in_form}
-use Rattle.hep_accepted_laws.proofs.Meant.{no_function_alone}
+use Rattle.hep_accepted_laws.proofs.NameMeanings.{no_function_alone}
 use Rattle.hep_accepted_laws.proofs.Members.{Has, flat_has, has_behind, has_either, has_first_or, has_flat, has_front, has_more, name_of_unit}
 use Rattle.hep_accepted_laws.proofs.Valued.{ConstantsAgree}
 use Rattle.hep_image.specs.Places.{variable_of}
-use Rattle.hep_accepted_laws.specs.Placed.{IsPlaced}
-use Rattle.hep_accepted_laws.proofs.Facts.{Facts, array_no_constant, facts_of, without_value}
+use Rattle.hep_accepted_laws.specs.PlacedCode.{IsPlaced}
+use Rattle.hep_accepted_laws.proofs.AcceptedFacts.{Facts, array_no_constant, facts_of, without_value}
 use Rattle.hep_accepted_laws.proofs.Rights.{in_listed}
 use Rattle.hep_accepted_laws.proofs.Starts.{begins, begun_placed}
 use Rattle.hep_accepted_laws.proofs.CodedValues.{no_value_of_others}
 use Rattle.hep_accepted_laws.specs.Actuals.{FitsDummy, IsGivenTo, IsVariableOf}
-use Rattle.hep_accepted_laws.specs.Filled.{AreActualsFilled, AreEach, AreFilled, Chosen, IsFilledActual, IsValue}
-use Rattle.hep_accepted_laws.specs.Works.{IsCalledBy, IsGivenBy, IsReferredBy}
+use Rattle.hep_accepted_laws.specs.PartlyEvaluated.{AreActualsFilled, AreEach, AreFilled, Chosen, IsFilledActual, IsValue}
+use Rattle.hep_accepted_laws.specs.WorkOrigins.{IsCalledBy, IsGivenBy, IsReferredBy}
 use Rattle.hep_accepted_laws.proofs.RunCalls.{IsActual, are-actuals, callee, calls-subroutine, referred-callee, refers-to-function}
 
 -- ---- named constants
@@ -102,7 +102,8 @@ parts-count unit (trees t ts) = by_parts (part_of unit t) (parts_of unit ts) (pa
   by_parts (whole v) (first_redex r) h = tt
   by_parts (whole v) (whole vs) h = ap suc h
 
-each-before : {A B : Type 0} (R : A → B → Type 0) (xs : List A) (ys : List B) (j : ℕ) (y : B) → AreEach R xs ys → slice_get ys j ≡ Some y → (x : A) × (slice_get xs j ≡ Some x) × R x y
+-- of two lists that go together, an element of the second has one of the first
+pub each-before : {A B : Type 0} (R : A → B → Type 0) (xs : List A) (ys : List B) (j : ℕ) (y : B) → AreEach R xs ys → slice_get ys j ≡ Some y → (x : A) × (slice_get xs j ≡ Some x) × R x y
 each-before R [] [] j y h e = absurd (none-some y e)
 each-before R [] (z ∷ zs) j y h e = absurd h
 each-before R (x ∷ xs) [] j y h e = absurd h
@@ -111,7 +112,8 @@ each-before R (x ∷ xs) (z ∷ zs) (suc j) y h e = each-before R xs zs j y h.1 
 
 -- ---- expressions
 
-no-element : (x : Name) → function_named x ≡ element → ⊥
+-- no function that a name may be is an array element
+pub no-element : (x : Name) → function_named x ≡ element → ⊥
 no-element x e = by_functions (word_in pure_functions (spelling x)) (word_in state_functions (spelling x)) e where
   by_functions : (o : Option PureFunction) (p : Option StateFunction) → by_pure_function o p ≡ element → ⊥
   by_functions (Some f) p e = absurd cc

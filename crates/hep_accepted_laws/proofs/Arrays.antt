@@ -13,10 +13,10 @@ use Rattle.hep_image.specs.declared.array.Start.TheVariants.{Local, Common, Dumm
 use Rattle.hep_image.specs.Places.{array_of, arrays_of, scalar, start_of, variable_by, variable_of}
 use Rattle.hep_accepted_laws.proofs.Members.{Has, has_filter, has_more, image_at, name_of_unit}
 use Rattle.hep_accepted_laws.specs.Instructions.{variables_in}
-use Rattle.hep_accepted_laws.specs.Placed.{IsArrayAt, code_in}
+use Rattle.hep_accepted_laws.specs.PlacedCode.{IsArrayAt, code_in}
 use Rattle.hep_accepted_laws.proofs.Coded.{AllMeet}
 use Rattle.hep_conditions.specs.Words.{function_types}
-use Rattle.hep_accepted_laws.proofs.Facts.{Facts, array_no_constant}
+use Rattle.hep_accepted_laws.proofs.AcceptedFacts.{Facts, array_no_constant}
 use Rattle.hep_accepted_laws.proofs.Placed.{all_right, of_instruction, wishing, unit_of_program}
 use Rattle.hep_accepted_laws.proofs.Starts.{begins}
 

@@ -3,27 +3,27 @@ use Rattle.std.proofs.Common.{◌≡◌, ℕ, zero, suc, Bool, true, false, List
 use Rattle.std.specs.List.{flat_map, list_all, list_any}
 use Rattle.std.proofs.lemmas.Bool.{and_parts, or_parts, eqb-true, eq-eqb, not-false}
 use Rattle.std.proofs.lemmas.Option.{none-some, same_Some}
-use Rattle.hep_machine.specs.Words.{Tree, trees_of, DataConstant, DataGroup, DataValue, Dimension, Repeat, Target, Integer, Name, Statement, Value, Units, is_main, procedure_name, integers_of, Constants, Values, both, bound_before, bound_of, bounds_of, constant_shape, constant_value, given_by, lower_value, shape_by}
-use Rattle.hep_machine.specs.Words.{upper_value, value_among, values_of, Repeated, Stretch, all_elements, count_by, element_with, elements_named, groups_in, repeat_of, value_of_constant, values_given, item_at, constants_in, declarators_in, dimensions_of, is_array, is_common, is_dummy, is_nonempty, named_constants}
+use Rattle.hep_machine.specs.Words.{Tree, trees_of, DataConstant, DataGroup, DataValue, Repeat, Target, Integer, Name, Statement, Value, Units, is_main, procedure_name, integers_of, Constants, Values, both, constant_shape, constant_value, given_by, shape_by}
+use Rattle.hep_machine.specs.Words.{value_among, values_of, Repeated, Stretch, all_elements, count_by, element_with, elements_named, groups_in, repeat_of, value_of_constant, values_given, item_at, constants_in, declarators_in, dimensions_of, is_array, is_common, is_dummy, is_nonempty, named_constants}
 use Rattle.hep_machine.specs.Words.{type_of, element, external, Bounds, element_number, elements, is_local, same_name}
 use Rattle.hep_source.specs.declared.declaration.DataConstant.TheVariants as data_constant
 use Rattle.hep_source.specs.declared.declaration.Repeat.TheVariants as repeat
-use Rattle.hep_machine.specs.declared.shape.Bound.{Bound}
 use Rattle.hep_conditions.specs.Words.{IsAccepted, no_functions, has_constant_subscripts, has_value, is_constant_of, is_group_typed, value_by, count_of, given_twice_from, has_type, is_forbidden, is_misplaced, is_outside, is_target_outside, is_value, is_wrong_group, known_targets, known_values, wrong_groups_from, elements_in}
 use Rattle.hep_conditions.specs.Words.{is_given_twice, name_repeated, share_element, holds_at_each_place, same_length, Known, count_of_items, holds_from, holds_within, known_before, meet, Keeps, targets_in_data, trees_in_declarator, trees_in_form, are_actuals, are_integers, has_dimensions, is_list_typed}
 use Rattle.hep_conditions.specs.Words.{is_target_typed, is_typed_as, type_of_value, at_line, when}
-use Rattle.hep_accepted_laws.proofs.Formed.{parameters_at, target_typed, typed_statement}
-use Rattle.hep_accepted_laws.proofs.Meant.{constant_not_in_data, data_known}
+use Rattle.hep_accepted_laws.proofs.StatementForms.{parameters_at, target_typed, typed_statement}
+use Rattle.hep_accepted_laws.proofs.NameMeanings.{constant_not_in_data, data_known}
 use Rattle.hep_accepted_laws.proofs.Members.{Has, all_has, has_behind, has_flat, has_front, has_more, AreNew, one_place}
-use Rattle.hep_accepted_laws.proofs.Parts.{and_past, any-each, none-append, none-when, some_value, unviolated, some_of}
-use Rattle.hep_accepted_laws.proofs.Shaped.{Extends, same_value, IsValued, arrays_have_shapes, known_at, known_extends, shape_parts, same_values, shut, take_drop}
+use Rattle.hep_accepted_laws.proofs.Parts.{and_past, any-each, none-append, none-when, some_value, unviolated}
+use Rattle.hep_accepted_laws.proofs.Shaped.{same_value, IsValued, arrays_have_shapes, known_at, known_extends, shape_parts, same_values, shut, take_drop}
 use Rattle.hep_accepted_laws.proofs.Valued.{ConstantsAgree, valued}
 use Rattle.hep_conditions.proofs.Agreeing.{given_by-append}
 use Rattle.std.proofs.lemmas.Bool.Decides.{nat_tests}
 use Rattle.hep_source.proofs.NameTests.{same_name-self}
 use Rattle.hep_accepted_laws.specs.Initial.{FitsValues, IsWithin, all_stretches, names_given, stretches_in, stretches_of, values_of_group}
 use Rattle.hep_accepted_laws.proofs.Operands.{declared_type}
-use Rattle.hep_source.proofs.Tests.{or-turned}
+use Rattle.hep_source.proofs.Tests.{or-turned, some_of}
+use Rattle.hep_image.proofs.ArrayExtents.{bounds-length, AreMore}
 
 -- ---- what 311 says of a statement
 
@@ -89,11 +89,11 @@ places_are_local program u k i j unit s g t accepted iu ik ig jt =
 -- ---- values
 
 -- a value and a repeat count stay where more names have values
-same_constant : (old new : Values) (c : DataConstant) (v : Value) → Extends old new → value_of_constant old c ≡ Some v → value_of_constant new c ≡ Some v
+same_constant : (old new : Values) (c : DataConstant) (v : Value) → AreMore old new → value_of_constant old c ≡ Some v → value_of_constant new c ≡ Some v
 same_constant old new (data_constant.Value w) v h e = e
 same_constant old new (data_constant.Named p) v h e = h p.name v e
 
-same_repeat : (old new : Values) (r : Option Repeat) (n : ℕ) → Extends old new → repeat_of old r ≡ Some n → repeat_of new r ≡ Some n
+same_repeat : (old new : Values) (r : Option Repeat) (n : ℕ) → AreMore old new → repeat_of old r ≡ Some n → repeat_of new r ≡ Some n
 same_repeat old new None n h e = e
 same_repeat old new (Some (repeat.Count z)) n h e = e
 same_repeat old new (Some (repeat.Named p)) n h e = by_value (old p.name) (new p.name) (h p.name) e where
@@ -123,16 +123,8 @@ values_are_given program u k i j unit s g v accepted iu ik ig jv =
 
 -- ---- elements
 
-bounds_count : (unit : List Statement) (values : Values) (ds : List Dimension) (bs : Bounds) → bounds_of unit values ds ≡ Some bs → length bs ≡ length ds
-bounds_count unit values [] bs e = ap length (sym (same_Some [] bs e))
-bounds_count unit values (d ∷ ds) bs e = by_first (bound_of (lower_value unit values d.lower) (upper_value unit values d.upper)) (bounds_of unit values ds) (bounds_count unit values ds) e where
-  by_first : (o : Option Bound) (p : Option Bounds) → ((cs : Bounds) → p ≡ Some cs → length cs ≡ length ds) → bound_before o p ≡ Some bs → length bs ≡ suc (length ds)
-  by_first None p more f = absurd (none-some bs f)
-  by_first (Some c) None more f = absurd (none-some bs f)
-  by_first (Some c) (Some cs) more f = ap length (sym (same_Some (c ∷ cs) bs f)) ∙ ap suc (more cs refl)
-
 shape_count : (unit : List Statement) (x : Name) (bs : Bounds) → is_array unit x ≡ true → constant_shape unit x ≡ Some bs → length bs ≡ length (dimensions_of unit x)
-shape_count unit x bs array e = bounds_count unit (constant_value unit) (dimensions_of unit x) bs (shape_parts unit x bs array e).0
+shape_count unit x bs array e = bounds-length unit (constant_value unit) (dimensions_of unit x) bs (shape_parts unit x bs array e).0
 
 -- the values of expressions that all have one
 all_valued : (unit : List Statement) (values : Values) (ts : List Tree) → ((t : Tree) → Has ts t → IsValued unit values t) → (vs : List Value) × (values_of unit values (trees_of ts) ≡ Some vs) × (length vs ≡ count_of (trees_of ts))

@@ -7,7 +7,7 @@ use Rattle.hep_source.specs.declared.statement.Form.TheVariants as form
 use Rattle.hep_conditions.specs.Words.{IsAccepted}
 use Rattle.hep_accepted_laws.specs.Typing.{HasShape}
 use Rattle.hep_accepted_laws.proofs.Parts.{found_at}
-use Rattle.hep_image.specs.Bound.{AreClosed}
+use Rattle.hep_image.specs.BoundActivations.{AreClosed}
 use Rattle.hep_accepted_laws.proofs.Starts.{index_some}
 use Rattle.hep_accepted_laws.proofs.RunCalls.{calls-there}
 use Rattle.hep_accepted_laws.proofs.Levels.{every-numbered, in-run}

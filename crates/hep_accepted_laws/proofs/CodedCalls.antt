@@ -9,9 +9,9 @@ use Rattle.hep_code.specs.declared.instruction.Operation.TheVariants.{Call, Crea
 use Rattle.hep_code.specs.Words.{count}
 use Rattle.hep_accepted_laws.specs.Agreement.{CallsSubroutine, RefersToFunction}
 use Rattle.hep_accepted_laws.proofs.Agreed.{calls_agree, references_agree}
-use Rattle.hep_accepted_laws.specs.Placed.{IsCalledWith, IsReferredWith, code_in}
+use Rattle.hep_accepted_laws.specs.PlacedCode.{IsCalledWith, IsReferredWith, code_in}
 use Rattle.hep_accepted_laws.proofs.Coded.{AllMeet, Wish, code_meets}
-use Rattle.hep_accepted_laws.proofs.Facts.{Facts}
+use Rattle.hep_accepted_laws.proofs.AcceptedFacts.{Facts}
 use Rattle.hep_accepted_laws.proofs.Placed.{unit_of_program}
 use Rattle.hep_accepted_laws.proofs.Rights.{resolved, right}
 use Rattle.hep_image.proofs.Numbers.{unit-there}

@@ -7,11 +7,12 @@ use Rattle.hep_machine.specs.Words.{Tree, trees_of, Target, ValueType, Integer, 
 use Rattle.hep_source.specs.declared.statement.Form.TheVariants as form
 use Rattle.hep_conditions.specs.Words.{FunctionTypes, function_types, type_of_name, IsAccepted, is_not_held, names_with_lists_in, names_with_lists_in_all, targets_assigned, trees_in_declarator, trees_in_form, trees_in_statement, KnownType, agree, are_actuals, are_integers, has_dimensions, is_form_typed, is_list_typed, is_of, is_plain_integer_scalar, is_scalar_target, is_target_typed, is_typed, is_typed_as, same_declared, type_of_target, type_of_tree}
 use Rattle.hep_accepted_laws.specs.Typing.{HasTypes, IsOf, IsPlace}
-use Rattle.hep_accepted_laws.proofs.Formed.{lists_in, names_have_types, names_in, target_typed, typed_statement}
-use Rattle.hep_accepted_laws.proofs.Meant.{assigned_known, no_function_alone}
+use Rattle.hep_accepted_laws.proofs.StatementForms.{lists_in, names_have_types, names_in, target_typed, typed_statement}
+use Rattle.hep_accepted_laws.proofs.NameMeanings.{assigned_known, no_function_alone}
 use Rattle.hep_accepted_laws.proofs.Members.{Has, all_has, has_behind, has_front, has_more}
 use Rattle.hep_accepted_laws.proofs.Nested.{held_is_allowed, loop_variable}
-use Rattle.hep_accepted_laws.proofs.Operands.{AreNamesTyped, AreRight, are_subscripts, declared_type, equal_types, has_type, is_name_typed, is_of_type, is_right}
+use Rattle.hep_accepted_laws.proofs.Operands.{AreNamesTyped, AreRight, are_subscripts, declared_type, has_type, is_name_typed, is_of_type, is_right}
+use Rattle.hep_conditions.proofs.Typing.{equal_types}
 
 -- what the laws of names say of a form
 abbrev AreTreesGood : FunctionTypes → List Statement → Form → Type 0

@@ -1,10 +1,10 @@
 -- An expression is itself with no values put in, and stays partly evaluated as one more is.
 use Rattle.std.proofs.Common.{◌≡◌, ◌⊎◌, inl, inr, Bool, true, false, List, Option, Some, None, refl, sym, ap, ◌∙◌, subst, if◌then◌else◌}
 use Rattle.hep_machine.specs.Words.{Tree, Trees, constant, occurrence, with_list, parenthesized, signed, negated, binary, no_trees, trees, Occurrence, Name, Operator, Statement, Value, constant_value}
-use Rattle.hep_machine.specs.Words.{Actual, actual_of, actual_of_listed, actual_of_name, actuals_in, evaluated, first_redex, mapped_part, Part, part_of, part_of_listed, parts_of, plug, plug_actuals_in, plug_all, plugged, plugged_arguments, plugged_first, plugged_listed, Reference, reference_of, referred, Sought, whole}
+use Rattle.hep_machine.specs.Words.{Actual, actual_of, actual_of_listed, actual_of_name, actuals_in, evaluated, first_redex, mapped_part, Part, part_of, part_of_listed, parts_of, plug, plug_actuals_in, plug_all, plugged, plugged_arguments, plugged_first, plugged_listed, Reference, reference_of, referred, RedexOrReference, whole}
 use Rattle.hep_machine.specs.Words.{element, external, is_array, is_external, listed_meaning, Meaning, pure, state, function_named}
 use Rattle.hep_source.specs.declared.operator.Sign.{Sign}
-use Rattle.hep_accepted_laws.specs.Filled.{AreActualsFilled, AreFilled, Chosen, IsFilled, IsFilledActual, IsValue}
+use Rattle.hep_accepted_laws.specs.PartlyEvaluated.{AreActualsFilled, AreFilled, Chosen, IsFilled, IsFilledActual, IsValue}
 
 -- ---- with no values
 
@@ -102,7 +102,7 @@ module _ (unit : List Statement) (v : Value) where
   binary-plugged o a b u f g (inr h) = of-constant (IsFilled unit (binary o a b)) u h (λ w. inr (w, refl))
 
   -- an actual argument that is a name with a list
-  actual-listed : (p : Occurrence) (ts : Trees) (u : Tree) (q : Sought) → ((us : Trees) → AreFilled unit ts us → AreFilled unit ts (plug_all unit us v))
+  actual-listed : (p : Occurrence) (ts : Trees) (u : Tree) (q : RedexOrReference) → ((us : Trees) → AreFilled unit ts us → AreFilled unit ts (plug_all unit us v))
       → ((us : Trees) → AreActualsFilled unit ts us → AreActualsFilled unit ts (plug_actuals_in unit us v)) → (b : Bool) → is_array unit p.name ≡ b
       → Chosen b ((us : Trees) × (u ≡ with_list p us) × AreFilled unit ts us) (IsListFilled p ts u) → actual_of unit u ≡ first_redex q
       → Chosen b ((us : Trees) × (plug unit u v ≡ with_list p us) × AreFilled unit ts us) (IsListFilled p ts (plug unit u v))
@@ -119,11 +119,11 @@ module _ (unit : List Statement) (v : Value) where
             let stays : plug unit (with_list p us) v ≡ with_list p (plug_all unit us v) = ap (λ m. plugged_listed m (parts_of unit us) (reference_of unit us) (actuals_in unit us) (with_list p (plugged_arguments m (plug_actuals_in unit us v) (plug_all unit us v))) v) m ∙ ap (λ z. plugged z (with_list p (plug_all unit us v)) v) k in
             (plug_all unit us v, ap (λ r. plug unit r v) e ∙ stays, a us h)
 
-  actual-name : (o : Option Value) (z : Name) (q : Sought) → actual_of_name o z ≡ first_redex q → ⊥
+  actual-name : (o : Option Value) (z : Name) (q : RedexOrReference) → actual_of_name o z ≡ first_redex q → ⊥
   actual-name None z q h = absurd cc
   actual-name (Some w) z q h = absurd cc
 
-  pub first-with : {A B : Type 0} (P : B → Type 0) (p : Part A) (x y : B) → ((r : Sought) → p ≡ first_redex r → P x) → P y → P (plugged_first p x y)
+  pub first-with : {A B : Type 0} (P : B → Type 0) (p : Part A) (x y : B) → ((r : RedexOrReference) → p ≡ first_redex r → P x) → P y → P (plugged_first p x y)
   first-with P (whole z) x y h k = k
   first-with P (first_redex r) x y h k = h r refl
 
@@ -144,7 +144,7 @@ module _ (unit : List Statement) (v : Value) where
         subst (λ qs. AreFilled unit (trees t ts) (plug_all unit qs v)) (sym e) (
         first-or (AreFilled unit (trees t ts)) (part_of unit r) (trees (plug unit r v) rs) (trees r (plug_all unit rs v)) (plug unit r v, rs, refl, filled-plug t r h, k) (r, plug_all unit rs v, refl, h, all-plug ts rs k))
 
-    pub actual-plug : (t u : Tree) (q : Sought) → IsFilledActual unit t u → actual_of unit u ≡ first_redex q → IsFilledActual unit t (plug unit u v)
+    pub actual-plug : (t u : Tree) (q : RedexOrReference) → IsFilledActual unit t u → actual_of unit u ≡ first_redex q → IsFilledActual unit t (plug unit u v)
     actual-plug (constant w) u q h f = ap (λ r. plug unit r v) h
     actual-plug (occurrence p) u q e f = absurd (actual-name (constant_value unit p.name) p.name q (ap (actual_of unit) (sym e) ∙ f))
     actual-plug (with_list p ts) u q h f = actual-listed p ts u q (all-plug ts) (actuals-plug ts) (is_array unit p.name) refl h f

@@ -16,9 +16,9 @@ use Rattle.hep_machine.proofs.Changes.{Makes, by_step, next_on, top_in}
 use Rattle.hep_machine.proofs.Others.{front_numbered}
 use Rattle.hep_layout.proofs.References.{each-state}
 use Rattle.hep_layout.proofs.Stacks.{top-numbered}
-use Rattle.hep_accepted_laws.specs.Filled.{AreEach, IsFilled}
-use Rattle.hep_accepted_laws.specs.Works.{AreLeft, ComesFrom}
-use Rattle.hep_accepted_laws.proofs.Filled.{each-self, form-plug, form-self}
+use Rattle.hep_accepted_laws.specs.PartlyEvaluated.{AreEach, IsFilled}
+use Rattle.hep_accepted_laws.specs.WorkOrigins.{AreLeft, ComesFrom}
+use Rattle.hep_accepted_laws.proofs.PartlyEvaluated.{each-self, form-plug, form-self}
 use Rattle.hep_accepted_laws.proofs.FilledTrees.{filled-plug, filled-self}
 
 -- ---- lists

@@ -2,16 +2,16 @@ pub mod Parts
 pub mod Members
 pub mod Agreed
 pub mod Nested
-pub mod Meant
+pub mod NameMeanings
 pub mod Operands
 pub mod Fixed
-pub mod Formed
+pub mod StatementForms
 pub mod Executed
 pub mod Valued
 pub mod Shaped
 mod Assigned
 mod Coded
-pub mod Facts
+pub mod AcceptedFacts
 pub mod Starts
 pub mod Rights
 pub mod Placed
@@ -21,8 +21,8 @@ pub mod Arrays
 pub mod CodedCalls
 mod Worked
 pub mod FilledTrees
-pub mod Filled
-pub mod Referred
+pub mod PartlyEvaluated
+pub mod References
 pub mod Levels
 pub mod RunCalls
 pub mod Closed

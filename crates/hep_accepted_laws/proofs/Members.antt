@@ -113,6 +113,7 @@ among_has x (y ∷ ys) e = by_test (same_name x y) refl e (among_has x ys) where
   by_test true f g more = (zero, ap (λ z. Some z) (sym (equal_names x y f)))
   by_test false f g more = let h = more g in (suc h.0, h.1)
 
+-- a name that a list has is among the list
 pub has_among : (xs : List Name) (x : Name) → Has xs x → is_among x xs ≡ true
 has_among [] x h = absurd (none-some x h.1)
 has_among (y ∷ ys) x (zero, g) = ap (λ b. if b then true else is_among x ys) (ap (same_name x) (same_Some y x g) ∙ same_name-self x)

@@ -1,5 +1,5 @@
 -- Where a condition has no violation, its tests hold of each part.
-use Rattle.std.proofs.Common.{◌≡◌, ℕ, zero, suc, Bool, true, false, List, [], ◌∷◌, ◌++◌, map, Option, Some, None, refl, sym, subst, true≢false, arith, ◌&&◌, slice_get, is_none, if◌then◌else◌, is_some, ◌<◌}
+use Rattle.std.proofs.Common.{◌≡◌, ℕ, zero, suc, Bool, true, false, List, [], ◌∷◌, ◌++◌, map, Option, Some, None, refl, sym, subst, true≢false, arith, ◌&&◌, slice_get, is_none, if◌then◌else◌, ◌<◌}
 use Rattle.std.specs.List.{flat_map, list_all, list_any}
 use Rattle.std.specs.Option.{option_map}
 use Rattle.std.proofs.lemmas.Bool.{and_from, and_parts, or_parts}
@@ -66,10 +66,6 @@ found_at test (x ∷ xs) i e = by_test (test x) refl i e (found_at test xs) wher
   by_test : (b : Bool) → test x ≡ b → (j : ℕ) → (if b then Some 0 else option_map suc (index_where test xs)) ≡ Some j → ((n : ℕ) → index_where test xs ≡ Some n → (y : _) × (slice_get xs n ≡ Some y) × (test y ≡ true)) → (y : _) × (slice_get (x ∷ xs) j ≡ Some y) × (test y ≡ true)
   by_test true f j g found = subst (λ m. (y : _) × (slice_get (x ∷ xs) m ≡ Some y) × (test y ≡ true)) (same_Some 0 j g) (x, refl, f)
   by_test false f j g found = later (index_where test xs) refl j g found
-
-pub some_of : {A : Type 0} (o : Option A) → is_some o ≡ true → (x : A) × (o ≡ Some x)
-some_of (Some x) e = (x, refl)
-some_of None e = absurd (true≢false (sym e))
 
 -- ---- numbers
 

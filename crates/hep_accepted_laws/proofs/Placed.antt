@@ -19,9 +19,9 @@ use Rattle.hep_image.specs.declared.array.Start.TheVariants as start
 use Rattle.hep_image.specs.Places.{addresses_of, scalar, start_of, variable_by, variable_of}
 use Rattle.hep_accepted_laws.proofs.Members.{Has, has_one, name_of_unit}
 use Rattle.hep_accepted_laws.specs.Instructions.{variables_in, variables_in_argument, variables_in_evaluation, variables_in_operation}
-use Rattle.hep_accepted_laws.specs.Placed.{ArePlaced, IsPlaced, code_in}
+use Rattle.hep_accepted_laws.specs.PlacedCode.{ArePlaced, IsPlaced, code_in}
 use Rattle.hep_accepted_laws.proofs.Coded.{AllMeet, Meets, MeetsEvaluation, MeetsOperation, Wish, array_named, code_meets}
-use Rattle.hep_accepted_laws.proofs.Facts.{Facts, without_value}
+use Rattle.hep_accepted_laws.proofs.AcceptedFacts.{Facts, without_value}
 use Rattle.hep_accepted_laws.proofs.Rights.{AllNamed, actual_in_unit, given_in_unit, purged_in_unit, resolved, right}
 use Rattle.hep_accepted_laws.proofs.Starts.{begins, begun_placed}
 use Rattle.hep_accepted_laws.proofs.Operands.{is_element}

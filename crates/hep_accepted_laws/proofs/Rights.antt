@@ -6,11 +6,11 @@ use Rattle.hep_machine.specs.Words.{Trees, array_occurrence, binary, constant, e
 use Rattle.hep_machine.specs.Words.{Tree, Target, Name, Occurrence, Form, Statement, is_constant_name, occurrences_in, occurrences_in_form, occurrences_in_statement, occurrences_in_target, occurrences_of}
 use Rattle.hep_source.specs.declared.statement.Form.TheVariants as form
 use Rattle.hep_conditions.specs.Words.{Calling, FunctionTypes, NameWithList, calls_in, list_of, names_with_lists, names_with_lists_in, names_with_lists_in_all, targets_assigned, targets_purged, trees_in_form, trees_in_statement}
-use Rattle.hep_accepted_laws.proofs.Formed.{occurrence_in_statement}
+use Rattle.hep_accepted_laws.proofs.StatementForms.{occurrence_in_statement}
 use Rattle.hep_accepted_laws.proofs.Members.{Has, flat_has, has_behind, has_either, has_first_or, has_flat, has_front, has_one}
 use Rattle.hep_code.specs.Words.{count, argument_of, argument_of_target, AddressedUnit, names_of}
 use Rattle.hep_accepted_laws.proofs.Coded.{IsResolved, IsRight, Wish}
-use Rattle.hep_accepted_laws.proofs.Facts.{Facts, array_no_constant, loop_no_constant, without_value}
+use Rattle.hep_accepted_laws.proofs.AcceptedFacts.{Facts, array_no_constant, loop_no_constant, without_value}
 use Rattle.hep_accepted_laws.proofs.Executed.{target_occurs, in_form}
 
 -- ---- where names occur

@@ -9,12 +9,12 @@ use Rattle.hep_source.specs.declared.statement.Form.TheVariants as form
 use Rattle.hep_conditions.specs.Words.{IsAccepted, calls_in, count_of, list_of}
 use Rattle.hep_accepted_laws.specs.Agreement.{CallsSubroutine, RefersToFunction}
 use Rattle.hep_accepted_laws.proofs.Agreed.{calls_agree, references_agree}
-use Rattle.hep_image.specs.Bound.{CallsAgree, NextAgrees}
+use Rattle.hep_image.specs.BoundActivations.{CallsAgree, NextAgrees}
 use Rattle.hep_accepted_laws.proofs.CodedCalls.{named_subroutine, some_named}
-use Rattle.hep_accepted_laws.specs.Filled.{AreEach, IsFilledActual, IsFilledForm}
-use Rattle.hep_accepted_laws.specs.Works.{ComesFrom, IsCalledBy, IsGivenBy, IsReferredBy}
+use Rattle.hep_accepted_laws.specs.PartlyEvaluated.{AreEach, IsFilledActual, IsFilledForm}
+use Rattle.hep_accepted_laws.specs.WorkOrigins.{ComesFrom, IsCalledBy, IsGivenBy, IsReferredBy}
 use Rattle.hep_accepted_laws.proofs.Levels.{CallsIn, top-comes}
-use Rattle.hep_accepted_laws.proofs.Referred.{comes-reference}
+use Rattle.hep_accepted_laws.proofs.References.{comes-reference}
 
 -- ---- what is called next
 

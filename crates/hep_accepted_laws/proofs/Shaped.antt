@@ -11,20 +11,18 @@ use Rattle.hep_machine.specs.Words.{named_constants, Meaning, listed_meaning, pu
 use Rattle.hep_source.specs.declared.declaration.UpperBound.TheVariants as bound
 use Rattle.hep_machine.specs.declared.shape.Bound.{Bound}
 use Rattle.hep_conditions.specs.Words.{IsAccepted, no_functions, Parameters, are_bounds_open, has_bounds, has_value, is_adjustable, is_adjusted, is_bound, is_dimension, is_open, is_shape_if_known, is_upper_bound, value_by, is_counted, Keeps, names_with_lists, names_with_lists_in, trees_in_declarator, trees_in_dimension, trees_in_statement, trees_in_upper, is_typed_as, type_of_value}
-use Rattle.hep_source.proofs.Tests.{or-false}
+use Rattle.hep_source.proofs.Tests.{or-false, some_of}
 use Rattle.hep_accepted_laws.specs.Typing.{HasShape, HasValue, IsOf}
 use Rattle.hep_accepted_laws.proofs.Agreed.{counted}
-use Rattle.hep_accepted_laws.proofs.Formed.{parameters_at, typed_statement}
-use Rattle.hep_accepted_laws.proofs.Meant.{array_declarator}
+use Rattle.hep_accepted_laws.proofs.StatementForms.{parameters_at, typed_statement}
+use Rattle.hep_accepted_laws.proofs.NameMeanings.{array_declarator}
 use Rattle.hep_accepted_laws.proofs.Members.{Each, each_append, each_none, each_one, Has, all_has, flat_has, has_behind, has_flat, has_front, has_more}
-use Rattle.hep_accepted_laws.proofs.Parts.{all_from, some_of}
+use Rattle.hep_accepted_laws.proofs.Parts.{all_from}
 use Rattle.hep_accepted_laws.proofs.Valued.{ConstantsAgree, constant_from, constant_there, kept_by, one_type, typed_by, valued}
 use Rattle.hep_conditions.proofs.Agreeing.{given_by-append}
+use Rattle.hep_image.proofs.ArrayExtents.{AreMore}
 
 -- ---- an expression that has a value keeps it where more names have values
-
-abbrev pub Extends : Values → Values → Type 0
-Extends old new = (x : Name) (v : Value) → old x ≡ Some v → new x ≡ Some v
 
 -- what has a value where another thing has it, by functions that give none where there is none
 kept : {A B : Type 0} (f : Option A → Option B) (o n : Option A) (v : B) → ((w : B) → f None ≡ Some w → ⊥) → ((x : A) → o ≡ Some x → n ≡ Some x) → f o ≡ Some v → f n ≡ Some v
@@ -32,7 +30,7 @@ kept f None n v none more e = absurd (none v e)
 kept f (Some x) n v none more e = ap f (more x refl) ∙ e
 
 mutual
-  pub same_value : (unit : List Statement) (old new : Values) (t : Tree) (v : Value) → Extends old new → value_of unit old t ≡ Some v → value_of unit new t ≡ Some v
+  pub same_value : (unit : List Statement) (old new : Values) (t : Tree) (v : Value) → AreMore old new → value_of unit old t ≡ Some v → value_of unit new t ≡ Some v
   same_value unit old new (constant w) v h e = e
   same_value unit old new (occurrence p) v h e = h p.name v e
   same_value unit old new (with_list p ts) v h e =
@@ -50,7 +48,7 @@ mutual
         no_second None w d = none-some w d
         no_second (Some x) w d = none-some w d
 
-  pub same_values : (unit : List Statement) (old new : Values) (ts : Trees) (vs : List Value) → Extends old new → values_of unit old ts ≡ Some vs → values_of unit new ts ≡ Some vs
+  pub same_values : (unit : List Statement) (old new : Values) (ts : Trees) (vs : List Value) → AreMore old new → values_of unit old ts ≡ Some vs → values_of unit new ts ≡ Some vs
   same_values unit old new no_trees vs h e = e
   same_values unit old new (trees t ts) vs h e =
       kept (λ p. both p (values_of unit new ts)) (value_of unit old t) (value_of unit new t) vs none-some (λ w. same_value unit old new t w h) (
@@ -73,19 +71,19 @@ IsExpression (bound.Expression t) = Unit {0}
 abbrev AreBounds : List Statement → Values → Values → List Dimension → Type 0
 AreBounds unit old new ds = (bs : Bounds) × (bounds_of unit old ds ≡ Some bs) × (bounds_of unit new ds ≡ Some bs) × (n : ℕ) × (elements bs ≡ Some n)
 
-pub lower_bound : (unit : List Statement) (old new : Values) (o : Option Tree) → Extends old new → ((t : Tree) → Has (option_to_list o) t → IsValued unit old t) → (z : ℤ) × (lower_value unit old o ≡ Some z) × (lower_value unit new o ≡ Some z)
+pub lower_bound : (unit : List Statement) (old new : Values) (o : Option Tree) → AreMore old new → ((t : Tree) → Has (option_to_list o) t → IsValued unit old t) → (z : ℤ) × (lower_value unit old o ≡ Some z) × (lower_value unit new o ≡ Some z)
 lower_bound unit old new None h each = (_, refl, refl)
 lower_bound unit old new (Some t) h each =
     let v = each t (0, refl) in
     (integer_of v.0, ap (option_map integer_of) v.1, ap (option_map integer_of) (same_value unit old new t v.0 h v.1))
 
-upper_bound : (unit : List Statement) (old new : Values) (b : UpperBound) → Extends old new → IsExpression b → ((t : Tree) → Has (trees_in_upper b) t → IsValued unit old t) → (z : ℤ) × (upper_value unit old b ≡ Some (Some z)) × (upper_value unit new b ≡ Some (Some z))
+upper_bound : (unit : List Statement) (old new : Values) (b : UpperBound) → AreMore old new → IsExpression b → ((t : Tree) → Has (trees_in_upper b) t → IsValued unit old t) → (z : ℤ) × (upper_value unit old b ≡ Some (Some z)) × (upper_value unit new b ≡ Some (Some z))
 upper_bound unit old new bound.Open h is each = absurd is
 upper_bound unit old new (bound.Expression t) h is each =
     let v = each t (0, refl) in
     (integer_of v.0, ap (option_map (λ w. Some (integer_of w))) v.1, ap (option_map (λ w. Some (integer_of w))) (same_value unit old new t v.0 h v.1))
 
-all_bounds : (unit : List Statement) (old new : Values) (ds : List Dimension) → Extends old new → ((d : Dimension) → Has ds d → IsExpression d.upper) → ((d : Dimension) (t : Tree) → Has ds d → Has (trees_in_dimension d) t → IsValued unit old t) → AreBounds unit old new ds
+all_bounds : (unit : List Statement) (old new : Values) (ds : List Dimension) → AreMore old new → ((d : Dimension) → Has ds d → IsExpression d.upper) → ((d : Dimension) (t : Tree) → Has ds d → Has (trees_in_dimension d) t → IsValued unit old t) → AreBounds unit old new ds
 all_bounds unit old new [] h shut each = ([], refl, refl, 1, refl)
 all_bounds unit old new (d ∷ ds) h shut each =
     let l = lower_bound unit old new d.lower h (λ t g. each d t (0, refl) (has_front (option_to_list d.lower) (trees_in_upper d.upper) t g)) in
@@ -141,7 +139,7 @@ dimension_shut unit ps d e = by_upper d.upper (and_parts (list_all (is_bound uni
 
 -- the bounds of a declarator, by the constants before it and by all constants
 declared_bounds : (unit : List Statement) (ps : Parameters) (d : Declarator) (values : Values) → has_bounds unit ps d ≡ true → is_nonempty d.dimensions ≡ true → is_dummy unit d.occurrence.name ≡ false
-    → ((t : Tree) → Has (trees_in_declarator d) t → is_open unit ps t ≡ false) → Extends (value_among ps.known) values
+    → ((t : Tree) → Has (trees_in_declarator d) t → is_open unit ps t ≡ false) → AreMore (value_among ps.known) values
     → (bs : Bounds) × (bounds_of unit values d.dimensions ≡ Some bs) × (is_shape bs ≡ true) × (n : ℕ) × (elements bs ≡ Some n)
 declared_bounds unit ps d values test listed no_dummy closed extends =
     let whole : (list_all (is_dimension unit ps false) d.dimensions && (are_bounds_open unit ps d || is_shape_if_known (bounds_of unit (value_among ps.known) d.dimensions))) ≡ true = rw no_dummy at (rw listed at test) in
@@ -165,15 +163,15 @@ abbrev pub known_at : List Statement → ℕ → Constants
 known_at unit k = given_by unit [] (named_constants (take k unit))
 
 -- constants are among all constants
-pub before_extends : (unit : List Statement) (before after : List NamedConstant) → named_constants unit ≡ before ++ after → Extends (value_among (given_by unit [] before)) (constant_value unit)
+pub before_extends : (unit : List Statement) (before after : List NamedConstant) → named_constants unit ≡ before ++ after → AreMore (value_among (given_by unit [] before)) (constant_value unit)
 before_extends unit before after e x v f =
     ap (λ (ks : Constants). value_among ks x) (ap (given_by unit []) e ∙ given_by-append unit [] before after)
     ∙ kept_by unit (given_by unit [] before) after x v f
 
-pub known_extends : (unit : List Statement) (k : ℕ) → Extends (value_among (known_at unit k)) (constant_value unit)
+pub known_extends : (unit : List Statement) (k : ℕ) → AreMore (value_among (known_at unit k)) (constant_value unit)
 known_extends unit k = before_extends unit (named_constants (take k unit)) (named_constants (drop k unit)) (ap named_constants (take_drop k unit) ∙ named-append (take k unit) (drop k unit))
 
-pub extends_at : (unit : List Statement) (k : ℕ) → Keeps (parameters_at unit k) (known_at unit k) → Extends (value_among (parameters_at unit k).known) (constant_value unit)
+pub extends_at : (unit : List Statement) (k : ℕ) → Keeps (parameters_at unit k) (known_at unit k) → AreMore (value_among (parameters_at unit k).known) (constant_value unit)
 extends_at unit k keeps x v e = known_extends unit k x v (sym (keeps.1 x) ∙ e)
 
 pub shape_known : (unit : List Statement) (x : Name) (bs : Bounds) → is_array unit x ≡ true → bounds_of unit (constant_value unit) (dimensions_of unit x) ≡ Some bs → is_shape bs ≡ true → constant_shape unit x ≡ Some bs

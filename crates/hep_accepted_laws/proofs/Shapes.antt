@@ -1,21 +1,22 @@
 -- Arrays of accepted programs whose bounds are constant have shapes.
-use Rattle.std.proofs.Common.{◌≡◌, ◌⊎◌, ℤ, inl, inr, ℕ, zero, suc, Bool, true, false, List, [], ◌∷◌, Option, Some, None, refl, sym, ap, ◌∙◌, subst, true≢false, arith, slice_get, length, if◌then◌else◌, is_none, is_some, not, ◌&&◌, ◌||◌, option_to_list, take, drop}
+use Rattle.std.proofs.Common.{◌≡◌, ◌⊎◌, ℤ, inl, inr, ℕ, zero, Bool, true, false, List, [], ◌∷◌, Option, Some, None, refl, sym, ap, ◌∙◌, subst, true≢false, slice_get, if◌then◌else◌, is_none, is_some, not, ◌&&◌, ◌||◌, option_to_list, take, drop}
 use Rattle.std.specs.List.{flat_map, list_all, list_any}
 use Rattle.std.specs.Option.{option_map}
 use Rattle.std.proofs.lemmas.Bool.{and_parts}
 use Rattle.std.proofs.lemmas.Option.{none-some}
-use Rattle.hep_machine.specs.Words.{Tree, Declarator, Dimension, UpperBound, Integer, Name, Occurrence, Statement, Value, Units, integer_of, Values, adjustable_dimensions, bound_before, bound_of, bounds_of, constant_shape, constant_value, is_constant, is_constant_dimension, is_constant_lower, is_constant_upper, upper_value, value_among, value_of, declarators_in, dimensions_of, is_array, is_common, is_dummy, is_nonempty, Bounds, is_shape, occurrences_in}
+use Rattle.hep_machine.specs.Words.{Tree, Declarator, Dimension, UpperBound, Integer, Name, Occurrence, Statement, Value, Units, integer_of, Values, adjustable_dimensions, bound_before, bound_of, bounds_of, constant_shape, constant_value, is_constant, is_constant_dimension, is_constant_lower, is_constant_upper, upper_value, value_among, value_of, declarators_in, is_array, is_common, is_dummy, is_nonempty, Bounds, is_shape, occurrences_in}
 use Rattle.hep_source.specs.declared.declaration.UpperBound.TheVariants as bound
 use Rattle.hep_machine.specs.declared.shape.Bound.{Bound}
 use Rattle.hep_conditions.specs.Words.{IsAccepted, Parameters, are_bounds_open, has_bounds, has_value, is_adjustable, is_adjusted, is_adjusting, is_bound, is_dimension, is_open, is_shape_if_known, is_upper_bound, names_with_lists_in, trees_in_declarator, trees_in_dimension, trees_in_upper, is_plain_integer_scalar, is_typed_as, no_functions}
-use Rattle.hep_accepted_laws.proofs.Formed.{parameters_at, typed_statement}
-use Rattle.hep_accepted_laws.proofs.Meant.{array_declarator}
+use Rattle.hep_accepted_laws.proofs.StatementForms.{parameters_at, typed_statement}
+use Rattle.hep_accepted_laws.proofs.NameMeanings.{array_declarator}
 use Rattle.hep_accepted_laws.proofs.Members.{Has, all_has, flat_has, has_behind, has_either, has_flat, has_front, has_more, has_one}
-use Rattle.hep_accepted_laws.proofs.Parts.{some_of}
-use Rattle.hep_accepted_laws.proofs.Shaped.{Extends, IsValued, extends_at, same_value, shut, take_drop, lower_bound, none_open, shape_known}
+use Rattle.hep_accepted_laws.proofs.Shaped.{IsValued, extends_at, same_value, shut, take_drop, lower_bound, none_open, shape_known}
 use Rattle.hep_accepted_laws.proofs.Valued.{ConstantsAgree, valued}
-use Rattle.hep_accepted_laws.proofs.Facts.{plain_no_constant}
+use Rattle.hep_accepted_laws.proofs.AcceptedFacts.{plain_no_constant}
 use Rattle.hep_accepted_laws.proofs.CodedValues.{names_valued, no_value_of_others}
+use Rattle.hep_source.proofs.Tests.{some_of}
+use Rattle.hep_image.proofs.ArrayExtents.{AreMore, none-adjustable}
 
 -- ---- a bound that has a value by all constants has it where it is written
 
@@ -52,13 +53,13 @@ bound_valued unit ps dummy t closed e c =
 abbrev Same : List Statement → Values → Values → List Dimension → Type 0
 Same unit old new ds = (bs : Bounds) × (bounds_of unit old ds ≡ Some bs) × (bounds_of unit new ds ≡ Some bs)
 
-upper_same : (unit : List Statement) (old new : Values) (b : UpperBound) → Extends old new → ((t : Tree) → Has (trees_in_upper b) t → IsValued unit old t) → (o : Option ℤ) × (upper_value unit old b ≡ Some o) × (upper_value unit new b ≡ Some o)
+upper_same : (unit : List Statement) (old new : Values) (b : UpperBound) → AreMore old new → ((t : Tree) → Has (trees_in_upper b) t → IsValued unit old t) → (o : Option ℤ) × (upper_value unit old b ≡ Some o) × (upper_value unit new b ≡ Some o)
 upper_same unit old new bound.Open h each = (None, refl, refl)
 upper_same unit old new (bound.Expression t) h each =
     let v = each t (0, refl) in
     (Some (integer_of v.0), ap (option_map (λ w. Some (integer_of w))) v.1, ap (option_map (λ w. Some (integer_of w))) (same_value unit old new t v.0 h v.1))
 
-all_same : (unit : List Statement) (old new : Values) (ds : List Dimension) → Extends old new → ((d : Dimension) (t : Tree) → Has ds d → Has (trees_in_dimension d) t → IsValued unit old t) → Same unit old new ds
+all_same : (unit : List Statement) (old new : Values) (ds : List Dimension) → AreMore old new → ((d : Dimension) (t : Tree) → Has ds d → Has (trees_in_dimension d) t → IsValued unit old t) → Same unit old new ds
 all_same unit old new [] h each = ([], refl, refl)
 all_same unit old new (d ∷ ds) h each =
     let l = lower_bound unit old new d.lower h (λ t g. each d t (0, refl) (has_front (option_to_list d.lower) (trees_in_upper d.upper) t g)) in
@@ -100,7 +101,7 @@ kept_by_list : (unit : List Statement) (ps : Parameters) (d : Declarator) → is
 kept_by_list unit ps d e f = subst (λ b. (if b then is_kept unit ps (is_dummy unit d.occurrence.name) d else true) ≡ true) e f
 
 declared : (program : Units) (u k : ℕ) (unit : List Statement) (s : Statement) (d : Declarator) → IsAccepted program → slice_get program u ≡ Some unit → slice_get unit k ≡ Some s → Has (declarators_in s.form) d → is_nonempty d.dimensions ≡ true → list_all (is_constant_dimension unit) d.dimensions ≡ true
-    → (parameters_at unit k).doubtful ≡ [] → Extends (value_among (parameters_at unit k).known) (constant_value unit)
+    → (parameters_at unit k).doubtful ≡ [] → AreMore (value_among (parameters_at unit k).known) (constant_value unit)
     → (bs : Bounds) × (bounds_of unit (constant_value unit) d.dimensions ≡ Some bs) × (is_shape bs ≡ true)
 declared program u k unit s d accepted iu ik hd listed constants doubtless extends =
     let closed : (t : Tree) → Has (trees_in_declarator d) t → is_open unit (parameters_at unit k) t ≡ false
@@ -116,21 +117,11 @@ declared program u k unit s d accepted iu ik hd listed constants doubtless exten
 
 -- ---- arrays
 
-none_adjustable : (unit : List Statement) (x : Name) → is_array unit x ≡ true → adjustable_dimensions unit x ≡ 0 → list_all (is_constant_dimension unit) (dimensions_of unit x) ≡ true
-none_adjustable unit x array e = by_list (dimensions_of unit x) array e where
-  by_test : (b : Bool) (n : ℕ) → (if b then 0 else suc n) ≡ 0 → b ≡ true
-  by_test true n f = refl
-  by_test false n f = absurd (omega (arith, f))
-
-  by_list : (ds : List Dimension) → is_nonempty ds ≡ true → (if list_all (is_constant_dimension unit) ds then 0 else length ds) ≡ 0 → list_all (is_constant_dimension unit) ds ≡ true
-  by_list [] f g = absurd (true≢false (sym f))
-  by_list (d ∷ ds) f g = by_test (list_all (is_constant_dimension unit) (d ∷ ds)) (length ds) g
-
 pub constant_shapes : ConstantsAgree → (program : Units) (u : ℕ) (unit : List Statement) (x : Name) → IsAccepted program → slice_get program u ≡ Some unit → is_array unit x ≡ true → adjustable_dimensions unit x ≡ 0 → (bs : Bounds) × (constant_shape unit x ≡ Some bs) × (is_shape bs ≡ true)
 constant_shapes agrees program u unit x accepted iu array e =
     let d = array_declarator unit x array in
     let s = flat_has (λ (w : Statement). declarators_in w.form) unit d.0 d.1 in
     let keeps = agrees program unit (take (s.1).0 unit) (drop (s.1).0 unit) u accepted iu (take_drop (s.1).0 unit) in
-    let constants = subst (λ ds. list_all (is_constant_dimension unit) ds ≡ true) d.4 (none_adjustable unit x array e) in
+    let constants = subst (λ ds. list_all (is_constant_dimension unit) ds ≡ true) d.4 (none-adjustable unit x array e) in
     let b = declared program u (s.1).0 unit s.0 d.0 accepted iu (s.1).1 s.2 d.3 constants keeps.0 (extends_at unit (s.1).0 keeps) in
     (b.0, shape_known unit x b.0 array (ap (bounds_of unit (constant_value unit)) d.4 ∙ b.1) b.2, b.2)

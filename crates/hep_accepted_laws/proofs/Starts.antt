@@ -8,7 +8,7 @@ use Rattle.hep_image.specs.declared.array.Start.{Start}
 use Rattle.hep_image.specs.declared.array.Start.TheVariants.{Local, Common, Dummy}
 use Rattle.hep_image.specs.Places.{arrays_of, scalar, start_by, start_of, variable_by, variable_of}
 use Rattle.hep_accepted_laws.proofs.Members.{Has, has_filter, has_among}
-use Rattle.hep_accepted_laws.specs.Placed.{IsPlaced}
+use Rattle.hep_accepted_laws.specs.PlacedCode.{IsPlaced}
 
 -- ---- names among others
 

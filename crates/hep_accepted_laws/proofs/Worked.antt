@@ -1,8 +1,8 @@
 -- What is left of a CALL: X3.9-1978, 6.6 and 15.9.3.
 use Rattle.std.proofs.Common.{◌≡◌, ℕ, false, [], ◌∷◌, List, None, inr, refl, ap, sym, subst, codes, pos}
 use Rattle.hep_machine.specs.Words.{Tree, binary, constant, occurrence, Occurrence, Add, Arithmetic, Form, Call, End, Statement, Int, calling, does, evaluated, next_of, plug_work, referred, Work, doing}
-use Rattle.hep_accepted_laws.specs.Filled.{AreEach, IsFilledActual}
-use Rattle.hep_accepted_laws.specs.Works.{ComesFrom}
+use Rattle.hep_accepted_laws.specs.PartlyEvaluated.{AreEach, IsFilledActual}
+use Rattle.hep_accepted_laws.specs.WorkOrigins.{ComesFrom}
 
 -- ---- CALL S(I, 2+3) and END
 

@@ -1,8 +1,8 @@
--- What an actual argument is given to: X3.9-1978, 15.9.3, and docs/LANGUAGE.md, 9.
+-- The dummy argument of an actual argument: X3.9-1978, 15.9.3, and docs/LANGUAGE.md, 9.
 use Rattle.std.specs.Prelude.{◌≡◌, ◌⊎◌, ℕ, true, false, List, [], Some, length, slice_get}
 use Rattle.hep_machine.specs.Words.{Name, Occurrence, Statement, dimensions_of, is_array, is_constant_name, is_nonempty, type_of, Actual, evaluated, referred, Reference, occurrences_of}
 
--- a variable of a unit: it stands there, and is no named constant
+-- a variable of a unit: it occurs there, and is no named constant
 pub record IsVariableOf (unit : List Statement) (x : Name) : Type 0 where
   pub named : Occurrence
   pub index : ℕ
@@ -17,11 +17,11 @@ pub record IsGivenTo (unit callee : List Statement) (y : Name) (r : Reference) :
   pub same_type : type_of unit r.0 ≡ type_of callee y
   -- an element has as many subscripts as its array has dimensions: 5.4.1
   pub subscripts : (r.1 ≡ []) ⊎ ((is_array unit r.0 ≡ true) × (length r.1 ≡ length (dimensions_of unit r.0)))
-  -- to an array an array or an element of one is given, and to a scalar no whole array
+  -- an array gets an array or an element of one, and a scalar no whole array
   pub array : is_array callee y ≡ true → is_array unit r.0 ≡ true
   pub scalar : is_array callee y ≡ false → is_array unit r.0 ≡ is_nonempty r.1
 
--- an expression is given to a scalar without `$`
+-- a scalar without `$` gets an expression
 abbrev pub FitsDummy : List Statement → List Statement → Name → Actual → Type 0
 FitsDummy unit callee y (evaluated v) = (y.asynchronous ≡ false) × (is_array callee y ≡ false)
 FitsDummy unit callee y (referred r) = IsGivenTo unit callee y r

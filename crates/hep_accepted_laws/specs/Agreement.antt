@@ -1,4 +1,4 @@
--- How arguments agree with what they are given to: X3.9-1978, 15.6.2.3 and 15.9.3, and docs/LANGUAGE.md, 8 and 9.
+-- The agreement of arguments with dummy arguments: X3.9-1978, 15.6.2.3 and 15.9.3, and docs/LANGUAGE.md, 8 and 9.
 use Rattle.std.specs.Prelude.{◌≡◌, ℕ, true, List, Some, length, slice_get}
 use Rattle.hep_machine.specs.Words.{Tree, Trees, no_trees, trees, Name, Statement, Units, dummies_of, is_named, function_called, function_name, subroutine_called, subroutine_name}
 use Rattle.hep_conditions.specs.Words.{actual_class, count_of, fits_dummy, FunctionTypes, function_types, is_asynchronous_scalar, list_of, Calling, NameWithList}

@@ -1,4 +1,4 @@
--- Where an accepted program's statements go, and how its DOs and block IFs are nested: X3.9-1978, section 11.
+-- The flow of an accepted program's statements, and the nesting of its DOs and block IFs: X3.9-1978, section 11.
 use Rattle.std.specs.Prelude.{◌≡◌, ◌⊎◌, ◌<◌, ◌≤◌, ℕ, true, false, List, Some, slice_get}
 use Rattle.hep_machine.specs.Words.{DoControl, Statement, same_name, is_executable, index_labelled, role_of}
 use Rattle.hep_conditions.specs.Words.{BlockIf, DoRange, Region, is_division, is_in, is_wrong_terminal, regions_of}
@@ -18,7 +18,7 @@ Leads unit k l =
     × (is_division (role_of target) ≡ false)
     × EntersNone unit k j
 
--- the terminal statement of a DO at index k stands after it, and may end a range: 11.10
+-- the terminal statement of a DO at index k is after it, and may end a range: 11.10
 abbrev pub HasTerminal : List Statement → ℕ → DoControl → Type 0
 HasTerminal unit k c =
     (t : ℕ) × (last : Statement)
@@ -32,7 +32,7 @@ HasTerminal unit k c =
 abbrev pub AreNested : DoRange → DoRange → Type 0
 AreNested a b = a.start < b.start → b.start ≤ a.terminal → (b.terminal ≤ a.terminal) × (same_name a.variable b.variable ≡ false)
 
--- a statement at this index is none within a range, nor its terminal statement
+-- the statement at this index is not within a range, nor its terminal statement
 abbrev pub IsOutside : DoRange → ℕ → Type 0
 IsOutside r k = (k ≤ r.start) ⊎ (r.terminal < k)
 

@@ -1,11 +1,11 @@
--- What DATA gives values, and which: X3.9-1978, section 9.
+-- The variables that DATA gives values, and the values: X3.9-1978, section 9.
 use Rattle.std.specs.Prelude.{◌≡◌, ◌+◌, ◌<◌, ◌≤◌, ℕ, List, Some, option_to_list}
 use Rattle.std.specs.List.{flat_map}
 use Rattle.std.specs.Option.{option_map}
 use Rattle.hep_machine.specs.Words.{DataGroup, DataValue, Target, Name, Statement, Value, constant_value, Repeated, Stretch, elements_named, groups_in, item_at, values_given, type_of}
 use Rattle.hep_conditions.specs.Words.{name_repeated, count_of_items, type_of_value}
 
--- the elements that names stand for, as stretches in their order
+-- the elements of names, as stretches in their order
 abbrev pub stretches_of : List Statement → List Target → List Stretch
 stretches_of unit ts = flat_map (λ (t : Target). option_to_list (elements_named unit (constant_value unit) t)) ts
 

@@ -1,4 +1,4 @@
--- What instructions name: docs/MACHINE.md, "Steps".
+-- The variables and units that instructions name: docs/MACHINE.md, "Steps".
 use Rattle.std.specs.Prelude.{List, [], ◌∷◌}
 use Rattle.hep_code.specs.declared.instruction.Argument.{Argument}
 use Rattle.hep_code.specs.declared.instruction.Argument.TheVariants.{Evaluated, Referred}

@@ -4,7 +4,7 @@ pub mod Meanings
 pub mod Typing
 pub mod Initial
 pub mod Instructions
-pub mod Placed
-pub mod Filled
-pub mod Works
+pub mod PlacedCode
+pub mod PartlyEvaluated
+pub mod WorkOrigins
 pub mod Actuals

@@ -1,4 +1,4 @@
--- What a name stands for: X3.9-1978, 18.1 and 18.2.
+-- The meaning of a name: X3.9-1978, 18.1 and 18.2.
 use Rattle.std.specs.Prelude.{◌≡◌, ℕ, suc, Bool, if◌then◌else◌, List, [], ◌∷◌, Option, Some, None}
 use Rattle.hep_machine.specs.Words.{Name, Form, Statement, is_common, is_constant_name, is_dummy, is_local}
 use Rattle.hep_source.specs.declared.statement.Form.TheVariants as form

@@ -1,4 +1,5 @@
--- What types the expressions and statements of an accepted program have: X3.9-1978, 4.1, sections 6, 10 and 11, and 15.10.
+-- The types of the expressions and statements of an accepted program: X3.9-1978, 4.1, sections 6, 10 and 11, and
+-- 15.10.
 use Rattle.std.specs.Prelude.{◌≡◌, ◌⊎◌, ℕ, true, false, List, [], length, Some}
 use Rattle.hep_machine.specs.Words.{Tree, Trees, with_list, signed, negated, binary, no_trees, trees, trees_of, NamedConstant, Target, ValueType, Integer, Logical, Name, Form, Statement, Value, constant_shape, constant_value, value_of, dimensions_of, is_array, type_of, Meaning, element, pure, state, external, listed_meaning, Bounds, elements, is_shape}
 use Rattle.hep_source.specs.declared.statement.Form.TheVariants as form
@@ -21,15 +22,15 @@ AreAllOf functions unit t (trees e es) = IsOf functions unit t e × AreAllOf fun
 abbrev pub AreSubscripts : FunctionTypes → List Statement → Name → Trees → Type 0
 AreSubscripts functions unit x ts = (count_of ts ≡ length (dimensions_of unit x)) × AreAllOf functions unit Integer ts
 
--- the list of a name: subscripts, integers for a function of integers, or what is tested; a function of the program is an integer or
--- logical (5.4.1, 15.5, 15.10, and docs/LANGUAGE.md, 8)
+-- the list of a name: subscripts, integers for a function of integers, or the argument of FULL and the others; a
+-- function of the program is an integer or logical (5.4.1, 15.5, 15.10, and docs/LANGUAGE.md, 8)
 abbrev pub IsListOf : FunctionTypes → List Statement → Meaning → Name → Trees → Type 0
 IsListOf functions unit element x ts = AreSubscripts functions unit x ts
 IsListOf functions unit (pure f) x ts = AreAllOf functions unit Integer ts
 IsListOf functions unit (state f) x ts = IsOneAsynchronousScalar functions unit ts
 IsListOf functions unit external x ts = (t : ValueType) × (functions x ≡ Some (Some t))
 
--- what an expression is made of has the types that it wants: 6.1.4, 6.3.3 and 6.4.2
+-- the parts of an expression have the required types: 6.1.4, 6.3.3 and 6.4.2
 abbrev pub HasOperands : FunctionTypes → List Statement → Tree → Type 0
 HasOperands functions unit (with_list p ts) = IsListOf functions unit (listed_meaning unit p.name) p.name ts
 HasOperands functions unit (signed s t) = IsOf functions unit Integer t
@@ -43,7 +44,7 @@ IsPlace functions unit x =
     ((x.subscripts ≡ []) × (is_array unit x.occurrence.name ≡ false))
     ⊎ ((is_array unit x.occurrence.name ≡ true) × AreSubscripts functions unit x.occurrence.name (trees_of x.subscripts))
 
--- the types that statements want: 10.1, 10.2, 11.2, 11.4, 11.6, 11.7 and 11.10
+-- the types that statements require: 10.1, 10.2, 11.2, 11.4, 11.6, 11.7 and 11.10
 abbrev pub HasTypes : FunctionTypes → List Statement → Form → Type 0
 HasTypes functions unit (form.Assign x t) = (v : ValueType) × (type_of unit x.occurrence.name ≡ Some v) × IsOf functions unit v t × IsPlace functions unit x
 HasTypes functions unit (form.ComputedGoTo labels t) = IsOf functions unit Integer t
@@ -67,6 +68,6 @@ HasValue unit c =
     × (type_of unit c.occurrence.name ≡ Some (type_of_value v))
     × IsOf no_functions unit (type_of_value v) c.value
 
--- an array has constant bounds, which are a shape of so many elements: 5.1.1 and 5.2.3
+-- an array has constant bounds, which are a shape with a number of elements: 5.1.1 and 5.2.3
 abbrev pub HasShape : List Statement → Name → Type 0
 HasShape unit x = (bs : Bounds) × (constant_shape unit x ≡ Some bs) × (is_shape bs ≡ true) × (n : ℕ) × (elements bs ≡ Some n)

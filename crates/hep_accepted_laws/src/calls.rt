@@ -1,4 +1,4 @@
-//! Calls, references of functions and what is purged (X3.9-1978, 15.6 to 15.10, and `docs/LANGUAGE.md`, 8 and 9).
+//! Calls, references of functions and targets of PURGE (X3.9-1978, 15.6 to 15.10, and `docs/LANGUAGE.md`, 8 and 9).
 ghost use Rattle.std.specs.Prelude.{◌≡◌, ◌⊎◌, ℕ, true, false, List, [], Some, slice_get};
 ghost use Rattle.hep_machine.specs.Words.{Target, PureFunction, StateFunction, Statement, Units, is_array, is_constant_name, external, pure, state};
 ghost use Rattle.hep_machine.specs.Words.{listed_meaning};
@@ -6,17 +6,17 @@ ghost use Rattle.hep_conditions.specs.Words.{IsAccepted, function_types, count_o
 ghost use Rattle.hep_conditions.specs.Words.{targets_purged};
 ghost use Rattle.hep_accepted_laws.specs.Agreement.{CallsSubroutine, IsOneAsynchronousScalar, RefersToFunction};
 
-/// What a CALL or CREATE calls is a subroutine of the program, which has as many dummy arguments as it
-/// is given actual arguments, and each of these fits its dummy argument in kind, asynchrony and type.
+/// A CALL or CREATE names a subroutine of the program, which has as many dummy arguments as there are actual
+/// arguments, and each of these fits its dummy argument in kind, asynchrony and type.
 pub fn calls_agree()
     ensures { (program : Units) (u k i : ℕ) (unit : List Statement) (s : Statement) (c : Calling) → IsAccepted program
         → slice_get program u ≡ Some unit → slice_get unit k ≡ Some s → slice_get (calls_in s.form) i ≡ Some c
         → CallsSubroutine program unit c }
 {}
 
-/// What a name with a list refers to that is no array and no function of the language, is a function of the
-/// program, which has as many dummy arguments as it is given actual arguments, and each of these fits its
-/// dummy argument in kind, asynchrony and type.
+/// A name with a list that is no array and no function of the language is a function of the program, which has as
+/// many dummy arguments as there are actual arguments, and each of these fits its dummy argument in kind, asynchrony
+/// and type.
 pub fn references_agree()
     ensures { (program : Units) (u k i : ℕ) (unit : List Statement) (s : Statement) (r : NameWithList) → IsAccepted program
         → slice_get program u ≡ Some unit → slice_get unit k ≡ Some s → slice_get (names_with_lists s) i ≡ Some r
@@ -37,7 +37,8 @@ pub fn functions_take_their_arguments()
         → listed_meaning unit r.occurrence.name ≡ pure f → takes f (count_of r.arguments) ≡ true }
 {}
 
-/// What is purged is asynchronous and no named constant: a scalar or an array by itself, or an element of an array.
+/// A target of PURGE is asynchronous and no named constant: a scalar or an array by itself, or an element of an
+/// array.
 pub fn purged_are_asynchronous()
     ensures asynchronous { (program : Units) (u k i : ℕ) (unit : List Statement) (s : Statement) (t : Target) → IsAccepted program
         → slice_get program u ≡ Some unit → slice_get unit k ≡ Some s → slice_get (targets_purged s.form) i ≡ Some t

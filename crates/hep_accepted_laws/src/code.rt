@@ -1,4 +1,4 @@
-//! Laws of the code of accepted programs: where the variables in it are, and what it calls.
+//! Laws of the code of accepted programs: the places of its variables, and the units that it calls.
 ghost use Rattle.std.specs.Prelude.{◌≡◌, ◌<◌, ℕ, Bool, true, List, Some, slice_get, length};
 ghost use Rattle.hep_machine.specs.Words.{StateFunction, Name, Statement, Units, unit_at, adjustable_dimensions, constant_shape, is_array};
 ghost use Rattle.hep_machine.specs.Words.{Bounds, is_shape};
@@ -14,12 +14,11 @@ ghost use Rattle.hep_code.specs.Words.{is_asynchronous};
 ghost use Rattle.hep_image.specs.declared.array.Start.{Start};
 ghost use Rattle.hep_image.specs.Places.{arrays_of, start_of, variable_of};
 ghost use Rattle.hep_accepted_laws.specs.Instructions.{variables_in, variables_in_operation};
-ghost use Rattle.hep_accepted_laws.specs.Placed.{ArePlaced, IsArrayAt, IsCalledWith, IsPlaced, IsReferredWith, code_in};
+ghost use Rattle.hep_accepted_laws.specs.PlacedCode.{ArePlaced, IsArrayAt, IsCalledWith, IsPlaced, IsReferredWith, code_in};
 
 use hep_conditions::laws;
 
-/// Each variable in the code, passed and purged ones too, has storage units, and so the name that it stands for begins
-/// somewhere.
+/// Each variable in the code, passed and purged ones too, has storage units, and so its name has a first one.
 pub fn variables_of_the_code_are_placed()
     ensures operations { (program : Units) (u i line : ℕ) (o : Operation) → IsAccepted program → u < length program
         → slice_get (code_in program u) i ≡ Some (Step line o) → ArePlaced (variables_in_operation o) }
@@ -31,7 +30,7 @@ pub fn variables_of_the_code_are_placed()
     laws::constants_agree();
 }
 
-/// What FULL, EMPTY, VALUE, SETE or WAITF is asked of in the code is asynchronous.
+/// The argument of FULL, EMPTY, VALUE, SETE or WAITF in the code is asynchronous.
 pub fn tested_variables_are_asynchronous()
     ensures { (program : Units) (u i line n : ℕ) (f : StateFunction) (x : Variable) → IsAccepted program → u < length program
         → slice_get (code_in program u) i ≡ Some (Step line (Evaluate (Test f x n))) → is_asynchronous x ≡ true }
@@ -39,8 +38,7 @@ pub fn tested_variables_are_asynchronous()
     laws::constants_agree();
 }
 
-/// Each array whose bounds are fixed by constants has a constant shape, dummy arguments too, where the last
-/// bound may be open.
+/// Each array with constant bounds alone has a constant shape; so has a dummy argument, whose last bound may be open.
 pub fn constant_shapes()
     ensures { (program : Units) (u : ℕ) (x : Name) → IsAccepted program → u < length program → is_array (unit_at program u) x ≡ true
         → adjustable_dimensions (unit_at program u) x ≡ 0 → (bounds : Bounds) × (constant_shape (unit_at program u) x ≡ Some bounds)
@@ -49,7 +47,7 @@ pub fn constant_shapes()
     laws::constants_agree();
 }
 
-/// Each array of a unit begins somewhere, and each array in the code is the one of its index among those of
+/// Each array of a unit has a first storage unit, and each array in the code is the one of its index among those of
 /// the unit.
 pub fn arrays_are_there()
     ensures unit { (program : Units) (u i : ℕ) (x : Name) → IsAccepted program → u < length program
@@ -62,8 +60,8 @@ pub fn arrays_are_there()
     laws::constants_agree();
 }
 
-/// A CALL or CREATE in the code is of a subroutine, and a reference of a function; each passes as many actual arguments as there
-/// are dummy arguments.
+/// A CALL or CREATE in the code names a subroutine, and a reference a function; each passes as many actual arguments
+/// as there are dummy arguments.
 pub fn calls_agree()
     ensures call { (program : Units) (u i line v n next : ℕ) → IsAccepted program → u < length program
         → slice_get (code_in program u) i ≡ Some (Step line (Call v n next)) → IsCalledWith program v n }

@@ -6,22 +6,22 @@ ghost use Rattle.hep_conditions.specs.Words.{IsAccepted, BlockIf, DoRange, block
 ghost use Rattle.hep_conditions.specs.Words.{is_plain_integer_scalar};
 ghost use Rattle.hep_accepted_laws.specs.Flow.{AreNested, EndsWithin, HasTerminal, HoldsWhole, Leads};
 
-/// Each label that a statement jumps to is on an executable statement of the unit, which is no ELSE IF
-/// or ELSE, and outside of the DO ranges and blocks of block IFs that don't hold the jump.
+/// Each label that a statement jumps to is on an executable statement of the unit, which is no ELSE IF or ELSE, and
+/// not in a DO range or a block of a block IF that doesn't also contain the jump.
 pub fn jumps_lead()
     ensures { (program : Units) (u k i l : ℕ) (unit : List Statement) (s : Statement) → IsAccepted program → slice_get program u ≡ Some unit
         → slice_get unit k ≡ Some s → slice_get (targets_of_jump s.form) i ≡ Some l → Leads unit k l }
 {}
 
-/// No two statements of a unit have one label.
+/// Different statements of a unit have different labels.
 pub fn labels_are_unique()
     ensures { (program : Units) (u j k l : ℕ) (unit : List Statement) (s t : Statement) → IsAccepted program
         → slice_get program u ≡ Some unit → slice_get unit j ≡ Some s → slice_get unit k ≡ Some t → s.label ≡ Some l → t.label ≡ Some l
         → j ≡ k }
 {}
 
-/// A DO that no logical IF holds has its terminal statement after it, of a kind that may end a range,
-/// and its variable is a plain integer scalar.
+/// A DO that isn't in a logical IF has its terminal statement after it, of a kind that may end a range, and its
+/// variable is a plain integer scalar.
 pub fn loops_have_ends()
     ensures terminal { (program : Units) (u k : ℕ) (unit : List Statement) (s : Statement) (c : DoControl) → IsAccepted program
         → slice_get program u ≡ Some unit → slice_get unit k ≡ Some s → s.conditions ≡ [] → s.form ≡ form.Do c → HasTerminal unit k c }
@@ -30,8 +30,7 @@ pub fn loops_have_ends()
         → is_plain_integer_scalar unit c.variable.name ≡ true }
 {}
 
-/// A logical IF has one condition, and the statement that it holds is no DO, block IF, ELSE IF, ELSE,
-/// END IF or END.
+/// A logical IF has one condition, and its statement is no DO, block IF, ELSE IF, ELSE, END IF or END.
 pub fn logical_ifs_hold_one()
     ensures condition { (program : Units) (u k : ℕ) (unit : List Statement) (s : Statement) (t : Tree) (ts : List Tree) → IsAccepted program
         → slice_get program u ≡ Some unit → slice_get unit k ≡ Some s → s.conditions ≡ t ∷ ts → ts ≡ [] }
@@ -47,7 +46,7 @@ pub fn blocks_are_matched()
         → (block_ifs_of unit).unclosed ≡ [] }
 {}
 
-/// Of two DO ranges neither crosses the other, nor has the variable of one around it.
+/// DO ranges don't cross, and a DO in the range of another one has another variable.
 pub fn ranges_are_nested()
     ensures { (program : Units) (u i j : ℕ) (unit : List Statement) (a b : DoRange) → IsAccepted program → slice_get program u ≡ Some unit
         → slice_get (ranges_of unit) i ≡ Some a → slice_get (ranges_of unit) j ≡ Some b → AreNested a b }

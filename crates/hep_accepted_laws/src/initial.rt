@@ -1,4 +1,4 @@
-//! What DATA gives values (X3.9-1978, section 9).
+//! The variables that DATA gives values (X3.9-1978, section 9).
 ghost use Rattle.std.specs.Prelude.{◌≡◌, ℕ, true, List, Some, slice_get};
 ghost use Rattle.hep_machine.specs.Words.{DataGroup, DataValue, Target, Name, Statement, Value, Units, is_main, procedure_name};
 ghost use Rattle.hep_machine.specs.Words.{constant_value, Repeated, Stretch, elements_named, groups_in, values_given, is_nonempty};
@@ -8,13 +8,13 @@ ghost use Rattle.hep_accepted_laws.specs.Initial.{FitsValues, IsWithin, all_stre
 
 use hep_conditions::laws;
 
-/// DATA stands in the main program alone.
+/// DATA statements are in the main program alone.
 pub fn main_program_has_data()
     ensures { (program : Units) (u k : ℕ) (unit : List Statement) (s : Statement) → IsAccepted program → slice_get program u ≡ Some unit
         → slice_get unit k ≡ Some s → is_nonempty (groups_in s.form) ≡ true → is_main (procedure_name unit) ≡ true }
 {}
 
-/// What DATA gives a value is a local variable, or an element of one, which is there.
+/// DATA gives values only to local variables, or to elements of them that exist.
 pub fn places_are_local()
     ensures local { (program : Units) (u k i j : ℕ) (unit : List Statement) (s : Statement) (g : DataGroup) (t : Target)
         → IsAccepted program → slice_get program u ≡ Some unit → slice_get unit k ≡ Some s → slice_get (groups_in s.form) i ≡ Some g
@@ -44,7 +44,7 @@ pub fn elements_are_given_once()
     laws::constants_agree();
 }
 
-/// Each value of DATA, with its repeat count, is a value.
+/// Each value of DATA, with its repeat count, is defined.
 pub fn values_are_given()
     ensures { (program : Units) (u k i j : ℕ) (unit : List Statement) (s : Statement) (g : DataGroup) (v : DataValue) → IsAccepted program
         → slice_get program u ≡ Some unit → slice_get unit k ≡ Some s → slice_get (groups_in s.form) i ≡ Some g

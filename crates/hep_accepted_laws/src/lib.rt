@@ -1,8 +1,8 @@
-//! What holds of every accepted program, of its code and of its runs, in the subject's words.
+//! Laws of every accepted program, of its code and of its runs, in the terms of the language. A program is accepted
+//! if it violates none of the conditions 301 to 312.
 //!
-//! A program is accepted where it violates none of the conditions 301 to 312. Each function is a law of all such programs and has no
-//! work to do: what is proved is its contract. [`code`] has what the instructions name, [`runs`] where what is left of a statement comes
-//! from in every run, and the other modules what holds of the program's text.
+//! The functions do nothing: each contract is a law. [`code`] is about what the instructions name, [`runs`] about
+//! what comes next of a statement in every run, and the other modules about the program's text.
 #![tactic(auto)]
 
 pub mod calls;

@@ -1,4 +1,4 @@
-//! What names stand for (X3.9-1978, 18.1 and 18.2).
+//! The meanings of names (X3.9-1978, 18.1 and 18.2).
 ghost use Rattle.std.specs.Prelude.{◌≡◌, ℕ, true, false, List, Some, slice_get};
 ghost use Rattle.std.specs.List.{flat_map};
 ghost use Rattle.hep_machine.specs.Words.{CommonBlock, NamedConstant, Target, Name, Occurrence, Statement, Units, dummies_of};
@@ -33,8 +33,8 @@ pub fn constants_stay()
         → function_name unit ≡ Some x → is_constant_name unit x ≡ false }
 {}
 
-/// No two dummy arguments of a unit have one name, and no two of its named constants; no name is given
-/// its type, its bounds or its position in COMMON twice.
+/// The dummy arguments of a unit have different names, and so have its named constants. No name is given its type,
+/// its bounds or its position in COMMON twice.
 pub fn names_are_given_once()
     ensures dummies { (program : Units) (u i j : ℕ) (unit : List Statement) (x : Name) → IsAccepted program
         → slice_get program u ≡ Some unit → slice_get (dummies_of unit) i ≡ Some x → slice_get (dummies_of unit) j ≡ Some x → i ≡ j }
@@ -50,8 +50,8 @@ pub fn names_are_given_once()
         → slice_get (flat_map common_names unit) j ≡ Some x → i ≡ j }
 {}
 
-/// A name with a list in an expression is an element of an array of the unit or a reference of a
-/// function; what is assigned, given a value by DATA or purged with a list is an element of an array.
+/// A name with a list in an expression is an element of an array of the unit or a reference of a function. A name
+/// with a list that is assigned, purged or given a value by DATA is an element of an array.
 pub fn lists_have_meanings()
     ensures expressions { (program : Units) (u k i : ℕ) (unit : List Statement) (s : Statement) (r : NameWithList) → IsAccepted program
         → slice_get program u ≡ Some unit → slice_get unit k ≡ Some s → slice_get (names_with_lists s) i ≡ Some r
@@ -67,22 +67,22 @@ pub fn lists_have_meanings()
         → is_nonempty t.subscripts ≡ true → is_array unit t.occurrence.name ≡ true }
 {}
 
-/// What a unit calls is no variable of it.
+/// A name that a unit calls is no variable of it.
 pub fn called_are_no_variables()
     ensures { (program : Units) (u j k i n : ℕ) (unit : List Statement) (s t : Statement) (c : Calling) (x : Name) → IsAccepted program
         → slice_get program u ≡ Some unit → slice_get unit j ≡ Some s → slice_get unit k ≡ Some t → slice_get (calls_in s.form) i ≡ Some c
         → slice_get (variable_names (function_types program) unit t) n ≡ Some x → c.occurrence.name ≡ x → ⊥ }
 {}
 
-/// Where a name of a variable or constant stands, it is no function that the unit refers to.
+/// A name of a variable or constant is no function that the unit refers to.
 pub fn no_function_alone()
     ensures { (program : Units) (u k i : ℕ) (unit : List Statement) (s : Statement) (p : Occurrence) → IsAccepted program
         → slice_get program u ≡ Some unit → slice_get unit k ≡ Some s → slice_get (occurrences_in_statement unit s) i ≡ Some p
         → is_function_in (function_types program) unit p.name ≡ false }
 {}
 
-/// No two units have one name, and none that of a common block; so a subroutine is called by its name, and a
-/// function referred to.
+/// Different units have different names, and no unit has the name of a common block. So a name determines the
+/// subroutine that is called, or the function that is referred to.
 pub fn units_have_names_of_their_own()
     ensures apart { (program : Units) (i j : ℕ) (a b : List Statement) (x : Name) → IsAccepted program → slice_get program i ≡ Some a
         → slice_get program j ≡ Some b → name_of_unit a ≡ Some x → name_of_unit b ≡ Some x → i ≡ j }

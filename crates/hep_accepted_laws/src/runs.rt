@@ -1,5 +1,5 @@
-//! Laws of runs: what is left of a statement is of that statement, and so the static conditions of a program hold of
-//! what its processes do.
+//! Laws of runs: the rest of a statement is a rest of that statement, and so the static conditions of a program hold
+//! of what its processes do.
 ghost use Rattle.std.specs.Prelude.{◌≡◌, ◌<◌, ◌≤◌, ℕ, true, false, List, [], None, Some, is_some, length, slice_get};
 ghost use Rattle.hep_machine.specs.Words.{Name, Statement, Units, dummies_of, is_main, main_among, main_unit, subroutine_name, unit_at};
 ghost use Rattle.hep_machine.specs.Words.{Actual, calling, creating, does, next_of, living, numbered, unit_of, run, Level, Process, Work};
@@ -7,16 +7,17 @@ ghost use Rattle.hep_machine.specs.Words.{function_name, function_unit, referrin
 ghost use Rattle.hep_machine.specs.Words.{unit_called};
 ghost use Rattle.hep_conditions.specs.Words.{IsAccepted};
 ghost use Rattle.hep_image.specs.Places.{variable_of};
-ghost use Rattle.hep_accepted_laws.specs.Placed.{IsPlaced};
-ghost use Rattle.hep_image.specs.Bound.{AreClosed, CallsAgree, IsBound};
+ghost use Rattle.hep_accepted_laws.specs.PlacedCode.{IsPlaced};
+ghost use Rattle.hep_image.specs.BoundActivations.{AreClosed, CallsAgree, IsBound};
 ghost use Rattle.hep_accepted_laws.specs.Actuals.{FitsDummy, IsVariableOf};
-ghost use Rattle.hep_accepted_laws.specs.Works.{ComesFrom, IsCalledBy, IsReferredBy};
+ghost use Rattle.hep_accepted_laws.specs.WorkOrigins.{ComesFrom, IsCalledBy, IsReferredBy};
 
 use crate::values::arrays_have_shapes;
 use hep_conditions::laws::constants_agree;
 use hep_image::frame_laws::activations_are_bound;
 
-/// In a run what is left of the statement that an activation is at is of that statement, on each level of each process.
+/// In a run the rest of the statement that an activation is at is a rest of that statement, on each level of each
+/// process.
 pub fn works_come_from_statements()
     ensures level { (program : Units) (processes : List ℕ) (p i : ℕ) (q : Process) (level : Level)
         → numbered (run program processes).processes p ≡ Some q → slice_get q i ≡ Some level
@@ -25,7 +26,7 @@ pub fn works_come_from_statements()
         → ComesFrom (unit_at program (unit_of (run program processes) top.0.activation)) top.0.statement top.0.work }
 {}
 
-/// What is called or created next is called by the statement, with its actual arguments.
+/// A unit that is called or created next is called by the statement, with its actual arguments.
 pub fn calls_come_from_statements()
     ensures called { (unit : List Statement) (k : ℕ) (work : Work) (x : Name) (actuals : List Actual) → ComesFrom unit k work
         → next_of unit work ≡ does (calling x actuals) → IsCalledBy unit k x actuals }
@@ -45,14 +46,15 @@ pub fn calls_agree_in_runs()
     ensures { (program : Units) → IsAccepted program → CallsAgree program }
 {}
 
-/// In a run of an accepted program with a main program the unit of each activation is one of the program's.
+/// In a run of an accepted program with a main program each activation runs a unit of the program.
 pub fn units_are_there()
     ensures { (program : Units) (processes : List ℕ) (a : ℕ) → IsAccepted program → is_some (main_among program) ≡ true → 1 ≤ a
         → a ≤ length (run program processes).activations
         → slice_get program (unit_of (run program processes) a) ≡ Some (unit_at program (unit_of (run program processes) a)) }
 {}
 
-/// Each array of an accepted program that is no dummy argument has so many elements, and its main program has no dummy arguments.
+/// Each array of an accepted program that is no dummy argument has a number of elements, and its main program has no
+/// dummy arguments.
 pub fn programs_are_closed()
     ensures closed { (program : Units) → IsAccepted program → AreClosed program }
     ensures main { (program : Units) → is_some (main_among program) ≡ true → dummies_of (unit_at program (main_unit program)) ≡ [] }
@@ -70,7 +72,7 @@ pub fn activations_are_bound_in_runs()
     activations_are_bound();
 }
 
-/// What a statement of an accepted program calls is a subroutine of the program, with as many dummy arguments as it is given
+/// A statement of an accepted program calls a subroutine of the program, with as many dummy arguments as there are
 /// actual arguments.
 pub fn subroutines_are_called()
     ensures there { (program : Units) (u k : ℕ) (x : Name) (actuals : List Actual) → IsAccepted program
@@ -83,7 +85,7 @@ pub fn subroutines_are_called()
         → IsCalledBy (unit_at program u) k x actuals → length actuals ≡ length (dummies_of (unit_at program (unit_called program x))) }
 {}
 
-/// What a statement of an accepted program refers to is a function of the program, with as many dummy arguments as it is given
+/// A statement of an accepted program refers to a function of the program, with as many dummy arguments as there are
 /// actual arguments.
 pub fn functions_are_referred_to()
     ensures there { (program : Units) (u k : ℕ) (x : Name) (actuals : List Actual) → IsAccepted program

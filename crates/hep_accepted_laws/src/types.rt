@@ -11,8 +11,8 @@ pub fn names_have_types()
         → (t : ValueType) × (type_of unit p.name ≡ Some t) }
 {}
 
-/// Each expression in a statement, and each one that it is made of, is an integer or logical, and has
-/// operands, subscripts and arguments of the types that it wants.
+/// Each expression in a statement, and each of its parts, is an integer or logical, and has operands, subscripts and
+/// arguments of the required types.
 pub fn expressions_have_types()
     ensures value { (program : Units) (u k i j : ℕ) (unit : List Statement) (s : Statement) (e t : Tree) → IsAccepted program
         → slice_get program u ≡ Some unit → slice_get unit k ≡ Some s → slice_get (trees_in_statement s) i ≡ Some e

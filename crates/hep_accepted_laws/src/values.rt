@@ -16,8 +16,7 @@ pub fn constants_have_values()
     laws::constants_agree();
 }
 
-/// Each array that is no dummy argument has a constant shape; and of each array what is a constant shape is
-/// a shape.
+/// Each array that is no dummy argument has a constant shape; and the constant shape of any array is a shape.
 pub fn arrays_have_shapes()
     ensures constant { (program : Units) (u : ℕ) (unit : List Statement) (x : Name) → IsAccepted program → slice_get program u ≡ Some unit
         → is_array unit x ≡ true → is_dummy unit x ≡ false → HasShape unit x }

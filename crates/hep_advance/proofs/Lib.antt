@@ -1,4 +1,4 @@
-pub use Rattle.hep_fast.proofs.Onward as Pushed
-pub mod Turns
-pub mod Onward
-pub mod Passed
+pub use Rattle.hep_fast.proofs.StepRows as Pushed
+pub mod KeptTurns
+pub mod SilentTurns
+pub mod RunsToBreakpoint

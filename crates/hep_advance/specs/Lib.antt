@@ -1,4 +1,4 @@
-pub use Rattle.hep_fast.specs.UnitTables
-pub mod Gone
-pub mod Passes
-pub mod Watches
+pub use Rattle.hep_fast.specs.DecodedImages
+pub mod SilentRuns
+pub mod RunsToBreakpoints
+pub mod BreakpointRows

@@ -1,14 +1,14 @@
-//! Which indexes of the code are watched.
+//! Breakpoints: the indexes of the code that are watched.
 ghost use Rattle.std.specs.Prelude.{◌≡◌};
-ghost use Rattle.hep_advance.specs.Watches as words;
+ghost use Rattle.hep_advance.specs.BreakpointRows as words;
 
-/// For each index of a unit's code whether it is watched.
+/// For each index of a unit's code, whether it is watched.
 #[derive(Drop)]
 pub struct Breakpoints {
     pub watched: Vec<bool>,
 }
 
-/// The watch over the code of a unit, by the unit's index in the source, counted from 0; an empty one where there is none.
+/// The breakpoints of a unit, by the unit's index in the source, counted from 0; an empty row where there are none.
 #[inline(always)]
 pub(crate) fn row_of(watches: &[Breakpoints], unit: usize) -> &[bool]
     ensures { result.now ≡ words.row_of watches.now unit }
@@ -19,7 +19,7 @@ pub(crate) fn row_of(watches: &[Breakpoints], unit: usize) -> &[bool]
     }
 }
 
-/// An index is watched by such a row, and so is each one past its end.
+/// Whether an index is watched by a row. Each index past its end is.
 #[inline(always)]
 pub(crate) fn watched_at(row: &[bool], index: usize) -> bool
     ensures { result ≡ words.watched_at row.now index }

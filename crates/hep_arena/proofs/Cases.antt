@@ -1,12 +1,8 @@
 -- What taking and giving make of the first hole, by cases.
-use Rattle.std.proofs.Common.{◌≡◌, ◌⊎◌, inl, inr, ℕ, ◌+◌, ◌-◌, ◌<◌, ◌≤◌, Bool, true, false, List, ◌∷◌, Option, Some, refl, if◌then◌else◌, nat_eq, nat_le, nat_lt}
+use Rattle.std.proofs.Common.{◌≡◌, ◌⊎◌, inl, inr, ℕ, ◌+◌, ◌-◌, ◌<◌, ◌≤◌, List, ◌∷◌, Some, if◌then◌else◌, nat_eq, nat_le, nat_lt}
 use Rattle.std.proofs.lemmas.Bool.{cond_both, eqb-false, eqb-true, leb-false, leb-true, ltb-false, ltb-true}
-use Rattle.std.proofs.lemmas.Option.{same_Some}
 use Rattle.hep_arena.specs.Holes.{Hole, first_fit, given, joined, shortened, taken}
-
-pub chosen : {A : Type 0} (b : Bool) (x : A) (o : Option A) (y : A) → (if b then Some x else o) ≡ Some y → ((b ≡ true) × (x ≡ y)) ⊎ ((b ≡ false) × (o ≡ Some y))
-chosen true x o y e = inl (refl, same_Some x y e)
-chosen false x o y e = inr (refl, e)
+use Rattle.hep_machine.proofs.Frames.{chosen}
 
 -- the first hole is long enough, or another one is the first that is
 pub fit-cases : (n at : ℕ) (h : Hole) (hs : List Hole) → first_fit n (h ∷ hs) ≡ Some at → ((n ≤ h.1) × (h.0 ≡ at)) ⊎ ((h.1 < n) × (first_fit n hs ≡ Some at))

@@ -1,6 +1,5 @@
 -- The holes are the gaps of the layout, whatever is taken and given.
 use Rattle.hep_arena.proofs.Taking.{holes_from_lower}
-use Rattle.hep_arena.proofs.Cases.{chosen}
 use Rattle.hep_arena.proofs.RowLengths.{BeginFrom}
 use Rattle.std.proofs.lemmas.Bool.{cases_Bool, cond_both}
 use Rattle.std.proofs.Common.{◌≡◌, inl, inr, ℕ, suc, ◌+◌, ◌-◌, ◌<◌, ◌≤◌, Bool, true, false, List, [], ◌∷◌, ◌++◌, Option, Some, None, refl, sym, ap, ◌∙◌, subst, arith, append_assoc, if◌then◌else◌, nat_eq, nat_le, nat_lt}
@@ -10,7 +9,7 @@ use Rattle.std.proofs.lemmas.Option.{none-some}
 use Rattle.hep_machine.specs.Words.{StandApart, Frame, Layout, lowest_gap, with_frame}
 use Rattle.hep_arena.specs.Gaps.{frame_among, framed_cells, gap_before, gaps, given_back, without}
 use Rattle.hep_arena.specs.Holes.{Hole, AreHoles, IsOut, first_fit, free_cells, given, joined, taken}
-use Rattle.hep_machine.proofs.Frames.{apart_further, gap_after}
+use Rattle.hep_machine.proofs.Frames.{apart_further, gap_after, chosen}
 
 -- ---- the lowest gap is the first fit
 

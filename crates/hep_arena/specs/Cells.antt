@@ -1,4 +1,4 @@
--- What the fields of a cell stand for.
+-- The meaning of the fields of a cell.
 use Rattle.std.specs.Prelude.{◌≡◌, ℤ, pos, true, false, Option, Some, None, refl}
 use Rattle.std.proofs.Common.{sym}
 use Rattle.hep_machine.specs.Words.{Value, Int, Truth}
@@ -7,7 +7,7 @@ use Rattle.hep_arena.specs.declared.cell.Holding.{Holding}
 use Rattle.hep_arena.specs.declared.cell.Holding.TheVariants.{Nothing, Integer, False, True}
 use Rattle.hep_arena.specs.declared.cell.Cell.TheInside.{Inside}
 
--- the value that is held, if there is one
+-- the value in a cell, if there is one
 abbrev pub value_held : Holding → ℤ → Option Value
 value_held Nothing z = None
 value_held Integer z = Some (Int z)
@@ -17,7 +17,7 @@ value_held True z = Some (Truth true)
 abbrev pub slot_of : Inside → Slot
 slot_of a = record { value = value_held a.holding a.number; full = a.full }
 
--- the number is 0 where no integer is held
+-- The number is 0 where the cell holds no integer.
 abbrev pub IsHeld : Holding → ℤ → Type 0
 IsHeld Integer z = Unit {0}
 IsHeld _ z = z ≡ pos 0
@@ -25,7 +25,7 @@ IsHeld _ z = z ≡ pos 0
 abbrev pub IsCell : Inside → Type 0
 IsCell a = IsHeld a.holding a.number
 
--- ---- the fields again
+-- ---- the fields by the value
 
 abbrev pub holding_of : Option Value → Holding
 holding_of None = Nothing

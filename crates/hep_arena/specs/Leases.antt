@@ -1,4 +1,4 @@
--- What is left of a vector while a region has its items.
+-- Leases: the rest of a vector while a region has its items.
 use Rattle.std.specs.Prelude.{◌*◌, ◌-◌, ◌^◌, List, [], ◌∷◌}
 use Rattle.std.specs.Global.{Vec}
 use Rattle.std.specs.Mem.{type_size}
@@ -22,7 +22,7 @@ SlotVec = Vec Slot
 abbrev pub vec_type : Owning
 vec_type = vector.the_type cell_row heap.the_row ghosts
 
--- the vector's fields, the room after its items, and the right to free its memory
+-- A lease owns the vector's fields, the unused memory after its items, and the right to free its memory.
 abbrev pub lease_owns : SlotVec → List Val → Fml
 lease_owns v vs =
     fex (List Val) (λ us. fsep (feq (List Val) vs (vstruct (of_list us) ∷ [])) (fsep ((Struct (shape vec_type)).own_val (v.ptr, (v.len, (v.cap, (v.alloc, tt)))) us)

@@ -14,9 +14,9 @@ use hep_machine::Slot;
 use std::alloc::{AllocError, Global};
 use std::marker::Model;
 
-/// Cells, of which blocks are taken and given back. Contracts see the slots of the cells, and the
-/// holes: the runs of cells that are free, in rising order. A block is out while it lies in the arena
-/// and no hole has a cell of it.
+/// An arena of cells, from which blocks are allocated and freed. Contracts see the slots of the cells, and the
+/// holes: the maximal runs of free cells, in rising order. A cell is allocated while it is in no hole, and a block is
+/// allocated while all its cells are.
 pub struct Arena {
     region: Region,
     lease: Lease,
@@ -57,7 +57,7 @@ const UNSET: Slot = Slot {
     full: false,
 };
 
-// Makes n cells empty, without values.
+// Empties n cells from an index on and removes their values.
 #[inline(always)]
 fn clear(slots: &mut [Cell], at: u32, n: u32)
     requires { at + n ≤ length slots.old }
@@ -69,7 +69,7 @@ fn clear(slots: &mut [Cell], at: u32, n: u32)
     }
 }
 
-// A value that may go to another thread, as it is.
+// The same value. The bound says that it may go to another thread.
 fn sendable<T: Send>(value: T) -> T
     ensures { result ≡ value }
 {
@@ -79,10 +79,14 @@ fn sendable<T: Send>(value: T) -> T
 impl Arena {
     ghost use Rattle.hep_arena.specs.Lent.{LendsAll, LendsBlock};
 
-    /// An arena of so many cells, all of them free.
+    /// Makes an arena of `cells` cells, all of them free.
     ///
-    /// There is one cell at least, and no more than 16,777,216. Fails where memory was refused. This
-    /// costs a linear time, and no other call takes memory.
+    /// There is at least one cell, and at most 16,777,216. The call takes time linear in the number of cells. No other
+    /// call allocates memory.
+    ///
+    /// # Errors
+    ///
+    /// `AllocError` where memory was refused.
     pub fn new(alloc: Global, cells: u32) -> Result<Arena, AllocError>
         requires some { 1 ≤ cells }
         requires few { cells ≤ 16777216 }
@@ -102,14 +106,14 @@ impl Arena {
         })
     }
 
-    /// The arena as it is: it may go to another thread.
+    /// The same arena. An arena may go to another thread.
     pub fn sent(self) -> Arena
         ensures { result ≡ self }
     {
         sendable(self)
     }
 
-    /// How many cells are out. This costs a constant time.
+    /// The number of allocated cells, in constant time.
     pub fn used(&self) -> u32
         ensures used { result + free_cells self.now.holes ≡ length self.now.contents }
         ensures holes { AreHoles 0 (length self.now.contents) self.now.holes }
@@ -117,8 +121,8 @@ impl Arena {
         self.used
     }
 
-    /// Some hole has n cells, so that a block of n can be taken. This costs the logarithm of how many
-    /// cells there are.
+    /// Whether some hole has n cells, so that a block of n cells can be taken. The call takes time logarithmic in
+    /// the number of cells.
     #[inline(always)]
     pub fn fits(&self, n: u32) -> bool
         ensures { result ≡ is_some (first_fit n self.now.holes) }
@@ -126,11 +130,11 @@ impl Arena {
         self.holes.fits(n)
     }
 
-    /// Takes a block of n cells, one at least, from the front of the lowest hole that has so many. The
-    /// hole keeps the rest. The block's cells are empty, and have no values.
+    /// Takes a block of n cells, at least one, from the front of the lowest hole that has n cells. The
+    /// hole keeps its other cells. The block's cells are empty and have no values.
     ///
-    /// None where no hole has n cells. This costs the logarithm of how many cells there are, and a time
-    /// for each cell of the block.
+    /// None where no hole has n cells. The call takes time logarithmic in the number of cells of the arena, and linear
+    /// in that of the block.
     #[inline(always)]
     pub fn take(&mut self, n: u32) -> Option<Block>
         requires { 1 ≤ n }
@@ -147,9 +151,9 @@ impl Arena {
         Some(Block::new(at, n))
     }
 
-    /// Gives a block back: its cells are free, and one hole with those that they touch.
+    /// Frees a block. Its cells and the adjacent holes become one hole.
     ///
-    /// The block has to be out. This costs the logarithm of how many cells there are.
+    /// The block must be allocated. The call takes time logarithmic in the number of cells.
     #[inline(always)]
     pub fn give(&mut self, block: Block)
         requires inside { block.at + block.len ≤ length self.old.contents }
@@ -165,7 +169,7 @@ impl Arena {
 
     /// The slot of a cell.
     ///
-    /// The cell has to be out.
+    /// The cell must be allocated.
     #[inline(always)]
     pub fn get(&self, at: u32) -> Slot
         requires inside { at < length self.now.contents }
@@ -177,7 +181,7 @@ impl Arena {
 
     /// Writes the slot of a cell.
     ///
-    /// The cell has to be out.
+    /// The cell must be allocated.
     pub fn set(&mut self, at: u32, slot: Slot)
         requires inside { at < length self.old.contents }
         requires out { IsOut at self.old.holes }
@@ -187,7 +191,7 @@ impl Arena {
         self.region.slots_mut()[at as usize].set(slot);
     }
 
-    /// The slots of all cells, to be read and written.
+    /// Borrows the slots of all cells for reading and writing.
     pub fn slots_mut(&mut self) -> &mut [Cell]
         ensures* writes_back { sem 𝓛 (LendsAll self.entry result) }
         ensures value { result.now ≡ self.old.contents }
@@ -196,9 +200,9 @@ impl Arena {
         self.region.lend(0, cells)
     }
 
-    /// The slots of a block, to be read and written.
+    /// Borrows the slots of a block for reading and writing.
     ///
-    /// The block has to be out.
+    /// The block must be allocated.
     pub fn lend(&mut self, block: &Block) -> &mut [Cell]
         requires inside { block.now.at + block.now.len ≤ length self.old.contents }
         requires out { (k : ℕ) → block.now.at ≤ k → k < block.now.at + block.now.len → IsOut k self.old.holes }
@@ -208,9 +212,9 @@ impl Arena {
         self.region.lend(block.at() as usize, block.len() as usize)
     }
 
-    /// The slots of one block, to be read, and of another, to be written.
+    /// Borrows the slots of one block for reading and those of another for writing.
     ///
-    /// Both have to be out, and have no common cell.
+    /// Both blocks must be allocated and have no common cell.
     pub fn lend_two(&mut self, from: &Block, to: &Block) -> (&[Cell], &mut [Cell])
         requires from_inside { from.now.at + from.now.len ≤ length self.old.contents }
         requires from_out { (k : ℕ) → from.now.at ≤ k → k < from.now.at + from.now.len → IsOut k self.old.holes }

@@ -1,7 +1,7 @@
 //! Blocks of cells.
 ghost use Rattle.std.specs.Prelude.{◌≡◌, ◌<◌};
 
-/// Cells that were taken from an arena. It can't be copied, and one that is dropped leaves its cells out.
+/// A block of cells that was taken from an arena. A block can't be copied. Dropping it doesn't free its cells.
 #[derive(Drop)]
 pub struct Block {
     at: u32,
@@ -10,7 +10,7 @@ pub struct Block {
 }
 
 impl Block {
-    // So many cells from an index on.
+    // The block of `len` cells from an index on.
     pub(crate) fn new(at: u32, len: u32) -> Block
         requires { 0 < len }
         ensures { (result.at ≡ at) × (result.len ≡ len) }
@@ -18,14 +18,14 @@ impl Block {
         Block { at, len }
     }
 
-    /// The index of its first cell.
+    /// The index of the first cell.
     pub fn at(&self) -> u32
         ensures { result ≡ self.now.at }
     {
         self.at
     }
 
-    /// How many cells it has, one at least.
+    /// The number of cells, at least one.
     pub fn len(&self) -> u32
         ensures len { result ≡ self.now.len }
         ensures some { 0 < result }

@@ -1,13 +1,12 @@
-//! A cell as it stands in memory.
+//! The representation of a cell in memory.
 ghost use Rattle.std.specs.Prelude.{◌≡◌, Some};
 ghost use Rattle.std.specs.Option.{option_map};
 ghost use Rattle.hep_machine.specs.Words.{integer_of};
 
-use hep_machine::Slot;
-use hep_source::Value;
+use hep_machine::{Slot, Value};
 use std::marker::Model;
 
-// What a cell holds: an integer, a logical value, or nothing yet.
+// The kind of value in a cell: an integer, a logical value, or no value.
 #[derive(Clone, Copy)]
 enum Holding {
     Nothing,
@@ -16,9 +15,9 @@ enum Holding {
     True,
 }
 
-/// A cell in half of the bytes that its slot takes. Contracts see it as its slot.
+/// A cell, which takes half the bytes of its slot. Contracts see it as its slot.
 ///
-/// Its number is the integer that it holds, and 0 where it holds none.
+/// `number` is the integer in the cell, and 0 where the cell holds no integer.
 #[derive(Clone, Copy)]
 pub struct Cell {
     number: i64,
@@ -45,7 +44,7 @@ impl Model for Cell {
 impl Cell {
     ghost use Rattle.hep_arena.specs.Cells.{IsHeld, value_held};
 
-    /// The cell with a slot.
+    /// Makes the cell with this slot.
     #[inline(always)]
     pub fn new(slot: Slot) -> Cell
         ensures { result ≡ slot }
@@ -75,7 +74,7 @@ impl Cell {
         }
     }
 
-    /// The value that was stored last, if any.
+    /// The value that was stored last, if there is one.
     #[inline(always)]
     pub fn value(&self) -> Option<Value>
         ensures { result ≡ self.now.value }
@@ -88,7 +87,7 @@ impl Cell {
         }
     }
 
-    /// Its slot.
+    /// The slot of the cell.
     #[inline(always)]
     pub fn slot(&self) -> Slot
         ensures { result ≡ self.now }
@@ -99,7 +98,7 @@ impl Cell {
         }
     }
 
-    /// The integer that its value is, if it has one: 0 of a logical value, as wherever an integer is asked for.
+    /// The integer of the cell's value, if it has one. It is 0 for a logical value, as in `integer_of`.
     #[inline(always)]
     pub fn integer(&self) -> Option<i64>
         ensures { result ≡ option_map integer_of self.now.value }
@@ -112,7 +111,7 @@ impl Cell {
         }
     }
 
-    // It holds this, with this number. The fields are written one by one, for a whole cell is copied with the bytes between them.
+    // Writes the kind of value and the number. The fields are written one by one: a copy of a whole cell would also copy its padding.
     #[inline(always)]
     fn hold(&mut self, holding: Holding, number: i64)
         requires { IsHeld holding number }
@@ -122,7 +121,7 @@ impl Cell {
         self.holding = holding;
     }
 
-    /// Stores a value. Whether the cell is full stays.
+    /// Stores a value. The cell stays full or empty.
     #[inline(always)]
     pub fn store(&mut self, value: Value)
         ensures { self.new ≡ record { value = Some value; full = self.old.full } }
@@ -134,7 +133,7 @@ impl Cell {
         }
     }
 
-    /// Has another slot.
+    /// Replaces the slot.
     #[inline(always)]
     pub fn set(&mut self, slot: Slot)
         ensures { self.new ≡ slot }

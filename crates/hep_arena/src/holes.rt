@@ -1,5 +1,5 @@
-//! The holes of an arena, by a number for each cell: the length of the hole that begins there, else 0.
-//! The hole that reaches to the last cell is kept by itself.
+//! The holes of an arena. There is a number for each cell: the length of the hole that begins there, or 0.
+//! The hole at the end of the arena is kept apart.
 ghost use Rattle.std.specs.Prelude.{◌≡◌, ℕ, ◌+◌, ◌-◌, ◌<◌, ◌≤◌, [], ◌∷◌, length, Some, IfOk, MatchOption};
 ghost use Rattle.std.specs.Option.{is_some};
 ghost use Rattle.hep_arena.specs.Holes.{IsOut, first_fit, given, taken};
@@ -8,18 +8,18 @@ ghost use Rattle.hep_arena.specs.Lengths.{IsLimited, holes_of, lower_holes, star
 use crate::lengths::Lengths;
 use std::alloc::{AllocError, Global};
 
-/// The holes among so many cells. A search and a change cost the logarithm of their number at the most,
-/// and a constant time where blocks come and go like those of a stack.
+/// The holes of an arena. A search and a change take time logarithmic in the number of cells at most,
+/// and constant time where blocks are taken and freed as on a stack.
 #[derive(Drop)]
 pub(crate) struct Holes {
     // The lengths of the holes below the limit.
     lengths: Lengths,
-    // From here on all cells are free, if there are any: the last hole, which has no number.
+    // All cells from this index on are free. They are the last hole, which has no number.
     limit: u32,
 }
 
 impl Holes {
-    /// One hole of all cells.
+    /// Makes one hole of all cells.
     pub(crate) fn new(alloc: Global, cells: u32) -> Result<Holes, AllocError>
         requires some { 1 ≤ cells }
         requires few { cells ≤ 16777216 }
@@ -31,12 +31,12 @@ impl Holes {
         Ok(Holes { lengths, limit: 0 })
     }
 
-    /// Some hole has n cells.
+    /// Whether some hole has n cells.
     pub(crate) fn fits(&self, n: u32) -> bool
         requires limited { IsLimited self.now }
         ensures { result ≡ is_some (first_fit n (holes_of self.now)) }
     {
-        // Each hole has one cell at least.
+        // Each hole has at least one cell.
         let least = n.max(1);
         if least <= self.lengths.len() - self.limit {
             return true;
@@ -44,7 +44,7 @@ impl Holes {
         self.lengths.first_of(least).is_some()
     }
 
-    /// Takes n cells from the front of the lowest hole that has so many. None where no hole has.
+    /// Takes n cells from the front of the lowest hole that has n cells. None where no hole has.
     pub(crate) fn take(&mut self, n: u32) -> Option<u32>
         requires some { 1 ≤ n }
         requires limited { IsLimited self.old }
@@ -66,7 +66,7 @@ impl Holes {
         Some(at)
     }
 
-    // Takes n cells from the front of the hole below the limit that is the first with so many.
+    // Takes n cells from the front of the first hole below the limit that has n cells.
     fn shorten(&mut self, at: u32, n: u32)
         requires some { 1 ≤ n }
         requires limited { IsLimited self.old }
@@ -77,14 +77,14 @@ impl Holes {
         ensures cells { length self.new.lengths ≡ length self.old.lengths }
     {
         let length = self.lengths.get(at);
-        // First what is left, beside the greater number that still stands: so less changes above them.
+        // The rest of the hole is written first, while the greater number is still there. So fewer nodes above them change.
         if n < length {
             self.lengths.set(at + n, length - n);
         }
         self.lengths.set(at, 0);
     }
 
-    /// Makes a hole of n cells from an index on, one with the holes that they touch.
+    /// Frees n cells from an index on. They and the adjacent holes become one hole.
     pub(crate) fn give(&mut self, at: u32, n: u32)
         requires some { 1 ≤ n }
         requires limited { IsLimited self.old }
@@ -102,7 +102,7 @@ impl Holes {
         }
     }
 
-    // Makes a hole below the limit, one with those that it touches.
+    // Frees n cells below the limit. They and the adjacent holes become one hole.
     fn lengthen(&mut self, at: u32, n: u32)
         requires some { 1 ≤ n }
         requires limited { IsLimited self.old }
@@ -116,14 +116,14 @@ impl Holes {
         let end = at + n;
         let start = self.start_at(at);
         let behind = self.lengths.get(end);
-        // The greater number first, here too.
+        // The greater number is written first here, for the same reason.
         self.lengths.set(start, end - start + behind);
         if behind > 0 {
             self.lengths.set(end, 0);
         }
     }
 
-    // Gives all cells from an index up to the limit to the last hole, and the hole that they touch below it.
+    // Adds all cells from an index up to the limit to the last hole, with the hole that ends at that index.
     fn give_last(&mut self, at: u32)
         requires limited { IsLimited self.old }
         requires below { at < self.old.limit }
@@ -140,7 +140,7 @@ impl Holes {
         self.limit = start;
     }
 
-    // Where the hole below the limit begins that ends at an index; the index itself where none ends there.
+    // The first cell of the hole below the limit that ends at an index; the index itself where no hole ends there.
     fn start_at(&self, at: u32) -> u32
         requires limited { IsLimited self.now }
         requires inside { at ≤ length self.now.lengths }

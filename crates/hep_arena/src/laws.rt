@@ -1,4 +1,4 @@
-//! Laws of holes: what holds of every arena, whatever is taken and given, and what the holes are where
+//! Laws of holes: the effects of taking and freeing blocks in every arena, and the holes of an arena whose
 //! blocks are the frames of a layout.
 ghost use Rattle.std.specs.Prelude.{◌≡◌, ◌⊎◌, ◌↔◌, ◌∷◌, ◌++◌, [], ℕ, ◌+◌, ◌<◌, ◌≤◌, Bool, List, Some, length, slice_get, slice_range};
 ghost use Rattle.std.specs.Prelude.{slice_set};
@@ -8,8 +8,8 @@ ghost use Rattle.hep_machine.specs.declared.slot.Slot.{Slot};
 ghost use Rattle.hep_arena.specs.Lending.{with_run};
 ghost use Rattle.hep_arena.specs.Holes.{Hole, AreHoles, IsOut, first_fit, free_cells, given, taken};
 
-/// What is out stays out when a block is taken. The block lies in the arena, its cells are out then and
-/// were not so before, and the holes have just its cells less.
+/// Taking a block leaves allocated cells allocated. The block is within the arena. Its cells were free before and are
+/// allocated after, and no other free cell changes.
 pub fn taking()
     ensures others { (n k : ℕ) (hs : List Hole) → IsOut k hs → IsOut k (taken n hs) }
     ensures inside { (cells n at : ℕ) (hs : List Hole) → AreHoles 0 cells hs → first_fit n hs ≡ Some at → at + n ≤ cells }
@@ -20,8 +20,8 @@ pub fn taking()
     ensures cells { (n at : ℕ) (hs : List Hole) → first_fit n hs ≡ Some at → free_cells (taken n hs) + n ≡ free_cells hs }
 {}
 
-/// When a block is given back just those cells are out that were so before and are none of the block's.
-/// The holes have just its cells more.
+/// After a block is freed, a cell is allocated if and only if it was allocated before and isn't in the block.
+/// The number of free cells rises by that of the block.
 pub fn giving()
     ensures others { (k at n : ℕ) (hs : List Hole) → IsOut k (given (at, n) hs) ↔ (IsOut k hs × ((k < at) ⊎ (at + n ≤ k))) }
     ensures holes { (cells at n : ℕ) (hs : List Hole) → AreHoles 0 cells hs → 1 ≤ n → at + n ≤ cells
@@ -29,13 +29,13 @@ pub fn giving()
     ensures cells { (at n : ℕ) (hs : List Hole) → free_cells (given (at, n) hs) ≡ n + free_cells hs }
 {}
 
-/// A block that is taken and given back at once leaves the holes as they were.
+/// Taking a block and freeing it at once leaves the holes unchanged.
 pub fn giving_undoes_taking()
     ensures { (cells n at : ℕ) (hs : List Hole) → AreHoles 0 cells hs → 1 ≤ n → first_fit n hs ≡ Some at → given (at, n) (taken n hs) ≡ hs }
 {}
 
-/// The slots that are lent are those of the contents. What comes back stands in their place, and every
-/// other slot is as it was; so a write to one slot of the loan is a write to the contents.
+/// A loan has the slots of the contents. When it ends, its slots replace them, and every other slot is unchanged. So a
+/// write to one slot of the loan is a write to the contents.
 pub fn lending()
     ensures cells { (contents loan : List Slot) (at n : ℕ) → length (with_run contents at n loan) ≡ length contents }
     ensures others { (contents loan : List Slot) (at n k : ℕ) → at + n ≤ length contents → (k < at) ⊎ (at + n ≤ k)
@@ -48,8 +48,8 @@ pub fn lending()
         → with_run contents at n (slice_set (slice_range contents at (at + n)) i slot) ≡ slice_set contents (at + i) slot }
 {}
 
-/// The lowest gap of a layout is the first fit of its gaps. When the frame goes there, or a frame or
-/// several leave, the holes become the gaps of the new layout. COMMON is the first block.
+/// The lowest gap of a layout is the first fit among its gaps. When a frame is placed there, or one or several frames
+/// are removed, the holes become the gaps of the new layout. COMMON is the first block.
 pub fn holes_are_gaps()
     ensures common { (cells n : ℕ) → 1 ≤ n → n ≤ cells → taken n ((0, cells) ∷ []) ≡ gaps cells n [] }
     ensures fit { (cells n from : ℕ) (layout : Layout) → 1 ≤ n → first_fit n (gaps cells from layout) ≡ lowest_gap cells n from layout }
@@ -64,8 +64,8 @@ pub fn holes_are_gaps()
         → given_back (λ f. has s f.activation) layout (gaps cells from layout) ≡ gaps cells from (remaining_layout has s layout) }
 {}
 
-/// COMMON's cells and those of the frames are out of the gaps. Gaps are holes, and with COMMON and the
-/// frames they are all cells.
+/// The cells of COMMON and of the frames are in no gap. The gaps are holes. The gaps, COMMON and the frames together
+/// are all cells.
 pub fn frames_are_out()
     ensures common { (cells from k : ℕ) (layout : Layout) → StandApart cells from layout → k < from → IsOut k (gaps cells from layout) }
     ensures frame { (cells from k : ℕ) (front : Layout) (f : Frame) (back : Layout) → StandApart cells from (front ++ f ∷ back)

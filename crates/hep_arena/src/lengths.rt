@@ -1,4 +1,4 @@
-//! The numbers of places.
+//! A list of numbers with fast searches.
 ghost use Rattle.std.specs.Prelude.{◌≡◌, ◌<◌, ◌≤◌, None, Some, IfOk, drop, length, replicate, slice_get, slice_set, take};
 ghost use Rattle.hep_arena.specs.Places.{first_from, last_from};
 
@@ -6,14 +6,14 @@ use crate::tree::Tree;
 use std::alloc::{AllocError, Global};
 use std::marker::Model;
 
-/// A list of numbers, one for each place. Contracts see the numbers in order.
+/// A list of numbers, one for each place. Contracts see it as the list of the numbers.
 ///
-/// It serves to find room: the number at a place is the length of the hole that begins there, or
+/// `Holes` finds free cells with it: the number at a place is the length of the hole that begins there, or
 /// 0 where none begins.
 #[derive(Drop)]
 pub struct Lengths {
     tree: Tree,
-    // How many of the leaves are places; the others are 0.
+    // The number of leaves that are places. The other leaves are 0.
     places: u32,
 }
 
@@ -30,9 +30,8 @@ impl Model for Lengths {
 }
 
 impl Lengths {
-    /// So many places, all with the number 0. No other call takes memory.
-    ///
-    /// This costs a linear time.
+    /// Makes a list of `places` places, all with the number 0, in linear time. No other call allocates
+    /// memory.
     ///
     /// # Errors
     ///
@@ -46,14 +45,14 @@ impl Lengths {
         Ok(Lengths { tree, places })
     }
 
-    /// How many places there are. This costs a constant time.
+    /// The number of places, in constant time.
     pub fn len(&self) -> u32
         ensures places { result ≡ length self.now }
     {
         self.places
     }
 
-    /// The number at a place. This costs a constant time.
+    /// The number at a place, in constant time.
     pub fn get(&self, at: u32) -> u32
         requires inside { at < length self.now }
         ensures number { slice_get self.now at ≡ Some result }
@@ -61,8 +60,8 @@ impl Lengths {
         self.tree.get(at as usize)
     }
 
-    /// Gives a place another number. This costs the logarithm of how many places there are, at the
-    /// most: it ends below the first node that keeps its number.
+    /// Replaces the number at a place. The call takes time logarithmic in the number of places at most: it ends at the
+    /// first node whose number doesn't change.
     pub fn set(&mut self, at: u32, number: u32)
         requires inside { at < length self.old }
         ensures numbers { self.new ≡ slice_set self.old at number }
@@ -70,9 +69,9 @@ impl Lengths {
         self.tree.put(at as usize, number);
     }
 
-    /// The first place with at least this number, none where there is none.
+    /// The first place with at least this number; none where there is no such place.
     ///
-    /// This costs the logarithm of how many places there are, and a constant time where there is none.
+    /// The call takes time logarithmic in the number of places, and constant time where there is no such place.
     pub fn first_of(&self, least: u32) -> Option<u32>
         requires some { 1 ≤ least }
         ensures first { result ≡ first_from 0 least self.now }
@@ -81,9 +80,9 @@ impl Lengths {
         Some(at as u32)
     }
 
-    /// The last place before this one whose number isn't 0, none where there is none.
+    /// The last place before this one whose number isn't 0; none where there is no such place.
     ///
-    /// This costs the logarithm of how many places there are, and a constant time where all are 0.
+    /// The call takes time logarithmic in the number of places, and constant time where all numbers are 0.
     pub fn last_before(&self, at: u32) -> Option<u32>
         requires inside { at ≤ length self.now }
         ensures last { result ≡ last_from 0 (take at self.now) None }
@@ -92,9 +91,9 @@ impl Lengths {
         Some(found as u32)
     }
 
-    /// The first place from this one on whose number isn't 0, none where there is none.
+    /// The first place from this one on whose number isn't 0; none where there is no such place.
     ///
-    /// This costs the logarithm of how many places there are.
+    /// The call takes time logarithmic in the number of places.
     pub fn first_after(&self, at: u32) -> Option<u32>
         requires inside { at ≤ length self.now }
         ensures first { result ≡ first_from at 1 (drop at self.now) }

@@ -1,14 +1,10 @@
-//! The cells of a run, from which blocks are taken, lent and given back; the first gap that is large enough in logarithmic time.
+//! The arena of a run: an allocator of blocks of cells, first fit and in logarithmic time.
 //!
-//! Numbers, one for each place of a list, in which the first place with at least a given number is
-//! found in logarithmic time: for as many places as at first, and for places that get more.
+//! Begin with [`Arena`]. [`Arena::take`] allocates a block at the front of the lowest hole that is long enough, and [`Arena::give`] frees
+//! blocks in any order. Only [`Arena::new`] allocates memory of the host.
 //!
-//! No call takes memory but those that make room.
-//!
-//! An arena of cells: blocks of them are taken, each from the lowest hole that is long enough, and given
-//! back in any order.
-//!
-//! No call takes memory but the one that makes the arena.
+//! [`Lengths`] and [`Tree`] find the first place of a list with at least a given number, in logarithmic time. A [`Lengths`] has a fixed
+//! number of places, and a [`Tree`] can grow.
 #![tactic(auto)]
 
 mod arena;

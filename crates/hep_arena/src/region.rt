@@ -1,7 +1,7 @@
-//! Slots side by side in memory of their own, which are lent in whole or in parts.
+//! A region: consecutive slots in memory of their own, which are borrowed as a whole or in parts.
 //!
-//! The pointer is followed in this file alone, by short functions. What goes beyond a loan of slots is
-//! safe code in the files that call it.
+//! Only this file dereferences the pointer, in short functions. Everything beyond such a loan is safe code in other
+//! files.
 ghost use Rattle.std.specs.Prelude.{◌≡◌, ◌<◌, length, List};
 ghost use Rattle.std_alloc.specs.Vec.{vec_ptr, vec_len, vec_capacity};
 ghost use Rattle.hep_machine.specs.declared.slot.Slot.{Slot as SlotValue};
@@ -10,7 +10,7 @@ use crate::cell::Cell;
 use std::alloc::Global;
 use std::marker::{Model, Move, Owns};
 
-/// So many slots from the one on that the pointer points at. It owns the slots, and not the right to free
+/// `cells` slots from the one at the pointer on. A region owns the slots, but not the right to free
 /// their memory.
 pub struct Region {
     memory: *mut Cell,
@@ -35,14 +35,14 @@ impl Region {
     ghost use Rattle.std.specs.Prelude.{◌+◌, ◌≤◌, ◌⊎◌, length, slice_range};
     ghost use Rattle.hep_arena.specs.Lending.{LendsAll, LendsRun};
 
-    /// All slots, to be read.
+    /// Borrows all slots for reading.
     pub fn slots(&self) -> &[Cell]
         ensures { result.now ≡ self.now.slots }
     {
         unsafe { std::slice::from_raw_parts(self.memory, self.cells) }
     }
 
-    /// All slots, to be written.
+    /// Borrows all slots for writing.
     pub fn slots_mut(&mut self) -> &mut [Cell]
         ensures* writes_back { sem 𝓛 (LendsAll self.entry result) }
         ensures value { result.now ≡ self.old.slots }
@@ -50,7 +50,7 @@ impl Region {
         unsafe { std::slice::from_raw_parts_mut(self.memory, self.cells) }
     }
 
-    /// The slots of a run, to be written.
+    /// Borrows `len` slots from an index on for writing.
     pub fn lend(&mut self, at: usize, len: usize) -> &mut [Cell]
         requires { at + len ≤ length self.old.slots }
         ensures* writes_back { sem 𝓛 (LendsRun self.entry at len result) }
@@ -59,7 +59,7 @@ impl Region {
         unsafe { std::slice::from_raw_parts_mut(self.memory.add(at), len) }
     }
 
-    /// The slots of one run, to be read, and of another, to be written.
+    /// Borrows the slots of one run for reading and those of another for writing.
     pub fn lend_two(
         &mut self,
         from: usize,
@@ -83,7 +83,7 @@ impl Region {
     }
 }
 
-/// What is left of a vector whose items are a region: the right to free its memory.
+/// The rest of a vector whose items are a region: the right to free its memory.
 pub struct Lease {
     vec: Vec<Cell, Global>,
 }
@@ -105,7 +105,7 @@ impl Move for Lease {
 
 unsafe impl Send for Lease {}
 
-// The items of a vector as a region. It moves nothing.
+// Splits a vector into the region of its items and the lease. This moves nothing.
 pub(crate) fn parted(vec: Vec<Cell, Global>, memory: *mut Cell, cells: usize) -> (Region, Lease)
     requires parts { (memory ≡ vec_ptr vec) × (cells ≡ vec_len vec) × (0 < vec_capacity vec) }
     ensures { (result.0.slots ≡ vec.items) × (result.0.memory ≡ vec_ptr vec) × (result.0.cells ≡ vec_len vec) × (result.1 ≡ vec) }
@@ -113,7 +113,7 @@ pub(crate) fn parted(vec: Vec<Cell, Global>, memory: *mut Cell, cells: usize) ->
     (Region { memory, cells }, Lease { vec })
 }
 
-// The vector again, which can be dropped.
+// Joins a region and its lease to the vector, which can be dropped.
 pub(crate) fn rejoined(region: Region, lease: Lease) -> Vec<Cell, Global>
     requires parts { (region.memory ≡ vec_ptr lease) × (region.cells ≡ vec_len lease) × (0 < vec_capacity lease) }
     ensures { result.items ≡ region.slots }

@@ -5,24 +5,23 @@ ghost use Rattle.hep_arena.specs.Trees.{IsFirst, IsLast, IsNext, IsTop, IsTree, 
 
 use std::alloc::{AllocError, Global};
 
-/// A full binary tree in one list, whose leaves are numbers. Above them a node has the greater one
-/// of the two below it, so that a search passes over whatever has too small a number.
+/// A full binary tree in one list, whose leaves are numbers. Each inner node has the greater of the two numbers
+/// below it, so that a search skips the parts whose numbers are too small.
 ///
-/// It serves where the leaves get more, as for the processes that are ready; `Lengths` has as many
-/// places as at first. Contracts see the leaves in order, as `leaves_of` has them, and `IsTree` is
-/// asked for and kept by all calls.
+/// A tree can grow, as for the ready processes. A `Lengths` has a fixed number of places. `leaves_of` is the
+/// list of the leaves, and all calls require and keep `IsTree`.
 #[derive(Drop)]
 pub struct Tree {
     greatest: Vec<u32>,
-    // How many leaves there are: none, or 2 to the power of `levels`.
+    // The number of leaves: none, or 2 to the power of `levels`.
     size: usize,
     levels: usize,
 }
 
-// No memory has a byte for each node of a tree with more leaves.
+// The greatest number of leaves. No address space has a byte for each node of a larger tree.
 const MOST_LEAVES: usize = 0x2000_0000_0000_0000;
 
-// How many leaves a tree has that has room for so many, and how many levels below the root.
+// The number of leaves of a tree with room for `leaves` leaves, and the number of levels below its root.
 fn full_size(leaves: usize) -> (usize, usize)
     requires { leaves ≤ MOST_LEAVES }
     ensures size { result.0 ≡ leftmost result.1 1 }
@@ -38,7 +37,7 @@ fn full_size(leaves: usize) -> (usize, usize)
     (size, levels)
 }
 
-// Gives each node above the leaves the greater one of the two numbers below it.
+// Writes to each inner node the greater of the two numbers below it.
 fn fill_tops(greatest: &mut Vec<u32>, size: usize)
     requires nodes { length greatest.old.items ≡ 2 * size }
     requires few { size < 2 ^ 62 }
@@ -51,7 +50,7 @@ fn fill_tops(greatest: &mut Vec<u32>, size: usize)
     }
 }
 
-// The other one of the two nodes below the same node.
+// The sibling of a node.
 fn other_side(node: usize) -> usize
     requires some { 2 ≤ node }
     requires few { node < 2 ^ 63 }
@@ -61,7 +60,7 @@ fn other_side(node: usize) -> usize
 }
 
 impl Tree {
-    /// A tree without leaves, which takes no memory.
+    /// Makes a tree without leaves. This allocates no memory.
     pub fn new(alloc: Global) -> Tree
         ensures tree { IsTree result }
         ensures leaves { leaves_of result ≡ [] }
@@ -74,13 +73,13 @@ impl Tree {
         }
     }
 
-    /// Makes room for so many leaves; those that are added are 0. No other call takes memory.
+    /// Makes room for `leaves` leaves. The added leaves are 0. No other call allocates memory.
     ///
-    /// Where there is too little room, it is at least doubled, in linear time.
+    /// Where there is too little room, the number of leaves at least doubles, in linear time.
     ///
     /// # Errors
     ///
-    /// `AllocError` where memory was refused; nothing has changed then.
+    /// `AllocError` where memory was refused. The tree is then unchanged.
     pub fn reserve(&mut self, alloc: Global, leaves: usize) -> Result<(), AllocError>
         requires { IsTree self.old }
         ensures tree { IsTree self.new }
@@ -97,7 +96,7 @@ impl Tree {
         Ok(())
     }
 
-    // A tree with room for so many leaves, which are more than there are, and with the same numbers.
+    // A tree with the same numbers and with room for `leaves` leaves, which are more than there are.
     fn grown(&self, alloc: Global, leaves: usize) -> Result<Tree, AllocError>
         requires tree { IsTree self.now }
         requires more { self.now.size < leaves }
@@ -121,14 +120,14 @@ impl Tree {
         })
     }
 
-    /// How many leaves there are. This costs a constant time.
+    /// The number of leaves, in constant time.
     pub fn size(&self) -> usize
         ensures { result ≡ self.now.size }
     {
         self.size
     }
 
-    /// The number of a leaf. This costs a constant time.
+    /// The number of a leaf, in constant time.
     pub fn get(&self, at: usize) -> u32
         requires tree { IsTree self.now }
         requires inside { at < self.now.size }
@@ -137,8 +136,8 @@ impl Tree {
         self.greatest[self.size + at]
     }
 
-    /// Gives a leaf another number. This costs the logarithm of how many leaves there are, at the
-    /// most: it ends below the first node that keeps its number.
+    /// Replaces the number of a leaf. The call takes time logarithmic in the number of leaves at most: it ends at the
+    /// first node whose number doesn't change.
     pub fn put(&mut self, at: usize, number: u32)
         requires tree { IsTree self.old }
         requires inside { at < self.old.size }
@@ -153,14 +152,14 @@ impl Tree {
             top = top.max(self.greatest[other_side(node)]);
             node /= 2;
             if self.greatest[node] == top {
-                // The nodes above it stay as they are, too.
+                // The nodes above it don't change either.
                 return;
             }
             self.greatest[node] = top;
         }
     }
 
-    // The greatest number of all, 0 where there are no leaves.
+    // The greatest number; 0 where there are no leaves.
     fn root(&self) -> u32
         requires { IsTree self.now }
         ensures { result ≡ number self.now.greatest.items 1 }
@@ -168,7 +167,7 @@ impl Tree {
         if self.size == 0 { 0 } else { self.greatest[1] }
     }
 
-    /// Some leaf has at least this number. This costs a constant time.
+    /// Whether some leaf has at least this number, in constant time.
     pub fn has(&self, least: u32) -> bool
         requires tree { IsTree self.now }
         requires some { 1 ≤ least }
@@ -178,9 +177,9 @@ impl Tree {
         self.root() >= least
     }
 
-    /// The first leaf with at least this number, none where there is none.
+    /// The first leaf with at least this number; none where there is no such leaf.
     ///
-    /// This costs the logarithm of how many leaves there are, and a constant time where there is none.
+    /// The call takes time logarithmic in the number of leaves, and constant time where there is no such leaf.
     pub fn first_of(&self, least: u32) -> Option<usize>
         requires tree { IsTree self.now }
         requires some { 1 ≤ least }
@@ -192,7 +191,7 @@ impl Tree {
         Some(self.first_below(least, 1, self.levels) - self.size)
     }
 
-    // The first leaf with at least this number, by its index, so many levels below a node.
+    // The index of the first leaf with at least this number, among those `levels` levels below a node.
     fn first_below(&self, least: u32, top: usize, levels: usize) -> usize
         requires tree { IsTree self.now }
         requires great { least ≤ number self.now.greatest.items top }
@@ -213,9 +212,9 @@ impl Tree {
         node
     }
 
-    /// The last leaf before a place that isn't 0, none where there is none.
+    /// The last leaf before a place whose number isn't 0; none where there is no such leaf.
     ///
-    /// This costs the logarithm of how many leaves there are, and a constant time where all are 0.
+    /// The call takes time logarithmic in the number of leaves, and constant time where all numbers are 0.
     pub fn last_before(&self, at: usize) -> Option<usize>
         requires tree { IsTree self.now }
         requires inside { at ≤ self.now.size }
@@ -240,7 +239,7 @@ impl Tree {
         None
     }
 
-    // The last leaf that isn't 0, by its index, of those so many levels below a node.
+    // The index of the last leaf whose number isn't 0, among those `levels` levels below a node.
     fn last_below(&self, top: usize, levels: usize) -> usize
         requires tree { IsTree self.now }
         requires great { 1 ≤ number self.now.greatest.items top }
@@ -261,9 +260,9 @@ impl Tree {
         node
     }
 
-    /// The first leaf from a place on that isn't 0, none where there is none.
+    /// The first leaf from a place on whose number isn't 0; none where there is no such leaf.
     ///
-    /// This costs the logarithm of how many leaves there are.
+    /// The call takes time logarithmic in the number of leaves.
     pub fn first_after(&self, at: usize) -> Option<usize>
         requires tree { IsTree self.now }
         requires inside { at ≤ self.now.size }

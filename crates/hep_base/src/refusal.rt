@@ -1,4 +1,4 @@
-//! Why a source, or a text of a history or of choices, is refused.
+//! The reason why a source, or the text of a history or of choices, is refused.
 ghost use Rattle.std.specs.Prelude.{◌≡◌, []};
 ghost use Rattle.hep_base.specs.declared.refusal.Refusal.TheVariants as refusal;
 ghost use Rattle.hep_base.specs.Refusals.{Reports};
@@ -7,11 +7,11 @@ use crate::sequence::Text;
 use std::alloc::{AllocError, AllocFailed, Global};
 use thiserror::Error;
 
-/// Why a source, or a text of a history or of choices, is refused, or that there was too little memory
-/// to know.
+/// The reason why a source, or the text of a history or of choices, is refused. [`Refusal::NoMemory`] says that there was too
+/// little memory to read it.
 #[derive(Debug, Drop, Error)]
 pub enum Refusal {
-    /// A growth was refused, which says nothing of the source.
+    /// An allocation failed. This says nothing about the source.
     #[error("no memory")]
     NoMemory,
     /// The source breaks a rule.
@@ -19,15 +19,15 @@ pub enum Refusal {
     Refused {
         /// The number of the rule (docs/LANGUAGE.md).
         number: u16,
-        /// The line at fault, counted from 1; 0 where the whole text is.
+        /// The line at fault, counted from 1; 0 where the rule is about the whole text.
         line: u32,
-        /// The name that the rule is about, empty where it is about none.
+        /// The name that the rule is about; empty where the rule is about no name.
         name: Text,
     },
 }
 
 impl Refusal {
-    /// A refusal that is about no name.
+    /// Makes a refusal that is about no name.
     pub fn refused(alloc: Global, number: u16, line: u32) -> Refusal
         ensures { result ≡ refusal.Refused number line [] }
     {
@@ -35,7 +35,7 @@ impl Refusal {
         Refusal::Refused { number, line, name }
     }
 
-    /// A refusal that is about this name, unless there is no memory for it.
+    /// Makes a refusal that is about this name, or [`Refusal::NoMemory`] where there is no memory for the name.
     pub fn named(alloc: Global, number: u16, line: u32, name: &[u8]) -> Refusal
         ensures { Reports result (number, line, name.now) }
     {

@@ -1,15 +1,15 @@
-//! Items in a row.
+//! Sequences of items.
 ghost use Rattle.std.specs.Prelude.{◌≡◌};
 
 use std::marker::Model;
 
-/// Items in a row. Contracts see their list, so two rows are compared wherever they lie in memory.
+/// A sequence of items. Contracts see it as the list of its items, so two sequences with the same items are equal.
 #[derive(Debug, Drop)]
 pub struct Sequence<T> {
     items: Vec<T>,
 }
 
-/// A run of characters, one byte each.
+/// A text: a sequence of characters, one byte each.
 pub type Text = Sequence<u8>;
 
 impl<T> Model for Sequence<T> {
@@ -39,7 +39,7 @@ impl<T> Sequence<T> {
         &self.items
     }
 
-    /// The vector that holds the items; this takes no memory.
+    /// The vector that holds the items. This allocates no memory.
     pub fn into_vec(self) -> Vec<T>
         ensures { result.items ≡ self }
     {

@@ -2,23 +2,23 @@
 use Rattle.std.proofs.Common.{◌≡◌, ℕ, false, List, None, Some, ap, ◌∙◌, suc, Bool, true, [], ◌∷◌, ◌++◌, length, refl, sym, arith, zero, ◌-◌, ◌<◌, ◌≤◌, Option, Result, Ok, subst, if◌then◌else◌, nat_eq, slice_get, slice_set, length-append}
 use Rattle.hep_machine.specs.Words.{Name, dummies_of, Binding, binding_of, Next, calling, creating, does, function_unit, next_of, referring, wants, unit_of, unit_on_top, living, with_process, activation_of, numbered, top_of, with_numbered, run, Level, Process, State, result_after_call, result_after_create, result_after_next, state_made, step, step_result_of, step_result_of_top, stepped, unit_called, next_activation, with_activation, Layout, activations_on, index_among, unset_cell}
 use Rattle.hep_machine.specs.declared.event.Kind.{Kind}
-use Rattle.hep_step.specs.declared.way.Way.{Way}
-use Rattle.hep_step.specs.declared.way.Way.TheVariants.{Calls, Creates, Refers}
-use Rattle.hep_step.specs.Calls.{comes_by, is_creation, unit_by}
+use Rattle.hep_step.specs.declared.call_kind.CallKind.{CallKind}
+use Rattle.hep_step.specs.declared.call_kind.CallKind.TheVariants.{Calls, Creates, Refers}
+use Rattle.hep_step.specs.NextCalls.{comes_by, is_creation, unit_by}
 use Rattle.hep_binding.specs.Calling.{CallOf, caller, frames_before_call, frames_with, IsPassing, level_behind, level_called, state_before_call, state_begun, state_called, state_created, state_made_by, called_activation, IsWritten, unit_begun}
 use Rattle.hep_arena.specs.Space.{Space}
-use Rattle.hep_code.proofs.Moves.{after_statement_keeps}
+use Rattle.hep_code.proofs.CodePositions.{after_statement_keeps}
 use Rattle.hep_layout.specs.Words.{level_of, descriptor_slots, slot_by_dummy, slot_of_bounds, slot_of_dummy, slot_on_level, Nodes, also, is_stacked, FramePart, argument, bounds, header, iteration, variable, place_of_part}
 use Rattle.hep_layout.proofs.StackChanges.{stacks-begun, stacks-created, stacks-same}
 use Rattle.hep_layout.proofs.Stacks.{top-numbered, level-found}
-use Rattle.hep_proc.specs.Keeping.{FramesOf, Keeps}
+use Rattle.hep_proc.specs.FrameTable.{FramesOf, Keeps}
 use Rattle.hep_step.specs.Simulation.{unit_addressed}
 use Rattle.std.specs.Option.{unwrap_or}
 use Rattle.std.proofs.lemmas.Option.{none-some, same_Some}
 use Rattle.hep_machine.specs.declared.slot.Slot.{Slot}
 use Rattle.hep_layout.proofs.HeldFrames.{run-last}
-use Rattle.hep_binding.specs.Shapes.{cells_to_bounds, cells_to_bounds_of, cells_to_locals}
-use Rattle.hep_binding.specs.Writing.{unit_framed, written_up_to}
+use Rattle.hep_binding.specs.AdjustableBounds.{cells_to_bounds, cells_to_bounds_of, cells_to_locals}
+use Rattle.hep_binding.specs.FrameWriting.{unit_framed, written_up_to}
 use Rattle.hep_binding.proofs.Cells.{keeps-skipped, argument-place, bounds-place, cells-ordered, to-first}
 use Rattle.hep_machine.proofs.Others.{last-numbered}
 
@@ -37,7 +37,7 @@ module _ (call : CallOf) (x : Name) (on : (state_before_call call).halted ≡ fa
   bound : {A : Type 0} (f : ℕ → Result Binding Kind → A) (u : ℕ) → call.unit ≡ u → f u (binding_of call.program (caller call) u call.actuals) ≡ f call.unit (Ok call.binding)
   bound f u called = ap (λ u. f u (binding_of call.program (caller call) u call.actuals)) (sym called) ∙ ap (f call.unit) h.bound
 
-  pub step-made : (way : Way) → call.unit ≡ unit_by way call.program x → next_of (unit_on_top call.program (caller call)) call.top.0.work ≡ comes_by way x call.actuals
+  pub step-made : (way : CallKind) → call.unit ≡ unit_by way call.program x → next_of (unit_on_top call.program (caller call)) call.top.0.work ≡ comes_by way x call.actuals
       → step call.program call.process (state_before_call call) ≡ Some (state_made_by (is_creation way) call)
   step-made Calls called next = made-step (state_called call) (result-of (does (calling x call.actuals)) next ∙ bound (result_after_call call.program (caller call)) (unit_called call.program x) called)
   step-made Creates called next = made-step (state_created call) (result-of (does (creating x call.actuals)) next ∙ bound (result_after_create call.program (caller call)) (unit_called call.program x) called)

@@ -1,23 +1,20 @@
 -- Which cells of a frame those are of which values are wanted, and that they are written one after the other.
 use Rattle.std.proofs.Common.{◌≡◌, ℕ, zero, suc, ◌+◌, ◌*◌, ◌<◌, ◌≤◌, List, [], ◌∷◌, length, take, Some, sym, ap, ◌∙◌, subst, arith, Bool, true, false, Option, None, refl, slice_get, if◌then◌else◌, nat_eq, nat_lt, take_all, eqb-true, eq-eqb, ltb-true, lt-ltb, ltb-false}
-use Rattle.std.proofs.lemmas.Option.{none-some, same_Some, slice_get_within}
-use Rattle.hep_machine.specs.Words.{Name, Statement, index_among, same_name, dummies_of, adjustable_dimensions, adjustable_dimensions_of_all, frame_cells, unset_cell, Frame, Location, Store, with_cell}
-use Rattle.hep_accepted_laws.proofs.Parts.{found_at}
+use Rattle.std.proofs.lemmas.Option.{none-some, same_Some}
+use Rattle.hep_machine.specs.Words.{Name, Statement, index_among, dummies_of, adjustable_dimensions, adjustable_dimensions_of_all, frame_cells, unset_cell, Frame, Location, Store, with_cell, same_name}
 use Rattle.hep_layout.specs.Words.{argument, bounds, frame_row, place_of_part, same_part, FramePart, address, cell_in, frame_address, DescriptorSlots, is_descriptor, descriptor_slots, Nodes}
 use Rattle.hep_layout.proofs.FrameRows.{argument-first, bounds-first, equal_parts}
 use Rattle.hep_layout.proofs.Rows.{place-at, placed, owned-by}
-use Rattle.hep_binding.specs.Shapes.{cells_to_bounds, cells_to_bounds_of, cells_to_locals}
+use Rattle.hep_binding.specs.AdjustableBounds.{cells_to_bounds, cells_to_bounds_of, cells_to_locals}
 use Rattle.hep_machine.specs.declared.slot.Slot.{Slot}
 use Rattle.hep_arena.specs.Gaps.{frame_among}
 use Rattle.hep_arena.specs.Space.{Space}
-use Rattle.hep_proc.specs.Keeping.{FramesOf, Keeps}
-use Rattle.hep_proc.proofs.Stays.{keeps-described, keeps-same, keeps-stored}
-use Rattle.hep_binding.specs.Writing.{IsSet, is_before, stored_in, unit_framed, wanted_up_to, written_up_to}
+use Rattle.hep_proc.specs.FrameTable.{FramesOf, Keeps}
+use Rattle.hep_proc.proofs.UnchangedFrames.{keeps-described, keeps-same, keeps-stored}
+use Rattle.hep_binding.specs.FrameWriting.{IsSet, is_before, stored_in, unit_framed, wanted_up_to, written_up_to}
+use Rattle.hep_source.proofs.Tests.{index-below}
 
 -- ---- places
-
-index-within : (x : Name) (xs : List Name) (k : ℕ) → index_among x xs ≡ Some k → k < length xs
-index-within x xs k e = let there = found_at (same_name x) xs k e in slice_get_within xs k there.0 there.1
 
 module _ (unit : List Statement) (x : Name) (k : ℕ) (index : index_among x (dummies_of unit) ≡ Some k) where
   -- a dummy argument's cells are in front of local variables
@@ -25,7 +22,7 @@ module _ (unit : List Statement) (x : Name) (k : ℕ) (index : index_among x (du
   argument-place i n e =
       let there = placed (same_part (argument x)) i (frame_row unit) n e in
       let entry = argument-first unit x k index in
-      omega (arith, there.below, there.at, entry.begins, entry.sized, index-within x (dummies_of unit) k index)
+      omega (arith, there.below, there.at, entry.begins, entry.sized, index-below (same_name x) (dummies_of unit) k index)
 
   -- bounds stand behind
   pub bounds-place : (i n : ℕ) → place_of_part unit (bounds x) i ≡ Some n → cells_to_bounds unit ≤ n

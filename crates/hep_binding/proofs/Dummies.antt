@@ -11,15 +11,15 @@ use Rattle.hep_layout.specs.Words.{address, is_descriptor, is_value, number, slo
 use Rattle.hep_layout.proofs.FrameRows.{argument-first}
 use Rattle.hep_layout.proofs.Rows.{place-at}
 use Rattle.hep_layout.proofs.Runs.{runs-value}
-use Rattle.hep_proc.specs.Keeping.{FramesOf, Keeps, with_unset}
-use Rattle.hep_step.specs.declared.given.Given.{Given}
-use Rattle.hep_step.specs.declared.given.Given.TheVariants as given
-use Rattle.hep_binding.specs.Giving.{IsGiven, with_one_given, with_given}
-use Rattle.hep_binding.specs.Writing.{IsPut, IsSet, stored_in, unit_framed, unwritten, wanted_up_to, written_up_to, IsBinding, is_before}
+use Rattle.hep_proc.specs.FrameTable.{FramesOf, Keeps, with_unset}
+use Rattle.hep_step.specs.declared.dummy_storage.DummyStorage.{DummyStorage}
+use Rattle.hep_step.specs.declared.dummy_storage.DummyStorage.TheVariants as given
+use Rattle.hep_binding.specs.ActualArguments.{IsGiven, with_one_given, with_given}
+use Rattle.hep_binding.specs.FrameWriting.{IsPut, IsSet, stored_in, unit_framed, unwritten, wanted_up_to, written_up_to, IsBinding, is_before}
 use Rattle.hep_binding.proofs.Cells.{keeps-given, keeps-skipped, keeps-written, one-cell}
 use Rattle.std.proofs.lemmas.Bool.Decides.{nat_tests}
-use Rattle.hep_proc.proofs.Stays.{keeps-same}
-use Rattle.hep_binding.specs.Shapes.{cells_to_locals}
+use Rattle.hep_proc.proofs.UnchangedFrames.{keeps-same}
+use Rattle.hep_binding.specs.AdjustableBounds.{cells_to_locals}
 use Rattle.hep_binding.proofs.Names.{full-given, given-at, given-many, given-next, index-found}
 
 -- ---- the two cells of one
@@ -90,7 +90,7 @@ module _ (f : FramesOf) (a : ℕ) (nodes : Nodes) (frame : Frame) (framed : fram
             let same = one-cell unit (argument x, 1) c n (place 1 n (omega arith) last) at in
             sym (same_Some unset_cell slot (value 1 same))
 
-  pub keeps-put : (store : Store) (before after : Space) (g : Given) → IsGiven f.program f.state f.layout a x d g → (store (local a x 1)).full ≡ false → IsPut (frame.first + (1 + 2 * k)) g before after
+  pub keeps-put : (store : Store) (before after : Space) (g : DummyStorage) → IsGiven f.program f.state f.layout a x d g → (store (local a x 1)).full ≡ false → IsPut (frame.first + (1 + 2 * k)) g before after
       → Keeps (stored_in (written_up_to f a (1 + 2 * k)) store) before nodes → Keeps (stored_in (written_up_to f a (suc (suc (1 + 2 * k)))) (with_one_given store a x g)) after nodes
   keeps-put store before after (given.Value v) is empty put h = keeps-value store before after v is empty put h
   keeps-put store before after (given.Units first count) is empty put h = keeps-units store before after first count is put h
@@ -122,7 +122,7 @@ keeps-unset f s a arena nodes same h =
 -- ---- the first k are
 
 -- what is kept once the first k are written, where the frame begins at a cell
-abbrev pub AreBound : ℕ → List Given → Space → Nodes → ℕ → Space → Nodes → Type 0
+abbrev pub AreBound : ℕ → List DummyStorage → Space → Nodes → ℕ → Space → Nodes → Type 0
 AreBound first given before old k after new =
     (f : FramesOf) (s : State) (a : ℕ) → Keeps (unwritten f s a) before old → f.state.activations ≡ s.activations → ((y : Name) → s.store (local a y 1) ≡ unset_cell) → IsBinding f.program f.state f.layout a first given
     → Keeps (stored_in (written_up_to f a (1 + 2 * k)) (with_given s.store a (dummies_of (unit_framed f a)) (take k given))) after new
@@ -131,12 +131,12 @@ none-given : (store : Store) (a : ℕ) (xs : List Name) → with_given store a x
 none-given store a [] = refl
 none-given store a (x ∷ xs) = refl
 
-pub bound-begins : (first : ℕ) (given : List Given) (before : Space) (old : Nodes) → AreBound first given before old 0 before old
+pub bound-begins : (first : ℕ) (given : List DummyStorage) (before : Space) (old : Nodes) → AreBound first given before old 0 before old
 bound-begins first given before old f s a h same fresh b =
     subst (λ z. Keeps (stored_in (written_up_to f a 1) z) before old) (sym (none-given s.store a (dummies_of (unit_framed f a))))
     (keeps-unset f s a before old same h)
 
-pub bound-goes_on : (first : ℕ) (given : List Given) (before : Space) (old : Nodes) (k : ℕ) (g : Given) (mid after : Space) (nodes new : Nodes)
+pub bound-goes_on : (first : ℕ) (given : List DummyStorage) (before : Space) (old : Nodes) (k : ℕ) (g : DummyStorage) (mid after : Space) (nodes new : Nodes)
     → slice_get given k ≡ Some g → IsPut (first + 1 + 2 * k) g mid after → new ≡ nodes → AreBound first given before old k mid nodes → AreBound first given before old (k + 1) after new
 bound-goes_on first given before old k g mid after nodes new there put same_nodes so_far f s a h same fresh b =
     let names = dummies_of (unit_framed f a) in
@@ -153,12 +153,12 @@ bound-goes_on first given before old k g mid after nodes new there put same_node
     subst (λ m. Keeps (stored_in (written_up_to f a m) (with_one_given store a at.name g)) after new) cells (
     subst (Keeps (stored_in (written_up_to f a (suc (suc (1 + 2 * k)))) (with_one_given store a at.name g)) after) (sym same_nodes) written)))
 
-pub bound-next : (first : ℕ) (given : List Given) (before : Space) (old : Nodes) (k at : ℕ) (default : Given) (mid after : Space) (nodes new : Nodes)
+pub bound-next : (first : ℕ) (given : List DummyStorage) (before : Space) (old : Nodes) (k at : ℕ) (default : DummyStorage) (mid after : Space) (nodes new : Nodes)
     → k < length given → at ≡ first + 1 + 2 * k → IsPut at (get_or given k default) mid after → new ≡ nodes → AreBound first given before old k mid nodes → AreBound first given before old (k + 1) after new
 bound-next first given before old k at default mid after nodes new less place put same h =
     bound-goes_on first given before old k (get_or given k default) mid after nodes new (slice_get-get_or given k default less) (subst (λ p. IsPut p (get_or given k default) mid after) place put) same h
 
-pub bound-ends : (first : ℕ) (given : List Given) (before : Space) (old : Nodes) (k : ℕ) (after : Space) (new : Nodes) → k ≡ length given → AreBound first given before old k after new
+pub bound-ends : (first : ℕ) (given : List DummyStorage) (before : Space) (old : Nodes) (k : ℕ) (after : Space) (new : Nodes) → k ≡ length given → AreBound first given before old k after new
     → (f : FramesOf) (s : State) (a : ℕ) → Keeps (unwritten f s a) before old → f.state.activations ≡ s.activations → f.state.store ≡ with_given s.store a (dummies_of (unit_framed f a)) given → ((y : Name) → s.store (local a y 1) ≡ unset_cell)
     → IsBinding f.program f.state f.layout a first given → Keeps (written_up_to f a (cells_to_locals (unit_framed f a))) after new
 bound-ends first given before old k after new all so_far f s a h same stored fresh b =

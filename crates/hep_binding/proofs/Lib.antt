@@ -1,15 +1,16 @@
-pub mod Readable
-pub mod Stored
+pub use Rattle.hep_accepted_laws.proofs.Parts as AcceptedLawsParts
+pub mod ReadableBounds
+pub mod StoredDummies
 pub mod CommonCells
-pub mod Bound
-pub mod Shapable
+pub mod BoundDummies
+pub mod ShapableCalls
 mod Worked
 pub mod Cells
 mod Names
 pub mod Dummies
-pub mod Begun
-pub mod Found
+pub mod BegunActivations
+pub mod FoundShapes
 pub mod Calls
-pub mod Entered
-pub mod Shaped
+pub mod EnteredFrames
+pub mod ShapedDummies
 pub mod Nodes

@@ -5,9 +5,10 @@ use Rattle.std.proofs.lemmas.Option.{same_Some, none-some}
 use Rattle.hep_machine.specs.Words.{Name, index_among, same_name, Units, Layout, dummy_at, Dummy, Location, State, Store, local, same_location}
 use Rattle.hep_source.proofs.NameTests.{equal_names, same_name-self}
 use Rattle.hep_machine.proofs.Locations.{equal_locations}
-use Rattle.hep_step.specs.declared.given.Given.{Given}
-use Rattle.hep_step.specs.declared.given.Given.TheVariants as given
-use Rattle.hep_binding.specs.Giving.{AreDistinct, AreGiven, IsGiven, with_given, with_one_given}
+use Rattle.hep_step.specs.declared.dummy_storage.DummyStorage.{DummyStorage}
+use Rattle.hep_step.specs.declared.dummy_storage.DummyStorage.TheVariants as given
+use Rattle.hep_binding.specs.ActualArguments.{AreGiven, IsGiven, with_given, with_one_given}
+use Rattle.hep_code.specs.Sources.{IsNamedOnce}
 
 -- ---- names
 
@@ -19,19 +20,19 @@ found x (y ∷ ys) (suc k) e = by_test (found x ys k e) (same_name x y) refl whe
   by_test rest true t = (0, refl, ap (λ z. Some z) (sym (equal_names x y t)))
   by_test rest false t = (suc rest.0, ap (option_map suc) rest.1, rest.2)
 
-pub index-found : (x : Name) (xs : List Name) (k : ℕ) → AreDistinct xs → slice_get xs k ≡ Some x → index_among x xs ≡ Some k
+pub index-found : (x : Name) (xs : List Name) (k : ℕ) → IsNamedOnce xs → slice_get xs k ≡ Some x → index_among x xs ≡ Some k
 index-found x xs k distinct e = let there = found x xs k e in there.1 ∙ ap (λ j. Some j) (distinct there.0 k x there.2 e)
 
 -- ---- what is given to dummy argument k
 
-pub record IsGivenAt (program : Units) (s : State) (layout : Layout) (a : ℕ) (xs : List Name) (ds : List Dummy) (k : ℕ) (g : Given) : Type 0 where
+pub record IsGivenAt (program : Units) (s : State) (layout : Layout) (a : ℕ) (xs : List Name) (ds : List Dummy) (k : ℕ) (g : DummyStorage) : Type 0 where
   pub name : Name
   pub named : slice_get xs k ≡ Some name
   pub dummy : Dummy
   pub there : dummy_at ds k ≡ dummy
   pub is_given : IsGiven program s layout a name dummy g
 
-pub given-at : (program : Units) (s : State) (layout : Layout) (a : ℕ) (xs : List Name) (ds : List Dummy) (gs : List Given) (k : ℕ) (g : Given) → AreGiven program s layout a xs ds gs → slice_get gs k ≡ Some g → IsGivenAt program s layout a xs ds k g
+pub given-at : (program : Units) (s : State) (layout : Layout) (a : ℕ) (xs : List Name) (ds : List Dummy) (gs : List DummyStorage) (k : ℕ) (g : DummyStorage) → AreGiven program s layout a xs ds gs → slice_get gs k ≡ Some g → IsGivenAt program s layout a xs ds k g
 given-at program s layout a [] [] [] k g h e = absurd (none-some g e)
 given-at program s layout a (x ∷ xs) (d ∷ ds) (z ∷ gs) zero g h e = record { name = x; named = refl; dummy = d; there = refl; is_given = subst (IsGiven program s layout a x d) (same_Some z g e) h.0 }
 given-at program s layout a (x ∷ xs) (d ∷ ds) (z ∷ gs) (suc k) g h e =
@@ -40,14 +41,14 @@ given-at program s layout a (x ∷ xs) (d ∷ ds) (z ∷ gs) (suc k) g h e =
 given-at program s layout a _ _ _ k g h e = absurd h
 
 -- as many as there are names
-pub given-many : (program : Units) (s : State) (layout : Layout) (a : ℕ) (xs : List Name) (ds : List Dummy) (gs : List Given) → AreGiven program s layout a xs ds gs → length gs ≡ length xs
+pub given-many : (program : Units) (s : State) (layout : Layout) (a : ℕ) (xs : List Name) (ds : List Dummy) (gs : List DummyStorage) → AreGiven program s layout a xs ds gs → length gs ≡ length xs
 given-many program s layout a [] [] [] h = refl
 given-many program s layout a (x ∷ xs) (d ∷ ds) (g ∷ gs) h = ap suc (given-many program s layout a xs ds gs h.1)
 given-many program s layout a _ _ _ h = absurd h
 
 -- ---- what is stored
 
-pub given-next : (store : Store) (a : ℕ) (xs : List Name) (gs : List Given) (k : ℕ) (x : Name) (g : Given) → slice_get xs k ≡ Some x → slice_get gs k ≡ Some g
+pub given-next : (store : Store) (a : ℕ) (xs : List Name) (gs : List DummyStorage) (k : ℕ) (x : Name) (g : DummyStorage) → slice_get xs k ≡ Some x → slice_get gs k ≡ Some g
     → with_given store a xs (take (suc k) gs) ≡ with_one_given (with_given store a xs (take k gs)) a x g
 given-next store a [] gs k x g e f = absurd (none-some x e)
 given-next store a (y ∷ ys) [] k x g e f = absurd (none-some g f)
@@ -57,14 +58,14 @@ given-next store a (y ∷ ys) (h ∷ hs) zero x g e f = none-more ys (λ i. with
   none-more (z ∷ zs) same = same
 given-next store a (y ∷ ys) (h ∷ hs) (suc k) x g e f = given-next (with_one_given store a y h) a ys hs k x g e f
 
-full-one : (store : Store) (at : Location) (a : ℕ) (x : Name) (g : Given) → (with_one_given store a x g at).full ≡ (store at).full
+full-one : (store : Store) (at : Location) (a : ℕ) (x : Name) (g : DummyStorage) → (with_one_given store a x g at).full ≡ (store at).full
 full-one store at a x (given.Units first count) = refl
 full-one store at a x (given.Value v) = by_test (same_location at (local a x 1)) refl where
   by_test : (b : Bool) → same_location at (local a x 1) ≡ b → (if b then record { value = Some v; full = (store (local a x 1)).full } else store at).full ≡ (store at).full
   by_test false e = refl
   by_test true e = ap (λ z. (store z).full) (sym (equal_locations at (local a x 1) e))
 
-pub full-given : (store : Store) (at : Location) (a : ℕ) (xs : List Name) (gs : List Given) → (with_given store a xs gs at).full ≡ (store at).full
+pub full-given : (store : Store) (at : Location) (a : ℕ) (xs : List Name) (gs : List DummyStorage) → (with_given store a xs gs at).full ≡ (store at).full
 full-given store at a [] gs = refl
 full-given store at a (x ∷ xs) [] = refl
 full-given store at a (x ∷ xs) (g ∷ gs) = full-given (with_one_given store a x g) at a xs gs ∙ full-one store at a x g

@@ -10,7 +10,7 @@ use Rattle.hep_arena.specs.Space.{Space}
 use Rattle.hep_arena.proofs.Gaps.{taken-gaps}
 use Rattle.hep_layout.proofs.Frames.{among, among-out, among-with_frame, apart-with_frame}
 use Rattle.hep_layout.proofs.Memory.{memory-fits}
-use Rattle.hep_proc.specs.Keeping.{FramesOf, IsTaken}
+use Rattle.hep_proc.specs.FrameTable.{FramesOf, IsTaken}
 
 -- ---- the nodes
 

@@ -6,9 +6,9 @@ use Rattle.hep_machine.specs.declared.slot.Slot.{Slot}
 use Rattle.hep_code.specs.declared.bound.BoundOperation.TheVariants as operations
 use Rattle.hep_image.specs.declared.dummy.DummyArgument.{DummyArgument}
 use Rattle.hep_image.specs.declared.dummy.DummyArgument.TheVariants.{Scalar, Array, Adjustable}
-use Rattle.hep_step.specs.declared.given.Given.{Given}
-use Rattle.hep_step.specs.declared.given.Given.TheVariants as giving
-use Rattle.hep_binding.specs.Fitting.{are_fitting, longest_code, shapes_of}
+use Rattle.hep_step.specs.declared.dummy_storage.DummyStorage.{DummyStorage}
+use Rattle.hep_step.specs.declared.dummy_storage.DummyStorage.TheVariants as giving
+use Rattle.hep_binding.specs.DummyShapes.{are_fitting, longest_code, shapes_of}
 
 abbrev bound : ℕ → Option ℕ → Bounds
 bound lower upper = record { lower = pos lower; upper = option_map pos upper } ∷ []
@@ -19,7 +19,7 @@ bound lower upper = record { lower = pos lower; upper = option_map pos upper } �
 abbrev rows : Option ℕ → List DummyArgument
 rows last = Scalar ∷ Array (record { lower = pos 1; upper = Some (pos 3) } ∷ bound 1 last) ∷ []
 
-abbrev fitting : Option ℕ → List Given → Bool
+abbrev fitting : Option ℕ → List DummyStorage → Bool
 fitting last gs = are_fitting [] gs (rows last)
 
 -- six elements fit six storage units; they don't fit five, nor an expression, whatever is given to the first dummy argument
@@ -50,7 +50,7 @@ adjusted cell =
     ∷ Adjustable (operations.Value (Int (pos 1)) ∷ operations.InCommon cell ∷ [])
     ∷ []
 
-abbrev three : Given
+abbrev three : DummyStorage
 three = giving.Value (Int (pos 3))
 
 -- three elements and four; the first is what an expression gives, or what is stored in the storage unit that is given

@@ -1,33 +1,23 @@
-//! What actual arguments give is written to the cells of dummy arguments.
+//! Writes what actual arguments give to the cells of dummy arguments.
 ghost use Rattle.std.specs.Prelude.{◌≡◌, ◌+◌, ◌*◌, ◌<◌, ◌≤◌, ℕ, Some, length};
 ghost use Rattle.hep_machine.specs.Words.{Name, dummies_of, unset_cell, State, local};
 ghost use Rattle.hep_arena.specs.Holes.{IsOut};
-ghost use Rattle.hep_layout.specs.Descriptors.{number as slot_of_number};
-ghost use Rattle.hep_proc.specs.Keeping.{FramesOf, Keeps};
+ghost use Rattle.hep_proc.specs.FrameTable.{FramesOf, Keeps};
 ghost use Rattle.hep_proc.specs.Nodes.{nodes_of};
-ghost use Rattle.hep_proc.specs.Placing.{KeepsPlaces};
-ghost use Rattle.hep_binding.specs.Giving.{with_given};
-ghost use Rattle.hep_binding.specs.Shapes.{cells_to_locals};
-ghost use Rattle.hep_binding.specs.Writing.{IsBinding, IsPut, unit_framed, unwritten, written_up_to};
+ghost use Rattle.hep_proc.specs.FrameEntry.{KeepsPlaces};
+ghost use Rattle.hep_binding.specs.ActualArguments.{with_given};
+ghost use Rattle.hep_binding.specs.AdjustableBounds.{cells_to_locals};
+ghost use Rattle.hep_binding.specs.FrameWriting.{IsBinding, IsPut, unit_framed, unwritten, written_up_to};
 
 use hep_machine::Slot;
 use hep_proc::Frames;
 use hep_source::Value;
-use hep_step::Given;
+use hep_step::DummyStorage;
+use hep_step::frame::number;
 
+// Writes what is given to the two cells of a dummy argument. A single value leaves the second cell without one.
 #[inline(always)]
-pub(crate) fn number(value: i64) -> Slot
-    ensures { result ≡ slot_of_number value }
-{
-    Slot {
-        value: Some(Value::Int(value)),
-        full: false,
-    }
-}
-
-// Writes what is given to the two cells of a dummy argument, of which the second one has no value yet.
-#[inline(always)]
-fn put(frames: &mut Frames, at: u32, given: Given)
+fn put(frames: &mut Frames, at: u32, given: DummyStorage)
     requires few { length frames.old.arena.contents ≤ 16777216 }
     requires inside { at + 2 ≤ length frames.old.arena.contents }
     requires first { IsOut at frames.old.arena.holes }
@@ -36,25 +26,25 @@ fn put(frames: &mut Frames, at: u32, given: Given)
     ensures same { KeepsPlaces frames.old frames.new }
 {
     match given {
-        Given::Value(value) => {
+        DummyStorage::Value(value) => {
             let slot = Slot {
                 value: Some(value),
                 full: false,
             };
             frames.set(at, slot);
         }
-        Given::Units { first, count } => {
+        DummyStorage::Units { first, count } => {
             frames.set(at, number(i64::from(first)));
             frames.set(at + 1, number(i64::from(count)));
         }
     }
 }
 
-/// Writes what is given to the cells of a new activation's dummy arguments, whose frame begins at a cell.
+/// Writes what is given to the cells of a new activation's dummy arguments. Its frame begins at `first`.
 ///
-/// The frame is out, and has a header and two cells for each that is given.
+/// The frame is in the arena, and has a header and two cells for each dummy argument.
 #[inline(always)]
-pub fn bind(frames: &mut Frames, first: u32, given: &[Given])
+pub fn bind(frames: &mut Frames, first: u32, given: &[DummyStorage])
     requires few { length frames.old.arena.contents ≤ 16777216 }
     requires inside { first + (1 + 2 * length given.now) ≤ length frames.old.arena.contents }
     requires out { (p : ℕ) → first ≤ p → p < first + (1 + 2 * length given.now) → IsOut p frames.old.arena.holes }

@@ -1,22 +1,26 @@
-//! Binding: the shapes that the arrays among the dummy arguments of a unit have when it is called, and the frame of its new activation
-//! (X3.9-1978, 5.5.1 and 15.9.3).
+//! Binding (X3.9-1978, 5.5.1 and 15.9.3): the shapes of a unit's dummy arrays when it is called, and the frame of the
+//! new activation. [`find_shapes`] computes the shapes, [`begin`] enters the frame, and [`shape_all`] writes the
+//! shapes into it. None of them takes memory.
 //!
-//! A shape is computed from the cells of the arena and what is given, without memory. The frame's dummy arguments are written, and the
-//! state that a CALL, CREATE or reference gives is kept: [`laws`] and [`shape_laws`].
+//! The contracts of [`laws`] and [`shape_laws`] say that the machine then keeps the state after the CALL, CREATE or
+//! reference.
 #![tactic(auto)]
 
-mod beginning;
+mod activation_start;
+mod adjustable_bounds;
+pub mod adjustable_shape;
 mod binding;
-pub mod fitting;
+pub mod bound_evaluation;
+pub mod dummy_shapes;
 pub mod laws;
-pub mod shape;
 pub mod shape_laws;
-mod shaping;
-pub mod value;
 
-pub use beginning::begin;
+pub use activation_start::begin;
+pub use adjustable_bounds::shape_all;
+pub use adjustable_shape::shape_given;
 pub use binding::bind;
-pub use fitting::{find_shapes, longest_code};
+pub use bound_evaluation::bound_value;
+pub use dummy_shapes::{find_shapes, longest_code};
 pub use hep_accepted_laws::code::{arrays_are_there, variables_of_the_code_are_placed};
 pub use hep_accepted_laws::names::names_are_given_once;
 pub use hep_accepted_laws::runs::{
@@ -25,6 +29,3 @@ pub use hep_accepted_laws::runs::{
     references_come_from_statements, subroutines_are_called, units_are_there, variables_are_placed,
     works_come_from_statements,
 };
-pub use shape::shape_given;
-pub use shaping::shape_all;
-pub use value::bound_value;

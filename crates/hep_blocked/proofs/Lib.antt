@@ -1,24 +1,24 @@
 pub mod Wants
-pub mod Adding
+pub mod QueueAdding
 pub mod Wanting
-pub mod Tying
+pub mod QueueInvariants
 pub mod Numbering
-pub mod Removing
-pub mod Above
+pub mod QueueRemoving
+pub mod RanksAbove
 mod Worked
 pub mod Bits
 pub mod Listed
 mod WorkedNumbers
-mod WorkedRolls
+mod WorkedRosters
 pub mod Waiting
-pub mod Staying
-pub mod Touching
-pub mod Holding
-pub mod Placing
-pub mod Awaiting
+pub mod UnchangedNeeds
+pub mod TouchedUnits
+pub mod HeldUnits
+pub mod RankPlaces
+pub mod NeededCells
 pub mod Members
-pub mod Living
+pub mod LivingProcesses
 pub mod Waking
-pub mod Keeping
+pub mod KeptNeeds
 pub mod Ranks
 pub mod Rosters

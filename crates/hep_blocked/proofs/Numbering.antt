@@ -7,11 +7,11 @@ use Rattle.std.proofs.lemmas.Map.Views.{any-filter_same}
 use Rattle.hep_machine.specs.Words.{is_number_among, without}
 use Rattle.hep_blocked.specs.Numbers.{Numbers, with_number}
 use Rattle.hep_cells.specs.declared.want.Want.{Want}
-use Rattle.hep_blocked.specs.Lists.{AreNumbers, IsTied, without_numbers}
-use Rattle.hep_blocked.specs.Queues.{want_eq}
+use Rattle.hep_blocked.specs.QueueInvariant.{AreNumbers, IsTied, without_numbers}
+use Rattle.hep_blocked.specs.WaitQueues.{want_eq}
 use Rattle.hep_blocked.specs.Waiting.{awake, waiting_at, wants, with_want}
-use Rattle.hep_blocked.proofs.Adding.{among-one}
-use Rattle.hep_blocked.proofs.Tying.{grown-length, waiting-blocked}
+use Rattle.hep_blocked.proofs.QueueAdding.{among-one}
+use Rattle.hep_blocked.proofs.QueueInvariants.{grown-length, waiting-blocked}
 use Rattle.hep_blocked.proofs.Wanting.{waiting-awake}
 use Rattle.hep_source.proofs.Tests.{numbers-turned}
 

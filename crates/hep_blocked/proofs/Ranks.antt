@@ -6,7 +6,7 @@ use Rattle.hep_machine.specs.Words.{first_above, is_number_among}
 use Rattle.hep_machine.proofs.Held.{among-head}
 use Rattle.hep_cells.specs.declared.want.Want.{Want}
 use Rattle.hep_blocked.specs.Numbers.{AreRising}
-use Rattle.hep_blocked.specs.Rolls.{behind, number_at, place_of, places_to, waiting_in, want_of}
+use Rattle.hep_blocked.specs.Rosters.{behind, number_at, place_of, places_to, waiting_in, want_of}
 use Rattle.hep_blocked.specs.Waiting.{waiting_at}
 use Rattle.hep_source.proofs.Tests.{or-true}
 

@@ -6,22 +6,17 @@ use Rattle.std.proofs.lemmas.Option.{none-some, same_Some}
 use Rattle.std.proofs.lemmas.Bool.{cases_Bool, cases_lt, cases_eq, lt-ltb, le-ltb, ltb-true, ne_eqb, eq-eqb}
 use Rattle.hep_machine.specs.Words.{first_above, is_number_among, without}
 use Rattle.hep_cells.specs.declared.want.Want.{Want}
-use Rattle.hep_blocked.specs.Listing.{IsReadyNoMore, WaitsNow}
+use Rattle.hep_blocked.specs.RosterUpdates.{IsReadyNoMore, WaitsNow}
 use Rattle.hep_blocked.specs.Numbers.{AreRising, with_number}
-use Rattle.hep_blocked.specs.Rolls.{number_at, place_of, places_to, waiting_in, want_of}
+use Rattle.hep_blocked.specs.Rosters.{number_at, place_of, places_to, waiting_in, want_of}
 use Rattle.hep_blocked.specs.Waiting.{awake, waiting_at, waits_for, wants}
-use Rattle.hep_blocked.proofs.Above.{IsLeastAbove, first-least, is_among}
-use Rattle.hep_blocked.proofs.Adding.{among-one}
+use Rattle.hep_blocked.proofs.RanksAbove.{IsLeastAbove, first-least, is_among}
+use Rattle.hep_blocked.proofs.QueueAdding.{among-one}
 use Rattle.hep_blocked.proofs.Members.{among-filter}
 use Rattle.hep_blocked.proofs.Ranks.{ArePlaces, above-behind, among-mapped, at-place, less-at, past-at, place-above, place-found, place-is, place-more, place-within, want-mapped}
+use Rattle.hep_source.proofs.Tests.{numbers-turned}
 
 -- ---- places of two numbers
-
-equal-turned : (p q : ℕ) → nat_eq p q ≡ nat_eq q p
-equal-turned p q = elim (cases_eq p q) [
-  | inl e ↦ eq-eqb p q e ∙ sym (eq-eqb q p (sym e))
-  | inr ne ↦ ne_eqb p q ne ∙ sym (ne_eqb q p (λ e. ne (sym e)))
-]
 
 -- numbers are the same where their places are, if one has a place
 pub same-place : (p q greatest : ℕ) (ns : List ℕ) → AreRising 1 greatest ns → 1 ≤ place_of ns q → nat_eq p q ≡ nat_eq (place_of ns p) (place_of ns q)
@@ -126,7 +121,7 @@ module _ (p greatest : ℕ) (ns xs : List ℕ) (ws : List (Option Want)) (rise :
   waiting-marked want wants-now told q =
       want-mapped q 1 p (ns ++ p ∷ []) wants-now further
       ∙ (told (place_of (ns ++ p ∷ []) q)
-      ∙ (λ i. if (equal-turned (suc (length ns)) (place_of (ns ++ p ∷ []) q) ∙ last-place q) i then want else (sym (want-mapped q 1 p (ns ++ p ∷ []) ws further) ∙ waiting-more q) i))
+      ∙ (λ i. if (numbers-turned (suc (length ns)) (place_of (ns ++ p ∷ []) q) ∙ last-place q) i then want else (sym (want-mapped q 1 p (ns ++ p ∷ []) ws further) ∙ waiting-more q) i))
 
   -- one that isn't there waits for nothing
   pub waiting-not : (want : Option Want) → is_some want ≡ false → (q : ℕ) → want_of (waiting_in ns ws) q ≡ (if nat_eq q p then want else want_of (waiting_in ns ws) q)
@@ -184,7 +179,7 @@ module _ (greatest : ℕ) (ns xs : List ℕ) (ws : List (Option Want)) (rise : A
       ∙ λ i. if alike i then Some (unwrap_or (sym (want-mapped p 1 greatest ns ws rise) i) want) else sym (want-mapped q 1 greatest ns ws rise) i)
     where
       alike : nat_eq (place_of ns p) (place_of ns q) ≡ nat_eq p q
-      alike = equal-turned (place_of ns p) (place_of ns q) ∙ (sym (same-place q p greatest ns rise some) ∙ equal-turned q p)
+      alike = numbers-turned (place_of ns p) (place_of ns q) ∙ (sym (same-place q p greatest ns rise some) ∙ numbers-turned q p)
 
   -- ---- those that are woken
 

@@ -6,11 +6,11 @@ use mathlib.Core.Bool.{beq}
 use Rattle.hep_machine.specs.Words.{Units, Layout, is_held, layout_of, run, Location, State, step, is_waiting}
 use Rattle.hep_cells.specs.Changes.{full_after}
 use Rattle.hep_cells.specs.declared.want.Want.{Want}
-use Rattle.hep_blocked.specs.Queues.{want_eq}
+use Rattle.hep_blocked.specs.WaitQueues.{want_eq}
 use Rattle.hep_layout.specs.Words.{address}
-use Rattle.hep_blocked.specs.Awaiting.{NeedsCell}
-use Rattle.hep_blocked.proofs.Awaiting.{need-after, waits-by-state}
-use Rattle.hep_blocked.specs.Listing.{HasChanged, HasEmptied, awake_by, awake_where, is_woken, wants_emptied}
+use Rattle.hep_blocked.specs.NeededCells.{NeedsCell}
+use Rattle.hep_blocked.proofs.NeededCells.{need-after, waits-by-state}
+use Rattle.hep_blocked.specs.RosterUpdates.{HasChanged, HasEmptied, awake_by, awake_where, is_woken, wants_emptied}
 
 -- ---- what is still waited for
 

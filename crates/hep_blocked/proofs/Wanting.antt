@@ -3,7 +3,7 @@ use Rattle.std.proofs.Common.{◌≡◌, ℕ, zero, suc, ◌+◌, ◌<◌, true,
 use Rattle.std.proofs.lemmas.Bool.{cases_Bool, ne_eqb, eq-eqb}
 use Rattle.hep_machine.specs.Words.{is_number_among}
 use Rattle.hep_cells.specs.declared.want.Want.{Want}
-use Rattle.hep_blocked.specs.Queues.{want_eq}
+use Rattle.hep_blocked.specs.WaitQueues.{want_eq}
 use Rattle.hep_blocked.proofs.Wants.{want-apart, want-is}
 use Rattle.hep_blocked.specs.Waiting.{awake, waiting_from, numbers_waiting, waiting_at, wants}
 

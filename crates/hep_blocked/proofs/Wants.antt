@@ -4,17 +4,14 @@ use Rattle.std.specs.Global.{Vec}
 use Rattle.std.proofs.lemmas.Bool.{cases_Bool, and_parts, and_from, eqb-true, eq-eqb}
 use mathlib.Core.Bool.{beq}
 use Rattle.hep_cells.specs.declared.want.Want.{Want}
-use Rattle.hep_blocked.specs.Queues.{items_of, want_eq}
+use Rattle.hep_blocked.specs.WaitQueues.{items_of, want_eq}
+use Rattle.hep_source.proofs.Tests.{equal-self}
 
 beq-is : (a b : Bool) → beq a b ≡ true → a ≡ b
 beq-is true true h = refl
 beq-is true false h = cc
 beq-is false true h = cc
 beq-is false false h = refl
-
-beq-same : (a : Bool) → beq a a ≡ true
-beq-same true = refl
-beq-same false = refl
 
 pub want-is : (v w : Want) → want_eq v w ≡ true → v ≡ w
 want-is v w h =
@@ -24,7 +21,7 @@ want-is v w h =
     λ i. record { cell = cell i; full = full i }
 
 pub want-same : (w : Want) → want_eq w w ≡ true
-want-same w = and_from (nat_eq w.cell w.cell) (beq w.full w.full) (eq-eqb w.cell w.cell refl) (beq-same w.full)
+want-same w = and_from (nat_eq w.cell w.cell) (beq w.full w.full) (eq-eqb w.cell w.cell refl) (equal-self w.full)
 
 pub want-apart : (v w : Want) → want_eq v w ≡ false → want_eq w v ≡ false
 want-apart v w h = elim (cases_Bool (want_eq w v)) [

@@ -1,8 +1,8 @@
-pub mod Queues
+pub mod WaitQueues
 pub mod Waiting
-pub mod Lists
+pub mod QueueInvariant
 pub mod Numbers
-pub mod Rolls
+pub mod Rosters
 pub mod Needs
-pub mod Awaiting
-pub mod Listing
+pub mod NeededCells
+pub mod RosterUpdates

@@ -71,7 +71,7 @@ touched_by program p s = on_top touched_by_next program s (living s p)
 abbrev pub is_met : Wanted → Store → Bool
 is_met w store = if w.full then (store w.at).full else not (store w.at).full
 
--- what is needed, unless it is so
+-- what is needed, unless the storage unit is so
 abbrev pub unmet : Option Wanted → Store → Option Wanted
 unmet None store = None
 unmet (Some w) store = if is_met w store then None else Some w

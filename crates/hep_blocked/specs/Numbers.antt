@@ -4,12 +4,12 @@ use Rattle.std.specs.Int.{bit_at}
 use Rattle.hep_arena.specs.declared.tree.Tree.{Tree}
 use Rattle.hep_arena.specs.Trees.{IsTree, leaves_of, number}
 
--- how many numbers have room, which are those from 1 on, and the numbers of the ready processes, which rise
+-- the greatest number that there is room for, and the numbers of the ready processes, which rise
 pub record Numbers : Type 0 where
   pub room : ℕ
   pub ready : List ℕ
 
--- rising numbers and p, which is put where it belongs; the same ones where it is among them
+-- rising numbers with p inserted; the same ones where it is among them
 abbrev pub with_number : ℕ → List ℕ → List ℕ
 with_number p [] = p ∷ []
 with_number p (q ∷ qs) = if nat_lt p q then p ∷ q ∷ qs else (if nat_eq p q then q ∷ qs else q ∷ with_number p qs)
@@ -20,7 +20,7 @@ numbers_from n [] = []
 numbers_from n (zero ∷ ms) = numbers_from (suc n) ms
 numbers_from n (suc m ∷ ms) = n ∷ numbers_from (suc n) ms
 
--- each number has a leaf, 1 the first one
+-- each number has a leaf; the number of the first one is 1
 abbrev pub numbers_of : Tree → Numbers
 numbers_of tree = record { room = tree.size; ready = numbers_from 1 (leaves_of tree) }
 
@@ -28,12 +28,12 @@ numbers_of tree = record { room = tree.size; ready = numbers_from 1 (leaves_of t
 abbrev pub AreBits : ℕ → List ℕ → Type 0
 AreBits bits marks = (k : ℕ) → k < 64 → bit_at bits k ≡ number marks k
 
--- where the first one of 64 bits is from a place on that is set
+-- the first of 64 bits that is set, from a place on
 abbrev pub IsNextBit : ℕ → ℕ → Option ℕ → Type 0
 IsNextBit bits from None = (k : ℕ) → from ≤ k → k < 64 → bit_at bits k ≡ 0
 IsNextBit bits from (Some at) = (from ≤ at) × (at < 64) × (bit_at bits at ≡ 1) × ((k : ℕ) → from ≤ k → k < at → bit_at bits k ≡ 0)
 
--- the first leaves stand in the bits too
+-- the bits have the first leaves too
 pub record IsMarked (of : Tree) (first : ℕ) : Type 0 where
   pub tree : IsTree of
   pub bits : AreBits first (leaves_of of)

@@ -1,22 +1,22 @@
-//! Laws of lists of processes: what is kept of who waits and who is ready stays what the definitions say.
+//! Laws of the lists: the waiting and the ready processes that are kept are those of the definitions.
 ghost use Rattle.std.specs.Prelude.{◌≡◌, ◌≢◌, ◌++◌, ◌∷◌, ℕ, Bool, List, [], Option, Some, None};
 ghost use Rattle.hep_machine.specs.Words.{Units, Layout, is_held, layout_of, opening, run, Progress, living_from};
 ghost use Rattle.hep_machine.specs.Words.{progress_after_entry, progress_after_step, ready_in, step};
 ghost use Rattle.hep_cells.specs.declared.want.Want.{Want};
-ghost use Rattle.hep_blocked.specs.Rolls.{want_of};
+ghost use Rattle.hep_blocked.specs.Rosters.{want_of};
 ghost use Rattle.hep_blocked.specs.Numbers.{AreRising};
-ghost use Rattle.hep_blocked.specs.Listing.{AreListed, GoesAlong, GoesAlongEmptying, HasChanged, HasEmptied, IsBlocked, IsReadyNoMore};
-ghost use Rattle.hep_blocked.specs.Listing.{WaitsNow};
+ghost use Rattle.hep_blocked.specs.RosterUpdates.{AreListed, GoesAlong, GoesAlongEmptying, HasChanged, HasEmptied, IsBlocked, IsReadyNoMore};
+ghost use Rattle.hep_blocked.specs.RosterUpdates.{WaitsNow};
 
 use crate::need_laws::others_need_the_same;
 
-/// At the opening nobody is listed, and process 1 is ready.
+/// At the opening no process is listed as waiting, and process 1 is ready.
 pub fn openings_list_nobody()
     ensures { (program : Units) (cells : ℕ)
         → AreListed program cells [] (record { state = opening program; listed = [] }) (want_of []) (1 ∷ []) }
 {}
 
-/// An entry without a step lists its process, which waits.
+/// An entry without a step lists its process as waiting.
 pub fn waiting_processes_are_listed()
     ensures { (program : Units) (cells : ℕ) (choices : List ℕ) (x : Progress) (waiting after : ℕ → Option Want)
         (ready left : List ℕ) (p : ℕ) (w : Want) → AreListed program cells choices x waiting ready → IsBlocked program cells choices p w
@@ -24,8 +24,8 @@ pub fn waiting_processes_are_listed()
         → AreListed program cells choices (progress_after_entry program x (record { process = p; steps = 0 }) 0) after left }
 {}
 
-/// After a step that fills or empties one cell at most just those are listed that still wait, and just those of the others are ready that
-/// live.
+/// After a step that fills or empties one cell at most, just the processes are listed that still wait, and just the
+/// other living ones are ready.
 pub fn lists_go_along_with_steps()
     ensures { (program : Units) (cells : ℕ) (choices : List ℕ) (x : Progress) (waiting waiting_after : ℕ → Option Want)
         (ready ready_after : List ℕ) (p : ℕ) (changed : Option Want) (layout : Layout)
@@ -38,8 +38,8 @@ pub fn lists_go_along_with_steps()
     others_need_the_same();
 }
 
-/// After a step that empties cells, as a PURGE does, just those are listed that still wait, and just those of the others
-/// are ready that live.
+/// After a step that empties cells, as a PURGE does, just the processes are listed that still wait, and just the
+/// other living ones are ready.
 pub fn lists_go_along_with_purges()
     ensures { (program : Units) (cells : ℕ) (choices : List ℕ) (x : Progress) (waiting waiting_after : ℕ → Option Want)
         (ready ready_after : List ℕ) (p : ℕ) (emptied : ℕ → Bool) (layout : Layout) → AreListed program cells choices x waiting ready
@@ -51,8 +51,8 @@ pub fn lists_go_along_with_purges()
     others_need_the_same();
 }
 
-/// Numbers that rise and are those of the ready processes are the list of them; and where nobody is ready, somebody waits just where
-/// somebody lives.
+/// Rising numbers that are those of the ready processes are the list of the definitions. Where no process is ready,
+/// one waits just if one lives.
 pub fn lists_are_those_of_definitions()
     ensures ready { (program : Units) (cells room : ℕ) (choices : List ℕ) (x : Progress) (waiting : ℕ → Option Want) (ready : List ℕ)
         → AreListed program cells choices x waiting ready → AreRising 1 room ready → ready ≡ ready_in x }

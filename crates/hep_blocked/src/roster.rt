@@ -1,35 +1,36 @@
-//! The processes that live, by their numbers.
+//! The roster: the living processes, by their numbers.
 ghost use Rattle.std.specs.Prelude.{◌≡◌, ◌≢◌, ℕ, ◌+◌, ◌<◌, ◌≤◌, ◌==◌, ◌&&◌, ◌||◌, [], None, IfErr, IfNone, IfOk, IfSome, IsOk, OnErr, OnOk};
 ghost use Rattle.std.specs.Prelude.{true, false, if◌then◌else◌, length, max, nat_eq};
 ghost use Rattle.hep_machine.specs.Words.{first_above, is_number_among, next_of_ready};
-ghost use Rattle.hep_blocked.specs.Listing.{IsReadyNoMore, WaitsNow};
+ghost use Rattle.hep_blocked.specs.RosterUpdates.{IsReadyNoMore, WaitsNow};
 ghost use Rattle.hep_blocked.specs.Numbers.{AreRising};
-ghost use Rattle.hep_blocked.specs.Rolls.{KeepsRoll, is_enrolled, place_of, want_of};
+ghost use Rattle.hep_blocked.specs.Rosters.{KeepsRoll, is_enrolled, place_of, want_of};
 ghost use Rattle.hep_blocked.specs.Waiting.{awake, waiting_at, wants};
 
-use crate::places::{append, number_at, place_of, places_to};
-use crate::ready::Ready;
+use crate::ranking::{append, number_at, place_of, places_to};
+use crate::ready_set::ReadySet;
 use crate::waits::Waits;
 use hep_cells::Want;
 use std::alloc::{AllocError, Global};
 use std::marker::Model;
 
-/// The processes that live, by their numbers: each is ready or waits. Contracts see the numbers of those that are ready, which rise; those
-/// that wait, each with what it waits for; the greatest number that was enrolled; and the greatest one that has room to be.
+/// The living processes, by their numbers; each is ready or waits. Contracts see the rising numbers of the ready
+/// ones; the waiting ones, each with what it waits for; the greatest number that was enrolled; and the greatest
+/// number that there is room for.
 ///
-/// It keeps a place for each process, and the place of one that has ended until it makes room: so its memory goes by the most processes
-/// that lived at one time, and not by how many there were.
+/// It has a place for each living process. An ended process keeps its place until room is made. So the memory depends
+/// on the greatest number of processes that lived at one time, and not on how many were made.
 pub struct Roster {
     alloc: Global,
-    // Numbers, which rise, some of them of processes that have ended. The first one stands at place 1.
+    // Rising numbers, some of processes that have ended. The first one is at place 1.
     numbers: Vec<u64>,
-    // The places of those that are ready.
-    ready: Ready,
+    // The places of the ready processes.
+    ready: ReadySet,
     // What the process at each place waits for.
     waits: Waits,
     // The greatest number that was enrolled.
     last: u64,
-    // How many places more have room.
+    // The number of further places that there is room for.
     free: usize,
 }
 
@@ -49,9 +50,9 @@ impl Drop for Roster {
 impl Model for Roster {
     ghost use Rattle.std.specs.Coded.{codes};
     ghost use Rattle.hep_cells.specs.contracts.want.Want as want;
-    ghost use Rattle.hep_blocked.specs.Rolls.{HasPlaces, Roll, roll_of};
+    ghost use Rattle.hep_blocked.specs.Rosters.{HasPlaces, RosterValue, roll_of};
 
-    ghost Value = { Roll };
+    ghost Value = { RosterValue };
 
     ghost coded = { Prim.hlevel (codes, want.the_row.coded) };
 
@@ -61,7 +62,7 @@ impl Model for Roster {
 }
 
 impl Roster {
-    /// Nobody lives, and no number has room. This takes no memory.
+    /// No process lives, and there is room for no number. This takes no memory.
     pub fn new(alloc: Global) -> Roster
         ensures ready { result.ready ≡ [] }
         ensures waiting { result.waiting ≡ [] }
@@ -70,17 +71,17 @@ impl Roster {
         Roster {
             alloc,
             numbers: Vec::new(alloc),
-            ready: Ready::new(alloc),
+            ready: ReadySet::new(alloc),
             waits: Waits::new(alloc),
             last: 0,
             free: 0,
         }
     }
 
-    /// Makes room for the numbers up to this one to be enrolled. Who is ready and who waits stays.
+    /// Makes room to enrol the numbers up to `number`. The ready and the waiting processes don't change.
     ///
-    /// Where there is too little room, those that live move to new places, with as much room again, in linear time: processes that are
-    /// made one after the other cost a constant time each, on the whole.
+    /// Where there is too little room, the living processes move to new places, with as much room again, in linear
+    /// time. So processes that are made one after another cost a constant time each on average.
     ///
     /// # Errors
     ///
@@ -103,7 +104,8 @@ impl Roster {
         Ok(())
     }
 
-    // A process with a greater number than all others is ready, or waits, unless it has ended. No room is kept.
+    // Adds a process with a greater number than all others, which is ready or waits; one that does neither has ended and
+    // gets no place. Then there is room for no further place.
     fn keep(&mut self, number: u64, is_ready: bool, want: Option<Want>) -> Result<(), AllocError>
         requires later { self.old.last < number }
         ensures ready { OnOk result ((q : ℕ) → is_number_among q self.new.ready
@@ -126,7 +128,8 @@ impl Roster {
         note(&mut self.waits, place, want)
     }
 
-    // Room for as many processes as there are places, and for the numbers up to this one, where all up to another one have been enrolled.
+    // Makes room for as many further processes as have places, and for the numbers up to `number`, where all up to
+    // `last` have been enrolled.
     fn make_room(&mut self, last: u64, number: u64) -> Result<(), AllocError>
         requires enrolled { self.old.last ≤ last }
         requires more { last < number }
@@ -143,7 +146,8 @@ impl Roster {
         Ok(())
     }
 
-    /// A process that was made, with a greater number than all before it, which has room. It is ready.
+    /// Enrols a process that was made, with a greater number than all before it, for which there is room. It is
+    /// ready.
     ///
     /// This takes no memory, and costs the logarithm of the room.
     pub fn enroll(&mut self, p: u64)
@@ -160,7 +164,8 @@ impl Roster {
         self.free -= 1;
     }
 
-    /// A process isn't ready, whether it was or not. If it doesn't wait it has ended, and gives its place back.
+    /// Makes a process not ready, whether it was or not. If it doesn't wait either, it has ended, and gives its place
+    /// back.
     ///
     /// This costs the logarithm of the room.
     pub fn remove(&mut self, p: u64)
@@ -170,9 +175,9 @@ impl Roster {
         self.ready.remove(place_of(&self.numbers, p));
     }
 
-    /// A process that is ready or waits isn't ready any more, and waits for a cell to be full, or to be empty, if it didn't wait before.
+    /// Makes a process that is ready or waits not ready; if it didn't wait before, it waits for this now.
     ///
-    /// This costs the logarithm of the room, and a constant time on the whole.
+    /// This costs the logarithm of the room, and a constant time on average besides.
     ///
     /// # Errors
     ///
@@ -190,7 +195,7 @@ impl Roster {
         Ok(())
     }
 
-    /// Those that wait for this are ready and wait no more.
+    /// Makes the processes that wait for this ready.
     ///
     /// This takes no memory. It costs a constant time, and for each process that it wakes the logarithm of the room.
     pub fn wake(&mut self, want: Want)
@@ -211,7 +216,7 @@ impl Roster {
         self.waits.waiting(place_of(&self.numbers, p))
     }
 
-    /// Of the processes that wait the one with the least number above this. None where there is none.
+    /// The waiting process with the least number above p. `None` where there is none.
     ///
     /// This costs the logarithm of the room.
     pub fn next_waiting(&self, p: u64) -> Option<u64>
@@ -223,7 +228,7 @@ impl Roster {
         Some(number_at(&self.numbers, place))
     }
 
-    /// Nobody waits. This costs a constant time.
+    /// Whether no process waits. This costs a constant time.
     pub fn none_waits(&self) -> bool
         ensures nobody { result ≡ true → (p : ℕ) → want_of self.now.waiting p ≡ None }
         ensures somebody { result ≡ false → (p : ℕ) × (want_of self.now.waiting p ≢ None) }
@@ -231,10 +236,11 @@ impl Roster {
         self.waits.is_empty()
     }
 
-    /// The ready process that comes next after one: of those with a greater number the least, or else the least of all. None where none
-    /// is ready.
+    /// The next ready process after `last`: the one with the least number above it, or else the one with the least
+    /// number. `None` where none is ready.
     ///
-    /// This costs the logarithm of the room, and a constant time where that is at most 64 and each number up to that one has a place.
+    /// This costs the logarithm of the room, or a constant time where the room is at most 64 and each number up to
+    /// `last` has a place.
     #[inline(always)]
     pub fn next(&self, last: u64) -> Option<u64>
         ensures next { result ≡ next_of_ready last self.now.ready }
@@ -246,10 +252,10 @@ impl Roster {
         }
     }
 
-    /// Of the ready processes with a greater number the least. None where there is none: unlike `next`, this doesn't begin again with the
-    /// least of all.
+    /// The ready process with the least number above p. `None` where there is none: unlike `next`, this doesn't start
+    /// again with the least number.
     ///
-    /// This costs what `next` does.
+    /// This costs as much as `next`.
     #[inline(always)]
     pub fn first_above(&self, p: u64) -> Option<u64>
         ensures next { result ≡ first_above p self.now.ready None }
@@ -259,7 +265,7 @@ impl Roster {
         Some(number_at(&self.numbers, place))
     }
 
-    /// No process is ready. This costs a constant time.
+    /// Whether no process is ready. This costs a constant time.
     pub fn none_ready(&self) -> bool
         ensures { result ≡ (length self.now.ready == 0) }
     {
@@ -267,8 +273,8 @@ impl Roster {
     }
 }
 
-// A place is marked as ready, or isn't.
-fn mark(ready: &mut Ready, place: u64, is_ready: bool)
+// Marks a place as ready, or as not ready.
+fn mark(ready: &mut ReadySet, place: u64, is_ready: bool)
     requires some { 1 ≤ place }
     requires room { place ≤ ready.old.room }
     ensures ready { (k : ℕ) → is_number_among k ready.new.ready ≡ ((nat_eq k place && is_ready) || is_number_among k ready.old.ready) }
@@ -279,7 +285,7 @@ fn mark(ready: &mut Ready, place: u64, is_ready: bool)
     }
 }
 
-// At a place where nothing was waited for this is, if it is anything.
+// Notes what is waited for at a place, if anything is; nothing was before.
 fn note(waits: &mut Waits, place: u64, want: Option<Want>) -> Result<(), AllocError>
     requires some { 1 ≤ place }
     requires idle { waiting_at waits.old place ≡ None }
@@ -292,7 +298,7 @@ fn note(waits: &mut Waits, place: u64, want: Option<Want>) -> Result<(), AllocEr
     }
 }
 
-// At a place this is waited for, unless something was before.
+// Notes what is waited for at a place, unless something was before.
 fn hold(waits: &mut Waits, place: u64, want: Want) -> Result<(), AllocError>
     requires { 1 ≤ place }
     ensures waits { OnOk result (WaitsNow place want (waiting_at waits.old) (waiting_at waits.new)) }
@@ -305,8 +311,13 @@ fn hold(waits: &mut Waits, place: u64, want: Want) -> Result<(), AllocError>
     Ok(())
 }
 
-// Those that live, at new places.
-fn moved(alloc: Global, numbers: &[u64], ready: &Ready, waits: &Waits) -> Result<Roster, AllocError>
+// A roster of the living processes, at new places.
+fn moved(
+    alloc: Global,
+    numbers: &[u64],
+    ready: &ReadySet,
+    waits: &Waits,
+) -> Result<Roster, AllocError>
     requires rising { (greatest : ℕ) × AreRising 1 greatest numbers.now }
     requires places { (k : ℕ) → is_number_among k ready.now.ready ≡ true → (1 ≤ k) × (k ≤ length numbers.now) }
     ensures ready { IfOk result (λ roster. (q : ℕ) → is_number_among q roster.ready

@@ -5,25 +5,24 @@ ghost use Rattle.hep_machine.specs.Words.{is_number_among};
 ghost use Rattle.hep_blocked.specs.Waiting.{awake, next_waiting, numbers_waiting, waiting_at, waits_for};
 ghost use Rattle.hep_blocked.specs.Waiting.{with_numbers, with_want, without_want};
 
-use crate::lists::{grow, wake_each};
-use crate::queues::{Lists, add, take, take_out};
-use crate::ready::Ready;
+use crate::ready_set::ReadySet;
+use crate::wait_queues::{WaitQueues, add, take, take_out};
+use crate::wanted_cells::{grow, wake_each};
 use hep_cells::Want;
 use indexmap::IndexMap;
 use std::alloc::{AllocError, Global};
 use std::marker::Model;
 
-/// The processes that wait. Contracts see a list of what each process waits for, that of the
-/// process p at p - 1; a process past its end waits for nothing.
+/// The waiting processes. Contracts see a list in which what process p waits for is at p - 1. A process past its end
+/// waits for nothing.
 pub struct Waits {
     alloc: Global,
     // What the process p waits for is at p - 1.
     wanted: Vec<Option<Want>>,
-    // Under each want the processes that wait for it, in the order in which they were blocked.
-    lists: Lists,
-    // The numbers of the processes that wait: the tree that serves for the ready ones serves for
-    // these too.
-    numbers: Ready,
+    // The wait queues. Each has its processes in the order in which they were blocked.
+    lists: WaitQueues,
+    // The numbers of the waiting processes, in the same kind of tree as the ready ones.
+    numbers: ReadySet,
 }
 
 impl Drop for Waits {
@@ -43,8 +42,8 @@ impl Model for Waits {
     ghost use Rattle.hep_cells.specs.declared.want.Want.{Want as PureWant};
     ghost use Rattle.hep_cells.specs.contracts.want.Want as want;
     ghost use Rattle.indexmap.specs.IndexMap.{IsUnique};
-    ghost use Rattle.hep_blocked.specs.Queues.{list_of, want_eq};
-    ghost use Rattle.hep_blocked.specs.Lists.{AreNumbers, IsTied};
+    ghost use Rattle.hep_blocked.specs.WaitQueues.{list_of, want_eq};
+    ghost use Rattle.hep_blocked.specs.QueueInvariant.{AreNumbers, IsTied};
 
     ghost Value = { List (Option PureWant) };
 
@@ -56,7 +55,7 @@ impl Model for Waits {
 }
 
 impl Waits {
-    /// Nobody waits. This takes no memory.
+    /// No process waits. This takes no memory.
     pub fn new(alloc: Global) -> Waits
         ensures { result ≡ [] }
     {
@@ -64,14 +63,13 @@ impl Waits {
             alloc,
             wanted: Vec::new(alloc),
             lists: IndexMap::new(alloc),
-            numbers: Ready::new(alloc),
+            numbers: ReadySet::new(alloc),
         }
     }
 
-    /// A process that didn't wait waits for a cell to be full, or to be empty.
+    /// Notes that a process that didn't wait waits for a cell to be full, or to be empty.
     ///
-    /// Where numbers come one after the other, as those of processes do, this costs a constant
-    /// time on the whole.
+    /// Where numbers rise, as those of processes do, this costs a constant time on average.
     ///
     /// # Errors
     ///
@@ -96,12 +94,11 @@ impl Waits {
         Ok(())
     }
 
-    /// Those that wait for this are ready and wait no more. Their numbers have to have room among
-    /// the ready ones.
+    /// Makes the processes that wait for this ready. The ready ones have to have room for their numbers.
     ///
     /// This takes no memory. It costs a constant time, and for each process that it wakes the
     /// logarithm of the room.
-    pub fn wake(&mut self, want: Want, ready: &mut Ready)
+    pub fn wake(&mut self, want: Want, ready: &mut ReadySet)
         requires room { length self.old ≤ ready.old.room }
         ensures woken { self.new ≡ map (awake want) self.old }
         ensures waiting { (p : ℕ) → waiting_at self.new p ≡ awake want (waiting_at self.old p) }
@@ -114,10 +111,10 @@ impl Waits {
         }
     }
 
-    /// A process waits for nothing any more; the others wait as before.
+    /// Notes that a process waits for nothing any more; the others wait as before.
     ///
-    /// This takes no memory. It costs the length of the list on which the process stands, and the logarithm of the greatest number that has
-    /// waited.
+    /// This takes no memory. It costs the length of the queue of the process, and the logarithm of the greatest
+    /// number that has waited.
     pub fn remove(&mut self, p: u64)
         ensures removed { self.new ≡ without_want p self.old }
         ensures waiting { (q : ℕ) → waiting_at self.new q ≡ (if nat_eq p q then None else waiting_at self.old q) }
@@ -141,8 +138,7 @@ impl Waits {
         *self.wanted.get(index as usize)?
     }
 
-    /// Of the processes that wait the one with the least number above this. None where there is
-    /// none.
+    /// The waiting process with the least number above p. `None` where there is none.
     ///
     /// This costs the logarithm of the greatest number that has waited.
     pub fn next_after(&self, p: u64) -> Option<u64>
@@ -154,7 +150,7 @@ impl Waits {
         self.numbers.first_above(p)
     }
 
-    /// Nobody waits.
+    /// Whether no process waits.
     ///
     /// This costs a constant time.
     pub fn is_empty(&self) -> bool

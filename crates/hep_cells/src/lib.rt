@@ -1,19 +1,17 @@
-//! One access to one cell, and the iterations of a DO.
+//! The outcome of one access to one cell (reading, assignment, the functions of full and empty, and PURGE), and the
+//! number of iterations of a DO.
 //!
-//! Accesses to cells: reading, assignment, the functions of full and empty, and PURGE.
-//!
-//! Nothing here takes memory or changes a cell: each function tells what an access comes to.
-//!
-//! The iterations of a DO: how many there are at first, and what is left of them once one is over.
+//! Nothing here takes memory or changes a cell: each function returns the outcome of an access, which the caller
+//! makes. Begin with `src/access.rt`.
 #![tactic(auto)]
 
-pub mod cells;
-pub mod counting;
-pub mod ending;
+pub mod access;
+pub mod iteration_count;
+pub mod iteration_end;
 mod outcome;
 mod want;
 
-pub use counting::{Parameters, iterations};
-pub use ending::{Ended, end_iteration};
+pub use iteration_count::{LoopParameters, iterations};
+pub use iteration_end::{IterationEnd, end_iteration};
 pub use outcome::AccessOutcome;
 pub use want::Want;

@@ -1,16 +1,15 @@
-//! What an access to a cell comes to.
-use hep_machine::Slot;
-use hep_source::Value;
+//! The outcome of an access to a cell.
+use hep_machine::{Slot, Value};
 
-/// What an access to a cell comes to; it is not made yet.
+/// The outcome of an access to a cell. The access isn't made yet.
 #[derive(Clone, Copy, PartialEq, Eq)]
 pub enum AccessOutcome {
-    /// A value, and the cell stays as it is.
+    /// It gives a value, and the cell doesn't change.
     Gives(Value),
-    /// A value, and the cell is this one then.
+    /// It gives a value, and the cell has this slot then.
     Makes { value: Value, slot: Slot },
-    /// Nothing yet: the process waits until the cell is full, or until it is empty.
+    /// It gives nothing yet: the process waits until the cell is full, or until it is empty.
     Waits { full: bool },
-    /// Nothing: no value was ever stored in the cell.
+    /// It gives nothing: no value was ever stored in the cell.
     Undefined,
 }

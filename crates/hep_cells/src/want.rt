@@ -1,6 +1,6 @@
-//! What a process waits for, and what others have made of a cell.
+//! A cell that is full or empty: what a process waits for, and what a step has changed.
 
-/// A cell of the arena that is full, or one that is empty: for that a process waits, and so a step leaves the cell that it fills or empties.
+/// A cell of the arena that is full, or one that is empty. A process waits for it, or a step has left the cell so.
 #[derive(Clone, Copy, PartialEq, Eq, Hash)]
 pub struct Want {
     pub cell: u32,

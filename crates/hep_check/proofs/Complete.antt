@@ -13,10 +13,11 @@ use Rattle.hep_types.specs.CallPasses.{is_mismatched}
 use Rattle.hep_names.specs.Passes.{is_miscounted, unknown_in_form, unknown_listed}
 use Rattle.hep_names.proofs.Passes.{unknown-targets}
 use Rattle.hep_check.specs.Culprits.{miscounted, misfit}
-use Rattle.hep_check.specs.Told.{Lines, has_doubtful, has_line, is_doubtful, is_untyped_at, lines_in, names_after, others_told, parameters_after, shared_told, told, told_after, told_from, told_in, unknown_call, unknown_told, untold, untyped_told, with_name}
+use Rattle.hep_check.specs.AllViolations.{ViolatedLines, has_doubtful, has_line, is_doubtful, is_untyped_at, lines_in, names_after, others_told, shared_told, told, told_after, told_from, told_in, unknown_call, unknown_told, untold, untyped_told, with_name}
 use Rattle.hep_check.proofs.Members.{Within, contained-any, contains-flat, contains-here, contains-more, contains-one, flat-within, none-contained}
-use Rattle.hep_check.proofs.Plain.{plain-common, plain-data, plain-jumps, plain-labels, plain-names, plain-structure}
+use Rattle.hep_check.proofs.StatementLines.{plain-common, plain-data, plain-jumps, plain-labels, plain-names, plain-structure}
 use Rattle.hep_check.proofs.Sound.{counted, matched, when-there}
+use Rattle.hep_types.specs.Passes.{parameters_after}
 
 contained-when : (b : Bool) (w v : Violation) → Contains (when b w) v → v ≡ w
 contained-when true w v h = contains-one w v h
@@ -36,7 +37,7 @@ call-told program line (form.Create p ts) = λ v c.
 call-told program line _ = λ v c. none-contained v c
 
 module _ (program : Units) (unit : List Statement) (there : Contains program unit) where
-  abbrev lines : Lines
+  abbrev lines : ViolatedLines
   lines = lines_in program unit
 
   abbrev functions : FunctionTypes

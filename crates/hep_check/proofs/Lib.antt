@@ -1,14 +1,14 @@
-pub mod Finding
-pub mod Noting
-pub mod Walking
+pub mod FirstFound
+pub mod NotedNames
+pub mod Walk
 pub mod LineSets
 pub mod Members
-pub mod Plain
+pub mod StatementLines
 pub mod Sound
 pub mod Complete
-pub mod Gathering
-mod Others
-pub mod Sums
-mod Judged
+pub mod FirstOfSeveral
+mod OtherViolations
+pub mod FrameSizes
+mod Rejected
 mod Units
 mod Worked

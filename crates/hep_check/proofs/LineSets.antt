@@ -5,10 +5,10 @@ use Rattle.std.proofs.lemmas.List.{drop_all, drop_more}
 use Rattle.hep_machine.specs.Words.{Statement, Units}
 use Rattle.hep_conditions.specs.Words.{common_violations, data_violations, function_types, jump_violations, label_violations, name_violations, structure_violations}
 use Rattle.hep_source.proofs.Tests.{or-assoc, or-false, or-true}
-use Rattle.hep_check.specs.declared.lines.ProgramLines.{ProgramLines}
-use Rattle.hep_check.specs.declared.lines.UnitLines.{UnitLines}
-use Rattle.hep_check.specs.Lines.{is_in, lines_at}
-use Rattle.hep_check.specs.Told.{has_line, lines_in}
+use Rattle.hep_check.specs.declared.violation_lines.ProgramLines.{ProgramLines}
+use Rattle.hep_check.specs.declared.violation_lines.UnitLines.{UnitLines}
+use Rattle.hep_check.specs.ViolationLines.{is_in, lines_at}
+use Rattle.hep_check.specs.AllViolations.{has_line, lines_in}
 
 -- a line that a set gets
 pub with-line : (old is_line : Bool) → cond is_line true old ≡ (old || is_line)

@@ -14,10 +14,11 @@ use Rattle.hep_types.specs.CallPasses.{is_given, is_mismatched, is_purgeable}
 use Rattle.hep_names.specs.Passes.{is_miscounted, unknown_in_form, unknown_listed}
 use Rattle.hep_names.proofs.Passes.{unknown-targets}
 use Rattle.hep_check.specs.Culprits.{first_call_unmet, first_target_unmet, first_unmet, is_list_counted, miscounted, misfit}
-use Rattle.hep_check.specs.Trees.{Found, either}
-use Rattle.hep_check.specs.Told.{Lines, is_doubtful, is_untyped_at, lines_in, names_after, others_told, parameters_after, shared_told, statement_told, told, told_from, told_in, unknown_call, unknown_told, untold, untyped_told, with_name}
+use Rattle.hep_check.specs.ExpressionCulprits.{Found, either}
+use Rattle.hep_check.specs.AllViolations.{ViolatedLines, is_doubtful, is_untyped_at, lines_in, names_after, others_told, shared_told, statement_told, told, told_from, told_in, unknown_call, unknown_told, untold, untyped_told, with_name}
 use Rattle.hep_check.proofs.Members.{Within, contains-flat, contains-here, contains-more, contains-one, flat-within, none-contained, within-append}
-use Rattle.hep_check.proofs.Plain.{IsLineIn, IsLineOf, plain-common, plain-data, plain-jumps, plain-labels, plain-names, plain-structure, plain-there}
+use Rattle.hep_check.proofs.StatementLines.{IsLineIn, IsLineOf, plain-common, plain-data, plain-jumps, plain-labels, plain-names, plain-structure, plain-there}
+use Rattle.hep_types.specs.Passes.{parameters_after}
 
 -- ---- tests
 
@@ -236,7 +237,7 @@ module _ (program : Units) (unit : List Statement) (there : Contains program uni
     abbrev line : ℕ
     line = s.line
 
-    abbrev lines : Lines
+    abbrev lines : ViolatedLines
     lines = lines_in program unit
 
     abbrev shared-one : (n : ℕ) (b : Bool) → Violations

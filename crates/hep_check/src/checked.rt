@@ -1,19 +1,19 @@
-//! Which programs are accepted.
+//! Acceptance of programs.
 ghost use Rattle.std.specs.Prelude.{◌≡◌, Some, None, map, IfOk, IfErr, OnOk};
 ghost use Rattle.hep_machine.specs.Words.{frame_cells};
 ghost use Rattle.hep_conditions.specs.Words.{IsAccepted, first_violation};
-ghost use Rattle.hep_check.specs.Faults.{IsRejectedBy, IsViolatedBy, Refuses, Reports};
+ghost use Rattle.hep_check.specs.Rejections.{IsRejectedBy, IsViolatedBy, Refuses, Reports};
 
-use crate::frames::frames;
-use crate::further::{Told, told_violations};
-use crate::program::first_violation;
+use crate::diagnostics::{Diagnostic, told_violations};
+use crate::frame_sizes::frames;
+use crate::program_violations::first_violation;
 use hep_base::Refusal as CheckFault;
 use hep_conditions::{Checked, Violation};
 use hep_names::ProgramSymbols;
 use hep_source::Program;
 use std::alloc::{AllocError, Global};
 
-/// A violation as it is reported: its number, its line, and for 301 and 310 the name.
+/// The refusal that reports a violation: its number, its line, and for 301 and 310 the name.
 pub fn fault_of(alloc: Global, violation: Violation) -> CheckFault
     ensures { Reports violation result }
 {
@@ -27,7 +27,7 @@ pub fn fault_of(alloc: Global, violation: Violation) -> CheckFault
     }
 }
 
-// The cells of the frames of a program that violates nothing, or else its first violation.
+// The number of cells of each unit's frame, or else the first violation.
 fn judged(alloc: Global, program: &Program) -> Result<Result<Vec<u128>, Violation>, AllocError>
     ensures accepted { IfOk result (λ found. OnOk found (first_violation program.now ≡ None)) }
     ensures counted { IfOk result (λ found. IfOk found (λ frames. frames.items ≡ map frame_cells program.now)) }
@@ -40,23 +40,23 @@ fn judged(alloc: Global, program: &Program) -> Result<Result<Vec<u128>, Violatio
     }
 }
 
-/// Why a program isn't accepted, with all that is known of its first violation.
+/// The reason why a program isn't accepted, with its first violation.
 #[derive(Clone, Copy, Debug, PartialEq, Eq)]
-pub enum Unaccepted {
-    /// Memory was refused, which says nothing of the program.
+pub enum JudgeFault {
+    /// Memory was refused. This says nothing about the program.
     NoMemory,
     /// The first violation.
     Violated(Violation),
 }
 
-impl From<AllocError> for Unaccepted {
+impl From<AllocError> for JudgeFault {
     ghost use Rattle.std.specs.Prelude.{◌≡◌};
-    ghost use Rattle.hep_check.specs.declared.checked.Unaccepted.TheVariants.{NoMemory};
+    ghost use Rattle.hep_check.specs.declared.checked.JudgeFault.TheVariants.{NoMemory};
 
     ghost from_gives = { λ _ fault. fault ≡ NoMemory };
 
-    fn from(_refused: AllocError) -> Unaccepted {
-        Unaccepted::NoMemory
+    fn from(_refused: AllocError) -> JudgeFault {
+        JudgeFault::NoMemory
     }
 }
 
@@ -64,44 +64,44 @@ impl From<AllocError> for Unaccepted {
 ///
 /// # Errors
 ///
-/// The first violation by line, then by number, then by the position of the name (docs/LANGUAGE.md, 10); or that memory
-/// was refused.
-pub fn judge(alloc: Global, program: Program) -> Result<Checked, Unaccepted>
-    // What is checked is the program.
+/// The first violation by line, then by number, then by the position of the name (docs/LANGUAGE.md, 10); or
+/// [`JudgeFault::NoMemory`].
+pub fn judge(alloc: Global, program: Program) -> Result<Checked, JudgeFault>
+    // The checked program is the program.
     ensures same { IfOk result (λ checked. checked ≡ program) }
-    // No condition is violated where it is accepted.
+    // An accepted program violates no condition.
     ensures accepted { OnOk result (IsAccepted program) }
-    // What is reported is the first violation.
+    // The error is the first violation, unless memory was refused.
     ensures violated { IfErr result (IsViolatedBy program) }
 {
     match judged(alloc, &program)? {
         Ok(frames) => Ok(Checked::new(program, frames)),
-        Err(violation) => Err(Unaccepted::Violated(violation)),
+        Err(violation) => Err(JudgeFault::Violated(violation)),
     }
 }
 
-/// Why a program isn't accepted, with the violations that are told behind its first one.
+/// The reason why a program isn't accepted, with the violations that are reported after its first one.
 #[derive(Drop)]
-pub enum Rejected {
-    /// Memory was refused, which says nothing of the program.
+pub enum Rejection {
+    /// Memory was refused. This says nothing about the program.
     NoMemory,
-    /// It violates conditions.
+    /// The program violates conditions.
     Violated {
         /// The first violation.
-        first: Told,
-        /// Those that are told behind it, in order.
-        further: Vec<Told>,
+        first: Diagnostic,
+        /// The violations that are reported after it, in order.
+        further: Vec<Diagnostic>,
     },
 }
 
-impl From<AllocError> for Rejected {
+impl From<AllocError> for Rejection {
     ghost use Rattle.std.specs.Prelude.{◌≡◌};
-    ghost use Rattle.hep_check.specs.declared.checked.Rejected.TheVariants.{NoMemory};
+    ghost use Rattle.hep_check.specs.declared.checked.Rejection.TheVariants.{NoMemory};
 
     ghost from_gives = { λ _ fault. fault ≡ NoMemory };
 
-    fn from(_refused: AllocError) -> Rejected {
-        Rejected::NoMemory
+    fn from(_refused: AllocError) -> Rejection {
+        Rejection::NoMemory
     }
 }
 
@@ -109,20 +109,20 @@ impl From<AllocError> for Rejected {
 ///
 /// # Errors
 ///
-/// The first violation and those behind it, as [`told_violations`] has them; or that memory was refused.
-pub fn judge_further(alloc: Global, program: Program) -> Result<Checked, Rejected>
-    // What is checked is the program.
+/// The first violation and those after it, as [`told_violations`] gives them; or [`Rejection::NoMemory`].
+pub fn judge_further(alloc: Global, program: Program) -> Result<Checked, Rejection>
+    // The checked program is the program.
     ensures same { IfOk result (λ checked. checked ≡ program) }
-    // No condition is violated where it is accepted.
+    // An accepted program violates no condition.
     ensures accepted { OnOk result (IsAccepted program) }
-    // What is reported is the first violation, and those behind it.
+    // The error is the first violation and those after it, unless memory was refused.
     ensures violated { IfErr result (IsRejectedBy program) }
 {
     match judged(alloc, &program)? {
         Ok(cells) => Ok(Checked::new(program, cells)),
         Err(first) => {
             let (first, further) = told_violations(alloc, &program, &first)?;
-            Err(Rejected::Violated { first, further })
+            Err(Rejection::Violated { first, further })
         }
     }
 }
@@ -132,18 +132,18 @@ pub fn judge_further(alloc: Global, program: Program) -> Result<Checked, Rejecte
 /// # Errors
 ///
 /// The first violation by line, then by number, then by the position of the name (docs/LANGUAGE.md, 10):
-/// 301 to 312 with its line, and for 301 and 310 the name; or that memory was refused.
+/// 301 to 312 with its line, and for 301 and 310 the name; or [`CheckFault::NoMemory`].
 pub fn check(alloc: Global, program: Program) -> Result<Checked, CheckFault>
-    // What is checked is the program.
+    // The checked program is the program.
     ensures same { IfOk result (λ checked. checked ≡ program) }
-    // No condition is violated where it is accepted.
+    // An accepted program violates no condition.
     ensures accepted { OnOk result (IsAccepted program) }
-    // What is reported is the first violation.
+    // The error is the first violation, unless memory was refused.
     ensures refused { IfErr result (Refuses program) }
 {
     match judge(alloc, program) {
         Ok(checked) => Ok(checked),
-        Err(Unaccepted::NoMemory) => Err(CheckFault::NoMemory),
-        Err(Unaccepted::Violated(violation)) => Err(fault_of(alloc, violation)),
+        Err(JudgeFault::NoMemory) => Err(CheckFault::NoMemory),
+        Err(JudgeFault::Violated(violation)) => Err(fault_of(alloc, violation)),
     }
 }

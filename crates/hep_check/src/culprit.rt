@@ -1,32 +1,32 @@
 //! What a violation is about.
-ghost use Rattle.std.specs.Prelude.{◌≡◌, IfOk, find, not};
+ghost use Rattle.std.specs.Prelude.{◌≡◌, IfOk, find};
 ghost use Rattle.std.specs.Option.{option_copied, option_map};
-ghost use Rattle.hep_machine.specs.Words.{function_named, is_external};
 ghost use Rattle.hep_check.specs.Culprits as words;
 
-use crate::arguments::misfit;
-use crate::counts::miscounted;
-use crate::faults::{Faults, ambiguous_name};
-use crate::forms::mistyped;
-use crate::labels::{absent_label, structure_culprit, target_label};
-use crate::lone::{lone_block, lone_target, unit_header};
+use crate::argument_culprits::misfit;
+use crate::count_culprits::miscounted;
+use crate::form_culprits::mistyped;
+use crate::label_culprits::{absent_label, structure_culprit, target_label};
+use crate::name_clashes::{NameClashes, ambiguous_name};
+use crate::sole_names::{lone_block, lone_target, unit_header};
 use hep_conditions::Violation;
-use hep_names::{Meaning, ProgramSymbols, Symbols, function_named};
+use hep_names::{ProgramSymbols, Symbols};
 use hep_source::{Name, Occurrence, Statement};
+use hep_uses::ambiguous_names::is_of_the_language;
 use std::alloc::{AllocError, Global};
 
-/// What in a statement violates a condition.
+/// The part of a statement that violates a condition.
 #[derive(Clone, Copy)]
 pub enum Culprit {
-    /// A name where it stands.
+    /// An occurrence of a name.
     Name(Occurrence),
     /// A label.
     Label(u32),
     /// A common block; blank COMMON has no name.
     Block(Option<Name>),
-    /// The name of a function where it stands, where a subroutine or an array is wanted.
+    /// An occurrence of the name of a function where a subroutine or an array is needed.
     Function(Occurrence),
-    /// The name of a subroutine where it stands, where an array or a function is wanted.
+    /// An occurrence of the name of a subroutine where an array or a function is needed.
     Subroutine(Occurrence),
 }
 
@@ -48,10 +48,10 @@ fn labelled(found: Option<u32>) -> Option<Culprit>
     }
 }
 
-// What in a statement of a unit violates the condition with this number.
+// The part of a statement of a unit that violates the condition with this number, if a single part does.
 fn culprit_in(
     alloc: Global,
-    faults: &Faults,
+    faults: &NameClashes,
     symbols: &Symbols,
     statement: &Statement,
     number: u16,
@@ -74,7 +74,7 @@ fn culprit_in(
     }
 }
 
-// The statement of a unit at a line.
+// The statement of a unit that begins on a line, if there is one.
 fn statement_at<'a>(symbols: &Symbols<'a>, line: u32) -> Option<&'a Statement>
     ensures { option_copied result ≡ find (words.is_at line) symbols.now }
 {
@@ -86,10 +86,10 @@ fn statement_at<'a>(symbols: &Symbols<'a>, line: u32) -> Option<&'a Statement>
     None
 }
 
-// What stands at the line of a violation and violates its condition.
+// The part of the statement at the line of a violation that violates its condition, if a single part does.
 fn culprit_at(
     alloc: Global,
-    faults: &Faults,
+    faults: &NameClashes,
     violation: &Violation,
 ) -> Result<Option<Culprit>, AllocError>
     ensures { IfOk result (λ culprit. culprit ≡ words.culprit_among faults.now violation.now faults.now) }
@@ -102,15 +102,6 @@ fn culprit_at(
     Ok(None)
 }
 
-fn is_of_the_language(name: &Name) -> bool
-    ensures { result ≡ not (is_external (function_named name.now)) }
-{
-    match function_named(name) {
-        Meaning::External => false,
-        _ => true,
-    }
-}
-
 // A function of the program or of the language.
 fn is_function(program: &ProgramSymbols, name: &Name) -> bool
     ensures { result ≡ words.is_function program.now name.now }
@@ -118,7 +109,7 @@ fn is_function(program: &ProgramSymbols, name: &Name) -> bool
     program.function_called(name).is_some() || is_of_the_language(name)
 }
 
-// A name that is used as what it isn't, with what it is.
+// The culprit of a misused name, by what the name is: a function, a subroutine, or neither.
 fn misused(program: &ProgramSymbols, occurrence: Occurrence) -> Culprit
     ensures { result ≡ words.misused program.now occurrence }
 {
@@ -131,7 +122,7 @@ fn misused(program: &ProgramSymbols, occurrence: Occurrence) -> Culprit
     Culprit::Name(occurrence)
 }
 
-// The name that a violation with this number has.
+// The culprit of a violation that has a name.
 fn named_culprit(program: &ProgramSymbols, number: u16, occurrence: Occurrence) -> Culprit
     ensures { result ≡ words.named_culprit program.now number occurrence }
 {
@@ -141,14 +132,15 @@ fn named_culprit(program: &ProgramSymbols, number: u16, occurrence: Occurrence) 
     Culprit::Name(occurrence)
 }
 
-/// What a violation of a program is about, as far as one thing is: a name where it stands, a label, or a common block.
+/// The part of a statement that a violation of a program is about: an occurrence of a name, a label, or a common block. None where no
+/// single part is at fault.
 ///
 /// # Errors
 ///
 /// Only where memory was refused.
 pub fn culprit_of(
     alloc: Global,
-    faults: &Faults,
+    faults: &NameClashes,
     violation: &Violation,
 ) -> Result<Option<Culprit>, AllocError>
     ensures { IfOk result (λ culprit. culprit ≡ words.culprit_of faults.now violation.now) }

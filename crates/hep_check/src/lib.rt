@@ -1,57 +1,45 @@
-//! 312, the first violation and all others with the spans of their diagnostics; checked programs, and the lines of `list`.
+//! The checker: it accepts a program that violates none of the conditions 301 to 312 (docs/LANGUAGE.md, 10).
 //!
-//! What in a statement violates a condition, for what is told of a violation where more is asked for: a name where it stands, a label,
-//! or a common block.
-//!
-//! A violation is known by its line and its number. [`culprit_of`] looks at the statement there again and tells what in it breaks the
-//! rule, as far as one thing does.
-//!
-//! The violations of a program as they are told where more is asked for than the first one: statement by statement, by one walk.
-//!
-//! What is violated by several statements or units together, 305 to 309 and 311, is looked for before, and told at its lines.
-//!
-//! The first violation of all conditions in a program, those that are told behind it, and the cells of its frames.
-//!
-//! Checked programs: all conditions, 301 to 312, put together (docs/LANGUAGE.md, 10).
-//!
-//! [`check`] accepts a program that violates none of them, and else answers with the first violation. A checked
-//! program knows how many cells its frames have, and [`list_text`] shows them with those of its common blocks.
+//! Begin with [`check`], which answers with a [`Checked`] program or with the first violation. [`judge_further`] also gives all violations
+//! after the first one, with the part of the statement at fault, for the notes of `--long`; [`told`] finds them in one walk over the
+//! statements, and [`culprit_of`] finds the part at fault. [`list_text`] writes the lines of `list`: the numbers of cells of the frames and
+//! common blocks of a checked program. The condition 312 is part of this crate.
 #![tactic(auto)]
 
-mod arguments;
+pub mod all_violations;
+mod argument_culprits;
 pub mod checked;
-mod counts;
+mod count_culprits;
 pub mod culprit;
+pub mod culprit_place;
+pub mod diagnostics;
 pub mod diagnostics_laws;
-mod faults;
-mod forms;
-pub mod frames;
-pub mod further;
-mod labels;
-mod lines;
+mod expression_culprits;
+mod form_culprits;
+pub mod frame_sizes;
+mod label_culprits;
 mod listing;
-mod lone;
-mod names;
-pub mod program;
+mod name_clashes;
+pub mod program_violations;
 pub mod refusal_laws;
-mod resuming;
-mod tested;
-pub mod text;
-mod trees;
-mod unit;
-mod unit_walk;
-mod unknown;
-pub mod walk;
+mod resume;
+mod sole_names;
+mod statement_conditions;
+mod unit_context;
+mod unit_violations;
+mod unknown_names;
+mod untyped_names;
+mod violation_lines;
 
-pub use arguments::misfit;
-pub use checked::{Rejected, Unaccepted, check, fault_of, judge, judge_further};
-pub use counts::miscounted;
+pub use all_violations::told;
+pub use argument_culprits::misfit;
+pub use checked::{JudgeFault, Rejection, check, fault_of, judge, judge_further};
+pub use count_culprits::miscounted;
 pub use culprit::{Culprit, culprit_of};
-pub use faults::Faults;
-pub use text::{culprit_text, position_of};
-pub use walk::told;
-/// Why a program isn't accepted: refusals 301 to 312, of which 301 and 310 are about a name.
-pub use further::{Told, told_violations};
+pub use culprit_place::{culprit_text, position_of};
+pub use name_clashes::NameClashes;
+/// The reason why a program isn't accepted: one of the refusals 301 to 312. Only 301 and 310 are about a name.
+pub use diagnostics::{Diagnostic, told_violations};
 pub use hep_base::Refusal as CheckFault;
 pub use hep_conditions::Checked;
 pub use listing::list_text;

@@ -1,34 +1,16 @@
-//! The lines of units and common blocks, with the cells that they take (docs/MACHINE.md, "Variables and frames" and
+//! The lines of units and common blocks, with their numbers of cells (docs/MACHINE.md, "Variables and frames" and
 //! "Layout").
 ghost use Rattle.std.specs.Prelude.{◌≡◌, ◌++◌, IfOk, OnOk};
-ghost use Rattle.std.specs.Fmt.{decimal};
 ghost use Rattle.std.specs.List.{flat_map};
 ghost use Rattle.hep_machine.specs.Words.{blocks_of};
 ghost use Rattle.hep_check.specs.Listing as words;
 
+use hep_base::append_number;
 use hep_common::CommonBlocks;
 use hep_conditions::Checked;
 use hep_names::ProgramSymbols;
-use hep_source::{Name, Text};
-use itoa::Buffer;
+use hep_source::{Text, block_spelling};
 use std::alloc::{AllocError, Global};
-
-// Appends a number in decimal.
-fn append_number(text: &mut Vec<u8>, number: u128) -> Result<(), AllocError>
-    ensures { OnOk result (text.new.items ≡ text.old.items ++ decimal number) }
-{
-    let mut buffer = Buffer::new();
-    text.extend_from_slice(buffer.format(number).as_bytes())
-}
-
-fn block_name(alloc: Global, block: Option<Name>) -> Result<Text, AllocError>
-    ensures { IfOk result (λ name. name ≡ words.block_name block) }
-{
-    match block {
-        Some(name) => name.spelling(alloc),
-        None => Ok(Text::from(Vec::new(alloc))),
-    }
-}
 
 // The line of a unit of this name: `UNIT name CELLS n`.
 fn append_unit(text: &mut Vec<u8>, name: &[u8], cells: u128) -> Result<(), AllocError>
@@ -70,16 +52,15 @@ fn append_blocks(alloc: Global, text: &mut Vec<u8>, checked: &Checked) -> Result
     let program = ProgramSymbols::new(alloc, checked.program().as_slice())?;
     let common = CommonBlocks::of_program(alloc, &program)?;
     for block in common.blocks() {
-        let name = block_name(alloc, *block)?;
+        let name = block_spelling(alloc, *block)?;
         append_block(text, name.as_slice(), common.cells(*block))?;
     }
     Ok(())
 }
 
-/// The lines of a checked program: `UNIT name CELLS n` with the cells of the frame of each unit, in the order of the
-/// source, then `BLOCK /name/ CELLS n` with those of each common block at its greatest length (X3.9-1978, 8.3.3), in
-/// the order of their first appearance. A main program without PROGRAM statement is `MAIN`, and blank COMMON has no
-/// name.
+/// The lines of a checked program. First there is `UNIT name CELLS n` for each unit, with the number of cells of its frame, in the order
+/// of the source. Then there is `BLOCK /name/ CELLS n` for each common block, with its greatest length (X3.9-1978, 8.3.3), in the order
+/// of first appearance. A main program without a PROGRAM statement is `MAIN`, and blank COMMON has no name.
 ///
 /// # Errors
 ///

@@ -8,7 +8,7 @@ use Rattle.hep_code.specs.declared.bound.BoundOperation.{BoundOperation}
 use Rattle.hep_code.specs.declared.bound.BoundOperation.TheVariants.{Value, Nowhere}
 use Rattle.hep_code.specs.BoundCode.{Sources, is_source, code_of_bound, value_at}
 use Rattle.hep_code.specs.DimensionCode.{code_of_lower, code_from_upper, code_of_dimensions, bounds_in, coded_shape}
-use Rattle.hep_code.proofs.Coded.{ComesTo, ComeTo, all_behind, alone, list_comes, tree_comes}
+use Rattle.hep_code.proofs.BoundValues.{ComesTo, ComeTo, all_behind, alone, list_comes, tree_comes}
 use Rattle.hep_source.proofs.Tests.{and-false}
 
 -- ---- how many bounds values are

@@ -2,7 +2,7 @@
 -- expression and what is left of it: X3.9-1978, 6.6.
 use Rattle.std.proofs.Common.{◌≡◌, ℕ, List, [], ◌∷◌, ◌++◌, map, refl, ap, sym, ◌∙◌, append_assoc, append-nil, suc, length, Option, Some, None}
 use Rattle.std.proofs.lemmas.List.{map-append}
-use Rattle.hep_machine.specs.Words.{Sought, evaluating, referring, Actual, evaluated, referred, actual_of, actual_of_name, actual_of_listed, actuals_in, mapped_part, plug_actuals_in, plugged_arguments, reference_part, Value, Redex, Part, whole, first_redex, Reference, signing, negating, applying, testing, combining, redex_of, then_part, part_of_name, part_of_listed, reference_of_listed, combined, part_of, parts_of, reference_of, plugged, plugged_first, plugged_listed, plug, plug_all, Name}
+use Rattle.hep_machine.specs.Words.{RedexOrReference, evaluating, referring, Actual, evaluated, referred, actual_of, actual_of_name, actual_of_listed, actuals_in, mapped_part, plug_actuals_in, plugged_arguments, reference_part, Value, Redex, Part, whole, first_redex, Reference, signing, negating, applying, testing, combining, redex_of, then_part, part_of_name, part_of_listed, reference_of_listed, combined, part_of, parts_of, reference_of, plugged, plugged_first, plugged_listed, plug, plug_all, Name}
 use Rattle.hep_machine.specs.Words.{Occurrence, Operator, Tree, Trees, constant, occurrence, with_list, parenthesized, signed, negated, binary, no_trees, trees, constant_value, Meaning, element, pure, state, external, listed_meaning}
 use Rattle.hep_machine.specs.Evaluation.{reading}
 use Rattle.hep_code.specs.declared.instruction.Evaluation.{Evaluation}
@@ -18,12 +18,12 @@ use Rattle.hep_code.specs.declared.instruction.Evaluation.TheVariants.{Load, Sig
 
 module _ (addressed : AddressedUnit) (line : ℕ) where
   -- the operation of what is sought, with what stands behind it
-  abbrev pub sought_code : Sought → List Instruction
+  abbrev pub sought_code : RedexOrReference → List Instruction
   sought_code r = Step line (operation_of_sought addressed r) ∷ entries_of_sought addressed r
 
   -- code begins with operands, of which the last ones are those of a redex, and with the operation of that; and the code that has a
   -- value in the place of the redex
-  pub record FirstIs (r : Sought) (code : List Instruction) (after : Value → List Instruction) : Type 0 where
+  pub record FirstIs (r : RedexOrReference) (code : List Instruction) (after : Value → List Instruction) : Type 0 where
     pub before : List Value
     pub rest : List Instruction
     pub is : code ≡ map Push (before ++ operands_of_sought r) ++ (sought_code r ++ rest)
@@ -44,7 +44,7 @@ module _ (addressed : AddressedUnit) (line : ℕ) where
 
 -- ---- more code
 
-module _ {addressed : AddressedUnit} {line : ℕ} {r : Sought} {code : List Instruction} {after : Value → List Instruction} where
+module _ {addressed : AddressedUnit} {line : ℕ} {r : RedexOrReference} {code : List Instruction} {after : Value → List Instruction} where
   pub before_more : (more : List Instruction) → FirstIs addressed line r code after → FirstIs addressed line r (code ++ more) (λ v. after v ++ more)
   before_more more h =
       record {

@@ -1,14 +1,15 @@
 mod Worked
 pub mod Expressions
 pub mod Entries
-pub mod Works
-pub mod Ahead
-pub mod Moves
-pub mod Leads
-pub mod Stacks
+pub mod WorkCode
+pub mod NextOperation
+pub mod CodePositions
+pub mod ControlFlow
+pub mod ProcessesInCode
 pub mod Replies
-pub mod Depths
-pub mod Coded
+pub mod OperandCounts
+pub mod BoundValues
+pub mod ListLengths
 pub mod Dimensions
 pub mod Sources
 mod WorkedBounds

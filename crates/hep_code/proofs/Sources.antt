@@ -7,10 +7,7 @@ use Rattle.hep_code.specs.BoundCode.{is_source, value_at}
 use Rattle.hep_code.specs.DimensionCode.{coded_shape}
 use Rattle.hep_code.specs.Sources.{AreStored, adjustable_code, source_by, source_of}
 use Rattle.hep_code.proofs.Dimensions.{shape_comes}
-
-is_some_more : (o : Option ℕ) → is_some (option_map suc o) ≡ is_some o
-is_some_more None = refl
-is_some_more (Some k) = refl
+use Rattle.hep_source.proofs.Tests.{some-mapped}
 
 -- a name is among others where it has an index
 among_by_index : (x : Name) (xs : List Name) → is_among x xs ≡ is_some (index_among x xs)
@@ -18,7 +15,7 @@ among_by_index x [] = refl
 among_by_index x (y ∷ ys) = by_test (same_name x y) (among_by_index x ys) where
   by_test : (b : Bool) → is_among x ys ≡ is_some (index_among x ys) → (if b then true else is_among x ys) ≡ is_some (if b then Some 0 else option_map suc (index_among x ys))
   by_test true h = refl
-  by_test false h = h ∙ sym (is_some_more (index_among x ys))
+  by_test false h = h ∙ sym (some-mapped suc (index_among x ys))
 
 source_takes_none : (v : Option Constant) (k : Option ℕ) (c : Bool) (p : ℕ) → is_source (source_by v k c p) ≡ true
 source_takes_none (Some v) k c p = refl

@@ -1,5 +1,5 @@
--- The code of a bound, and what it comes to by what is stored: X3.9-1978, 5.5.1. Operands stand from left to right, and behind
--- them what is done with them.
+-- The code of a bound, and the value that it computes from what is stored: X3.9-1978, 5.5.1. Operands come from left
+-- to right, and then the operation on them.
 use Rattle.std.specs.Prelude.{◌≡◌, ℕ, ◌-◌, Bool, true, false, List, [], ◌∷◌, ◌++◌, take, drop, length, Option, Some, None}
 use Rattle.std.specs.Option.{option_map, option_and_then}
 use Rattle.hep_machine.specs.Words.{Name, Statement, Tree, Trees, constant, occurrence, with_list, parenthesized, signed, negated, binary, no_trees, trees, signed_value, negated_value, combined_value, function_value, Values, without_fault, Meaning, pure, listed_meaning}
@@ -10,7 +10,7 @@ use Rattle.hep_code.specs.declared.bound.BoundOperation.TheVariants.{Value, InCo
 
 -- ---- the code of an expression: section 6
 
--- where the value of each name is
+-- the source of each name's value
 abbrev pub Sources : Type 0
 Sources = Name → BoundOperation
 
@@ -41,7 +41,7 @@ abbrev mutual
   code_of_bounds source unit no_trees = []
   code_of_bounds source unit (trees t ts) = code_of_bound source unit t ++ code_of_bounds source unit ts
 
--- ---- what code comes to
+-- ---- the value that code computes
 
 abbrev pub arity : BoundOperation → ℕ
 arity (Value v) = 0
@@ -53,16 +53,16 @@ arity (Combine o) = 2
 arity (Apply f n) = n
 arity Nowhere = 0
 
--- a value behind others, if there is one
+-- values, with one more after them, if there is one
 abbrev pub behind : List Constant → Option Constant → Option (List Constant)
 behind stack o = option_map (λ v. stack ++ v ∷ []) o
 
--- the value that stands alone
+-- the value, if there is just one
 abbrev pub only_value : List Constant → Option Constant
 only_value (v ∷ []) = Some v
 only_value _ = None
 
--- what is stored in the cells of COMMON and in the dummy arguments, where something is
+-- the values in the cells of COMMON and of the dummy arguments, where they have one
 module _ (common dummies : ℕ → Option Constant) where
   -- the value of an operation on its operands, none where it faults
   abbrev pub value_on : BoundOperation → List Constant → Option Constant

@@ -1,4 +1,4 @@
--- How much code and how many operands a unit may have.
+-- The greatest number of instructions and of operands of a unit.
 use Rattle.std.specs.Prelude.{ℕ}
 
 abbrev pub most_instructions : ℕ

@@ -1,4 +1,4 @@
--- What others name of this crate's definitions, passed on from one place. Declares nothing.
+-- Definitions of other crates that users of this crate name. Declares nothing.
 unfoldable pub use Rattle.hep_code.specs.Targets.{aside, behind, inward, labelled, onward, outward}
 pub use Rattle.hep_code.specs.Targets.{at, end_of, Target}
 pub use Rattle.hep_code.specs.Tables.{NameTable, Table}
@@ -13,23 +13,23 @@ pub use Rattle.hep_code.specs.StatementCode.{conditions_code, form_code, instruc
 pub use Rattle.hep_code.specs.StatementCode.{operation_code, statement_code, statements_code}
 unfoldable pub use Rattle.hep_code.specs.UnitCode.{code_of, index_of, names_of, table_by, table_of, unplaced}
 pub use Rattle.hep_code.specs.UnitCode.{AddressedUnit}
-unfoldable pub use Rattle.hep_code.specs.Standing.{Counts, counts_of, Fits, HoldsLoops, left_to_do, work_code}
-pub use Rattle.hep_code.specs.Standing.{IsAt, Stands}
+unfoldable pub use Rattle.hep_code.specs.CodePosition.{Counts, counts_of, Fits, HoldsLoops, left_to_do, work_code}
+pub use Rattle.hep_code.specs.CodePosition.{IsAt, Stands}
 unfoldable pub use Rattle.hep_code.specs.Actions.{argument_of_actual, arity, evaluation_of, operands_of_action, operands_of_actual}
 unfoldable pub use Rattle.hep_code.specs.Actions.{operands_of_item, operands_of_redex, printed_item, referred_argument}
 unfoldable pub use Rattle.hep_code.specs.Actions.{operands_of_sought}
 pub use Rattle.hep_code.specs.Actions.{entries_of, entries_of_sought, operation_of, operation_of_sought}
-unfoldable pub use Rattle.hep_code.specs.Ahead.{IsPastPushes, values_ahead}
-pub use Rattle.hep_code.specs.Ahead.{IsAction, IsNext, IsRedex, IsReference}
-unfoldable pub use Rattle.hep_code.specs.Moves.{first_operand, index_at, index_by_count, index_by_sign, index_chosen, led_by_count, led_to}
-unfoldable pub use Rattle.hep_code.specs.Passing.{items_from, passed_actual, passed_from, passed_reference}
-pub use Rattle.hep_code.specs.Passing.{by_reference, by_value, Passed}
+unfoldable pub use Rattle.hep_code.specs.NextInCode.{IsPastPushes, values_ahead}
+pub use Rattle.hep_code.specs.NextInCode.{IsAction, IsNext, IsRedex, IsReference}
+unfoldable pub use Rattle.hep_code.specs.ControlTransfer.{first_operand, index_at, index_by_count, index_by_sign, index_chosen, led_by_count, led_to}
+unfoldable pub use Rattle.hep_code.specs.PassedArguments.{items_from, passed_actual, passed_from, passed_reference}
+pub use Rattle.hep_code.specs.PassedArguments.{by_reference, by_value, PassedArgument}
 unfoldable pub use Rattle.hep_code.specs.Replies.{accessing, Addressing, answer_to_store, Answers, Finds, is_asynchronous, IsAddressed}
 unfoldable pub use Rattle.hep_code.specs.Replies.{IsAddressedIn, IsSame, read, second_operand, tested}
 pub use Rattle.hep_code.specs.Replies.{accessed, Reply, reply_of, reply_to_store, result}
-pub use Rattle.hep_code.specs.Leads.{IsCounted, Leads, LeadsCounted, Moves}
-unfoldable pub use Rattle.hep_code.specs.Stacks.{addressed_unit, Awaits, calling, entered, entry_index, NoLoops}
-pub use Rattle.hep_code.specs.Stacks.{Addresses, AreBelow, AreLevels, CodeLevel, IsBelow, IsOf, IsTop}
+pub use Rattle.hep_code.specs.ControlFlow.{IsCounted, Leads, LeadsCounted, Moves}
+unfoldable pub use Rattle.hep_code.specs.ProcessCode.{addressed_unit, Awaits, calling, entered, entry_index, NoLoops}
+pub use Rattle.hep_code.specs.ProcessCode.{Addresses, AreBelow, AreLevels, CodeLevel, IsBelow, IsOf, IsTop}
 unfoldable pub use Rattle.hep_code.specs.Limits.{most_instructions, most_operands}
-unfoldable pub use Rattle.hep_code.specs.Depths.{deeper, deepest, line_ahead, line_before, line_too_deep, operands_ahead, operands_before}
-unfoldable pub use Rattle.hep_code.specs.Depths.{operands_by, operands_of_entries, operands_of_entry, operands_passed, operands_shown}
+unfoldable pub use Rattle.hep_code.specs.OperandDepths.{deeper, deepest, line_ahead, line_before, line_too_deep, operands_ahead, operands_before}
+unfoldable pub use Rattle.hep_code.specs.OperandDepths.{operands_by, operands_of_entries, operands_of_entry, operands_passed, operands_shown}

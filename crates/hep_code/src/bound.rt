@@ -1,4 +1,4 @@
-//! What the code of a bound is made of.
+//! The operations in the code of a bound.
 ghost use Rattle.std.specs.Prelude.{◌≡◌};
 ghost use Rattle.hep_code.specs.BoundCode as code;
 
@@ -6,15 +6,15 @@ use crate::duplicate::Duplicate;
 use hep_source::{Operator, PureFunction, Sign, Value};
 use std::alloc::{AllocError, Global};
 
-/// An operation of the code of a bound. It takes its operands, which are the last values so far, and puts a value in
-/// their place.
+/// An operation in the code of a bound. It takes its operands, which are the last values so far, and puts its value
+/// in their place.
 #[derive(Clone, Copy)]
 pub enum BoundOperation {
     /// A constant, or the value of a named constant (X3.9-1978, 8.6).
     Value(Value),
-    /// What is stored in a cell of COMMON, by its number in the arena.
+    /// The value of a cell of COMMON, by its number in the arena.
     InCommon(u32),
-    /// What is stored in a scalar dummy argument, by its number among the unit's dummy arguments, from 0.
+    /// The value of a scalar dummy argument, by its number among the unit's dummy arguments, counted from 0.
     InDummy(usize),
     /// Puts a sign before an operand (6.1.2).
     Sign(Sign),
@@ -27,12 +27,12 @@ pub enum BoundOperation {
         function: PureFunction,
         arguments: usize,
     },
-    /// What has no value in a bound.
+    /// An expression that has no value in a bound.
     Nowhere,
 }
 
 impl BoundOperation {
-    /// How many operands the operation takes.
+    /// The number of operands of the operation.
     pub fn arity(self) -> usize
         ensures { result ≡ code.arity self }
     {

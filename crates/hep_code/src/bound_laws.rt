@@ -7,9 +7,9 @@ ghost use Rattle.hep_code.specs.declared.bound.BoundOperation.{BoundOperation};
 ghost use Rattle.hep_code.specs.DimensionCode.{code_of_dimensions, coded_shape};
 ghost use Rattle.hep_code.specs.Sources.{AreStored, adjustable_code, source_of};
 
-/// The code of an expression comes to its value, where each name's source has the name's value: it puts the value
-/// behind those that are there, and what stands behind the code goes on with it. It comes to nothing where the
-/// expression has no value (X3.9-1978, 5.5.1).
+/// The code of an expression computes its value, where each name's source has the name's value. The value is pushed,
+/// and the code that follows goes on with it. The code computes nothing where the expression has no value (X3.9-1978,
+/// 5.5.1).
 pub fn bounds_are_coded()
     ensures none { (unit : List Statement) (source : Sources) (values : Values) (common dummies : ℕ → Option Value)
         → AreSources common dummies values source → (t : Tree) (more : List BoundOperation) (stack : List Value)
@@ -23,7 +23,7 @@ pub fn bounds_are_coded()
         → coded_value common dummies (code_of_bound source unit t) ≡ value_of unit values t }
 {}
 
-/// The code of an array's dimensions comes to the shape that the array has by the values of the names, and to none where
+/// The code of an array's dimensions computes the shape that the array has by the values of the names, and none where
 /// it has none: a bound has no value, or the bounds are no shape (X3.9-1978, 5.5.1).
 pub fn shapes_are_coded()
     ensures { (unit : List Statement) (source : Sources) (values : Values) (common dummies : ℕ → Option Value)
@@ -31,8 +31,8 @@ pub fn shapes_are_coded()
         → coded_shape common dummies (code_of_dimensions source unit (dimensions_of unit x)) ≡ shape_by unit values x }
 {}
 
-/// The sources of a unit's names are where its bounds have their values when it is called, so that a dummy argument has
-/// the shape to which the code of its dimensions comes, or SHAPE is the fault (X3.9-1978, 5.5.1 and 15.9.3.3).
+/// The sources of a unit's names have the values of its bounds when it is called. So a dummy argument has the shape
+/// that the code of its dimensions computes, or the fault is SHAPE (X3.9-1978, 5.5.1 and 15.9.3.3).
 pub fn adjustable_shapes_are_coded()
     ensures sources { (scope : Scope) (store : Store) (cell : Name → ℕ) (common dummies : ℕ → Option Value)
         → AreStored scope store cell common dummies → AreSources common dummies (bound_values scope store) (source_of scope.unit cell) }

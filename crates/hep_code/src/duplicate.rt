@@ -1,10 +1,10 @@
-//! Copies of code, and of what stands in rows beside it.
+//! Copies of code, and of lists besides it.
 ghost use Rattle.std.specs.Prelude.{◌≡◌, IfOk};
 
 use hep_source::Sequence;
 use std::alloc::{AllocError, Global};
 
-/// What can be copied into memory of its own.
+/// Values that can be copied into memory of their own.
 pub trait Duplicate: Drop {
     /// The same value, in memory of its own.
     ///
@@ -15,7 +15,7 @@ pub trait Duplicate: Drop {
         ensures { IfOk result (λ copy. copy ≡ self.now) };
 }
 
-// Copies of what stands in a row.
+// Copies of the items of a list.
 fn copy_all<T: Duplicate>(alloc: Global, items: &[T]) -> Result<Vec<T>, AllocError>
     ensures { IfOk result (λ copies. copies.items ≡ items.now) }
 {

@@ -1,5 +1,5 @@
-//! Instructions. Each statement is a row of them: those that give its operands, then one operation that says where
-//! the activation goes, and behind it what there are several of, as the labels of a computed GO TO.
+//! Instructions. The code of each statement is a list of them: those that give its operands, then one operation that
+//! chooses the next index, and then its entries, such as the labels of a computed GO TO.
 //!
 //! Indexes of instructions are counted from the first one of the unit.
 
@@ -9,7 +9,7 @@ use crate::variable::Variable;
 use hep_source::{Operator, PureFunction, Sign, StateFunction, Value};
 use std::alloc::{AllocError, Global};
 
-/// An operation that puts a value in the place of its operands, which are the last ones of all.
+/// An operation that puts a value in the place of its operands, which are the last ones.
 #[derive(Clone, Copy)]
 pub enum Evaluation {
     /// Reads a variable, or the element with these subscripts (X3.9-1978, 5.3).
@@ -37,7 +37,7 @@ pub enum Evaluation {
     },
 }
 
-/// One step of a statement. Where it goes on is an index of an instruction.
+/// One step of a statement. `next` and the other indexes are those of instructions.
 #[derive(Clone, Copy)]
 pub enum Operation {
     Evaluate(Evaluation),
@@ -48,11 +48,11 @@ pub enum Operation {
         subscripts: u32,
         next: u32,
     },
-    /// An unconditional GO TO (11.1), and each statement that does nothing but go on, as CONTINUE (11.11).
+    /// An unconditional GO TO (11.1), and each statement that only goes on, such as CONTINUE (11.11).
     Jump {
         next: u32,
     },
-    /// A computed GO TO (11.2), with so many [`Instruction::To`] behind it.
+    /// A computed GO TO (11.2), followed by `count` [`Instruction::To`].
     Choose {
         count: u32,
         next: u32,
@@ -63,7 +63,7 @@ pub enum Operation {
         zero: u32,
         positive: u32,
     },
-    /// The condition of a logical IF (11.5): where it is true, the statement that it holds comes next.
+    /// The condition of a logical IF (11.5). If it is true, the statement of the IF comes next.
     Condition {
         otherwise: u32,
     },
@@ -72,7 +72,7 @@ pub enum Operation {
         inside: u32,
         otherwise: u32,
     },
-    /// A DO, of the initial value, the limit and the increment, with the first of the two cells for its
+    /// A DO, with the initial value, the limit and the increment as operands, and the first of the two cells for its
     /// iteration count and its increment (11.10.3).
     EnterLoop {
         variable: Variable,
@@ -87,30 +87,30 @@ pub enum Operation {
         inside: u32,
         behind: u32,
     },
-    /// CALL of a unit (15.6.2), with so many [`Instruction::Pass`] behind it.
+    /// CALL of a unit (15.6.2), followed by `count` [`Instruction::Pass`].
     Call {
         unit: u32,
         count: u32,
         next: u32,
     },
-    /// CREATE of a unit (`docs/LANGUAGE.md`), with so many [`Instruction::Pass`] behind it.
+    /// CREATE of a unit (`docs/LANGUAGE.md`), followed by `count` [`Instruction::Pass`].
     Create {
         unit: u32,
         count: u32,
         next: u32,
     },
-    /// A reference of a function, of this unit (15.5.2), with so many [`Instruction::Pass`] behind it, and behind these what goes on
-    /// with its value.
+    /// A reference of a function, of this unit (15.5.2), followed by `count` [`Instruction::Pass`], and then by the
+    /// code that goes on with its value.
     Refer {
         unit: u32,
         count: u32,
     },
-    /// PURGE (`docs/LANGUAGE.md`), with so many [`Instruction::Pass`] behind it.
+    /// PURGE (`docs/LANGUAGE.md`), followed by `count` [`Instruction::Pass`].
     Purge {
         count: u32,
         next: u32,
     },
-    /// PRINT (12.8), with so many [`Instruction::Show`] behind it.
+    /// PRINT (12.8), followed by `count` [`Instruction::Show`].
     Print {
         count: u32,
         next: u32,
@@ -129,7 +129,7 @@ pub enum Operation {
     Stop,
 }
 
-/// How an actual argument is passed (X3.9-1978, 15.9.3), or what is purged.
+/// The way in which an actual argument is passed (X3.9-1978, 15.9.3), or a target is purged.
 #[derive(Clone, Copy, PartialEq, Eq)]
 pub enum Argument {
     /// The value of an expression, which is an operand.
@@ -147,16 +147,16 @@ pub enum Printed {
     Characters(BoxedText),
 }
 
-/// What the code of a unit is made of.
+/// An instruction in the code of a unit.
 #[derive(Drop)]
 pub enum Instruction {
-    /// Puts a value behind the operands; this is no step.
+    /// Pushes a value, which is no step.
     Push(Value),
     /// An operation, with the initial line of its statement.
     Step { line: u32, operation: Operation },
-    /// The index to which one of the labels of a computed GO TO leads.
+    /// The index of one of the labels of a computed GO TO.
     To(u32),
-    /// One of the actual arguments, or of what is purged.
+    /// One of the actual arguments, or of the targets of a PURGE.
     Pass(Argument),
     /// One of the items of a PRINT.
     Show(Printed),

@@ -1,4 +1,4 @@
-//! Laws of the code: what stands ahead of an activation, how many operands it has, and how its levels stay in the
+//! Laws of the code: the next operation of an activation, the number of its operands, and the places of levels in the
 //! code as activations begin and end.
 ghost use Rattle.std.specs.Prelude.{None, Some, ◌≡◌, ◌≤◌, ◌∷◌, ◌++◌, ◌+◌, ℕ, Bool, true, List, Result, drop, length, map, []};
 ghost use Rattle.std.specs.List.{flat_map};
@@ -20,9 +20,9 @@ ghost use Rattle.hep_code.specs.Words.{items_from, passed_actual, passed_from, p
 ghost use Rattle.hep_code.specs.Words.{IsAddressedIn, answer_to_store, reply_of, reply_to_store, Addresses, AreBelow, AreLevels, CodeLevel};
 ghost use Rattle.hep_code.specs.Words.{NoLoops, addressed_unit, Awaits, entered, Counts, Fits, Stands, AddressedUnit, code_of};
 
-/// Where an activation stands and no value stands ahead, there is an operation, with the line of the statement.
-/// An operation that stands ahead is that of what comes next of the statement: of a redex or an action,
-/// with its operands and its entries; and a value in the place of the redex leads to the next index.
+/// After its leading constants an activation has an operation, with the line of the statement. It is the operation of
+/// what comes next of the statement, a redex or an action, with its operands and its entries; and a value in the
+/// place of the redex leads to the next index.
 pub fn operations_stand_ahead()
     ensures step { (addressed : AddressedUnit) (k : ℕ) (work : Work) (operands : List Value) (index : ℕ)
         → Stands addressed k work operands index → IsPastPushes (code_of addressed) index → (operation : Operation)
@@ -33,7 +33,7 @@ pub fn operations_stand_ahead()
         × IsNext addressed k work operands index (next_of addressed.unit work) operation behind }
 {}
 
-/// Where a DO is entered or ended there is that DO.
+/// Where a DO is entered or an iteration of it ended, the statement is that DO.
 pub fn loops_are_there()
     ensures entered { (unit : List Statement) (k : ℕ) (work : Work) (x : Name) (m n i : Value) → Fits unit k work
         → next_of unit work ≡ does (entering_loop x m n i) → is_do (statement_at unit k).form ≡ true }
@@ -41,8 +41,8 @@ pub fn loops_are_there()
         → is_do (statement_at unit d).form ≡ true }
 {}
 
-/// An operation that gives a value replies what the machine answers to the redex whose operation it is, and one
-/// that stores a value what the machine makes of the assignment, where the cells have what the machine has stored.
+/// The reply of an operation that gives a value is the machine's answer to its redex, and the reply of one that
+/// stores a value is what the machine does with the assignment, where the cells have what the machine has stored.
 pub fn operations_reply_as_the_machine_answers()
     ensures redex { (addressing : Addressing) (store : Store) (cells : ℕ → Slot) (scope : Scope) (address : Variable → List Value
         → Result ℕ Kind) (variables : Name → Variable) (r : Redex) → Finds addressing cells store
@@ -59,7 +59,7 @@ pub fn operations_reply_as_the_machine_answers()
         (answer_to_store top.state.store asynchronous v location) }
 {}
 
-/// What stands behind the operation of a CALL, CREATE, PURGE or PRINT, with the operands, is what is passed, purged
+/// The entries after the operation of a CALL, CREATE, PURGE or PRINT, with the operands, are what is passed, purged
 /// or printed, in order.
 pub fn entries_stand_for_lists()
     ensures actuals { (variables : Name → Variable) (actuals : List Actual) (more : List Instruction)
@@ -72,10 +72,9 @@ pub fn entries_stand_for_lists()
         → items_from (length items) (map (λ i. Show (printed_item i)) items ++ more) (flat_map operands_of_item items) ≡ items }
 {}
 
-/// The levels of a process stay in the code as its top moves, or gets a value in the place of a redex, and as
-/// activations are added. A caller goes on where its CALL leads
-/// once the subroutine has returned, and a new activation begins at its unit's first statement, on top of its
-/// caller or as a process of its own.
+/// The levels of a process keep their places in the code as its top level moves, or gets a value in the place of a
+/// redex, and as activations are added. After its subroutine has returned, a caller goes on at the index after its
+/// CALL. A new activation begins at its unit's first statement, on top of its caller or in a process of its own.
 pub fn levels_stay_in_the_code()
     ensures moved { (program : Units) (addresses : Addresses) (s : State) (f : CodeLevel) (fs : List CodeLevel)
         (level after : Level) (levels : Process) (counts : Counts) (index : ℕ) → AreLevels program addresses s (f ∷ fs) (level ∷ levels)
@@ -115,8 +114,8 @@ pub fn levels_stay_in_the_code()
         (entry_level (unit_at program u) (next_activation top.state) ∷ []) }
 {}
 
-/// Wherever an activation stands in the code of a unit, its operands, with the values that stand ahead, are no more
-/// than the deepest stack of that code; so there is room for them in a vector of that capacity.
+/// At any place in the code of a unit an activation has no more operands, with the leading constants, than the
+/// deepest stack of that code. So a vector of that capacity has room for them.
 pub fn operands_have_room()
     ensures operands { (addressed : AddressedUnit) (k : ℕ) (work : Work) (operands : List Value) (index : ℕ)
         → Stands addressed k work operands index → length operands ≤ deepest (code_of addressed) }

@@ -1,25 +1,27 @@
-//! The code of program units: instructions in postfix order, the bounds of adjustable arrays among them, and where one stands in them.
+//! The code of program units: instructions in postfix order ([`instruction`]), and the code of the bounds of
+//! adjustable arrays ([`bound`]). `specs/UnitCode` defines the code of a unit, and `specs/CodePosition` the place of an
+//! activation in it.
 //!
-//! What the code of a unit is stands in `specs/`, and so does what an activation of the source machine has to do
-//! with a place in it. That both go the same way is said by the contracts of [`operands`], [`leading`], [`laws`] and [`bound_laws`].
+//! The contracts of [`operands`], [`control_transfer`], [`laws`] and [`bound_laws`] say that an activation goes the same way
+//! in the code as in the source machine.
 #![tactic(auto)]
 
 pub mod bound;
 pub mod bound_laws;
 pub mod boxed_text;
-pub mod depth;
+pub mod control_transfer;
 pub mod duplicate;
 pub mod instruction;
 pub mod laws;
-pub mod leading;
+pub mod operand_depth;
 pub mod operands;
-pub mod places;
+pub mod placement;
 pub mod variable;
 
 pub use bound::BoundOperation;
 pub use boxed_text::BoxedText;
-pub use depth::{Depth, MOST_OPERANDS, depth_of, operands_of_entry};
 pub use duplicate::Duplicate;
 pub use instruction::{Argument, Evaluation, Instruction, Operation, Printed};
-pub use places::Placement;
+pub use operand_depth::{Depth, MOST_OPERANDS, depth_of, operands_of_entry};
+pub use placement::Placement;
 pub use variable::Variable;

@@ -7,7 +7,7 @@ use Rattle.clap.specs.declared.builder.command.Command.{Command}
 use Rattle.clap.specs.declared.parser.matches.ArgMatches.{ArgMatches}
 use Rattle.clap.specs.declared.error.Error.{Error}
 use Rattle.clap.proofs.OnLiterals.{clap_on_literals}
-use Rattle.hep_command.specs.Asked.{Asked, heard, is_long_in, job_in, words_found, histories_in}
+use Rattle.hep_command.specs.Asked.{RequestedJob, heard, is_long_in, job_in, words_found, histories_in}
 use Rattle.hep_command.specs.Program.{IsCommand, IsMistaken, IsStatusFor, asked, hepf, is_long, histories}
 use Rattle.hep_command.specs.Jobs.{usage_status}
 
@@ -45,7 +45,7 @@ firsts (inl both) = inl both.0
 firsts (inr both) = inr both.0
 
 -- the status for words that `clap` took
-pub taken_status : (command : Command) (words : List Text) (found : Option Asked) (status : ℕ) → IsCommand hepf command → found ≡ asked words
+pub taken_status : (command : Command) (words : List Text) (found : Option RequestedJob) (status : ℕ) → IsCommand hepf command → found ≡ asked words
     → (is_simple_and_free (app_of command) ≡ true → fault_of (app_of command) (heard words) ≡ [])
     → (status ≡ 7) ⊎ ((status ≡ 2) × IsMistaken found) → (status ≡ 7) ⊎ IsStatusFor words status
 unfolding IsStatusFor

@@ -1,7 +1,7 @@
 -- What the words for numbers, jobs and names say, row by row.
-use Rattle.std.proofs.Common.{◌≡◌, ◌∷◌, [], Some, None, false, refl, true, codes}
+use Rattle.std.proofs.Common.{◌≡◌, ◌∷◌, [], ℕ, Some, None, false, refl, true, codes}
 use Rattle.clap.proofs.OnLiterals.{clap_on_literals}
-use Rattle.hep_command.specs.Asked.{check, cover, diff, explain, heard, replay, run, sample, standard, state, trace, why}
+use Rattle.hep_command.specs.Asked.{Viewed, check, cover, diff, explain, heard, replay, run, sample, standard, state, trace, why}
 use Rattle.hep_command.specs.Explanations.{is_explained, name_of}
 use Rattle.hep_command.specs.Numbers.{number_within}
 use Rattle.hep_command.specs.Program.{asked, histories, is_long}
@@ -74,48 +74,89 @@ sample_with_all : asked (codes "hepf" ∷ codes "sample" ∷ codes "--runs" ∷ 
 unfolding asked clap_on_literals
 sample_with_all = refl
 
+-- the run of the history h, in an arena of so many cells
+abbrev of_h : ℕ → Viewed
+of_h cells = record { history = Some (codes "h"); choices = None; seed = None; arena = cells; steps = 10000000 }
+
+-- the serial run
+abbrev serial : Viewed
+serial = record { history = None; choices = None; seed = None; arena = 65536; steps = 10000000 }
+
 state_at : asked (codes "hepf" ∷ codes "state" ∷ codes "a.f" ∷ codes "h" ∷ codes "--at" ∷ codes "0" ∷ [])
-    ≡ Some (state (codes "a.f") (codes "h") (Some 0) 65536)
+    ≡ Some (state (codes "a.f") (of_h 65536) (Some 0))
 unfolding asked clap_on_literals
 state_at = refl
 
 state_of_all : asked (codes "hepf" ∷ codes "state" ∷ codes "a.f" ∷ codes "h" ∷ codes "--arena" ∷ codes "9" ∷ [])
-    ≡ Some (state (codes "a.f") (codes "h") None 9)
+    ≡ Some (state (codes "a.f") (of_h 9) None)
 unfolding asked clap_on_literals
 state_of_all = refl
 
+state_by_choices : asked (codes "hepf" ∷ codes "state" ∷ codes "a.f" ∷ codes "--choices" ∷ codes "c" ∷ codes "--steps=9" ∷ [])
+    ≡ Some (state (codes "a.f") (record serial { choices = Some (codes "c"); steps = 9 }) None)
+unfolding asked clap_on_literals
+state_by_choices = refl
+
 trace_of_all : asked (codes "hepf" ∷ codes "trace" ∷ codes "a.f" ∷ codes "h" ∷ [])
-    ≡ Some (trace (codes "a.f") (codes "h") None None None None 65536)
+    ≡ Some (trace (codes "a.f") (of_h 65536) None None None None)
 unfolding asked clap_on_literals
 trace_of_all = refl
 
+trace_by_lots : asked (codes "hepf" ∷ codes "trace" ∷ codes "a.f" ∷ codes "--seed" ∷ codes "9" ∷ codes "--cell" ∷ codes "N" ∷ [])
+    ≡ Some (trace (codes "a.f") (record serial { seed = Some 9 }) None None None (Some (codes "N")))
+unfolding asked clap_on_literals
+trace_by_lots = refl
+
 trace_with_all : asked (codes "hepf" ∷ codes "trace" ∷ codes "a.f" ∷ codes "--from=2" ∷ codes "h" ∷ codes "--to" ∷ codes "9" ∷ codes "--process=3"
     ∷ codes "--cell" ∷ codes "$X" ∷ codes "--arena" ∷ codes "7" ∷ [])
-    ≡ Some (trace (codes "a.f") (codes "h") (Some 2) (Some 9) (Some 3) (Some (codes "$X")) 7)
+    ≡ Some (trace (codes "a.f") (of_h 7) (Some 2) (Some 9) (Some 3) (Some (codes "$X")))
 unfolding asked clap_on_literals
 trace_with_all = refl
 
 why_with_arena : asked (codes "hepf" ∷ codes "why" ∷ codes "a.f" ∷ codes "h" ∷ codes "--arena=9" ∷ [])
-    ≡ Some (why (codes "a.f") (codes "h") 9)
+    ≡ Some (why (codes "a.f") (of_h 9))
 unfolding asked clap_on_literals
 why_with_arena = refl
 
-cover_two : asked (codes "hepf" ∷ codes "cover" ∷ codes "a.f" ∷ codes "g" ∷ codes "--arena=9" ∷ codes "h" ∷ []) ≡ Some (cover (codes "a.f") 9)
+why_alone : asked (codes "hepf" ∷ codes "why" ∷ codes "a.f" ∷ []) ≡ Some (why (codes "a.f") serial)
+unfolding asked clap_on_literals
+why_alone = refl
+
+cover_two : asked (codes "hepf" ∷ codes "cover" ∷ codes "a.f" ∷ codes "h" ∷ codes "--arena=9" ∷ codes "g" ∷ []) ≡ Some (cover (codes "a.f") (of_h 9) None)
 unfolding asked clap_on_literals
 cover_two = refl
+
+cover_by_lots : asked (codes "hepf" ∷ codes "cover" ∷ codes "a.f" ∷ codes "--runs" ∷ codes "100" ∷ [])
+    ≡ Some (cover (codes "a.f") serial (Some 100))
+unfolding asked clap_on_literals
+cover_by_lots = refl
 
 histories_of_two : histories (codes "hepf" ∷ codes "cover" ∷ codes "a.f" ∷ codes "g" ∷ codes "--arena=9" ∷ codes "h" ∷ []) ≡ codes "g" ∷ codes "h" ∷ []
 unfolding histories clap_on_literals
 histories_of_two = refl
 
+-- a history may be left out
+none_of_cover : histories (codes "hepf" ∷ codes "cover" ∷ codes "a.f" ∷ []) ≡ []
+unfolding histories clap_on_literals
+none_of_cover = refl
+
 no_histories : histories (codes "hepf" ∷ codes "replay" ∷ codes "a.f" ∷ codes "h" ∷ []) ≡ []
 unfolding histories clap_on_literals
 no_histories = refl
 
-diff_with_arena : asked (codes "hepf" ∷ codes "diff" ∷ codes "a.f" ∷ codes "g" ∷ codes "--arena=9" ∷ codes "h" ∷ [])
-    ≡ Some (diff (codes "a.f") (codes "g") (codes "h") 9)
+diff_with_arena : asked (codes "hepf" ∷ codes "diff" ∷ codes "a.f" ∷ codes "h" ∷ codes "--arena=9" ∷ codes "g" ∷ [])
+    ≡ Some (diff (codes "a.f") (of_h 9) (Some (codes "g")) None)
 unfolding asked clap_on_literals
 diff_with_arena = refl
+
+diff_by_lots : asked (codes "hepf" ∷ codes "diff" ∷ codes "a.f" ∷ codes "--seed" ∷ codes "4" ∷ codes "--seed" ∷ codes "9" ∷ [])
+    ≡ Some (diff (codes "a.f") (record serial { seed = Some 4 }) None (Some 9))
+unfolding asked clap_on_literals
+diff_by_lots = refl
+
+diff_by_three_lots : asked (codes "hepf" ∷ codes "diff" ∷ codes "a.f" ∷ codes "--seed=4" ∷ codes "--seed=9" ∷ codes "--seed=5" ∷ []) ≡ None
+unfolding asked clap_on_literals
+diff_by_three_lots = refl
 
 replay_with_defaults : asked (codes "hepf" ∷ codes "replay" ∷ codes "a.f" ∷ codes "h" ∷ [])
     ≡ Some (replay (codes "a.f") (codes "h") 65536)

@@ -1,4 +1,4 @@
--- What the program explains: docs/REFUSALS.md and docs/FAULTS.md.
+-- The names and numbers that the program explains: docs/REFUSALS.md and docs/FAULTS.md.
 use Rattle.std.specs.Prelude.{◌||◌, ◌++◌, ◌∷◌, [], ℕ, Bool, List, Option, Some, None, codes, false, map, nat_eq}
 use Rattle.std.specs.List.{list_any}
 use Rattle.std.specs.Str.{bytes_eq}
@@ -21,7 +21,7 @@ abbrev pub faults : List Text
 faults =
     codes "OVERFLOW" ∷ codes "DIVIDE" ∷ codes "RANGE" ∷ codes "UNDEFINED" ∷ codes "SHAPE" ∷ codes "STEP" ∷ []
 
--- what else a run may end with
+-- the other ends of a run
 abbrev pub ends : List Text
 ends =
     codes "FAULT" ∷ codes "WAITING" ∷ codes "STOPPED ARENA FULL" ∷ codes "ARENA FULL"
@@ -36,7 +36,7 @@ statuses =
 abbrev pub is_among : List Text → Text → Bool
 is_among names name = list_any (bytes_eq name) names
 
--- one word more, behind a blank
+-- a name with one more word, after a blank
 abbrev pub with_word : Text → Option Text → Text
 with_word name None = name
 with_word name (Some word) = (name ++ 32 ∷ []) ++ word

@@ -1,9 +1,10 @@
--- What a command line may ask for: docs/MACHINE.md, "The program".
+-- The jobs that a command line may ask for: docs/MACHINE.md, "The program".
 use Rattle.std.specs.Prelude.{◌≡◌, ◌≢◌, ◌⊎◌, ℕ, ◌+◌, ◌≤◌, List as ListOf, [], Option, Some, None}
 use Rattle.std.specs.Borrow.{Bor}
 use Rattle.clap.specs.declared.error.kind.ErrorKind.{ErrorKind}
 use Rattle.clap.specs.declared.error.kind.ErrorKind.TheVariants.{DisplayHelp, DisplayVersion, OutOfMemory}
 use Rattle.hep_command.specs.declared.job.Job.{Job}
+use Rattle.hep_command.specs.declared.job.ViewedRun.{ViewedRun}
 use Rattle.hep_command.specs.declared.job.Usage.{Usage}
 use Rattle.hep_command.specs.declared.job.Job.TheVariants.{Standard, Check, Run, Sample, Replay, State, Trace, Why, Cover, Diff, List, Explain}
 
@@ -27,6 +28,10 @@ HasSeed (Some seed) = IsSeed seed
 abbrev pub AreSampled : ℕ → Type 0
 AreSampled runs = (1 ≤ runs) × (runs ≤ 1000000)
 
+-- the numbers of the run that is looked at are those that its options allow
+abbrev pub IsViewInRange : ViewedRun → Type 0
+IsViewInRange run = IsArena run.arena × IsSteps run.steps × HasSeed run.seed
+
 -- the numbers of the job are those that its options allow
 abbrev pub IsInRange : Job → Type 0
 IsInRange Standard = Unit {0}
@@ -34,11 +39,11 @@ IsInRange (Check file warn) = Unit {0}
 IsInRange (Run file arena steps workers seed choices follow history) = IsArena arena × IsSteps steps × AreWorkers workers × HasSeed seed
 IsInRange (Sample file runs seed arena steps keep) = AreSampled runs × IsSeed seed × IsArena arena × IsSteps steps
 IsInRange (Replay file history arena) = IsArena arena
-IsInRange (State file history at arena) = IsArena arena
-IsInRange (Trace file history first last process cell arena) = IsArena arena
-IsInRange (Why file history arena) = IsArena arena
-IsInRange (Cover file arena) = IsArena arena
-IsInRange (Diff file history other arena) = IsArena arena
+IsInRange (State file run at) = IsViewInRange run
+IsInRange (Trace file run first last process cell) = IsViewInRange run
+IsInRange (Why file run) = IsViewInRange run
+IsInRange (Cover file run runs) = IsViewInRange run
+IsInRange (Diff file run other other_seed) = IsViewInRange run × HasSeed other_seed
 IsInRange (List file) = Unit {0}
 IsInRange (Explain first second third) = Unit {0}
 
@@ -51,14 +56,29 @@ abbrev pub IsWrittenApart : Job → Type 0
 IsWrittenApart (Run file arena steps workers seed choices follow (Some history)) = (file.now ≢ history.now) × IsNoPath choices history × IsNoPath follow history
 IsWrittenApart _ = Unit {0}
 
--- one where it is given, else none
+-- 1 if it is given, otherwise 0
 abbrev pub count_of : {A : Type 0} → Option A → ℕ
 count_of None = 0
 count_of (Some x) = 1
 
--- who comes when is said once at most: by choices, by a history that is followed, by workers or by lots
+-- one where either is given, else none
+abbrev pub count_of_either : {A B : Type 0} → Option A → Option B → ℕ
+count_of_either None None = 0
+count_of_either None (Some y) = 1
+count_of_either (Some x) _ = 1
+
+-- one at most of a history, choices and lots, which have a seed or a number of runs, says which run is looked at
+abbrev pub IsOneRun : ViewedRun → Option ℕ → Type 0
+IsOneRun run runs = count_of run.history + count_of run.choices + count_of_either run.seed runs ≤ 1
+
+-- who comes when is said once at most: by choices, by a history that is followed or looked at, by workers or by lots
 abbrev pub IsOneOrder : Job → Type 0
 IsOneOrder (Run file arena steps workers seed choices follow history) = count_of workers + count_of seed + count_of choices + count_of follow ≤ 1
+IsOneOrder (State file run at) = IsOneRun run None
+IsOneOrder (Trace file run first last process cell) = IsOneRun run None
+IsOneOrder (Why file run) = IsOneRun run None
+IsOneOrder (Cover file run runs) = IsOneRun run runs
+IsOneOrder (Diff file run other other_seed) = IsOneRun run None
 IsOneOrder _ = Unit {0}
 
 -- memory was refused, and there is no text
@@ -69,7 +89,7 @@ IsWant usage = (usage.status ≡ 7) × (usage.text.items ≡ [])
 abbrev pub IsUsage : Usage → Type 0
 IsUsage usage = (usage.status ≡ 0) ⊎ (usage.status ≡ 2) ⊎ IsWant usage
 
--- 0 for what was asked for, 2 for a mistake in the words
+-- 0 for a text that was asked for, 2 for a mistake in the words
 abbrev pub usage_status : ErrorKind → ℕ
 usage_status DisplayHelp = 0
 usage_status DisplayVersion = 0

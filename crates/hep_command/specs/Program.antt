@@ -2,17 +2,17 @@
 use Rattle.std.specs.Prelude.{◌≡◌, ◌⊎◌, [], Bool, false, ℕ, List, None, Option, Some, true, codes, map}
 use Rattle.clap.specs.Words.{App, Rule, Text, app_of, matches_of, new_app, new_rule, rule_of, subcommand_of}
 use Rattle.clap.specs.Words.{IsAmong, fault_of, with_rule, with_subcommand}
-use Rattle.clap.specs.declared.builder.action.ArgAction.TheVariants.{SetTrue}
+use Rattle.clap.specs.declared.builder.action.ArgAction.TheVariants.{Append, SetTrue}
 use Rattle.clap.specs.declared.builder.arg.Arg.{Arg}
 use Rattle.clap.specs.declared.builder.command.Command.{Command}
 use Rattle.clap.specs.declared.error.kind.ErrorKind.{ErrorKind}
 use Rattle.clap.specs.declared.builder.value_parser.ValueParser.TheVariants.{Unsigned}
-use Rattle.hep_command.specs.Asked.{Asked, asked_by, heard, is_long_in, job_in, histories_in}
+use Rattle.hep_command.specs.Asked.{RequestedJob, asked_by, heard, is_long_in, job_in, histories_in}
 use Rattle.hep_command.specs.Jobs.{IsOneOrder, IsWrittenApart, usage_status}
 use Rattle.hep_command.specs.declared.job.Job.{Job}
 use Rattle.hep_command.specs.declared.job.Request.{Request}
 
--- a word that has to be there
+-- a required word
 abbrev pub required_word : Text → Rule
 required_word id = record (new_rule id) { value_names = 1; required = true }
 
@@ -31,7 +31,7 @@ history_word = required_word (codes "history")
 abbrev pub name_word : Rule
 name_word = required_word (codes "first")
 
--- a word that may be left out
+-- an optional word
 abbrev pub optional_word : Text → Rule
 optional_word id = record (new_rule id) { value_names = 1 }
 
@@ -50,7 +50,7 @@ seed_option = number_option (codes "seed") 4294967296
 abbrev pub runs_option : Rule
 runs_option = number_option (codes "runs") 1000000
 
--- a word that begins the names of files
+-- a prefix of the names of files
 abbrev pub keep_option : Rule
 keep_option = file_option (codes "keep")
 
@@ -63,11 +63,11 @@ follow_option = file_option (codes "follow")
 abbrev pub history_option : Rule
 history_option = file_option (codes "history")
 
--- a word that stands alone, before the command or behind it
+-- an option without a value, before the command or after it
 abbrev pub long_flag : Rule
 long_flag = record (new_rule (codes "long")) { long = Some (codes "long"); action = Some SetTrue }
 
--- a word that stands alone, behind `check`
+-- an option without a value, after `check`
 abbrev pub warn_flag : Rule
 warn_flag = record (new_rule (codes "warn")) { long = Some (codes "warn"); action = Some SetTrue }
 
@@ -89,16 +89,22 @@ replay_command =
     with_rule (with_rule (with_rule (with_rule (new_app (codes "replay")) source_word) history_word) arena_option)
     long_flag
 
--- a number that may be 0
+-- a number from 0 on
 abbrev pub entries_option : Rule
 entries_option = record (file_option (codes "at")) { parser = Some (Unsigned 0 4294967296) }
 
-abbrev pub state_command : App
-state_command =
-    with_rule (with_rule (with_rule (with_rule (with_rule (new_app (codes "state")) source_word) history_word) entries_option) arena_option)
-    long_flag
+-- a history, where no run is made in its place
+abbrev pub viewed_word : Rule
+viewed_word = optional_word (codes "history")
 
--- a number that counts from 1
+-- a view with the options of the run that is made for it, and of its arena
+abbrev pub viewing : App → Rule → App
+viewing view seeds = with_rule (with_rule (with_rule (with_rule (with_rule view choices_option) seeds) arena_option) steps_option) long_flag
+
+abbrev pub state_command : App
+state_command = viewing (with_rule (with_rule (with_rule (new_app (codes "state")) source_word) viewed_word) entries_option) seed_option
+
+-- a number from 1 on
 abbrev pub ordinal_option : Text → Rule
 ordinal_option id = number_option id 4294967296
 
@@ -117,31 +123,31 @@ cell_option = file_option (codes "cell")
 
 abbrev pub trace_command : App
 trace_command =
-    with_rule (with_rule (with_rule (with_rule (with_rule (with_rule (with_rule (with_rule (new_app (codes "trace")) source_word) history_word)
-    first_option) last_option) process_option) cell_option) arena_option) long_flag
+    viewing (with_rule (with_rule (with_rule (with_rule (with_rule (with_rule (new_app (codes "trace")) source_word) viewed_word)
+    first_option) last_option) process_option) cell_option) seed_option
 
 abbrev pub why_command : App
-why_command =
-    with_rule (with_rule (with_rule (with_rule (new_app (codes "why")) source_word) history_word) arena_option)
-    long_flag
+why_command = viewing (with_rule (with_rule (new_app (codes "why")) source_word) viewed_word) seed_option
 
--- one word at least, and as many more as there are
+-- as many words as there are, or none
 abbrev pub histories_word : Rule
-histories_word = record (required_word (codes "histories")) { range = Some (record { start_inclusive = 1; end_inclusive = 18446744073709551615 }) }
+histories_word = record (optional_word (codes "histories")) { range = Some (record { start_inclusive = 1; end_inclusive = 18446744073709551615 }) }
 
 abbrev pub cover_command : App
 cover_command =
-    with_rule (with_rule (with_rule (with_rule (new_app (codes "cover")) source_word) histories_word) arena_option)
-    long_flag
+    with_rule (with_rule (with_rule (with_rule (with_rule (with_rule (with_rule (with_rule (new_app (codes "cover")) source_word) histories_word)
+    choices_option) seed_option) runs_option) arena_option) steps_option) long_flag
 
 -- a second history
 abbrev pub other_word : Rule
-other_word = required_word (codes "other")
+other_word = optional_word (codes "other")
+
+-- a seed, or two
+abbrev pub seeds_option : Rule
+seeds_option = record seed_option { action = Some Append }
 
 abbrev pub diff_command : App
-diff_command =
-    with_rule (with_rule (with_rule (with_rule (with_rule (new_app (codes "diff")) source_word) history_word) other_word) arena_option)
-    long_flag
+diff_command = viewing (with_rule (with_rule (with_rule (new_app (codes "diff")) source_word) viewed_word) other_word) seeds_option
 
 abbrev pub list_command : App
 list_command = with_rule (with_rule (new_app (codes "list")) source_word) long_flag
@@ -164,18 +170,18 @@ hepf =
     (with_subcommand (with_subcommand bare_program check_command.top) run_command.top) sample_command.top) replay_command.top) state_command.top)
     trace_command.top) why_command.top) cover_command.top) diff_command.top) list_command.top) explain_command.top
 
--- a parse sees this of the argument, and of the command
+-- a parse sees the argument, or the command, as this
 abbrev pub IsArgument : Rule → Arg → Type 0
 IsArgument rule argument = (rule_of argument ≡ rule) × (argument.global ≡ false)
 
 abbrev pub IsCommand : App → Command → Type 0
 IsCommand app command = app_of command ≡ app
 
--- the job that the words ask for
-unfoldable pub asked : List Text → Option Asked
+-- the job of the words
+unfoldable pub asked : List Text → Option RequestedJob
 asked words = job_in (subcommand_of hepf (heard words))
 
--- the words ask for more than the lines that are fixed
+-- the words ask for notes besides the lines of the standard form
 unfoldable pub is_long : List Text → Bool
 is_long words = is_long_in (matches_of hepf (heard words)) (subcommand_of hepf (heard words))
 
@@ -183,18 +189,18 @@ is_long words = is_long_in (matches_of hepf (heard words)) (subcommand_of hepf (
 unfoldable pub histories : List Text → List Text
 histories words = histories_in (subcommand_of hepf (heard words))
 
--- what the words ask for
+-- the request of the words
 abbrev pub IsAskedBy : List Text → Request → Type 0
 IsAskedBy words request =
     (asked words ≡ Some (asked_by request.job)) × (request.long ≡ is_long words) × (map (λ h. h.now) request.histories.items ≡ histories words)
 
--- nothing is asked for that has a meaning, or a job whose history would be written to a file that is read, or one that says twice who
--- comes when
-abbrev pub IsMistaken : Option Asked → Type 0
+-- the words have no meaning; or their job would write the history to a file that is read; or they decide the next
+-- process in two ways
+abbrev pub IsMistaken : Option RequestedJob → Type 0
 IsMistaken asked =
     (asked ≡ None) ⊎ ((job : Job) × (asked ≡ Some (asked_by job)) × ((IsWrittenApart job → ⊥) ⊎ (IsOneOrder job → ⊥)))
 
--- the status where the words get no job: that of a fault which they have, and 2 where they have none, and what they ask for is mistaken
+-- the status where the words get no job: that of their fault, or 2 where they have none and are mistaken
 unfoldable pub IsStatusFor : List Text → ℕ → Type 0
 IsStatusFor words status = ((fault_of hepf (heard words) ≡ []) × (status ≡ 2) × IsMistaken (asked words))
     ⊎ ((kind : ErrorKind) × IsAmong kind (fault_of hepf (heard words)) × (status ≡ usage_status kind))

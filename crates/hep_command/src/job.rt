@@ -1,136 +1,149 @@
-//! What a command line asks for.
+//! The jobs that a command line may ask for.
 ghost use Rattle.std.specs.Prelude.{◌≡◌, ◌⊎◌};
 ghost use Rattle.hep_command.specs.Jobs.{IsWant};
 
 use std::alloc::Global;
 
-/// The cells of the arena of a run, where no option says how many.
+/// The number of cells of the arena of a run, where no option gives it.
 pub const ARENA: u32 = 65_536;
 
-/// The most cells of an arena.
+/// The greatest number of cells of an arena.
 pub const MOST_ARENA: u32 = 16_777_216;
 
-/// The entries that a history may have, where no option says how many.
+/// The greatest number of entries of a history, where no option gives it.
 pub const STEPS: u64 = 10_000_000;
 
-/// The most entries that an option allows a history.
+/// The greatest number of entries that an option may give.
 pub const MOST_STEPS: u64 = 4_294_967_296;
 
-/// The most workers that an option allows a run.
+/// The greatest number of workers that an option may give.
 pub const MOST_WORKERS: u64 = 16;
 
 /// The greatest seed of lots.
 pub const MOST_SEED: u64 = 4_294_967_296;
 
-/// The seed of a sample's first run, where no option says which one.
+/// The seed of a sample's first run, where no option gives it.
 pub const FIRST_SEED: u64 = 1;
 
-/// The runs of a sample, where no option says how many.
+/// The number of runs of a sample, where no option gives it.
 pub const RUNS: u64 = 100;
 
-/// The most runs of a sample.
+/// The greatest number of runs of a sample.
 pub const MOST_RUNS: u64 = 1_000_000;
+
+/// Which run is looked at: the one of a history, where its file is named; else one that is made for it, by choices, by lots or serial.
+#[derive(Clone, Copy)]
+pub struct ViewedRun<'a> {
+    /// The file of the history.
+    pub history: Option<&'a str>,
+    /// The file of the choices.
+    pub choices: Option<&'a str>,
+    /// The seed of the lots, 1 to 4,294,967,296.
+    pub seed: Option<u64>,
+    /// The cells of the arena, 1 to 16,777,216.
+    pub arena: u32,
+    /// The entries that the history of a run that is made may have, 1 to 4,294,967,296.
+    pub steps: u64,
+}
 
 /// What a command line asks for. Files go by their paths, and a source by `-` is standard input.
 #[derive(Clone, Copy)]
 pub enum Job<'a> {
-    /// To run the source on standard input with the defaults: there is no word.
+    /// Run the source on standard input with the defaults: there are no words.
     Standard,
-    /// To say why a source is refused, if it is.
+    /// Report why a source is refused, if it is.
     Check {
         file: &'a str,
-        /// Whether what it may well have by mistake is said too.
+        /// Whether probable mistakes are reported too.
         warn: bool,
     },
-    /// To run a source.
+    /// Run a source.
     Run {
         file: &'a str,
         /// The cells of the arena, 1 to 16,777,216.
         arena: u32,
-        /// The entries that the history may have, 1 to 4,294,967,296.
+        /// The greatest number of entries of the history, 1 to 4,294,967,296.
         steps: u64,
-        /// How many workers run it, 1 to 16; without them the run is serial.
+        /// The number of workers, 1 to 16. Without them the run is serial.
         workers: Option<u32>,
-        /// The seed of the lots that it is run by, 1 to 4,294,967,296.
+        /// The seed of the lots, 1 to 4,294,967,296, for a run by lots.
         seed: Option<u64>,
-        /// The file of the choices, which only a serial run has.
+        /// The file of the choices, for a serial run only.
         choices: Option<&'a str>,
-        /// The file of the history whose steps are made first, which only a serial run without choices has.
+        /// The file of the history whose steps are made first, for a serial run without choices only.
         follow: Option<&'a str>,
-        /// The file that gets the history.
+        /// The file to which the history is written.
         history: Option<&'a str>,
     },
-    /// To run a source by lots, by one seed after the other, and count what comes of it.
+    /// Run a source by lots, once for each of a number of seeds, and count the outcomes.
     Sample {
         file: &'a str,
-        /// How many runs there are, 1 to 1,000,000.
+        /// The number of runs, 1 to 1,000,000.
         runs: u32,
         /// The seed of the first run, 1 to 4,294,967,296.
         seed: u64,
         /// The cells of the arena, 1 to 16,777,216.
         arena: u32,
-        /// The entries that the history of a run may have, 1 to 4,294,967,296.
+        /// The greatest number of entries of the history of a run, 1 to 4,294,967,296.
         steps: u64,
-        /// How the names of the files begin that get the histories of the first runs.
+        /// The prefix of the files to which the histories of the first runs are written.
         keep: Option<&'a str>,
     },
-    /// To make the steps of a history again.
+    /// Make the steps of a history again.
     Replay {
         file: &'a str,
         history: &'a str,
         /// The cells of the arena, 1 to 16,777,216.
         arena: u32,
     },
-    /// To say what everything holds after the first entries of a history.
+    /// Show the state after the first entries of a history.
     State {
         file: &'a str,
-        history: &'a str,
+        run: ViewedRun<'a>,
         /// After how many entries; after all of them where none is said.
         at: Option<u64>,
-        /// The cells of the arena, 1 to 16,777,216.
-        arena: u32,
     },
-    /// To say what each step of a history did, or some of them.
+    /// Show what each step of a history did, or some of them.
     Trace {
         file: &'a str,
-        history: &'a str,
+        run: ViewedRun<'a>,
         /// The first entry whose lines are shown, counted from 1; the first one where none is said.
         first: Option<u64>,
-        /// The last entry that is made; all are where none is said.
+        /// The last entry that is made; the last one of all where it isn't given.
         last: Option<u64>,
-        /// The process whose lines are shown, or all.
+        /// The process whose lines are shown; all processes where it isn't given.
         process: Option<u64>,
-        /// The name of the variable whose accesses are shown, or all steps.
+        /// The name of the variable whose accesses are shown; all steps where it isn't given.
         cell: Option<&'a str>,
-        /// The cells of the arena, 1 to 16,777,216.
-        arena: u32,
     },
-    /// To say why processes wait after a history.
+    /// Show why processes wait after a history.
     Why {
         file: &'a str,
-        history: &'a str,
-        /// The cells of the arena, 1 to 16,777,216.
-        arena: u32,
+        run: ViewedRun<'a>,
     },
-    /// To say how often the statement of each line began in histories, which the request has.
+    /// To say how often the statement of each line began in histories.
     Cover {
         file: &'a str,
-        /// The cells of the arena, 1 to 16,777,216.
-        arena: u32,
+        /// The first run, where the request has more histories.
+        run: ViewedRun<'a>,
+        /// How many runs by lots there are, 1 to 1,000,000, by one seed after the other.
+        runs: Option<u32>,
     },
-    /// To say what differs between the runs of two histories.
+    /// To say what differs between two runs.
     Diff {
         file: &'a str,
-        history: &'a str,
-        other: &'a str,
-        /// The cells of the arena, 1 to 16,777,216.
-        arena: u32,
+        /// The first run.
+        run: ViewedRun<'a>,
+        /// The file of the second run's history.
+        other: Option<&'a str>,
+        /// The seed of its lots, 1 to 4,294,967,296; without both it is serial.
+        other_seed: Option<u64>,
     },
-    /// To list the units and common blocks of a source with their cells.
+    /// List the units and common blocks of a source with their cells.
     List {
         file: &'a str,
     },
-    /// To say what a refusal, a fault, another end of a run or an exit status means, by its name.
+    /// Explain a refusal, a fault, another end of a run or an exit status, by its name.
     Explain {
         first: &'a str,
         second: Option<&'a str>,
@@ -138,21 +151,21 @@ pub enum Job<'a> {
     },
 }
 
-/// A job, and how much is to be said of it.
+/// A job, with its options that all commands have.
 #[derive(Drop)]
 pub struct Request<'a> {
     pub job: Job<'a>,
-    /// The files of the histories of `cover`, in order; none of another job.
+    /// The files of the histories of `cover`, in order; none for another job.
     pub histories: Vec<&'a str>,
-    /// Whether more is to be said of what went wrong than the lines that are fixed.
+    /// Whether notes are written besides the lines of the standard form.
     pub long: bool,
 }
 
-/// A text for the one who gave the words, and an exit status.
+/// A text for the user of the command line, and an exit status.
 #[derive(Drop)]
 pub struct Usage {
-    /// 0 for help, the version and an explanation, which go to standard output; 2 for a mistake in
-    /// the words, which goes to standard error; 7 where memory was refused, which has no text.
+    /// 0 for help, the version and an explanation, which are written to standard output; 2 for a mistake in the
+    /// command line, which is written to standard error; 7 where memory was refused, with no text.
     pub status: u8,
     pub text: Vec<u8>,
 }

@@ -1,18 +1,18 @@
-//! The words of the command line, and what the program says of itself: its help, its version, and
-//! what its refusals, faults, stops and statuses mean.
+//! The command line, and the program's texts about itself: its help, its version, and the explanations of refusals,
+//! faults, stops and statuses. Begin with [`read_request`](words::read_request).
 #![tactic(auto)]
 
-pub mod explaining;
+pub mod explanations;
+pub mod fault_texts;
 pub mod job;
-pub mod meanings;
-mod mistakes;
 mod program;
-pub mod refusals;
+pub mod refusal_texts;
 mod table;
+mod usage_mistakes;
 pub mod words;
 
-pub use explaining::explain;
-pub use job::{Job, Request, Usage};
-pub use meanings::meaning;
-pub use refusals::explanation;
-pub use words::{FOLLOW_TOO, LOTS_TOO, SAME_FILE, TWO_ORDERS, read_request, read_words};
+pub use explanations::explain;
+pub use fault_texts::meaning;
+pub use job::{Job, Request, Usage, ViewedRun};
+pub use refusal_texts::explanation;
+pub use words::{FOLLOW_TOO, LOTS_TOO, SAME_FILE, TWO_ORDERS, TWO_RUNS, read_request, read_words};

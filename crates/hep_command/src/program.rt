@@ -1,4 +1,4 @@
-//! The commands of the table, as `clap` reads them and shows them in its help.
+//! The commands of the table, as `clap` reads them and as its help shows them.
 
 ghost use Rattle.std.specs.Prelude.{◌≡◌, true, IfOk};
 ghost use Rattle.clap.specs.Words.{App, with_rule, with_subcommand};
@@ -6,12 +6,12 @@ ghost use Rattle.hep_command.specs.Program.{IsArgument, IsCommand};
 ghost use Rattle.hep_command.specs.Program as spec;
 ghost use Rattle.hep_command.specs.Table.{app_of_command, rule_of_word, with_commands, with_words};
 
-use crate::table::{COMMANDS, Described, Kind, LONG, Word};
+use crate::table::{COMMANDS, CommandRow, LONG, WordKind, WordRow};
 use clap::builder::ValueParser;
 use clap::{Arg, ArgAction, Command};
 use std::alloc::{AllocError, Global};
 
-/// What `hepf --version` says after the program's name.
+/// The output of `hepf --version` after the program's name.
 const VERSION: &str = "0.3.0, rattle-kit-13f logic dac8208d650f15bf";
 
 const ABOUT: &str = "Compiles and runs HEP FORTRAN.";
@@ -21,54 +21,60 @@ const EXAMPLES: &str =
 
 const NO_WORDS: &[&str] = &[];
 
-// The argument of a word, as `clap` has it.
-fn argument_of<'a>(alloc: Global, word: &Word) -> Arg<'a>
+// The argument of `clap` for a word.
+fn argument_of<'a>(alloc: Global, word: &WordRow) -> Arg<'a>
     ensures { IsArgument (rule_of_word word.now) result }
 {
     let argument = Arg::new(alloc, word.id);
     match word.kind {
-        Kind::Required => argument
+        WordKind::Required => argument
             .value_name(word.value)
             .required(true)
             .help(word.help),
-        Kind::Repeated => argument
+        WordKind::Optional => argument.value_name(word.value).help(word.help),
+        WordKind::Repeated => argument
             .value_name(word.value)
-            .required(true)
             .num_args(1..)
             .help(word.help),
-        Kind::Further => argument.value_name(word.value).hide(true),
-        Kind::Flag => argument
+        WordKind::Further => argument.value_name(word.value).hide(true),
+        WordKind::Flag => argument
             .long(word.id)
             .action(ArgAction::SetTrue)
             .help(word.help),
-        Kind::Text => argument
+        WordKind::Text => argument
             .long(word.id)
             .value_name(word.value)
             .help(word.help),
-        Kind::Number(least, most) => argument
+        WordKind::Number(least, most) => argument
             .long(word.id)
+            .value_name(word.value)
+            .value_parser(ValueParser::unsigned(least, most))
+            .help(word.help),
+        WordKind::Numbers(least, most) => argument
+            .long(word.id)
+            .action(ArgAction::Append)
             .value_name(word.value)
             .value_parser(ValueParser::unsigned(least, most))
             .help(word.help),
     }
 }
 
-// A command with one word more, unless memory was refused for it.
+// A command with one more word, unless memory was refused for it.
 fn with_word<'a>(
     alloc: Global,
     whole: Result<Command<'a>, AllocError>,
-    word: &Word,
+    word: &WordRow,
 ) -> Result<Command<'a>, AllocError>
     ensures { (app : App) → IfOk whole.entry (IsCommand app) → IfOk result (IsCommand (with_rule app (rule_of_word word.now))) }
 {
     whole?.arg(argument_of(alloc, word))
 }
 
-// A command with these words more, unless memory was refused for one.
+// A command with these words too, unless memory was refused for one.
 fn with_words<'a>(
     alloc: Global,
     whole: Result<Command<'a>, AllocError>,
-    words: &[Word],
+    words: &[WordRow],
 ) -> Result<Command<'a>, AllocError>
     ensures { (app : App) → IfOk whole.entry (IsCommand app) → IfOk result (IsCommand (with_words app words.now)) }
 {
@@ -78,7 +84,7 @@ fn with_words<'a>(
     }
 }
 
-fn command_of<'a>(alloc: Global, described: &Described) -> Result<Command<'a>, AllocError>
+fn command_of<'a>(alloc: Global, described: &CommandRow) -> Result<Command<'a>, AllocError>
     ensures { IfOk result (IsCommand (app_of_command described.now)) }
 {
     let bare = Command::new(alloc, described.name)
@@ -87,17 +93,17 @@ fn command_of<'a>(alloc: Global, described: &Described) -> Result<Command<'a>, A
     with_words(alloc, Ok(bare), described.words)
 }
 
-// Lets a command go, by `clap` itself: a drop here would be proved for all that a command can have, and takes longer to
-// prove than all else of this crate. It is called only where memory was refused, and the program ends then.
+// Lets `clap` drop a command. A drop here would have to be proved for all parts of a command, which takes longer than
+// all other proofs of this crate. It is called only where memory was refused, and then the program ends.
 fn let_go(command: Command<'_>) {
     let _ = command.try_get_matches_from(NO_WORDS);
 }
 
-// A command with one more, unless memory was refused for it.
+// A command with one more subcommand, unless memory was refused for it.
 fn with_command<'a>(
     alloc: Global,
     whole: Result<Command<'a>, AllocError>,
-    described: &Described,
+    described: &CommandRow,
 ) -> Result<Command<'a>, AllocError>
     ensures { (app : App) → IfOk whole.entry (IsCommand app)
         → IfOk result (IsCommand (with_subcommand app (app_of_command described.now).top)) }
@@ -112,11 +118,11 @@ fn with_command<'a>(
     }
 }
 
-// A command with these more, unless memory was refused for one.
+// A command with these subcommands too, unless memory was refused for one.
 fn with_commands<'a>(
     alloc: Global,
     whole: Result<Command<'a>, AllocError>,
-    commands: &[Described],
+    commands: &[CommandRow],
 ) -> Result<Command<'a>, AllocError>
     ensures { (app : App) → IfOk whole.entry (IsCommand app)
         → IfOk result (IsCommand (with_commands app commands.now)) }

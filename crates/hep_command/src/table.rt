@@ -2,39 +2,43 @@
 
 use crate::job::{MOST_ARENA, MOST_RUNS, MOST_SEED, MOST_STEPS, MOST_WORKERS};
 
-/// What may be given for a word of a command.
+/// The kinds of words of a command.
 #[derive(Clone, Copy)]
-pub(crate) enum Kind {
+pub(crate) enum WordKind {
     /// A word that has to be there.
     Required,
-    /// One word at least, and as many more as there are.
+    /// A word that may be left out.
+    Optional,
+    /// As many words as there are, or none.
     Repeated,
-    /// A word behind another one, which may be left out and has no help of its own.
+    /// An optional word after another one, without help of its own.
     Further,
-    /// An option that stands alone.
+    /// An option without a value.
     Flag,
-    /// An option with a word.
+    /// An option with a word as its value.
     Text,
-    /// An option with a number, the least one and the greatest.
+    /// An option with a number between these two as its value.
     Number(u64, u64),
+    /// The same, where it may be given more than once.
+    Numbers(u64, u64),
 }
 
-/// A word of a command, with what stands for its value in the help, and what is said of it there.
+/// A word of a command, with the name of its value in the help, and its help.
 #[derive(Clone, Copy)]
-pub(crate) struct Word {
+pub(crate) struct WordRow {
     pub(crate) id: &'static str,
-    pub(crate) kind: Kind,
+    pub(crate) kind: WordKind,
     pub(crate) value: &'static str,
     pub(crate) help: &'static str,
 }
 
-/// A command, what is said of it, and its words.
+/// A command, its help, and its words.
 #[derive(Clone, Copy)]
-pub(crate) struct Described {
+pub(crate) struct CommandRow {
     pub(crate) name: &'static str,
     pub(crate) about: &'static str,
     pub(crate) example: &'static str,
-    pub(crate) words: &'static [Word],
+    pub(crate) words: &'static [WordRow],
 }
 
 const CHECK_EXAMPLE: &str = "Example: hepf check examples/powers.f
@@ -48,19 +52,16 @@ Example: hepf sample examples/race.f --runs 1000 --keep race";
 
 const REPLAY_EXAMPLE: &str = "Example: hepf replay examples/powers.f powers.history";
 
-const STATE_EXAMPLE: &str = "Example: hepf state examples/powers.f powers.history --at 100";
+const STATE_EXAMPLE: &str = "Example: hepf state examples/powers.f --at 100";
 
-const TRACE_EXAMPLE: &str = "Example: hepf run examples/deadlock.f --history deadlock.history
-         hepf trace examples/deadlock.f deadlock.history --cell '$A'";
+const TRACE_EXAMPLE: &str = "Example: hepf trace examples/deadlock.f --cell '$A'
+         hepf trace examples/race.f --seed 9 --cell N";
 
-const WHY_EXAMPLE: &str = "Example: hepf run examples/deadlock.f --history deadlock.history
-         hepf why examples/deadlock.f deadlock.history";
+const WHY_EXAMPLE: &str = "Example: hepf why examples/deadlock.f";
 
-const COVER_EXAMPLE: &str = "Example: hepf sample examples/race.f --keep race
-         hepf cover examples/race.f race.*";
+const COVER_EXAMPLE: &str = "Example: hepf cover examples/race.f --runs 100";
 
-const DIFF_EXAMPLE: &str = "Example: hepf sample examples/race.f --keep race
-         hepf diff examples/race.f race.1 race.2";
+const DIFF_EXAMPLE: &str = "Example: hepf diff examples/race.f --seed 1 --seed 2";
 
 const LIST_EXAMPLE: &str = "Example: hepf list examples/sort.f";
 
@@ -72,189 +73,232 @@ STILL RUNNING, WARNING, STATUS, STATUS 0 to STATUS 8 and STATUS 70.
 
 Example: hepf explain arena full";
 
-const SOURCE: Word = Word {
+const SOURCE: WordRow = WordRow {
     id: "file",
-    kind: Kind::Required,
+    kind: WordKind::Required,
     value: "FILE",
     help: "The source",
 };
 
-// More than the lines that are fixed.
-pub(crate) const LONG: Word = Word {
+// Notes besides the lines of the standard form.
+pub(crate) const LONG: WordRow = WordRow {
     id: "long",
-    kind: Kind::Flag,
+    kind: WordKind::Flag,
     value: "",
     help: "Say more of what went wrong: which file, line and name",
 };
 
 // The warnings of a source that isn't refused.
-const WARN: Word = Word {
+const WARN: WordRow = WordRow {
     id: "warn",
-    kind: Kind::Flag,
+    kind: WordKind::Flag,
     value: "",
     help: "Say too what may well be a mistake, a line for each",
 };
 
-const ARENA: Word = Word {
+const ARENA: WordRow = WordRow {
     id: "arena",
-    kind: Kind::Number(1, MOST_ARENA as u64),
+    kind: WordKind::Number(1, MOST_ARENA as u64),
     value: "N",
     help: "Cells of storage, 1 to 16777216 [default: 65536]",
 };
 
-const STEPS: Word = Word {
+const STEPS: WordRow = WordRow {
     id: "steps",
-    kind: Kind::Number(1, MOST_STEPS),
+    kind: WordKind::Number(1, MOST_STEPS),
     value: "N",
     help: "Entries at most, 1 to 4294967296 [default: 10000000]",
 };
 
-const WORKERS: Word = Word {
+const WORKERS: WordRow = WordRow {
     id: "workers",
-    kind: Kind::Number(1, MOST_WORKERS),
+    kind: WordKind::Number(1, MOST_WORKERS),
     value: "N",
     help: "Run by so many threads, 1 to 16",
 };
 
-const SEED: Word = Word {
+const SEED: WordRow = WordRow {
     id: "seed",
-    kind: Kind::Number(1, MOST_SEED),
+    kind: WordKind::Number(1, MOST_SEED),
     value: "N",
     help: "Draw lots who comes next, by seed 1 to 4294967296",
 };
 
-const CHOICES: Word = Word {
+const CHOICES: WordRow = WordRow {
     id: "choices",
-    kind: Kind::Text,
+    kind: WordKind::Text,
     value: "FILE",
     help: "The processes chosen first, one a line",
 };
 
 // The history that a run begins with.
-const FOLLOW: Word = Word {
+const FOLLOW: WordRow = WordRow {
     id: "follow",
-    kind: Kind::Text,
+    kind: WordKind::Text,
     value: "HISTORY",
     help: "A history whose steps are made first",
 };
 
 // The history that a run writes.
-const WRITTEN_HISTORY: Word = Word {
+const WRITTEN_HISTORY: WordRow = WordRow {
     id: "history",
-    kind: Kind::Text,
+    kind: WordKind::Text,
     value: "FILE",
     help: "Gets the history: process and steps, an entry a line",
 };
 
-const RUNS: Word = Word {
+const RUNS: WordRow = WordRow {
     id: "runs",
-    kind: Kind::Number(1, MOST_RUNS),
+    kind: WordKind::Number(1, MOST_RUNS),
     value: "N",
     help: "Runs, 1 to 1000000 [default: 100]",
 };
 
-const FIRST_SEED: Word = Word {
+const FIRST_SEED: WordRow = WordRow {
     id: "seed",
-    kind: Kind::Number(1, MOST_SEED),
+    kind: WordKind::Number(1, MOST_SEED),
     value: "N",
     help: "The seed of the first run, 1 to 4294967296 [default: 1]",
 };
 
-const KEEP: Word = Word {
+const KEEP: WordRow = WordRow {
     id: "keep",
-    kind: Kind::Text,
+    kind: WordKind::Text,
     value: "PREFIX",
     help: "Keep the first history of each outcome in PREFIX.SEED",
 };
 
-// A first part of a history that is there.
-const HISTORY: Word = Word {
+// The first part of an existing history.
+const HISTORY: WordRow = WordRow {
     id: "history",
-    kind: Kind::Required,
+    kind: WordKind::Required,
     value: "HISTORY",
     help: "A history that `run --history` wrote, or some first lines of it",
 };
 
-// The same of another one.
-const OTHER_HISTORY: Word = Word {
+// The same, where a run may be made in its place.
+const VIEWED_HISTORY: WordRow = WordRow {
+    id: "history",
+    kind: WordKind::Optional,
+    value: "HISTORY",
+    help: "A history, or first lines of it [default: of a serial run]",
+};
+
+const OTHER_HISTORY: WordRow = WordRow {
     id: "other",
-    kind: Kind::Required,
+    kind: WordKind::Optional,
     value: "HISTORY",
-    help: "Another history of the source, or some first lines of it",
+    help: "Another one [default: of a serial run]",
 };
 
-const HISTORIES: Word = Word {
+const HISTORIES: WordRow = WordRow {
     id: "histories",
-    kind: Kind::Repeated,
+    kind: WordKind::Repeated,
     value: "HISTORY",
-    help: "Histories that `run` or `sample` wrote, or first lines of them",
+    help: "Histories, or first lines of them [default: of a serial run]",
 };
 
-const ENTRIES: Word = Word {
+// The runs that are made for a view.
+const VIEWED_CHOICES: WordRow = WordRow {
+    id: "choices",
+    kind: WordKind::Text,
+    value: "FILE",
+    help: "Look at the run by these choices, a process a line",
+};
+
+const VIEWED_SEED: WordRow = WordRow {
+    id: "seed",
+    kind: WordKind::Number(1, MOST_SEED),
+    value: "N",
+    help: "Look at the run by lots of seed 1 to 4294967296",
+};
+
+const COVERED_SEED: WordRow = WordRow {
+    id: "seed",
+    kind: WordKind::Number(1, MOST_SEED),
+    value: "N",
+    help: "The seed of the first run by lots, 1 to 4294967296",
+};
+
+const COVERED_RUNS: WordRow = WordRow {
+    id: "runs",
+    kind: WordKind::Number(1, MOST_RUNS),
+    value: "N",
+    help: "Runs by lots, 1 to 1000000",
+};
+
+const COMPARED_SEEDS: WordRow = WordRow {
+    id: "seed",
+    kind: WordKind::Numbers(1, MOST_SEED),
+    value: "N",
+    help: "Compare the run by lots of seed 1 to 4294967296, or two",
+};
+
+const ENTRIES: WordRow = WordRow {
     id: "at",
-    kind: Kind::Number(0, MOST_STEPS),
+    kind: WordKind::Number(0, MOST_STEPS),
     value: "K",
     help: "After how many entries [default: all]",
 };
 
-const FIRST_ENTRY: Word = Word {
+const FIRST_ENTRY: WordRow = WordRow {
     id: "from",
-    kind: Kind::Number(1, MOST_STEPS),
+    kind: WordKind::Number(1, MOST_STEPS),
     value: "K",
     help: "The first entry to show [default: 1]",
 };
 
-const LAST_ENTRY: Word = Word {
+const LAST_ENTRY: WordRow = WordRow {
     id: "to",
-    kind: Kind::Number(1, MOST_STEPS),
+    kind: WordKind::Number(1, MOST_STEPS),
     value: "K",
     help: "The last entry to make [default: all]",
 };
 
-const PROCESS: Word = Word {
+const PROCESS: WordRow = WordRow {
     id: "process",
-    kind: Kind::Number(1, MOST_STEPS),
+    kind: WordKind::Number(1, MOST_STEPS),
     value: "P",
     help: "Show the steps of this process alone",
 };
 
-const CELL: Word = Word {
+const CELL: WordRow = WordRow {
     id: "cell",
-    kind: Kind::Text,
+    kind: WordKind::Text,
     value: "NAME",
     help: "Show the accesses to variables of this name alone",
 };
 
-// What is explained, by its first word.
-const NAME: Word = Word {
+// The first word of an explained name.
+const NAME: WordRow = WordRow {
     id: "first",
-    kind: Kind::Required,
+    kind: WordKind::Required,
     value: "WORD..",
     help: "The number of a refusal, or one of the names below",
 };
 
-const SECOND: Word = Word {
+const SECOND: WordRow = WordRow {
     id: "second",
-    kind: Kind::Further,
+    kind: WordKind::Further,
     value: "WORD",
     help: "",
 };
 
-const THIRD: Word = Word {
+const THIRD: WordRow = WordRow {
     id: "third",
-    kind: Kind::Further,
+    kind: WordKind::Further,
     value: "WORD",
     help: "",
 };
 
-pub(crate) const COMMANDS: [Described; 11] = [
-    Described {
+pub(crate) const COMMANDS: [CommandRow; 11] = [
+    CommandRow {
         name: "check",
         about: "Say why a source can't run, and nothing if it can",
         example: CHECK_EXAMPLE,
         words: &[SOURCE, WARN, LONG],
     },
-    Described {
+    CommandRow {
         name: "run",
         about: "Run a source",
         example: RUN_EXAMPLE,
@@ -270,64 +314,102 @@ pub(crate) const COMMANDS: [Described; 11] = [
             LONG,
         ],
     },
-    Described {
+    CommandRow {
         name: "sample",
         about: "Run a source by lots many times and count what comes",
         example: SAMPLE_EXAMPLE,
         words: &[SOURCE, RUNS, FIRST_SEED, ARENA, STEPS, KEEP, LONG],
     },
-    Described {
+    CommandRow {
         name: "replay",
         about: "Make the steps of a history again",
         example: REPLAY_EXAMPLE,
         words: &[SOURCE, HISTORY, ARENA, LONG],
     },
-    Described {
+    CommandRow {
         name: "state",
         about: "Say what everything holds after the first entries of a history",
         example: STATE_EXAMPLE,
-        words: &[SOURCE, HISTORY, ENTRIES, ARENA, LONG],
+        words: &[
+            SOURCE,
+            VIEWED_HISTORY,
+            ENTRIES,
+            VIEWED_CHOICES,
+            VIEWED_SEED,
+            ARENA,
+            STEPS,
+            LONG,
+        ],
     },
-    Described {
+    CommandRow {
         name: "trace",
         about: "Say what each step of a history did, a line a step",
         example: TRACE_EXAMPLE,
         words: &[
             SOURCE,
-            HISTORY,
+            VIEWED_HISTORY,
             FIRST_ENTRY,
             LAST_ENTRY,
             PROCESS,
             CELL,
+            VIEWED_CHOICES,
+            VIEWED_SEED,
             ARENA,
+            STEPS,
             LONG,
         ],
     },
-    Described {
+    CommandRow {
         name: "why",
         about: "Say why processes wait after a history, and who waits in a circle",
         example: WHY_EXAMPLE,
-        words: &[SOURCE, HISTORY, ARENA, LONG],
+        words: &[
+            SOURCE,
+            VIEWED_HISTORY,
+            VIEWED_CHOICES,
+            VIEWED_SEED,
+            ARENA,
+            STEPS,
+            LONG,
+        ],
     },
-    Described {
+    CommandRow {
         name: "cover",
         about: "Say how often the statement of each line began in histories",
         example: COVER_EXAMPLE,
-        words: &[SOURCE, HISTORIES, ARENA, LONG],
+        words: &[
+            SOURCE,
+            HISTORIES,
+            VIEWED_CHOICES,
+            COVERED_SEED,
+            COVERED_RUNS,
+            ARENA,
+            STEPS,
+            LONG,
+        ],
     },
-    Described {
+    CommandRow {
         name: "diff",
         about: "Say what differs between the runs of two histories",
         example: DIFF_EXAMPLE,
-        words: &[SOURCE, HISTORY, OTHER_HISTORY, ARENA, LONG],
+        words: &[
+            SOURCE,
+            VIEWED_HISTORY,
+            OTHER_HISTORY,
+            VIEWED_CHOICES,
+            COMPARED_SEEDS,
+            ARENA,
+            STEPS,
+            LONG,
+        ],
     },
-    Described {
+    CommandRow {
         name: "list",
         about: "List the units and common blocks of a source with their cells",
         example: LIST_EXAMPLE,
         words: &[SOURCE, LONG],
     },
-    Described {
+    CommandRow {
         name: "explain",
         about: "Say what a line or a status means and what to do about it",
         example: EXPLAIN_EXAMPLES,

@@ -6,41 +6,45 @@ ghost use Rattle.std.specs.Option.{unwrap_or};
 ghost use Rattle.hep_command.specs.Numbers.{number_within, option_number};
 ghost use Rattle.hep_command.specs.Asked.{asked_by, arena_in, check_in, command_in, command_place, explain_in, heard, is_given, is_help_of_help, is_version};
 ghost use Rattle.hep_command.specs.Asked.{entries_in, is_long_in, is_word, job_in, cover_in, diff_in, histories_in, list_in, ordinal_in, replay_in, run_in, state_in, steps_in, trace_in, why_in, word_of, words_found};
+ghost use Rattle.hep_command.specs.Asked.{covered_in, other_seed_in, viewed_by, viewed_in};
 ghost use Rattle.hep_command.specs.Asked.{first_seed_in, runs_in, sample_in, seed_in, workers_in};
-ghost use Rattle.hep_command.specs.Jobs.{IsInRange, IsNoPath, IsOneOrder, IsUsage, IsWant, IsWrittenApart, usage_status};
+ghost use Rattle.hep_command.specs.Jobs.{IsInRange, IsNoPath, IsOneOrder, IsOneRun, IsUsage, IsViewInRange, IsWant, IsWrittenApart, usage_status};
 
 use crate::job::{
     ARENA, FIRST_SEED, Job, MOST_ARENA, MOST_RUNS, MOST_SEED, MOST_STEPS, MOST_WORKERS, RUNS,
-    Request, STEPS, Usage,
+    Request, STEPS, Usage, ViewedRun,
 };
-use crate::mistakes::said;
 use crate::program::program;
+use crate::usage_mistakes::said;
 use clap::error::ErrorKind;
 use clap::{ArgMatches, Command, Error};
 use std::alloc::{AllocError, Global};
 use std::convert::AsStr;
 
-// What is said of words that `clap` took and that have no meaning here. None are known: `clap` has
+// What is said of words that `clap` took and that have no meaning here: more than two seeds of `diff`. No others are known: `clap` has
 // checked what a command needs, but promises it of a program without commands only.
 const MISTAKE: &str = "error: these words have no meaning\n";
 
-/// What is said where the history would be written to a file that is read.
+/// The message where the history would be written to a file that is read.
 pub const SAME_FILE: &str = "error: --history names a file that is read\n";
 
-/// What is said where both the choices and the workers are given: who steps first would be said twice.
+/// The message where both choices and workers are given, since both decide which process comes next.
 pub const TWO_ORDERS: &str = "USAGE: --choices excludes --workers\n";
 
-/// What is said where a seed is given beside the choices or the workers, for the same reason.
+/// The message where a seed is given besides choices or workers, for the same reason.
 pub const LOTS_TOO: &str = "USAGE: --seed excludes --choices and --workers\n";
 
-/// What is said where a history is to be followed beside one of these, for the same reason.
+/// The message where a history to follow is given besides one of these, for the same reason.
 pub const FOLLOW_TOO: &str = "USAGE: --follow excludes --choices, --seed and --workers\n";
+
+/// What is said where two of a history, choices and lots say which run is looked at.
+pub const TWO_RUNS: &str = "USAGE: HISTORY, --choices and --seed or --runs exclude each other\n";
 
 // What `version` is heard as.
 const VERSION_WORDS: &[&str] = &["hepf", "--version"];
 
-// The number that a text of decimal digits writes, where it lies in the range. Of options `clap` has
-// checked this before; it is read anew from the text, so that the job's number is the word's.
+// The number of a text of decimal digits, if it lies in the range. For options `clap` has checked this already; it is
+// read again from the text, so that the job's number is that of the word.
 pub(crate) fn number_within(text: &str, least: u64, most: u64) -> Option<u64>
     ensures { result ≡ number_within least most text.now }
 {
@@ -84,7 +88,7 @@ fn steps_of(found: &ArgMatches<'_>) -> Option<u64>
     number_of(found, "steps", MOST_STEPS, STEPS)
 }
 
-// How many workers there are, where the option is given.
+// The number of workers, if the option is given.
 fn workers_of(found: &ArgMatches<'_>) -> Option<Option<u32>>
     ensures range { IfSome result (λ workers. IfSome workers (λ n. (1 ≤ n) × (n ≤ 16))) }
     ensures number { result ≡ workers_in (words_found found.now) }
@@ -173,7 +177,7 @@ fn replay_job<'a>(found: &ArgMatches<'a>) -> Option<Job<'a>>
     })
 }
 
-// After how many entries, where the option is given.
+// The number of entries, if the option is given.
 fn entries_of(found: &ArgMatches<'_>) -> Option<Option<u64>>
     ensures { result ≡ entries_in (words_found found.now) }
 {
@@ -184,19 +188,32 @@ fn entries_of(found: &ArgMatches<'_>) -> Option<Option<u64>>
     Some(Some(entries))
 }
 
+// The run of the history that is the word with this id, or else the one that is to be made.
+fn viewed_of<'a>(found: &ArgMatches<'a>, id: &str) -> Option<ViewedRun<'a>>
+    ensures range { IfSome result IsViewInRange }
+    ensures run { option_map viewed_by result ≡ viewed_in id.now (words_found found.now) }
+{
+    Some(ViewedRun {
+        seed: seed_of(found)?,
+        arena: arena_of(found)?,
+        steps: steps_of(found)?,
+        history: word_of(found, id),
+        choices: word_of(found, "choices"),
+    })
+}
+
 fn state_job<'a>(found: &ArgMatches<'a>) -> Option<Job<'a>>
     ensures range { IfSome result IsInRange }
     ensures job { option_map asked_by result ≡ state_in (words_found found.now) }
 {
     Some(Job::State {
         file: word_of(found, "file")?,
-        history: word_of(found, "history")?,
+        run: viewed_of(found, "history")?,
         at: entries_of(found)?,
-        arena: arena_of(found)?,
     })
 }
 
-// The number of an entry or a process, counted from 1, where its option is given.
+// The number of an entry or a process, counted from 1, if its option is given.
 fn ordinal_of(found: &ArgMatches<'_>, id: &str) -> Option<Option<u64>>
     ensures { result ≡ ordinal_in id.now (words_found found.now) }
 {
@@ -212,12 +229,11 @@ fn trace_job<'a>(found: &ArgMatches<'a>) -> Option<Job<'a>>
 {
     Some(Job::Trace {
         file: word_of(found, "file")?,
-        history: word_of(found, "history")?,
+        run: viewed_of(found, "history")?,
         first: ordinal_of(found, "from")?,
         last: ordinal_of(found, "to")?,
         process: ordinal_of(found, "process")?,
         cell: word_of(found, "cell"),
-        arena: arena_of(found)?,
     })
 }
 
@@ -227,9 +243,19 @@ fn why_job<'a>(found: &ArgMatches<'a>) -> Option<Job<'a>>
 {
     Some(Job::Why {
         file: word_of(found, "file")?,
-        history: word_of(found, "history")?,
-        arena: arena_of(found)?,
+        run: viewed_of(found, "history")?,
     })
+}
+
+// How many runs by lots are looked at, where the option is given.
+fn covered_of(found: &ArgMatches<'_>) -> Option<Option<u32>>
+    ensures { result ≡ covered_in (words_found found.now) }
+{
+    let Some(text) = word_of(found, "runs") else {
+        return Some(None);
+    };
+    let runs = number_within(text, 1, MOST_RUNS)?;
+    Some(Some(runs as u32))
 }
 
 fn cover_job<'a>(found: &ArgMatches<'a>) -> Option<Job<'a>>
@@ -238,8 +264,24 @@ fn cover_job<'a>(found: &ArgMatches<'a>) -> Option<Job<'a>>
 {
     Some(Job::Cover {
         file: word_of(found, "file")?,
-        arena: arena_of(found)?,
+        run: viewed_of(found, "histories")?,
+        runs: covered_of(found)?,
     })
+}
+
+// The second seed of two, where they are given.
+fn other_seed_of(found: &ArgMatches<'_>) -> Option<Option<u64>>
+    ensures range { IfSome result (λ seed. IfSome seed (λ n. (1 ≤ n) × (n ≤ 4294967296))) }
+    ensures number { result ≡ other_seed_in (words_found found.now) }
+{
+    let Some(seeds) = found.get_strs("seed") else {
+        return Some(None);
+    };
+    match seeds {
+        [] | [_] => Some(None),
+        [_, second] => Some(Some(number_within(*second, 1, MOST_SEED)?)),
+        [_, _, _, ..] => None,
+    }
 }
 
 fn diff_job<'a>(found: &ArgMatches<'a>) -> Option<Job<'a>>
@@ -248,9 +290,9 @@ fn diff_job<'a>(found: &ArgMatches<'a>) -> Option<Job<'a>>
 {
     Some(Job::Diff {
         file: word_of(found, "file")?,
-        history: word_of(found, "history")?,
-        other: word_of(found, "other")?,
-        arena: arena_of(found)?,
+        run: viewed_of(found, "history")?,
+        other: word_of(found, "other"),
+        other_seed: other_seed_of(found)?,
     })
 }
 
@@ -274,7 +316,7 @@ fn explain_job<'a>(found: &ArgMatches<'a>) -> Option<Job<'a>>
     })
 }
 
-// The job of a command and what was found for it.
+// The job of a command with the words that were found for it.
 fn command_job<'a>(command: &str, found: &ArgMatches<'a>) -> Option<Job<'a>>
     ensures range { IfSome result IsInRange }
     ensures job { option_map asked_by result ≡ command_in command.now (words_found found.now) }
@@ -315,7 +357,7 @@ fn command_job<'a>(command: &str, found: &ArgMatches<'a>) -> Option<Job<'a>>
     None
 }
 
-// The job of words that `clap` took.
+// The job of words that `clap` accepted.
 fn job_of<'a>(matches: &ArgMatches<'a>) -> Option<Job<'a>>
     ensures range { IfSome result IsInRange }
     ensures job { option_map asked_by result ≡ job_in (subcommand_rows_of matches.now) }
@@ -336,7 +378,7 @@ fn is_given(found: &ArgMatches<'_>, id: &str) -> bool
     }
 }
 
-// Whether `--long` stands before the command or behind it.
+// Whether `--long` is given, before the command or after it.
 fn is_long(matches: &ArgMatches<'_>) -> bool
     ensures { result ≡ is_long_in (words_found matches.now) (subcommand_rows_of matches.now) }
 {
@@ -378,20 +420,44 @@ fn is_overwriting(job: &Job<'_>) -> bool
     }
 }
 
-// What is said where two of a history to follow, choices, workers and a seed are given.
+// What is said where two of a history, choices and lots say which run is looked at.
+fn two_runs(run: &ViewedRun<'_>, runs: Option<u32>) -> Option<&'static str>
+    ensures one { IfNone result (IsOneRun run.now runs) }
+    ensures two { IfSome result (λ _. ¬ (IsOneRun run.now runs)) }
+{
+    match (run.history, run.choices, run.seed, runs) {
+        (None, None, None, None)
+        | (None, None, None, Some(_))
+        | (None, None, Some(_), _)
+        | (None, Some(_), None, None)
+        | (Some(_), None, None, None) => None,
+        (Some(_), Some(_), _, _)
+        | (Some(_), None, Some(_), _)
+        | (Some(_), None, None, Some(_))
+        | (None, Some(_), Some(_), _)
+        | (None, Some(_), None, Some(_)) => Some(TWO_RUNS),
+    }
+}
+
+// What is said where two of a history to follow, choices, workers and a seed are given, or two say which run is looked at.
 fn two_orders(job: &Job<'_>) -> Option<&'static str>
     ensures one { IfNone result (IsOneOrder job.now) }
     ensures two { IfSome result (λ _. ¬ (IsOneOrder job.now)) }
 {
-    let Job::Run {
-        workers,
-        seed,
-        choices,
-        follow,
-        ..
-    } = job
-    else {
-        return None;
+    let (workers, seed, choices, follow) = match job {
+        Job::Run {
+            workers,
+            seed,
+            choices,
+            follow,
+            ..
+        } => (workers, seed, choices, follow),
+        Job::State { run, .. } => return two_runs(run, None),
+        Job::Trace { run, .. } => return two_runs(run, None),
+        Job::Why { run, .. } => return two_runs(run, None),
+        Job::Cover { run, runs, .. } => return two_runs(run, *runs),
+        Job::Diff { run, .. } => return two_runs(run, None),
+        _ => return None,
     };
     match (follow, seed, workers, choices) {
         (None, None, None, _)
@@ -404,7 +470,7 @@ fn two_orders(job: &Job<'_>) -> Option<&'static str>
     }
 }
 
-// What is said where `clap` gave no matches: its own text, and more where that says too little.
+// The message where `clap` gave no matches: its own text, with more where that says too little.
 fn usage_of<S: AsStr>(alloc: Global, error: &Error, words: &[S]) -> Usage
     ensures range { IsUsage result }
     ensures status { (result.status ≡ 7) ⊎ (result.status ≡ usage_status (kind_of error.now)) }
@@ -429,14 +495,14 @@ fn is_word<S: AsStr>(words: &[S], index: usize, word: &str) -> bool
     }
 }
 
-// The place of the command, `--long` before it or not.
+// The index of the command, after `--long` or not.
 pub(crate) fn command_place<S: AsStr>(words: &[S]) -> usize
     ensures { result ≡ command_place (map S.text words.now) }
 {
     if is_word(words, 1, "--long") { 2 } else { 1 }
 }
 
-// Whether help is asked for of the word `help` at this place.
+// Whether the words ask for help about the word `help` at this index.
 fn is_help_of_help<S: AsStr>(words: &[S], index: usize) -> bool
     requires { index ≤ 2 }
     ensures { result ≡ is_help_of_help (map S.text words.now) index }
@@ -446,7 +512,7 @@ fn is_help_of_help<S: AsStr>(words: &[S], index: usize) -> bool
         && (is_word(words, index + 1, "--help") || is_word(words, index + 1, "-h"))
 }
 
-// Whether the last word is `version`, at this place.
+// Whether the last word is `version`, at this index.
 fn is_version<S: AsStr>(words: &[S], index: usize) -> bool
     requires { index ≤ 2 }
     ensures { result ≡ is_version (map S.text words.now) index }
@@ -454,7 +520,8 @@ fn is_version<S: AsStr>(words: &[S], index: usize) -> bool
     words.len() == index + 1 && is_word(words, index, "version")
 }
 
-// What `clap` finds of the words as they are heard: `version` is `--version`, and `help --help` is `help`, since `clap` has no help of it.
+// The matches of `clap` for the words as they are understood: `version` is `--version`, and `help --help` is `help`,
+// since `clap` has no help about it.
 fn matches_of<'a, S: AsStr>(program: Command<'a>, words: &'a [S]) -> Result<ArgMatches<'a>, Error>
     ensures matches { IfOk result (HasMatchesOf (app_of program.entry) (heard (map S.text words.entry.now))) }
     ensures kinds { is_simple_and_free (app_of program.entry) ≡ true
@@ -501,7 +568,7 @@ fn histories_of<'a>(alloc: Global, matches: &ArgMatches<'a>) -> Result<Vec<&'a s
     }
 }
 
-// The request of words that `clap` took, or what is wrong with them.
+// The request of words that `clap` accepted, or what is wrong with them.
 fn request_of<'a>(alloc: Global, matches: &ArgMatches<'a>) -> Result<Request<'a>, Usage>
     ensures job { IfOk result (λ request. IsInRange request.job) }
     ensures asked { IfOk result (λ request. job_in (subcommand_rows_of matches.now) ≡ Some (asked_by request.job)) }
@@ -531,11 +598,11 @@ fn request_of<'a>(alloc: Global, matches: &ArgMatches<'a>) -> Result<Request<'a>
     })
 }
 
-/// What these words ask for, and how much is to be said of it; the first one is the program's name.
+/// The request of these words, of which the first one is the program's name.
 ///
 /// # Errors
 ///
-/// As `read_words` has them.
+/// Those of `read_words`.
 pub fn read_request<'a, S: AsStr>(alloc: Global, words: &'a [S]) -> Result<Request<'a>, Usage>
     ensures asked { IfOk result (IsAskedBy (map S.text words.entry.now)) }
     ensures job { IfOk result (λ request. IsInRange request.job) }
@@ -554,14 +621,13 @@ pub fn read_request<'a, S: AsStr>(alloc: Global, words: &'a [S]) -> Result<Reque
     }
 }
 
-/// The job that these words ask for; the first one is the program's name.
+/// The job of these words, of which the first one is the program's name.
 ///
 /// # Errors
 ///
-/// What is to be written in the place of a job: help, the version, or what is wrong with the words,
-/// in the words of `clap` and a few of its own, or that the history would be written to a file that is
-/// read, or that two of a history to follow, choices, workers and a seed are given. The status is 0 for help and the version,
-/// 2 for words that are wrong, and 7 where memory was refused.
+/// A text in the place of a job. With status 0 it is help or the version. With status 2 it says what is wrong with
+/// the words, in the words of `clap` and a few more; or that the history would be written to a file that is read; or
+/// that two of a history to follow, choices, workers and a seed are given. With status 7 memory was refused.
 pub fn read_words<'a, S: AsStr>(alloc: Global, words: &'a [S]) -> Result<Job<'a>, Usage>
     ensures job { IfOk result IsInRange }
     ensures asked { IfOk result (λ job. asked (map S.text words.entry.now) ≡ Some (asked_by job)) }

@@ -1,29 +1,24 @@
 -- What steps read in copies of all own cells stands in the cells themselves.
-use Rattle.std.proofs.Common.{◌≡◌, ℕ, Bool, true, false, ◌||◌, nat_eq, if◌then◌else◌, List, [], ◌∷◌, length, refl, sym, ap, ◌∙◌, subst, arith}
-use Rattle.std.proofs.lemmas.Bool.Decides.{nat_tests}
+use Rattle.std.proofs.Common.{◌≡◌, ℕ, Bool, true, false, ◌||◌, nat_eq, if◌then◌else◌, List, [], ◌∷◌, length, refl, sym, ap, ◌∙◌, subst}
 use Rattle.hep_machine.specs.Words.{Units, is_number_among, unit_at}
 use Rattle.hep_image.specs.Private.{private_cells}
 use Rattle.hep_step.specs.Simulation.{unit_code}
-use Rattle.hep_private.specs.Own.{Values}
+use Rattle.hep_private.specs.OwnState.{Values}
 use Rattle.hep_private.specs.declared.ticket.TicketId.{TicketId}
 use Rattle.hep_private.specs.Segments.{IsComputed, IsMadeFrom, SegmentValue, Start, value_copied}
-use Rattle.hep_commit.specs.Levels.{copies_of, ticket_of}
+use Rattle.hep_commit.specs.SegmentStarts.{copies_of, ticket_of}
 use Rattle.hep_commit.specs.OwnCells.{own_cells_of}
-use Rattle.hep_commit.proofs.OwnRead.{HaveLaws, read-by}
-
-pub numbers-equal : (c d : ℕ) → nat_eq c d ≡ true → c ≡ d
-numbers-equal c d e = grind (arith, nat_tests, e)
-
-turned-test : (c d : ℕ) → nat_eq c d ≡ nat_eq d c
-turned-test c d = grind (arith, nat_tests)
+use Rattle.hep_commit.proofs.OwnReads.{HaveLaws, read-by}
+use Rattle.std.proofs.lemmas.Bool.{eqb-true}
+use Rattle.hep_source.proofs.Tests.{numbers-turned}
 
 -- each of these cells has a copy
 copied-among : (values : Values) (cells : List ℕ) (c : ℕ) → is_number_among c cells ≡ true → value_copied (copies_of values cells) c ≡ values c
 copied-among values [] c e = absurd cc
 copied-among values (d ∷ ds) c e = by_test (nat_eq d c) refl (copied-among values ds c) where
   by_test : (b : Bool) → nat_eq d c ≡ b → (is_number_among c ds ≡ true → value_copied (copies_of values ds) c ≡ values c) → (if b then values d else value_copied (copies_of values ds) c) ≡ values c
-  by_test true same rest = ap values (numbers-equal d c same)
-  by_test false other rest = rest (sym (ap (λ b. b || is_number_among c ds) (turned-test c d ∙ other)) ∙ e)
+  by_test true same rest = ap values (eqb-true d c same)
+  by_test false other rest = rest (sym (ap (λ b. b || is_number_among c ds) (numbers-turned c d ∙ other)) ∙ e)
 
 pub computed-made : HaveLaws → (program : Units) (start : Start) (id : TicketId) (s : SegmentValue) → IsComputed program (ticket_of id start (own_cells_of program start.unit)) s → IsMadeFrom program start s
 computed-made laws program start id s h =

@@ -10,13 +10,12 @@ use Rattle.hep_machine.specs.Words.{Units, unit_at}
 use Rattle.hep_machine.specs.declared.slot.Slot.{Slot}
 use Rattle.hep_code.specs.declared.instruction.Instruction.{Instruction}
 use Rattle.hep_image.specs.Private.{private_cells}
-use Rattle.hep_step.specs.Performed.{Snapshot}
+use Rattle.hep_step.specs.PerformedSteps.{Snapshot}
 use Rattle.hep_step.specs.Simulation.{unit_code}
 use Rattle.hep_private.specs.declared.record.Record.{Record}
-use Rattle.hep_private.specs.Own.{begun, contents_after, values_at}
-use Rattle.hep_private.specs.Recorded.{recorded}
-use Rattle.hep_commit.specs.Gone.{contents_with}
-use Rattle.hep_advance.specs.Gone.{MakesMoves}
+use Rattle.hep_private.specs.OwnState.{begun, contents_after, values_at}
+use Rattle.hep_private.specs.StepRecords.{recorded}
+use Rattle.hep_advance.specs.SilentRuns.{MakesMoves}
 use Rattle.hep_proc.specs.Stacks.{IsSameProcess, stack_with}
 use Rattle.hep_proc.specs.declared.frames.Frames.{Frames}
 use Rattle.hep_proc.specs.declared.process.Process.{Process}
@@ -26,12 +25,12 @@ use Rattle.hep_private.specs.declared.ticket.TicketId.{TicketId}
 use Rattle.hep_state.specs.declared.core_state.CoreState.{CoreState}
 use Rattle.hep_state.specs.Words.{HasLevels, IsAfter, IsItsTurn, IsPlaceOf, snapshot_of}
 use Rattle.hep_state.proofs.Processes.{IsAt, process-at, room-moved}
-use Rattle.hep_state.proofs.Unchanged.{machine-of, rooms-of, rooms-set}
-use Rattle.hep_commit.specs.Levels.{start_in}
-use Rattle.hep_commit.specs.Taking.{CanTake, HasMadePrivate, HasTakenIn}
-use Rattle.hep_commit.specs.Tops.{MakesPrivate, segment_from}
-use Rattle.hep_commit.proofs.Batched.{count-of}
-use Rattle.hep_commit.proofs.Taken.{AreTurnsIn, gone, kept, shown-now}
+use Rattle.hep_state.proofs.UnchangedStates.{machine-of, rooms-of, rooms-set}
+use Rattle.hep_commit.specs.SegmentStarts.{start_in}
+use Rattle.hep_commit.specs.Application.{CanTake, HasMadePrivate, HasTakenIn}
+use Rattle.hep_commit.specs.TopSegments.{MakesPrivate, segment_from}
+use Rattle.hep_commit.proofs.AppliedSegments.{AreTurnsIn, gone, kept, shown-now}
+use Rattle.hep_private.proofs.BatchSegments.{as-many}
 
 -- ---- what holds of an answer, holds of what follows from it
 
@@ -60,7 +59,7 @@ machine-same m at q r frames is process cells =
 
 -- ---- those of a segment
 
-pub stored-with : (first : ℕ) (contents : List Slot) (rs : List Record) → stored_with first contents rs ≡ contents_with first contents rs
+pub stored-with : (first : ℕ) (contents : List Slot) (rs : List Record) → stored_with first contents rs ≡ stored_with first contents rs
 stored-with first contents [] = refl
 stored-with first contents (r ∷ rs) = stored-with first (contents_after first contents r) rs
 
@@ -71,8 +70,8 @@ module _ (program : Units) (unit first : ℕ) (s : Snapshot) (n : ℕ) (t : Snap
   abbrev code : List Instruction
   code = unit_code program unit
 
-  pub as-many : length h.records ≡ n
-  as-many = count-of private code n (begun s.index s.operands (values_at s.contents first)) h.records h.end h.made
+  pub made-many : length h.records ≡ n
+  made-many = as-many private code n (begun s.index s.operands (values_at s.contents first)) h.records h.end h.made
 
   abbrev pub start_at : Start
   start_at = record { unit = unit; index = s.index; operands = s.operands; values = values_at s.contents first }
@@ -82,7 +81,7 @@ module _ (program : Units) (unit first : ℕ) (s : Snapshot) (n : ℕ) (t : Snap
     record { unit = refl; index = refl; operands = refl },
     record {
       end = h.end;
-      made = ap (λ k. recorded private code k (begun s.index s.operands (values_at s.contents first))) as-many ∙ h.made;
+      made = ap (λ k. recorded private code k (begun s.index s.operands (values_at s.contents first))) made-many ∙ h.made;
       index = h.index;
       operands = h.operands;
     },

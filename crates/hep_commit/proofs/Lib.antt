@@ -1,28 +1,29 @@
-pub use Rattle.hep_binding.proofs.Calls
+pub use Rattle.hep_advance.proofs.RunsToBreakpoint as AdvanceRunsToBreakpoint
+pub use Rattle.hep_state.proofs.BindingCalls
 pub use Rattle.hep_advance.proofs.Pushed
-mod Inside
+mod StoresInFrame
 pub mod Runs
-mod Room
+mod OperandRoom
 mod NextPrivate
 mod Turns
-mod Lists
-mod Stored
+pub mod Lists
+mod BatchStores
 pub mod SavedCells
-mod Bare
-mod Kept
+mod PassedVariables
+mod UnchangedSaves
 mod OwnedCells
-pub mod Ends
+pub mod OwnLoops
 pub mod WhatIsRead
-mod Beside
-pub mod Putting
-pub mod Loops
-pub mod OwnRead
+mod OtherTurns
+pub mod PutBackCells
+pub mod OwnLoopCells
+pub mod OwnReads
 pub mod Copies
 pub mod Restored
-pub mod Batched
-pub mod Standing
-pub mod Taken
-pub mod Behind
+pub mod BatchStarts
+pub mod StandingProcesses
+pub mod AppliedSegments
+pub mod AfterSegments
 pub mod Parts
 mod InPlace
 mod TurnInPlace

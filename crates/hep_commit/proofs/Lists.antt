@@ -4,8 +4,9 @@ use Rattle.std.proofs.lemmas.Bool.Decides.{nat_tests}
 use Rattle.hep_machine.specs.Words.{Units, Layout, is_held, is_number_among, layout_of, living, Progress, progress_after_step, progress_after_steps, run, State, state_after_turn, step}
 use Rattle.hep_layout.proofs.HeldFrames.{run-last}
 use Rattle.hep_cells.specs.declared.want.Want.{Want}
-use Rattle.hep_blocked.specs.Listing.{AreListed, GoesAlong, HasChanged, is_noted}
-use Rattle.hep_advance.specs.Gone.{HasGone, IsPlainTurn, none, more}
+use Rattle.hep_blocked.specs.RosterUpdates.{AreListed, GoesAlong, HasChanged, is_noted}
+use Rattle.hep_advance.specs.SilentRuns.{HasGone, IsPlainTurn, none, more}
+use Rattle.hep_source.proofs.Tests.{some-if_not}
 
 -- the law of lists that go along with a step
 abbrev pub GoAlong : Type 0
@@ -15,11 +16,8 @@ GoAlong =
     → HasChanged program choices p layout changed → GoesAlong program choices p changed waiting waiting_after ready ready_after
     → AreListed program cells (choices ++ p ∷ []) (progress_after_step program x p (run program (choices ++ p ∷ []))) waiting_after ready_after
 
-there-some : {A : Type 0} (o : Option A) → o ≢ None → is_some o ≡ true
-there-some None h = absurd (h refl)
-there-some (Some x) h = refl
-
-noted-same : (p before after q : ℕ) (ready : List ℕ) (lives : Bool) → lives ≡ true → after ≡ before → is_number_among q ready ≡ (false || is_noted p lives before after ready q)
+-- who is ready stays, where the process lives and no other number is there
+pub noted-same : (p before after q : ℕ) (ready : List ℕ) (lives : Bool) → lives ≡ true → after ≡ before → is_number_among q ready ≡ (false || is_noted p lives before after ready q)
 noted-same p before after q ready lives alive same = grind (arith, nat_tests, alive, same)
 
 -- the last step of several
@@ -40,7 +38,7 @@ module _ (law : GoAlong) (program : Units) (cells p : ℕ) (waits : ℕ → Opti
       let lists = law program cells choices x waits waits ready ready p None far.layout far.listed is.stepped far.laid (is.unchanged.told far.layout far.laid)
       (record {
         waits = λ q. refl;
-        are_ready = λ q. noted-same p (length (run program choices).processes) (length now.processes) q ready (is_some (living now p)) (there-some (living now p) is.lives) is.made;
+        are_ready = λ q. noted-same p (length (run program choices).processes) (length now.processes) q ready (is_some (living now p)) (some-if_not (living now p) is.lives) is.made;
       }) in
       let state : now ≡ state_after_turn program p x.state = run-last program choices p ∙ ap (state_after_turn program p) (sym far.listed.state) in
       record {

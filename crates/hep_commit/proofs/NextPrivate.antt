@@ -14,40 +14,37 @@ use Rattle.hep_code.specs.declared.variable.Variable.TheVariants.{Local}
 use Rattle.hep_code.specs.Words.{arity, first_operand, most_operands}
 use Rattle.hep_step.specs.Effects.{subscripts_in}
 use Rattle.hep_private.specs.declared.record.Record.{Record}
-use Rattle.hep_private.specs.Own.{Own, Values, begun, increment_in, settled}
-use Rattle.hep_private.specs.Recorded.{Made, has_room, if_room, made_ahead, made_by, made_of_end, made_of_end_by, made_of_end_of, made_of_entry_by, made_of_store, made_of_value, made_of_value_stored, next_made, own_after, recorded, value_of}
-use Rattle.hep_private.proofs.Along.{first-of}
-
-some-mapped : {A B : Type 0} (f : A → B) (o : Option A) → is_some (option_map f o) ≡ is_some o
-some-mapped f None = refl
-some-mapped f (Some x) = refl
+use Rattle.hep_private.specs.OwnState.{OwnState, Values, begun, increment_in, settled}
+use Rattle.hep_private.specs.StepRecords.{MadeStep, has_room, if_room, made_ahead, made_by, made_of_end, made_of_end_by, made_of_end_of, made_of_entry_by, made_of_store, made_of_value, made_of_value_stored, next_made, own_after, recorded, value_of}
+use Rattle.hep_private.proofs.StepRows.{first-of}
+use Rattle.hep_source.proofs.Tests.{some-mapped}
 
 -- ---- by what was read
 
 module _ (cells : List ℕ) (code : List Instruction) where
   -- one step more is private just where the next one is
-  pub one-more-private : (n : ℕ) (own : Own) (records : List Record) (end : Own) → recorded cells code n own ≡ Some (records, end) → is_some (recorded cells code (suc n) own) ≡ is_some (next_made cells code end)
+  pub one-more-private : (n : ℕ) (own : OwnState) (records : List Record) (end : OwnState) → recorded cells code n own ≡ Some (records, end) → is_some (recorded cells code (suc n) own) ≡ is_some (next_made cells code end)
   one-more-private zero own records end is = step (next_made cells code own) ∙ ap (λ x. is_some (next_made cells code x)) here where
     here : own ≡ end
-    here = ap (λ (r : List Record × Own). r.1) (same_Some ([], own) (records, end) is)
+    here = ap (λ (r : List Record × OwnState). r.1) (same_Some ([], own) (records, end) is)
 
-    step : (o : Option Made) → is_some (option_and_then {U = List Record × Own} (λ m. option_map {U = List Record × Own} (λ (r : List Record × Own). (m.noted ∷ r.0, r.1)) (recorded cells code zero (own_after cells code own m))) o) ≡ is_some o
+    step : (o : Option MadeStep) → is_some (option_and_then {U = List Record × OwnState} (λ m. option_map {U = List Record × OwnState} (λ (r : List Record × OwnState). (m.noted ∷ r.0, r.1)) (recorded cells code zero (own_after cells code own m))) o) ≡ is_some o
     step None = refl
     step (Some m) = refl
   one-more-private (suc n) own records end is =
       let first = first-of cells code n own records end is in
-      ap (λ o. is_some (option_and_then {U = List Record × Own} (λ m. option_map {U = List Record × Own} (λ (r : List Record × Own). (m.noted ∷ r.0, r.1)) (recorded cells code (suc n) (own_after cells code own m))) o)) first.next
-      ∙ some-mapped (λ (r : List Record × Own). (first.m.noted ∷ r.0, r.1)) (recorded cells code (suc n) (own_after cells code own first.m))
+      ap (λ o. is_some (option_and_then {U = List Record × OwnState} (λ m. option_map {U = List Record × OwnState} (λ (r : List Record × OwnState). (m.noted ∷ r.0, r.1)) (recorded cells code (suc n) (own_after cells code own m))) o)) first.next
+      ∙ some-mapped (λ (r : List Record × OwnState). (first.m.noted ∷ r.0, r.1)) (recorded cells code (suc n) (own_after cells code own first.m))
       ∙ one-more-private n (own_after cells code own first.m) first.rest end first.later
 
   -- ---- in which cells steps have stored doesn't matter
 
   -- what a step leaves
-  abbrev left_by : Option Made → Option (List Value)
-  left_by o = option_map (λ (m : Made). m.operands) o
+  abbrev left_by : Option MadeStep → Option (List Value)
+  left_by o = option_map (λ (m : MadeStep). m.operands) o
 
-  module _ (own : Own) (written : List ℕ) where
-    abbrev other : Own
+  module _ (own : OwnState) (written : List ℕ) where
+    abbrev other : OwnState
     other = record own { written = written }
 
     value-left : (e : Evaluation) (o : Option Value) → left_by (option_map (made_of_value own e) o) ≡ left_by (option_map (made_of_value other e) o)
@@ -94,7 +91,7 @@ module _ (cells : List ℕ) (code : List Instruction) where
     ahead-left _ = refl
 
     -- whether it has room, by what it leaves
-    room-left : (o p : Option Made) → left_by o ≡ left_by p → is_some (if_room cells own o) ≡ is_some (if_room cells other p)
+    room-left : (o p : Option MadeStep) → left_by o ≡ left_by p → is_some (if_room cells own o) ≡ is_some (if_room cells other p)
     room-left None None e = refl
     room-left None (Some m) e = cc
     room-left (Some m) None e = cc
@@ -105,14 +102,14 @@ module _ (cells : List ℕ) (code : List Instruction) where
       by-room true false e = cc
       by-room false true e = cc
 
-  pub written-free : (own : Own) (written : List ℕ) → is_some (next_made cells code own) ≡ is_some (next_made cells code (record own { written = written }))
+  pub written-free : (own : OwnState) (written : List ℕ) → is_some (next_made cells code own) ≡ is_some (next_made cells code (record own { written = written }))
   written-free own written =
       let put = settled code own in
       let is = drop put.index code in
       room-left put written (made_ahead cells put is) (made_ahead cells (record put { written = written }) is) (ahead-left put written is)
 
   -- it is told by the place, the operands and the values behind the others
-  pub private-behind : (n : ℕ) (own : Own) (records : List Record) (end : Own) (values : Values) → recorded cells code n own ≡ Some (records, end) → ((d : ℕ) → values d ≡ end.values d)
+  pub private-behind : (n : ℕ) (own : OwnState) (records : List Record) (end : OwnState) (values : Values) → recorded cells code n own ≡ Some (records, end) → ((d : ℕ) → values d ≡ end.values d)
       → is_some (next_made cells code (begun end.index end.operands values)) ≡ is_some (recorded cells code (suc n) own)
   private-behind n own records end values is same =
       written-free (begun end.index end.operands values) end.written

@@ -6,7 +6,7 @@ use Rattle.std.proofs.lemmas.Option.{none-some, same_Some, slice_get_past, slice
 use Rattle.hep_source.proofs.NameTests.{equal_names}
 use Rattle.hep_machine.specs.Words.{Name, Statement, Value, Int, index_among, Units, dummies_of, unit_at, is_dummy, is_common, is_constant_name, is_local, same_name, BlockName, common_block, is_array, level_after_statement, variable_of, integer_of, integer_or_overflow}
 use Rattle.hep_machine.specs.Words.{Binding, binding_for, binding_with_shapes, bound_values, dummies_for, dummy_before, dummy_for, dummy_with_shape, first_element, from_element, with_actuals, with_shape, with_shapes, with_store, shape_by, Actual, evaluated, referred, Reference, Bounds, fits, no_dummy, Scope, dummy_at, start_by_block, storage_by_dummy, storage_of, location_of_name, loop_at}
-use Rattle.hep_machine.specs.Words.{Action, assigning, jumping, choosing, branching, testing_condition, entering_block, entering_loop, ending_loop, calling, creating, purging, printing, continuing, leaving, resuming, stopping, Next, wants, does, Sought, evaluating, referring, next_of, function_name, function_unit, result_after_leaving, result_after_result, result_after_sought, result_after_value, state_resumed, activation_of, living, numbered, with_numbered, unit_of, opening, run, run_from, step, Activation, Dummy, Level, Location, Loop, Process, State, Store, Work, local, common}
+use Rattle.hep_machine.specs.Words.{Action, assigning, jumping, choosing, branching, testing_condition, entering_block, entering_loop, ending_loop, calling, creating, purging, printing, continuing, leaving, resuming, stopping, Next, wants, does, evaluating, referring, next_of, function_name, function_unit, result_after_leaving, result_after_result, result_after_value, state_resumed, activation_of, living, numbered, with_numbered, unit_of, opening, run, run_from, step, Activation, Dummy, Level, Location, Loop, Process, State, Store, Work, local, common}
 use Rattle.hep_machine.specs.Words.{Answer, fails, answer_at, answer_of, binding_of, iterations, next_activation, result_after_action, result_after_answer, result_after_assignment, result_after_call, result_after_create, result_after_do, result_after_increment, result_after_loop_end, result_after_loop_variable, result_after_next, result_after_purge, result_after_write, scope_of, store_after_purge, Top, unit_called, unit_on_top, written, further, with_value}
 use Rattle.hep_machine.specs.declared.event.Kind.{Kind}
 use Rattle.hep_machine.specs.declared.event.Kind.TheVariants.{Shape}
@@ -21,12 +21,12 @@ use Rattle.hep_layout.proofs.FrameTree.{stacked-top}
 use Rattle.hep_layout.proofs.Stacks.{once, times_on-numbered, top-numbered}
 use Rattle.hep_machine.proofs.Ages.{aged, on_stack_made}
 use Rattle.hep_image.specs.Private.{is_private}
-use Rattle.hep_accepted_laws.specs.Works.{ComesFrom, IsCalledBy, IsReferredBy}
+use Rattle.hep_accepted_laws.specs.WorkOrigins.{ComesFrom, IsCalledBy, IsReferredBy}
 use Rattle.hep_accepted_laws.proofs.Levels.{Every, top-comes}
 use Rattle.hep_accepted_laws.proofs.Members.{has_among}
-use Rattle.hep_commit.specs.Scalars.{AreUnshared, is_private_at, is_private_scalar}
-use Rattle.hep_commit.proofs.Bare.{called-shared, referred-shared}
-use Rattle.hep_commit.proofs.Kept.{GivesKept, IsFree, Keeps, Misses, OkMisses, free-location, keeps-all, keeps-with_actuals, keeps-with_cell, kept-answer, kept-answer_at, kept-purge}
+use Rattle.hep_commit.specs.PrivateScalars.{AreUnshared, is_private_at, is_private_scalar}
+use Rattle.hep_commit.proofs.PassedVariables.{called-shared, referred-shared}
+use Rattle.hep_commit.proofs.UnchangedSaves.{GivesKept, IsFree, Keeps, Misses, OkMisses, free-location, keeps-all, keeps-with_actuals, keeps-with_cell, kept-answer, kept-answer_at, kept-purge}
 
 -- ---- lists
 

@@ -1,5 +1,5 @@
 -- Private steps in two parts: the second part is private from where the first one leads, whatever the first one stored in.
-use Rattle.std.proofs.Common.{◌≡◌, ℕ, zero, suc, ◌+◌, ◌-◌, ◌≤◌, ◌<◌, ◌&&◌, true, false, true≢false, nat_le, List, [], ◌∷◌, ◌++◌, drop, length, Option, Some, None, is_some, option_and_then, refl, sym, ap, ◌∙◌, subst, arith}
+use Rattle.std.proofs.Common.{◌≡◌, ℕ, zero, suc, ◌+◌, ◌-◌, ◌≤◌, ◌<◌, ◌&&◌, true, false, nat_le, List, [], ◌∷◌, ◌++◌, drop, length, Option, Some, is_some, option_and_then, refl, sym, ap, ◌∙◌, subst, arith}
 use Rattle.std.specs.Option.{option_map}
 use Rattle.std.proofs.lemmas.Option.{none-some}
 use Rattle.hep_machine.specs.Words.{Value, Units, unit_at}
@@ -15,14 +15,15 @@ use Rattle.hep_image.specs.Private.{private_cells}
 use Rattle.hep_step.specs.Simulation.{unit_code}
 use Rattle.hep_private.specs.declared.record.Record.{Record}
 use Rattle.hep_private.specs.declared.record.Record.TheVariants.{Stores}
-use Rattle.hep_private.specs.Own.{Own, begun, settled, stores_of, with_stores, written_after}
-use Rattle.hep_private.specs.Recorded.{Made, has_room, if_room, made_ahead, made_by, made_of_choice, made_of_end, made_of_entry, made_of_value, next_made, note_of, own_after, recorded}
-use Rattle.hep_private.proofs.Along.{before-others, first-of, made-ahead, made-next}
-use Rattle.hep_private.proofs.Cases.{HoldOf, so-by}
+use Rattle.hep_private.specs.OwnState.{OwnState, begun, settled, stores_of, with_stores, written_after}
+use Rattle.hep_private.specs.StepRecords.{MadeStep, has_room, if_room, made_ahead, made_by, made_of_choice, made_of_end, made_of_entry, made_of_value, next_made, note_of, own_after, recorded}
+use Rattle.hep_private.proofs.StepRows.{before-others, first-of, made-ahead, made-next}
+use Rattle.hep_private.proofs.StepCases.{HoldOf, so-by}
 use Rattle.hep_commit.proofs.Runs.{left-same, past-here}
 use Rattle.hep_private.specs.Segments.{Start}
-use Rattle.hep_private.proofs.Onward.{index-there, operands-there}
-use Rattle.hep_commit.specs.Turning.{are_private}
+use Rattle.hep_private.proofs.OperandRoom.{index-there, operands-there}
+use Rattle.hep_commit.specs.TurnsInPlace.{are_private}
+use Rattle.hep_source.proofs.Tests.{some_of}
 
 with-front : {A : Type 0} (x : A) (all rest front more : List A) → x ∷ rest ≡ all → rest ≡ front ++ more → all ≡ (x ∷ front) ++ more
 with-front x all rest front more is are = sym is ∙ ap (λ xs. x ∷ xs) are
@@ -31,16 +32,16 @@ module _ (cells : List ℕ) (code : List Instruction) where
   -- ---- two parts
 
   -- the first part leads to a place, and the second one goes on from there
-  pub record AreParted (a b : ℕ) (own : Own) (records : List Record) (end : Own) : Type 0 where
+  pub record AreParted (a b : ℕ) (own : OwnState) (records : List Record) (end : OwnState) : Type 0 where
     pub front : List Record
-    pub mid : Own
+    pub mid : OwnState
     pub made : recorded cells code a own ≡ Some (front, mid)
     pub many : length front ≡ a
     pub rest : List Record
     pub later : recorded cells code b mid ≡ Some (rest, end)
     pub are : records ≡ front ++ rest
 
-  pub parted : (a b : ℕ) (own : Own) (records : List Record) (end : Own) → recorded cells code (a + b) own ≡ Some (records, end) → AreParted a b own records end
+  pub parted : (a b : ℕ) (own : OwnState) (records : List Record) (end : OwnState) → recorded cells code (a + b) own ≡ Some (records, end) → AreParted a b own records end
   parted zero b own records end is =
       let count : 0 + b ≡ b = omega arith in
       record { front = []; mid = own; made = refl; many = refl; rest = records; later = subst (λ n. recorded cells code n own ≡ Some (records, end)) count is; are = refl }
@@ -61,17 +62,17 @@ module _ (cells : List ℕ) (code : List Instruction) where
   -- ---- in which cells steps have stored is nothing for those that come next
 
   -- a step that leaves what another one leaves
-  record IsLike (m k : Made) : Type 0 where
+  record IsLike (m k : MadeStep) : Type 0 where
     operands : k.operands ≡ m.operands
     index : k.index ≡ m.index
     stores : stores_of k.noted ≡ stores_of m.noted
 
-  module _ (own : Own) (written : List ℕ) where
-    abbrev other : Own
+  module _ (own : OwnState) (written : List ℕ) where
+    abbrev other : OwnState
     other = record own { written = written }
 
-    abbrev HasLike : List Instruction → Operation → Made → Type 0
-    HasLike entries o m = (k : Made) × (made_by cells other o entries ≡ Some k) × IsLike m k
+    abbrev HasLike : List Instruction → Operation → MadeStep → Type 0
+    HasLike entries o m = (k : MadeStep) × (made_by cells other o entries ≡ Some k) × IsLike m k
 
     none-stored : (e : Evaluation) (v : Value) → stores_of (note_of other e v) ≡ stores_of (note_of own e v)
     none-stored (Load (Local asynchronous c) n) v = refl
@@ -82,7 +83,7 @@ module _ (cells : List ℕ) (code : List Instruction) where
     none-stored (Apply f n) v = refl
     none-stored (Test f x n) v = refl
 
-    abbrev same-left : (m : Made) → IsLike m m
+    abbrev same-left : (m : MadeStep) → IsLike m m
     same-left m = record { operands = refl; index = refl; stores = refl }
 
     all-like : (entries : List Instruction) → HoldOf cells own entries (HasLike entries)
@@ -103,11 +104,11 @@ module _ (cells : List ℕ) (code : List Instruction) where
           branches = λ inside otherwise. (made_of_choice other (Branch inside otherwise) entries, refl, same-left _);
         }
 
-    ahead-like : (is : List Instruction) (m : Made) → made_ahead cells own is ≡ Some m → (k : Made) × (made_ahead cells other is ≡ Some k) × IsLike m k
+    ahead-like : (is : List Instruction) (m : MadeStep) → made_ahead cells own is ≡ Some m → (k : MadeStep) × (made_ahead cells other is ≡ Some k) × IsLike m k
     ahead-like (Step line o ∷ entries) m made = so-by cells own entries (HasLike entries) (all-like entries) m o made
     ahead-like _ m made = absurd (none-some m made)
 
-  next-like : (own : Own) (written : List ℕ) (m : Made) → next_made cells code own ≡ Some m → (k : Made) × (next_made cells code (record own { written = written }) ≡ Some k) × IsLike m k
+  next-like : (own : OwnState) (written : List ℕ) (m : MadeStep) → next_made cells code own ≡ Some m → (k : MadeStep) × (next_made cells code (record own { written = written }) ≡ Some k) × IsLike m k
   next-like own written m next =
       let made = made-ahead cells code own m next in
       let put = settled code own in
@@ -120,13 +121,13 @@ module _ (cells : List ℕ) (code : List Instruction) where
       )
 
   -- so they are private whatever was stored before them
-  anew : (n : ℕ) (own : Own) (written : List ℕ) (records : List Record) (end : Own) → recorded cells code n own ≡ Some (records, end)
-      → (r : List Record × Own) × (recorded cells code n (record own { written = written }) ≡ Some r)
+  anew : (n : ℕ) (own : OwnState) (written : List ℕ) (records : List Record) (end : OwnState) → recorded cells code n own ≡ Some (records, end)
+      → (r : List Record × OwnState) × (recorded cells code n (record own { written = written }) ≡ Some r)
   anew zero own written records end is = (([], record own { written = written }), refl)
   anew (suc n) own written records end is =
       let first = first-of cells code n own records end is in
       let like = next-like own written first.m first.next in
-      let there : Own = record own { written = written } in
+      let there : OwnState = record own { written = written } in
       let k = like.0 in
       let marked = written_after written k.noted in
       let later = anew n (own_after cells code own first.m) marked first.rest end first.later in
@@ -138,21 +139,21 @@ module _ (cells : List ℕ) (code : List Instruction) where
 
   -- ---- it is nothing, either, whether the constants ahead are operands yet
 
-  inside-ahead : (own : Own) (m : Made) (is : List Instruction) (i : ℕ) → made_ahead cells own (drop i is) ≡ Some m → i < length is
+  inside-ahead : (own : OwnState) (m : MadeStep) (is : List Instruction) (i : ℕ) → made_ahead cells own (drop i is) ≡ Some m → i < length is
   inside-ahead own m [] zero made = absurd (none-some m made)
   inside-ahead own m [] (suc i) made = absurd (none-some m made)
   inside-ahead own m (x ∷ xs) zero made = omega arith
   inside-ahead own m (x ∷ xs) (suc i) made = let rest = inside-ahead own m xs i made in omega (arith, rest)
 
   -- there is an operation ahead
-  ahead-of : (n : ℕ) (own : Own) (records : List Record) (end : Own) → recorded cells code (suc n) own ≡ Some (records, end) → (settled code own).index < length code
+  ahead-of : (n : ℕ) (own : OwnState) (records : List Record) (end : OwnState) → recorded cells code (suc n) own ≡ Some (records, end) → (settled code own).index < length code
   ahead-of n own records end is =
       let first = first-of cells code n own records end is in
       let put = settled code own in
       inside-ahead put first.m code put.index (made-ahead cells code own first.m first.next).0
 
   -- where they are, none stands ahead
-  settled-once : (own : Own) → (settled code own).index < length code → settled code (settled code own) ≡ settled code own
+  settled-once : (own : OwnState) → (settled code own).index < length code → settled code (settled code own) ≡ settled code own
   settled-once own inside =
       let put = settled code own in
       let past = past-here code own.operands own.index in
@@ -160,16 +161,16 @@ module _ (cells : List ℕ) (code : List Instruction) where
       let operands = operands-there code put.operands put.operands put.index put.index refl past in
       λ i. record { index = index i; operands = operands i; values = own.values; written = own.written }
 
-  settled-first : (n : ℕ) (own : Own) → (settled code own).index < length code → recorded cells code (suc n) (settled code own) ≡ recorded cells code (suc n) own
+  settled-first : (n : ℕ) (own : OwnState) → (settled code own).index < length code → recorded cells code (suc n) (settled code own) ≡ recorded cells code (suc n) own
   settled-first n own inside =
-      ap (λ (put : Own).
-      option_and_then {U = List Record × Own} (λ (m : Made). option_map {U = List Record × Own} (λ (r : List Record × Own). (m.noted ∷ r.0, r.1)) (recorded cells code n (own_after cells code own m))) (
+      ap (λ (put : OwnState).
+      option_and_then {U = List Record × OwnState} (λ (m : MadeStep). option_map {U = List Record × OwnState} (λ (r : List Record × OwnState). (m.noted ∷ r.0, r.1)) (recorded cells code n (own_after cells code own m))) (
       if_room cells put (made_ahead cells put (drop put.index code)))) (settled-once own inside)
 
 -- ---- starts
 
 -- where private steps led
-abbrev pub start_behind : Start → Own → Start
+abbrev pub start_behind : Start → OwnState → Start
 start_behind start mid = record { unit = start.unit; index = mid.index; operands = mid.operands; values = mid.values }
 
 -- with the constants ahead as operands
@@ -178,14 +179,14 @@ start_ahead program start =
     start_behind start (settled (unit_code program start.unit) (begun start.index start.operands start.values))
 
 -- the private steps that come next at a start
-abbrev pub recorded_at : Units → Start → ℕ → Option (List Record × Own)
+abbrev pub recorded_at : Units → Start → ℕ → Option (List Record × OwnState)
 recorded_at program start n =
     recorded (private_cells (unit_at program start.unit)) (unit_code program start.unit) n (begun start.index start.operands start.values)
 
 -- the first n private steps lead to a place, from which so many come next
 pub record IsParted (program : Units) (start : Start) (n m : ℕ) : Type 0 where
   pub records : List Record
-  pub mid : Own
+  pub mid : OwnState
   pub made : recorded_at program start n ≡ Some (records, mid)
   pub many : length records ≡ n
   pub rest : are_private program (start_behind start mid) m ≡ true
@@ -202,10 +203,6 @@ pub record IsAhead (program : Units) (start : Start) : Type 0 where
 is-given : {A : Type 0} (o : Option A) (x : A) → o ≡ Some x → is_some o ≡ true
 is-given o x is = ap (λ o. is_some o) is
 
-given : {A : Type 0} (o : Option A) → is_some o ≡ true → (x : A) × (o ≡ Some x)
-given None some = absurd (true≢false (sym some))
-given (Some x) some = (x, refl)
-
 module _ (program : Units) (start : Start) where
   abbrev cells : List ℕ
   cells = private_cells (unit_at program start.unit)
@@ -213,21 +210,21 @@ module _ (program : Units) (start : Start) where
   abbrev code : List Instruction
   code = unit_code program start.unit
 
-  abbrev own : Own
+  abbrev own : OwnState
   own = begun start.index start.operands start.values
 
   -- fewer of them are private, too
   pub private-fewer : (a b : ℕ) → a ≤ b → are_private program start b ≡ true → are_private program start a ≡ true
   private-fewer a b few private =
       let whole : a + (b - a) ≡ b = omega (arith, few) in
-      let all = given (recorded cells code (a + (b - a)) own) (subst (λ n. are_private program start n ≡ true) (sym whole) private) in
+      let all = some_of (recorded cells code (a + (b - a)) own) (subst (λ n. are_private program start n ≡ true) (sym whole) private) in
       let parts = parted cells code a (b - a) own all.0.0 all.0.1 all.1 in
       is-given (recorded cells code a own) (parts.front, parts.mid) parts.made
 
   -- those after the first n begin a start of their own
   pub next-start : (n m : ℕ) → are_private program start (n + m) ≡ true → IsParted program start n m
   next-start n m private =
-      let all = given (recorded cells code (n + m) own) private in
+      let all = some_of (recorded cells code (n + m) own) private in
       let parts = parted cells code n m own all.0.0 all.0.1 all.1 in
       let mid = parts.mid in
       let fresh = anew cells code m mid [] parts.rest all.0.1 parts.later in
@@ -241,7 +238,7 @@ module _ (program : Units) (start : Start) where
 
   pub ahead-at : (n : ℕ) → are_private program start (suc n) ≡ true → IsAhead program start
   ahead-at n private =
-      let all = given (recorded cells code (suc n) own) private in
+      let all = some_of (recorded cells code (suc n) own) private in
       let inside = ahead-of cells code n own all.0.0 all.0.1 all.1 in
       record {
         left = left-same code start.operands start.index;

@@ -2,18 +2,18 @@
 use Rattle.std.proofs.Common.{◌≡◌, ℕ, ◌+◌, ◌-◌, List, [], ◌∷◌, refl, sym, ◌∙◌, subst, slice_set}
 use Rattle.hep_machine.specs.Words.{Units, with_numbered}
 use Rattle.hep_machine.specs.declared.slot.Slot.{Slot}
-use Rattle.hep_image.specs.Finding.{cells_in}
-use Rattle.hep_binding.proofs.Calls.{set-numbered}
+use Rattle.hep_image.specs.Addressing.{cells_in}
+use Rattle.hep_state.proofs.BindingCalls.{set-numbered}
 use Rattle.hep_private.specs.declared.record.Record.{Record}
-use Rattle.hep_commit.specs.Gone.{contents_with}
-use Rattle.hep_commit.specs.PutBack.{AreOf, put_back}
+use Rattle.hep_commit.specs.UndoneStores.{AreOf, put_back}
 use Rattle.hep_proc.specs.Stacks.{Stack, stack_with}
 use Rattle.hep_private.specs.Segments.{SegmentValue}
 use Rattle.hep_state.specs.Words.{HasLevels, IsSameButTop, Snapshot, frame_under}
 use Rattle.hep_state.proofs.Runs.{set-again, set-same}
-use Rattle.hep_state.proofs.Unchanged.{levels-same}
-use Rattle.hep_commit.specs.Levels.{first_of, snapshot_taken}
-use Rattle.hep_commit.specs.Saved.{saved_of, slots_of, snapshot_restored, with_slots}
+use Rattle.hep_state.proofs.UnchangedStates.{levels-same}
+use Rattle.hep_commit.specs.SegmentStarts.{first_of, snapshot_taken}
+use Rattle.hep_commit.specs.UndoLogs.{saved_of, slots_of, snapshot_restored, with_slots}
+use Rattle.hep_private.specs.InPlace.{stored_with}
 
 -- ---- cells
 
@@ -23,7 +23,7 @@ with-put first (c ∷ cs) saved now = with-put first cs saved (slice_set now (fi
 
 -- what the law of saved cells says
 abbrev pub IsUndone : Type 0
-IsUndone = (first : ℕ) (contents : List Slot) (cells : List ℕ) (records : List Record) → AreOf cells records → put_back first cells contents (contents_with first contents records) ≡ contents
+IsUndone = (first : ℕ) (contents : List Slot) (cells : List ℕ) (records : List Record) → AreOf cells records → put_back first cells contents (stored_with first contents records) ≡ contents
 
 -- ---- a machine
 
@@ -59,10 +59,10 @@ module _ (undone : IsUndone) {m : Snapshot} {p : ℕ} (levels : HasLevels m p) (
     pending = (levels-same after taken).3
 
     abbrev there : ℕ → List Slot
-    there first = with_slots first cells (slots_of (first_of levels) cells m.arena.contents) (contents_with (first_of levels) m.arena.contents s.records)
+    there first = with_slots first cells (slots_of (first_of levels) cells m.arena.contents) (stored_with (first_of levels) m.arena.contents s.records)
 
     cells-back : there (first_of levels) ≡ m.arena.contents
-    cells-back = with-put (first_of levels) cells m.arena.contents (contents_with (first_of levels) m.arena.contents s.records) ∙ undone (first_of levels) m.arena.contents cells s.records of
+    cells-back = with-put (first_of levels) cells m.arena.contents (stored_with (first_of levels) m.arena.contents s.records) ∙ undone (first_of levels) m.arena.contents cells s.records of
 
     stacks-back : with_numbered (with_numbered m.processes p moved) p before-it ≡ m.processes
     stacks-back = set-again m.processes (p - 1) moved before-it ∙ sym (set-same m.processes p before-it levels.kept)

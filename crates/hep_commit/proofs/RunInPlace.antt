@@ -3,16 +3,16 @@ use Rattle.std.proofs.Common.{◌≡◌, ℕ, ◌≤◌, length, sym, ap, subst,
 use Rattle.hep_machine.specs.Words.{Units}
 use Rattle.hep_code.specs.Words.{deepest}
 use Rattle.hep_step.specs.Simulation.{unit_code}
-use Rattle.hep_advance.proofs.Onward.{none-made}
-use Rattle.hep_advance.specs.Gone.{MakesMoves}
+use Rattle.hep_advance.proofs.SilentTurns.{none-made}
+use Rattle.hep_advance.specs.SilentRuns.{MakesMoves}
 use Rattle.hep_state.specs.declared.core_state.CoreState.{CoreState}
 use Rattle.hep_state.specs.Words.{HasLevels, IsItsTurn, IsSameButTop, KeepsRoom, LivesOn, snapshot_of}
-use Rattle.hep_state.proofs.Beside.{beside-shown}
-use Rattle.hep_state.proofs.Unchanged.{top-shown}
-use Rattle.hep_commit.specs.Saved.{SavedValue}
-use Rattle.hep_commit.specs.Taking.{HasMadePrivate, HasRestored, IsSavedOf}
-use Rattle.hep_commit.specs.Turning.{IsAsBefore}
-use Rattle.hep_commit.proofs.Behind.{AreAsBefore}
+use Rattle.hep_state.proofs.OtherProcesses.{beside-shown}
+use Rattle.hep_state.proofs.UnchangedStates.{top-shown}
+use Rattle.hep_commit.specs.UndoLogs.{UndoLogValue}
+use Rattle.hep_commit.specs.Application.{HasMadePrivate, HasRestored, IsSavedOf}
+use Rattle.hep_commit.specs.TurnsInPlace.{IsAsBefore}
+use Rattle.hep_commit.proofs.AfterSegments.{AreAsBefore}
 use Rattle.hep_commit.proofs.TurnInPlace.{all-as-before, lives-behind, turn-behind, turn-there}
 
 -- a process lives on in the machine in which it lives
@@ -33,7 +33,7 @@ module _ (program : Units) (p : ℕ) (old mid : CoreState) (n : ℕ) (made : Has
   pub lives-there : LivesOn p 0 old new
   lives-there = lives-behind program p old mid n made moves others new still-there
 
-  module _ (saved : SavedValue) (is : IsSavedOf program p old saved) where
+  module _ (saved : UndoLogValue) (is : IsSavedOf program p old saved) where
     none-more : MakesMoves program p mid 0 new
     none-more = subst (λ m. MakesMoves program p mid 0 m) (sym same) (none-made program p mid)
 

@@ -1,41 +1,31 @@
 -- Private steps, one after the other, are plain turns.
-use Rattle.std.proofs.Common.{◌≡◌, ◌≢◌, ℕ, zero, suc, ◌+◌, List, [], ◌∷◌, ◌++◌, map, drop, Some, refl, sym, ap, ◌∙◌, subst, arith, append_assoc, append-nil, slice_get, replicate}
+use Rattle.std.proofs.Common.{◌≡◌, ◌≢◌, ℕ, zero, suc, ◌+◌, List, [], ◌∷◌, ◌++◌, map, drop, Some, refl, sym, ap, ◌∙◌, subst, arith, append_assoc, slice_get, replicate}
 use Rattle.std.proofs.lemmas.Option.{same_Some}
-use Rattle.hep_machine.specs.Words.{Value, Units, AreSteps, State, opening, run, run_from, state_after_turn}
+use Rattle.hep_machine.specs.Words.{Value, Units, AreSteps, State, run, run_from}
 use Rattle.hep_arena.specs.Holes.{Hole}
 use Rattle.hep_code.specs.declared.instruction.Instruction.{Instruction}
 use Rattle.hep_code.specs.declared.instruction.Instruction.TheVariants.{Push}
 use Rattle.hep_code.specs.Words.{IsPastPushes, left_to_do, values_ahead}
 use Rattle.hep_image.specs.declared.array.Array.{Array}
 use Rattle.hep_step.specs.declared.frame.Frame.{Frame}
-use Rattle.hep_step.specs.Performed.{Snapshot, snapshot}
-use Rattle.hep_step.specs.Moves.{CanGoOn, Goes, IsMove, settles, steps}
-use Rattle.hep_step.proofs.Moved.{unchanged-ahead}
-use Rattle.hep_advance.specs.Gone.{HasGone, none, more}
+use Rattle.hep_step.specs.PerformedSteps.{Snapshot, snapshot}
+use Rattle.hep_step.specs.SilentSteps.{CanGoOn, Goes, IsMove, settles, steps}
+use Rattle.hep_step.proofs.PlainSteps.{unchanged-ahead}
+use Rattle.hep_advance.specs.SilentRuns.{HasGone, none, more}
 use Rattle.hep_private.specs.declared.record.Record.{Record}
-use Rattle.hep_private.specs.Own.{Own, contents_after, pushed_ahead, settled, values_after, values_at, written_after}
-use Rattle.hep_private.specs.Recorded.{Made, made_ahead, next_made, own_after, recorded}
-use Rattle.hep_private.proofs.Changed.{size-after, values-changed}
-use Rattle.hep_private.proofs.Along.{first-of, made-ahead}
-use Rattle.hep_private.proofs.Moves.{moved-ahead}
-use Rattle.hep_commit.specs.Gone.{contents_with}
-use Rattle.hep_commit.proofs.Inside.{inside-ahead, plain-ahead}
+use Rattle.hep_private.specs.OwnState.{OwnState, contents_after, pushed_ahead, settled, values_after, values_at, written_after}
+use Rattle.hep_private.specs.StepRecords.{MadeStep, made_ahead, next_made, own_after, recorded}
+use Rattle.hep_private.proofs.StoredCells.{size-after, values-changed}
+use Rattle.hep_private.proofs.StepRows.{first-of, made-ahead}
+use Rattle.hep_private.proofs.StepEffects.{moved-ahead}
+use Rattle.hep_commit.proofs.StoresInFrame.{inside-ahead, plain-ahead}
+use Rattle.hep_machine.proofs.Replays.{steps_before}
+use Rattle.hep_advance.proofs.RunsToBreakpoint.{one-behind, turns-are, run-on}
+use Rattle.hep_private.proofs.OperandRoom.{drop-plus}
+use Rattle.hep_private.specs.InPlace.{stored_with}
+use Rattle.hep_source.proofs.Tests.{get-drop}
 
 -- ---- lists
-
-drop-none : {A : Type 0} (n : ℕ) → ◌≡◌ {A = List A} (drop n []) []
-drop-none zero = refl
-drop-none (suc n) = refl
-
-drop-plus : {A : Type 0} (xs : List A) (i n : ℕ) → drop (i + n) xs ≡ drop n (drop i xs)
-drop-plus xs zero n = let e : 0 + n ≡ n = omega arith in ap (λ k. drop k xs) e
-drop-plus [] (suc i) n = drop-none (suc i + n) ∙ sym (drop-none n)
-drop-plus (x ∷ xs) (suc i) n = let e : suc i + n ≡ suc (i + n) = omega arith in ap (λ k. drop k (x ∷ xs)) e ∙ drop-plus xs i n
-
-get-drop : {A : Type 0} (xs : List A) (i n : ℕ) → slice_get xs (i + n) ≡ slice_get (drop i xs) n
-get-drop xs zero n = let e : 0 + n ≡ n = omega arith in ap (slice_get xs) e
-get-drop [] (suc i) n = refl
-get-drop (x ∷ xs) (suc i) n = let e : suc i + n ≡ suc (i + n) = omega arith in ap (slice_get (x ∷ xs)) e ∙ get-drop xs i n
 
 map-append : (vs ws : List Value) → map Push (vs ++ ws) ≡ map Push vs ++ map Push ws
 map-append [] ws = refl
@@ -73,15 +63,15 @@ module _ (code : List Instruction) (arrays : List Array) (cells : List ℕ) (fra
   Come n u = Goes code arrays frame.first start n u
 
   -- what the activation has for itself there, where its steps have stored in these cells
-  abbrev pub own_at : Snapshot → List ℕ → Own
+  abbrev pub own_at : Snapshot → List ℕ → OwnState
   own_at u written = record { index = u.index; operands = u.operands; values = values_at u.contents frame.first; written = written }
 
   module _ (can : (n : ℕ) (u : Snapshot) → Come n u → CanGoOn code arrays holes frame capacity u) where
-    module _ (k : ℕ) (u : Snapshot) (written : List ℕ) (come : Come k u) (m : Made) (next : next_made cells code (own_at u written) ≡ Some m) where
-      abbrev own : Own
+    module _ (k : ℕ) (u : Snapshot) (written : List ℕ) (come : Come k u) (m : MadeStep) (next : next_made cells code (own_at u written) ≡ Some m) where
+      abbrev own : OwnState
       own = own_at u written
 
-      abbrev put : Own
+      abbrev put : OwnState
       put = settled code own
 
       abbrev there : Snapshot
@@ -117,66 +107,42 @@ module _ (code : List Instruction) (arrays : List Array) (cells : List ℕ) (fra
       own-after = λ i. record { index = m.index; operands = m.operands; values = λ d. sym (values-are d) i; written = written_after written m.noted }
 
     -- so many private steps are so many moves
-    pub gone-on : (n k : ℕ) (u : Snapshot) (written : List ℕ) (records : List Record) (end : Own) → Come k u → recorded cells code n (own_at u written) ≡ Some (records, end)
-        → Come (k + n) (snapshot (contents_with frame.first u.contents records) end.operands end.index)
+    pub gone-on : (n k : ℕ) (u : Snapshot) (written : List ℕ) (records : List Record) (end : OwnState) → Come k u → recorded cells code n (own_at u written) ≡ Some (records, end)
+        → Come (k + n) (snapshot (stored_with frame.first u.contents records) end.operands end.index)
     gone-on zero k u written records end come is =
         let same = same_Some ([], own_at u written) (records, end) is in
         let count : k ≡ k + 0 = omega arith in
-        subst (λ n. Come n (snapshot (contents_with frame.first u.contents records) end.operands end.index)) count (
-        subst (λ (r : List Record × Own). Come k (snapshot (contents_with frame.first u.contents r.0) r.1.operands r.1.index)) same come)
+        subst (λ n. Come n (snapshot (stored_with frame.first u.contents records) end.operands end.index)) count (
+        subst (λ (r : List Record × OwnState). Come k (snapshot (stored_with frame.first u.contents r.0) r.1.operands r.1.index)) same come)
     gone-on (suc n) k u written records end come is =
         let first = first-of cells code n (own_at u written) records end is in
         let later : recorded cells code n (own_at (after k u written come first.m first.next) (written_after written first.m.noted)) ≡ Some (first.rest, end) =
         ap (recorded cells code n) (sym (own-after k u written come first.m first.next)) ∙ first.later in
         let count : suc k + n ≡ k + suc n = omega arith in
         let rest = gone-on n (suc k) (after k u written come first.m first.next) (written_after written first.m.noted) first.rest end (come-after k u written come first.m first.next) later in
-        subst (λ rs. Come (k + suc n) (snapshot (contents_with frame.first u.contents rs) end.operands end.index)) first.are (
-        subst (λ j. Come j (snapshot (contents_with frame.first u.contents (first.m.noted ∷ first.rest)) end.operands end.index)) count rest)
+        subst (λ rs. Come (k + suc n) (snapshot (stored_with frame.first u.contents rs) end.operands end.index)) first.are (
+        subst (λ j. Come j (snapshot (stored_with frame.first u.contents (first.m.noted ∷ first.rest)) end.operands end.index)) count rest)
 
     -- and the values in the frame are theirs
-    pub values-gone : (n k : ℕ) (u : Snapshot) (written : List ℕ) (records : List Record) (end : Own) → Come k u → recorded cells code n (own_at u written) ≡ Some (records, end)
-        → (d : ℕ) → values_at (contents_with frame.first u.contents records) frame.first d ≡ end.values d
+    pub values-gone : (n k : ℕ) (u : Snapshot) (written : List ℕ) (records : List Record) (end : OwnState) → Come k u → recorded cells code n (own_at u written) ≡ Some (records, end)
+        → (d : ℕ) → values_at (stored_with frame.first u.contents records) frame.first d ≡ end.values d
     values-gone zero k u written records end come is d =
         let same = same_Some ([], own_at u written) (records, end) is in
-        subst (λ (r : List Record × Own). values_at (contents_with frame.first u.contents r.0) frame.first d ≡ r.1.values d) same refl
+        subst (λ (r : List Record × OwnState). values_at (stored_with frame.first u.contents r.0) frame.first d ≡ r.1.values d) same refl
     values-gone (suc n) k u written records end come is d =
         let first = first-of cells code n (own_at u written) records end is in
         let later : recorded cells code n (own_at (after k u written come first.m first.next) (written_after written first.m.noted)) ≡ Some (first.rest, end) =
         ap (recorded cells code n) (sym (own-after k u written come first.m first.next)) ∙ first.later in
-        subst (λ rs. values_at (contents_with frame.first u.contents rs) frame.first d ≡ end.values d) first.are (
+        subst (λ rs. values_at (stored_with frame.first u.contents rs) frame.first d ≡ end.values d) first.are (
         values-gone n (suc k) (after k u written come first.m first.next) (written_after written first.m.noted) first.rest end (come-after k u written come first.m first.next) later d)
 
 -- ---- turns
-
-snoc-more : {A : Type 0} (n : ℕ) (x : A) → replicate n x ++ x ∷ [] ≡ replicate (suc n) x
-snoc-more zero x = refl
-snoc-more (suc n) x = ap (λ xs. x ∷ xs) (snoc-more n x)
-
--- the turns that were made
-pub turns-are : (program : Units) (cells p : ℕ) (choices : List ℕ) (n : ℕ) (after : List ℕ) → HasGone program cells p choices n after → after ≡ choices ++ replicate n p
-turns-are program cells p _ _ _ (none choices) = sym (append-nil choices)
-turns-are program cells p _ _ _ (more choices n after gone is) =
-    ap (λ ps. ps ++ p ∷ []) (turns-are program cells p choices n after gone) ∙ (append_assoc choices (replicate n p) (p ∷ []) ∙ ap (λ ps. choices ++ ps) (snoc-more n p))
-
-steps-before : (program : Units) (s : State) (ps qs : List ℕ) → AreSteps program s ps → AreSteps program (run_from program s ps) qs → AreSteps program s (ps ++ qs)
-unfolding run_from
-steps-before program s [] qs h l = l
-steps-before program s (p ∷ ps) qs h l = (h.0, steps-before program (state_after_turn program p s) ps qs h.1 l)
-
-run-from-joined : (program : Units) (s : State) (ps qs : List ℕ) → run_from program s (ps ++ qs) ≡ run_from program (run_from program s ps) qs
-unfolding run_from
-run-from-joined program s [] qs = refl
-run-from-joined program s (p ∷ ps) qs = run-from-joined program (state_after_turn program p s) ps qs
-
-run-joined : (program : Units) (ps qs : List ℕ) → run program (ps ++ qs) ≡ run_from program (run program ps) qs
-unfolding run
-run-joined program ps qs = run-from-joined program (opening program) ps qs
 
 -- each is a step
 pub steps-are : (program : Units) (cells p : ℕ) (choices : List ℕ) (n : ℕ) (after : List ℕ) → HasGone program cells p choices n after → AreSteps program (run program choices) (replicate n p)
 steps-are program cells p _ _ _ (none choices) = tt
 steps-are program cells p _ _ _ (more choices n after gone is) =
-    let there : run program after ≡ run_from program (run program choices) (replicate n p) = ap (run program) (turns-are program cells p choices n after gone) ∙ run-joined program choices (replicate n p) in
-    subst (AreSteps program (run program choices)) (snoc-more n p) (
-    steps-before program (run program choices) (replicate n p) (p ∷ []) (steps-are program cells p choices n after gone) (
+    let there : run program after ≡ run_from program (run program choices) (replicate n p) = ap (run program) (turns-are program cells p choices n after gone) ∙ run-on program choices (replicate n p) in
+    subst (AreSteps program (run program choices)) (one-behind n p) (
+    steps_before program (run program choices) (replicate n p) (p ∷ []) (steps-are program cells p choices n after gone) (
     subst (λ (s : State). AreSteps program s (p ∷ [])) there (is.stepped, tt)))

@@ -1,17 +1,17 @@
 -- To put back what stood in some cells undoes what was stored in them alone.
-use Rattle.std.proofs.Common.{◌≡◌, ◌≤◌, inl, inr, ℕ, zero, suc, pos, ◌+◌, ◌-◌, ◌<◌, Bool, true, false, List, [], ◌∷◌, length, length-set, Some, refl, sym, ap, ◌∙◌, subst, arith, nat_eq, slice_set, if◌then◌else◌, ◌||◌}
-use Rattle.std.proofs.lemmas.Bool.{cases_lt, eq-eqb}
+use Rattle.std.proofs.Common.{◌≡◌, ◌≤◌, inl, inr, ℕ, zero, suc, pos, ◌+◌, ◌-◌, Bool, true, false, List, [], ◌∷◌, length, length-set, Some, refl, sym, ap, ◌∙◌, subst, arith, nat_eq, slice_set, if◌then◌else◌, ◌||◌}
+use Rattle.std.proofs.lemmas.Bool.{cases_lt, eq-eqb, eqb-true}
 use Rattle.std.proofs.lemmas.Bool.Decides.{nat_tests}
 use Rattle.hep_machine.specs.Words.{Value, Int, is_number_among, natural, unset_cell}
 use Rattle.hep_machine.specs.declared.slot.Slot.{Slot}
-use Rattle.hep_image.specs.Finding.{cells_in}
+use Rattle.hep_image.specs.Addressing.{cells_in}
 use Rattle.hep_step.specs.Effects.{with_value_at}
 use Rattle.hep_private.specs.declared.record.Record.{Record}
 use Rattle.hep_private.specs.declared.record.Record.TheVariants.{Goes, Gives, Reads, Stores, Enters, Ends}
-use Rattle.hep_private.specs.Own.{cells_of, contents_after, stores_of}
-use Rattle.hep_commit.specs.Gone.{contents_with}
-use Rattle.hep_commit.specs.PutBack.{AreAmong, AreOf, put_back}
-use Rattle.hep_private.proofs.Changed.{cells-set, next-test, size-after}
+use Rattle.hep_private.specs.OwnState.{cells_of, contents_after, stores_of}
+use Rattle.hep_commit.specs.UndoneStores.{AreAmong, AreOf, put_back}
+use Rattle.hep_private.proofs.StoredCells.{cells-set, next-test, size-after}
+use Rattle.hep_private.specs.InPlace.{stored_with}
 
 -- it is none of these cells of a frame
 abbrev pub IsOut : ℕ → List ℕ → ℕ → Type 0
@@ -47,11 +47,11 @@ module _ (first : ℕ) (cells : List ℕ) where
   alike-after contents (Ends f g h c d at z count increment) among p out =
       loop-alike contents c d (Int z) (record { value = Some (Int (pos (natural count - 1))); full = false }) (record { value = Some (Int increment); full = false }) among p out
 
-  pub alike-with : (contents : List Slot) (records : List Record) → AreOf cells records → AreAlike first cells contents (contents_with first contents records)
+  pub alike-with : (contents : List Slot) (records : List Record) → AreOf cells records → AreAlike first cells contents (stored_with first contents records)
   alike-with contents [] of p out = refl
   alike-with contents (r ∷ rs) of p out = alike-with (contents_after first contents r) rs of.1 p out ∙ alike-after contents r of.0 p out
 
-pub size-with : (first : ℕ) (contents : List Slot) (records : List Record) → length (contents_with first contents records) ≡ length contents
+pub size-with : (first : ℕ) (contents : List Slot) (records : List Record) → length (stored_with first contents records) ≡ length contents
 size-with first contents [] = refl
 size-with first contents (r ∷ rs) = size-with first (contents_after first contents r) rs ∙ size-after first contents r
 
@@ -60,9 +60,6 @@ same-lists [] [] size same = refl
 same-lists [] (y ∷ ys) size same = absurd (omega (arith, size))
 same-lists (x ∷ xs) [] size same = absurd (omega (arith, size))
 same-lists (x ∷ xs) (y ∷ ys) size same = ap (λ z. z ∷ xs) (same 0) ∙ ap (λ zs. y ∷ zs) (same-lists xs ys (omega (arith, size)) (λ p. same (suc p)))
-
-places-equal : (p q : ℕ) → nat_eq p q ≡ true → p ≡ q
-places-equal p q e = grind (arith, nat_tests, e)
 
 -- past the last cell nothing stands, and nothing is set
 cells-past : (xs : List Slot) (p : ℕ) → length xs ≤ p → cells_in xs p ≡ unset_cell
@@ -84,7 +81,7 @@ module _ (first : ℕ) (old : List Slot) where
         out_of_all : (p : ℕ) → IsOut first cs p → nat_eq p (first + c) ≡ false → IsOut first (c ∷ cs) p
         out_of_all p out ne d among = by_cell (nat_eq d c) refl where
           by_cell : (b : Bool) → nat_eq d c ≡ b → nat_eq p (first + d) ≡ false
-          by_cell true e = subst (λ x. nat_eq p (first + x) ≡ false) (sym (places-equal d c e)) ne
+          by_cell true e = subst (λ x. nat_eq p (first + x) ≡ false) (sym (eqb-true d c e)) ne
           by_cell false e = out d (sym (ap (λ b. b || is_number_among d cs) e) ∙ among)
 
         set_there : cells_in (slice_set now (first + c) (cells_in old (first + c))) (first + c) ≡ cells_in old (first + c)
@@ -98,8 +95,8 @@ module _ (first : ℕ) (old : List Slot) where
 
         by_place : (p : ℕ) → IsOut first cs p → (b : Bool) → nat_eq p (first + c) ≡ b → cells_in (slice_set now (first + c) (cells_in old (first + c))) p ≡ cells_in old p
         by_place p out true e =
-            subst (λ q. cells_in (slice_set now (first + c) (cells_in old (first + c))) q ≡ cells_in old q) (sym (places-equal p (first + c) e)) set_there
+            subst (λ q. cells_in (slice_set now (first + c) (cells_in old (first + c))) q ≡ cells_in old q) (sym (eqb-true p (first + c) e)) set_there
         by_place p out false e = cells-other now (first + c) p (cells_in old (first + c)) e ∙ alike p (out_of_all p out e)
 
-pub saved-undo : (first : ℕ) (contents : List Slot) (cells : List ℕ) (records : List Record) → AreOf cells records → put_back first cells contents (contents_with first contents records) ≡ contents
-saved-undo first contents cells records of = undone first contents cells (contents_with first contents records) (size-with first contents records) (alike-with first cells contents records of)
+pub saved-undo : (first : ℕ) (contents : List Slot) (cells : List ℕ) (records : List Record) → AreOf cells records → put_back first cells contents (stored_with first contents records) ≡ contents
+saved-undo first contents cells records of = undone first contents cells (stored_with first contents records) (size-with first contents records) (alike-with first cells contents records of)

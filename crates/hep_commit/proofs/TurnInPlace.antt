@@ -4,22 +4,22 @@ use Rattle.std.specs.Result.{is_err}
 use Rattle.hep_machine.specs.Words.{Units}
 use Rattle.hep_code.specs.Words.{deepest}
 use Rattle.hep_step.specs.Simulation.{unit_code}
-use Rattle.hep_advance.specs.Gone.{MakesMoves}
+use Rattle.hep_advance.specs.SilentRuns.{MakesMoves}
 use Rattle.hep_proc.specs.Stacks.{stack_with}
 use Rattle.hep_private.specs.declared.ticket.TicketId.{TicketId}
 use Rattle.hep_private.specs.Segments.{SegmentValue, is_next_private, most_records}
 use Rattle.hep_state.specs.declared.core_state.CoreState.{CoreState}
 use Rattle.hep_state.specs.Words.{HasLevels, IsAfter, IsItsTurn, IsSameButTop, KeepsRoom, LivesOn, Snapshot, snapshot_of}
-use Rattle.hep_state.proofs.Beside.{beside-again, beside-with}
-use Rattle.hep_state.proofs.Unchanged.{machine-of, rooms-of}
-use Rattle.hep_advance.proofs.Onward.{more-made}
-use Rattle.hep_commit.specs.Levels.{snapshot_taken, start_in}
+use Rattle.hep_state.proofs.OtherProcesses.{beside-again, beside-with}
+use Rattle.hep_state.proofs.UnchangedStates.{machine-of, rooms-of}
+use Rattle.hep_advance.proofs.SilentTurns.{more-made}
+use Rattle.hep_commit.specs.SegmentStarts.{snapshot_taken, start_in}
 use Rattle.hep_commit.specs.OwnCells.{own_cells_of}
-use Rattle.hep_commit.specs.Saved.{SavedValue, snapshot_restored}
-use Rattle.hep_commit.specs.Taking.{CanTake, HasMadePrivate, HasRestored, HasTakenIn, IsNextPrivateIn, IsSavedOf}
-use Rattle.hep_commit.specs.Turning.{ArePrivateIn, IsAsBefore, IsEndBehind, IsMadeInPlace, IsMadeOfRecords, are_private}
-use Rattle.hep_commit.proofs.Behind.{AreAsBefore, few-operands, levels-left, levels-taken, private-taken, same-start, unit-left, unit-taken}
-use Rattle.hep_commit.proofs.Taken.{AreTurnsIn}
+use Rattle.hep_commit.specs.UndoLogs.{UndoLogValue, snapshot_restored}
+use Rattle.hep_commit.specs.Application.{CanTake, HasMadePrivate, HasRestored, HasTakenIn, IsNextPrivateIn, IsSavedOf}
+use Rattle.hep_commit.specs.TurnsInPlace.{ArePrivateIn, IsAsBefore, IsEndBehind, IsMadeInPlace, IsMadeOfRecords, are_private}
+use Rattle.hep_commit.proofs.AfterSegments.{AreAsBefore, few-operands, levels-left, levels-taken, private-taken, same-start, unit-left, unit-taken}
+use Rattle.hep_commit.proofs.AppliedSegments.{AreTurnsIn}
 
 -- ---- private steps were made
 
@@ -89,11 +89,11 @@ module _ (program : Units) (s : SegmentValue) (old mid : CoreState) (n : ℕ) (c
       unit-undone : (there : HasLevels (snapshot_of new) p) → there.level.unit ≡ levels.level.unit
       unit-undone there = unit-left program (levels-taken levels s) there but-top ∙ unit-taken levels s
 
-      module _ (saved : SavedValue) (is : IsSavedOf program p old saved) where
+      module _ (saved : UndoLogValue) (is : IsSavedOf program p old saved) where
         room-new : length saved.operands ≤ deepest (unit_code program turn-new.living.level.unit)
         room-new =
             let few = few-operands can.turn in
-            omega (arith, few, ap (λ (v : SavedValue). length v.operands) (is levels), ap (λ u. deepest (unit_code program u)) (unit-undone turn-new.living))
+            omega (arith, few, ap (λ (v : UndoLogValue). length v.operands) (is levels), ap (λ u. deepest (unit_code program u)) (unit-undone turn-new.living))
 
         module _ (law : AreAsBefore) (restored : CoreState) (put : HasRestored program p saved new restored) (rooms : KeepsRoom new restored) (same : restored.made ≡ new.made) where
           shown : snapshot_of restored ≡ snapshot_of old
@@ -117,7 +117,7 @@ module _ (program : Units) (s : SegmentValue) (old mid : CoreState) (n : ℕ) (c
 -- ---- by the process's own number
 
 -- what was kept of it, where no memory was refused
-pub kept-now : {A E : Type 0} (program : Units) (p : ℕ) (old new : CoreState) (saved : SavedValue) (r : Result A E) → false ≡ is_err r → OnOk r (IsSavedOf program p old saved) → new ≡ old → IsSavedOf program p new saved
+pub kept-now : {A E : Type 0} (program : Units) (p : ℕ) (old new : CoreState) (saved : UndoLogValue) (r : Result A E) → false ≡ is_err r → OnOk r (IsSavedOf program p old saved) → new ≡ old → IsSavedOf program p new saved
 kept-now program p old new saved (Ok x) given kept same = subst (λ m. IsSavedOf program p m saved) (sym same) kept
 kept-now program p old new saved (Err e) given kept same = absurd (true≢false (sym given))
 
@@ -187,7 +187,7 @@ module _ (program : Units) (p : ℕ) (old mid : CoreState) (n : ℕ) (made : Has
   lives-behind new lives =
       subst (λ k. LivesOn k 0 old new) its (lives-still program s old mid n can taken its-moves others new (subst (λ k. LivesOn k 0 mid new) (sym its) lives))
 
-  module _ (new : CoreState) (lives : LivesOn p 0 mid new) (still : MakesMoves program p mid 0 new) (top : IsSameButTop program p (snapshot_of mid) (snapshot_of new)) (saved : SavedValue) (is : IsSavedOf program p old saved) where
+  module _ (new : CoreState) (lives : LivesOn p 0 mid new) (still : MakesMoves program p mid 0 new) (top : IsSameButTop program p (snapshot_of mid) (snapshot_of new)) (saved : UndoLogValue) (is : IsSavedOf program p old saved) where
     abbrev its-lives : LivesOn s.id.process 0 mid new
     its-lives = subst (λ k. LivesOn k 0 mid new) (sym its) lives
 

@@ -6,21 +6,24 @@ use Rattle.hep_code.specs.Words.{deepest, most_operands}
 use Rattle.hep_image.specs.Arrays.{ArePlacedArrays}
 use Rattle.hep_image.specs.Image.{most_cells}
 use Rattle.hep_image.specs.Private.{private_cells}
-use Rattle.hep_step.specs.Performed.{snapshot}
-use Rattle.hep_step.specs.Ready.{frame_in_arena}
+use Rattle.hep_step.specs.PerformedSteps.{snapshot}
+use Rattle.hep_step.specs.StepReady.{frame_in_arena}
 use Rattle.hep_step.specs.Simulation.{unit_arrays, unit_code}
 use Rattle.hep_state.specs.Words.{IsAfter, IsTopRunning, IsTurning, TurnOf, snapshot_moved, top_frame}
-use Rattle.hep_state.proofs.Taken.{room-ahead}
-use Rattle.hep_step.specs.Moves.{Goes, settles, stays}
-use Rattle.hep_advance.specs.Gone.{HasGone}
-use Rattle.hep_advance.proofs.Turns.{HasLaws, can-go, come-so}
+use Rattle.hep_state.proofs.TakenTurns.{room-ahead}
+use Rattle.hep_step.specs.SilentSteps.{Goes, settles, stays}
+use Rattle.hep_advance.specs.SilentRuns.{HasGone}
+use Rattle.hep_advance.proofs.KeptTurns.{HasLaws, can-go, come-so}
 use Rattle.hep_private.specs.declared.record.Record.{Record}
-use Rattle.hep_private.specs.Own.{Own, pushed_ahead, settled, values_at}
-use Rattle.hep_private.specs.Recorded.{made_ahead, next_made, recorded}
-use Rattle.hep_commit.specs.Gone.{HaveGone, contents_with, own_of}
+use Rattle.hep_private.specs.OwnState.{OwnState, pushed_ahead, settled, values_at}
+use Rattle.hep_private.specs.StepRecords.{made_ahead, next_made, recorded}
+use Rattle.hep_commit.specs.PrivateTurns.{HaveGone, own_of}
 use Rattle.hep_commit.proofs.NextPrivate.{private-behind}
-use Rattle.hep_commit.proofs.Room.{all-in-room, fits-ahead, pushed-length, room-for}
-use Rattle.hep_commit.proofs.Runs.{gone-on, left-same, steps-are, turns-are, values-gone}
+use Rattle.hep_commit.proofs.OperandRoom.{all-in-room, fits-ahead, pushed-length}
+use Rattle.hep_commit.proofs.Runs.{gone-on, left-same, steps-are, values-gone}
+use Rattle.hep_advance.proofs.RunsToBreakpoint.{turns-are}
+use Rattle.hep_private.proofs.OperandRoom.{room-for}
+use Rattle.hep_private.specs.InPlace.{stored_with}
 
 -- what the laws say of all programs
 module _ (running : (t : TurnOf) → IsAccepted t.program → is_some (main_among t.program) ≡ true → (turning : IsTurning t) → IsTopRunning t turning)
@@ -33,13 +36,13 @@ module _ (running : (t : TurnOf) → IsAccepted t.program → is_some (main_amon
         few = few;
       }
 
-  pub turns-made : (t : TurnOf) (n : ℕ) (records : List Record) (end : Own) → IsAccepted t.program → is_some (main_among t.program) ≡ true → t.cells ≤ most_cells → IsTurning t
+  pub turns-made : (t : TurnOf) (n : ℕ) (records : List Record) (end : OwnState) → IsAccepted t.program → is_some (main_among t.program) ≡ true → t.cells ≤ most_cells → IsTurning t
       → recorded (private_cells (unit_at t.program t.level.unit)) (unit_code t.program t.level.unit) n (own_of t) ≡ Some (records, end) → HaveGone t n records end
   turns-made t n records end accepted main few turns is =
       let laws = known t accepted main few in
       let code = unit_code t.program t.level.unit in
       let here = snapshot t.machine.arena.contents t.operands t.level.index in
-      let there = snapshot (contents_with (top_frame t).first t.machine.arena.contents records) end.operands end.index in
+      let there = snapshot (stored_with (top_frame t).first t.machine.arena.contents records) end.operands end.index in
       let cells = private_cells (unit_at t.program t.level.unit) in
       let can = can-go t laws turns (deepest code) (omega arith) in
       let goes =

@@ -11,12 +11,12 @@ use Rattle.hep_code.specs.declared.instruction.Operation.{Operation}
 use Rattle.hep_code.specs.declared.variable.Variable.TheVariants.{Local}
 use Rattle.hep_code.specs.Words.{arity}
 use Rattle.hep_private.specs.declared.record.Record.{Record}
-use Rattle.hep_private.specs.Own.{Own, Values, count_in, increment_in, is_first, settled}
-use Rattle.hep_private.specs.Reads.{HasRead, HaveRead, WhereFirst}
-use Rattle.hep_private.specs.Recorded.{Made, made_ahead, made_of_value, own_after, recorded, value_of, value_read}
-use Rattle.hep_private.proofs.Along.{first-of, made-ahead}
-use Rattle.hep_private.proofs.Cases.{HoldOf, so-by}
-use Rattle.hep_commit.proofs.Ends.{HasEndAhead, HasEndIn}
+use Rattle.hep_private.specs.OwnState.{OwnState, Values, count_in, increment_in, is_first, settled}
+use Rattle.hep_private.specs.FirstReads.{HasRead, HaveRead, WhereFirst}
+use Rattle.hep_private.specs.StepRecords.{MadeStep, made_ahead, made_of_value, own_after, recorded, value_of, value_read}
+use Rattle.hep_private.proofs.StepRows.{first-of, made-ahead}
+use Rattle.hep_private.proofs.StepCases.{HoldOf, so-by}
+use Rattle.hep_commit.proofs.OwnLoops.{HasEndAhead, HasEndIn}
 
 -- these cells have the same values in both, and those of DOs the same counts and increments
 pub record AreAlike (cells : List ℕ) (IsLoop : ℕ → Type 0) (old new : Values) : Type 0 where
@@ -31,7 +31,7 @@ where-first false f h = tt
 module _ (cells : List ℕ) (IsLoop : ℕ → Type 0) (old new : Values) (alike : AreAlike cells IsLoop old new) where
   -- ---- one step
 
-  abbrev StillReads : Operation → Made → Type 0
+  abbrev StillReads : Operation → MadeStep → Type 0
   StillReads o m = HasEndIn IsLoop o → HasRead old m.noted → HasRead new m.noted
 
   -- a variable that is read has the cell of a private scalar
@@ -43,7 +43,7 @@ module _ (cells : List ℕ) (IsLoop : ℕ → Type 0) (old new : Values) (alike 
     by_test true f = refl
     by_test false f = absurd (none-some v f)
 
-  value-still : (own : Own) (e : Evaluation) (v : Value) → value_of cells own.values e (drop (length own.operands - arity e) own.operands) ≡ Some v → HasRead old (made_of_value own e v).noted → HasRead new (made_of_value own e v).noted
+  value-still : (own : OwnState) (e : Evaluation) (v : Value) → value_of cells own.values e (drop (length own.operands - arity e) own.operands) ≡ Some v → HasRead old (made_of_value own e v).noted → HasRead new (made_of_value own e v).noted
   value-still own (Load (Local asynchronous c) n) v value h =
       where-first (is_first own c) (λ is. alike.values c (among-read own.values asynchronous c (drop (length own.operands - n) own.operands) v value) ∙ is) h
   value-still own (Load x n) v value h = tt
@@ -53,7 +53,7 @@ module _ (cells : List ℕ) (IsLoop : ℕ → Type 0) (old new : Values) (alike 
   value-still own (Apply f n) v value h = tt
   value-still own (Test f x n) v value h = tt
 
-  all-still : (own : Own) (entries : List Instruction) → HoldOf cells own entries StillReads
+  all-still : (own : OwnState) (entries : List Instruction) → HoldOf cells own entries StillReads
   all-still own entries =
       record {
         values = λ e v value loops h. value-still own e v value h;
@@ -71,15 +71,15 @@ module _ (cells : List ℕ) (IsLoop : ℕ → Type 0) (old new : Values) (alike 
         branches = λ inside otherwise loops h. tt;
       }
 
-  still-ahead : (own : Own) (is : List Instruction) (m : Made) → HasEndAhead IsLoop is → made_ahead cells own is ≡ Some m → HasRead old m.noted → HasRead new m.noted
+  still-ahead : (own : OwnState) (is : List Instruction) (m : MadeStep) → HasEndAhead IsLoop is → made_ahead cells own is ≡ Some m → HasRead old m.noted → HasRead new m.noted
   still-ahead own (Step line o ∷ entries) m loops made = so-by cells own entries StillReads (all-still own entries) m o made loops
   still-ahead own _ m loops made = absurd (none-some m made)
 
   -- ---- all of them
 
   module _ (code : List Instruction) (loops : (i : ℕ) → HasEndAhead IsLoop (drop i code)) where
-    pub still-read : (n : ℕ) (own : Own) (records : List Record) (end : Own) → recorded cells code n own ≡ Some (records, end) → HaveRead old records → HaveRead new records
-    still-read zero own records end is h = subst (HaveRead new) (ap (λ (r : List Record × Own). r.0) (same_Some ([], own) (records, end) is)) tt
+    pub still-read : (n : ℕ) (own : OwnState) (records : List Record) (end : OwnState) → recorded cells code n own ≡ Some (records, end) → HaveRead old records → HaveRead new records
+    still-read zero own records end is h = subst (HaveRead new) (ap (λ (r : List Record × OwnState). r.0) (same_Some ([], own) (records, end) is)) tt
     still-read (suc n) own records end is h =
         let first = first-of cells code n own records end is in
         let made = made-ahead cells code own first.m first.next in

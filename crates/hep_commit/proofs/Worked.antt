@@ -6,11 +6,11 @@ use Rattle.hep_code.specs.declared.instruction.Instruction.{Instruction}
 use Rattle.hep_code.specs.declared.instruction.Instruction.TheVariants.{Push, Step}
 use Rattle.hep_code.specs.declared.instruction.Operation.TheVariants.{EnterLoop, EndLoop, Jump, Return}
 use Rattle.hep_code.specs.declared.variable.Variable.TheVariants.{Common, Local}
-use Rattle.hep_private.specs.Own.{values_at}
-use Rattle.hep_commit.specs.Fitting.{AreThere, slots_with}
-use Rattle.hep_commit.specs.Levels.{copies_of}
+use Rattle.hep_private.specs.OwnState.{values_at}
+use Rattle.hep_commit.specs.BatchStarts.{AreThere, slots_with}
+use Rattle.hep_commit.specs.SegmentStarts.{copies_of}
 use Rattle.hep_commit.specs.OwnCells.{own_cells_in}
-use Rattle.hep_commit.specs.Saved.{slots_of, with_slots}
+use Rattle.hep_commit.specs.UndoLogs.{slots_of, with_slots}
 
 -- two DOs, one in the other, of which the inner one has a variable in COMMON: its cells are own cells too
 abbrev loops : List Instruction

@@ -1,17 +1,18 @@
-pub use Rattle.hep_advance.specs.UnitTables
-pub use Rattle.hep_advance.specs.Gone as Going
+pub use Rattle.hep_advance.specs.BreakpointRows as AdvanceBreakpointRows
+pub use Rattle.hep_advance.specs.DecodedImages
+pub use Rattle.hep_advance.specs.SilentRuns as Going
 pub use Rattle.hep_private.specs.declared.ticket.TicketId
 pub use Rattle.hep_private.specs.Segments
 pub use Rattle.hep_private.specs.Batches
-pub mod Gone
-pub mod PutBack
-pub mod Scalars
-pub mod Beside
+pub mod PrivateTurns
+pub mod UndoneStores
+pub mod PrivateScalars
+pub mod OtherTurns
 pub mod OwnCells
-pub mod Levels
-pub mod Saved
-pub mod Tops
-pub mod Taking
-pub mod Turning
-pub mod Fitting
+pub mod SegmentStarts
+pub mod UndoLogs
+pub mod TopSegments
+pub mod Application
+pub mod TurnsInPlace
+pub mod BatchStarts
 pub mod Offers

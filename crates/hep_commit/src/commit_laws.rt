@@ -1,13 +1,13 @@
-//! Laws of tickets, of the steps of segments in a machine, and of what is put back.
+//! Laws of tickets, of the steps of segments in a machine, and of what is restored.
 ghost use Rattle.std.specs.Prelude.{◌≡◌, ℕ, List, drop};
 ghost use Rattle.hep_machine.specs.Words.{Units, Value};
 ghost use Rattle.hep_source.specs.declared.value.Value.{Value as AValue};
 ghost use Rattle.hep_private.specs.declared.ticket.TicketId.{TicketId as ATicketId};
 ghost use Rattle.hep_private.specs.Segments.{IsComputed, IsMadeFrom, SegmentValue, Start};
 ghost use Rattle.hep_state.specs.Words.{HasLevels, IsSameButTop, Snapshot};
-ghost use Rattle.hep_commit.specs.Levels.{snapshot_taken, start_in, ticket_of};
+ghost use Rattle.hep_commit.specs.SegmentStarts.{snapshot_taken, start_in, ticket_of};
 ghost use Rattle.hep_commit.specs.OwnCells.{own_cells_of};
-ghost use Rattle.hep_commit.specs.Saved.{saved_of, snapshot_restored};
+ghost use Rattle.hep_commit.specs.UndoLogs.{saved_of, snapshot_restored};
 
 /// A segment that is computed of a ticket with copies of all own cells has the steps that come next where the ticket is from.
 pub fn tickets_have_what_is_read()
@@ -17,8 +17,8 @@ pub fn tickets_have_what_is_read()
     hep_private::step_laws::private_steps_depend_on_reads();
 }
 
-/// Where the steps of a segment were made, and nothing else has changed since but the operands and the index of the process, what was kept of
-/// the process before, with all its own cells, gives back the whole machine once it is put back.
+/// Let the steps of a segment be made, and then nothing change but the operands and the index of the process. Then
+/// what was saved of the process before, with all its own cells, restores the whole machine.
 pub fn restored_machines_are_as_before()
     ensures { (program : Units) (m new : Snapshot) (p : ℕ) (s : SegmentValue) (levels : HasLevels m p) (after : HasLevels new p)
         → IsMadeFrom program (start_in levels) s → IsSameButTop program p (snapshot_taken levels s) new

@@ -1,46 +1,44 @@
-//! The commit of private steps: validated, applied and undone; that they are steps of the source machine, and non-interference.
+//! How private steps of a process that is out are committed in the machine of a core (docs/MACHINE.md, "Private
+//! steps" and "Workers").
 //!
-//! Private steps in a run: that they are steps of the source machine, and what they leave.
+//! - [`start`] makes a ticket of a process. [`comes_next`] checks that the steps of a worker's segment or batch are
+//!   the ones that come next, and [`take_private`] makes them at once.
+//! - [`turn_in_place`] and [`run_in_place`] make private steps without a ticket, in the cells of the frame.
+//! - [`UndoLog`] keeps the own cells of a process and puts them back where a turn is refused after its private steps.
 //!
-//! Each function of [`noninterference`] is a law and has no work to do: what is proved is its contract.
-//!
-//! Private steps of a process that is out, in the machine of a core.
-//!
-//! A ticket is made of where a process is ([`start`]). Once a worker has made a segment of it (`hep_private`), or a batch (`hep_private`),
-//! it is looked whether these steps are those that come next ([`comes_next`]), and they are made at once ([`take_private`]). Without a ticket
-//! they are made in the cells of the process's frame ([`make_private`]). What the process has for itself can be kept before that, and put
-//! back ([`Saved`]). A turn in place does all of this ([`turn_in_place`]): such steps and the step behind them are made, or all is as it was.
-//! So does a run in place ([`run_in_place`]), of as many private steps as are asked for.
+//! The functions of [`noninterference`] and of `commit_laws` do nothing: each contract is a law. They say that
+//! private steps are steps of the source machine, and that other processes neither see nor disturb them.
 #![tactic(auto)]
 
-mod checking;
+mod application;
+mod batch_stores;
+mod batch_validation;
 pub mod commit_laws;
-mod fitting;
 pub mod noninterference;
 mod offer;
 mod operands;
 mod own_cells;
-mod saving;
 mod slots;
-mod starting;
-mod storing;
-mod taking;
-mod top;
-mod turning;
+mod ticket_start;
+mod top_activation;
+mod turns_in_place;
+mod undo_log;
+mod validation;
 
-pub use checking::{comes_next, is_next_private};
+pub use application::{make_private, take_private};
 pub use hep_advance::{
-    CoreState, DecodedImage, Table, go_on, place, rests, tables_of, turn_by_table,
+    Breakpoints, CoreState, DecodedCode, DecodedImage, go_on, pass_on, place, rests,
+    stands_watched, tables_of, turn_by_table,
 };
 pub use hep_private::step_laws::private_steps_depend_on_reads;
 pub use hep_private::{
-    Ahead, Image, MOST_RECORDS, Record, Segment, Ticket, TicketId, UnitCode, compute,
+    Image, MOST_RECORDS, PrivateImage, Record, Segment, Ticket, TicketId, UnitCode, compute,
     segments_depend_on_reads,
 };
 pub use noninterference::{others_leave_what_is_read, private_steps_are_turns};
 pub use offer::Offer;
-pub use own_cells::{OwnCells, Owned, own_cells_of};
-pub use saving::Saved;
-pub use starting::start;
-pub use taking::{make_private, take_private};
-pub use turning::{PreparedProgram, run_in_place, stands_alone, turn_in_place};
+pub use own_cells::{OwnCellTable, OwnCells, own_cells_of};
+pub use ticket_start::start;
+pub use turns_in_place::{PreparedProgram, run_in_place, stands_alone, turn_in_place};
+pub use undo_log::UndoLog;
+pub use validation::{comes_next, is_next_private};

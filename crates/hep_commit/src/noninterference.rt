@@ -10,18 +10,19 @@ ghost use Rattle.hep_code.specs.Words.{deepest, most_operands};
 ghost use Rattle.hep_image.specs.Image.{most_cells};
 ghost use Rattle.hep_image.specs.Private.{private_cells};
 ghost use Rattle.hep_step.specs.Simulation.{unit_code};
-ghost use Rattle.hep_blocked.specs.Listing.{AreListed};
+ghost use Rattle.hep_blocked.specs.RosterUpdates.{AreListed};
 ghost use Rattle.hep_state.specs.Words.{IsTurning, Snapshot, TurnOf};
 ghost use Rattle.hep_private.specs.declared.record.Record.{Record as ARecord};
-ghost use Rattle.hep_private.specs.Own.{Own, settled};
-ghost use Rattle.hep_private.specs.Reads.{HaveRead};
-ghost use Rattle.hep_private.specs.Recorded.{made_ahead, next_made, recorded};
-ghost use Rattle.hep_commit.specs.PutBack.{AreOf, HasLoopAhead, put_back};
-ghost use Rattle.hep_commit.specs.Beside.{IsBeside, values_beside};
-ghost use Rattle.hep_commit.specs.Gone.{HaveGone, contents_with, own_of};
-ghost use Rattle.hep_commit.specs.Scalars.{is_private_at, is_private_scalar};
+ghost use Rattle.hep_private.specs.OwnState.{OwnState, settled};
+ghost use Rattle.hep_private.specs.FirstReads.{HaveRead};
+ghost use Rattle.hep_private.specs.StepRecords.{made_ahead, next_made, recorded};
+ghost use Rattle.hep_commit.specs.UndoneStores.{AreOf, HasLoopAhead, put_back};
+ghost use Rattle.hep_commit.specs.OtherTurns.{IsBeside, values_beside};
+ghost use Rattle.hep_commit.specs.PrivateTurns.{HaveGone, own_of};
+ghost use Rattle.hep_commit.specs.PrivateScalars.{is_private_at, is_private_scalar};
+ghost use Rattle.hep_private.specs.InPlace.{stored_with};
 
-/// In a run no dummy argument stands for a private scalar (X3.9-1978, 15.9.3).
+/// In a run no dummy argument is associated with a private scalar (X3.9-1978, 15.9.3).
 pub fn private_scalars_are_unshared()
     ensures { (program : Units) (choices : List ℕ) (a k : ℕ)
         → is_private_at program (run program choices) (dummy_at (activation_of (run program choices) a).dummies k).start ≡ false }
@@ -30,8 +31,8 @@ pub fn private_scalars_are_unshared()
     hep_advance::references_come_from_statements();
 }
 
-/// A step leaves the private scalars of each activation but its own as they were; so those of the top activation of each other process that
-/// lives, and that process's stack.
+/// A step changes no private scalar of any activation but its own. So the top activation of every other living
+/// process keeps its private scalars, and the process keeps its stack.
 pub fn others_leave_private_scalars()
     ensures scalars { (program : Units) (choices : List ℕ) (p : ℕ) (top : Level × Process) (t : State) (a : ℕ) (x : Name) (i : ℕ)
         → step program p (run program choices) ≡ Some t → living (run program choices) p ≡ Some top
@@ -48,9 +49,10 @@ pub fn others_leave_private_scalars()
     hep_advance::references_come_from_statements();
 }
 
-/// What the next private steps of a process read in its frame is there still once others had turns, if it stands where it stood.
+/// After turns of other processes the frame of a process still has what its next private steps read, if the process
+/// hasn't moved.
 pub fn others_leave_what_is_read()
-    ensures { (t : TurnOf) (others : List ℕ) (m : Snapshot) (n : ℕ) (records : List ARecord) (end : Own) → IsTurning t
+    ensures { (t : TurnOf) (others : List ℕ) (m : Snapshot) (n : ℕ) (records : List ARecord) (end : OwnState) → IsTurning t
         → IsBeside t others m
         → recorded (private_cells (unit_at t.program t.level.unit)) (unit_code t.program t.level.unit) n (own_of t) ≡ Some (records, end)
         → HaveRead (values_beside t m) records }
@@ -60,10 +62,10 @@ pub fn others_leave_what_is_read()
     hep_private::step_laws::private_steps_depend_on_reads();
 }
 
-/// So many private steps, one after the other, are so many turns of the process. Each is a step of the source machine that fills and
-/// empties no storage unit, and makes and ends nothing.
+/// n private steps in a row are n turns of the process. Each is a step of the source machine that fills and empties
+/// no storage unit, and makes and ends no process or activation.
 pub fn private_steps_are_turns()
-    ensures { (t : TurnOf) (n : ℕ) (records : List ARecord) (end : Own) → IsAccepted t.program → is_some (main_among t.program) ≡ true
+    ensures { (t : TurnOf) (n : ℕ) (records : List ARecord) (end : OwnState) → IsAccepted t.program → is_some (main_among t.program) ≡ true
         → t.cells ≤ most_cells → IsTurning t
         → recorded (private_cells (unit_at t.program t.level.unit)) (unit_code t.program t.level.unit) n (own_of t) ≡ Some (records, end)
         → HaveGone t n records end }
@@ -71,8 +73,8 @@ pub fn private_steps_are_turns()
     hep_advance::tops_are_running();
 }
 
-/// None of them is left out for want of room: where the code of a unit needs no more operands than there are in an image, the next step is what
-/// the operation ahead makes, once constants are operands.
+/// No private step fails for want of room. Where the code of a unit needs no more operands than an image has, the
+/// next step is that of the next operation, after the leading constants are pushed.
 pub fn private_steps_have_room()
     ensures { (t : TurnOf) → IsAccepted t.program → is_some (main_among t.program) ≡ true → t.cells ≤ most_cells → IsTurning t
         → deepest (unit_code t.program t.level.unit) ≤ most_operands
@@ -83,9 +85,9 @@ pub fn private_steps_have_room()
     hep_advance::tops_are_running();
 }
 
-/// They leave the lists: who waits and who is ready stays as it was.
+/// Private steps leave the lists of waiting and of ready processes as they were.
 pub fn private_steps_leave_lists()
-    ensures { (t : TurnOf) (n : ℕ) (records : List ARecord) (end : Own) (x : Progress) (waits : ℕ → Option AWant) (ready : List ℕ)
+    ensures { (t : TurnOf) (n : ℕ) (records : List ARecord) (end : OwnState) (x : Progress) (waits : ℕ → Option AWant) (ready : List ℕ)
         → IsAccepted t.program → is_some (main_among t.program) ≡ true → t.cells ≤ most_cells → IsTurning t
         → recorded (private_cells (unit_at t.program t.level.unit)) (unit_code t.program t.level.unit) n (own_of t) ≡ Some (records, end)
         → AreListed t.program t.cells t.choices x waits ready
@@ -95,15 +97,15 @@ pub fn private_steps_leave_lists()
     hep_advance::lists_go_along_with_steps();
 }
 
-/// They store in the private scalars of the unit and in the cells of its DOs alone.
+/// Private steps store only in the private scalars of the unit and in the cells of its DOs.
 pub fn private_steps_store_in_own_cells()
-    ensures { (cells all : List ℕ) (code : List AnInstruction) (n : ℕ) (own : Own) (records : List ARecord) (end : Own)
+    ensures { (cells all : List ℕ) (code : List AnInstruction) (n : ℕ) (own : OwnState) (records : List ARecord) (end : OwnState)
         → ((c : ℕ) → is_number_among c cells ≡ true → is_number_among c all ≡ true) → ((i : ℕ) → HasLoopAhead all (drop i code))
         → recorded cells code n own ≡ Some (records, end) → AreOf all records }
 {}
 
-/// To put back what stood in these cells undoes all that was stored in them alone.
+/// Cells that are put back undo all stores that were made in them alone.
 pub fn saved_cells_undo_stores()
     ensures { (first : ℕ) (contents : List ASlot) (cells : List ℕ) (records : List ARecord) → AreOf cells records
-        → put_back first cells contents (contents_with first contents records) ≡ contents }
+        → put_back first cells contents (stored_with first contents records) ≡ contents }
 {}

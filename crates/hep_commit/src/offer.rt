@@ -1,31 +1,32 @@
-//! What is committed: a segment, or a batch.
+//! Offers: a segment or a batch that a worker offers for a commit.
 ghost use Rattle.std.specs.Prelude.{◌≡◌, ◌≤◌, ◌<◌, ◌↔◌, IsTrue, length};
 ghost use Rattle.hep_machine.specs.Words.{Units};
-ghost use Rattle.hep_commit.specs.Gone.{contents_with};
-ghost use Rattle.hep_private.specs.Places.{start_at};
+ghost use Rattle.hep_private.specs.ActivationPlaces.{start_at};
 ghost use Rattle.hep_private.specs.Segments.{IsMadeFrom, most_records};
 ghost use Rattle.hep_commit.specs.Offers.{IsKnownOffer, offered};
 ghost use Rattle.hep_commit.specs.OwnCells.{AreOwnCells};
+ghost use Rattle.hep_private.specs.InPlace.{stored_with};
 
-use crate::fitting;
-use crate::own_cells::Owned;
+use crate::batch_stores::store_over;
+use crate::batch_validation;
+use crate::own_cells::OwnCellTable;
 use crate::slots::apply_over;
-use crate::storing::store_over;
 use hep_arena::Arena;
-use hep_private::{Batch, Place, Segment, TicketId};
+use hep_private::{ActivationPlace, Batch, Segment, TicketId};
 use hep_source::Value;
 
-/// What is committed. Contracts see the segment that it is: of a batch that is the one with the records of its steps.
+/// A segment or a batch to be committed. Contracts see a segment: that of a batch has the records of the batch's
+/// steps.
 #[derive(Clone, Copy)]
 pub enum Offer<'a> {
-    /// A segment, which may be known to be made by the program of the core.
+    /// A segment. `known` says that the program of the core is known to have made it.
     Recorded { segment: &'a Segment, known: bool },
-    /// A batch, which is known to be made by it.
+    /// A batch. The program of the core is known to have made it.
     Made { batch: &'a Batch },
 }
 
 impl Offer<'_> {
-    /// Which ticket it is made of.
+    /// The ticket that it is made of.
     pub fn ticket(&self) -> TicketId
         ensures { (program : Units) → result ≡ (offered program self.now).id }
     {
@@ -35,7 +36,7 @@ impl Offer<'_> {
         }
     }
 
-    /// How many steps it has.
+    /// The number of its steps, 1,023 at most.
     pub fn steps(&self) -> u32
         ensures count { (program : Units) → IsKnownOffer program self.now → result ≡ length (offered program self.now).records }
         ensures few { result ≤ most_records }
@@ -46,7 +47,7 @@ impl Offer<'_> {
         }
     }
 
-    // Where the activation is then.
+    // The activation's index after the steps.
     pub(crate) fn end_index(&self) -> usize
         ensures { (program : Units) → result ≡ (offered program self.now).end_index }
     {
@@ -56,7 +57,7 @@ impl Offer<'_> {
         }
     }
 
-    // The operands that it has there.
+    // The activation's operands after the steps.
     pub(crate) fn end_operands(&self) -> &[Value]
         ensures { (program : Units) → result.now ≡ (offered program self.now).end_operands }
     {
@@ -66,8 +67,8 @@ impl Offer<'_> {
         }
     }
 
-    // Its steps are the private ones that come next from here.
-    pub(crate) fn is_next(&self, place: &Place<'_>, owned: &Owned<'_>) -> bool
+    // Whether its steps are the private ones that come next from here.
+    pub(crate) fn is_next(&self, place: &ActivationPlace<'_>, owned: &OwnCellTable<'_>) -> bool
         requires tables { AreOwnCells owned.now.image.now owned.now.tables.now }
         requires inside { place.now.unit < length owned.now.image.now }
         requires known { IsKnownOffer owned.now.image.now self.now }
@@ -77,21 +78,21 @@ impl Offer<'_> {
             Offer::Recorded {
                 segment,
                 known: true,
-            } => fitting::is_known_next(place, owned.image, segment),
+            } => batch_validation::is_known_next(place, owned.image, segment),
             Offer::Recorded {
                 segment,
                 known: false,
             } => hep_private::is_made(owned.image, place, segment),
-            Offer::Made { batch } => fitting::is_next(place, owned, batch),
+            Offer::Made { batch } => batch_validation::is_next(place, owned, batch),
         }
     }
 
-    // What its steps stored, where the frame begins at a cell of an arena.
-    pub(crate) fn store_over(&self, arena: &mut Arena, first: u32, owned: &Owned<'_>)
+    // Stores what its steps stored, in a frame that begins at `first` in an arena.
+    pub(crate) fn store_over(&self, arena: &mut Arena, first: u32, owned: &OwnCellTable<'_>)
         requires tables { AreOwnCells owned.now.image.now owned.now.tables.now }
         requires inside { (offered owned.now.image.now self.now).unit < length owned.now.image.now }
         requires known { IsKnownOffer owned.now.image.now self.now }
-        ensures contents { arena.new.contents ≡ contents_with first arena.old.contents (offered owned.now.image.now self.now).records }
+        ensures contents { arena.new.contents ≡ stored_with first arena.old.contents (offered owned.now.image.now self.now).records }
         ensures holes { arena.new.holes ≡ arena.old.holes }
     {
         match self {

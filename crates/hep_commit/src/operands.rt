@@ -1,23 +1,8 @@
 //! Operands in vectors.
-ghost use Rattle.std.specs.Prelude.{◌≡◌, ◌≤◌, ◌↔◌, IsTrue, OnOk, length, vec_capacity};
+ghost use Rattle.std.specs.Prelude.{◌≡◌, ◌≤◌, OnOk, length, vec_capacity};
 
 use hep_source::Value;
 use std::alloc::AllocError;
-
-/// Two lists of values are one.
-pub(crate) fn same_operands(a: &[Value], b: &[Value]) -> bool
-    ensures { IsTrue result ↔ (a.now ≡ b.now) }
-{
-    if a.len() != b.len() {
-        return false;
-    }
-    for i in 0..a.len() {
-        if a[i] != b[i] {
-            return false;
-        }
-    }
-    true
-}
 
 /// These values in the place of others.
 pub(crate) fn keep_operands(kept: &mut Vec<Value>, values: &[Value]) -> Result<(), AllocError>
@@ -28,7 +13,7 @@ pub(crate) fn keep_operands(kept: &mut Vec<Value>, values: &[Value]) -> Result<(
     Ok(())
 }
 
-/// These values in the place of others, for which there is room.
+/// Replaces a vector's values by these, for which it has room.
 pub(crate) fn refill(operands: &mut Vec<Value>, values: &[Value])
     requires { length values.now ≤ vec_capacity operands.old }
     ensures values { operands.new.items ≡ values.now }

@@ -1,46 +1,34 @@
-//! The cells that an activation has for itself: those of its unit's private scalars, and of its DOs.
+//! Own cells of an activation: those of its unit's private scalars, and of its DOs.
 ghost use Rattle.std.specs.Prelude.{◌≡◌, ◌<◌, ◌++◌, IfOk, None, Some, OnOk, length};
 ghost use Rattle.hep_commit.specs.OwnCells as spec;
 ghost use Rattle.hep_commit.specs.OwnCells.{AreOwnCells, cells_of_loop, last_loop, loop_cells_behind, own_cells_in};
+ghost use Rattle.hep_private.specs.PrivateCode.{loop_at};
 
-use hep_code::{Instruction, Operation};
-use hep_private::{Image, UnitCode};
+use hep_code::Instruction;
+use hep_private::{Image, UnitCode, loop_at};
 use std::alloc::{AllocError, Global};
 
-/// The cells of one unit, counted from the first one of its frame.
+/// The own cells of one unit, counted from the first one of its frame.
 #[derive(Drop)]
 pub struct OwnCells {
     pub cells: Vec<usize>,
 }
 
-/// An image, and the cells of each of its units.
+/// An image, and the own cells of each of its units.
 #[derive(Clone, Copy)]
-pub struct Owned<'a> {
+pub struct OwnCellTable<'a> {
     pub image: &'a Image,
     pub tables: &'a [OwnCells],
 }
 
-impl Owned<'_> {
-    /// The cells of a unit, by its index in the source, counted from 0.
+impl OwnCellTable<'_> {
+    /// The own cells of a unit. Units are counted from 0 in the order of the source.
     pub fn cells(&self, unit: usize) -> &[usize]
         requires tables { AreOwnCells self.now.image.now self.now.tables.now }
         requires inside { unit < length self.now.image.now }
         ensures { result.now ≡ spec.own_cells_of self.now.image.now unit }
     {
         &self.tables[unit].cells
-    }
-}
-
-// The first of the two cells of a DO, where an instruction enters it or ends an iteration.
-fn loop_at(instruction: &Instruction) -> Option<u32>
-    ensures { result ≡ spec.loop_at instruction.now }
-{
-    match instruction {
-        Instruction::Step {
-            operation: Operation::EnterLoop { cells, .. } | Operation::EndLoop { cells, .. },
-            ..
-        } => Some(*cells),
-        _ => None,
     }
 }
 
@@ -57,14 +45,15 @@ fn add_loop(cells: &mut Vec<usize>, last: Option<u32>, found: u32) -> Result<(),
     Ok(())
 }
 
-// Those of the DO that an instruction enters or of which it ends an iteration, behind an operation of this one. Answers the last one then.
+// Appends the cells of the DO that an instruction enters or ends an iteration of, unless it is the last one that was
+// appended. Returns the last one then.
 fn add_instruction(
     cells: &mut Vec<usize>,
     last: Option<u32>,
     instruction: &Instruction,
 ) -> Result<Option<u32>, AllocError>
-    ensures cells { OnOk result (cells.new.items ≡ cells.old.items ++ cells_of_loop last (spec.loop_at instruction.now)) }
-    ensures last { IfOk result (λ after. after ≡ last_loop last (spec.loop_at instruction.now)) }
+    ensures cells { OnOk result (cells.new.items ≡ cells.old.items ++ cells_of_loop last (loop_at instruction.now)) }
+    ensures last { IfOk result (λ after. after ≡ last_loop last (loop_at instruction.now)) }
 {
     match loop_at(instruction) {
         Some(found) => {
@@ -103,7 +92,7 @@ fn cells_of(alloc: Global, unit: &UnitCode) -> Result<OwnCells, AllocError>
     Ok(OwnCells { cells })
 }
 
-/// The cells of each unit of an image, in the order of the source.
+/// The own cells of each unit of an image, in the order of the source.
 ///
 /// # Errors
 ///

@@ -1,22 +1,22 @@
-//! Slots of the arena, and what private steps store in them.
+//! Slots of the arena, and the stores of private steps in them.
 ghost use Rattle.std.specs.Prelude.{◌≡◌, ◌<◌, ◌+◌, ◌++◌, ◌^◌, OnOk, pos, slice_set};
 ghost use Rattle.hep_machine.specs.Words.{natural};
-ghost use Rattle.hep_image.specs.Finding.{cells_in};
+ghost use Rattle.hep_image.specs.Addressing.{cells_in};
 ghost use Rattle.hep_layout.specs.Words.{number};
-ghost use Rattle.hep_private.specs.Own.{contents_after, values_at};
-ghost use Rattle.hep_commit.specs.Gone.{contents_with};
+ghost use Rattle.hep_private.specs.OwnState.{contents_after, values_at};
 ghost use Rattle.hep_step.specs.Effects.{with_counts, with_value_at};
-ghost use Rattle.hep_commit.specs.Fitting.{slots_with};
-ghost use Rattle.hep_commit.specs.Levels.{copies_of};
-ghost use Rattle.hep_commit.specs.Saved.{slots_of, with_slots};
+ghost use Rattle.hep_commit.specs.BatchStarts.{slots_with};
+ghost use Rattle.hep_commit.specs.SegmentStarts.{copies_of};
+ghost use Rattle.hep_commit.specs.UndoLogs.{slots_of, with_slots};
+ghost use Rattle.hep_private.specs.InPlace.{stored_with};
 
 use hep_arena::{Arena, Cell};
 use hep_machine::Slot;
-use hep_private::{Copied, Record};
+use hep_private::{CellCopy, Record};
 use hep_source::Value;
 use std::alloc::AllocError;
 
-// A cell has this value. Whether it is full stays.
+// Gives a cell a value. Whether it is full doesn't change.
 fn store(slots: &mut [Cell], at: usize, value: Value)
     ensures { slots.new ≡ with_value_at slots.old at value }
 {
@@ -33,7 +33,7 @@ fn put(slots: &mut [Cell], at: usize, slot: Slot)
     }
 }
 
-// A cell of a DO has this number.
+// Gives a cell of a DO a number.
 fn put_number(slots: &mut [Cell], at: usize, integer: i64)
     ensures { slots.new ≡ slice_set slots.old at (number integer) }
 {
@@ -47,7 +47,7 @@ fn put_number(slots: &mut [Cell], at: usize, integer: i64)
     );
 }
 
-// The cells of a DO, of which this is the first one, have the iterations that are left and the increment.
+// Gives the two cells of a DO, from the first one, the number of iterations left and the increment.
 fn put_counts(slots: &mut [Cell], at: usize, count: i64, increment: i64)
     requires count { pos (natural count) ≡ count }
     requires few { at + 1 < 2 ^ 64 }
@@ -57,7 +57,7 @@ fn put_counts(slots: &mut [Cell], at: usize, count: i64, increment: i64)
     put_number(slots, at + 1, increment);
 }
 
-// What a step stored, where the frame begins at a cell.
+// Stores what a step stored, in a frame that begins at `first`.
 fn apply(slots: &mut [Cell], first: u32, note: Record)
     ensures { slots.new ≡ contents_after first slots.old note }
 {
@@ -90,16 +90,16 @@ fn apply(slots: &mut [Cell], first: u32, note: Record)
     }
 }
 
-// What steps stored, one after the other.
+// Stores what steps stored, one after another.
 fn apply_all(slots: &mut [Cell], first: u32, records: &[Record])
-    ensures { slots.new ≡ contents_with first slots.old records.now }
+    ensures { slots.new ≡ stored_with first slots.old records.now }
 {
     for note in records {
         apply(slots, first, *note);
     }
 }
 
-/// The slot of a cell of a frame; past the last one nothing was ever stored.
+/// The slot of a cell of a frame. A cell past the end of the slots has no value and isn't full.
 #[inline(always)]
 pub(crate) fn slot_at(slots: &[Cell], first: u32, cell: usize) -> Slot
     ensures { result ≡ cells_in slots.now (first + cell) }
@@ -117,9 +117,9 @@ pub(crate) fn slot_at(slots: &[Cell], first: u32, cell: usize) -> Slot
     }
 }
 
-// Copies of these cells of a frame behind others.
+// Appends copies of these cells of a frame.
 fn copy_cells(
-    copies: &mut Vec<Copied>,
+    copies: &mut Vec<CellCopy>,
     slots: &[Cell],
     first: u32,
     cells: &[usize],
@@ -128,12 +128,12 @@ fn copy_cells(
 {
     for cell in cells {
         let value = slot_at(slots, first, *cell).value;
-        copies.push(Copied { cell: *cell, value })?;
+        copies.push(CellCopy { cell: *cell, value })?;
     }
     Ok(())
 }
 
-// The slots of these cells of a frame behind others.
+// Appends the slots of these cells of a frame.
 fn copy_slots(
     kept: &mut Vec<Slot>,
     slots: &[Cell],
@@ -148,7 +148,7 @@ fn copy_slots(
     Ok(())
 }
 
-// A cell of a frame gets this slot.
+// Gives a cell of a frame a slot.
 fn put_cell(slots: &mut [Cell], first: u32, cell: usize, slot: Slot)
     ensures { slots.new ≡ slice_set slots.old (first + cell) slot }
 {
@@ -157,7 +157,7 @@ fn put_cell(slots: &mut [Cell], first: u32, cell: usize, slot: Slot)
     }
 }
 
-// Cells of a frame get these slots.
+// Gives cells of a frame these slots.
 #[tactic(auto, using(hep_source::proofs::Tests::drop_at))]
 fn put_slots(slots: &mut [Cell], first: u32, cells: &[usize], kept: &[Slot])
     ensures { slots.new ≡ with_slots first cells.now kept.now slots.old }
@@ -172,7 +172,7 @@ fn put_slots(slots: &mut [Cell], first: u32, cells: &[usize], kept: &[Slot])
     }
 }
 
-// Cells of a frame get the values of their copies, and aren't full.
+// Gives cells of a frame the values of their copies. They aren't full then.
 fn put_values(slots: &mut [Cell], first: u32, cells: &[usize], copies: &[Cell])
     ensures { slots.new ≡ with_slots first cells.now (slots_with (values_at copies.now 0) cells.now) slots.old }
 {
@@ -182,15 +182,15 @@ fn put_values(slots: &mut [Cell], first: u32, cells: &[usize], copies: &[Cell])
     }
 }
 
-/// What steps stored, where the frame begins at a cell of an arena.
+/// Stores what steps stored, in a frame that begins at `first` in an arena.
 pub(crate) fn apply_over(arena: &mut Arena, first: u32, records: &[Record])
-    ensures contents { arena.new.contents ≡ contents_with first arena.old.contents records.now }
+    ensures contents { arena.new.contents ≡ stored_with first arena.old.contents records.now }
     ensures holes { arena.new.holes ≡ arena.old.holes }
 {
     apply_all(arena.slots_mut(), first, records);
 }
 
-/// Cells of a frame get these slots, where it begins at a cell of an arena.
+/// Gives cells of a frame these slots. The frame begins at `first` in an arena.
 pub(crate) fn put_over(arena: &mut Arena, first: u32, cells: &[usize], kept: &[Slot])
     ensures contents { arena.new.contents ≡ with_slots first cells.now kept.now arena.old.contents }
     ensures holes { arena.new.holes ≡ arena.old.holes }
@@ -198,7 +198,7 @@ pub(crate) fn put_over(arena: &mut Arena, first: u32, cells: &[usize], kept: &[S
     put_slots(arena.slots_mut(), first, cells, kept);
 }
 
-/// Cells of a frame get the values of their copies, and aren't full, where it begins at a cell of an arena.
+/// Gives cells of a frame the values of their copies. They aren't full then. The frame begins at `first` in an arena.
 pub(crate) fn put_values_over(arena: &mut Arena, first: u32, cells: &[usize], copies: &[Cell])
     ensures contents { arena.new.contents ≡ with_slots first cells.now (slots_with (values_at copies.now 0) cells.now) arena.old.contents }
     ensures holes { arena.new.holes ≡ arena.old.holes }
@@ -206,9 +206,9 @@ pub(crate) fn put_values_over(arena: &mut Arena, first: u32, cells: &[usize], co
     put_values(arena.slots_mut(), first, cells, copies);
 }
 
-/// Copies of these cells of a frame, in the place of others.
+/// Replaces the copies by copies of these cells of a frame.
 pub(crate) fn keep_copies(
-    copies: &mut Vec<Copied>,
+    copies: &mut Vec<CellCopy>,
     slots: &[Cell],
     first: u32,
     cells: &[usize],
@@ -219,7 +219,7 @@ pub(crate) fn keep_copies(
     copy_cells(copies, slots, first, cells)
 }
 
-/// The slots of these cells of a frame, in the place of others.
+/// Replaces the kept slots by those of these cells of a frame.
 pub(crate) fn keep_slots(
     kept: &mut Vec<Slot>,
     slots: &[Cell],

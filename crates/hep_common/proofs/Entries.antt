@@ -21,7 +21,8 @@ cells-append unit b [] fs = ahead-of-none (cells_in_block unit b fs)
 cells-append unit b (e ∷ es) fs =
     grouped (if same_block e.block b then cells_of_entry unit e else 0) (cells_in_block unit b es) (cells_in_block unit b fs) (cells_in_block unit b (es ++ fs)) (cells-append unit b es fs)
 
-all-append : (unit : List Statement) (xs ys : List Name) → cells_of_all unit (xs ++ ys) ≡ cells_of_all unit xs + cells_of_all unit ys
+-- the cells of two lists of names are those of the first and those of the second
+pub all-append : (unit : List Statement) (xs ys : List Name) → cells_of_all unit (xs ++ ys) ≡ cells_of_all unit xs + cells_of_all unit ys
 all-append unit [] ys = ahead-of-none (cells_of_all unit ys)
 all-append unit (x ∷ xs) ys = grouped (cells_of unit x) (cells_of_all unit xs) (cells_of_all unit ys) (cells_of_all unit (xs ++ ys)) (all-append unit xs ys)
 

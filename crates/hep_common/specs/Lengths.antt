@@ -6,12 +6,12 @@ use Rattle.hep_machine.specs.Words.{CommonBlock, Declarator, Statement, Units, c
 use Rattle.hep_common.specs.declared.common.CommonItem.{CommonItem}
 use Rattle.hep_common.specs.declared.common.Length.{Length}
 
--- ---- what the COMMON statements of a unit say, in order
+-- ---- the entries of the COMMON statements of a unit, in order
 
 abbrev pub entry_of : BlockName → Declarator → CommonItem
 entry_of b d = record { block = b; name = Some d.occurrence.name }
 
--- the names of a list, or only its block where there are none
+-- the entries of a list: its names, or only its block where there are none
 abbrev pub entries_listed : BlockName → List Declarator → List CommonItem
 entries_listed b [] = record { block = b; name = None } ∷ []
 entries_listed b (d ∷ ds) = map (entry_of b) (d ∷ ds)
@@ -25,7 +25,7 @@ entries_in_lists cs = flat_map entries_in_list cs
 abbrev pub entries_of : List Statement → List CommonItem
 entries_of unit = entries_in_lists (blocks_of_unit unit)
 
--- what those of all units say
+-- the entries of all units
 abbrev pub entries_of_program : Units → List CommonItem
 entries_of_program program = flat_map entries_of program
 
@@ -48,7 +48,7 @@ with_blocks_of bs (e ∷ es) = with_blocks_of (with_block bs e.block) es
 
 -- ---- lengths
 
--- the cells of a block in the unit of a number, as far as it was read
+-- the number of cells of a block in the unit with this index, as far as it was read
 abbrev pub cells_so_far : ℕ → Option Length → ℕ
 cells_so_far number None = 0
 cells_so_far number (Some l) = if nat_eq l.unit number then l.cells else 0
@@ -58,15 +58,15 @@ abbrev pub greatest_length : Option Length → ℕ
 greatest_length None = 0
 greatest_length (Some l) = l.greatest
 
--- the length of a block with so many cells more in a unit
+-- the length of a block with n more cells in a unit
 abbrev pub lengthened : Option Length → ℕ → ℕ → Length
 lengthened before number n =
     record { greatest = max (greatest_length before) (cells_so_far number before + n); unit = number; cells = cells_so_far number before + n }
 
--- each block with a length is one of these
+-- Each block with a length is one of these.
 abbrev pub AreKept : List BlockName → (BlockName → Option Length) → Type 0
 AreKept bs lengths = (b : BlockName) → is_some (lengths b) ≡ true → is_block_among b bs ≡ true
 
--- nothing was read of this unit or a later one
+-- No entry of this unit or a later one was read.
 abbrev pub IsUnread : ℕ → (BlockName → Option Length) → Type 0
 IsUnread number lengths = (b : BlockName) (v : ℕ) → number ≤ v → cells_so_far v (lengths b) ≡ 0

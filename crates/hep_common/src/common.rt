@@ -11,34 +11,34 @@ ghost use Rattle.hep_common.specs.Lengths.{AreKept, IsUnread};
 use hep_names::declarators::{block_of, blocks_in};
 use hep_names::{ProgramSymbols, Symbols};
 use hep_source::{CommonBlock, Declarator, Name, Statement};
-use hep_values::given::constants;
+use hep_values::named_constants::constants;
 use hep_values::{Constants, cells_of};
 use indexmap::{IndexMap, IndexSet};
 use std::alloc::{AllocError, Global};
 
-// What a COMMON statement says, one thing at a time: a name in a block, or none where a list names only the block.
+// One entry of a COMMON statement: a block with a name in it, or a block without a name where its list is empty.
 #[derive(Clone, Copy)]
 struct CommonItem {
     block: Option<Name>,
     name: Option<Name>,
 }
 
-// The length of a common block in the units that were read.
+// The length of a common block in the units read so far.
 #[derive(Clone, Copy)]
 struct Length {
     greatest: u128,
-    // The last unit that has the block, and the cells that it has there as far as that was read.
+    // The last unit that has the block, and the number of its cells read so far there.
     unit: usize,
     cells: u128,
 }
 
-type Lengths = IndexMap<Option<Name>, Length>;
+type CommonLengths = IndexMap<Option<Name>, Length>;
 
-/// The common blocks of the units that were read.
+/// The common blocks of the units read so far.
 pub struct CommonBlocks {
     // In order of first appearance; blank COMMON has no name.
     blocks: IndexSet<Option<Name>>,
-    lengths: Lengths,
+    lengths: CommonLengths,
 }
 
 impl Drop for CommonBlocks {
@@ -105,7 +105,7 @@ fn cells_of_entry(
     }
 }
 
-// The cells of a block in a unit, as far as that was read.
+// The number of cells of a block in a unit read so far.
 fn cells_so_far(length: Option<Length>, unit: usize) -> u128
     ensures { result ≡ reading.cells_so_far unit length }
 {
@@ -124,7 +124,7 @@ fn greatest_length(length: Option<Length>) -> u128
     }
 }
 
-// The length of a block with so many cells more in a unit.
+// The length of a block with `count` more cells in a unit.
 fn lengthened(length: Option<Length>, unit: usize, count: u32) -> Length
     requires { reading.cells_so_far unit length < 2 ^ 96 }
     ensures { result ≡ reading.lengthened length unit count }
@@ -144,13 +144,17 @@ fn add_block(blocks: &mut IndexSet<Option<Name>>, block: Option<Name>) -> Result
     Ok(())
 }
 
-fn length_of(lengths: &Lengths, block: Option<Name>) -> Option<Length>
+fn length_of(lengths: &CommonLengths, block: Option<Name>) -> Option<Length>
     ensures { result ≡ get (option_eq name_eq) lengths.now block }
 {
     lengths.get(&block).copied()
 }
 
-fn set_length(lengths: &mut Lengths, block: Option<Name>, length: Length) -> Result<(), AllocError>
+fn set_length(
+    lengths: &mut CommonLengths,
+    block: Option<Name>,
+    length: Length,
+) -> Result<(), AllocError>
     ensures { OnOk result ((b : BlockName) → get (option_eq name_eq) lengths.new b
         ≡ (if same_block block b then Some length else get (option_eq name_eq) lengths.old b)) }
 {
@@ -158,8 +162,8 @@ fn set_length(lengths: &mut Lengths, block: Option<Name>, length: Length) -> Res
     Ok(())
 }
 
-// Whether a block has a length: then it gets so many cells more in a unit.
-fn is_lengthened(lengths: &mut Lengths, block: Option<Name>, unit: usize, count: u32) -> bool
+// Adds `count` cells to a block in a unit, where the block has a length. The result is whether it has.
+fn is_lengthened(lengths: &mut CommonLengths, block: Option<Name>, unit: usize, count: u32) -> bool
     requires { reading.cells_so_far unit (get (option_eq name_eq) lengths.old block) < 2 ^ 96 }
     ensures there { result ≡ is_some (get (option_eq name_eq) lengths.old block) }
     ensures lengths { (b : BlockName) → get (option_eq name_eq) lengths.new b
@@ -187,7 +191,7 @@ impl CommonBlocks {
         }
     }
 
-    // So many cells more of a block in a unit.
+    // Adds `count` cells to a block in a unit.
     fn lengthen(&mut self, block: Option<Name>, unit: usize, count: u32) -> Result<(), AllocError>
         requires few { reading.cells_so_far unit (get (option_eq name_eq) self.old.lengths block) < 2 ^ 96 }
         requires kept { AreKept self.old.blocks.keys (get (option_eq name_eq) self.old.lengths) }
@@ -204,7 +208,7 @@ impl CommonBlocks {
         Ok(())
     }
 
-    // The COMMON statements of the unit of this number, of which nothing was read; the entries are all that they say.
+    // Reads the entries of the COMMON statements of the unit with this index, of which nothing was read before.
     fn read_unit(
         &mut self,
         alloc: Global,
@@ -234,7 +238,7 @@ impl CommonBlocks {
         Ok(())
     }
 
-    /// The common blocks of a program. Where memory held all that its COMMON statements say, their cells fit 96 bits.
+    /// The common blocks of a program. Their number of cells is below 2^96, because all entries of COMMON statements fit in memory.
     ///
     /// # Errors
     ///
@@ -246,7 +250,7 @@ impl CommonBlocks {
         ensures bounded { IfOk result (λ common. common_cells program.now < 2 ^ 96) }
     {
         let mut common = CommonBlocks::new(alloc);
-        // All units' entries stay in one row: each has at most 2^20 cells, so those of all blocks fit 128 bits.
+        // The entries of all units stay in one vector. Each has at most 2^20 cells, so the cells of all blocks fit in 128 bits.
         let mut entries = Vec::new(alloc);
         for (number, symbols) in program.units().iter().enumerate() {
             let read = entries.len();
@@ -263,14 +267,14 @@ impl CommonBlocks {
         self.blocks.as_slice()
     }
 
-    /// The index of a block among them; 0 for one that the program doesn't have.
+    /// The index of a block among the blocks; 0 for a block that the program doesn't have.
     pub fn index(&self, block: Option<Name>) -> usize
         ensures { result ≡ unwrap_or (index_where (same_block block) self.now.blocks.keys) 0 }
     {
         self.blocks.get_index_of(&block).unwrap_or(0)
     }
 
-    /// The cells of a block, at its greatest length.
+    /// The greatest number of cells of a block in any unit.
     pub fn cells(&self, block: Option<Name>) -> u128
         ensures { result ≡ reading.greatest_length (get (option_eq name_eq) self.now.lengths block) }
     {

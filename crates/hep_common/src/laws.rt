@@ -5,7 +5,7 @@ ghost use Rattle.hep_layout.specs.Words.{first_of_block};
 ghost use Rattle.hep_common.specs.Starts.{AreStarts, start_in};
 ghost use Rattle.hep_common.specs.declared.starts.CommonStarts.{CommonStarts};
 
-/// Where COMMON has no more than 16,777,216 cells, as in every arena, the start that is kept for a block of the
+/// Where COMMON has at most 16,777,216 cells, as in every arena, the recorded start of a block of the
 /// program is its first cell.
 pub fn starts_are_first_cells()
     ensures { (program : Units) (c : CommonStarts) (b : BlockName) → common_cells program ≤ 16777216 → AreStarts program c

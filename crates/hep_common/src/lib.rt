@@ -1,5 +1,5 @@
-//! The common blocks of a program: their greatest lengths, and where each begins in the arena
-//! (X3.9-1978, 8.3; docs/MACHINE.md, "Layout").
+//! The common blocks of a program: the greatest length of each, and its first cell in the arena
+//! (X3.9-1978, 8.3; docs/MACHINE.md, "Layout"). Begin with [`CommonBlocks`] and [`CommonStarts`].
 #![tactic(auto)]
 
 mod common;

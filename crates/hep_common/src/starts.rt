@@ -1,4 +1,4 @@
-//! Where common blocks begin, one behind the other (docs/MACHINE.md, "Layout").
+//! The first cells of common blocks (docs/MACHINE.md, "Layout").
 ghost use Rattle.std.specs.Prelude.{◌≡◌, ◌+◌, ◌<◌, ◌^◌, if◌then◌else◌, IfOk, OnOk};
 ghost use Rattle.hep_machine.specs.Words.{Units, BlockName, same_block, common_cells};
 ghost use Rattle.hep_common.specs.Starts.{AreBlocks, AreStarts, narrowed, start_in};
@@ -8,12 +8,12 @@ use hep_source::Name;
 use indexmap::IndexMap;
 use std::alloc::{AllocError, Global};
 
-/// Where each common block of a program begins, counted in cells from the arena's front: the blocks stand one behind
-/// the other, in order of first appearance, each at its greatest length (X3.9-1978, 8.3.3).
+/// The first cell of each common block of a program, counted from 0 at the front of the arena. The blocks follow one
+/// another in order of first appearance, each with its greatest length (X3.9-1978, 8.3.3).
 pub struct CommonStarts {
-    // By the block's name; blank COMMON has none.
+    // The first cell of each block by its name; blank COMMON has no name.
     starts: IndexMap<Option<Name>, u32>,
-    // The cells of all blocks together.
+    // The number of cells of all blocks together.
     cells: u128,
 }
 
@@ -23,7 +23,7 @@ impl Drop for CommonStarts {
     }
 }
 
-// A number in 32 bits. No arena has so many cells that one would need more.
+// A number of cells in 32 bits, or the greatest such number. No arena has more cells.
 fn in_32_bits(cells: u128) -> u32
     ensures { result ≡ narrowed cells }
 {
@@ -40,7 +40,7 @@ impl CommonStarts {
         }
     }
 
-    // One block more, behind the others.
+    // Adds a block after the others.
     fn add(&mut self, block: Option<Name>, cells: u128) -> Result<(), AllocError>
         requires { self.old.cells + cells < 2 ^ 128 }
         ensures cells { OnOk result (self.new.cells ≡ self.old.cells + cells) }
@@ -52,7 +52,7 @@ impl CommonStarts {
         Ok(())
     }
 
-    /// The starts of the common blocks of a program, which are these.
+    /// The first cells of these common blocks of a program.
     ///
     /// # Errors
     ///
@@ -68,7 +68,7 @@ impl CommonStarts {
         Ok(starts)
     }
 
-    /// The first cell of a block, or the greatest number of 32 bits where it begins further on; 0 for a block that
+    /// The first cell of a block, or the greatest 32-bit number where the first cell is greater; 0 for a block that
     /// the program doesn't have.
     pub fn start(&self, block: Option<Name>) -> u32
         ensures { result ≡ start_in self.now block }
@@ -76,7 +76,7 @@ impl CommonStarts {
         self.starts.get(&block).copied().unwrap_or(0)
     }
 
-    /// The cells of all blocks together: frames come behind them.
+    /// The number of cells of all blocks together. Frames come after them.
     pub fn cells(&self) -> u128
         ensures kept { result ≡ self.now.cells }
         ensures common { (program : Units) → AreStarts program self.now → result ≡ common_cells program }

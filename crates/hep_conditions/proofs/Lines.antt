@@ -25,6 +25,11 @@ least_line-comm None (Some l) = refl
 least_line-comm (Some k) None = refl
 least_line-comm (Some k) (Some l) = grind (arith, nat_tests)
 
+-- the lesser of a line and itself
+pub least_line-again : (a : Option ℕ) → least_line a a ≡ a
+least_line-again None = refl
+least_line-again (Some k) = grind (arith, nat_tests)
+
 pub least_line-swap : (a b c d : Option ℕ) → least_line (least_line a b) (least_line c d) ≡ least_line (least_line a c) (least_line b d)
 least_line-swap a b c d =
     least_line-assoc a b (least_line c d)

@@ -1,29 +1,25 @@
--- Conditions of kinds of arguments, and of what is purged: 304 (X3.9-1978, 15.6.2.3 and 15.9.3, and docs/LANGUAGE.md, 9).
+-- Condition 304, on the kinds of arguments and on the targets of PURGE (X3.9-1978, 15.6.2.3 and 15.9.3, and docs/LANGUAGE.md, 9).
 use Rattle.std.specs.Prelude.{ℕ, Bool, true, false, not, ◌&&◌, ◌||◌, if◌then◌else◌, List, [], ◌∷◌, Option, Some, None}
 use Rattle.std.specs.List.{flat_map, list_all}
-use Rattle.hep_machine.specs.Words.{Tree, Trees, occurrence, with_list, no_trees, trees, Target, ValueType, Name, Statement, same_logical, type_of, is_array, is_constant_name, is_nonempty, Meaning, element, state, external, is_external, listed_meaning, Units, unit_at, subroutine_called, function_called, dummies_of}
+use Rattle.hep_machine.specs.Words.{list_of, Tree, Trees, occurrence, with_list, no_trees, trees, Target, ValueType, Name, Statement, same_logical, type_of, is_array, is_constant_name, is_nonempty, Meaning, element, state, external, is_external, listed_meaning, Units, unit_at, subroutine_called, function_called, dummies_of}
 use Rattle.hep_conditions.specs.Statements.{NameWithList, names_with_lists, targets_purged, Calling, calls_in}
 use Rattle.hep_conditions.specs.Types.{FunctionTypes, is_function_in, KnownType, type_of_tree, same_declared, agree}
 use Rattle.hep_conditions.specs.Violations.{Violations, at_line, when}
 
-abbrev pub list_of : Trees → List Tree
-list_of no_trees = []
-list_of (trees t ts) = t ∷ list_of ts
-
 -- ---- actual arguments: 15.9.2
 
--- what an actual argument is
+-- the class of an actual argument
 pub data ActualClass : Type 0 where
   -- an expression, by its type
   value : (t : KnownType) → ActualClass
   -- a variable or an element of an array
   variable : (asynchronous : Bool) (is_element : Bool) (t : Option ValueType) → ActualClass
   whole_array : (asynchronous : Bool) (t : Option ValueType) → ActualClass
-  -- a name with a list that is no array and no function: it is open what it is
+  -- a name with a list that is no array and no function: its class isn't known
   unknown_list : ActualClass
 
 module _ (functions : FunctionTypes) where
-  -- the name of a function by itself is no argument here (309)
+  -- the class of a name by itself; the name of a function is no argument (309)
   abbrev pub given_name : List Statement → Name → ActualClass
   given_name unit x =
       if is_constant_name unit x
@@ -43,14 +39,14 @@ module _ (functions : FunctionTypes) where
   actual_class unit (with_list p ts) = given_with_list unit (listed_meaning unit p.name) p.name (type_of_tree functions unit (with_list p ts))
   actual_class unit t = value (type_of_tree functions unit t)
 
--- an actual argument for a scalar dummy argument of this asynchrony and type
+-- whether an actual argument fits a scalar dummy argument of this type, asynchronous or not
 abbrev pub fits_scalar : Bool → Option ValueType → ActualClass → Bool
 fits_scalar asynchronous t (value u) = not asynchronous && agree u (Some t)
 fits_scalar asynchronous t (variable a e u) = same_logical asynchronous a && same_declared t u
 fits_scalar asynchronous t (whole_array a u) = false
 fits_scalar asynchronous t unknown_list = true
 
--- an array dummy argument takes an array or an element of one
+-- whether an actual argument fits an array dummy argument: it is an array or an element of an array
 abbrev pub fits_array : Bool → Option ValueType → ActualClass → Bool
 fits_array asynchronous t (value u) = false
 fits_array asynchronous t (variable a e u) = e && (same_logical asynchronous a && same_declared t u)
@@ -63,7 +59,7 @@ abbrev pub fits_dummy : List Statement → Name → ActualClass → Bool
 fits_dummy unit x g =
     if is_array unit x then fits_array x.asynchronous (type_of unit x) g else fits_scalar x.asynchronous (type_of unit x) g
 
--- those that have a dummy argument
+-- whether the actual arguments fit the dummy arguments, as far as there are some
 abbrev pub fit_dummies : List Statement → List Name → List ActualClass → Bool
 fit_dummies unit (x ∷ xs) (g ∷ gs) = fits_dummy unit x g && fit_dummies unit xs gs
 fit_dummies unit _ _ = true
@@ -80,7 +76,7 @@ module _ (functions : FunctionTypes) where
   abbrev pub fits_call : Units → List Statement → Calling → Bool
   fits_call program unit c = fits_subroutine program unit (subroutine_called program c.occurrence.name) c.actuals
 
-  -- the arguments of a reference of a function of the program
+  -- whether the arguments of a reference of a function of the program fit
   abbrev pub fits_reference : Units → List Statement → NameWithList → Bool
   fits_reference program unit r =
       not (is_external (listed_meaning unit r.occurrence.name)) || fits_subroutine program unit (function_called program r.occurrence.name) (list_of r.arguments)
@@ -104,7 +100,7 @@ module _ (functions : FunctionTypes) where
   abbrev pub is_reference_given : List Statement → NameWithList → Bool
   is_reference_given unit r = is_test_typed unit (listed_meaning unit r.occurrence.name) r.arguments
 
-  -- an asynchronous variable, array or element; a named constant is none
+  -- whether a target may be purged: an asynchronous variable, array or element, but no named constant
   abbrev pub is_purgeable : List Statement → Target → Bool
   is_purgeable unit t =
       t.occurrence.name.asynchronous && (not (is_constant_name unit t.occurrence.name) && (not (is_nonempty t.subscripts) || is_array unit t.occurrence.name))

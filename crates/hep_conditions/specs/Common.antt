@@ -8,20 +8,20 @@ use Rattle.hep_conditions.specs.Known.{Known, nothing_more, known_before, same_l
 use Rattle.hep_conditions.specs.Types.{same_declared}
 use Rattle.hep_conditions.specs.Violations.{Violations, at_line, when}
 
--- what is at a position of a block: whether it is asynchronous, and its type
+-- a position of a block: whether its variable is asynchronous, and its type
 abbrev pub Position : Type 0
 Position = Bool × Option ValueType
 
--- a name's first position in COMMON is in this block, after these names
+-- whether the first position of a name in COMMON is in this block, after these names
 abbrev pub has_first_position : List Statement → BlockName → List Name → Name → Bool
 has_first_position unit b before x = option_map_or (same_block b) (common_block unit x) false && not (is_among x before)
 
--- the names of a block that have their first position there, in order: a second position doesn't hold
+-- the names of a block that have their first position there, in order; a second position doesn't count
 abbrev pub first_names : List Statement → BlockName → List Name → List Name → List Name
 first_names unit b before [] = []
 first_names unit b before (x ∷ xs) = (if has_first_position unit b before x then x ∷ [] else []) ++ first_names unit b (x ∷ before) xs
 
--- a name's positions, all alike: one for each of its cells
+-- the positions of a name: one for each of its cells, all of the same kind
 abbrev pub positions_of_name : List Statement → Name → Option (Repeated Position)
 positions_of_name unit x =
     option_map (λ n. record { item = (x.asynchronous, type_of unit x); count = n }) (option_and_then elements (known_shape unit x))
@@ -30,14 +30,14 @@ abbrev pub positions_of : List Statement → List Name → Known Position
 positions_of unit [] = nothing_more
 positions_of unit (x ∷ xs) = known_before (positions_of_name unit x) (positions_of unit xs)
 
--- a unit's block: its positions up to the first array of unknown shape
+-- the positions of a block in a unit, up to the first array of unknown shape
 abbrev pub positions_of_block : List Statement → BlockName → Known Position
 positions_of_block unit b = positions_of unit (first_names unit b [] (names_in_block unit b))
 
 abbrev pub same_position : Position → Position → Bool
 same_position p q = same_logical p.0 q.0 && same_declared p.1 q.1
 
--- a named block has one length in all units; blank COMMON may differ
+-- whether the lengths of a block in two units agree; those of blank COMMON may differ
 abbrev pub same_length_of_block : BlockName → Known Position → Known Position → Bool
 same_length_of_block None ps qs = true
 same_length_of_block (Some x) ps qs = same_length ps qs
@@ -56,7 +56,7 @@ last_line b (s ∷ ss) = by_later (last_line b ss) where
   by_later (Some line) = Some line
   by_later None = if names_block b s then Some s.line else None
 
--- two units that have a block have it otherwise: reported in the later one
+-- the violation where a block differs between two units, at its last line in the later unit
 abbrev pub block_differs : BlockName → List Statement → List Statement → Violations
 block_differs b unit later = by_lines (last_line b unit) (last_line b later) where
   by_lines : Option ℕ → Option ℕ → Violations

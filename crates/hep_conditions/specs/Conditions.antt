@@ -15,7 +15,7 @@ use Rattle.hep_conditions.specs.Counts.{count_violations}
 use Rattle.hep_conditions.specs.Arguments.{argument_violations}
 use Rattle.hep_conditions.specs.Violations.{Violations, at_line, first_of, when}
 
--- ---- 312: RESUME stands in a subroutine (docs/LANGUAGE.md, 9)
+-- ---- 312: RESUME is only allowed in a subroutine (docs/LANGUAGE.md, 9)
 
 abbrev pub is_resume : Form → Bool
 is_resume form.Resume = true
@@ -26,7 +26,7 @@ resume_violations unit = flat_map (λ (s : Statement). when (is_resume s.form &&
 
 -- ---- all of them
 
--- the violations of a unit, 301 to 312 but for those of whole programs
+-- the violations of a unit, except those that concern several units
 abbrev pub violations_in : Units → List Statement → Violations
 violations_in program unit =
     type_missing_violations (function_types program) unit
@@ -44,7 +44,7 @@ violations_in program unit =
 abbrev pub violations : Units → Violations
 violations program = flat_map (violations_in program) program ++ (common_violations program ++ name_violations program)
 
--- a program is accepted where it has no violation
+-- A program is accepted if it has no violation.
 abbrev pub IsAccepted : Units → Type 0
 IsAccepted program = violations program ≡ []
 

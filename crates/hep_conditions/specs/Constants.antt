@@ -10,7 +10,7 @@ use Rattle.hep_conditions.specs.Violations.{Violations, at_line, when}
 
 -- ---- what is known: docs/LANGUAGE.md, 10
 
--- the constants that PARAMETER gave before a statement: those that are known, and the names of those that a violation leaves open
+-- the constants that PARAMETER gave before a statement: the known ones, and the names of those whose value a violation leaves open
 pub record Parameters : Type 0 where
   pub known : Constants
   pub doubtful : List Name
@@ -18,12 +18,12 @@ pub record Parameters : Type 0 where
 abbrev pub no_parameters : Parameters
 no_parameters = record { known = []; doubtful = [] }
 
--- an expression rests on a constant that is open, or on a function with another number of arguments
+-- whether an expression depends on a constant that is open, or on a function with a wrong number of arguments
 abbrev pub is_open : List Statement → Parameters → Tree → Bool
 is_open unit ps t =
     list_any (λ (p : Occurrence). is_among p.name ps.doubtful) (occurrences_in unit t) || not (list_all (is_counted unit) (names_with_lists_in t))
 
--- a name that was given a value before, which holds
+-- whether a name was given a value before, known or open
 abbrev pub is_given : Parameters → Name → Bool
 is_given ps x = is_among x ps.doubtful || is_some (value_among ps.known x)
 
@@ -31,7 +31,7 @@ abbrev pub is_pure : Meaning → Bool
 is_pure (pure f) = true
 is_pure _ = false
 
--- constants, names that were given a value before, and references of functions of integers alone: docs/LANGUAGE.md, 7
+-- whether an expression has only constants, names that were given a value before, and functions of integers: docs/LANGUAGE.md, 7
 abbrev pub is_constant_expression : List Statement → Parameters → Tree → Bool
 is_constant_expression unit ps t =
     list_all (λ (p : Occurrence). is_given ps p.name) (occurrences_in unit t)
@@ -43,17 +43,17 @@ value_by unit ps t = value_of unit (value_among ps.known) t
 abbrev pub has_value_or_is_open : List Statement → Parameters → Tree → Bool
 has_value_or_is_open unit ps t = is_open unit ps t || is_some (value_by unit ps t)
 
--- a constant expression each part of which has a value, unless a violation leaves that part open
+-- whether each part of a constant expression has a value, or a violation leaves that part open
 abbrev pub has_value : List Statement → Parameters → Tree → Bool
 has_value unit ps t = is_constant_expression unit ps t && list_all (has_value_or_is_open unit ps) (subexpressions_of t)
 
 -- ---- 302: constants (6.1.3, 6.4.4 and 8.6)
 
--- an expression of this type that has a value by the constants given before
+-- whether an expression has this type and a value, by the constants given before
 abbrev pub is_constant_of : List Statement → Parameters → ValueType → Tree → Bool
 is_constant_of unit ps t e = is_typed_as no_functions unit t e && has_value unit ps e
 
--- a constant expression of the type of its name
+-- whether the expression of a named constant is constant and has the type of the name
 abbrev pub is_constant_given : List Statement → Parameters → NamedConstant → Bool
 is_constant_given unit ps c =
     is_typed no_functions unit c.value && (has_value unit ps c.value && agree (Some (type_of unit c.occurrence.name)) (type_of_tree no_functions unit c.value))
@@ -77,16 +77,16 @@ are_constants_given unit ps (c ∷ cs) = is_constant_given unit ps c && are_cons
 
 -- ---- 302: bounds (5.1.1 and 5.1.2)
 
--- a scalar by which a bound may be adjusted: a plain integer that is a dummy argument or in COMMON
+-- whether a bound may use this scalar: an integer without `$` that is a dummy argument or in COMMON
 abbrev pub is_adjusting : List Statement → Name → Bool
 is_adjusting unit x = is_plain_integer_scalar unit x && (is_dummy unit x || is_common unit x)
 
--- constants and such scalars alone, without a reference of a function
+-- whether an expression has only constants and such scalars, and no function
 abbrev pub is_adjustable : List Statement → Constants → Tree → Bool
 is_adjustable unit known t =
     list_all (λ (p : Occurrence). is_some (value_among known p.name) || is_adjusting unit p.name) (occurrences_in unit t) && not (is_nonempty (names_with_lists_in t))
 
--- a name by which a bound is adjusted makes it no constant expression
+-- whether a bound isn't constant, because it has the name of such a scalar
 abbrev pub is_adjusted : List Statement → Constants → Tree → Bool
 is_adjusted unit known t = list_any (λ (p : Occurrence). is_none (value_among known p.name)) (occurrences_in unit t)
 
@@ -103,7 +103,7 @@ abbrev pub is_dimension : List Statement → Parameters → Bool → Dimension �
 is_dimension unit ps is_of_dummy d =
     list_all (is_bound unit ps is_of_dummy) (option_to_list d.lower) && is_upper_bound unit ps is_of_dummy d.upper
 
--- bounds that are all constant make a shape
+-- whether bounds make a shape, where all are constant
 abbrev pub is_shape_if_known : Option Bounds → Bool
 is_shape_if_known None = true
 is_shape_if_known (Some bs) = is_shape bs
@@ -130,21 +130,21 @@ known_shape_from unit ps [] x = Some []
 known_shape_from unit ps (s ∷ ss) x =
     shape_by_declarator unit ps (declarator_among x (declarators_in s.form)) (known_shape_from unit (with_parameters unit ps (constants_in s.form)) ss x)
 
--- the shape of a name by the first bounds that it is given, none where these are refused, open or not constant; a scalar has no
+-- the shape of a name by the first bounds that it is given; none where these are refused, open or not constant; that of a scalar has no
 -- dimension
 abbrev pub known_shape : List Statement → Name → Option Bounds
 known_shape unit x = known_shape_from unit no_parameters unit x
 
 -- ---- 302 over a unit
 
--- a subscript in DATA is a constant expression (9.2)
+-- whether the subscripts of a target in DATA are constant expressions (9.2)
 abbrev pub has_constant_subscripts : List Statement → Parameters → Target → Bool
 has_constant_subscripts unit ps t = is_target_typed no_functions unit t && list_all (is_constant_of unit ps Integer) t.subscripts
 
 abbrev pub is_group_typed : List Statement → Parameters → DataGroup → Bool
 is_group_typed unit ps g = list_all (has_constant_subscripts unit ps) g.targets
 
--- a statement after these, by which constants are given
+-- whether a statement violates none of 302, by the constants given before it
 abbrev pub is_statement_typed : FunctionTypes → List Statement → Parameters → Statement → Bool
 is_statement_typed functions unit ps s =
     list_all (is_typed_as functions unit Logical) s.conditions

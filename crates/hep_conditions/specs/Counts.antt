@@ -1,4 +1,4 @@
--- Conditions of numbers of arguments: 303 (X3.9-1978, 15.6.2.3 and 15.10).
+-- Condition 303, on the number of arguments (X3.9-1978, 15.6.2.3 and 15.10).
 use Rattle.std.specs.Prelude.{ℕ, suc, Bool, true, not, ◌&&◌, ◌||◌, nat_eq, nat_le, List, length, Option, Some, None}
 use Rattle.std.specs.List.{flat_map, list_all}
 use Rattle.hep_machine.specs.Words.{Trees, no_trees, trees, PureFunction, AbsoluteValue, Remainder, TransferOfSign, PositiveDifference, Largest, Smallest, Statement, Meaning, element, pure, state, external, listed_meaning, Units, unit_at, subroutine_called, function_called, is_external, dummies_of}
@@ -30,7 +30,7 @@ is_counted unit r = takes_list (listed_meaning unit r.occurrence.name) (count_of
 
 -- ---- subroutines and functions of the program: 15.5.2.2 and 15.6.2.3
 
--- as many as the unit of this number has dummy arguments
+-- whether the unit with this index has n dummy arguments
 abbrev pub takes_actuals : Units → Option ℕ → ℕ → Bool
 takes_actuals program None n = true
 takes_actuals program (Some u) n = nat_eq n (length (dummies_of (unit_at program u)))

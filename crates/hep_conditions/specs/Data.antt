@@ -9,7 +9,7 @@ use Rattle.hep_conditions.specs.Violations.{Violations, at_line, when}
 
 -- ---- what is known of the lists of a group: docs/LANGUAGE.md, 10
 
--- a name as often as it has elements here
+-- a name, repeated for each of its elements
 abbrev pub name_repeated : Stretch → Repeated Name
 name_repeated e = record { item = e.name; count = e.count }
 
@@ -24,14 +24,14 @@ known_values known (v ∷ vs) = known_before (values_given (value_among known) v
 
 -- ---- 311 in a group: 9.1 and 9.2
 
--- each value is of the type of what it is given to (9.2)
+-- whether a value has the type of the name to which it is given (9.2)
 abbrev pub has_type : List Statement → Name → Value → Bool
 has_type unit x v = agree (Some (type_of unit x)) (Some (Some (type_of_value v)))
 
 abbrev pub is_forbidden : List Statement → Name → Bool
 is_forbidden unit x = x.asynchronous || (is_dummy unit x || is_common unit x)
 
--- an element outside its bounds (5.4.2), where bounds and subscripts are known and as many
+-- whether an element is outside its bounds (5.4.2), where bounds and subscripts are known and have the same number
 abbrev pub is_outside : Option Bounds → Option (List Value) → Bool
 is_outside None vs = false
 is_outside (Some bs) None = false
@@ -41,11 +41,11 @@ abbrev pub is_target_outside : List Statement → Constants → Target → Bool
 is_target_outside unit known t =
     is_nonempty t.subscripts && (is_array unit t.occurrence.name && is_outside (constant_shape unit t.occurrence.name) (values_of unit (value_among known) (trees_of t.subscripts)))
 
--- a name in the place of a value or a repeat count is that of a constant given before, a repeat count an integer from 1
+-- whether a value is allowed: a name is that of a constant given before, and a repeat count is an integer of at least 1
 abbrev pub is_value : Constants → DataValue → Bool
 is_value known v = is_some (repeat_of (value_among known) v.repeat) && is_some (value_of_constant (value_among known) v.constant)
 
--- each value is allowed, and there are as many as elements (9.2)
+-- whether a group violates 311: a target or a value isn't allowed, or the numbers of elements and values differ (9.2)
 abbrev pub is_wrong_group : List Statement → Constants → DataGroup → Bool
 is_wrong_group unit known g =
     list_any (λ (t : Target). is_forbidden unit t.occurrence.name || is_target_outside unit known t) g.targets
@@ -55,7 +55,7 @@ is_wrong_group unit known g =
 
 -- ---- 311 over a unit: 9.2
 
--- DATA stands in the main program alone
+-- whether a DATA statement is outside the main program
 abbrev pub is_misplaced : List Statement → Statement → Bool
 is_misplaced unit s = is_nonempty (groups_in s.form) && not (is_main (procedure_name unit))
 
@@ -68,12 +68,12 @@ wrong_groups_from unit known (s ∷ ss) =
 abbrev pub share_element : Stretch → Stretch → Bool
 share_element a b = same_name a.name b.name && meet a.first a.count b.first b.count
 
--- the elements that a statement gives values
+-- the elements to which a statement gives values
 abbrev pub elements_in : List Statement → Constants → Statement → List Stretch
 elements_in unit known s =
     flat_map (λ (g : DataGroup). flat_map (λ (t : Target). option_to_list (elements_named unit (value_among known) t)) g.targets) (groups_in s.form)
 
--- an element that was given a value before, here or in an earlier statement
+-- whether an element is given a value a second time, in this statement or after an earlier one
 abbrev pub is_given_twice : List Stretch → List Stretch → Bool
 is_given_twice given [] = false
 is_given_twice given (e ∷ es) = list_any (share_element e) given || is_given_twice (e ∷ given) es

@@ -1,11 +1,11 @@
--- Conditions of labels: 306 (X3.9-1978, 3.4 and 11.1 to 11.10).
+-- Condition 306, on labels (X3.9-1978, 3.4 and 11.1 to 11.10).
 use Rattle.std.specs.Prelude.{ℕ, nat_eq, List, ◌++◌, map, is_none, option_to_list}
 use Rattle.std.specs.List.{flat_map}
 use Rattle.hep_machine.specs.Words.{Statement, index_labelled}
 use Rattle.hep_conditions.specs.Statements.{targets_of_jump, terminal_labels}
 use Rattle.hep_conditions.specs.Violations.{Violations, at_line, when, repeated_by}
 
--- a label that a statement goes to is on an executable statement of the unit
+-- the violations of statements that refer to a label which no executable statement of the unit has
 abbrev pub unlabelled : List Statement → Violations
 unlabelled unit =
     flat_map (λ (s : Statement).
@@ -15,6 +15,6 @@ unlabelled unit =
 abbrev pub labels_of : List Statement → List (ℕ × ℕ)
 labels_of unit = flat_map (λ (s : Statement). map (λ l. (l, s.line)) (option_to_list s.label)) unit
 
--- a label that an earlier statement has is reported at the later one
+-- all violations of 306; a repeated label is reported at the later statement
 abbrev pub label_violations : List Statement → Violations
 label_violations unit = unlabelled unit ++ repeated_by 306 nat_eq (labels_of unit)

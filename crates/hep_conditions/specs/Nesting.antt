@@ -7,7 +7,7 @@ use Rattle.hep_conditions.specs.Types.{FunctionTypes, is_function_in, is_plain_i
 use Rattle.hep_conditions.specs.Statements.{targets_of_jump}
 use Rattle.hep_conditions.specs.Violations.{Violations, at_line, when}
 
--- ---- statements with their indexes in the unit: 3.5
+-- ---- statements with their indices in the unit: 3.5
 
 pub record IndexedStatement : Type 0 where
   pub index : ℕ
@@ -20,7 +20,7 @@ indexed_from k (s ∷ ss) = record { index = k; statement = s } ∷ indexed_from
 abbrev pub indexed_statements : List Statement → List IndexedStatement
 indexed_statements unit = indexed_from 0 unit
 
--- a statement that is no logical IF
+-- whether a statement is no logical IF
 abbrev pub is_unconditional : Statement → Bool
 is_unconditional s = not (is_nonempty s.conditions)
 
@@ -40,21 +40,22 @@ abbrev pub range_by : List Statement → ℕ → Form → List DoRange
 range_by unit k (form.Do c) = range_to k c.variable.name (index_labelled unit c.terminal)
 range_by unit k _ = []
 
--- the DOs of a unit that have their terminal statements after them; one within a logical IF has no range
+-- the ranges of the DOs of a unit whose terminal statements follow them; a DO within a logical IF has no range
 abbrev pub ranges_of : List Statement → List DoRange
 ranges_of unit =
     flat_map (λ (p : IndexedStatement). if is_unconditional p.statement then range_by unit p.index p.statement.form else []) (indexed_statements unit)
 
 -- ---- IF blocks: 11.6 to 11.9
 
--- a block IF: where it begins, its ELSE IF and ELSE statements, the last first, and its END IF, if any
+-- a block IF: its index, those of its ELSE IF and ELSE statements, the last first, and that of its END IF, if there is one
 pub record BlockIf : Type 0 where
   pub start : ℕ
   pub divisions : List ℕ
   pub has_else : Bool
   pub end : Option ℕ
 
--- what was read of a unit: block IFs that are open, the innermost first, those that are closed, and statements that fit none
+-- the block IFs of the statements read so far: those that are open, the innermost first, those that are closed, and the ELSE IF, ELSE and
+-- END IF statements of no block IF
 pub record BlockIfs : Type 0 where
   pub unclosed : List BlockIf
   pub closed : List BlockIf
@@ -86,13 +87,14 @@ abbrev pub with_all : BlockIfs → List IndexedStatement → BlockIfs
 with_all bs [] = bs
 with_all bs (p ∷ ps) = with_all (with_role bs p.index (role_of p.statement)) ps
 
--- block IFs are matched among themselves, without regard to DOs
+-- the block IFs of a unit, which are matched without regard to DOs
 abbrev pub block_ifs_of : List Statement → BlockIfs
 block_ifs_of unit = with_all (record { unclosed = []; closed = []; stray = [] }) (indexed_statements unit)
 
 -- ---- 307: statements by themselves (11.5 and 11.10)
 
--- a terminal statement may be no unconditional GO TO, arithmetic IF, block IF, ELSE IF, ELSE, END IF, RETURN, STOP, END or DO: 11.10
+-- whether a form may not be a terminal statement: unconditional GO TO, arithmetic IF, block IF, ELSE IF, ELSE, END IF, RETURN, STOP, END or
+-- DO (11.10)
 abbrev pub is_no_terminal : Form → Bool
 is_no_terminal (form.GoTo s) = true
 is_no_terminal (form.ArithmeticIf t labels) = true
@@ -109,7 +111,7 @@ is_no_terminal _ = false
 abbrev pub is_wrong_terminal : Statement → Bool
 is_wrong_terminal s = is_unconditional s && is_no_terminal s.form
 
--- a logical IF may hold no DO, block IF, ELSE IF, ELSE, END IF, END or logical IF: 11.5
+-- whether a form may not be within a logical IF: DO, block IF, ELSE IF, ELSE, END IF or END (11.5)
 abbrev pub is_not_held : Form → Bool
 is_not_held (form.Do c) = true
 is_not_held (form.IfThen t) = true
@@ -129,16 +131,24 @@ terminal_violations unit line k None = []
 terminal_violations unit line k (Some t) =
     when (nat_lt t k) (at_line 307 line) ++ when (is_wrong_terminal (statement_at unit t)) (at_line 307 (line_at unit t))
 
--- a DO variable is a plain integer scalar, and no function: 11.10
+-- whether a name may be a DO variable: an integer scalar without `$`, and no function (11.10)
 abbrev pub is_loop_variable : FunctionTypes → List Statement → Name → Bool
 is_loop_variable functions unit x = is_plain_integer_scalar unit x && not (is_function_in functions unit x)
+
+-- for each statement whether its DO variable, where it has one, may be one
+abbrev pub has_loop_variable : FunctionTypes → List Statement → Form → Bool
+has_loop_variable functions unit (form.Do c) = is_loop_variable functions unit c.variable.name
+has_loop_variable functions unit _ = true
+
+abbrev pub loop_variables : FunctionTypes → List Statement → List Bool
+loop_variables functions unit = map (λ (s : Statement). has_loop_variable functions unit s.form) unit
 
 abbrev pub loop_violations : FunctionTypes → List Statement → ℕ → ℕ → Form → Violations
 loop_violations functions unit line k (form.Do c) =
     when (not (is_loop_variable functions unit c.variable.name)) (at_line 307 line) ++ terminal_violations unit line k (index_labelled unit c.terminal)
 loop_violations functions unit line k _ = []
 
--- a DO that a logical IF holds has no range, and so no terminal statement
+-- the violations of a statement by itself; a DO within a logical IF has no range, and so no terminal statement
 abbrev pub statement_violations : FunctionTypes → List Statement → IndexedStatement → Violations
 statement_violations functions unit p =
     when (holds_wrongly p.statement.conditions p.statement.form) (at_line 307 p.statement.line)
@@ -153,11 +163,11 @@ block_violations unit =
 
 -- ---- 307: what isn't nested (11.10.1)
 
--- the later one begins within the range of the earlier one and ends after it
+-- whether the second DO begins within the range of the first and ends after it
 abbrev pub ranges_cross : DoRange → DoRange → Bool
 ranges_cross a b = nat_lt a.start b.start && (nat_le b.start a.terminal && nat_lt a.terminal b.terminal)
 
--- a DO in the range of another, with its variable
+-- whether the second DO is in the range of the first and has the same variable
 abbrev pub shares_variable : DoRange → DoRange → Bool
 shares_variable a b = nat_lt a.start b.start && (nat_le b.start a.terminal && same_name a.variable b.variable)
 
@@ -175,11 +185,11 @@ abbrev pub end_between : ℕ → ℕ → Option ℕ → Bool
 end_between low high None = false
 end_between low high (Some e) = is_between low high e
 
--- a block IF that begins in the range of a DO ends in it
+-- whether a block IF begins within the range of a DO and ends after it
 abbrev pub leaves_range : DoRange → BlockIf → Bool
 leaves_range r b = is_between r.start r.terminal b.start && ends_after r.terminal b.end
 
--- the range of a DO that begins in a block ends in that block
+-- whether a DO begins in a block of a block IF and its range doesn't end in that block
 abbrev pub leaves_block : DoRange → BlockIf → Bool
 leaves_block r b =
     nat_lt b.start r.start && (list_any (is_between r.start r.terminal) b.divisions || end_between r.start r.terminal b.end)
@@ -196,7 +206,7 @@ structure_violations functions unit = flat_map (statement_violations functions u
 
 -- ---- 308: jumps into DO ranges and IF blocks (11.6.3, 11.7.2, 11.8.2 and 11.10.8)
 
--- the indexes from after one statement up to before another
+-- a region: the indices after one statement and before another
 pub record Region : Type 0 where
   pub after : ℕ
   pub before : ℕ
@@ -209,7 +219,7 @@ abbrev pub regions_before : ℕ → ℕ → List ℕ → List Region
 regions_before start end [] = record { after = start; before = end } ∷ []
 regions_before start end (k ∷ ks) = record { after = k; before = end } ∷ regions_before start k ks
 
--- without an END IF those up to the last ELSE IF or ELSE
+-- the blocks up to the last ELSE IF or ELSE, for a block IF without an END IF
 abbrev pub regions_to_last : ℕ → List ℕ → List Region
 regions_to_last start [] = []
 regions_to_last start (k ∷ ks) = regions_before start k ks

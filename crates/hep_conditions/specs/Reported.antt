@@ -1,14 +1,14 @@
--- Which violation is reported, put together from the parts of a list: docs/LANGUAGE.md, 10.
+-- The violation that is reported, computed from the parts of a list: docs/LANGUAGE.md, 10.
 use Rattle.std.specs.Prelude.{ℕ, Bool, true, false, nat_lt, if◌then◌else◌, List, [], ◌∷◌, Option, Some, None}
 use Rattle.hep_conditions.specs.declared.violation.Violation.{Violation}
 use Rattle.hep_conditions.specs.Violations.{at_line, earlier}
 
--- the first of two violations, each of which may be missing; of two at one position the left one
+-- the first of two violations, each of which may be missing; the left one where their positions are the same
 abbrev pub first_of_two : Option Violation → Option Violation → Option Violation
 first_of_two None w = w
 first_of_two (Some v) w = Some (earlier v w)
 
--- ---- violations of one number and without a name, which differ in their lines alone
+-- ---- violations with one number and without a name, which differ only in their lines
 
 -- the violation of a number at a line, if there is a line
 abbrev pub reported : ℕ → Option ℕ → Option Violation
@@ -21,7 +21,7 @@ least_line None l = l
 least_line (Some k) None = Some k
 least_line (Some k) (Some l) = Some (if nat_lt l k then l else k)
 
--- this line, where the test is true
+-- this line where the test is true, and else none
 abbrev pub line_when : Bool → ℕ → Option ℕ
 line_when true line = Some line
 line_when false line = None

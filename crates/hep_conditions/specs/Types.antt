@@ -10,7 +10,7 @@ use Rattle.hep_conditions.specs.Counts.{count_of}
 
 -- ---- the type of an expression (X3.9-1978, 6.1.4, 6.3.3, 6.4.2 and 15.10)
 
--- integer, logical or real, which no value is here; nothing where another violation leaves it open
+-- a type: integer, logical, or `Some None` for real; none where another violation leaves the type open
 abbrev pub KnownType : Type 0
 KnownType = Option (Option ValueType)
 
@@ -30,7 +30,7 @@ type_of_operands (LogicalOperation o) = Logical
 
 -- ---- the functions of a program, by their names: 15.5
 
--- the type of the function with a name, nothing where no function has it
+-- the type of the function with a name; none where there is no such function
 abbrev pub FunctionTypes : Type 0
 FunctionTypes = Name → KnownType
 
@@ -40,11 +40,11 @@ no_functions x = None
 abbrev pub function_types : Units → FunctionTypes
 function_types program x = option_map (λ u. type_of (unit_at program u) x) (function_called program x)
 
--- a name is that of a function in a unit that refers to it
+-- whether a name is that of a function which the unit references
 abbrev pub is_function_in : FunctionTypes → List Statement → Name → Bool
 is_function_in functions unit x = is_some (functions x) && is_referenced unit x
 
--- what a name by itself is: a function is no operand (309)
+-- the type of a name by itself; none for a function, which is no operand (309)
 abbrev pub type_of_name : FunctionTypes → List Statement → Name → KnownType
 type_of_name functions unit x = if is_function_in functions unit x then None else Some (type_of unit x)
 
@@ -60,7 +60,7 @@ same_declared None (Some u) = false
 same_declared (Some t) None = false
 same_declared (Some t) (Some u) = same_type t u
 
--- what is open agrees with everything
+-- whether two types agree; an open type agrees with every type
 abbrev pub agree : KnownType → KnownType → Bool
 agree None b = true
 agree (Some a) None = true
@@ -71,12 +71,12 @@ is_of t a = agree a (Some (Some t))
 
 -- ---- 302: operands (sections 5, 6, 10 and 11)
 
--- the subscripts of an array are as many as its dimensions (5.4.1)
+-- whether an array has as many subscripts as dimensions (5.4.1)
 abbrev pub has_dimensions : List Statement → Name → Trees → Bool
 has_dimensions unit x ts = nat_eq (count_of ts) (length (dimensions_of unit x))
 
--- the list of a name: subscripts and arguments of functions of integers are integers, and what FULL, EMPTY, VALUE, SETE and WAITF
--- are given may be a name by itself, and so may what another function is given
+-- whether the list of a name has the right types: subscripts and arguments of functions of integers are integers; the arguments of FULL,
+-- EMPTY, VALUE, SETE, WAITF and of functions of the program may be names by themselves
 abbrev pub is_list_typed : List Statement → Meaning → Name → Trees → Bool → Bool → Bool
 is_list_typed unit element x ts integers actuals = has_dimensions unit x ts && integers
 is_list_typed unit (pure f) x ts integers actuals = integers
@@ -86,7 +86,7 @@ is_list_typed unit external x ts integers actuals = actuals
 abbrev pub is_scalar_target : List Statement → Target → Bool
 is_scalar_target unit t = is_nonempty t.subscripts || not (is_array unit t.occurrence.name)
 
--- a scalar variable without `$` that is an integer; a constant's name is no variable
+-- whether a name is an integer scalar variable without `$`; the name of a constant is no variable
 abbrev pub is_plain_integer_scalar : List Statement → Name → Bool
 is_plain_integer_scalar unit x =
     not (is_constant_name unit x) && (not x.asynchronous && (not (is_array unit x) && same_declared (type_of unit x) (Some Integer)))
@@ -97,7 +97,7 @@ module _ (functions : FunctionTypes) where
   type_of_tested unit (trees (with_list p us) ts) = if is_array unit p.name then Some (type_of unit p.name) else None
   type_of_tested unit _ = None
 
-  -- FULL and EMPTY are logical, and VALUE, SETE and WAITF of the type of their first argument, however many they are given
+  -- the type of FULL and EMPTY is logical, and that of VALUE, SETE and WAITF is the type of their first argument
   abbrev pub type_of_test : List Statement → StateFunction → Trees → KnownType
   type_of_test unit IsFull ts = Some (Some Logical)
   type_of_test unit IsEmpty ts = Some (Some Logical)
@@ -119,7 +119,7 @@ module _ (functions : FunctionTypes) where
   type_of_tree unit (binary o a b) = Some (Some (type_of_operation o))
 
   abbrev mutual
-    -- each operand in an expression has the right type, and no array stands where a scalar must
+    -- whether each operand in an expression has the right type and no array is used as a scalar
     pub is_typed : List Statement → Tree → Bool
     is_typed unit (constant v) = true
     is_typed unit (occurrence p) = not (is_array unit p.name)
@@ -134,28 +134,28 @@ module _ (functions : FunctionTypes) where
     are_integers unit no_trees = true
     are_integers unit (trees t ts) = (is_typed unit t && is_of Integer (type_of_tree unit t)) && are_integers unit ts
 
-    -- actual arguments: a name by itself is no operand
+    -- whether actual arguments have the right types; a name by itself is no operand
     pub are_actuals : List Statement → Trees → Bool
     are_actuals unit no_trees = true
     are_actuals unit (trees (occurrence p) ts) = are_actuals unit ts
     are_actuals unit (trees t ts) = is_typed unit t && are_actuals unit ts
 
-  -- an expression of this type
+  -- whether an expression has this type and its operands have the right types
   abbrev pub is_typed_as : List Statement → ValueType → Tree → Bool
   is_typed_as unit t e = is_typed unit e && is_of t (type_of_tree unit e)
 
-  -- a printed expression is an integer or logical (12.8.2)
+  -- whether an expression may be printed: it is an integer or logical (12.8.2)
   abbrev pub is_printable : List Statement → Tree → Bool
   is_printable unit e = is_typed unit e && (is_of Integer (type_of_tree unit e) || is_of Logical (type_of_tree unit e))
 
-  -- the subscripts of what is assigned, given a value by DATA or purged
+  -- whether the subscripts of a target have the right types
   abbrev pub is_target_typed : List Statement → Target → Bool
   is_target_typed unit t =
       if is_nonempty t.subscripts
       then is_list_typed unit (if is_array unit t.occurrence.name then element else external) t.occurrence.name (trees_of t.subscripts) (are_integers unit (trees_of t.subscripts)) (are_actuals unit (trees_of t.subscripts))
       else true
 
-  -- an assignment is of one type on both sides (10.1 and 10.2)
+  -- the type of a target; an assignment has the same type on both sides (10.1 and 10.2)
   abbrev pub type_of_target : List Statement → Target → KnownType
   type_of_target unit t =
       if not (is_nonempty t.subscripts) then type_of_name functions unit t.occurrence.name
@@ -165,7 +165,7 @@ module _ (functions : FunctionTypes) where
   is_item_typed unit (item.Expression t) = is_printable unit t
   is_item_typed unit (item.Characters cs) = true
 
-  -- a type statement gives a function that the unit refers to the type that it has (15.5.1)
+  -- whether a type statement gives a function that the unit references its own type (15.5.1)
   abbrev pub is_type_of : List Statement → ValueType → Name → Bool
   is_type_of unit t x = not (is_referenced unit x) || agree (Some (Some t)) (functions x)
 

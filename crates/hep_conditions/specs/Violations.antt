@@ -15,21 +15,21 @@ at_line number line = record { line = line; number = number; name = None; positi
 abbrev pub at_occurrence : ℕ → ℕ → Occurrence → Violation
 at_occurrence number line p = record { line = line; number = number; name = Some p.name; position = p.position }
 
--- this violation, where the test is true
+-- this violation where the test is true, and else none
 abbrev pub when : Bool → Violation → Violations
 when b v = if b then v ∷ [] else []
 
--- a violation at the line of each thing that agrees with one before it
+-- a violation at the line of each item that agrees with an earlier one, or with one of `before`
 abbrev pub repeated_after : {A : Type 0} → ℕ → (A → A → Bool) → List A → List (A × ℕ) → Violations
 repeated_after number agrees before [] = []
 repeated_after number agrees before (u ∷ us) =
     when (list_any (agrees u.0) before) (at_line number u.1) ++ repeated_after number agrees (u.0 ∷ before) us
 
--- of things with their lines each one that agrees with an earlier one
+-- a violation at the line of each item that agrees with an earlier one
 abbrev pub repeated_by : {A : Type 0} → ℕ → (A → A → Bool) → List (A × ℕ) → Violations
 repeated_by number agrees uses = repeated_after number agrees [] uses
 
--- ---- the first of several: by line, then by number, then by the position of the name
+-- ---- the order of violations: by line, then by number, then by the position of the name
 
 abbrev pub precedes : Violation → Violation → Bool
 precedes a b =

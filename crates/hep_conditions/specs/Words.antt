@@ -1,11 +1,11 @@
--- What others name of this crate's definitions, passed on from one place. Declares nothing.
+-- The names of this crate's definitions, exported again for later crates. This file declares nothing.
 unfoldable pub use Rattle.hep_conditions.specs.Violations.{at_line, at_occurrence, first_of, precedes, repeated_after, repeated_by, Violations}
 unfoldable pub use Rattle.hep_conditions.specs.Violations.{when}
 unfoldable pub use Rattle.hep_conditions.specs.Reported.{first_of_two, least_line, least_line_of, least_line_where, line_when, reported}
 unfoldable pub use Rattle.hep_conditions.specs.Known.{count_of_items, holds_at_each_place, holds_from, holds_within, known_before, meet}
 unfoldable pub use Rattle.hep_conditions.specs.Known.{nothing_more, same_length}
 pub use Rattle.hep_conditions.specs.Known.{Known}
-unfoldable pub use Rattle.hep_conditions.specs.Statements.{calls_in, names_with_lists, names_with_lists_in, names_with_lists_in_all}
+unfoldable pub use Rattle.hep_conditions.specs.Statements.{calls_in, names_of_lists, names_with_lists, names_with_lists_in, names_with_lists_in_all}
 unfoldable pub use Rattle.hep_conditions.specs.Statements.{subexpressions_of, subexpressions_of_all, targets_assigned, targets_in_data}
 unfoldable pub use Rattle.hep_machine.specs.Words.{trees_in_declarator, trees_in_dimension, trees_in_form, trees_in_item, trees_in_statement}
 unfoldable pub use Rattle.hep_machine.specs.Words.{trees_in_upper}
@@ -53,7 +53,8 @@ unfoldable pub use Rattle.hep_conditions.specs.Conditions.{first_violation, IsAc
 unfoldable pub use Rattle.hep_conditions.specs.Laws.{Keeps}
 unfoldable pub use Rattle.hep_conditions.specs.Types.{FunctionTypes, function_types, is_function_in, is_type_of, no_functions, type_of_name}
 unfoldable pub use Rattle.hep_conditions.specs.Counts.{is_reference_counted}
-unfoldable pub use Rattle.hep_conditions.specs.Nesting.{is_loop_variable}
-unfoldable pub use Rattle.hep_conditions.specs.Arguments.{fits_reference, list_of}
+unfoldable pub use Rattle.hep_conditions.specs.Nesting.{has_loop_variable, is_loop_variable, loop_variables}
+unfoldable pub use Rattle.hep_conditions.specs.Arguments.{fits_reference}
+pub use Rattle.hep_machine.specs.Words.{list_of}
 unfoldable pub use Rattle.hep_conditions.specs.Names.{function_names, function_names_alone, is_untyped, misnamed, misused_results, referenced_typed}
 unfoldable pub use Rattle.hep_conditions.specs.Names.{result_names}

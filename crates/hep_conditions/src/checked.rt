@@ -7,11 +7,11 @@ ghost use Rattle.hep_conditions.specs.Words.{IsAccepted};
 use hep_source::Program;
 use std::marker::Model;
 
-/// A program that violates no condition. Contracts see its units.
+/// A program that violates no condition. Contracts see it as the list of its units.
 #[derive(Drop)]
 pub struct Checked {
     program: Program,
-    // The cells of the frame of each unit.
+    // The number of cells of the frame of each unit.
     frames: Vec<u128>,
 }
 
@@ -33,8 +33,8 @@ impl Model for Checked {
 }
 
 impl Checked {
-    /// A program that violates no condition, and how many cells the frame of each unit has. `hep_check` finds
-    /// out both.
+    /// Makes a checked program from a program that violates no condition and the number of cells of each unit's
+    /// frame. `hep_check` establishes both.
     pub fn new(program: Program, frames: Vec<u128>) -> Checked
         requires accepted { IsAccepted program }
         requires counted { frames.items ≡ map variables.frame_cells program }
@@ -50,15 +50,15 @@ impl Checked {
         &self.program
     }
 
-    /// The program alone; this takes no memory.
+    /// The program alone. This allocates no memory.
     pub fn into_program(self) -> Program
         ensures { result ≡ self }
     {
         self.program
     }
 
-    /// How many cells the frame of a unit has (docs/MACHINE.md, "Variables and frames"), by its index in the source,
-    /// counted from 0; this takes no memory.
+    /// The number of cells of a unit's frame (docs/MACHINE.md, "Variables and frames"), by the index of the unit in the source,
+    /// counted from 0. This allocates no memory.
     pub fn frame_cells(&self, unit: usize) -> u128
         requires { unit < length self.now }
         ensures { result ≡ variables.frame_cells (unit_at self.now unit) }

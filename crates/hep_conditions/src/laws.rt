@@ -1,4 +1,4 @@
-//! Laws of the conditions: what holds of every accepted program.
+//! Laws of the conditions, which hold for every accepted program.
 ghost use Rattle.std.specs.Prelude.{◌≡◌, ◌++◌, ℕ, List, [], Some, slice_get};
 ghost use Rattle.hep_machine.specs.Words.{Statement, Units, given_by, named_constants};
 ghost use Rattle.hep_conditions.specs.Words.{IsAccepted, no_parameters, with_parameters, Keeps};

@@ -1,8 +1,8 @@
-//! The conditions that a program has to meet before it runs, 301 to 312.
+//! The conditions that a program must meet before it runs, 301 to 312.
 //!
-//! The conditions are stated in `specs/`, each as the list of the violations that a program has. A
-//! program is accepted where it has none; else the first one by line, number and position is reported. A
-//! program that is accepted is kept as a [`Checked`], which `hep_check` makes.
+//! `specs/` states each condition as the list of its violations in a program. A program without a violation is
+//! accepted. Of any other program the first violation by line, number and position is reported. A [`Checked`]
+//! is an accepted program, which `hep_check` makes.
 #![tactic(auto)]
 
 pub mod checked;

@@ -1,4 +1,4 @@
-//! When two declared types are one (X3.9-1978, 4.1).
+//! Equality of declared types (X3.9-1978, 4.1).
 ghost use Rattle.std.specs.Prelude.{◌≡◌};
 ghost use Rattle.hep_conditions.specs.Types as types;
 
@@ -13,7 +13,7 @@ fn same_type(first: ValueType, second: ValueType) -> bool
     }
 }
 
-/// Two names have one type: integer, logical, or none where it is real.
+/// Whether the types of two names are the same: integer, logical, or none for real.
 pub fn same_declared(first: Option<ValueType>, second: Option<ValueType>) -> bool
     ensures { result ≡ types.same_declared first second }
 {

@@ -6,8 +6,8 @@ use Rattle.hep_control.specs.Labels.{executable_label, noted, is_absent, goes_no
 use Rattle.std.specs.List.{flat_map, list_any}
 use Rattle.hep_conditions.specs.Words.{Violations, unlabelled, labels_of, label_violations, targets_of_jump, terminal_labels, first_of, when, at_line, repeated_after, repeated_by, reported, least_line, line_when}
 use Rattle.std.proofs.lemmas.List.Folds.{list_any-append}
-use Rattle.hep_source.proofs.Tests.{any-flat, or-assoc, or-true}
-use Rattle.hep_control.proofs.Sets.{any-and, any-line, any-same, any-when, line_passes, told-when}
+use Rattle.hep_source.proofs.Tests.{any-flat, or-assoc, or-true, any-same, any-and}
+use Rattle.hep_control.proofs.Sets.{any-line, any-when, line_passes, told-when}
 use Rattle.hep_conditions.proofs.Lines.{reported-any, reported-append, reported-of, reported-when, least_line-where, least_line-assoc}
 
 -- where a label leads from statement `index` on, if it wasn't met before

@@ -1,9 +1,9 @@
 pub mod Labelled
 pub mod Sets
 pub mod Swept
-pub mod Leaps
-pub mod Crossed
-pub mod Alone
-pub mod Ahead
-pub mod Looped
-pub mod Pushed
+pub mod JumpSweeps
+pub mod NestingSweeps
+pub mod SingleLines
+pub mod Continuations
+pub mod InnermostLoops
+pub mod AddedLines

@@ -1,5 +1,5 @@
 -- Lists and sets, as tests of some element see them; and lists that grow at their end, or stand in another order.
-use Rattle.std.proofs.Common.{◌≡◌, ℕ, ◌≤◌, Bool, true, false, ◌&&◌, ◌||◌, is_some, option_to_list, List, [], ◌∷◌, map, refl, ◌∙◌, sym, ap, arith, slice_get, if◌then◌else◌, ◌+◌, ◌++◌, append_assoc, append-nil, drop, length, Option, Some, None, reverse}
+use Rattle.std.proofs.Common.{◌≡◌, ℕ, ◌≤◌, Bool, true, false, ◌&&◌, ◌||◌, is_some, option_to_list, List, [], ◌∷◌, map, refl, ◌∙◌, sym, ap, arith, slice_get, if◌then◌else◌, ◌+◌, ◌++◌, append_assoc, append-nil, drop, length, Option, None, reverse}
 use Rattle.std.specs.List.{list_any, filter, flat_map, All}
 use Rattle.std.specs.BTreeSet.{insert_key}
 use Rattle.std.specs.Ordering.{nat_cmp, match_ordering}
@@ -11,7 +11,7 @@ use Rattle.std.proofs.lemmas.Bool.Decides.{nat_tests}
 use Rattle.std.proofs.lemmas.List.{drop_all}
 use Rattle.std.proofs.lemmas.Map.Lookups.{exact_unsigned}
 use Rattle.hep_control.specs.Sweep.{is_within}
-use Rattle.hep_source.proofs.Tests.{and-false, any-or, or-false, or-turned}
+use Rattle.hep_source.proofs.Tests.{or-false, or-turned, any-same}
 use Rattle.std.proofs.lemmas.List.Folds.{list_any-append}
 use Rattle.hep_conditions.specs.declared.violation.Violation.{Violation}
 use Rattle.hep_conditions.specs.Words.{Violations, at_line, line_when, when}
@@ -20,7 +20,7 @@ use Rattle.hep_conditions.specs.Words.{IndexedStatement, indexed_from, least_lin
 use Rattle.std.specs.List.Sorted.{IsPermutation}
 use Rattle.std.proofs.lemmas.List.Sorted.{list_any-IsPermutation, All-permutation, IsPermutation-sym, IsPermutation-reverse}
 use Rattle.std.proofs.lemmas.List.Elements.{All-nil, All-cons, All-head, All-tail, All-weaker}
-use Rattle.hep_conditions.proofs.Lines.{least_line-none, least_line-assoc, least_line-comm}
+use Rattle.hep_conditions.proofs.Lines.{least_line-none, least_line-assoc, least_line-comm, least_line-again}
 
 pub or-comm : (a b : Bool) → (a || b) ≡ (b || a)
 or-comm true true = refl
@@ -50,10 +50,6 @@ any-filter test (x ∷ xs) = by (test x) (any-filter test xs)
         → is_some (slice_get (if b then x ∷ filter test xs else filter test xs) 0) ≡ (b || list_any test xs)
     by true h = refl
     by false h = h
-
-pub any-same : {A : Type 0} (p q : A → Bool) → ((x : A) → p x ≡ q x) → (xs : List A) → list_any p xs ≡ list_any q xs
-any-same p q h [] = refl
-any-same p q h (x ∷ xs) = rw (h x, any-same p q h xs) refl
 
 pub any-map : {A B : Type 0} (test : B → Bool) (f : A → B) (xs : List A) → list_any test (map f xs) ≡ list_any (λ x. test (f x)) xs
 any-map test f [] = refl
@@ -97,10 +93,6 @@ at-end f ys i found whole z le h = sym (append-nil found) ∙ (ap (λ l. found +
 
 -- ---- lists in another order give the same line
 
-least_line-again : (m : Option ℕ) → least_line m m ≡ m
-least_line-again None = refl
-least_line-again (Some k) = grind (arith, nat_tests)
-
 module _ {A : Type 0} (line : A → Option ℕ) where
   -- an element's line isn't below another
   abbrev pub Bounds : Option ℕ → A → Type 0
@@ -141,20 +133,6 @@ pub any-reverse : {A : Type 0} (test : A → Bool) (xs : List A) → list_any te
 any-reverse test xs = any-permutation test xs (reverse xs) (IsPermutation-reverse xs)
 
 -- ---- all lines that are reported, as tests of a line see them
-
-pub and-split : (a b t : Bool) → ((a && t) || (b && t)) ≡ ((a || b) && t)
-and-split true b true = refl
-and-split true b false = and-false b
-and-split false b t = refl
-
-pub any-and : {A : Type 0} (p : A → Bool) (t : Bool) (xs : List A) → list_any (λ x. p x && t) xs ≡ (list_any p xs && t)
-any-and p t [] = refl
-any-and p t (x ∷ xs) = ap (λ b. (p x && t) || b) (any-and p t xs) ∙ and-split (p x) (list_any p xs) t
-
-pub any-turned : {A B : Type 0} (c : A → B → Bool) (xs : List A) (ys : List B) → list_any (λ x. list_any (c x) ys) xs ≡ list_any (λ y. list_any (λ x. c x y) xs) ys
-any-turned c [] ys = sym (any-none (λ y. false) (λ y. refl) ys)
-any-turned c (x ∷ xs) ys =
-    ap (λ b. list_any (c x) ys || b) (any-turned c xs ys) ∙ sym (any-or (c x) (λ y. list_any (λ z. c z y) xs) ys)
 
 pub any-line : (test : ℕ → Bool) (b : Bool) (line : ℕ) → list_any test (option_to_list (line_when b line)) ≡ (b && test line)
 any-line test true line = or-false (test line)

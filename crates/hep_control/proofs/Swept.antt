@@ -9,10 +9,10 @@ use Rattle.hep_conditions.proofs.Lines.{least_line_of-append, least_line-assoc, 
 use Rattle.hep_control.specs.declared.sweep.Event.{Event}
 use Rattle.hep_control.specs.declared.sweep.Event.TheVariants.{Value, Question}
 use Rattle.hep_control.specs.Sweep.{is_within, comes_before, line_asked, lines_asked, least_met, rank, line_met, with_event, least_swept, lines_swept}
-use Rattle.hep_source.proofs.Tests.{any-flat, or-false, or-turned}
+use Rattle.hep_source.proofs.Tests.{any-flat, or-false, or-turned, any-same}
 use Rattle.std.specs.List.Sorted.{IsNonDecreasingBy, IsPermutation}
 use Rattle.std.proofs.lemmas.Bool.Decides.{nat_tests}
-use Rattle.hep_control.proofs.Sets.{any-line, any-map, any-same, least_line_of-permutation, any-permutation}
+use Rattle.hep_control.proofs.Sets.{any-line, any-map, least_line_of-permutation, any-permutation}
 
 module _ {A B : Type 0} (vk vv : A → ℕ) (qk low high line : B → ℕ) where
   abbrev value : A → Event

@@ -1,4 +1,4 @@
--- Jumps and what they may not lead into, as the code keeps them (X3.9-1978, 11.6.3, 11.7.2, 11.8.2 and 11.10.8).
+-- Jumps and the regions into which they may not lead, as the code represents them (X3.9-1978, 11.6.3, 11.7.2, 11.8.2 and 11.10.8).
 use Rattle.std.specs.Prelude.{ℕ, suc, ◌-◌, List, [], ◌∷◌, Option, Some, None}
 use Rattle.std.specs.List.{flat_map}
 use Rattle.std.below.core.specs.declared.int.usize.TheConstants.{MAX}
@@ -16,7 +16,7 @@ use Rattle.hep_control.specs.declared.sweep.Event.TheVariants.{Value, Question}
 abbrev pub region : Region → nesting.Region
 region r = record { after = r.after; before = r.before }
 
--- the blocks of a block IF in order, without what is after the last division where it has no END IF
+-- the blocks of a block IF in order; without an END IF there is no block after the last ELSE IF or ELSE
 abbrev pub blocks_from : ℕ → List ℕ → Option ℕ → List nesting.Region
 blocks_from start [] None = []
 blocks_from start [] (Some end) = record { after = start; before = end } ∷ []
@@ -30,7 +30,7 @@ range_region r = nesting.range_region r
 
 -- ---- jumps
 
--- from a statement to another one, with the line that is reported
+-- a jump from a statement to another one, with the line that is reported
 pub record Leap : Type 0 where
   pub from : ℕ
   pub to : ℕ
@@ -52,7 +52,7 @@ leaps_at unit p = leaps_by unit p.index p.statement.line (targets_of_jump p.stat
 abbrev pub leaps_of : List Statement → List Leap
 leaps_of unit = flat_map (leaps_at unit) (indexed_statements unit)
 
--- ---- which regions a jump leads into: by where they begin, and by where they end
+-- ---- the regions into which a jump leads, by their beginnings and by their ends
 
 abbrev pub value_by_start : Region → Event
 value_by_start r = Value r.after r.before
@@ -66,6 +66,6 @@ value_by_end r = Value (MAX - r.before) r.after
 abbrev pub question_by_end : Jump → Event
 question_by_end j = Question (MAX - j.to) j.from j.to j.line
 
--- the least line of a jump to an ELSE IF or ELSE
+-- the line of a jump, where it leads to an ELSE IF or ELSE
 abbrev pub line_to_division : List Statement → Jump → Option ℕ
 line_to_division unit j = line_when (is_division (role_of (statement_at unit j.to))) j.line

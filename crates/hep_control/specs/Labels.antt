@@ -4,30 +4,31 @@ use Rattle.std.specs.List.{list_any}
 use Rattle.hep_machine.specs.Words.{Statement, is_executable, index_labelled}
 use Rattle.hep_conditions.specs.Words.{targets_of_jump, terminal_labels, least_line, line_when, least_line_where}
 
--- the label of a statement that one may go to
+-- the label of an executable statement
 abbrev pub executable_label : Statement → Option ℕ
 executable_label s = if is_executable s.form then s.label else None
 
--- where a label is, after one more statement, which has the label or not: the first one that has it counts
+-- the index of a label after one more statement, which has the label or not; the first statement with the label counts
 abbrev pub noted : Option ℕ → Bool → ℕ → Option ℕ
 noted (Some k) is_met index = Some k
 noted None is_met index = if is_met then Some index else None
 
+-- no executable statement of a unit has a label
 abbrev pub is_absent : List Statement → ℕ → Bool
 is_absent unit l = is_none (index_labelled unit l)
 
--- a statement that goes to a label of no executable statement
+-- whether a statement refers to a label which no executable statement has
 abbrev pub goes_nowhere : List Statement → Statement → Bool
 goes_nowhere unit s = list_any (is_absent unit) (targets_of_jump s.form ++ terminal_labels s.form)
 
 abbrev pub line_of : Statement → ℕ
 line_of s = s.line
 
--- the least line of those among these statements
+-- the least line of such a statement among these
 abbrev pub least_unlabelled : List Statement → List Statement → Option ℕ
 least_unlabelled unit ss = least_line_where (goes_nowhere unit) line_of ss
 
--- a label is among those that were seen
+-- whether a label is among those seen so far
 abbrev pub is_seen : (ℕ → Bool) → Option ℕ → Bool
 is_seen seen None = false
 is_seen seen (Some l) = seen l
@@ -36,12 +37,12 @@ abbrev pub with_seen : (ℕ → Bool) → Option ℕ → ℕ → Bool
 with_seen seen None k = seen k
 with_seen seen (Some l) k = nat_eq k l || seen k
 
--- the least line of a statement whose label was seen, or a statement before it has
+-- the least line of a statement whose label was seen, or an earlier statement has
 abbrev pub least_repeated : (ℕ → Bool) → List Statement → Option ℕ
 least_repeated seen [] = None
 least_repeated seen (s ∷ ss) = least_line (line_when (is_seen seen s.label) s.line) (least_repeated (with_seen seen s.label) ss)
 
--- the lines of statements whose label was seen, or a statement before them has, and of those that go to no statement
+-- the lines of statements whose label was seen or an earlier statement has, and of those that refer to a label which no statement has
 abbrev pub lines_from : List Statement → (ℕ → Bool) → List Statement → List ℕ
 lines_from unit seen [] = []
 lines_from unit seen (s ∷ ss) =

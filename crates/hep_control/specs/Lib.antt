@@ -3,6 +3,6 @@ pub mod Sweep
 pub mod Ranges
 pub mod Jumps
 pub mod Structure
-pub mod Crossing
+pub mod Nesting
 pub mod Successors
 pub mod Loops

@@ -1,4 +1,4 @@
--- DO ranges and block IFs as the code keeps them (X3.9-1978, 11.6 to 11.10).
+-- DO ranges and block IFs, as the code represents them (X3.9-1978, 11.6 to 11.10).
 use Rattle.std.specs.Prelude.{List, [], if◌then◌else◌, reverse}
 use Rattle.hep_machine.specs.Words.{Statement}
 use Rattle.hep_conditions.specs.Nesting as nesting
@@ -9,7 +9,7 @@ use Rattle.hep_control.specs.declared.blocks.BlockIf.{BlockIf}
 abbrev pub do_range : DoRange → nesting.DoRange
 do_range r = record { start = r.start; terminal = r.terminal; variable = r.variable }
 
--- the range of a statement, if any
+-- the range of a statement, if it is a DO with a range
 abbrev pub range_at : List Statement → IndexedStatement → List nesting.DoRange
 range_at unit p = if is_unconditional p.statement then range_by unit p.index p.statement.form else []
 

@@ -1,27 +1,19 @@
 -- 307 by lines (X3.9-1978, 11.5 to 11.10).
-use Rattle.std.specs.Prelude.{ℕ, Bool, true, not, nat_lt, if◌then◌else◌, List, [], ◌++◌, map, Option, Some, None, option_to_list, slice_get}
+use Rattle.std.specs.Prelude.{ℕ, Bool, true, not, nat_lt, if◌then◌else◌, List, [], ◌++◌, Option, Some, None, option_to_list, slice_get}
 use Rattle.std.specs.List.{flat_map}
 use Rattle.std.specs.Option.{unwrap_or}
 use Rattle.hep_machine.specs.Words.{Form, Statement, line_at, statement_at, index_labelled}
 use Rattle.hep_source.specs.declared.statement.Form.TheVariants as form
-use Rattle.hep_conditions.specs.Words.{IndexedStatement, is_unconditional, is_wrong_terminal, holds_wrongly, FunctionTypes, is_loop_variable, least_line, line_when, least_line_of}
+use Rattle.hep_conditions.specs.Words.{IndexedStatement, is_unconditional, is_wrong_terminal, holds_wrongly, least_line, line_when, least_line_of}
 use Rattle.hep_control.specs.declared.blocks.BlockIf.{BlockIf}
-
--- for each statement whether its DO variable, where it has one, may be one: a plain integer scalar, and no function
-abbrev pub has_loop_variable : FunctionTypes → List Statement → Form → Bool
-has_loop_variable functions unit (form.Do c) = is_loop_variable functions unit c.variable.name
-has_loop_variable functions unit _ = true
-
-abbrev pub loop_variables : FunctionTypes → List Statement → List Bool
-loop_variables functions unit = map (λ (s : Statement). has_loop_variable functions unit s.form) unit
 
 -- what such a list says of the statement at an index
 abbrev pub variable_at : List Bool → ℕ → Bool
 variable_at variables k = unwrap_or (slice_get variables k) true
 
--- ---- the lines at which statements by themselves are reported
+-- ---- the lines of statements that violate 307 on their own
 
--- the line of a terminal statement that may be none
+-- the line of a terminal statement, where its form is not allowed there
 abbrev pub wrong_terminal_line : List Statement → ℕ → Option ℕ
 wrong_terminal_line unit t = line_when (is_wrong_terminal (statement_at unit t)) (line_at unit t)
 
@@ -42,7 +34,7 @@ statement_line unit is_variable p =
 abbrev pub least_statement : List Statement → List Bool → List IndexedStatement → Option ℕ
 least_statement unit variables ps = least_line_of (λ (p : IndexedStatement). statement_line unit (variable_at variables p.index) p) ps
 
--- all of those lines
+-- all lines of violations by the terminal statement of a DO
 
 abbrev pub terminal_lines : List Statement → ℕ → ℕ → Option ℕ → List ℕ
 terminal_lines unit line k None = []
@@ -61,7 +53,7 @@ statement_lines unit is_variable p =
 abbrev pub lines_alone : List Statement → List Bool → List IndexedStatement → List ℕ
 lines_alone unit variables ps = flat_map (λ (p : IndexedStatement). statement_lines unit (variable_at variables p.index) p) ps
 
--- ---- the lines that block IFs by themselves tell
+-- ---- the lines of block IFs that aren't complete
 
 abbrev pub line_of_stray : List Statement → ℕ → Option ℕ
 line_of_stray unit k = Some (line_at unit k)

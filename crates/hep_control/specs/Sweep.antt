@@ -1,4 +1,4 @@
--- Values and questions: whether a value with a lesser key lies in an interval.
+-- The sweep over values and questions: whether a value with a lesser key is in an interval.
 use Rattle.std.specs.Prelude.{ℕ, ◌+◌, ◌*◌, Bool, false, ◌&&◌, nat_lt, nat_le, List, [], ◌∷◌, ◌++◌, Option, None, option_to_list}
 use Rattle.std.specs.List.{flat_map, list_any}
 use Rattle.hep_conditions.specs.Words.{least_line, line_when, least_line_of}
@@ -8,21 +8,21 @@ use Rattle.hep_control.specs.declared.sweep.Event.TheVariants.{Value, Question}
 abbrev pub is_within : ℕ → ℕ → ℕ → Bool
 is_within low high v = nat_le low v && nat_lt v high
 
--- a value with a lesser key, from `low` to below `high`
+-- whether an event is a value with a lesser key in the interval from `low` to below `high`
 abbrev pub comes_before : ℕ → ℕ → ℕ → Event → Bool
 comes_before key low high (Value k v) = nat_lt k key && is_within low high v
 comes_before key low high (Question k l h line) = false
 
--- the line that a question gives among these events
+-- the answer to a question among these events: its line, if there is such a value
 abbrev pub line_asked : List Event → Event → Option ℕ
 line_asked events (Value k v) = None
 line_asked events (Question key low high line) = line_when (list_any (comes_before key low high) events) line
 
--- the least line that the questions give, in whatever order they stand
+-- the least line in the answers to the questions, in any order of events
 abbrev pub least_met : List Event → Option ℕ
 least_met events = least_line_of (line_asked events) events
 
--- all lines that the questions give
+-- all lines in the answers to the questions
 abbrev pub lines_asked : List Event → List ℕ
 lines_asked events = flat_map (λ e. option_to_list (line_asked events e)) events
 

@@ -8,16 +8,16 @@ use hep_source::{Form, Statement};
 use std::alloc::{AllocError, Global};
 use std::marker::Model;
 
-/// A block IF: where it begins, its ELSE IF and ELSE statements, and its END IF, if any.
+/// A block IF: its index, those of its ELSE IF and ELSE statements, and that of its END IF, if there is one.
 pub(crate) struct BlockIf {
     pub start: usize,
-    // The first one first.
+    // The indices of the ELSE IF and ELSE statements, the first one first.
     pub divisions: Vec<usize>,
     pub has_else: bool,
     pub end: Option<usize>,
 }
 
-// Written out, so that a caller's proof has one call of it at each exit.
+// This is written out so that the proof of a caller has one call of it at each exit.
 impl Drop for BlockIf {
     fn drop(self) {
         let BlockIf {
@@ -29,8 +29,8 @@ impl Drop for BlockIf {
     }
 }
 
-/// The block IFs of the statements that were read, and the statements that fit none. Contracts see
-/// those that were read last first.
+/// The block IFs of the statements read so far, and the ELSE IF, ELSE and END IF statements of no block IF. Contracts see
+/// the last one read first.
 pub(crate) struct BlockIfs {
     unclosed: Vec<BlockIf>,
     closed: Vec<BlockIf>,
@@ -62,21 +62,21 @@ impl Model for BlockIfs {
 }
 
 impl BlockIfs {
-    // Those that have their END IF, in its order.
+    // The block IFs with an END IF, in the order of their END IFs.
     pub(crate) fn closed(&self) -> &[BlockIf]
         ensures { reverse (map block_if result.now) ≡ self.now.closed }
     {
         &self.closed
     }
 
-    // Those that have no END IF.
+    // The block IFs without an END IF.
     pub(crate) fn unclosed(&self) -> &[BlockIf]
         ensures { reverse (map block_if result.now) ≡ self.now.unclosed }
     {
         &self.unclosed
     }
 
-    // ELSE IF, ELSE and END IF statements of no block IF.
+    // The ELSE IF, ELSE and END IF statements of no block IF.
     pub(crate) fn stray(&self) -> &[usize]
         ensures { reverse result.now ≡ self.now.stray }
     {

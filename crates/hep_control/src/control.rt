@@ -1,4 +1,4 @@
-//! Which statement comes next in a unit (X3.9-1978, section 11).
+//! The flow of control in a unit (X3.9-1978, section 11).
 ghost use Rattle.std.specs.Prelude.{◌≡◌, ◌<◌, ◌≤◌, length, slice_get, IfOk};
 ghost use Rattle.hep_machine.specs.Control as control;
 ghost use Rattle.hep_control.specs.Successors as spec;
@@ -10,7 +10,7 @@ use hep_source::{Form, Statement};
 use std::alloc::{AllocError, Global};
 use std::marker::Model;
 
-/// A unit with tables of where one goes in it. Contracts see the unit.
+/// A unit with tables of its flow of control. Contracts see the unit.
 pub struct Control<'a> {
     labels: Labels<'a>,
     successors: Vec<Successors>,
@@ -49,7 +49,7 @@ impl<'a> Model for Control<'a> {
 }
 
 impl<'a> Control<'a> {
-    /// Goes through the statements of a unit once.
+    /// Makes the tables of a unit in one pass over its statements.
     ///
     /// # Errors
     ///
@@ -73,7 +73,7 @@ impl<'a> Control<'a> {
         self.labels.unit()
     }
 
-    /// The index of the first executable statement with a label, and past the last statement where
+    /// The index of the first executable statement with a label, or the index after the last statement where
     /// there is none.
     pub fn index_of_label(&self, label: u32) -> usize
         ensures { result ≡ control.index_of_label self.now label }
@@ -94,7 +94,7 @@ impl<'a> Control<'a> {
         }
     }
 
-    /// The index of the statement that is executed next after that at an index.
+    /// The index of the statement that is executed after the one at an index.
     pub fn following(&self, index: usize) -> usize
         requires { index < length self.now }
         ensures { result ≡ control.following self.now index }
@@ -102,8 +102,8 @@ impl<'a> Control<'a> {
         self.successors_at(index).following
     }
 
-    /// Where the condition of the IF THEN or ELSE IF at an index is false: its next ELSE IF, the
-    /// statement after its ELSE, or its END IF.
+    /// The index where control goes if the condition of the IF THEN or ELSE IF at an index is false: the next ELSE IF, the
+    /// statement after ELSE, or the END IF.
     pub fn alternative_of(&self, index: usize) -> usize
         requires { index < length self.now }
         ensures { result ≡ control.alternative_of self.now index }
@@ -111,7 +111,7 @@ impl<'a> Control<'a> {
         self.successors_at(index).alternative
     }
 
-    /// The END IF of the block IF whose block the statement after an index is in.
+    /// The index of the END IF of the block IF that contains the statement after an index.
     pub fn end_if_after(&self, index: usize) -> usize
         requires { index < length self.now }
         ensures { result ≡ control.end_if_after self.now index }
@@ -119,8 +119,8 @@ impl<'a> Control<'a> {
         self.successors_at(index).end_if
     }
 
-    /// The innermost DO that ends at the statement at an index. Past the last statement those end whose
-    /// label no statement has.
+    /// The innermost DO that ends at the statement at an index. A DO whose label no statement has ends at the index after
+    /// the last statement.
     pub fn innermost_loop(&self, index: usize) -> Option<usize>
         requires { index ≤ length self.now }
         ensures { result ≡ slice_get (control.loops_ending_at self.now index) 0 }

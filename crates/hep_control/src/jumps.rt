@@ -9,12 +9,11 @@ ghost use Rattle.hep_control.specs.declared.region.Jump.{Jump as PureJump};
 ghost use Rattle.hep_control.specs.Jumps as spec;
 
 use crate::labels::Labels;
-use crate::lines::add_line;
 use crate::region::{Jump, Region};
 use crate::regions::regions_of;
 use crate::sweep::{Event, add_met, least_met, question, value};
 use hep_conditions::Violation;
-use hep_conditions::reported::{lesser, line_when, reported};
+use hep_conditions::reported::{add_line, lesser, line_when, reported};
 use hep_source::{Form, Statement};
 use std::alloc::{AllocError, Global};
 
@@ -35,7 +34,7 @@ pub fn jump_violation(alloc: Global, labels: &Labels) -> Result<Option<Violation
     Ok(reported(308, lesser(lesser(late, early), division)))
 }
 
-/// The lines of all violations of 308, in whatever order.
+/// The lines of all violations of 308, in any order.
 ///
 /// # Errors
 ///
@@ -55,7 +54,7 @@ pub fn jump_lines(alloc: Global, labels: &Labels) -> Result<Vec<u32>, AllocError
     Ok(lines)
 }
 
-// Where a statement goes with a label, if the label leads anywhere.
+// Adds the jump of a statement to a label, if an executable statement has the label.
 fn add_jump(
     jumps: &mut Vec<Jump>,
     labels: &Labels,
@@ -128,7 +127,7 @@ fn jumps_of(alloc: Global, labels: &Labels) -> Result<Vec<Jump>, AllocError>
     Ok(jumps)
 }
 
-// Asks of each jump whether it comes into a region from after the region's end: some region begins before
+// The events for jumps into a region from after its end: for each jump the question is whether some region begins before
 // the target, and ends after it and no later than at the jump.
 fn events_by_start(
     alloc: Global,
@@ -145,7 +144,7 @@ fn events_by_start(
     Ok(events)
 }
 
-// Adds the regions by where they begin.
+// Adds the regions by their beginnings.
 fn add_starts(events: &mut Vec<Event>, regions: &[Region]) -> Result<(), AllocError>
     ensures { OnOk result (events.new.items ≡ events.old.items ++ map spec.value_by_start regions.now) }
 {
@@ -155,7 +154,7 @@ fn add_starts(events: &mut Vec<Event>, regions: &[Region]) -> Result<(), AllocEr
     Ok(())
 }
 
-// Asks of each jump whether it comes into a region from before the region's start: some region ends after
+// The events for jumps into a region from before its beginning: for each jump the question is whether some region ends after
 // the target, and begins before it and no earlier than at the jump.
 fn events_by_end(
     alloc: Global,
@@ -172,7 +171,7 @@ fn events_by_end(
     Ok(events)
 }
 
-// Adds the regions by where they end, the last one first.
+// Adds the regions by their ends, the last one first.
 fn add_ends(events: &mut Vec<Event>, regions: &[Region]) -> Result<(), AllocError>
     ensures { OnOk result (events.new.items ≡ events.old.items ++ map spec.value_by_end regions.now) }
 {

@@ -1,19 +1,17 @@
-//! The labels of a unit: where they lead, and 306 (X3.9-1978, 3.4).
+//! The labels of a unit, and the condition 306 (X3.9-1978, 3.4).
 ghost use Rattle.std.specs.Prelude.{◌≡◌, ℕ, ◌<◌, Bool, nat_eq, false, length, IfOk, IfSome, OnOk, ◌++◌};
 ghost use Rattle.std.specs.List.{list_any};
 ghost use Rattle.std.specs.Option.{is_none};
 ghost use Rattle.indexmap.specs.IndexMap.{get};
 ghost use Rattle.indexmap.specs.IndexSet.{contains};
 ghost use Rattle.hep_machine.specs.Control as control;
-ghost use Rattle.hep_source.specs.Units as units;
 ghost use Rattle.hep_conditions.specs.Words.{label_violations, targets_of_jump, terminal_labels, first_of};
 ghost use Rattle.hep_conditions.specs.declared.violation.Violation.{Violation as PureViolation};
 ghost use Rattle.hep_control.specs.Labels as passes;
 
-use crate::lines::add_line;
 use hep_conditions::Violation;
-use hep_conditions::reported::{lesser, line_when, reported};
-use hep_source::{Form, Statement};
+use hep_conditions::reported::{add_line, lesser, line_when, reported};
+use hep_source::{Form, Statement, is_executable};
 use indexmap::{IndexMap, IndexSet};
 use std::alloc::{AllocError, Global};
 use std::marker::Model;
@@ -48,7 +46,7 @@ impl<'a> Model for Labels<'a> {
 }
 
 impl<'a> Labels<'a> {
-    /// The labels of a unit, by one pass over its statements.
+    /// Makes the table of the labels of a unit in one pass over its statements.
     ///
     /// # Errors
     ///
@@ -80,7 +78,7 @@ impl<'a> Labels<'a> {
         self.indices.get(&label).copied()
     }
 
-    /// The same, and past the last statement where there is none.
+    /// The index of the first executable statement with a label, or the index after the last statement where there is none.
     pub fn index_of_label(&self, label: u32) -> usize
         ensures { result ≡ control.index_of_label self.now label }
     {
@@ -94,8 +92,8 @@ impl<'a> Labels<'a> {
     }
 }
 
-/// The first violation of 306: a label that a statement goes to is on no executable statement, or two
-/// statements have one label.
+/// The first violation of 306: a statement refers to a label that no executable statement has, or two
+/// statements have the same label.
 ///
 /// # Errors
 ///
@@ -108,7 +106,7 @@ pub fn label_violation(alloc: Global, labels: &Labels) -> Result<Option<Violatio
     Ok(reported(306, lesser(unlabelled, repeated)))
 }
 
-/// The lines of all violations of 306, in whatever order.
+/// The lines of all violations of 306, in any order.
 ///
 /// # Errors
 ///
@@ -130,7 +128,7 @@ pub fn label_lines(alloc: Global, labels: &Labels) -> Result<Vec<u32>, AllocErro
     Ok(lines)
 }
 
-// The least line of a statement that goes to no statement.
+// The least line of a statement that refers to a label which no executable statement has.
 fn least_unlabelled(labels: &Labels) -> Option<u32>
     ensures { result ≡ passes.least_unlabelled labels.now labels.now }
 {
@@ -142,7 +140,7 @@ fn least_unlabelled(labels: &Labels) -> Option<u32>
     least
 }
 
-// Whether some label that a statement goes to is on no executable statement.
+// Whether a statement refers to a label which no executable statement has.
 fn goes_nowhere(labels: &Labels, form: &Form) -> bool
     ensures { result ≡ list_any (passes.is_absent labels.now) (targets_of_jump form.now ++ terminal_labels form.now) }
 {
@@ -170,7 +168,7 @@ fn is_any_absent(labels: &Labels, targets: &[u32]) -> bool
     false
 }
 
-// The least line of a statement whose label a statement before it has.
+// The least line of a statement whose label an earlier statement has.
 fn least_repeated(alloc: Global, unit: &[Statement]) -> Result<Option<u32>, AllocError>
     ensures { IfOk result (λ line. line ≡ passes.least_repeated (λ l. false) unit.now) }
 {
@@ -185,19 +183,19 @@ fn least_repeated(alloc: Global, unit: &[Statement]) -> Result<Option<u32>, Allo
     Ok(least)
 }
 
-// Labels that were seen.
+// The set of labels seen so far.
 struct SeenLabels {
     set: IndexSet<u32>,
 }
 
-// Written out, so that a caller's proof has one call of it at each exit.
+// This is written out so that the proof of a caller has one call of it at each exit.
 impl Drop for SeenLabels {
     fn drop(self) {
         let SeenLabels { set } = self;
     }
 }
 
-// Whether a label is among those that were seen; from now on it is.
+// Adds a label to those seen. The result is whether it was among them.
 fn is_repeated(seen: &mut IndexSet<u32>, label: Option<u32>) -> Result<bool, AllocError>
     ensures repeated { IfOk result (λ it. it ≡ passes.is_seen (contains nat_eq seen.old) label) }
     ensures seen { OnOk result ((l : ℕ) → contains nat_eq seen.new l ≡ passes.with_seen (contains nat_eq seen.old) label l) }
@@ -216,24 +214,6 @@ fn executable_label(statement: &Statement) -> Option<u32>
         statement.label
     } else {
         None
-    }
-}
-
-/// Whether a statement is executable (X3.9-1978, 7.1).
-pub fn is_executable(form: &Form) -> bool
-    ensures { result ≡ units.is_executable form.now }
-{
-    match form {
-        Form::Program(_)
-        | Form::Subroutine(..)
-        | Form::Function(..)
-        | Form::Implicit(_)
-        | Form::Declare(..)
-        | Form::Dimension(_)
-        | Form::Common(_)
-        | Form::Parameter(_)
-        | Form::Data(_) => false,
-        _ => true,
     }
 }
 

@@ -1,14 +1,15 @@
-//! The structure of a program unit: its labels, DOs and block IFs (X3.9-1978, section 11), the
-//! first violation of 306, of 307 and of 308, and the lines of all.
+//! The structure of a program unit: its labels, DOs and block IFs (X3.9-1978, section 11).
+//!
+//! [`Control`] answers where control goes from a statement, and [`Labels`] is the table of labels. The functions named `_violation`
+//! find the first violation of 306, 307 and 308, and those named `_lines` the lines of all violations.
 #![tactic(auto)]
 
 pub(crate) mod blocks;
 pub mod control;
-pub(crate) mod crossing;
 pub mod jumps;
 pub mod labels;
-pub(crate) mod lines;
 pub(crate) mod loops;
+pub(crate) mod nesting;
 pub(crate) mod ranges;
 pub(crate) mod region;
 pub(crate) mod regions;

@@ -8,9 +8,9 @@ use std::alloc::{AllocError, Global};
 
 /// DOs by the statements at which they end.
 pub(crate) struct Loops {
-    // The innermost DO that ends at each statement, and past the last one.
+    // The innermost DO that ends at each statement, and at the index after the last one.
     pub innermost: Vec<Option<usize>>,
-    // For each DO the one around it that ends at the same statement.
+    // For each DO, the DO around it that ends at the same statement.
     pub outer: Vec<Option<usize>>,
 }
 
@@ -37,7 +37,7 @@ pub(crate) fn loops_of(alloc: Global, labels: &Labels) -> Result<Loops, AllocErr
     Ok(Loops { innermost, outer })
 }
 
-// No DO at any statement and past the last one.
+// The table without a DO, for each statement and the index after the last one.
 fn no_loops(alloc: Global, count: usize) -> Result<Vec<Option<usize>>, AllocError>
     ensures { IfOk result (λ loops. loops.items ≡ replicate count None ++ None ∷ []) }
 {
@@ -46,7 +46,7 @@ fn no_loops(alloc: Global, count: usize) -> Result<Vec<Option<usize>>, AllocErro
     Ok(loops)
 }
 
-// Where a statement ends a DO, if it is one that isn't within a logical IF.
+// The index of the terminal statement of a statement that is a DO and isn't within a logical IF.
 fn terminal_at(labels: &Labels, statement: &Statement) -> Option<usize>
     ensures { result ≡ spec.terminal_at labels.now statement.now }
 {
@@ -59,7 +59,7 @@ fn terminal_at(labels: &Labels, statement: &Statement) -> Option<usize>
     }
 }
 
-// The DO that a DO is in and that ends at the same statement; from now on this one is the innermost there.
+// Records a DO as the innermost one that ends at its terminal statement. The result is the DO that was the innermost there before.
 fn enter(innermost: &mut Vec<Option<usize>>, index: usize, terminal: Option<usize>) -> Option<usize>
     ensures met { result ≡ spec.loop_met innermost.old.items index terminal }
     ensures innermost { innermost.new.items ≡ spec.with_loop innermost.old.items index terminal }

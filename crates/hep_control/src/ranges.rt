@@ -10,7 +10,7 @@ use crate::region::DoRange;
 use hep_source::{Form, Statement};
 use std::alloc::{AllocError, Global};
 
-/// The DOs of a unit that have their terminal statements after them, in order.
+/// The ranges of the DOs of a unit whose terminal statements follow them, in order.
 pub(crate) fn ranges_of(alloc: Global, labels: &Labels) -> Result<Vec<DoRange>, AllocError>
     ensures { IfOk result (λ ranges. map do_range ranges.items ≡ nesting.ranges_of labels.now) }
 {
@@ -30,7 +30,7 @@ fn append(ranges: &mut Vec<DoRange>, range: Option<DoRange>) -> Result<(), Alloc
     Ok(())
 }
 
-// The range of a statement, if it is a DO that has one; one within a logical IF has none.
+// The range of a statement, if it is a DO with a range. A DO within a logical IF has no range.
 fn range_at(labels: &Labels, index: usize, statement: &Statement) -> Option<DoRange>
     ensures { option_to_list (option_map do_range result)
         ≡ spec.range_at labels.now (record { index = index; statement = statement.now }) }

@@ -1,10 +1,10 @@
-//! DO ranges (X3.9-1978, 11.10.1), what a jump may not lead into, and jumps (11.6.3, 11.7.2, 11.8.2 and 11.10.8).
+//! DO ranges (X3.9-1978, 11.10.1), regions into which no jump may lead, and jumps (11.6.3, 11.7.2, 11.8.2 and 11.10.8).
 ghost use Rattle.std.below.core.specs.declared.int.usize.TheConstants.{MAX};
 ghost use Rattle.std.specs.Prelude.{◌≡◌, ◌<◌, ◌≤◌};
 
 use hep_source::Name;
 
-/// A DO: its index, that of its terminal statement, and its variable.
+/// The range of a DO: the index of the DO, that of its terminal statement, and its variable.
 #[derive(Clone, Copy)]
 pub(crate) struct DoRange {
     pub start: usize,
@@ -14,7 +14,7 @@ pub(crate) struct DoRange {
     ghost counted: { terminal < MAX },
 }
 
-// The statements from after one up to before another: a DO range or an IF block.
+// A DO range or an IF block: the statements after one statement and before another.
 #[derive(Clone, Copy)]
 pub(crate) struct Region {
     pub after: usize,
@@ -31,7 +31,7 @@ impl Region {
     }
 }
 
-// A statement that may go to another one.
+// A jump: a statement that may jump to another one.
 #[derive(Clone, Copy)]
 pub(crate) struct Jump {
     pub from: usize,

@@ -11,7 +11,7 @@ use crate::ranges::ranges_of;
 use crate::region::{DoRange, Region};
 use std::alloc::{AllocError, Global};
 
-// The ranges and blocks of a unit, in whatever order.
+// The ranges and blocks of a unit, in any order.
 pub(crate) fn regions_of(alloc: Global, labels: &Labels) -> Result<Vec<Region>, AllocError>
     ensures { IfOk result (λ regions. (test : nesting.Region → Bool)
         → list_any test (map spec.region regions.items) ≡ list_any test (nesting.regions_of labels.now)) }

@@ -9,18 +9,17 @@ ghost use Rattle.hep_conditions.specs.Words.{FunctionTypes, first_of};
 ghost use Rattle.hep_control.specs.Structure as spec;
 
 use crate::blocks::{BlockIf, BlockIfs, block_ifs_of};
-use crate::crossing::{add_crossing, least_crossing, line_at};
 use crate::labels::Labels;
-use crate::lines::add_line;
+use crate::nesting::{add_crossing, least_crossing};
 use crate::ranges::ranges_of;
 use hep_conditions::Violation;
-use hep_conditions::reported::{lesser, line_when, reported};
-use hep_source::{Form, Statement};
+use hep_conditions::reported::{add_line, lesser, line_when, reported};
+use hep_source::{Form, Statement, line_at};
 use std::alloc::{AllocError, Global};
 
 /// The first violation of 307: a DO or a logical IF that is wrong by itself, a block IF that isn't
-/// complete, and what isn't nested. The caller says of each statement whether its DO variable, where it
-/// has one, is a plain integer scalar and no function.
+/// complete, or ranges and blocks that aren't nested. `loop_variables` says for each statement whether its DO variable, if it
+/// has one, is an integer scalar without `$` and no function.
 ///
 /// # Errors
 ///
@@ -30,7 +29,7 @@ pub fn structure_violation(
     labels: &Labels,
     loop_variables: &[bool],
 ) -> Result<Option<Violation>, AllocError>
-    ensures { IfOk result (λ violation. (functions : FunctionTypes) → loop_variables.now ≡ spec.loop_variables functions labels.now
+    ensures { IfOk result (λ violation. (functions : FunctionTypes) → loop_variables.now ≡ nesting.loop_variables functions labels.now
         → violation ≡ first_of (nesting.structure_violations functions labels.now)) }
 {
     let unit = labels.unit();
@@ -42,7 +41,7 @@ pub fn structure_violation(
     Ok(reported(307, lesser(alone, lesser(unmatched, crossing))))
 }
 
-/// The lines of all violations of 307, in whatever order. The caller says the same of each statement.
+/// The lines of all violations of 307, in any order. `loop_variables` is as for [`structure_violation`].
 ///
 /// # Errors
 ///
@@ -52,7 +51,7 @@ pub fn structure_lines(
     labels: &Labels,
     loop_variables: &[bool],
 ) -> Result<Vec<u32>, AllocError>
-    ensures { IfOk result (λ lines. (functions : FunctionTypes) → loop_variables.now ≡ spec.loop_variables functions labels.now
+    ensures { IfOk result (λ lines. (functions : FunctionTypes) → loop_variables.now ≡ nesting.loop_variables functions labels.now
         → (test : ℕ → Bool) → list_any test lines.items
         ≡ list_any (λ (v : PureViolation). test v.line) (nesting.structure_violations functions labels.now)) }
 {
@@ -134,7 +133,7 @@ fn least_unclosed(unit: &[Statement], blocks: &[BlockIf]) -> Option<u32>
     least
 }
 
-// The least line that statements by themselves tell.
+// The least line of a statement that violates 307 on its own.
 fn least_statement(labels: &Labels, loop_variables: &[bool]) -> Option<u32>
     ensures { result ≡ spec.least_statement labels.now loop_variables.now (nesting.indexed_statements labels.now) }
 {
@@ -147,7 +146,7 @@ fn least_statement(labels: &Labels, loop_variables: &[bool]) -> Option<u32>
     least
 }
 
-// Adds the lines that statements by themselves tell.
+// Adds the lines of statements that violate 307 on their own.
 fn add_statements(
     lines: &mut Vec<u32>,
     labels: &Labels,
@@ -163,7 +162,7 @@ fn add_statements(
     Ok(())
 }
 
-// Adds the lines at which a statement by itself is reported.
+// Adds the lines of a statement's violations of 307 on its own.
 fn add_statement(
     lines: &mut Vec<u32>,
     labels: &Labels,
@@ -181,7 +180,7 @@ fn add_statement(
     Ok(())
 }
 
-// The same of a DO.
+// The lines for a DO.
 fn add_loop(
     lines: &mut Vec<u32>,
     labels: &Labels,
@@ -200,7 +199,7 @@ fn add_loop(
     Ok(())
 }
 
-// The same of the terminal statement of a DO.
+// The lines for the terminal statement of a DO.
 fn add_terminal(
     lines: &mut Vec<u32>,
     labels: &Labels,
@@ -223,8 +222,8 @@ fn is_loop_variable(loop_variables: &[bool], index: usize) -> bool
     loop_variables.get(index).copied().unwrap_or(true)
 }
 
-// The line at which a statement by itself is reported, if it is. `is_variable` says whether the variable
-// of a DO may be one.
+// The least line of a statement's violation of 307 on its own, if there is one. `is_variable` says whether the variable
+// of a DO may be a DO variable.
 fn statement_line(
     labels: &Labels,
     is_variable: bool,
@@ -241,7 +240,7 @@ fn statement_line(
     }
 }
 
-// The same of a DO.
+// The lines for a DO.
 fn loop_line(labels: &Labels, is_variable: bool, index: usize, statement: &Statement) -> Option<u32>
     ensures { result ≡ spec.loop_line labels.now is_variable statement.now.line index statement.now.form }
 {
@@ -258,7 +257,7 @@ fn loop_line(labels: &Labels, is_variable: bool, index: usize, statement: &State
     }
 }
 
-// The same of the terminal statement of a DO.
+// The lines for the terminal statement of a DO.
 fn terminal_line(labels: &Labels, line: u32, index: usize, terminal: Option<usize>) -> Option<u32>
     ensures { result ≡ spec.terminal_line labels.now line index terminal }
 {
@@ -267,7 +266,7 @@ fn terminal_line(labels: &Labels, line: u32, index: usize, terminal: Option<usiz
     lesser(before, wrong_terminal_line(labels, terminal))
 }
 
-// The line of a terminal statement that may be none.
+// The line of a terminal statement, where its form is not allowed there.
 fn wrong_terminal_line(labels: &Labels, terminal: usize) -> Option<u32>
     ensures { result ≡ spec.wrong_terminal_line labels.now terminal }
 {
@@ -277,7 +276,7 @@ fn wrong_terminal_line(labels: &Labels, terminal: usize) -> Option<u32>
     }
 }
 
-// A terminal statement may be no unconditional GO TO, arithmetic IF, block IF, ELSE IF, ELSE, END IF,
+// Whether a statement may not be a terminal statement: an unconditional GO TO, arithmetic IF, block IF, ELSE IF, ELSE, END IF,
 // RETURN, STOP, END or DO.
 fn is_wrong_terminal(statement: &Statement) -> bool
     ensures { result ≡ nesting.is_wrong_terminal statement.now }
@@ -298,7 +297,7 @@ fn is_wrong_terminal(statement: &Statement) -> bool
         }
 }
 
-// A logical IF may hold no DO, block IF, ELSE IF, ELSE, END IF, END or logical IF.
+// Whether a logical IF contains a statement that it may not: a DO, block IF, ELSE IF, ELSE, END IF, END or logical IF.
 fn holds_wrongly(statement: &Statement) -> bool
     ensures { result ≡ nesting.holds_wrongly statement.now.conditions statement.now.form }
 {

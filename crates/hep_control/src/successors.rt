@@ -1,14 +1,13 @@
-//! Where one goes from each statement (X3.9-1978, 11.6 to 11.9).
+//! The successors of each statement (X3.9-1978, 11.6 to 11.9).
 ghost use Rattle.std.specs.Prelude.{◌≡◌, IfOk, OnOk, map, reverse};
 ghost use Rattle.hep_control.specs.Successors as spec;
 
-use crate::labels::is_executable;
-use hep_source::{Form, Statement};
+use hep_source::{Form, Statement, is_executable};
 use std::alloc::{AllocError, Global};
 use std::marker::Model;
 
-/// Where one goes from a statement: to the statement that is executed next; where the condition of an
-/// IF THEN or ELSE IF is false; and to the END IF of the block IF.
+/// The successors of a statement: the statement that is executed next, the statement where control goes if the condition of an
+/// IF THEN or ELSE IF is false, and the END IF of the block IF.
 #[derive(Clone, Copy)]
 pub(crate) struct Successors {
     pub following: usize,
@@ -16,21 +15,21 @@ pub(crate) struct Successors {
     pub end_if: usize,
 }
 
-/// What stands from a statement on. Contracts see the innermost block IFs first.
-struct Ahead {
+/// The state of the pass from the end of the unit, before a statement. Contracts see the innermost block IFs first.
+struct Continuation {
     executable: usize,
-    // The same, past a block that ends there.
+    // The statement that is executed next: the first executable one, or the END IF where that one ends a block.
     next: usize,
-    // Of the block IFs that are begun before.
+    // The END IFs of the block IFs that begin before.
     end_ifs: Vec<usize>,
     alternatives: Vec<usize>,
-    // The index past the last statement.
+    // The index after the last statement.
     past: usize,
 }
 
-impl Drop for Ahead {
+impl Drop for Continuation {
     fn drop(self) {
-        let Ahead {
+        let Continuation {
             executable,
             next,
             end_ifs,
@@ -40,11 +39,11 @@ impl Drop for Ahead {
     }
 }
 
-impl Model for Ahead {
+impl Model for Continuation {
     ghost use Rattle.std.specs.Prelude.{reverse};
     ghost use Rattle.hep_control.specs.Successors as spec;
 
-    ghost Value = { spec.Ahead };
+    ghost Value = { spec.Continuation };
 
     ghost view = { λ s. record {
       executable = s.executable;
@@ -55,11 +54,11 @@ impl Model for Ahead {
     } };
 }
 
-impl Ahead {
-    fn at_end(alloc: Global, past: usize) -> Ahead
+impl Continuation {
+    fn at_end(alloc: Global, past: usize) -> Continuation
         ensures { result ≡ spec.at_end past }
     {
-        Ahead {
+        Continuation {
             executable: past,
             next: past,
             end_ifs: Vec::new(alloc),
@@ -68,7 +67,7 @@ impl Ahead {
         }
     }
 
-    // Where one goes from the statement before.
+    // The successors of the statement before.
     fn successors(&self) -> Successors
         ensures { spec.successors_seen result ≡ spec.successors_before self.now }
     {
@@ -144,14 +143,14 @@ impl Ahead {
     }
 }
 
-// The last of these, which is of the innermost block IF.
+// The last of these indices, which is that of the innermost block IF, or `past` where there is none.
 fn innermost(indexes: &[usize], past: usize) -> usize
     ensures { result ≡ spec.innermost (reverse indexes.now) past }
 {
     indexes.last().copied().unwrap_or(past)
 }
 
-/// Where one goes from each statement of a unit.
+/// The successors of each statement of a unit.
 pub(crate) fn successors_of(
     alloc: Global,
     unit: &[Statement],
@@ -159,7 +158,7 @@ pub(crate) fn successors_of(
     ensures { IfOk result (λ all. map spec.successors_seen all.items ≡ spec.successors_from unit.now 0 unit.now) }
 {
     let past = unit.len();
-    let mut ahead = Ahead::at_end(alloc, past);
+    let mut ahead = Continuation::at_end(alloc, past);
     let mut all = Vec::with_capacity(alloc, past)?;
     for read in 0..past {
         let index = past - 1 - read;

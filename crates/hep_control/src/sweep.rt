@@ -1,22 +1,21 @@
-//! One pass over values and questions by rising keys: each question asks whether a value with a lesser key
-//! lies in an interval.
+//! A sweep: one pass over values and questions in the order of their keys. Each question asks whether a value with a lesser key
+//! is in an interval.
 ghost use Rattle.std.specs.Prelude.{◌≡◌, ◌||◌, ℕ, Bool, IfOk, OnOk};
 ghost use Rattle.std.specs.List.{list_any};
 ghost use Rattle.hep_control.specs.Sweep as sweep;
 
-use crate::lines::add_line;
-use hep_conditions::reported::{lesser, line_when};
+use hep_conditions::reported::{add_line, lesser, line_when};
 use std::alloc::{AllocError, Global};
 use std::collections::BTreeSet;
 
-// A value, or a question for values, in an order by their keys.
+// An event of the sweep: a value or a question, with its key.
 #[derive(Clone, Copy)]
 pub(crate) enum Event {
     Value {
         key: usize,
         value: usize,
     },
-    // Asks whether a value with a lesser key is from `low` to below `high`, and gives the line where one is.
+    // Asks whether a value with a lesser key is in the interval from `low` to below `high`. The answer is the line where one is.
     Question {
         key: usize,
         low: usize,
@@ -42,7 +41,7 @@ pub(crate) fn question(key: usize, low: usize, high: usize, line: u32) -> Event
     }
 }
 
-// A question comes before the values with its key.
+// The position of an event in the order. A question comes before the values with its key.
 fn rank(event: &Event) -> u128
     ensures { result ≡ sweep.rank event.now }
 {
@@ -52,7 +51,7 @@ fn rank(event: &Event) -> u128
     }
 }
 
-// The least line that the questions give.
+// The least line in the answers to the questions.
 pub(crate) fn least_met(alloc: Global, mut events: Vec<Event>) -> Result<Option<u32>, AllocError>
     ensures { IfOk result (λ line. line ≡ sweep.least_met events.items) }
 {
@@ -66,7 +65,7 @@ pub(crate) fn least_met(alloc: Global, mut events: Vec<Event>) -> Result<Option<
     Ok(least)
 }
 
-// Adds the lines that the questions give, in whatever order.
+// Adds the lines in the answers to the questions, in any order.
 pub(crate) fn add_met(
     lines: &mut Vec<u32>,
     alloc: Global,
@@ -84,7 +83,7 @@ pub(crate) fn add_met(
     Ok(())
 }
 
-// The line that a question gives by the values before it; a value is among them from now on.
+// The answer to a question by the values before it. A value is added to them.
 fn line_met(values: &mut BTreeSet<usize>, event: &Event) -> Result<Option<u32>, AllocError>
     ensures line { IfOk result (λ line. line ≡ sweep.line_met values.old.keys event.now) }
     ensures values { OnOk result ((test : ℕ → Bool) → list_any test values.new.keys
@@ -104,7 +103,7 @@ fn line_met(values: &mut BTreeSet<usize>, event: &Event) -> Result<Option<u32>, 
     }
 }
 
-// Whether some value is from `low` to below `high`.
+// Whether some value is in the interval from `low` to below `high`.
 fn has_within(values: &BTreeSet<usize>, low: usize, high: usize) -> bool
     ensures { result ≡ list_any (sweep.is_within low high) values.now.keys }
 {

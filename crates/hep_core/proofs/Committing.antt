@@ -1,44 +1,42 @@
 -- What is asked of the machine of a core at a commit, and what it answers.
-use Rattle.std.proofs.Common.{◌≡◌, ◌≢◌, ◌≤◌, ◌↔◌, IsTrue, ℕ, Bool, true, false, true≢false, List, Some, None, Option, is_some, refl, sym, ap, ◌∙◌, subst, arith, replicate}
+use Rattle.std.proofs.Common.{◌≡◌, ◌≢◌, ◌≤◌, ◌↔◌, IsTrue, ℕ, Bool, true, false, true≢false, List, Some, None, is_some, refl, sym, ap, ◌∙◌, subst}
 use Rattle.std.proofs.lemmas.Option.{same_Some}
 use Rattle.hep_machine.specs.declared.event.Entry.{Entry}
 use Rattle.hep_machine.specs.Words.{State, Units, living, main_among, numbered, run, schedule_of, state_after, unit_at}
-use Rattle.hep_commit.proofs.Calls.{set-numbered}
+use Rattle.hep_commit.proofs.BindingCalls.{set-numbered}
 use Rattle.hep_code.specs.Words.{IsPastPushes}
 use Rattle.hep_image.specs.Image.{most_cells}
 use Rattle.hep_image.specs.Private.{private_cells}
-use Rattle.hep_private.specs.Own.{Own, Values}
+use Rattle.hep_private.specs.OwnState.{OwnState, Values}
 use Rattle.hep_private.specs.declared.record.Record.{Record}
-use Rattle.hep_private.specs.Recorded.{recorded}
-use Rattle.hep_commit.specs.Gone.{HaveGone, own_of}
+use Rattle.hep_private.specs.StepRecords.{recorded}
+use Rattle.hep_commit.specs.PrivateTurns.{HaveGone, own_of}
 use Rattle.hep_proc.specs.Stacks.{stack_with}
 use Rattle.hep_commit.specs.Segments.{IsKept, IsMadeFrom, IsMadeOf, SegmentValue, Start}
 use Rattle.hep_step.specs.Simulation.{unit_code}
 use Rattle.hep_state.specs.declared.core_state.CoreState.{CoreState}
 use Rattle.hep_state.specs.Words.{HasLevels, HasSettledTop, IsItsTurn, IsMachineAfter, IsSameButTop, IsTopRunning, IsTurning, LeavesOthers, Snapshot, TurnOf, snapshot_of}
-use Rattle.hep_state.proofs.Beside.{beside-top}
-use Rattle.hep_commit.specs.Levels.{start_in}
-use Rattle.hep_commit.specs.Taking.{IsMadeIn, IsNextPrivateIn}
-use Rattle.hep_commit.proofs.Standing.{its-turn, turns}
-use Rattle.hep_commit.proofs.Taken.{AreTurnsIn}
-use Rattle.hep_views.proofs.Waiting.{living-top}
+use Rattle.hep_state.proofs.OtherProcesses.{beside-top}
+use Rattle.hep_commit.specs.SegmentStarts.{start_in}
+use Rattle.hep_commit.specs.Application.{IsMadeIn}
+use Rattle.hep_commit.proofs.StandingProcesses.{its-turn, turns}
+use Rattle.hep_commit.proofs.AppliedSegments.{AreTurnsIn}
+use Rattle.hep_views.proofs.WaitingPlaces.{living-top}
 use Rattle.hep_core.specs.Commits.{IsNextOf, IsWhetherNext}
 use Rattle.hep_core.specs.Invariant.{CoreInvariant, core_value, placed_value}
-use Rattle.hep_core.specs.Places.{IsHere, IsWhere, places_of}
-use Rattle.hep_core.specs.Value.{HasNoStop, state_of}
+use Rattle.hep_core.specs.ProcessPlaces.{IsHere, IsWhere, places_of}
+use Rattle.hep_core.specs.CoreValues.{HasNoStop}
 use Rattle.hep_core.specs.declared.run_core.Core.TheInside.{Inside}
 use Rattle.hep_core.proofs.Histories.{state-is}
-use Rattle.hep_core.proofs.Kept.{halted-is}
-use Rattle.hep_core.proofs.Settled.{here-at, place-at, place_in, places-same, start-once}
-
-there-is : {A : Type 0} (o : Option A) → o ≢ None → is_some o ≡ true
-there-is None some = absurd (some refl)
-there-is (Some x) some = refl
+use Rattle.hep_core.proofs.GoodTickets.{halted-is}
+use Rattle.hep_core.proofs.SettledMachines.{here-at, place-at, place_in, places-same, start-once}
+use Rattle.hep_source.proofs.Tests.{some-if_not}
+use Rattle.hep_state.proofs.ReturnTurns.{IsRunningAlways}
 
 -- a process that lives has levels
 pub levels-of : (program : Units) (cells : ℕ) (history : List Entry) (m : CoreState) (p : ℕ) → IsMachineAfter program cells (schedule_of history) m → living (state_after program history) p ≢ None → HasLevels (snapshot_of m) p
 levels-of program cells history m p after lives =
-    let there : is_some (living (run program (schedule_of history)) p) ≡ true = ap (λ (s : State). is_some (living s p)) (sym (state-is program history)) ∙ there-is (living (state_after program history) p) lives in
+    let there : is_some (living (run program (schedule_of history)) p) ≡ true = ap (λ (s : State). is_some (living s p)) (sym (state-is program history)) ∙ some-if_not (living (state_after program history) p) lives in
     (living-top program cells (schedule_of history) m after p there).is_top.levels
 
 module _ (i : Inside) (k : CoreInvariant i) (p : ℕ) where
@@ -53,17 +51,13 @@ module _ (i : Inside) (k : CoreInvariant i) (p : ℕ) where
 
 -- ---- what laws say of a program
 
--- tops run as the laws of steps ask
-abbrev pub AreTopsRunning : Units → Type 0
-AreTopsRunning program = (t : TurnOf) → t.program ≡ program → (turning : IsTurning t) → IsTopRunning t turning
-
 pub tops-of : (program : Units) (Accepted : Units → Type 0) → ((t : TurnOf) → Accepted t.program → is_some (main_among t.program) ≡ true → (turning : IsTurning t) → IsTopRunning t turning) → Accepted program
-    → is_some (main_among program) ≡ true → AreTopsRunning program
+    → is_some (main_among program) ≡ true → IsRunningAlways program
 tops-of program Accepted law accepted main t is turning = law t (subst Accepted (sym is) accepted) (ap (λ (us : Units). is_some (main_among us)) is ∙ main) turning
 
 -- private steps are turns
 pub turns-of : (program : Units) (Accepted : Units → Type 0)
-    → ((t : TurnOf) (n : ℕ) (records : List Record) (end : Own) → Accepted t.program → is_some (main_among t.program) ≡ true → t.cells ≤ most_cells → IsTurning t
+    → ((t : TurnOf) (n : ℕ) (records : List Record) (end : OwnState) → Accepted t.program → is_some (main_among t.program) ≡ true → t.cells ≤ most_cells → IsTurning t
     → recorded (private_cells (unit_at t.program t.level.unit)) (unit_code t.program t.level.unit) n (own_of t) ≡ Some (records, end) → HaveGone t n records end)
     → Accepted program → is_some (main_among program) ≡ true → AreTurnsIn program
 turns-of program Accepted law accepted main t n records end is few turning made =
@@ -118,7 +112,7 @@ settled-in i k going p before m after top made =
       others = beside-top p i.image (snapshot_of i.machine) (snapshot_of m) before (but-top i.image top);
     }
 
-module _ (i : Inside) (p : ℕ) (m : CoreState) (is : IsSettledIn i p m) (tops : AreTopsRunning i.image) where
+module _ (i : Inside) (p : ℕ) (m : CoreState) (is : IsSettledIn i p m) (tops : IsRunningAlways i.image) where
   -- where it is
   abbrev pub start-now : Start
   start-now = start_in is.turn.living

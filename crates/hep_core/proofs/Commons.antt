@@ -5,10 +5,10 @@ use Rattle.std.proofs.lemmas.Bool.Decides.{nat_tests}
 use Rattle.hep_machine.specs.Words.{Units, BlockName, same_block, is_block_among, block_cells, blocks_of, cells_of_blocks, common, common_cells, CellView, Location, further}
 use Rattle.hep_machine.specs.declared.slot.Slot.{Slot}
 use Rattle.hep_machine.proofs.Locations.{block-self}
-use Rattle.hep_image.specs.Finding.{cells_in}
+use Rattle.hep_image.specs.Addressing.{cells_in}
 use Rattle.hep_layout.specs.Words.{Row, first_in, first_of_block}
 use Rattle.hep_layout.proofs.Singles.{AreOnce, program-single, single-apart, single-rest}
-use Rattle.hep_views.specs.Reading.{block_read, cells_read, common_read}
+use Rattle.hep_views.specs.StoredContents.{block_read, cells_read, common_read}
 
 abbrev pub cell_of : Option CellView → Option Slot
 cell_of seen = option_map (λ (v : CellView). v.cell) seen

@@ -8,12 +8,13 @@ use Rattle.hep_machine.specs.Histories.{most_steps}
 use Rattle.hep_machine.specs.Words.{Units, AreSteps, IsEntry, AreEntries, IsLegal, is_held, layout_of, opening, run, run_from, schedule_of_entry, schedule_of, state_after, state_after_turn, Progress, progress_after_entry, progress_after_step, progress_after_steps, progress_from, progress_after, last_process, State, Level, Process, is_waiting, step, Wanted, wanted_by, is_number_among, living}
 use Rattle.hep_layout.proofs.HeldFrames.{run-last}
 use Rattle.hep_machine.proofs.Replays.{run_after}
+use Rattle.hep_commit.proofs.AdvanceRunsToBreakpoint.{one-behind}
 use Rattle.std.proofs.lemmas.Bool.{cases_lt}
 use Rattle.hep_views.specs.declared.listed.Listed.{Listed}
-use Rattle.hep_views.specs.Listed.{listed_by, listed_with}
-use Rattle.hep_core.specs.Going.{entries_along}
+use Rattle.hep_views.specs.ListedProcesses.{listed_by, listed_with}
+use Rattle.hep_core.specs.SilentChoices.{entries_along}
 use Rattle.hep_core.specs.Invariant.{AreFew}
-use Rattle.hep_core.specs.Value.{first_listed, listed_after}
+use Rattle.hep_core.specs.CoreValues.{first_listed, listed_after}
 
 -- ---- the state
 
@@ -53,12 +54,14 @@ state-stepped program es p s e = turned program es p ∙ ap (λ o. unwrap_or o (
 
 -- ---- the listed processes
 
-progress_from-append : (program : Units) (x : Progress) (es fs : List Entry) → progress_from program x (es ++ fs) ≡ progress_from program (progress_from program x es) fs
+-- the progress by two histories is that by the second after the first
+pub progress_from-append : (program : Units) (x : Progress) (es fs : List Entry) → progress_from program x (es ++ fs) ≡ progress_from program (progress_from program x es) fs
 unfolding progress_from
 progress_from-append program x [] fs = refl
 progress_from-append program x (e ∷ es) fs = progress_from-append program (progress_after_entry program x e e.steps) es fs
 
-opening-is : (program : Units) → state_after program [] ≡ opening program
+-- the state after no entry is the opening
+pub opening-is : (program : Units) → state_after program [] ≡ opening program
 unfolding state_after run run_from schedule_of
 opening-is program = refl
 
@@ -192,9 +195,6 @@ module _ (program : Units) (history : List Entry) where
 
 -- ---- an entry of several steps
 
-snoc : {A : Type 0} (n : ℕ) (x : A) → replicate n x ++ x ∷ [] ≡ replicate (suc n) x
-snoc n x = let next : n + 1 ≡ suc n = omega arith in replicate-append-replicate n 1 x ∙ ap (λ k. replicate k x) next
-
 -- so many entries of one step are the same turns
 pub schedule-along : (es : List Entry) (p n : ℕ) → schedule_of (entries_along es p n) ≡ schedule_of es ++ replicate n p
 schedule-along es p zero = sym (append-nil (schedule_of es))
@@ -202,7 +202,7 @@ schedule-along es p (suc n) =
     schedule-stepped (entries_along es p n) p
     ∙ ap (λ ps. ps ++ p ∷ []) (schedule-along es p n)
     ∙ append_assoc (schedule_of es) (replicate n p) (p ∷ [])
-    ∙ ap (λ ps. schedule_of es ++ ps) (snoc n p)
+    ∙ ap (λ ps. schedule_of es ++ ps) (one-behind n p)
 
 pub schedule-several : (es : List Entry) (p n : ℕ) → schedule_of (es ++ record { process = p; steps = n } ∷ []) ≡ schedule_of es ++ replicate n p
 schedule-several es p n = schedule-last es (record { process = p; steps = n }) ∙ ap (λ ps. schedule_of es ++ ps) (append-nil (replicate n p))
@@ -268,7 +268,7 @@ module _ (program : Units) where
       schedule-stepped (es ++ record { process = p; steps = n } ∷ []) p
       ∙ ap (λ ps. ps ++ p ∷ []) (schedule-several es p n)
       ∙ append_assoc (schedule_of es) (replicate n p) (p ∷ [])
-      ∙ ap (λ ps. schedule_of es ++ ps) (snoc n p)
+      ∙ ap (λ ps. schedule_of es ++ ps) (one-behind n p)
       ∙ sym (schedule-several es p (suc n))
 
   pub state-further : (es : List Entry) (p n : ℕ) → state_after program ((es ++ record { process = p; steps = n } ∷ []) ++ record { process = p; steps = 1 } ∷ []) ≡ state_after program (es ++ record { process = p; steps = suc n } ∷ [])
@@ -291,4 +291,4 @@ module _ (program : Units) where
   steps-before p s (q ∷ ps) made more = (made.0, steps-before p (state_after_turn program q s) ps made.1 more)
 
   pub steps-further : (s : State) (p n : ℕ) → AreSteps program s (replicate n p) → step program p (run_from program s (replicate n p)) ≢ None → AreSteps program s (replicate (suc n) p)
-  steps-further s p n made more = subst (AreSteps program s) (snoc n p) (steps-before p s (replicate n p) made more)
+  steps-further s p n made more = subst (AreSteps program s) (one-behind n p) (steps-before p s (replicate n p) made more)

@@ -1,24 +1,25 @@
 -- A turn in place: so many turns of one process, each of which only moves it, as one entry of a core.
-use Rattle.std.proofs.Common.{◌≡◌, ◌⊎◌, ℕ, zero, suc, ◌+◌, ◌<◌, ◌≤◌, true, false, List, [], ◌∷◌, ◌++◌, length, length-append, inl, inr, refl, sym, ap, ◌∙◌, subst, arith, replicate}
+use Rattle.std.proofs.Common.{◌≡◌, ◌⊎◌, ℕ, zero, suc, ◌+◌, ◌≤◌, true, false, List, [], ◌∷◌, ◌++◌, length, length-append, inl, inr, refl, sym, ap, ◌∙◌, subst, arith, replicate}
 use Rattle.hep_machine.proofs.Others.{activations_after}
 use Rattle.hep_machine.specs.declared.event.Entry.{Entry}
 use Rattle.hep_machine.specs.Words.{IsSameOrOneMore, State, Units, run_from, schedule_of, state_after, state_after_turn}
 use Rattle.hep_commit.specs.Going.{HasGone}
 use Rattle.hep_commit.specs.Segments.{IsMadeFrom, SegmentValue, Start, most_records}
-use Rattle.hep_commit.specs.Levels.{start_in}
-use Rattle.hep_commit.specs.Turning.{IsMadeOfRecords, are_private}
-use Rattle.hep_commit.proofs.Behind.{same-start}
-use Rattle.hep_commit.proofs.Runs.{turns-are}
+use Rattle.hep_commit.specs.SegmentStarts.{start_in}
+use Rattle.hep_commit.specs.TurnsInPlace.{IsMadeOfRecords, are_private}
+use Rattle.hep_commit.proofs.AfterSegments.{same-start}
 use Rattle.hep_state.specs.declared.core_state.CoreState.{CoreState}
 use Rattle.hep_state.specs.Words.{HasLevels, IsMachineAfter, Snapshot, snapshot_of}
 use Rattle.hep_core.specs.Commits.{HasSteps, IsLeftOut, IsMadeBehind, IsMovedBehind, core_after_return}
 use Rattle.hep_core.specs.Invariant.{core_value}
-use Rattle.hep_core.specs.Value.{CoreValue}
+use Rattle.hep_core.specs.CoreValues.{CoreValue}
 use Rattle.hep_core.specs.declared.run_core.Core.TheInside.{Inside}
 use Rattle.hep_core.specs.declared.stop.Turn.{Turn}
-use Rattle.hep_core.proofs.Committing.{AreTopsRunning, DependOnReads, IsSettledIn, next-of}
+use Rattle.hep_core.proofs.Committing.{DependOnReads, IsSettledIn, next-of}
 use Rattle.hep_core.proofs.Histories.{schedule-several, state-several}
-use Rattle.hep_core.proofs.Kept.{activations-are}
+use Rattle.hep_core.proofs.GoodTickets.{activations-are}
+use Rattle.hep_state.proofs.ReturnTurns.{IsRunningAlways}
+use Rattle.hep_commit.proofs.AdvanceRunsToBreakpoint.{turns-are}
 
 -- ---- activations
 
@@ -63,7 +64,7 @@ start-there {m} own e f = subst (λ r. (g : HasLevels m r) → start_in e ≡ st
 
 -- ---- what it is
 
-module _ (i : Inside) (p : ℕ) (m : CoreState) (is : IsSettledIn i p m) (tops : AreTopsRunning i.image) (law : DependOnReads) (s : SegmentValue) (own : s.id.process ≡ p) (n : ℕ) (new : CoreValue) where
+module _ (i : Inside) (p : ℕ) (m : CoreState) (is : IsSettledIn i p m) (tops : IsRunningAlways i.image) (law : DependOnReads) (s : SegmentValue) (own : s.id.process ≡ p) (n : ℕ) (new : CoreValue) where
   abbrev here : Start
   here = start_in is.turn.living
 

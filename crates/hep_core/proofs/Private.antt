@@ -1,35 +1,37 @@
 -- A core after private steps of a process that was out, as one entry of its history.
-use Rattle.std.proofs.Common.{◌≡◌, ◌≢◌, ℕ, suc, ◌+◌, ◌<◌, ◌≤◌, true, false, List, [], ◌∷◌, ◌++◌, length, length-append, IsSome, Option, Some, None, Global, inl, inr, if◌then◌else◌, refl, sym, ap, ◌∙◌, subst, arith, replicate}
+use Rattle.std.proofs.Common.{◌≡◌, ◌≢◌, ℕ, suc, ◌+◌, ◌<◌, ◌≤◌, false, List, [], ◌∷◌, ◌++◌, length, length-append, IsSome, Option, Some, None, Global, inl, inr, if◌then◌else◌, refl, sym, ap, ◌∙◌, subst, arith, replicate}
 use Rattle.std.specs.declared.vec.Vec.{Vec}
 use Rattle.hep_machine.specs.declared.event.Entry.{Entry}
 use Rattle.hep_machine.proofs.Others.{activations_after, processes_after}
 use Rattle.hep_machine.specs.Histories.{most_steps}
 use Rattle.hep_machine.specs.Words.{AreSteps, IsLegal, State, Units, is_held, layout_of, living, progress_after, progress_after_step, run, run_from, schedule_of, state_after, state_after_turn, step, view_of}
-use Rattle.hep_blocked.specs.Listing.{AreListed}
-use Rattle.hep_blocked.specs.Rolls.{KeepsRoll, Roll, want_of}
-use Rattle.hep_blocked.proofs.Keeping.{listed-alike}
-use Rattle.hep_history.specs.Entries.{Kept}
+use Rattle.hep_blocked.specs.RosterUpdates.{AreListed}
+use Rattle.hep_blocked.specs.Rosters.{KeepsRoll, RosterValue, want_of}
+use Rattle.hep_blocked.proofs.KeptNeeds.{listed-alike}
+use Rattle.hep_history.specs.Entries.{EntriesLeft}
 use Rattle.hep_commit.specs.Going.{HasGone}
 use Rattle.hep_commit.proofs.Runs.{steps-are}
 use Rattle.hep_commit.specs.TicketId.{TicketId}
 use Rattle.hep_state.specs.declared.core_state.CoreState.{CoreState}
-use Rattle.hep_state.specs.Words.{IsAfter, IsMachineAfter, Snapshot, snapshot_of}
-use Rattle.hep_state.proofs.Numbered.{length-stacks}
-use Rattle.hep_commit.specs.declared.saving.Saved.{Saved}
-use Rattle.hep_views.specs.Seen.{machine_view}
+use Rattle.hep_state.specs.Words.{IsMachineAfter, snapshot_of}
+use Rattle.hep_state.proofs.ProcessNumbers.{length-stacks}
+use Rattle.hep_commit.specs.declared.undo_log.UndoLog.{UndoLog}
+use Rattle.hep_views.specs.MachineViews.{machine_view}
 use Rattle.hep_core.specs.Commits.{core_after_return, state_along}
-use Rattle.hep_core.specs.Going.{entries_along}
+use Rattle.hep_core.specs.SilentChoices.{entries_along}
 use Rattle.hep_core.specs.Invariant.{AreFew, AreLiving, CoreInvariant, core_value}
 use Rattle.hep_core.specs.Tickets.{is_out, without_process}
-use Rattle.hep_core.specs.Value.{IsStop, core_after_choice, stop_after}
+use Rattle.hep_core.specs.CoreValues.{IsStop, core_after_choice, stop_after}
 use Rattle.hep_core.specs.Waking.{HasRoomLeft}
 use Rattle.hep_core.specs.declared.run_core.Core.TheInside.{Inside}
 use Rattle.hep_core.specs.declared.stop.ChoiceStop.{ChoiceStop}
 use Rattle.hep_core.specs.declared.stop.ChoiceStop.TheVariants.{Halted}
-use Rattle.hep_core.proofs.Going.{Far, GoAlong, HasCome, come-so}
+use Rattle.hep_core.proofs.SilentChoices.{Far, HasCome, come-so}
 use Rattle.hep_core.proofs.Histories.{legal-several, progress-further, progress-joined, schedule-further, schedule-joined, state-further, state-is, state-joined, state-several, steps-further, turned}
-use Rattle.hep_core.proofs.Kept.{AreSeen, activations-are, after-next, halted-is, laid-out, listed-next, living-next, one-more, processes-are, view-is}
-use Rattle.hep_core.proofs.Outs.{home-again, out-still}
+use Rattle.hep_core.proofs.GoodTickets.{AreSeen, activations-are, after-next, halted-is, laid-out, listed-next, living-next, processes-are, view-is}
+use Rattle.hep_core.proofs.ProcessesOut.{home-again, out-still}
+use Rattle.hep_state.proofs.Runs.{few-more}
+use Rattle.hep_commit.proofs.Lists.{GoAlong}
 
 module _ (law : GoAlong) (i : Inside) (k : CoreInvariant i) (p : ℕ) where
   abbrev program : Units
@@ -110,7 +112,7 @@ module _ (law : GoAlong) (i : Inside) (k : CoreInvariant i) (p : ℕ) where
       unstopped = sym (halted-is program i.cells es (snapshot_of machine) after-it.after) ∙ unhalted
 
       -- the core keeps its invariant, and its process isn't out any more
-      pub private-kept : (history : Kept) → history.items ≡ es → (roster : Roll) → KeepsRoll i.roster roster → HasRoomLeft machine roster → (out : Vec TicketId Global) → out.items ≡ left → (saved : Saved)
+      pub private-kept : (history : EntriesLeft) → history.items ≡ es → (roster : RosterValue) → KeepsRoll i.roster roster → HasRoomLeft machine roster → (out : Vec TicketId Global) → out.items ≡ left → (saved : UndoLog)
           → CoreInvariant (record i { history = history; machine = machine; roster = roster; out = out; saved = saved })
       private-kept history same roster noted room out outs saved =
           record {
@@ -127,7 +129,7 @@ module _ (law : GoAlong) (i : Inside) (k : CoreInvariant i) (p : ℕ) where
           }
 
       -- what is seen of it
-      pub private-value : AreSeen program i.cells → (history : Kept) → history.items ≡ es → (out : Vec TicketId Global) → out.items ≡ left
+      pub private-value : AreSeen program i.cells → (history : EntriesLeft) → history.items ≡ es → (out : Vec TicketId Global) → out.items ≡ left
           → record (core_value i) { history = history.items; view = machine_view program (snapshot_of machine); out = out.items }
           ≡ core_after_choice (core_after_return (core_value i) p) p (suc n) (state_along (core_after_return (core_value i) p) p (suc n))
       private-value seen history same out outs =
@@ -170,7 +172,7 @@ module _ (law : GoAlong) (i : Inside) (k : CoreInvariant i) (p : ℕ) where
           let there : state_after program entries ≡ t = sym state-same ∙ turned program es p in
           let same-acts : length s.activations ≡ length (state_after program h).activations =
           sym (activations-are program i.cells es (snapshot_of made) kept-after.after) ∙ acts ∙ activations-are program i.cells h (snapshot_of i.machine) k.after.after in
-          let acts-more : length t.activations ≤ length s.activations + 1 = one-more s.activations t.activations (activations_after program p s) in
+          let acts-more : length t.activations ≤ length s.activations + 1 = few-more s.activations t.activations (activations_after program p s) in
           let procs-more : length t.processes ≤ length s.processes + 1 = elim (processes_after program p s) [ inl e ↦ omega (arith, e) | inr e ↦ omega (arith, e) ] in
           record {
             activations = omega (arith, k.few.activations, same-acts, acts-more, longer, ap (λ (z : State). length z.activations) there);
@@ -197,9 +199,9 @@ module _ (law : GoAlong) (i : Inside) (k : CoreInvariant i) (p : ℕ) where
       further-living q away = subst (λ (s : State). living s q ≢ None) state-same (living-next program i.cells es p virtual refl more left home living-now q away)
 
       -- the core keeps its invariant, and its process isn't out any more
-      pub further-kept : suc (suc n) ≤ most_steps → (roster : Roll)
+      pub further-kept : suc (suc n) ≤ most_steps → (roster : RosterValue)
           → AreListed program i.cells (schedule_of es ++ p ∷ []) (progress_after_step program (progress_after program es) p (run program (schedule_of es ++ p ∷ []))) (want_of roster.waiting) roster.ready
-          → HasRoomLeft machine roster → (history : Kept) → history.items ≡ entries → (out : Vec TicketId Global) → out.items ≡ left → (saved : Saved)
+          → HasRoomLeft machine roster → (history : EntriesLeft) → history.items ≡ entries → (out : Vec TicketId Global) → out.items ≡ left → (saved : UndoLog)
           → (stop : Option ChoiceStop) → IsStop program i.cells i.limit entries stop
           → CoreInvariant (record i { history = history; stop = stop; machine = machine; roster = roster; out = out; saved = saved })
       further-kept fits roster lists room history same out outs saved stop named =
@@ -220,7 +222,7 @@ module _ (law : GoAlong) (i : Inside) (k : CoreInvariant i) (p : ℕ) where
           }
 
       -- what is seen of it
-      pub further-value : AreSeen program i.cells → (history : Kept) → history.items ≡ entries → (out : Vec TicketId Global) → out.items ≡ left → (stop : Option ChoiceStop) → stop ≡ stop_after (state_after program entries)
+      pub further-value : AreSeen program i.cells → (history : EntriesLeft) → history.items ≡ entries → (out : Vec TicketId Global) → out.items ≡ left → (stop : Option ChoiceStop) → stop ≡ stop_after (state_after program entries)
           → record (core_value i) { history = history.items; stop = stop; view = machine_view program (snapshot_of machine); out = out.items }
           ≡ core_after_choice (core_after_return (core_value i) p) p (suc (suc n)) (state_along (core_after_return (core_value i) p) p (suc (suc n)))
       further-value seen history same out outs stop stops =

@@ -3,13 +3,13 @@ use Rattle.std.proofs.Common.{◌≡◌, ℕ, zero, suc, Bool, true, false, List
 use Rattle.std.proofs.lemmas.Option.{none-some}
 use Rattle.hep_private.specs.declared.record.Record.{Record}
 use Rattle.hep_commit.specs.Segments.{SegmentValue, Start}
-use Rattle.hep_core.proofs.Outs.{home-again}
+use Rattle.hep_core.proofs.ProcessesOut.{home-again}
 use Rattle.hep_core.specs.Commits.{IsCommitted, IsGood, IsGoodAt, IsTakenBy, IsWhetherNext, core_after_return}
-use Rattle.hep_core.specs.Places.{Placed, with_core}
+use Rattle.hep_core.specs.ProcessPlaces.{PlacedCore, with_core}
 use Rattle.hep_core.specs.Tickets.{without_process}
-use Rattle.hep_core.specs.Value.{CoreValue, IsChoice, IsTurn}
-use Rattle.hep_core.specs.declared.fault.ChooseFault.TheVariants as choosing
-use Rattle.hep_core.specs.declared.fault.CommitFault.TheVariants as committing
+use Rattle.hep_core.specs.CoreValues.{CoreValue, IsChoice, IsTurn}
+use Rattle.hep_core.specs.declared.core_fault.ChooseFault.TheVariants as choosing
+use Rattle.hep_core.specs.declared.core_fault.CommitFault.TheVariants as committing
 use Rattle.hep_core.specs.declared.stop.ChoiceStop.{ChoiceStop}
 use Rattle.hep_core.specs.declared.stop.Turn.{Turn}
 use Rattle.hep_commit.specs.TicketId.{TicketId}
@@ -31,9 +31,9 @@ module _ (old new : CoreValue) (p : ℕ) where
 
 -- ---- commits of segments without steps
 
-module _ (old : Placed) (s : SegmentValue) (start : Start) (good : IsGoodAt old s start) (none : s.records ≡ []) (mid : Placed) where
+module _ (old : PlacedCore) (s : SegmentValue) (start : Start) (good : IsGoodAt old s start) (none : s.records ≡ []) (mid : PlacedCore) where
   -- the core to which the tickets came back
-  abbrev back : List TicketId → Placed
+  abbrev back : List TicketId → PlacedCore
   back out = with_core mid (with_out mid.core out)
 
   pub alone-made : (turn : Turn) → IsChoice (with_out old.core []) s.id.process (Ok turn) mid.core → IsCommitted old s (Ok turn) (back (without_process s.id.process old.core.out))
@@ -54,5 +54,5 @@ module _ (old : Placed) (s : SegmentValue) (start : Start) (good : IsGoodAt old 
     alone-refused refused = ((start, good), refused.1, (λ without. refused.2), λ j. record { core = with_out (refused.3 j) old.core.out; places = places j })
 
 -- it isn't the one whose steps come next
-pub not-good : (old : Placed) (s : SegmentValue) → IsWhetherNext false old s → IsGood old s → ⊥
+pub not-good : (old : PlacedCore) (s : SegmentValue) → IsWhetherNext false old s → IsGood old s → ⊥
 not-good old s other good = other good.0 good.1.1 good.1.2

@@ -1,17 +1,21 @@
-//! The core: the run of an image by single steps, choice by choice, with its history. Several workers may share it: a worker
-//! checks a process out, makes its segment without the core, and commits it. Meanwhile others check out, commit and choose
-//! other processes.
+//! The core: a run of an image, one choice at a time, with its history. Begin with [`Core`]: `choose` makes one turn,
+//! and `headline` says what every core is.
+//!
+//! Several workers may share a core. A worker checks a process out, makes its segment without the core, and commits
+//! it. Meanwhile others check out, commit and choose other processes.
 #![tactic(auto)]
 
-pub mod fault;
-mod lists;
-mod noting;
+mod commit_entries;
+pub mod core_fault;
+mod ready_lists;
 pub mod run_core;
 pub mod stop;
 
-pub use fault::{ChooseFault, CommitFault, NewFault};
-pub use hep_advance::{Breakpoints, DecodedImage, go_on, stands_watched, tables_of};
-pub use hep_commit::{Ahead, Offer, OwnCells, Saved, Segment, Ticket, TicketId, compute};
+pub use core_fault::{ChooseFault, CommitFault, NewFault};
+pub use hep_commit::{
+    Breakpoints, DecodedImage, Offer, OwnCells, PrivateImage, Segment, Ticket, TicketId, UndoLog,
+    compute, go_on, stands_watched, tables_of,
+};
 pub use hep_machine::{Entry, Fault, Kind};
 pub use hep_views::{CoreState, Listed, Place, Whereabouts};
 pub use run_core::Core;

@@ -3,28 +3,27 @@ ghost use Rattle.std.specs.Prelude.{◌≡◌, ◌≢◌, ◌≤◌, ◌<◌, �
 ghost use Rattle.std.specs.Prelude.{◌+◌, ◌^◌, is_some, length};
 ghost use Rattle.hep_machine.specs.Words.{IsLegal, is_held, opening_layout, used_cells, living, first_above, last_process};
 ghost use Rattle.hep_machine.specs.Words.{is_number_among, next_of_ready, progress_after, schedule_of, view_of};
-ghost use Rattle.hep_blocked.specs.Listing.{IsBlocked};
+ghost use Rattle.hep_blocked.specs.RosterUpdates.{IsBlocked};
 ghost use Rattle.hep_blocked.specs.Numbers.{AreRising};
 ghost use Rattle.hep_state.specs.Words.{IsMachineAfter, snapshot_of};
-ghost use Rattle.hep_advance.specs.Watches.{PassesFrom};
-ghost use Rattle.hep_views.specs.Standing.{whereabouts_by};
-ghost use Rattle.hep_core.specs.Value.{state_of, opening_of, IsNewFault, IsChoice, IsFree, HasNoStop, IsStop};
+ghost use Rattle.hep_commit.specs.AdvanceBreakpointRows.{PassesFrom};
+ghost use Rattle.hep_views.specs.ProcessPositions.{whereabouts_by};
+ghost use Rattle.hep_core.specs.CoreValues.{state_of, opening_of, IsNewFault, IsChoice, IsFree, HasNoStop, IsStop};
 ghost use Rattle.hep_core.specs.Commits.{AreGoodStill, IsCancelled, IsCheckedOut, IsCommitted, IsFresh, IsGivenTo, IsOutBy, IsStoppedWhereFull};
 ghost use Rattle.hep_core.specs.Commits.{AreTurnsAtOnce, HasMovedAtOnce, HasMovedBehind, IsTurnAtOnce, IsWhetherNext, LeavesNext, StandsAlone, core_after_return, most_tickets};
 ghost use Rattle.hep_core.specs.Invariant.{AreLiving};
-ghost use Rattle.hep_core.specs.Places.{ArePlaces, places_of, with_core};
+ghost use Rattle.hep_core.specs.ProcessPlaces.{ArePlaces, places_of, with_core};
 ghost use Rattle.hep_core.specs.declared.stop.Verdict.TheVariants.{Waiting};
 ghost use Rattle.hep_core.specs.Tickets.{has_ticket, is_out};
 ghost use Rattle.hep_commit.specs.Offers.{IsKnownOffer, offered};
 ghost use Rattle.hep_commit.specs.Segments.{most_records};
-ghost use Rattle.hep_core.specs.Going.{AreChoices, AreMoves, AreRounds, AreTurns, CanMove, IsAtRest, IsTurnOnce, entries_along};
-ghost use Rattle.hep_core.specs.Value.{IsIdle, common_cell, free_of, next_listed_of, verdict_of, next_ready_of, ready_of};
+ghost use Rattle.hep_core.specs.SilentChoices.{AreChoices, AreMoves, AreRounds, AreTurns, CanMove, IsAtRest, IsTurnOnce, entries_along};
+ghost use Rattle.hep_core.specs.CoreValues.{IsIdle, common_cell, free_of, next_listed_of, verdict_of, next_ready_of, ready_of};
 
-use crate::fault::{ChooseFault, CommitFault, NewFault};
-use crate::lists::{note_ready, note_step, wake_after};
-use crate::noting::{made_steps, note_more, stop_where};
+use crate::commit_entries::{made_steps, note_more, stop_where};
+use crate::core_fault::{ChooseFault, CommitFault, NewFault};
+use crate::ready_lists::{note_ready, note_step, wake_after};
 use crate::stop::{ChoiceStop, Turn, TurnAtOnce, Turns, Verdict};
-use hep_advance::{Breakpoints, pass_on};
 use hep_blocked::laws::{
     lists_are_those_of_definitions, lists_go_along_with_purges, lists_go_along_with_steps,
     openings_list_nobody, waiting_processes_are_listed,
@@ -33,18 +32,21 @@ use hep_blocked::need_laws::waiting_processes_need_it;
 use hep_blocked::{Roster, Want};
 use hep_commit::commit_laws::{restored_machines_are_as_before, tickets_have_what_is_read};
 use hep_commit::{
-    Ahead, DecodedImage, MOST_RECORDS, Offer, OwnCells, Owned, PreparedProgram, Saved, Segment,
-    Table, Ticket, TicketId, comes_next, go_on, is_next_private, others_leave_what_is_read,
-    own_cells_of, private_steps_are_turns, rests, run_in_place, segments_depend_on_reads,
-    stands_alone, start, tables_of, take_private, turn_by_table, turn_in_place,
+    Breakpoints, DecodedCode, DecodedImage, MOST_RECORDS, Offer, OwnCellTable, OwnCells,
+    PreparedProgram, PrivateImage, Segment, Ticket, TicketId, UndoLog, comes_next, go_on,
+    is_next_private, others_leave_what_is_read, own_cells_of, pass_on, private_steps_are_turns,
+    rests, run_in_place, segments_depend_on_reads, stands_alone, start, tables_of, take_private,
+    turn_by_table, turn_in_place,
 };
 use hep_history::History;
 use hep_layout::laws::layouts_have_what_is_held;
 use hep_machine::{Entry, Fault, Record, Slot};
 use hep_private::come_back;
-use hep_views::finding::{listed, whereabouts};
 use hep_views::laws::views_are_of_states;
-use hep_views::{CoreState, Image, Listed, TurnFault, Turned, Whereabouts, fits, tops_are_running};
+use hep_views::lookup::{listed, whereabouts};
+use hep_views::{
+    CoreState, Image, Listed, TurnFault, TurnOutcome, Whereabouts, fits, tops_are_running,
+};
 use std::alloc::{AllocError, Global};
 use std::marker::Model;
 use std::mem::replace;
@@ -52,31 +54,34 @@ use std::mem::replace;
 // The main program's process.
 const FIRST_PROCESS: u64 = 1;
 
-// The most choices that are made at once.
+// The greatest number of choices that one call of the interpreter makes.
 const MOST_AT_ONCE: u64 = 0xFFFF_FFFF;
 
-/// A run of an image. Contracts see the program, the cells of the arena, the longest history, the
-/// history, the stop, what is seen of the state, the tickets that are out, and how many were given; and where each process is in the machine.
+/// A run of an image. Contracts see the program, the cells of the arena, the longest history, the history, the stop,
+/// the view of the state, the tickets that are out and the number of tickets given, and the place of each process in
+/// the machine.
 ///
-/// A choice, a check-out, a commit and a cancellation each cost a step for each process that is out, besides.
+/// A choice, a check-out, a commit and a cancellation each take a time that grows with the number of processes that
+/// are out.
 pub struct Core {
     alloc: Global,
     image: Image,
-    // Those of its units, and the cells that activations of each unit have for themselves.
-    tables: Vec<Table>,
+    // The tables of its units, and the own cells of each unit.
+    tables: Vec<DecodedCode>,
     own: Vec<OwnCells>,
     cells: u32,
     limit: u64,
     history: History,
     stop: Option<ChoiceStop>,
     machine: CoreState,
-    // The processes that live: those that were found waiting and wait since, with what they wait for, and the others, which are ready.
+    // The living processes: those that were found waiting and still wait, with what they wait for, and the ready
+    // ones.
     roster: Roster,
-    // The tickets that are out, and how many were given.
+    // The tickets that are out, and the number of tickets given.
     out: Vec<TicketId>,
     given: u64,
-    // Room for what a process has for itself, while a commit of its steps may still be refused.
-    saved: Saved,
+    // A buffer for the private state of a process, while a commit of its steps may still be refused.
+    saved: UndoLog,
 }
 
 // Written out, so that a caller's proof has one call of it at each exit.
@@ -101,11 +106,11 @@ impl Drop for Core {
 }
 
 impl Model for Core {
-    ghost use Rattle.hep_core.specs.Places.{Placed};
+    ghost use Rattle.hep_core.specs.ProcessPlaces.{PlacedCore};
     ghost use Rattle.hep_source.specs.contracts.expression.Expr as expression;
     ghost use Rattle.std.specs.Coded.{codes};
 
-    ghost Value = { Placed };
+    ghost Value = { PlacedCore };
 
     ghost coded = { Prim.hlevel (codes, expression.the_row.coded) };
 
@@ -117,8 +122,8 @@ impl Model for Core {
 }
 
 impl Core {
-    /// A core at the program's opening: an arena of so many cells, 1 to 16,777,216, and so many entries of the
-    /// history at most.
+    /// A core at the program's opening. Its arena has `cells` cells, 1 to 16,777,216, and its history may have
+    /// `steps` entries.
     ///
     /// # Errors
     ///
@@ -156,11 +161,11 @@ impl Core {
             roster,
             out: Vec::new(alloc),
             given: 0,
-            saved: Saved::new(alloc),
+            saved: UndoLog::new(alloc),
         })
     }
 
-    /// A turn of process p: one step, or none where it waits, and one entry of the history.
+    /// Makes a turn of process p: one step, or none where it waits. The history gets one entry.
     ///
     /// # Errors
     ///
@@ -186,14 +191,15 @@ impl Core {
                 steps: 1,
                 blocked: false,
             }),
-            // A turn asks for memory only behind what comes first.
+            // A turn asks for memory only after all other reasons to refuse it.
             Err(_) => self.turn(p),
         }
     }
 
-    /// Chooses process p again and again, up to so many times, which are 1 at least: as long as each choice makes a step that only moves
-    /// the process, and else once. A step only moves its process if it fills and empties no cell, prints nothing, is no fault, makes no process, and
-    /// doesn't end its own; such steps cost less together than one by one. One that begins or ends an activation may be among them.
+    /// Chooses process p up to `most` times, 1 at least: as long as each choice makes a step that only moves the
+    /// process, and otherwise once. A step only moves its process if it fills and empties no cell, prints nothing, is
+    /// no fault, makes no process, and doesn't end its own. It may begin or end an activation. Several such steps
+    /// cost less together than one by one.
     ///
     /// # Errors
     ///
@@ -216,7 +222,7 @@ impl Core {
         if self.rests(p) {
             return self.turn_once(p);
         }
-        // So many entries are one run.
+        // These entries are one run of equal entries.
         match self.move_alone(p, most.min(MOST_AT_ONCE)) {
             Ok(0) => self.turn_once(p),
             Ok(made) => Ok(Turns {
@@ -227,7 +233,7 @@ impl Core {
         }
     }
 
-    // A turn of process p, as what came of choosing it once.
+    // A turn of process p, as the result of choosing it once.
     fn turn_once(&mut self, p: u64) -> Result<Turns, ChooseFault>
         requires { is_out p self.old.core.out ≡ false }
         ensures made { IfOk result (λ turns. IsTurnOnce self.old.core p turns self.new.core) }
@@ -243,9 +249,9 @@ impl Core {
         }
     }
 
-    /// Chooses the process that comes next by itself, and then the next one, up to so many times: as long as nobody is out, another process comes
-    /// next than came last, and each choice makes a step that only moves its process, as `go_on` has it. Answers how many choices were made;
-    /// such choices cost less together than one by one.
+    /// Chooses the process that comes next by itself, and then the next one, up to `most` times: as long as no
+    /// process is out, another process comes next than came last, and each choice makes a step that only moves its
+    /// process, as in `go_on`. Returns the number of choices. Such choices cost less together than one by one.
     #[inline(never)]
     pub fn go_round(&mut self, most: u64) -> u64
         ensures chosen { AreRounds self.old.core result self.new.core }
@@ -267,8 +273,9 @@ impl Core {
         }
     }
 
-    /// Chooses process p again and again, up to so many times, as long as it stands at an index of the code that isn't watched and each choice
-    /// makes a step that only moves it, as `go_on` has it. Answers how many choices were made: none where p is out.
+    /// Chooses process p up to `most` times, as long as it is at an index of the code that isn't watched and each
+    /// choice makes a step that only moves it, as in `go_on`. Returns the number of choices, which is 0 where p is
+    /// out.
     pub fn pass_on(&mut self, p: u64, watches: &[Breakpoints], most: u64) -> u64
         ensures chosen { AreChoices p self.old.core result self.new.core }
         ensures unwatched { PassesFrom self.old.core.program watches.now p (state_of self.old.core) result }
@@ -284,7 +291,7 @@ impl Core {
         }
     }
 
-    // The core is at no stop, process p lives, and the table says that no plain operation stands ahead of it.
+    // Whether the core has no stop, process p lives, and the next operation of p isn't plain, by the table.
     #[inline(always)]
     fn rests(&self, p: u64) -> bool
         ensures { result ≡ true → IsAtRest self.now.core p }
@@ -302,11 +309,13 @@ impl Core {
         rests(&self.machine, &tabled, p)
     }
 
-    // Chooses process p up to so many times, 4,294,967,295 at most, as long as each choice makes a step that only moves the process, and
-    // says how often. In rounds it chooses p once, and then whoever comes next, if it is another one. Who waits and who is ready stays.
+    // Chooses process p up to `most` times, 4,294,967,295 at most, as long as each choice makes a step that only
+    // moves the process, and returns how often. In rounds it chooses p once, and then whichever process comes next,
+    // if it is another one. The lists of waiting and ready processes don't change.
     //
-    // It ends early only where the core is at a stop, p doesn't live, the history is full, or no plain operation stands ahead of p that
-    // moves it. It sets no stop. It fails only where the history has no room for so many entries; nothing has changed then.
+    // It ends early only where the core has a stop, p doesn't live, the history is full, or no plain operation that
+    // moves p comes next. It sets no stop. It fails only where the history has no room for that many entries; nothing has
+    // changed then.
     #[inline(always)]
     fn move_on(&mut self, p: u64, most: u64, rounds: bool) -> Result<u64, AllocError>
         requires { CanMove rounds p self.old.core × (most < 2 ^ 32) }
@@ -355,7 +364,8 @@ impl Core {
         Ok(done)
     }
 
-    // The same of process p alone. It has a function of its own, so that the loop of rounds is one apart from it.
+    // The same for process p alone. It is a function of its own, so that the compiler keeps the loop of rounds apart
+    // from it.
     #[inline(never)]
     fn move_alone(&mut self, p: u64, most: u64) -> Result<u64, AllocError>
         requires { CanMove false p self.old.core × (most < 2 ^ 32) }
@@ -368,9 +378,10 @@ impl Core {
         self.move_on(p, most, false)
     }
 
-    // Chooses process p up to so many times, 4,294,967,295 at most, as long as it stands where nothing is watched and each choice makes a step that
-    // only moves it, and says how often. Who waits and who is ready stays. It fails only where the history has no room for so many entries;
-    // nothing has changed then.
+    // Chooses process p up to `most` times, 4,294,967,295 at most, as long as it is at an index that isn't watched
+    // and each choice makes a step that only moves it, and returns how often. The lists of waiting and ready
+    // processes don't change. It fails only where the history has no room for that many entries; nothing has changed
+    // then.
     #[inline(never)]
     fn move_past(&mut self, p: u64, watches: &[Breakpoints], most: u64) -> Result<u64, AllocError>
         requires { (is_out p self.old.core.out ≡ false) × (most < 2 ^ 32) }
@@ -402,7 +413,7 @@ impl Core {
         Ok(made)
     }
 
-    // A turn of process p, as `choose` has it.
+    // A turn of process p, as in `choose`.
     fn turn(&mut self, p: u64) -> Result<Turn, ChooseFault>
         requires { is_out p self.old.core.out ≡ false }
         ensures chosen { IsChoice self.old.core p result self.new.core }
@@ -436,7 +447,7 @@ impl Core {
             &mut self.roster,
         ) {
             Ok(turned) => match turned {
-                Turned::Waits(want) => {
+                TurnOutcome::Waits(want) => {
                     self.roster.block(p, want)?;
                     note(&mut self.history, p, 0);
                     Ok(Turn {
@@ -466,14 +477,14 @@ impl Core {
         }
     }
 
-    // Process p is out.
+    // Whether process p is out.
     fn is_out(&self, p: u64) -> bool
         ensures { result ≡ is_out p self.now.core.out }
     {
         hep_private::is_out(&self.out, p)
     }
 
-    // The ticket is the one that is out for its process.
+    // Whether the ticket is the one that is out for its process.
     fn has_ticket(&self, id: TicketId) -> bool
         ensures ticket { result ≡ has_ticket id self.now.core.out }
         ensures lives { result ≡ true → living (state_of self.now.core) id.process ≢ None }
@@ -481,8 +492,8 @@ impl Core {
         hep_private::has_ticket(&self.out, id)
     }
 
-    /// A ticket for process p, which is out from now on, until its segment is committed or the ticket is cancelled. Its number is above
-    /// those of all that this core has given before.
+    /// Gives a ticket for process p. The process is out until its segment is committed or the ticket is cancelled.
+    /// The ticket's number is above those of all tickets that this core gave before.
     ///
     /// # Errors
     ///
@@ -498,8 +509,8 @@ impl Core {
         self.check_out_again(p, blank)
     }
 
-    /// The same, in the room of a ticket that was used before. So memory is asked for only where that has too little, or the list of tickets
-    /// that are out.
+    /// The same, with the buffers of a ticket that was used before. So it asks for memory only where these, or the
+    /// list of tickets that are out, are too small.
     ///
     /// # Errors
     ///
@@ -529,16 +540,17 @@ impl Core {
         Ok(self.give(p, used)?)
     }
 
-    // How many tickets were given.
+    // The number of tickets given.
     fn given(&self) -> u64
         ensures { result ≡ self.now.core.given }
     {
         self.given
     }
 
-    // The next ticket, for process p, which lives.
+    // Gives the next ticket to process p, which lives.
     //
-    // The values that stand ahead of it are operands then, so that a commit without steps that is refused changes nothing of where it is.
+    // It pushes the leading constants of the process first. So a refused commit without steps doesn't change the
+    // place of the process.
     fn give(&mut self, p: u64, used: Ticket) -> Result<Ticket, AllocError>
         requires going { HasNoStop self.old.core }
         requires lives { living (state_of self.old.core) p ≢ None }
@@ -555,7 +567,7 @@ impl Core {
         };
         self.out.reserve(1)?;
         self.machine.settle(&self.image, p);
-        let owned = Owned {
+        let owned = OwnCellTable {
             image: &self.image,
             tables: &self.own,
         };
@@ -565,16 +577,18 @@ impl Core {
         Ok(ticket)
     }
 
-    /// The turn of a segment: its private steps, and then the next step of its process, as one entry of the history. Where it has no steps
-    /// that is a choice of the process, which may be found waiting. Behind private steps the next one is left out where it is private too, where it
-    /// waits, and where it makes an activation for whose frame there is no gap. The process isn't out any more.
+    /// Commits a segment: makes its private steps and then the next step of its process, as one entry of the history.
+    /// A segment without steps is a choice of the process, which may be found waiting. After private steps the next
+    /// step is left out where it is private too, where it waits, and where it makes an activation for whose frame
+    /// there is no gap. The process isn't out any more.
     ///
     /// # Errors
     ///
-    /// In this order: `Stopped` at a stop that was set before; `Stale` where the segment's ticket isn't the one that is out for its process, or
-    /// its steps aren't the private ones that come next of it, by the core's image; `Stopped` where the history has as many entries as it may
-    /// have, or else the segment has no steps and the next step has no gap for its frame, each of which sets the stop and adds no entry;
-    /// `NoMemory`. The ticket is out as before then, and the segment can be committed still.
+    /// In this order: `Stopped` at a stop that was set before; `Stale` where the segment's ticket isn't the one that
+    /// is out for its process, or its steps aren't the private ones that come next of it, by the core's image;
+    /// `Stopped` where the history is full, or else the segment has no steps and the next step has no gap for its
+    /// frame, each of which sets the stop and adds no entry; `NoMemory`. Then the ticket is out as before, and the
+    /// segment can still be committed.
     pub fn commit(&mut self, segment: &Segment) -> Result<Turn, CommitFault>
         ensures committed { IsCommitted self.old segment.now result self.new }
         ensures kept { AreGoodStill self.old self.new }
@@ -585,9 +599,9 @@ impl Core {
         })
     }
 
-    /// The same of what a worker offers: a segment that may be known to be made by the program of the core, or a batch that was made by it. Where that is
-    /// known, the steps aren't made again to see whether they are: it is looked only whether they begin where the process is, and have read what
-    /// is there.
+    /// Commits what a worker offers: a segment, or a batch that the program of the core has made. Where the program
+    /// is known to have made the steps, they aren't made again as a check. The core only compares where they begin,
+    /// and what they have read, with the machine.
     ///
     /// # Errors
     ///
@@ -609,7 +623,8 @@ impl Core {
         self.commit_behind(offer)
     }
 
-    // The commit of a segment without steps, whose ticket is the one that is out for its process: a choice of that.
+    // The commit of a segment without steps, whose ticket is the one that is out for its process: a choice of that
+    // process.
     fn commit_alone(&mut self, offer: &Offer<'_>) -> Result<Turn, CommitFault>
         requires out { IsOutBy self.old.core (offered self.old.core.program offer.now) }
         requires known { IsKnownOffer self.old.core.program offer.now }
@@ -620,7 +635,7 @@ impl Core {
         if !self.is_next(offer) {
             return Err(CommitFault::Stale);
         }
-        // The turn may end the process, and each one that is out lives.
+        // The turn may end the process, and only living processes may be out.
         let process = offer.ticket().process;
         let mut out = self.put_aside();
         match self.turn(process) {
@@ -641,7 +656,7 @@ impl Core {
         }
     }
 
-    // The steps of a segment are the private ones that come next of its process, which lives, by the image.
+    // Whether the steps of a segment are the private ones that come next of its process, which lives, by the image.
     fn is_next(&mut self, offer: &Offer<'_>) -> bool
         requires going { HasNoStop self.old.core }
         requires lives { living (state_of self.old.core) (offered self.old.core.program offer.now).id.process ≢ None }
@@ -654,16 +669,18 @@ impl Core {
         segments_depend_on_reads();
         tops_are_running();
         self.machine.settle(&self.image, offer.ticket().process);
-        let owned = Owned {
+        let owned = OwnCellTable {
             image: &self.image,
             tables: &self.own,
         };
         comes_next(&mut self.machine, &owned, offer)
     }
 
-    // The commit of a segment with steps, whose ticket is the one that is out for its process: these steps, and one turn more.
+    // The commit of a segment with steps, whose ticket is the one that is out for its process: these steps, and one
+    // turn more.
     //
-    // What may be refused behind the steps is refused before anything else has changed, or the process gets back what it had for itself.
+    // Whatever can be refused after the steps is refused before anything else has changed, or the process gets its
+    // private state back.
     fn commit_behind(&mut self, offer: &Offer<'_>) -> Result<Turn, CommitFault>
         requires out { IsOutBy self.old.core (offered self.old.core.program offer.now) }
         requires known { IsKnownOffer self.old.core.program offer.now }
@@ -682,7 +699,7 @@ impl Core {
         restored_machines_are_as_before();
         let p = offer.ticket().process;
         self.machine.settle(&self.image, p);
-        let owned = Owned {
+        let owned = OwnCellTable {
             image: &self.image,
             tables: &self.own,
         };
@@ -711,7 +728,7 @@ impl Core {
             &mut self.roster,
         ) {
             Ok(turned) => match turned {
-                Turned::Waits(_) => {
+                TurnOutcome::Waits(_) => {
                     come_back(&mut self.out, p);
                     Ok(made_steps(steps))
                 }
@@ -735,14 +752,15 @@ impl Core {
         }
     }
 
-    /// A turn of the process that comes next, in one: what its check-out, and the commit of a segment of its ticket, come to. Its private steps are made
-    /// in place, up to so many, 1,023 at most. It is made only where the step behind them is one that only moves the process, or where they are 1,023 and
-    /// that is private too and left out; and without private steps only where none comes next, by the tables of private code. None where no turn was
-    /// made, and nothing has changed then.
+    /// Makes a turn of the process that comes next, with the same result as its check-out and the commit of a segment
+    /// of its ticket. At most `most` private steps are made in place, 1,023 at most. The turn is made only where the
+    /// step after them only moves the process, or where there are 1,023 and a private one follows, which is left out.
+    /// A turn without private steps is made only where no private step comes next, by the tables of private code.
+    /// `None` where no turn was made; nothing has changed then.
     ///
-    /// Such turns cost less than a check-out and a commit: there is no ticket, no cell is copied for it, and of memory there is only room for the entry and
-    /// for what a process has for itself.
-    pub fn turn_at_once(&mut self, ahead: &Ahead<'_>, most: u32) -> Option<TurnAtOnce>
+    /// Such turns cost less than a check-out and a commit: there is no ticket, no cell is copied for it, and memory
+    /// is asked for only for the entry and for the saved private state.
+    pub fn turn_at_once(&mut self, ahead: &PrivateImage<'_>, most: u32) -> Option<TurnAtOnce>
         requires program { ahead.now ≡ self.old.core.program }
         requires few { most ≤ most_records }
         ensures made { IfSome result (λ turn. IsTurnAtOnce self.old turn.process turn.steps self.new) }
@@ -769,9 +787,10 @@ impl Core {
         Some(TurnAtOnce { process: p, steps })
     }
 
-    // A turn of process p in one, as `turn_at_once` has it, without a ticket, and how many steps it has: 0 where there is none.
+    // Makes a turn of process p without a ticket, as in `turn_at_once`, and returns the number of its steps: 0 where
+    // there is no such turn.
     #[inline(always)]
-    fn move_at_once(&mut self, ahead: &Ahead<'_>, p: u64, most: u32) -> u32
+    fn move_at_once(&mut self, ahead: &PrivateImage<'_>, p: u64, most: u32) -> u32
         requires program { ahead.now ≡ self.old.core.program }
         requires home { is_out p self.old.core.out ≡ false }
         requires going { HasNoStop self.old.core }
@@ -791,9 +810,10 @@ impl Core {
         self.move_behind(ahead, p, most)
     }
 
-    // No private step of process p, which lives, comes next, by the tables of private code. It may be false where none does.
+    // Whether no private step of process p, which lives, comes next, by the tables of private code. False doesn't say
+    // that one comes.
     #[inline(always)]
-    fn stands_alone(&self, ahead: &Ahead<'_>, p: u64) -> bool
+    fn stands_alone(&self, ahead: &PrivateImage<'_>, p: u64) -> bool
         requires program { ahead.now ≡ self.now.core.program }
         requires going { HasNoStop self.now.core }
         requires lives { living (state_of self.now.core) p ≢ None }
@@ -804,10 +824,11 @@ impl Core {
         stands_alone(&self.machine, ahead, p)
     }
 
-    // Makes private steps of process p in place, up to so many, and the step behind them, as one entry, and says how many these are: 0 where that can't
-    // be done so, and nothing has changed then. Who waits and who is ready stays.
+    // Makes at most `most` private steps of process p in place, and the step after them, as one entry, and returns
+    // their number. It is 0 where there is no such turn; nothing has changed then. The lists of waiting and ready
+    // processes don't change.
     #[inline(never)]
-    fn move_behind(&mut self, ahead: &Ahead<'_>, p: u64, most: u32) -> u32
+    fn move_behind(&mut self, ahead: &PrivateImage<'_>, p: u64, most: u32) -> u32
         requires program { ahead.now ≡ self.old.core.program }
         requires home { is_out p self.old.core.out ≡ false }
         requires going { HasNoStop self.old.core }
@@ -845,12 +866,12 @@ impl Core {
         steps
     }
 
-    /// So many turns in one of the process that comes next, one after the other, each of 1,023 private steps, and which process that was. They are
-    /// made in place at once, where the process made the last entry too, and a private step comes next behind all of them. None where no turn was
-    /// made, and nothing has changed then.
+    /// Makes `turns` turns of the process that comes next, in place and at once, each of 1,023 private steps, and
+    /// returns that process. The process must have made the last entry too, and a private step must follow all of
+    /// them. `None` where no turn was made; nothing has changed then.
     ///
-    /// What is done beside the steps costs as much as of one turn.
-    pub fn turns_at_once(&mut self, ahead: &Ahead<'_>, turns: u32) -> Option<u64>
+    /// All work besides the steps costs as much as for one turn.
+    pub fn turns_at_once(&mut self, ahead: &PrivateImage<'_>, turns: u32) -> Option<u64>
         requires program { ahead.now ≡ self.old.core.program }
         requires some { 0 < turns }
         requires few { turns ≤ 1024 }
@@ -871,10 +892,10 @@ impl Core {
         Some(p)
     }
 
-    // Makes so many turns of process p, which comes next and made the last entry, as `turns_at_once` has them, and says whether it did. Else nothing has
-    // changed. Who waits and who is ready stays.
+    // Makes `turns` turns of process p, which comes next and made the last entry, as in `turns_at_once`, and returns
+    // whether it did. If not, nothing has changed. The lists of waiting and ready processes don't change.
     #[inline(never)]
-    fn run_at_once(&mut self, ahead: &Ahead<'_>, p: u64, turns: u32) -> bool
+    fn run_at_once(&mut self, ahead: &PrivateImage<'_>, p: u64, turns: u32) -> bool
         requires program { ahead.now ≡ self.old.core.program }
         requires free { IsFree self.old.core p }
         requires next { next_ready_of self.old.core ≡ Some p }
@@ -920,8 +941,9 @@ impl Core {
         true
     }
 
-    // Chooses process p once, where its table has the step, which only moves it, and says how often that was: never, and nothing has changed then, where
-    // it isn't so, or there was no room for the entry. Who waits and who is ready stays.
+    // Chooses process p once, where the table has its next step and that only moves it, and returns 1. It returns 0
+    // where that isn't so, or there was no room for the entry; nothing has changed then. The lists of waiting and
+    // ready processes don't change.
     #[inline(always)]
     fn move_once(&mut self, p: u64) -> u32
         requires home { is_out p self.old.core.out ≡ false }
@@ -953,7 +975,7 @@ impl Core {
         1
     }
 
-    // One more ticket was given.
+    // Counts one more ticket.
     fn count_ticket(&mut self)
         requires { self.old.core.given < most_tickets }
         ensures { self.new ≡ with_core self.old (record self.old.core { given = self.old.core.given + 1 }) }
@@ -961,7 +983,7 @@ impl Core {
         self.given += 1;
     }
 
-    // The tickets that are out, which aren't any more.
+    // Takes all tickets off the list of those that are out, and returns them.
     fn put_aside(&mut self) -> Vec<TicketId>
         ensures aside { self.new ≡ with_core self.old (record self.old.core { out = [] }) }
         ensures tickets { result.items ≡ self.old.core.out }
@@ -970,7 +992,7 @@ impl Core {
         replace(&mut self.out, Vec::new(self.alloc))
     }
 
-    // These tickets are out.
+    // Puts tickets back on the list of those that are out.
     fn put_back(&mut self, out: Vec<TicketId>)
         requires { AreLiving self.old.core.program self.old.core.history out.items }
         ensures { self.new ≡ with_core self.old (record self.old.core { out = out.items }) }
@@ -978,7 +1000,7 @@ impl Core {
         self.out = out;
     }
 
-    /// The process of a ticket isn't out any more, and nothing else has changed.
+    /// Cancels a ticket: its process isn't out any more, and nothing else has changed.
     ///
     /// # Errors
     ///
@@ -998,17 +1020,21 @@ impl Core {
         Ok(())
     }
 
-    // Process p isn't out any more.
+    // Takes process p off the list of those that are out.
     fn bring_back(&mut self, p: u64)
         ensures { self.new ≡ with_core self.old (core_after_return self.old.core p) }
     {
         come_back(&mut self.out, p);
     }
 
-    /// Does nothing: its clauses say what every core is. What is seen of a core is what is seen of
-    /// the source machine after the core's own history; the history is one that a core may have; a stop is what its name says: a STOP
-    /// ran, the history is full, or some process can't make its step, for whose new activation's frame there is no gap; where all that
-    /// live wait no process has a step; and its processes are where they are in a machine that keeps the state after the history.
+    /// Does nothing: its clauses say what every core is.
+    ///
+    /// - The view of a core is that of the source machine after the core's history.
+    /// - The history is one that a core may have.
+    /// - A stop is what its name says: a STOP was executed, the history is full, or some process can't make its step
+    ///   because there is no gap for the frame of a new activation.
+    /// - Where all living processes wait, no process has a step.
+    /// - The places of the processes are those in a machine that keeps the state after the history.
     pub fn headline(&self)
         ensures view { self.now.core.view ≡ view_of self.now.core.program is_held (state_of self.now.core) }
         ensures legal { IsLegal self.now.core.program self.now.core.cells self.now.core.limit self.now.core.history }
@@ -1020,7 +1046,7 @@ impl Core {
         views_are_of_states();
     }
 
-    /// The stop that the core is at.
+    /// The stop of the core, if it has one.
     pub fn stop(&self) -> Option<ChoiceStop>
         ensures stop { result ≡ self.now.core.stop }
         ensures none { IfNone result (HasNoStop self.now.core) }
@@ -1028,7 +1054,7 @@ impl Core {
         self.stop
     }
 
-    // Sets the stop `StepLimit`, and says so, where the history has as many entries as it may have.
+    // Sets the stop `StepLimit` where the history is full, and returns whether it is.
     fn stop_where_full(&mut self) -> bool
         requires { self.old.core.stop ≡ None }
         ensures { IsStoppedWhereFull self.old result self.new }
@@ -1040,14 +1066,14 @@ impl Core {
         full
     }
 
-    /// Process p was made and hasn't ended.
+    /// Whether process p was made and hasn't ended.
     pub fn lives(&self, p: u64) -> bool
         ensures { result ≡ is_some (living (state_of self.now.core) p) }
     {
         self.machine.lives(p)
     }
 
-    // Of the processes that live and don't wait the one with the least number above p.
+    // The ready process with the least number above p: one that lives and doesn't wait.
     fn ready_above(&self, p: u64) -> Option<u64>
         ensures { result ≡ first_above p (ready_of self.now.core) None }
     {
@@ -1064,7 +1090,7 @@ impl Core {
         self.roster.next(p)
     }
 
-    // Of those that aren't out the one with the least number above p.
+    // The least number above p of the ready processes that aren't out.
     fn free_above(&self, p: u64) -> Option<u64>
         ensures { result ≡ first_above p (free_of self.now.core) None }
     {
@@ -1075,10 +1101,11 @@ impl Core {
         Some(next)
     }
 
-    /// The process that comes next after p: of those that live, don't wait and aren't out the least above p, else the least.
+    /// The process that comes next after p. Of the processes that live, don't wait and aren't out it is the one with
+    /// the least number above p, or else the one with the least number.
     ///
-    /// This costs the logarithm of how many processes lived at one time, for each process that is out and once more; a constant time for each
-    /// where at most 64 were made.
+    /// This costs, for each process that is out and once more, the logarithm of the greatest number of processes that
+    /// lived at one time, or a constant time where at most 64 were made.
     #[inline(always)]
     pub fn ready_after(&self, p: u64) -> Option<u64>
         ensures { result ≡ next_of_ready p (free_of self.now.core) }
@@ -1092,9 +1119,9 @@ impl Core {
         }
     }
 
-    /// The process that comes next by itself: the one that comes next after that of the last entry.
+    /// The process that comes next by itself: the one that comes next after the process of the last entry.
     ///
-    /// This costs what `ready_after` does.
+    /// This costs as much as `ready_after`.
     #[inline(always)]
     pub fn next_ready(&self) -> Option<u64>
         ensures { result ≡ next_ready_of self.now.core }
@@ -1122,11 +1149,10 @@ impl Core {
         }
     }
 
-    /// Of the processes that were found waiting and wait since the one with the least number above p: where it is, and for what it
-    /// waits.
+    /// The next process above p that was found waiting and still waits: its place, and what it waits for.
     ///
-    /// This costs the logarithm of how many processes lived at one time, and a step for each activation from the process's top one up to the
-    /// one whose variable it waits for.
+    /// This costs the logarithm of the greatest number of processes that lived at one time, and a step for each
+    /// activation from the process's top one to the one whose variable it waits for.
     pub fn waiting_after(&self, p: u64) -> Option<Listed>
         ensures { result ≡ next_listed_of self.now.core p }
     {
@@ -1135,7 +1161,7 @@ impl Core {
         Some(listed(&self.machine, &self.image, next, want))
     }
 
-    /// For what process p waits, if it was found waiting and waits since.
+    /// What process p waits for, if it was found waiting and still waits.
     pub fn want(&self, p: u64) -> Option<Want>
         ensures listed { is_some result ≡ is_number_among p (progress_after self.now.core.program self.now.core.history).listed }
         ensures want { IfSome result (IsBlocked self.now.core.program self.now.core.cells (schedule_of self.now.core.history) p) }
@@ -1143,7 +1169,7 @@ impl Core {
         self.roster.waiting(p)
     }
 
-    /// What is kept of the state.
+    /// The machine that keeps the state.
     pub fn machine(&self) -> &CoreState
         ensures after { IsMachineAfter self.now.core.program self.now.core.cells (schedule_of self.now.core.history) result.now }
         ensures places { self.now.places ≡ places_of self.now.core.program (snapshot_of result.now) }
@@ -1151,14 +1177,14 @@ impl Core {
         &self.machine
     }
 
-    /// How many processes were made.
+    /// The number of processes that were made.
     pub fn made(&self) -> u64
         ensures { result ≡ length (state_of self.now.core).processes }
     {
         self.machine.made
     }
 
-    /// Where process p is; none where it was never made or has ended.
+    /// The place of process p. `None` where it was never made or has ended.
     pub fn whereabouts(&self, p: u64) -> Option<Whereabouts>
         ensures { result ≡ whereabouts_by self.now.core.program p (state_of self.now.core) }
     {
@@ -1168,7 +1194,7 @@ impl Core {
         Some(whereabouts(&self.machine, &self.image, p))
     }
 
-    /// How many cells of the arena are taken.
+    /// The number of cells of the arena that are taken.
     pub fn used(&self) -> u32
         ensures { result ≡ used_cells self.now.core.program is_held (state_of self.now.core) }
     {
@@ -1176,8 +1202,8 @@ impl Core {
         self.machine.frames.used()
     }
 
-    /// The cell at a position of COMMON, counted from 0, where the common blocks stand one behind the other in the order in which they
-    /// appear first, each at its greatest length. None past the end of COMMON.
+    /// The cell at a position of COMMON, counted from 0. The common blocks follow one another in the order in which
+    /// they appear first, each at its greatest length. `None` past the end of COMMON.
     pub fn common(&self, at: u32) -> Option<Slot>
         ensures { result ≡ common_cell self.now.core at }
     {
@@ -1187,14 +1213,14 @@ impl Core {
         Some(self.machine.frames.arena.get(at))
     }
 
-    /// The records so far.
+    /// The records that the run has printed so far.
     pub fn output(&self) -> &[Record]
         ensures { result.now ≡ (state_of self.now.core).records }
     {
         &self.machine.records
     }
 
-    /// The faults so far.
+    /// The faults that the run has made so far.
     pub fn faults(&self) -> &[Fault]
         ensures { result.now ≡ (state_of self.now.core).faults }
     {
@@ -1230,21 +1256,21 @@ impl Core {
         history
     }
 
-    /// How many cells the arena has.
+    /// The number of cells of the arena.
     pub fn cells(&self) -> u32
         ensures { result ≡ self.now.core.cells }
     {
         self.cells
     }
 
-    /// How many entries the history may have.
+    /// The greatest number of entries of the history.
     pub fn limit(&self) -> u64
         ensures { result ≡ self.now.core.limit }
     {
         self.limit
     }
 
-    /// The image that runs.
+    /// The image of the run.
     pub fn image(&self) -> &Image
         ensures { result.now ≡ self.now.core.program }
     {
@@ -1252,7 +1278,7 @@ impl Core {
     }
 }
 
-// An entry of process p, which made so many steps, for which there is room.
+// Appends an entry of process p with this number of steps, for which there is room.
 #[inline(always)]
 fn note(history: &mut History, p: u64, steps: u32)
     requires room { 0 < history.old.room }
@@ -1262,7 +1288,7 @@ fn note(history: &mut History, p: u64, steps: u32)
     history.push(Entry { process: p, steps });
 }
 
-// How many choices of one process are made before another one is looked for.
+// The number of choices of one process before another process is looked for.
 #[inline(always)]
 fn at_once(most: u64, rounds: bool) -> u64
     requires { most < 2 ^ 32 }
@@ -1273,7 +1299,7 @@ fn at_once(most: u64, rounds: bool) -> u64
     if rounds { 1 } else { most }
 }
 
-// The process that comes next after p, where it is another one, and there is room for an entry of it.
+// The process that comes next after p, where it is another one and the history has room for its entry.
 #[inline(always)]
 fn other_next(roster: &Roster, history: &mut History, p: u64) -> Option<u64>
     ensures next { IfSome result (λ q. next_of_ready p roster.now.ready ≡ Some q) }
@@ -1291,14 +1317,14 @@ fn other_next(roster: &Roster, history: &mut History, p: u64) -> Option<u64>
     }
 }
 
-// So many entries of process p, each of one step, for which there is room.
+// Appends `count` entries of process p, each of one step, for which there is room.
 #[inline(always)]
 fn note_all(history: &mut History, p: u64, count: u32)
     requires room { 0 < history.old.room }
     requires few { length history.old.items + count ≤ 2 ^ 63 }
     ensures { history.new.items ≡ entries_along history.old.items p count }
 {
-    // In rounds it is one.
+    // In rounds the count is 1.
     if count == 1 {
         note(history, p, 1);
         return;

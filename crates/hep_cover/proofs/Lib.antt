@@ -1,5 +1,6 @@
-pub mod InCode
-mod Taken
-pub mod Marking
-pub mod Tallied
-mod Remade
+pub use Rattle.hep_why.proofs.FoundReasons as WhyFoundReasons
+pub mod StatementCode
+mod TakenOperations
+pub mod StartMarks
+pub mod CountedSteps
+mod CountedReplays

@@ -2,13 +2,13 @@
 use Rattle.std.specs.Prelude.{ℕ, ◌+◌, ◌-◌, min, List, [], ◌∷◌, Option, Some, None, slice_get}
 use Rattle.std.specs.Option.{option_flatten, unwrap_or}
 use Rattle.hep_machine.specs.Words.{Units, State, state_after_turn}
-use Rattle.hep_cover.specs.Begins.{begun, with_line}
+use Rattle.hep_cover.specs.StatementStarts.{begun, with_line}
 
--- one more, and no more than a number of 64 bits can say
+-- one more, up to the greatest number of 64 bits
 abbrev pub one_more : ℕ → ℕ
 one_more n = min (n + 1) 18446744073709551615
 
--- what is counted so far at an index
+-- the count so far at an index
 abbrev pub count_before : List (Option ℕ) → ℕ → ℕ
 count_before counts i = unwrap_or (option_flatten (slice_get counts i)) 0
 

@@ -3,10 +3,10 @@ use Rattle.std.specs.Prelude.{ℕ, ◌&&◌, not, Bool, true, false, if◌then�
 use Rattle.hep_machine.specs.declared.event.Entry.{Entry}
 use Rattle.hep_machine.specs.Words.{Form, Statement, Units, is_executable, opening, schedule_of}
 use Rattle.hep_source.specs.declared.statement.Form.TheVariants.{Else}
-use Rattle.hep_cover.specs.Begins.{operations_by_line, with_line}
+use Rattle.hep_cover.specs.StatementStarts.{operations_by_line, with_line}
 unfoldable pub use Rattle.hep_cover.specs.Counts.{counted_along}
 
--- ---- counts: how often it began, none where no statement is that can begin
+-- ---- counts: the number of times that a statement began, none where no statement is that can begin
 
 -- a process is never at an ELSE
 abbrev pub is_else : Form → Bool
@@ -24,7 +24,7 @@ abbrev pub unbegun_in : Units → List (Option ℕ) → List (Option ℕ)
 unbegun_in [] counts = counts
 unbegun_in (unit ∷ units) counts = unbegun_in units (unbegun_in_unit unit counts)
 
--- of so many lines
+-- of `count` lines
 abbrev pub unbegun : Units → ℕ → List (Option ℕ)
 unbegun program count = unbegun_in program (replicate count None)
 
@@ -39,6 +39,6 @@ counted_in_all program operations [] counts = counts
 counted_in_all program operations (history ∷ histories) counts =
     counted_in_all program operations histories (counted_in program operations history counts)
 
--- of so many lines
+-- of `count` lines
 abbrev pub coverage : Units → ℕ → List (List Entry) → List (Option ℕ)
 coverage program count histories = counted_in_all program (operations_by_line program count) histories (unbegun program count)

@@ -1,10 +1,11 @@
+pub use Rattle.hep_why.specs.Watches as WhyWatches
 pub use Rattle.hep_why.specs.Reasons as CausesReasons
-pub mod Operations
-pub mod Begins
-pub mod Ahead
+pub mod OperationCounts
+pub mod StatementStarts
+pub mod RemainingOperations
 pub mod Counts
-pub mod Marks
-pub mod Tallies
+pub mod StartMarks
+pub mod CountedRuns
 pub mod Coverage
 pub mod Lines
-pub mod Remaking
+pub mod CountedReplay

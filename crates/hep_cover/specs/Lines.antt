@@ -1,4 +1,5 @@
--- The lines of a source, each with how often its statement began: docs/RUNS.md, "How often lines began".
+-- The lines of a source, each with the number of times that its statement began: docs/RUNS.md, "How often lines
+-- began".
 use Rattle.std.specs.Prelude.{ℕ, suc, ◌-◌, nat_eq, if◌then◌else◌, List, [], ◌∷◌, ◌++◌, codes, length, replicate, Option, Some, None, slice_get}
 use Rattle.std.specs.Fmt.{decimal}
 use Rattle.std.specs.Option.{option_flatten}
@@ -7,7 +8,7 @@ use Rattle.hep_machine.specs.Words.{Units}
 use Rattle.hep_text.specs.Line.{lines}
 use Rattle.hep_cover.specs.Coverage.{coverage}
 
--- blanks before a text, so that both have so many characters at least
+-- blanks before a text, so that both have `width` characters at least
 abbrev pub padded : ℕ → List ℕ → List ℕ
 padded width text = replicate (width - length text) 32 ++ text
 
@@ -22,7 +23,7 @@ number_text number = decimal number
 abbrev pub line_text : Option ℕ → ℕ → List ℕ → List ℕ
 line_text count number line = padded 9 (count_text count) ++ codes ":" ++ padded 5 (number_text number) ++ codes ":" ++ line ++ codes "\n"
 
--- those from the one with so many before it on
+-- the lines after the first `before` ones
 abbrev pub lines_text : List (Option ℕ) → ℕ → List (List ℕ) → List ℕ
 lines_text counts before [] = []
 lines_text counts before (l ∷ ls) = line_text (option_flatten (slice_get counts before)) (suc before) l ++ lines_text counts (suc before) ls

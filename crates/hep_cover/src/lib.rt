@@ -1,37 +1,33 @@
-//! The command `cover`: statement boundaries in the code, and line coverage.
+//! The command `cover`: how often the statement of each line began in histories (docs/RUNS.md, "How often lines
+//! began"). [`count_history`](covering::count_history) makes a history again and counts.
 //!
-//! Which statement a step begins: the one of which no operation is made yet.
-//!
-//! Turns of one process, many at once, while the statements are counted that its steps begin.
-//!
-//! A table has for each index of a unit's code the line of the statement that a step from there begins, if it begins one ([`marks_of`]). Steps
-//! that only move a process are made as `hep_advance` makes them, and each is counted by what the table has where it began ([`count_on`]).
-//!
-//! How often the statement of each line of a source began in histories, as a text.
+//! A step begins a statement if no operation of that was made yet. [`marks_of`] makes a table that gives for each
+//! index of a unit's code the line of the statement that a step from there begins. Steps that only move a process are
+//! made as in `hep_advance`, and counted by that table ([`count_on`]).
 #![tactic(auto)]
 
-mod again;
-pub mod ahead;
-pub mod counting;
-pub mod counts;
-pub mod covering;
+mod counted_run;
+mod counted_top;
+pub mod counted_turns;
+pub mod coverage;
+pub mod coverage_text;
 pub mod laws;
 pub mod line_counts;
-pub mod lines;
-pub mod marks;
-pub mod text;
-mod top;
-mod walk;
+pub mod operation_counts;
+pub mod remaining_operations;
+pub mod statement_starts;
+pub mod unbegun_lines;
 
-pub use ahead::operations_ahead;
-pub use counting::{begun, count_on};
-pub use counts::unbegun;
-pub use covering::count_history;
-pub use hep_advance::{DecodedImage, Table, tables_of};
+pub use counted_turns::{begun, count_on};
+pub use coverage::count_history;
+pub use coverage_text::{append_lines, line_count};
+pub use hep_advance::{DecodedCode, DecodedImage, tables_of};
 pub use hep_why::{
-    Choices, First, HistFault, History, ReplayFault, read_text, replay, replay_first, why_text,
+    Choices, HistFault, History, HistoryPrefix, ReplayFault, read_text, replay, replay_first,
+    why_text,
 };
 pub use line_counts::{count, set_line};
-pub use lines::operations_by_line;
-pub use marks::{MarkedImage, Marks, marks_of};
-pub use text::{append_lines, line_count};
+pub use operation_counts::operations_by_line;
+pub use remaining_operations::operations_ahead;
+pub use statement_starts::{MarkedImage, StatementStarts, marks_of};
+pub use unbegun_lines::unbegun;

@@ -1,9 +1,9 @@
 //! How often the statement of each line began so far.
 ghost use Rattle.std.specs.Prelude.{◌≡◌};
-ghost use Rattle.hep_cover.specs.Begins.{with_line};
+ghost use Rattle.hep_cover.specs.StatementStarts.{with_line};
 ghost use Rattle.hep_cover.specs.Counts as words;
 
-/// Sets the count of a line, where there is such a line.
+/// Sets the count of a line, if there is such a line.
 #[inline(always)]
 pub fn set_line(counts: &mut Vec<Option<u64>>, line: u32, count: Option<u64>)
     ensures { counts.new.items ≡ with_line counts.old.items line count }
@@ -17,7 +17,7 @@ pub fn set_line(counts: &mut Vec<Option<u64>>, line: u32, count: Option<u64>)
     }
 }
 
-// How often it began before.
+// The count so far, 0 where there is none.
 #[inline(always)]
 fn count_at(counts: &[Option<u64>], index: usize) -> u64
     ensures { result ≡ words.count_before counts.now index }

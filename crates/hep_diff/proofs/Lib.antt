@@ -1,7 +1,7 @@
-mod Unlike
-mod Noting
-mod Asked
-mod Living
-mod Rows
-mod Told
+mod FirstDifferences
+mod StepLogs
+mod CellReadings
+mod LivingProcesses
+mod LogRows
+mod SiteValues
 mod Sides

@@ -1,13 +1,13 @@
 -- What is told of two runs that were made again is what the definitions tell of their histories.
 use Rattle.std.proofs.Common.{◌≡◌, ◌⊎◌, inl, inr, ℕ, suc, ◌+◌, ◌-◌, ◌<◌, ◌≤◌, Bool, true, false, max, List, [], ◌∷◌, ◌++◌, length, Option, Some, None, refl, sym, ap, ◌∙◌, subst, arith, append_assoc, if◌then◌else◌, nat_le}
 use Rattle.std.proofs.lemmas.Option.{none-some, same_Some}
-use Rattle.hep_blocked.specs.Listing.{IsBlocked}
-use Rattle.hep_why.proofs.Found.{progress-singles, state-is-so}
+use Rattle.hep_blocked.specs.RosterUpdates.{IsBlocked}
+use Rattle.hep_why.proofs.FoundReasons.{progress-singles, state-is-so}
 use Rattle.hep_why.specs.Watches.{IsReplayed}
 use Rattle.hep_cells.specs.declared.want.Want.{Want}
 use Rattle.hep_core.proofs.Histories.{state-is}
-use Rattle.hep_core.specs.Value.{CoreValue, listed_after}
-use Rattle.hep_replay.proofs.Turns.{state_singles}
+use Rattle.hep_core.specs.CoreValues.{CoreValue, listed_after}
+use Rattle.hep_outcome.proofs.ReplayReplayTurns.{state_singles}
 use Rattle.hep_why.specs.Replays.{single_entries}
 use Rattle.hep_machine.specs.declared.event.Entry.{Entry}
 use Rattle.hep_machine.specs.Words.{State, Units, is_number_among, opening, progress_after, schedule_of, state_after}
@@ -17,13 +17,13 @@ use Rattle.hep_state.specs.declared.core_state.CoreState.{CoreState}
 use Rattle.hep_state.specs.Words.{IsMachineAfter}
 use Rattle.hep_text.specs.Line.{lines}
 use Rattle.hep_views.specs.declared.listed.Listed.{Listed}
-use Rattle.hep_views.specs.Listed.{listed_by}
-use Rattle.hep_views.specs.Sought.{IsListedAs}
-use Rattle.hep_views.specs.Standing.{whereabouts_by}
+use Rattle.hep_views.specs.ListedProcesses.{listed_by}
+use Rattle.hep_views.specs.CellOwners.{IsListedAs}
+use Rattle.hep_views.specs.ProcessPositions.{whereabouts_by}
 use Rattle.hep_diff.specs.Differences.{deed_or_rest, end_of, made_in, process_text, processes_from, rest_of, written_text}
-use Rattle.hep_diff.specs.Firsts.{first_from, same_deed, same_entry, same_front}
-use Rattle.hep_diff.specs.Lines.{ends_text, records_text, rest_text}
-use Rattle.hep_diff.specs.declared.deed.Deed.{Deed}
+use Rattle.hep_diff.specs.FirstDifferences.{first_from, same_deed, same_entry, same_front}
+use Rattle.hep_diff.specs.DifferenceLines.{ends_text, records_text, rest_text}
+use Rattle.hep_diff.specs.declared.process_step.ProcessStep.{ProcessStep}
 
 -- ---- one run
 
@@ -48,7 +48,7 @@ module _ (core : CoreValue) (entries : List Entry) (r : IsReplayed core entries)
   rest-same : (p : ℕ) → rest_of core.program core.history p ≡ rest_of core.program entries p
   rest-same p = λ i. rest_text core.program (waits-same p i) (whereabouts_by core.program p (state-same i)) (nat_le p (made-same i))
 
-  pub side-same : (p : ℕ) (d : Option Deed) → deed_or_rest core.program core.history p d ≡ deed_or_rest core.program entries p d
+  pub side-same : (p : ℕ) (d : Option ProcessStep) → deed_or_rest core.program core.history p d ≡ deed_or_rest core.program entries p d
   side-same p None = rest-same p
   side-same p (Some d) = refl
 
@@ -124,13 +124,13 @@ front-within (x ∷ xs) (y ∷ ys) = by (same_entry x y) (front-within xs ys) wh
 -- ---- steps
 
 -- the first step that isn't the same is there in one of two rows
-pub first_inside : (xs ys : List Deed) (at : ℕ) → Some at ≡ first_from 0 xs ys → (at < length xs) ⊎ (at < length ys)
+pub first_inside : (xs ys : List ProcessStep) (at : ℕ) → Some at ≡ first_from 0 xs ys → (at < length xs) ⊎ (at < length ys)
 first_inside xs ys at is = plain (inside 0 xs ys at (sym is)) where
   plain : (at < 0 + length xs) ⊎ (at < 0 + length ys) → (at < length xs) ⊎ (at < length ys)
   plain (inl h) = inl (omega (arith, h))
   plain (inr h) = inr (omega (arith, h))
 
-  inside : (k : ℕ) (us vs : List Deed) (n : ℕ) → first_from k us vs ≡ Some n → (n < k + length us) ⊎ (n < k + length vs)
+  inside : (k : ℕ) (us vs : List ProcessStep) (n : ℕ) → first_from k us vs ≡ Some n → (n < k + length us) ⊎ (n < k + length vs)
   inside k [] [] n e = absurd (none-some n e)
   inside k [] (v ∷ vs) n e = let same : k ≡ n = same_Some k n e in inr (omega (arith, same))
   inside k (u ∷ us) [] n e = let same : k ≡ n = same_Some k n e in inl (omega (arith, same))

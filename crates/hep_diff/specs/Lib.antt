@@ -1,7 +1,8 @@
-pub mod Deeds
-pub mod Firsts
-pub mod Lines
+pub use Rattle.hep_event.specs.Traces as EventTraces
+pub mod ProcessSteps
+pub mod FirstDifferences
+pub mod DifferenceLines
 pub mod Differences
-pub mod Asking
-pub mod Logs
+pub mod CellReadings
+pub mod StepLogs
 pub mod Sides

@@ -1,20 +1,18 @@
-//! The command `diff`: what differs between two runs, process by process.
-//!
-//! What differs between two runs of a program, process by process, as a text.
-//!
-//! What differs between two runs of a program, read from cores that have made their histories, as a text.
+//! The command `diff`: what differs between two runs of a program, process by process (docs/RUNS.md, "What differs").
+//! [`diff_text`](text::diff_text) makes the text from two cores that have made the histories; `specs/Differences`
+//! defines it.
 #![tactic(auto)]
 
-pub mod deed;
-mod deeds;
-pub mod firsts;
-mod found;
-pub mod lines;
-mod logs;
-mod making;
-pub mod text;
+mod cell_reading;
+pub mod diff;
+pub mod difference_text;
+pub mod first_differences;
+mod logged_replay;
+mod next_process_step;
+pub mod process_step;
+mod step_logs;
 
-pub use deed::{Deed, Found};
-pub use firsts::{first_difference, same_front};
+pub use diff::diff_text;
+pub use first_differences::{first_difference, same_front};
 pub use hep_outcome::transcript::core_transcript;
-pub use text::diff_text;
+pub use process_step::{CellReading, ProcessStep};

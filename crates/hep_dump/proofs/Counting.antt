@@ -5,7 +5,7 @@ use Rattle.hep_machine.specs.declared.event.Entry.{Entry}
 use Rattle.hep_machine.specs.Words.{Units}
 use Rattle.hep_core.specs.Listed.{Listed}
 use Rattle.hep_core.proofs.Histories.{number-listed}
-use Rattle.hep_core.specs.Value.{first_listed, listed_after}
+use Rattle.hep_core.specs.CoreValues.{first_listed, listed_after}
 use Rattle.hep_dump.specs.Waiting as words
 
 or-none : (o r : Option Listed) → option_or o r ≡ None → (o ≡ None) × (r ≡ None)

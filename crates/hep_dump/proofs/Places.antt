@@ -3,9 +3,9 @@ use Rattle.std.proofs.Common.{◌≡◌, ℕ, suc, ◌-◌, ◌<◌, ◌≤◌, 
 use Rattle.hep_machine.specs.declared.event.Entry.{Entry}
 use Rattle.hep_machine.specs.Words.{Units, state_after}
 use Rattle.hep_image.specs.Names.{names_in_order}
-use Rattle.hep_core.specs.Standing.{whereabouts_by}
-use Rattle.hep_dump.specs.Stops.{place_notes, places_notes}
-use Rattle.hep_dump.specs.Wants.{wants_from, wants_notes}
+use Rattle.hep_core.specs.ProcessPositions.{whereabouts_by}
+use Rattle.hep_dump.specs.StopNotes.{place_notes, places_notes}
+use Rattle.hep_dump.specs.PendingCalls.{wants_from, wants_notes}
 
 -- a turn of a loop over all of them
 pub turn : (program : Units) (history : List Entry) (b n : ℕ) (found next whole : List ℕ) → b < n → found ++ places_notes program history (suc b) (n - b) ≡ whole

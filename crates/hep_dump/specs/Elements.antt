@@ -1,10 +1,10 @@
--- An element of an array as it is written, from its place among the elements: X3.9-1978, 5.4.
+-- The text of an element of an array, by its place among the elements: X3.9-1978, 5.4.
 use Rattle.std.specs.Prelude.{ℕ, suc, ◌/◌, ◌%◌, ℤ, pos, ◌+ℤ◌, ◌-ℤ◌, List, [], ◌∷◌, ◌++◌, codes, Option, Some, None}
 use Rattle.std.specs.Fmt.{signed_decimal}
 use Rattle.hep_machine.specs.Words.{Bounds, natural}
 use Rattle.hep_machine.specs.declared.shape.Bound.{Bound}
 
--- how many subscripts a dimension has; no array in COMMON has one that is open
+-- the number of subscripts of a dimension; no array in COMMON has an open one
 abbrev pub size_between : ℤ → Option ℤ → ℕ
 size_between l None = 1
 size_between l (Some u) = suc (natural (u -ℤ l))
@@ -12,7 +12,7 @@ size_between l (Some u) = suc (natural (u -ℤ l))
 abbrev pub size : Bound → ℕ
 size b = size_between b.lower b.upper
 
--- the subscript of a dimension, where so many elements stand before one in it and in those behind it
+-- the subscript of a dimension, for the element that has i others before it in this dimension and the later ones
 abbrev pub subscript : Bound → ℕ → ℤ
 subscript b i = b.lower +ℤ pos (i % size b)
 

@@ -14,7 +14,7 @@ kind_text Undefined = codes "UNDEFINED"
 kind_text Shape = codes "SHAPE"
 kind_text Step = codes "STEP"
 
--- where and why
+-- the place and the reason
 abbrev pub cause_text : Fault → List ℕ
 cause_text f = codes " LINE " ++ decimal f.line ++ codes " " ++ kind_text f.kind ++ codes "\n"
 

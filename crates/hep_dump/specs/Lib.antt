@@ -1,9 +1,9 @@
-pub use Rattle.hep_core.specs.Standing as CoreStanding
-pub use Rattle.hep_core.specs.Value
+pub use Rattle.hep_core.specs.ProcessPositions as CoreStanding
+pub use Rattle.hep_core.specs.CoreValues
 pub mod Elements
-pub mod Naming
+pub mod CommonNames
 pub mod Names
 pub mod Faults
 pub mod Waiting
-pub mod Stops
-pub mod Wants
+pub mod StopNotes
+pub mod PendingCalls

@@ -1,13 +1,13 @@
--- The lines of processes that wait: docs/MACHINE.md, "Lines of processes that wait".
+-- The lines of waiting processes: docs/MACHINE.md, "Lines of processes that wait".
 use Rattle.std.specs.Prelude.{ℕ, zero, suc, Bool, true, false, List, [], ◌++◌, codes, length, Option, Some, None, slice_get}
 use Rattle.std.specs.Fmt.{decimal}
 use Rattle.hep_machine.specs.declared.event.Entry.{Entry}
 use Rattle.hep_machine.specs.Words.{Units, state_after, unit_at}
 use Rattle.hep_image.specs.Names.{names_in_order}
 use Rattle.hep_core.specs.Listed.{Listed}
-use Rattle.hep_core.specs.Value.{listed_after}
-use Rattle.hep_text.specs.Shown.{words_text}
-use Rattle.hep_dump.specs.Naming.{own_name}
+use Rattle.hep_core.specs.CoreValues.{listed_after}
+use Rattle.hep_text.specs.LineDisplay.{words_text}
+use Rattle.hep_dump.specs.CommonNames.{own_name}
 use Rattle.hep_dump.specs.Names.{name_found}
 
 -- ---- places
@@ -43,13 +43,13 @@ wish_text names l = codes " FOR " ++ state_text l.full ++ codes " " ++ place_tex
 
 -- ---- lines
 
--- of a process that waits, where units, variables and blocks have these names by number
+-- of a waiting process, with these names of units, variables and blocks by number
 abbrev pub listed_text : List (List ℕ) → Listed → List ℕ
 listed_text names l =
     codes "WAITING " ++ decimal l.process ++ codes " " ++ name_found (slice_get names l.unit) ++ codes " LINE " ++ decimal l.line
     ++ wish_text names l
 
--- ---- what a unit calls a position of COMMON
+-- ---- a unit's name for a position of COMMON
 
 -- a position is this in a unit of this name
 abbrev pub own_words : List ℕ → List ℕ → List ℕ → List ℕ
@@ -59,12 +59,12 @@ abbrev pub own_text : List (List ℕ) → Listed → Option (List ℕ) → List 
 own_text names l None = []
 own_text names l (Some name) = words_text (own_words (place_text names l) name (name_found (slice_get names l.unit)))
 
--- no name is told for a variable of an activation, which has one
+-- none for a variable of an activation, whose name is in the line already
 abbrev pub own_notes : Units → Listed → ℕ → List ℕ
 own_notes program l zero = own_text (names_in_order program) l (own_name (unit_at program l.unit) (name_found (slice_get (names_in_order program) l.name)) l.element)
 own_notes program l (suc a) = []
 
--- the line of a process, and what its unit calls the position for which it waits, where that is asked for
+-- the line of a process, and its unit's name for the position that it waits for, if notes are asked for
 abbrev pub told_text : Bool → Units → Listed → List ℕ
 told_text false program l = listed_text (names_in_order program) l
 told_text true program l = listed_text (names_in_order program) l ++ own_notes program l l.owner
@@ -76,7 +76,7 @@ abbrev pub process_text : (Listed → List ℕ) → Option Listed → List ℕ
 process_text text None = []
 process_text text (Some l) = text l
 
--- of so many processes after a history, of which the first one has this number, as far as they are listed
+-- of the listed ones of n processes from this number on, after a history
 abbrev pub waiting_text : (Listed → List ℕ) → Units → List Entry → ℕ → ℕ → List ℕ
 waiting_text text program history p zero = []
 waiting_text text program history p (suc n) = process_text text (listed_after program history p) ++ waiting_text text program history (suc p) n

@@ -7,7 +7,7 @@ use hep_machine::Bound;
 use itoa::Buffer;
 use std::alloc::AllocError;
 
-// How many subscripts a dimension has.
+// The number of subscripts of a dimension.
 fn size(bound: &Bound) -> u128
     ensures size { result ≡ words.size bound.now }
     ensures some { 1 ≤ result }
@@ -18,7 +18,8 @@ fn size(bound: &Bound) -> u128
     }
 }
 
-// The subscript of a dimension, where so many elements stand before one in it and in those behind it.
+// The subscript of a dimension, for the element that has `before` others before it in this dimension and the later
+// ones.
 fn subscript(bound: &Bound, before: u32) -> i128
     ensures { result ≡ words.subscript bound.now before }
 {
@@ -26,7 +27,7 @@ fn subscript(bound: &Bound, before: u32) -> i128
     i128::from(bound.lower) + i128::from(steps)
 }
 
-// How many stand before it in the dimensions behind this one.
+// The number of elements before it in the later dimensions.
 fn before_in_next(bound: &Bound, before: u32) -> u32
     ensures { result ≡ before / words.size bound.now }
 {
@@ -54,7 +55,8 @@ fn append_further(text: &mut Vec<u8>, bounds: &[Bound], before: u32) -> Result<(
     Ok(())
 }
 
-/// Appends the subscripts of the element behind so many, of an array with these bounds; a scalar has none.
+/// Appends the subscripts of the element after the first `before` ones, of an array with these bounds; a scalar has
+/// none.
 ///
 /// # Errors
 ///

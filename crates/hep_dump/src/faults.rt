@@ -1,7 +1,7 @@
 //! The lines of faults.
 ghost use Rattle.std.specs.Prelude.{◌≡◌, ◌++◌, IfOk, OnOk, slice_get};
 ghost use Rattle.hep_image.specs.Names.{names_in_order};
-ghost use Rattle.hep_core.specs.Value.{state_of};
+ghost use Rattle.hep_core.specs.CoreValues.{state_of};
 ghost use Rattle.hep_dump.specs.Faults as words;
 ghost use Rattle.hep_dump.specs.Names.{name_found};
 
@@ -12,7 +12,8 @@ use hep_output::append_number;
 use hep_source::MAIN_NAME;
 use std::alloc::{AllocError, Global};
 
-fn kind_text(kind: Kind) -> &'static [u8]
+/// The word for a kind of fault.
+pub fn kind_text(kind: Kind) -> &'static [u8]
     ensures { result.now ≡ words.kind_text kind }
 {
     match kind {
@@ -25,7 +26,7 @@ fn kind_text(kind: Kind) -> &'static [u8]
     }
 }
 
-// Where and why: ` LINE n fault`.
+// The place and the reason: ` LINE n fault`.
 fn append_cause(text: &mut Vec<u8>, fault: &Fault) -> Result<(), AllocError>
     ensures { OnOk result (text.new.items ≡ text.old.items ++ words.cause_text fault.now) }
 {
@@ -54,8 +55,8 @@ pub fn append_fault(text: &mut Vec<u8>, unit: &[u8], fault: &Fault) -> Result<()
     Ok(())
 }
 
-// The name with this number.
-pub(crate) fn name_of(image: &Image, number: u32) -> &[u8]
+/// The name with this number.
+pub fn name_of(image: &Image, number: u32) -> &[u8]
     ensures { result.now ≡ name_found (slice_get (names_in_order image.now) number) }
 {
     match image.name(number) {

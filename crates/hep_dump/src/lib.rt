@@ -1,23 +1,21 @@
-//! The lines of faults and of processes that wait, with the name that a unit has for a cell of COMMON.
+//! The lines at the end of a run: those of faults ([`fault_text`](faults::fault_text)) and of waiting processes
+//! ([`dump_text`](waiting::dump_text)), and the notes after them and after a stop (docs/MACHINE.md, "Lines of
+//! processes that wait" and "Notes").
 //!
-//! The name that a unit has for a position of a common block.
-//!
-//! A process that waits for a position of COMMON is told by the block and the position. Each unit may have a name of its own for it,
-//! and an array has subscripts; [`own_name`] writes both.
-//!
-//! Lines about a core at its end: its faults, the processes that wait, and what is said of them and of a stop where more is asked for.
+//! The line of a process that waits for a position of COMMON names the block and the position. Each unit may have a
+//! name of its own for it, with subscripts for an array; [`own_name`](naming::own_name) writes that name.
 #![tactic(auto)]
 
+pub mod common_names;
 mod elements;
 pub mod faults;
-pub mod naming;
-pub mod stops;
+pub mod pending_calls;
+pub mod stop_notes;
 pub mod waiting;
-pub mod wants;
 
-pub use faults::{append_fault, append_faults, fault_text};
+pub use common_names::own_name;
+pub use faults::{append_fault, append_faults, fault_text, name_of};
 pub use hep_core::{Breakpoints, Core, Kind, Listed, Whereabouts};
-pub use naming::own_name;
-pub use stops::{append_places, opening_notes, used_notes};
+pub use pending_calls::append_all_wants;
+pub use stop_notes::{append_places, opening_notes, used_notes};
 pub use waiting::{append_all_waiting, append_waiting, dump_text};
-pub use wants::append_all_wants;

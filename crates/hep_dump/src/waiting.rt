@@ -1,13 +1,13 @@
-//! The lines of processes that wait.
+//! The lines of waiting processes.
 ghost use Rattle.std.specs.Prelude.{◌≡◌, ◌++◌, IfOk, OnOk, false, slice_get};
 ghost use Rattle.hep_image.specs.Names.{names_in_order};
 ghost use Rattle.hep_machine.specs.Words as machine;
-ghost use Rattle.hep_dump.specs.Naming as naming;
+ghost use Rattle.hep_dump.specs.CommonNames as naming;
 ghost use Rattle.hep_dump.specs.Names.{name_found};
 ghost use Rattle.hep_dump.specs.Waiting as words;
 
+use crate::common_names::own_name;
 use crate::faults::name_of;
-use crate::naming::own_name;
 use hep_base::Text;
 use hep_core::{Core, Listed};
 use hep_image::Image;
@@ -16,8 +16,12 @@ use hep_source::Statement;
 use hep_text::append_words;
 use std::alloc::{AllocError, Global};
 
-// A position of a common block of this name: `/block/#k`.
-fn append_position(text: &mut Vec<u8>, block: &[u8], position: u32) -> Result<(), AllocError>
+/// A position of a common block of this name: `/block/#k`.
+///
+/// # Errors
+///
+/// Only where memory was refused.
+pub fn append_position(text: &mut Vec<u8>, block: &[u8], position: u32) -> Result<(), AllocError>
     ensures { OnOk result (text.new.items ≡ text.old.items ++ words.position_text block.now position) }
 {
     text.extend_from_slice(b"/")?;
@@ -27,8 +31,12 @@ fn append_position(text: &mut Vec<u8>, block: &[u8], position: u32) -> Result<()
     Ok(())
 }
 
-// A variable of this name, or an element of it, of an activation: `name OF a` or `name#k OF a`.
-fn append_variable(
+/// A variable of this name, or an element of it, of an activation: `name OF a` or `name#k OF a`.
+///
+/// # Errors
+///
+/// Only where memory was refused.
+pub fn append_variable(
     text: &mut Vec<u8>,
     name: &[u8],
     element: u32,
@@ -76,8 +84,7 @@ fn append_wish(text: &mut Vec<u8>, image: &Image, listed: &Listed) -> Result<(),
     Ok(())
 }
 
-/// Appends the line of a process that waits: `WAITING p unit LINE n FOR FULL place`, or
-/// `FOR EMPTY`.
+/// Appends the line of a waiting process: `WAITING p unit LINE n FOR FULL place`, or `FOR EMPTY`.
 ///
 /// # Errors
 ///
@@ -96,7 +103,7 @@ pub fn append_waiting(text: &mut Vec<u8>, image: &Image, listed: &Listed) -> Res
     Ok(())
 }
 
-// Appends what the unit of a process calls the position of COMMON for which it waits.
+// Appends the name that the unit of a process has for the position of COMMON that it waits for.
 fn append_own_words(
     line: &mut Vec<u8>,
     image: &Image,
@@ -115,8 +122,8 @@ fn append_own_words(
     Ok(())
 }
 
-// The statements of a unit by its number.
-fn unit_at(image: &Image, unit: u32) -> &[Statement]
+/// The statements of a unit by its number.
+pub fn unit_at(image: &Image, unit: u32) -> &[Statement]
     ensures { result.now ≡ machine.unit_at image.now unit }
 {
     match image.program().as_slice().get(unit as usize) {
@@ -125,7 +132,7 @@ fn unit_at(image: &Image, unit: u32) -> &[Statement]
     }
 }
 
-// What the unit of a process calls the position of COMMON for which it waits.
+// The name that the unit of a process has for the position of COMMON that it waits for.
 fn own_name_of(alloc: Global, image: &Image, listed: &Listed) -> Result<Option<Text>, AllocError>
     ensures { IfOk result (λ name. name
         ≡ naming.own_name (machine.unit_at image.now listed.now.unit) (name_found (slice_get (names_in_order image.now) listed.now.name))
@@ -135,7 +142,8 @@ fn own_name_of(alloc: Global, image: &Image, listed: &Listed) -> Result<Option<T
     own_name(alloc, unit, name_of(image, listed.name), listed.element)
 }
 
-// Appends a line with what the unit of a process calls the position of COMMON for which it waits, if it has a name for it.
+// Appends a line with the name that the unit of a process has for the position of COMMON that it waits for, if it has
+// one.
 fn append_own_name(
     alloc: Global,
     text: &mut Vec<u8>,
@@ -156,7 +164,7 @@ fn append_own_name(
     Ok(())
 }
 
-// Appends the line of a process that waits, with notes where `long` is true.
+// Appends the line of a waiting process, with notes where `long` is true.
 fn append_told(
     alloc: Global,
     text: &mut Vec<u8>,
@@ -173,8 +181,8 @@ fn append_told(
     Ok(())
 }
 
-/// Appends the lines of all processes that were found waiting and wait since, by their numbers; where `long` is true, with what its
-/// unit calls a position of COMMON behind the line of each process that waits for one.
+/// Appends the lines of all processes that were found waiting and still wait, by their numbers. Where `long` is true,
+/// the line of a process that waits for a position of COMMON is followed by its unit's name for that.
 ///
 /// # Errors
 ///
@@ -195,7 +203,7 @@ pub fn append_all_waiting(
     Ok(())
 }
 
-/// The lines of all processes that were found waiting and wait since, by their numbers.
+/// The lines of all processes that were found waiting and still wait, by their numbers.
 ///
 /// # Errors
 ///

@@ -5,7 +5,7 @@ use Rattle.hep_code.specs.declared.instruction.Instruction.{Instruction}
 use Rattle.hep_code.specs.declared.instruction.Instruction.TheVariants.{Pass, Step}
 use Rattle.hep_code.specs.declared.instruction.Operation.TheVariants.{Refer}
 use Rattle.hep_code.specs.Words.{actuals_code_in, argument_of, passes, count, name_code, listed_code, tree_code, trees_code, asked_code, NameTable}
-use Rattle.hep_emit.proofs.ListLengths.{count_length}
+use Rattle.hep_code.proofs.ListLengths.{count_length}
 
 -- what stands behind a reference is what is passed
 pub passes_map : (names : NameTable) (ts : List Tree) → passes names (trees_of ts) ≡ map (λ t. Pass (argument_of names t)) ts

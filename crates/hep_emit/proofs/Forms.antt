@@ -7,7 +7,7 @@ use Rattle.hep_code.specs.declared.instruction.Instruction.TheVariants.{To, Pass
 use Rattle.hep_code.specs.Words.{tree_code, actual_code, actuals_code, argument_of, target_code, targets_code, argument_of_target, printed_of, operands_code, operation_code, form_code, NameTable, Table}
 use Rattle.hep_emit.specs.ArgumentLimits.{subscripts_of_all}
 use Rattle.hep_emit.specs.Operations.{list_length, list_subscripts}
-use Rattle.hep_emit.proofs.Given.{actual_long}
+use Rattle.hep_emit.proofs.ActualCode.{actual_long}
 use Rattle.hep_emit.proofs.CodeLengths.{count_long, trees_long}
 
 module _ (names : NameTable) (line : ℕ) where

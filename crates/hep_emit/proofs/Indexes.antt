@@ -8,10 +8,10 @@ use Rattle.hep_source.specs.declared.statement.Form.TheVariants as form
 use Rattle.hep_code.specs.declared.instruction.Instruction.TheVariants.{Step, To}
 use Rattle.hep_code.specs.declared.instruction.Operation.TheVariants.{Condition}
 use Rattle.hep_code.specs.Words.{tree_code, operands_code, operation_code, form_code, conditions_code, loop_end_code, statement_code, statements_code, instructions_before, Table, Target, at, end_of, onward, outward, inward, aside, labelled, AddressedUnit, names_of, table_by, unplaced, index_of, code_of}
-use Rattle.hep_emit.specs.declared.names.Names.{Names}
+use Rattle.hep_emit.specs.declared.name_lookup.NameLookup.{NameLookup}
 use Rattle.hep_emit.specs.declared.tables.Starts.{Starts}
 use Rattle.hep_emit.specs.declared.tables.Tables.{Tables}
-use Rattle.hep_code.specs.Places.{variable_in, cells_in}
+use Rattle.hep_code.specs.Placements.{variable_in, cells_in}
 use Rattle.hep_emit.specs.Starts.{starts_from, end_from}
 use Rattle.hep_emit.specs.Names.{names_in, greatest, number_called, number_referred}
 use Rattle.hep_emit.specs.Tables.{start_in, index_in, table_in, addressed_in}
@@ -49,7 +49,7 @@ reference-is : (program : Units) → length program ≤ greatest → (x : Name) 
 unfolding number_referred
 reference-is program few x = rw (le-leb (function_unit program x) greatest (omega (arith, referred_at_most program x, few))) refl
 
-names-are : (n : Names) → value_among n.constants.now ≡ constant_value n.symbols.now → length n.program.now ≤ greatest → names_in n ≡ names_of (addressed_in n)
+names-are : (n : NameLookup) → value_among n.constants.now ≡ constant_value n.symbols.now → length n.program.now ≤ greatest → names_in n ≡ names_of (addressed_in n)
 unfolding names_in
 names-are n e few = λ i.
     record {

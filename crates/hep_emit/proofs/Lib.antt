@@ -1,7 +1,6 @@
-pub mod ListLengths
 pub mod CodeLengths
-pub mod Given
-pub mod Asked
+pub mod ActualCode
+pub mod StateFunctionCode
 pub mod ExpressionRefusals
 pub mod Uses
 pub mod Flows

@@ -5,9 +5,9 @@ use Rattle.hep_code.specs.declared.instruction.Instruction.{Instruction}
 use Rattle.hep_code.specs.declared.instruction.Evaluation.{Evaluation}
 use Rattle.hep_code.specs.declared.instruction.Evaluation.TheVariants.{Load, Apply, Test}
 use Rattle.hep_code.specs.Words.{actual_code, actual_name_code, actual_listed_code, actuals_code_in, asked, asked_code, count, evaluating, listed_code, name_code, NameTable, tree_code, trees_code}
-use Rattle.hep_emit.specs.Asked.{subscripts_asked}
+use Rattle.hep_emit.specs.StateFunctionSubscripts.{subscripts_asked}
 use Rattle.hep_emit.specs.Uses.{evaluation_listed, operands_listed, reference_code, subscripts_of_name, subscripts_of_listed, subscripts_referred}
-use Rattle.hep_emit.proofs.Asked.{asked_is, asked_nodes}
+use Rattle.hep_emit.proofs.StateFunctionCode.{asked_is, asked_nodes}
 use Rattle.hep_emit.proofs.CodeLengths.{count_long, passes_count}
 
 module _ (names : NameTable) (line : ℕ) where

@@ -1,4 +1,4 @@
--- What refuses code, and how many subscripts arguments have.
+-- The refusal of code, and the number of subscripts of arguments.
 use Rattle.std.specs.Prelude.{◌≡◌, ℕ, ◌+◌, ◌<◌, List, [], ◌∷◌}
 use Rattle.hep_code.specs.declared.instruction.Argument.{Argument}
 use Rattle.hep_code.specs.declared.instruction.Argument.TheVariants.{Evaluated, Referred}
@@ -6,11 +6,11 @@ use Rattle.hep_emit.specs.declared.fault.EmitFault.{EmitFault}
 use Rattle.hep_emit.specs.declared.fault.EmitFault.TheVariants.{TooLong}
 use Rattle.hep_emit.specs.Names.{greatest}
 
--- a fault other than want of memory is there only for code of more instructions than a number of 32 bits can count
+-- a refusal other than that of memory is made only for code of more instructions than 32 bits can count
 abbrev pub IsTooLong : ℕ → EmitFault → Type 0
 IsTooLong n fault = fault ≡ TooLong → greatest < n
 
--- ---- subscripts of actual arguments and of what is purged
+-- ---- subscripts of actual arguments and of targets of PURGE
 
 abbrev pub subscripts_of : Argument → ℕ
 subscripts_of Evaluated = 0

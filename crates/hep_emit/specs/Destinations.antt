@@ -1,7 +1,7 @@
--- Where one goes, as contracts see it.
+-- The next place of an activation, as contracts see it.
 use Rattle.hep_code.specs.Words.{Target, at, end_of}
-use Rattle.hep_emit.specs.declared.flow.Destination.{Destination}
-use Rattle.hep_emit.specs.declared.flow.Destination.TheVariants as destinations
+use Rattle.hep_emit.specs.declared.destinations.Destination.{Destination}
+use Rattle.hep_emit.specs.declared.destinations.Destination.TheVariants as destinations
 
 abbrev pub destination : Destination → Target
 destination (destinations.Statement k) = at k

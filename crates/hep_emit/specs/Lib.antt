@@ -1,6 +1,6 @@
 pub mod Names
 pub mod ArgumentLimits
-pub mod Asked
+pub mod StateFunctionSubscripts
 pub mod Uses
 pub mod Destinations
 pub mod Operations

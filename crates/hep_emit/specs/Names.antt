@@ -1,9 +1,9 @@
--- What the names of a unit are, by its tables.
+-- The names of a unit, by its tables.
 use Rattle.std.specs.Prelude.{ℕ, nat_le, if◌then◌else◌}
 use Rattle.hep_machine.specs.Words.{Name, Units, value_among, listed_meaning, unit_called, function_unit}
 use Rattle.hep_code.specs.Words.{NameTable}
-use Rattle.hep_code.specs.Places.{variable_in}
-use Rattle.hep_emit.specs.declared.names.Names.{Names}
+use Rattle.hep_code.specs.Placements.{variable_in}
+use Rattle.hep_emit.specs.declared.name_lookup.NameLookup.{NameLookup}
 
 -- ---- numbers of 32 bits
 
@@ -22,7 +22,7 @@ number_referred program x = narrowed (function_unit program x)
 
 -- ---- names
 
-unfoldable pub names_in : Names → NameTable
+unfoldable pub names_in : NameLookup → NameTable
 names_in n =
     record {
       constants = value_among n.constants.now;

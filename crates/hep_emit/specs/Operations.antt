@@ -1,4 +1,4 @@
--- The lists that operations count, and what stands for them behind an operation.
+-- The lists that operations count, and the entries for them after an operation.
 use Rattle.std.specs.Prelude.{ℕ, List, [], ◌∷◌, Option, Some, None, map, length}
 use Rattle.hep_machine.specs.Words.{Form}
 use Rattle.hep_source.specs.declared.statement.Form.TheVariants as form
@@ -8,7 +8,7 @@ use Rattle.hep_code.specs.declared.instruction.Operation.{Operation}
 use Rattle.hep_code.specs.Words.{argument_of, argument_of_target, printed_of, NameTable, Table}
 use Rattle.hep_emit.specs.ArgumentLimits.{subscripts_of_all}
 
--- subscripts, labels, actual arguments, or what is purged or printed
+-- subscripts, labels, actual arguments, targets of PURGE or items of PRINT
 abbrev pub list_length : Form → ℕ
 list_length (form.Assign x t) = length x.subscripts
 list_length (form.ComputedGoTo labels t) = length labels
@@ -26,7 +26,7 @@ list_code table (form.Purge targets) = map (λ t. Pass (argument_of_target table
 list_code table (form.Print items) = map (λ i. Show (printed_of i)) items
 list_code table _ = []
 
--- how many subscripts there are of what is passed or purged
+-- the number of subscripts of what is passed or purged
 abbrev pub list_subscripts : NameTable → Form → ℕ
 list_subscripts names (form.Call p ts) = subscripts_of_all (argument_of names) ts
 list_subscripts names (form.Create p ts) = subscripts_of_all (argument_of names) ts

@@ -1,16 +1,16 @@
--- The tables from which code is made, as the definitions of the code have them.
+-- The tables of a unit, in the terms of the definitions of the code.
 use Rattle.std.specs.Prelude.{ℕ, suc, ◌-◌, List, slice_get}
 use Rattle.std.specs.Option.{option_map, unwrap_or}
 use Rattle.hep_machine.specs.Words.{Statement, Units, line_at, terminal_of, unit_called, function_name, function_unit}
 use Rattle.hep_code.specs.Words.{Table, Target, at, end_of, onward, outward, inward, aside, labelled, AddressedUnit}
-use Rattle.hep_emit.specs.declared.names.Names.{Names}
-use Rattle.hep_code.specs.declared.places.Placement.{Placement}
+use Rattle.hep_emit.specs.declared.name_lookup.NameLookup.{NameLookup}
+use Rattle.hep_code.specs.declared.placement.Placement.{Placement}
 use Rattle.hep_emit.specs.Names.{names_in, number_called}
 use Rattle.hep_emit.specs.declared.tables.Starts.{Starts}
 use Rattle.hep_emit.specs.declared.tables.Tables.{Tables}
-use Rattle.hep_code.specs.Places.{variable_in, cells_in}
+use Rattle.hep_code.specs.Placements.{variable_in, cells_in}
 
--- ---- indexes, by where the code of each statement begins, and of the END behind them
+-- ---- indexes, by the first index of each statement, and of the END after them
 
 abbrev pub start_in : Starts → ℕ → ℕ
 start_in starts k = unwrap_or (slice_get starts.statements.items k) starts.end
@@ -37,7 +37,7 @@ table_in t =
           };
     }
 
--- ---- what a unit's code is a function of, by its statements, its places and its program
+-- ---- what a unit's code depends on, by its statements, its places and its program
 
 abbrev pub addressed_by : List Statement → Placement → Units → AddressedUnit
 addressed_by unit places program =
@@ -49,5 +49,5 @@ addressed_by unit places program =
       functions = function_unit program;
     }
 
-abbrev pub addressed_in : Names → AddressedUnit
+abbrev pub addressed_in : NameLookup → AddressedUnit
 addressed_in names = addressed_by names.symbols.now names.places.now names.program.now

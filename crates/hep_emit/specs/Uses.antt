@@ -1,4 +1,4 @@
--- What is done with the values of a list, by what its name is, and which actual arguments are referred to.
+-- The operation on the values of a list, by the meaning of its name, and the actual arguments that are referred to.
 use Rattle.std.specs.Prelude.{ℕ, List, ◌∷◌, Option, Some, None}
 use Rattle.hep_machine.specs.Words.{Tree, Trees, occurrence, with_list, no_trees, Name, Value, Meaning, element, pure, state, external}
 use Rattle.hep_code.specs.declared.instruction.Evaluation.{Evaluation}
@@ -7,9 +7,9 @@ use Rattle.hep_code.specs.declared.instruction.Instruction.{Instruction}
 use Rattle.hep_code.specs.declared.instruction.Instruction.TheVariants.{Step}
 use Rattle.hep_code.specs.declared.instruction.Operation.TheVariants.{Refer}
 use Rattle.hep_code.specs.Words.{asked, count, NameTable, passes}
-use Rattle.hep_emit.specs.Asked.{subscripts_asked}
+use Rattle.hep_emit.specs.StateFunctionSubscripts.{subscripts_asked}
 
--- the subscripts of an actual argument that is referred to, by what its name is: a variable or an array has none
+-- the subscripts of an actual argument that is referred to, by the value of its name; a variable or an array has none
 abbrev pub subscripts_of_name : Option Value → Option Trees
 subscripts_of_name None = Some no_trees
 subscripts_of_name (Some v) = None
@@ -21,19 +21,20 @@ subscripts_of_listed _ ts = None
 module _ (names : NameTable) where
   -- ---- a name with a list
 
-  -- nothing for a function of the program
+  -- none for a function of the program
   abbrev pub evaluation_listed : Meaning → Name → Trees → Option Evaluation
   evaluation_listed element x ts = Some (Load (names.variables x) (count ts))
   evaluation_listed (pure f) x ts = Some (Apply f (count ts))
   evaluation_listed (state f) x ts = Some (Test f (names.variables (asked names ts).0) (asked names ts).1)
   evaluation_listed external x ts = None
 
-  -- what the values are of: the subscripts of what FULL, EMPTY, VALUE, SETE or WAITF is asked of, and else the list
+  -- the expressions of the values: the subscripts of the argument of FULL, EMPTY, VALUE, SETE or WAITF, otherwise the
+  -- list
   abbrev pub operands_listed : Meaning → Trees → Trees
   operands_listed (state f) ts = subscripts_asked names ts
   operands_listed _ ts = ts
 
-  -- behind the actual arguments of a reference of a function: 15.9.3
+  -- after the actual arguments of a reference of a function: 15.9.3
   abbrev pub reference_code : ℕ → Name → Trees → List Instruction
   reference_code line x ts = Step line (Refer (names.functions x) (count ts)) ∷ passes names ts
 

@@ -1,4 +1,4 @@
-//! Instructions behind those that are there.
+//! Appends instructions.
 ghost use Rattle.std.specs.Prelude.{◌≡◌, ◌++◌, ◌∷◌, [], ◌<◌, IfOk, OnOk, IfErr};
 ghost use Rattle.hep_code.specs.Words.{evaluating};
 ghost use Rattle.hep_emit.specs.declared.fault.EmitFault.TheVariants.{NoMemory};
@@ -12,7 +12,7 @@ use std::alloc::AllocError;
 /// The code so far.
 pub type Code = Vec<Instruction>;
 
-/// An instruction.
+/// Appends an instruction.
 pub fn emit(code: &mut Code, instruction: Instruction) -> Result<(), AllocError>
     ensures { OnOk result (code.new.items ≡ code.old.items ++ instruction ∷ []) }
 {
@@ -20,14 +20,14 @@ pub fn emit(code: &mut Code, instruction: Instruction) -> Result<(), AllocError>
     Ok(())
 }
 
-/// An operation of a statement with this line.
+/// Appends an operation of a statement with this line.
 pub fn emit_step(code: &mut Code, line: u32, operation: Operation) -> Result<(), AllocError>
     ensures { OnOk result (code.new.items ≡ code.old.items ++ Instruction.Step line operation ∷ []) }
 {
     emit(code, Instruction::Step { line, operation })
 }
 
-/// An operation that gives a value.
+/// Appends an operation that gives a value.
 pub fn emit_evaluation(code: &mut Code, line: u32, evaluation: Evaluation) -> Result<(), EmitFault>
     ensures code { OnOk result (code.new.items ≡ code.old.items ++ evaluating line evaluation) }
     ensures refused { IfErr result (λ fault. fault ≡ NoMemory) }
@@ -36,7 +36,7 @@ pub fn emit_evaluation(code: &mut Code, line: u32, evaluation: Evaluation) -> Re
     Ok(())
 }
 
-/// A value.
+/// Appends an instruction that pushes a value.
 pub fn emit_value(code: &mut Code, value: Value) -> Result<(), EmitFault>
     ensures code { OnOk result (code.new.items ≡ code.old.items ++ Instruction.Push value ∷ []) }
     ensures refused { IfErr result (λ fault. fault ≡ NoMemory) }
@@ -45,7 +45,7 @@ pub fn emit_value(code: &mut Code, value: Value) -> Result<(), EmitFault>
     Ok(())
 }
 
-/// How many items a list of this length has.
+/// The length of a list in 32 bits.
 pub fn counted(length: usize) -> Result<u32, EmitFault>
     ensures count { IfOk result (λ count. count ≡ length) }
     ensures refused { IfErr result (λ fault. greatest < length) }

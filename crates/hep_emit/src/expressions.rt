@@ -1,10 +1,10 @@
-//! The code of expressions: operands from left to right, and then what is done with them (X3.9-1978, 6.6). An actual
+//! The code of expressions: operands from left to right, and then the operation on them (X3.9-1978, 6.6). An actual
 //! argument that is a variable, an element or an array isn't read (15.9.2 and 15.9.3).
 ghost use Rattle.std.specs.Prelude.{◌≡◌, ◌<◌, ◌+◌, ◌++◌, length, option_map, IfErr, IfOk, IfSome, OnOk};
 ghost use Rattle.hep_machine.specs.Words.{trees, no_trees, trees_of};
 ghost use Rattle.hep_names.specs.Meanings.{meaning};
 ghost use Rattle.hep_code.specs.ExpressionCode as code_words;
-ghost use Rattle.hep_emit.specs.Asked.{subscripts_asked, subscripts_asked_listed};
+ghost use Rattle.hep_emit.specs.StateFunctionSubscripts.{subscripts_asked, subscripts_asked_listed};
 ghost use Rattle.hep_emit.specs.declared.fault.EmitFault.TheVariants.{NoMemory};
 ghost use Rattle.hep_emit.specs.ArgumentLimits.{IsTooLong, subscripts_of_all};
 ghost use Rattle.hep_emit.specs.Names.{greatest, names_in};
@@ -12,20 +12,20 @@ ghost use Rattle.hep_emit.specs.Uses.{evaluation_listed, operands_listed, refere
 
 use crate::emit::{Code, counted, emit_evaluation, emit_step, emit_value};
 use crate::fault::EmitFault;
-use crate::lists::emit_passed;
-use crate::names::Names;
+use crate::name_lookup::NameLookup;
+use crate::operation_lists::emit_passed;
 use hep_code::{Evaluation, Operation};
 use hep_names::Meaning;
 use hep_source::{Expr, Name, Node, Occurrence};
 
-// The name that no variable has.
+// A name that no variable has.
 const NO_NAME: Name = Name {
     asynchronous: false,
     letters: *b"      ",
 };
 
 // A constant or a variable.
-fn emit_name(code: &mut Code, names: &Names, line: u32, name: &Name) -> Result<(), EmitFault>
+fn emit_name(code: &mut Code, names: &NameLookup, line: u32, name: &Name) -> Result<(), EmitFault>
     ensures code { OnOk result (code.new.items ≡ code.old.items
         ++ code_words.name_code (names_in names.now) line ((names_in names.now).constants name.now) name.now) }
     ensures refused { IfErr result (λ fault. fault ≡ NoMemory) }
@@ -43,7 +43,7 @@ fn emit_name(code: &mut Code, names: &Names, line: u32, name: &Name) -> Result<(
     }
 }
 
-// The element of an array, or else nothing that has storage units.
+// The element of an array, or else a name without storage units.
 fn asked_listed<'a>(
     listed: Meaning,
     occurrence: &Occurrence,
@@ -58,8 +58,8 @@ fn asked_listed<'a>(
     }
 }
 
-// What one expression is that FULL, EMPTY, VALUE, SETE or WAITF is asked of.
-fn asked_of<'a>(names: &Names, argument: &'a Expr) -> (Name, &'a [Expr])
+// The name and the subscripts of one expression as the argument of FULL, EMPTY, VALUE, SETE or WAITF.
+fn asked_of<'a>(names: &NameLookup, argument: &'a Expr) -> (Name, &'a [Expr])
     ensures name { result.0 ≡ (code_words.asked (names_in names.now) (trees argument.now no_trees)).0 }
     ensures subscripts { trees_of result.1.now ≡ subscripts_asked (names_in names.now) (trees argument.now no_trees) }
 {
@@ -72,9 +72,9 @@ fn asked_of<'a>(names: &Names, argument: &'a Expr) -> (Name, &'a [Expr])
     }
 }
 
-// The name and the subscripts of what FULL, EMPTY, VALUE, SETE or WAITF is asked of; their list has one
-// expression in every accepted program.
-fn asked<'a>(names: &Names, list: &'a [Expr]) -> (Name, &'a [Expr])
+// The name and the subscripts of the argument of FULL, EMPTY, VALUE, SETE or WAITF. In accepted programs their list
+// has one expression.
+fn asked<'a>(names: &NameLookup, list: &'a [Expr]) -> (Name, &'a [Expr])
     ensures name { result.0 ≡ (code_words.asked (names_in names.now) (trees_of list.now)).0 }
     ensures subscripts { trees_of result.1.now ≡ subscripts_asked (names_in names.now) (trees_of list.now) }
 {
@@ -89,9 +89,9 @@ fn asked<'a>(names: &Names, list: &'a [Expr]) -> (Name, &'a [Expr])
 
 // What is done with the values of a list, by what its name is, and the expressions that they are of: those of the list, or the
 // subscripts of what FULL, EMPTY, VALUE, SETE or WAITF is asked of. Nothing for a function of the program.
-#[tactic(auto, using(crate::proofs::ListLengths::count_length, crate::proofs::Asked::asked_count))]
+#[tactic(auto, using(hep_code::proofs::ListLengths::count_length, crate::proofs::StateFunctionCode::asked_count))]
 fn listed_use<'a>(
-    names: &Names,
+    names: &NameLookup,
     listed: Meaning,
     name: &Name,
     list: &'a [Expr],
@@ -137,10 +137,10 @@ fn listed_use<'a>(
 }
 
 // A reference of a function of the program, behind its actual arguments, and how these are passed.
-#[tactic(auto, using(crate::proofs::ListLengths::count_length, crate::proofs::CodeLengths::passes_map))]
+#[tactic(auto, using(hep_code::proofs::ListLengths::count_length, crate::proofs::CodeLengths::passes_map))]
 fn emit_reference(
     code: &mut Code,
-    names: &Names,
+    names: &NameLookup,
     line: u32,
     name: &Name,
     list: &[Expr],
@@ -157,7 +157,7 @@ fn emit_reference(
 }
 
 // The subscripts of an actual argument that is referred to: a variable, an element or an array.
-fn referred<'a>(names: &Names, actual: &'a Expr) -> Option<&'a [Expr]>
+fn referred<'a>(names: &NameLookup, actual: &'a Expr) -> Option<&'a [Expr]>
     ensures { option_map (λ subscripts. trees_of subscripts.now) result ≡ subscripts_referred (names_in names.now) actual.now }
 {
     match &actual.node {
@@ -177,7 +177,7 @@ fn referred<'a>(names: &Names, actual: &'a Expr) -> Option<&'a [Expr]>
 #[cycle(emit_expression)]
 pub fn emit_expression(
     code: &mut Code,
-    names: &Names,
+    names: &NameLookup,
     line: u32,
     expression: &Expr,
 ) -> Result<(), EmitFault>
@@ -208,12 +208,12 @@ pub fn emit_expression(
     }
 }
 
-// The code of a name with a list, by what it is.
+// The code of a name with a list, by the meaning of the name.
 #[cycle(emit_expression)]
 #[tactic(auto, using(crate::proofs::Uses::operands_nodes))]
 fn emit_listed(
     code: &mut Code,
-    names: &Names,
+    names: &NameLookup,
     line: u32,
     listed: Meaning,
     name: &Name,
@@ -243,9 +243,14 @@ fn emit_listed(
     }
 }
 
-/// The code of expressions in a row.
+/// The code of expressions in a list.
 #[cycle(emit_expression)]
-pub fn emit_all(code: &mut Code, names: &Names, line: u32, list: &[Expr]) -> Result<(), EmitFault>
+pub fn emit_all(
+    code: &mut Code,
+    names: &NameLookup,
+    line: u32,
+    list: &[Expr],
+) -> Result<(), EmitFault>
     ensures code { OnOk result (code.new.items ≡ code.old.items ++ code_words.trees_code (names_in names.now) line (trees_of list.now)) }
     ensures refused { IfErr result (IsTooLong (length (code_words.trees_code (names_in names.now) line (trees_of list.now)))) }
 {
@@ -263,7 +268,7 @@ pub fn emit_all(code: &mut Code, names: &Names, line: u32, list: &[Expr]) -> Res
 #[tactic(auto, using(crate::proofs::Uses::actual_referred, crate::proofs::Uses::actual_evaluated, crate::proofs::Uses::referred_nodes))]
 pub fn emit_actual(
     code: &mut Code,
-    names: &Names,
+    names: &NameLookup,
     line: u32,
     actual: &Expr,
 ) -> Result<(), EmitFault>
@@ -278,7 +283,12 @@ pub fn emit_actual(
 
 // The actual arguments of a reference of a function.
 #[cycle(emit_expression)]
-fn emit_actuals(code: &mut Code, names: &Names, line: u32, list: &[Expr]) -> Result<(), EmitFault>
+fn emit_actuals(
+    code: &mut Code,
+    names: &NameLookup,
+    line: u32,
+    list: &[Expr],
+) -> Result<(), EmitFault>
     ensures code { OnOk result (code.new.items ≡ code.old.items
         ++ code_words.actuals_code_in (names_in names.now) line (trees_of list.now)) }
     ensures refused { IfErr result (IsTooLong (length (code_words.actuals_code_in (names_in names.now) line (trees_of list.now)))) }

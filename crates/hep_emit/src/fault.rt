@@ -1,4 +1,4 @@
-//! Why no code is made.
+//! The errors of emitting code.
 
 use std::alloc::{AllocError, AllocFailed};
 use thiserror::Error;

@@ -1,28 +1,21 @@
-//! The code of a unit: arguments, expressions, operations, statements.
-//!
-//! What the names of a unit are, single instructions, and how arguments are passed, for the code of a unit.
-//!
-//! The code of expressions: their operands, and what is done with them.
-//!
-//! The operations of statements, with what stands behind them, by the tables of a unit.
-//!
-//! The code of a unit, by its tables.
+//! Emits the code of a unit, which `hep_code` defines. Begin with [`lower_unit`] and [`emit_unit`]: the code of
+//! statements, of their operations, of expressions, and of the entries after operations, by the tables of a unit.
 #![tactic(auto)]
 
+pub mod destinations;
 pub mod emit;
 pub mod expressions;
 pub mod fault;
-pub mod flow;
-pub mod lists;
 mod lowered;
-pub mod names;
+pub mod name_lookup;
 mod operands;
+pub mod operation_lists;
 pub mod operations;
 mod statements;
 pub mod tables;
 mod unit;
 
 pub use fault::EmitFault;
-pub use lowered::{Lowered, lower_unit};
-pub use names::Names;
+pub use lowered::{LoweredCode, lower_unit};
+pub use name_lookup::NameLookup;
 pub use unit::{EmittedUnit, MOST_INSTRUCTIONS, emit_unit};

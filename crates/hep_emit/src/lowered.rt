@@ -1,4 +1,4 @@
-//! A unit's code with what is known of it.
+//! A unit's code, with its entry and its depth.
 ghost use Rattle.std.specs.Prelude.{◌≡◌, ◌≤◌, None, length, IfOk, IfErr};
 ghost use Rattle.hep_code.specs.Words.{deepest, line_too_deep, most_instructions, most_operands, entry_index, code_of};
 ghost use Rattle.hep_emit.specs.UnitLimits.{IsOverLimit};
@@ -6,24 +6,24 @@ ghost use Rattle.hep_emit.specs.Names.{greatest};
 ghost use Rattle.hep_emit.specs.Tables.{addressed_by};
 
 use crate::fault::EmitFault;
-use crate::names::Names;
+use crate::name_lookup::NameLookup;
 use crate::unit::{EmittedUnit, emit_unit};
 use hep_code::{Depth, Instruction, Placement, depth_of};
 use hep_control::control::Control;
 use hep_control::labels::Labels;
 use hep_names::{ProgramSymbols, Symbols};
-use hep_values::given::constants;
+use hep_values::named_constants::constants;
 use std::alloc::Global;
 
 /// The code of a unit, the index at which an activation of it begins, and its deepest stack of operands.
 #[derive(Drop)]
-pub struct Lowered {
+pub struct LoweredCode {
     pub code: Vec<Instruction>,
     pub entry: u32,
     pub depth: Depth,
 }
 
-/// The code of a unit of a program, where its variables and the cells of its DOs are in these places.
+/// The code of a unit of a program, with these places of its variables and of the cells of its DOs.
 ///
 /// # Errors
 ///
@@ -33,7 +33,7 @@ pub fn lower_unit(
     program: &ProgramSymbols,
     symbols: &Symbols,
     places: &Placement,
-) -> Result<Lowered, EmitFault>
+) -> Result<LoweredCode, EmitFault>
     requires { length program.now ≤ greatest }
     ensures code { IfOk result (λ lowered. lowered.code.items ≡ code_of (addressed_by symbols.now places.now program.now)) }
     ensures entry { IfOk result (λ lowered. lowered.entry ≡ entry_index (addressed_by symbols.now places.now program.now)) }
@@ -45,7 +45,7 @@ pub fn lower_unit(
 {
     let control = Control::new(alloc, Labels::new(alloc, symbols.statements())?)?;
     let constants = constants(alloc, symbols)?;
-    let names = Names {
+    let names = NameLookup {
         symbols,
         constants: &constants,
         places,
@@ -53,5 +53,5 @@ pub fn lower_unit(
     };
     let EmittedUnit { code, entry } = emit_unit(alloc, &names, &control)?;
     let depth = depth_of(&code);
-    Ok(Lowered { code, entry, depth })
+    Ok(LoweredCode { code, entry, depth })
 }

@@ -1,4 +1,4 @@
-//! The operation of a statement, with what stands behind it.
+//! The operation of a statement, with its entries.
 ghost use Rattle.std.specs.Prelude.{◌≡◌, ◌++◌, ◌∷◌, ◌<◌, ℕ, length, map, OnOk, IfErr};
 ghost use Rattle.hep_code.specs.declared.instruction.Instruction.TheVariants as instruction;
 ghost use Rattle.hep_code.specs.Words.{form_code, operation_code, loop_end_code};
@@ -9,13 +9,14 @@ ghost use Rattle.hep_emit.specs.Tables.{table_in};
 
 use crate::emit::{Code, counted, emit, emit_step};
 use crate::fault::EmitFault;
-use crate::lists::{emit_passed, emit_printed};
+use crate::operation_lists::{emit_passed, emit_printed};
 use crate::tables::Tables;
 use hep_code::{Instruction, Operation};
 use hep_source::Form;
 use std::alloc::{AllocError, Global};
 
-// How long the list is that the operation of a form counts: subscripts, labels, arguments, or what is purged or printed.
+// The length of the list that the operation of a form counts: subscripts, labels, arguments, or targets of PURGE or
+// items of PRINT.
 fn list_length(form: &Form) -> usize
     ensures { result ≡ operations.list_length form.now }
 {
@@ -31,7 +32,7 @@ fn list_length(form: &Form) -> usize
 
 // What is done with the operands of the statement at an index, whose list is so long (X3.9-1978, sections 10 to 12 and 15).
 // What isn't executable is passed over.
-#[tactic(auto, using(crate::proofs::ListLengths::count_length))]
+#[tactic(auto, using(hep_code::proofs::ListLengths::count_length))]
 fn operation_of(tables: &Tables, index: usize, form: &Form, count: u32) -> Operation
     requires inside { index < length tables.now.control.now }
     requires counted { count ≡ operations.list_length form.now }
@@ -83,7 +84,7 @@ fn operation_of(tables: &Tables, index: usize, form: &Form, count: u32) -> Opera
     }
 }
 
-// Where the labels of a computed GO TO lead.
+// Appends the indexes of the labels of a computed GO TO.
 fn emit_labels(code: &mut Code, tables: &Tables, labels: &[u32]) -> Result<(), AllocError>
     ensures { OnOk result (code.new.items ≡ code.old.items ++ map (λ l. instruction.To ((table_in tables.now).labels l)) labels.now) }
 {
@@ -93,7 +94,7 @@ fn emit_labels(code: &mut Code, tables: &Tables, labels: &[u32]) -> Result<(), A
     Ok(())
 }
 
-// The list that stands behind an operation: where labels lead, how arguments are passed, or what is purged or printed.
+// Appends the entries of an operation: the indexes of labels, how arguments are passed, or what is purged or printed.
 fn emit_list(alloc: Global, code: &mut Code, tables: &Tables, form: &Form) -> Result<(), EmitFault>
     ensures code { OnOk result (code.new.items ≡ code.old.items ++ operations.list_code (table_in tables.now) form.now) }
     ensures refused { IfErr result (IsTooLong (operations.list_subscripts (names_in tables.now.names) form.now)) }
@@ -110,7 +111,7 @@ fn emit_list(alloc: Global, code: &mut Code, tables: &Tables, form: &Form) -> Re
     }
 }
 
-/// What is done with the operands of the statement at an index.
+/// Appends the operation on the operands of the statement at an index.
 pub fn emit_operation(
     alloc: Global,
     code: &mut Code,
@@ -145,7 +146,7 @@ fn loop_end(tables: &Tables, index: usize, form: &Form) -> Option<(u32, Operatio
     Some((tables.end_line(index), end))
 }
 
-/// What stands behind a DO; nothing behind other statements.
+/// Appends the end of a DO, after its statement; nothing for other statements.
 pub fn emit_loop_end(
     code: &mut Code,
     tables: &Tables,

@@ -7,7 +7,7 @@ ghost use Rattle.hep_emit.specs.Tables.{table_in};
 use crate::emit::{Code, emit_step};
 use crate::expressions::{emit_all, emit_expression};
 use crate::fault::EmitFault;
-use crate::operands::{Operands, emit_each};
+use crate::operands::{HasOperands, emit_each};
 use crate::operations::{emit_loop_end, emit_operation};
 use crate::tables::Tables;
 use hep_code::Operation;
@@ -38,7 +38,7 @@ fn emit_operands(code: &mut Code, tables: &Tables, line: u32, form: &Form) -> Re
     }
 }
 
-// The conditions of a logical IF, each before what it holds (X3.9-1978, 11.5).
+// The conditions of a logical IF, each before its statement (X3.9-1978, 11.5).
 fn emit_conditions(
     alloc: Global,
     code: &mut Code,

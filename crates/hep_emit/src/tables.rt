@@ -1,27 +1,27 @@
-//! What the code of a unit is made from, beside the unit's statements.
+//! The tables that a unit's code is made from, besides the unit's statements.
 ghost use Rattle.std.specs.Prelude.{◌≡◌, ◌<◌, length};
 ghost use Rattle.hep_source.specs.Units.{function_name};
 ghost use Rattle.hep_code.specs.Words.{ending_of};
 ghost use Rattle.hep_emit.specs.Destinations.{destination};
 ghost use Rattle.hep_emit.specs.Tables as spec;
 
-use crate::flow::{Destination, aside, inward, labelled, line_at, onward, outward};
-use crate::names::Names;
+use crate::destinations::{Destination, aside, inward, labelled, onward, outward};
+use crate::name_lookup::NameLookup;
 use hep_code::{Operation, Variable};
 use hep_control::control::Control;
-use hep_source::{Form, Name, Statement};
+use hep_source::{Name, Statement, function_name, line_at};
 
-/// Where the code of statements begins, by indexes of instructions.
+/// The first index of the code of each statement.
 #[derive(Drop)]
 pub struct Starts {
     pub statements: Vec<u32>,
-    /// That of the END behind the last statement.
+    /// The index of the END after the last statement.
     pub end: u32,
 }
 
 /// The tables of a unit.
 pub struct Tables<'a> {
-    pub names: Names<'a>,
+    pub names: NameLookup<'a>,
     pub control: &'a Control<'a>,
     pub starts: Starts,
 }
@@ -37,7 +37,7 @@ impl<'a> Drop for Tables<'a> {
 }
 
 impl Starts {
-    // Where the code of a statement begins.
+    // The first index of the code of a statement.
     pub fn start(&self, index: usize) -> u32
         ensures { result ≡ spec.start_in self.now index }
     {
@@ -55,30 +55,15 @@ impl Starts {
     }
 }
 
-// The name of a function, which its result has too.
-fn function_name(unit: &[Statement]) -> Option<Name>
-    ensures { result ≡ function_name unit.now }
-{
-    match unit.first() {
-        Some(
-            Statement {
-                form: Form::Function(_, occurrence, _),
-                ..
-            },
-        ) => Some(occurrence.name),
-        _ => None,
-    }
-}
-
 impl<'a> Tables<'a> {
-    /// The number of the subroutine of a name.
+    /// The number of the subroutine with a name.
     pub fn subroutine(&self, name: &Name) -> u32
         ensures { result ≡ (spec.table_in self.now).subroutines name.now }
     {
         self.names.subroutine(name)
     }
 
-    // The variable that the value of a function is in.
+    // The variable of a function's value.
     #[tactic(auto, unfolding(crate::specs::Names::names_in))]
     fn result(&self) -> Option<Variable>
         ensures { result ≡ (spec.table_in self.now).result }
@@ -89,7 +74,7 @@ impl<'a> Tables<'a> {
         }
     }
 
-    /// How an activation of the unit ends.
+    /// The operation that ends an activation of the unit.
     pub fn ending(&self) -> Operation
         ensures { result ≡ ending_of (spec.table_in self.now).result }
     {
@@ -99,14 +84,14 @@ impl<'a> Tables<'a> {
         }
     }
 
-    /// The index to which a label leads.
+    /// The index of a label.
     pub fn label(&self, label: u32) -> u32
         ensures { result ≡ (spec.table_in self.now).labels label }
     {
         self.starts.index(labelled(self.control, label))
     }
 
-    /// The index at which one goes on from a statement.
+    /// The index after a statement.
     pub fn next(&self, index: usize) -> u32
         requires { index < length self.now.control.now }
         ensures { result ≡ ((spec.table_in self.now).flows index).next }
@@ -114,7 +99,7 @@ impl<'a> Tables<'a> {
         self.starts.index(onward(self.control, index))
     }
 
-    /// The index at which the range of a DO begins, or the block of an IF THEN or ELSE IF.
+    /// The first index in the range of a DO, or in the block of an IF THEN or ELSE IF.
     pub fn inside(&self, index: usize) -> u32
         requires { index < length self.now.control.now }
         ensures { result ≡ ((spec.table_in self.now).flows index).inside }
@@ -122,7 +107,7 @@ impl<'a> Tables<'a> {
         self.starts.index(inward(self.control, index))
     }
 
-    /// The index at which one goes on after a DO.
+    /// The index after a DO.
     pub fn behind(&self, index: usize) -> u32
         requires { index < length self.now.control.now }
         ensures { result ≡ ((spec.table_in self.now).flows index).behind }
@@ -130,7 +115,7 @@ impl<'a> Tables<'a> {
         self.starts.index(outward(self.control, index))
     }
 
-    /// The index at which one goes on where the condition of an IF THEN or ELSE IF is false.
+    /// The index after a false condition of an IF THEN or ELSE IF.
     pub fn otherwise(&self, index: usize) -> u32
         requires { index < length self.now.control.now }
         ensures { result ≡ ((spec.table_in self.now).flows index).otherwise }

@@ -10,34 +10,33 @@ ghost use Rattle.hep_emit.specs.Tables.{table_in, addressed_in};
 
 use crate::emit::{Code, emit_step};
 use crate::fault::EmitFault;
-use crate::names::Names;
+use crate::name_lookup::NameLookup;
 use crate::statements::emit_statement;
 use crate::tables::{Starts, Tables};
 use hep_code::Instruction;
 use hep_control::control::Control;
-use hep_control::labels::is_executable;
-use hep_source::Statement;
+use hep_source::{Statement, is_executable};
 use std::alloc::Global;
 
-/// The most instructions that a unit may have.
+/// The greatest number of instructions of a unit.
 pub const MOST_INSTRUCTIONS: usize = 1_048_576;
 
 /// The code of a unit, and the index at which an activation of it begins.
 #[derive(Drop)]
 pub struct EmittedUnit {
     pub code: Code,
-    /// That of the first executable statement (X3.9-1978, 3.6).
+    /// The index of the first executable statement (X3.9-1978, 3.6).
     pub entry: u32,
 }
 
-// The code of a unit, and where that of each statement begins.
+// The code of a unit, and the first index of each statement.
 #[derive(Drop)]
-struct Emitted {
+struct EmittedStatements {
     code: Code,
     starts: Starts,
 }
 
-// The index behind the code so far.
+// The index after the code so far.
 fn index_after(code: &[Instruction]) -> Result<u32, EmitFault>
     ensures index { IfOk result (λ index. index ≡ length code.now) }
     ensures short { IfOk result (λ index. length code.now ≤ most_instructions) }
@@ -53,7 +52,7 @@ fn index_after(code: &[Instruction]) -> Result<u32, EmitFault>
     }
 }
 
-// The index of the first executable statement, and past the last one where there is none.
+// The index of the first executable statement, or the index after the last one where there is none.
 fn first_executable(statements: &[Statement]) -> usize
     ensures { result ≡ units.executable_from statements.now 0 }
 {
@@ -66,7 +65,7 @@ fn first_executable(statements: &[Statement]) -> usize
 }
 
 // The code of the statements of a unit by its tables.
-fn emit_statements(alloc: Global, tables: &Tables) -> Result<Emitted, EmitFault>
+fn emit_statements(alloc: Global, tables: &Tables) -> Result<EmittedStatements, EmitFault>
     ensures code { IfOk result (λ emitted. emitted.code.items ≡ statements_code (table_in tables.now) 0 tables.now.control.now) }
     ensures starts { IfOk result (λ emitted. emitted.starts.statements.items
         ≡ starts_from (table_in tables.now) 0 0 tables.now.control.now) }
@@ -84,15 +83,20 @@ fn emit_statements(alloc: Global, tables: &Tables) -> Result<Emitted, EmitFault>
     emit_step(&mut code, 0, tables.ending())?;
     index_after(&code)?;
     let starts = Starts { statements, end };
-    Ok(Emitted { code, starts })
+    Ok(EmittedStatements { code, starts })
 }
 
-/// The code of a unit: once with all indexes 0, which tells where each statement begins, and then by these.
+/// Emits the code of a unit twice: first with all indexes 0, which gives the first index of each statement, and then
+/// with these indexes.
 ///
 /// # Errors
 ///
 /// That there would be more than 1,048,576 instructions, or that memory was refused.
-pub fn emit_unit(alloc: Global, names: &Names, control: &Control) -> Result<EmittedUnit, EmitFault>
+pub fn emit_unit(
+    alloc: Global,
+    names: &NameLookup,
+    control: &Control,
+) -> Result<EmittedUnit, EmitFault>
     requires unit { control.now ≡ names.now.symbols.now }
     requires constants { value_among names.now.constants.now ≡ constant_value names.now.symbols.now }
     requires few_units { length names.now.program.now ≤ greatest }

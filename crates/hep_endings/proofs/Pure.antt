@@ -5,7 +5,7 @@ use Rattle.std.specs.Option.{option_map, unwrap_or}
 use Rattle.std.specs.Result.{result_ok}
 use Rattle.std.proofs.lemmas.Option.{none-some, same_Some}
 use Rattle.hep_machine.specs.declared.event.Kind.{Kind}
-use Rattle.hep_machine.specs.Words.{Action, IsOnStack, Level, Next, Process, Sought, State, Store, Top, Units, Value, answer_of, continuing}
+use Rattle.hep_machine.specs.Words.{Action, IsOnStack, Level, Next, Process, RedexOrReference, State, Store, Top, Units, Value, answer_of, continuing}
 use Rattle.hep_machine.specs.Words.{does, evaluating, jumping, choosing, branching, testing_condition, entering_block, wants, referring}
 use Rattle.hep_machine.specs.Words.{activations_on, is_number_among, living, next_of, no_activation, numbered, result_after_action}
 use Rattle.hep_machine.specs.Words.{result_after_answer, result_after_next, scope_of, step, step_result_of, step_result_of_top, stepped}
@@ -49,7 +49,7 @@ module _ (program : Units) where
       ∙ ap (λ l. stepped (state_with_level t l)) (
       same_Some (record t.level { work = plug_work (unit_on_top program t) t.level.work v }) level f)
 
-  of_sought : (t : Top) (x : Sought) (level : Level) → level_of_sought (unit_on_top program t) t.level x ≡ Some level
+  of_sought : (t : Top) (x : RedexOrReference) (level : Level) → level_of_sought (unit_on_top program t) t.level x ≡ Some level
       → result_after_sought program t x ≡ stepped (state_with_level t level)
   of_sought t (evaluating r) level e = of_redex t r level (pure_value r) refl e
   of_sought t (referring x actuals) level e = absurd (none-some level e)

@@ -3,7 +3,7 @@ use Rattle.std.proofs.Common.{◌≡◌, ◌≢◌, ℕ, zero, suc, ◌-◌, ◌
 use Rattle.std.proofs.Common.{length-set, Option, Some, None, Result, Ok, Err, refl, sym, ap, ◌∙◌, arith, slice_set, ℤ, ◌-ℤ◌, ◌+ℤ◌, pos}
 use Rattle.std.specs.Option.{option_map}
 use Rattle.hep_machine.specs.declared.event.Kind.{Kind}
-use Rattle.hep_machine.specs.Words.{Action, Binding, Level, Location, Loop, Name, Next, Process, State, Store, StepResult, Sought, Top}
+use Rattle.hep_machine.specs.Words.{Action, Binding, Level, Location, Loop, Name, Next, Process, State, Store, StepResult, RedexOrReference, Top}
 use Rattle.hep_machine.specs.Words.{Units, Value, absent, answer_of, evaluating, referring, integer_of, integer_or_overflow}
 use Rattle.hep_machine.specs.Words.{assigning, branching, calling, choosing, continuing, creating, does, ending_loop, entering_block}
 use Rattle.hep_machine.specs.Words.{entering_loop, jumping, leaving, printing, purging, resuming, stopping, testing_condition, wants}
@@ -225,7 +225,7 @@ module _ (program : Units) (q : ℕ) (r : Process) (t : Top) (is : IsOther q t) 
   of_action resuming = of_resuming t.below
   of_action stopping = refl
 
-  of_sought : (x : Sought) → result_after_sought program (moved_top q r t) x ≡ moved_result q r (result_after_sought program t x)
+  of_sought : (x : RedexOrReference) → result_after_sought program (moved_top q r t) x ≡ moved_result q r (result_after_sought program t x)
   of_sought (evaluating e) = of_answer (answer_of (scope_of program t.state t.level.activation) t.state.store e)
   of_sought (referring x actuals) = of_call (function_unit program x) (binding_of program t (function_unit program x) actuals)
 

@@ -6,7 +6,7 @@ use Rattle.hep_machine.specs.Words.{Level, Process, Statement, State, Units, Val
 use Rattle.hep_machine.specs.Arithmetic.{combined_value, function_value, negated_value, signed_value}
 use Rattle.hep_machine.specs.Control.{label_by_sign, label_chosen, level_after_condition, level_after_statement, level_at_choice}
 use Rattle.hep_machine.specs.Control.{level_at_label, level_in_block}
-use Rattle.hep_machine.specs.Evaluation.{Action, Next, Redex, Sought, applying, branching, choosing, combining, continuing, does}
+use Rattle.hep_machine.specs.Evaluation.{Action, Next, Redex, RedexOrReference, applying, branching, choosing, combining, continuing, does}
 use Rattle.hep_machine.specs.Evaluation.{entering_block, evaluating, jumping, negating, next_of, plug_work, signing, testing_condition}
 use Rattle.hep_machine.specs.Evaluation.{wants}
 
@@ -18,7 +18,7 @@ pure_value (combining o v w) = result_ok (combined_value o v w)
 pure_value (applying f vs) = result_ok (function_value f vs)
 pure_value r = None
 
-abbrev pub level_of_sought : List Statement → Level → Sought → Option Level
+abbrev pub level_of_sought : List Statement → Level → RedexOrReference → Option Level
 level_of_sought unit level (evaluating r) = option_map (λ v. record level { work = plug_work unit level.work v }) (pure_value r)
 level_of_sought unit level r = None
 

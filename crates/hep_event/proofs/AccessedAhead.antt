@@ -3,7 +3,7 @@ use Rattle.std.proofs.Common.{◌≡◌, ◌≢◌, ℕ, ◌-◌, List, ◌++◌
 use Rattle.std.proofs.Math.Seq.{drop-append_seam}
 use Rattle.std.proofs.lemmas.Option.{none-some, same_Some}
 use Rattle.hep_accepted_laws.specs.Instructions.{variables_in_operation}
-use Rattle.hep_accepted_laws.specs.Placed.{ArePlaced}
+use Rattle.hep_accepted_laws.specs.PlacedCode.{ArePlaced}
 use Rattle.hep_code.specs.declared.instruction.Evaluation.TheVariants.{Load, Test}
 use Rattle.hep_code.specs.declared.instruction.Instruction.{Instruction}
 use Rattle.hep_code.specs.declared.instruction.Operation.{Operation}
@@ -11,13 +11,13 @@ use Rattle.hep_code.specs.declared.instruction.Operation.TheVariants.{Evaluate, 
 use Rattle.hep_code.specs.declared.variable.Variable.{Variable}
 use Rattle.hep_code.specs.declared.variable.Variable.TheVariants.{Absent}
 use Rattle.hep_code.specs.Words.{AddressedUnit, IsNext, evaluation_of}
-use Rattle.hep_event.specs.Access.{IsAccessed}
+use Rattle.hep_event.specs.NextAccesses.{IsAccessed}
 use Rattle.hep_image.specs.Places.{variable_of}
 use Rattle.hep_machine.specs.Evaluation.{reading}
 use Rattle.hep_machine.specs.Words.{Next, Reference, Statement, Units, Value, Work, assigning, does, evaluating, testing, wants}
 use Rattle.hep_step.specs.Effects.{subscripts_in}
-use Rattle.hep_step.proofs.Replied.{in_front}
-use Rattle.hep_event.specs.Named.{named_by}
+use Rattle.hep_step.proofs.ReplySteps.{in_front}
+use Rattle.hep_event.specs.NamedVariables.{named_by}
 use Rattle.hep_event.specs.Sites.{IsVariableOf}
 
 module _ (addressed : AddressedUnit) (k : ℕ) (work : Work) (operands : List Value) (index : ℕ) (o : Operation) (behind : List Instruction) where

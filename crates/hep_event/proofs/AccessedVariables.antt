@@ -5,19 +5,19 @@ use Rattle.hep_machine.specs.Evaluation.{reading}
 use Rattle.hep_machine.specs.Words.{Location, Name, Next, Outcome, Redex, Reference, Units, Value, assigning, does, evaluating, location_of_name, signing, negating, combining, applying, testing, wants}
 use Rattle.hep_code.specs.declared.variable.Variable.{Variable}
 use Rattle.hep_code.specs.Words.{Addressing, IsAction, IsAddressed, IsSame, Reply, accessing, reply_to_store}
-use Rattle.hep_image.specs.Finding.{cells_in}
+use Rattle.hep_image.specs.Addressing.{cells_in}
 use Rattle.hep_image.specs.Places.{variable_of}
 use Rattle.hep_layout.specs.Words.{address}
 use Rattle.hep_proc.specs.Nodes.{nodes_of}
 use Rattle.hep_step.specs.Simulation.{RunningTop, addressed_on_top, found_in, unit_addressed, unit_running, variable_in}
-use Rattle.hep_step.proofs.Running.{Comes, coming, found_running, scope_running}
+use Rattle.hep_step.proofs.RunningActivations.{Comes, coming, found_running, scope_running}
 use Rattle.hep_state.specs.declared.core_state.CoreState.{CoreState}
 use Rattle.hep_state.specs.Words.{HasLevels, IsMachineAfter, IsTopRunning, node_under, snapshot_of}
 use Rattle.hep_event.specs.declared.next_operation.NextOperation.{NextOperation}
-use Rattle.hep_event.specs.Access.{IsAccessed, IsOfLocation, found_at, replied, replied_at}
-use Rattle.hep_event.specs.Coming.{IsNextOperation}
+use Rattle.hep_event.specs.NextAccesses.{IsAccessed, IsOfLocation, found_at, replied, replied_at}
+use Rattle.hep_event.specs.NextOperations.{IsNextOperation}
 use Rattle.hep_event.proofs.Answered as answered
-use Rattle.hep_event.proofs.Standing.{settled-there, settled-turn}
+use Rattle.hep_event.proofs.TopPositions.{settled-there, settled-turn}
 
 -- an access to the cell at an address is by the cell of the location that has it
 of-location : (addressing : Addressing) (access : ℕ → Outcome) (found : Result ℕ Kind) (at : Result Location Kind) → IsSame addressing found at

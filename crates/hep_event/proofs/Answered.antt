@@ -10,21 +10,21 @@ use Rattle.hep_code.specs.declared.instruction.Operation.TheVariants.{Evaluate}
 use Rattle.hep_code.specs.declared.variable.Variable.{Variable}
 use Rattle.hep_code.specs.Words.{Answers, IsAddressedIn, IsRedex, Reply, arity, evaluation_of, operands_of_redex, reply_of}
 use Rattle.hep_code.proofs.Replies.{reply_is}
-use Rattle.hep_image.specs.Finding.{cells_in}
+use Rattle.hep_image.specs.Addressing.{cells_in}
 use Rattle.hep_image.specs.Places.{variable_of}
 use Rattle.hep_layout.specs.Words.{address}
 use Rattle.hep_proc.specs.Nodes.{nodes_of}
 use Rattle.hep_step.specs.Simulation.{RunningTop, addressed_on_top, code_ahead, found_in, unit_code, unit_running, variable_in}
-use Rattle.hep_step.proofs.Replied.{arity_is, in_front}
-use Rattle.hep_step.proofs.Running.{Comes, cells_found, coming, found_running, next_is, scope_running}
+use Rattle.hep_step.proofs.ReplySteps.{arity_is, in_front}
+use Rattle.hep_step.proofs.RunningActivations.{Comes, cells_found, coming, found_running, next_is, scope_running}
 use Rattle.hep_state.specs.declared.core_state.CoreState.{CoreState}
 use Rattle.hep_state.specs.Words.{HasLevels, IsMachineAfter, IsTopRunning, node_under, running_top, snapshot_of}
-use Rattle.hep_state.proofs.Moved.{unit-is}
+use Rattle.hep_state.proofs.SilentTurns.{unit-is}
 use Rattle.hep_event.specs.declared.next_operation.NextOperation.{NextOperation}
-use Rattle.hep_event.specs.Access.{found_at, replied, replied_at}
-use Rattle.hep_event.specs.Coming.{IsNextOperation}
+use Rattle.hep_event.specs.NextAccesses.{found_at, replied, replied_at}
+use Rattle.hep_event.specs.NextOperations.{IsNextOperation}
 use Rattle.hep_step.specs.Simulation.{unit_addressed}
-use Rattle.hep_event.proofs.Standing.{settled-there, settled-turn}
+use Rattle.hep_event.proofs.TopPositions.{settled-there, settled-turn}
 
 module _ {program : Units} {cells : ℕ} {choices : List ℕ} {p : ℕ} (m : CoreState) (after : IsMachineAfter program cells choices m) (running : m.halted ≡ false)
     (levels : HasLevels (snapshot_of m) p) (c : NextOperation) (k : IsNextOperation (unit_addressed program levels.level.unit) levels.operands levels.level.index c)

@@ -1,16 +1,16 @@
 pub use Rattle.hep_dump.proofs.Histories
-pub mod Deeds
-pub mod OneName
-pub mod Standing
+pub mod StepCases
+pub mod VariableNames
+pub mod TopPositions
 pub mod Answered
 pub mod AccessedVariables
 pub mod AccessedAhead
 pub mod NamedAhead
-pub mod Placed
+pub mod FoundVariables
 pub mod Declared
 pub mod Numbered
-mod Own
-mod Silent
+mod OwnNames
+mod UnwatchedSteps
 mod PureSteps
 mod PlainSteps
 mod ToldSteps

@@ -12,15 +12,15 @@ use Rattle.hep_code.specs.declared.variable.Variable.TheVariants.{Absent}
 use Rattle.hep_code.specs.Words.{ending_of, is_asynchronous}
 use Rattle.hep_image.specs.Places.{variable_of}
 use Rattle.hep_step.specs.Simulation.{RunningTop, addressed_on_top, unit_addressed, unit_running, variable_in}
-use Rattle.hep_step.proofs.Running.{Comes, coming}
+use Rattle.hep_step.proofs.RunningActivations.{Comes, coming}
 use Rattle.hep_state.specs.declared.core_state.CoreState.{CoreState}
 use Rattle.hep_state.specs.Words.{HasLevels, IsMachineAfter, IsTopRunning, snapshot_of}
 use Rattle.hep_event.specs.declared.next_operation.NextOperation.{NextOperation}
-use Rattle.hep_event.specs.Access.{IsAccessed}
-use Rattle.hep_event.specs.Coming.{IsNextOperation}
+use Rattle.hep_event.specs.NextAccesses.{IsAccessed}
+use Rattle.hep_event.specs.NextOperations.{IsNextOperation}
 use Rattle.hep_event.proofs.Answered as answered
-use Rattle.hep_event.proofs.Standing.{settled-there, settled-turn}
-use Rattle.hep_event.specs.Named.{IsNamed, named_by}
+use Rattle.hep_event.proofs.TopPositions.{settled-there, settled-turn}
+use Rattle.hep_event.specs.NamedVariables.{IsNamed, named_by}
 use Rattle.hep_event.proofs.AccessedAhead.{names-accessed}
 
 module _ {program : Units} {cells : ℕ} {choices : List ℕ} {p : ℕ} (m : CoreState) (after : IsMachineAfter program cells choices m) (running : m.halted ≡ false)

@@ -11,7 +11,7 @@ use Rattle.hep_code.specs.declared.variable.Variable.TheVariants.{Absent}
 use Rattle.hep_image.specs.Names.{first_variable, variable_index, variable_number}
 use Rattle.hep_image.specs.Places.{variable_of}
 use Rattle.hep_image.proofs.Numbers.{unit-there, variable-at}
-use Rattle.hep_event.proofs.OneName.{one-name}
+use Rattle.hep_event.proofs.VariableNames.{one-name}
 use Rattle.hep_accepted_laws.proofs.Members.{map_at}
 use Rattle.hep_event.proofs.Declared.{placed-named}
 use Rattle.hep_event.specs.Variables.{IsFirstAmong, variables_of_names, variables_of_units}

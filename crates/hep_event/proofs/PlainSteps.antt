@@ -5,30 +5,21 @@ use Rattle.std.specs.Option.{option_map}
 use Rattle.std.proofs.Math.Seq.{drop-append_seam}
 use Rattle.hep_code.specs.declared.instruction.Instruction.{Instruction}
 use Rattle.hep_code.specs.declared.instruction.Operation.{Operation}
-use Rattle.hep_code.specs.declared.variable.Variable.{Variable}
-use Rattle.hep_code.specs.Ahead.{IsAction, IsNext}
+use Rattle.hep_code.specs.NextInCode.{IsAction, IsNext}
 use Rattle.hep_code.specs.StatementCode.{ending_of}
 use Rattle.hep_code.specs.Words.{Addresses, AddressedUnit, addressed_unit, arity, evaluation_of, operands_of_action, operands_of_redex, operation_of}
-use Rattle.hep_machine.specs.Evaluation.{reading}
-use Rattle.hep_machine.specs.Words.{Action, Name, Next, Process, Redex, State, Top, Units, Value, function_name, living, next_of, step_result_of, stepped, unit_of, unit_on_top, wants, does, evaluating, referring}
-use Rattle.hep_machine.specs.Words.{signing, negating, combining, applying, testing, assigning, jumping, choosing, branching, testing_condition, entering_block, entering_loop, ending_loop, calling, creating, purging, printing, continuing, leaving, resuming, stopping}
-use Rattle.hep_event.specs.Deeds.{deed_text, fault_added, leaving_text, next_text, resuming_text, step_text}
-use Rattle.hep_event.specs.Lines as lines
-use Rattle.hep_event.specs.declared.plain.Numbers.{Numbers}
-use Rattle.hep_event.specs.Plain.{IsNameOfCalled, is_plain, plain_text, resumed}
-use Rattle.hep_event.specs.Pure.{pure_text}
+use Rattle.hep_machine.specs.Words.{Action, Name, Next, Process, State, Top, Units, Value, function_name, living, next_of, step_result_of, stepped, unit_of, unit_on_top, wants, does, evaluating, referring}
+use Rattle.hep_machine.specs.Words.{assigning, jumping, choosing, branching, testing_condition, entering_block, entering_loop, ending_loop, calling, creating, purging, printing, continuing, leaving, resuming, stopping}
+use Rattle.hep_event.specs.StepTexts.{deed_text, fault_added, leaving_text, next_text, resuming_text, step_text}
+use Rattle.hep_event.specs.LineTexts as lines
+use Rattle.hep_event.specs.declared.plain_text.NextNumbers.{NextNumbers}
+use Rattle.hep_event.specs.PlainTexts.{IsNameOfCalled, is_plain, plain_text, resumed}
+use Rattle.hep_event.specs.ReductionTexts.{pure_text}
 use Rattle.hep_event.proofs.PureSteps.{pure-step}
+use Rattle.hep_step.proofs.ReplySteps.{arity_is}
 
 pub none-zero : (n : ℕ) → nat_eq (suc n) 0 ≡ false
 none-zero n = elim (cases_Bool (nat_eq (suc n) 0)) [ inl e ↦ absurd (omega (arith, eqb-true (suc n) 0 e)) | inr d ↦ d ]
-
-pub arity-is : (variables : Name → Variable) (r : Redex) → arity (evaluation_of variables r) ≡ length (operands_of_redex r)
-arity-is variables (reading r) = refl
-arity-is variables (signing s v) = refl
-arity-is variables (negating v) = refl
-arity-is variables (combining o v w) = refl
-arity-is variables (applying f vs) = refl
-arity-is variables (testing f r) = refl
 
 -- the last operands are those of the redex
 pub last-are : (before vs operands : List Value) (n : ℕ) → operands ≡ before ++ vs → n ≡ length vs → drop (length operands - n) operands ≡ vs
@@ -43,7 +34,7 @@ module _ (program : Units) (t : Top) (addresses : Addresses) (after : State) (ca
   abbrev addressed : AddressedUnit
   addressed = addressed_unit program addresses (unit_of t.state t.level.activation)
 
-  abbrev numbers : Numbers
+  abbrev numbers : NextNumbers
   numbers = record { activation = length t.state.activations + 1; process = length t.state.processes + 1; alone = nat_eq (length t.below) 0 }
 
   -- an operation that isn't so
@@ -93,7 +84,7 @@ module _ (program : Units) (t : Top) (addresses : Addresses) (after : State) (ca
       → deed_text program t (step_result_of program t.process t.state) ≡ plain_text called numbers o operands
   told-by (wants (evaluating r)) next is =
       pure-step program t.state t.process (t.level, t.below) r addressed.variables (evaluation_of addressed.variables r) lives next refl (sym (ap is_plain is.operation) ∙ plain)
-      ∙ ap (pure_text (evaluation_of addressed.variables r)) (sym (last-are is.before (operands_of_redex r) operands (arity (evaluation_of addressed.variables r)) is.operands_are (arity-is addressed.variables r)))
+      ∙ ap (pure_text (evaluation_of addressed.variables r)) (sym (last-are is.before (operands_of_redex r) operands (arity (evaluation_of addressed.variables r)) is.operands_are (arity_is addressed.variables r)))
       ∙ ap (λ p. plain_text called numbers p operands) (sym is.operation)
   told-by (wants (referring x actuals)) next is =
       let called_so = subst (λ p. IsNameOfCalled program p called) is.operation is_name in

@@ -6,9 +6,9 @@ use Rattle.hep_code.specs.Words.{evaluation_of, operands_of_redex}
 use Rattle.hep_machine.specs.declared.event.Kind.{Kind}
 use Rattle.hep_machine.specs.Evaluation.{reading}
 use Rattle.hep_machine.specs.Words.{Level, Name, Process, Redex, State, Top, Units, Value, signing, negating, combining, applying, testing, answer_of, by_result, combined_value, evaluating, function_value, living, negated_value, next_of, result_after_answer, result_after_next, signed_value, step_result_of, unit_on_top, wants}
-use Rattle.hep_event.specs.Deeds.{deed_text, own_scope, redex_text}
-use Rattle.hep_event.proofs.Deeds.{fault_told, step_of_top, value_told}
-use Rattle.hep_event.specs.Pure.{is_pure, pure_text, result_text}
+use Rattle.hep_event.specs.StepTexts.{deed_text, own_scope, redex_text}
+use Rattle.hep_event.proofs.StepCases.{fault_told, step_of_top, value_told}
+use Rattle.hep_event.specs.ReductionTexts.{is_pure, pure_text, result_text}
 
 module _ (program : Units) (t : Top) (r : Redex) (next : next_of (unit_on_top program t) t.level.work ≡ wants (evaluating r)) where
   -- where the redex comes to a result

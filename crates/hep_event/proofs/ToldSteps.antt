@@ -5,23 +5,23 @@ use Rattle.hep_code.specs.declared.instruction.Instruction.{Instruction}
 use Rattle.hep_code.specs.declared.instruction.Operation.{Operation}
 use Rattle.hep_code.specs.declared.instruction.Operation.TheVariants.{Evaluate}
 use Rattle.hep_code.specs.declared.variable.Variable.{Variable}
-use Rattle.hep_code.specs.Ahead.{IsAction, IsNext, IsRedex}
+use Rattle.hep_code.specs.NextInCode.{IsAction, IsNext, IsRedex}
 use Rattle.hep_code.specs.StatementCode.{ending_of}
 use Rattle.hep_code.specs.Words.{Addresses, AddressedUnit, addressed_unit, evaluation_of, operands_of_action, operands_of_redex, operation_of}
 use Rattle.hep_machine.specs.Evaluation.{reading}
 use Rattle.hep_machine.specs.Words.{Action, Name, Next, Process, Redex, State, Top, Units, Value, function_name, living, next_of, step_result_of, stepped, unit_of, unit_on_top, wants, does, evaluating, referring}
 use Rattle.hep_machine.specs.Words.{signing, negating, combining, applying, testing, assigning, jumping, choosing, branching, testing_condition, entering_block, entering_loop, ending_loop, calling, creating, purging, printing, continuing, leaving, resuming, stopping}
-use Rattle.hep_event.specs.Deeds.{deed_text, fault_added, leaving_text, next_text, resuming_text, step_text, told_of}
-use Rattle.hep_event.specs.Lines as lines
-use Rattle.hep_event.specs.declared.plain.Numbers.{Numbers}
-use Rattle.hep_event.specs.declared.told.Seen.{Seen}
-use Rattle.hep_event.specs.Plain.{IsNameOfCalled, is_plain, plain_text, resumed}
-use Rattle.hep_event.specs.Seen.{IsActionSeen, IsNextSeen, IsRedexSeen, numbers_before}
-use Rattle.hep_event.specs.Told.{told_text}
+use Rattle.hep_event.specs.StepTexts.{deed_text, fault_added, leaving_text, next_text, resuming_text, step_text, told_of}
+use Rattle.hep_event.specs.LineTexts as lines
+use Rattle.hep_event.specs.declared.plain_text.NextNumbers.{NextNumbers}
+use Rattle.hep_event.specs.declared.operation_text.StepObservation.{StepObservation}
+use Rattle.hep_event.specs.PlainTexts.{IsNameOfCalled, is_plain, plain_text, resumed}
+use Rattle.hep_event.specs.StepObservations.{IsActionSeen, IsNextSeen, IsRedexSeen, numbers_before}
+use Rattle.hep_event.specs.OperationTexts.{told_text}
 use Rattle.hep_event.proofs.PlainSteps.{last-are, none-zero, plain-told}
 
 -- the step of a process that was no fault, with what stood ahead of it
-module _ (program : Units) (t : Top) (addresses : Addresses) (after : State) (seen : Seen) (operands : List Value) (index : ℕ) (o : Operation) (behind : List Instruction)
+module _ (program : Units) (t : Top) (addresses : Addresses) (after : State) (seen : StepObservation) (operands : List Value) (index : ℕ) (o : Operation) (behind : List Instruction)
     (lives : living t.state t.process ≡ Some (t.level, t.below)) (made : step_result_of program t.process t.state ≡ stepped after)
     (sound : fault_added t.state.faults after.faults ≡ None) (numbered : seen.numbers ≡ numbers_before t) where
   abbrev addressed : AddressedUnit
@@ -76,7 +76,7 @@ module _ (program : Units) (t : Top) (addresses : Addresses) (after : State) (se
 
   leaving-told : (f : Option Name) → function_name (unit_on_top program t) ≡ f → o ≡ ending_of (option_map variables f) → IsActionSeen program t variables after seen leaving
       → leaving_text program t f t.below ≡ told_text seen o operands
-  leaving-told None is ends h = ap (λ (n : Numbers). lines.end_text n.alone) (sym numbered) ∙ ap (λ p. told_text seen p operands) (sym ends)
+  leaving-told None is ends h = ap (λ (n : NextNumbers). lines.end_text n.alone) (sym numbered) ∙ ap (λ p. told_text seen p operands) (sym ends)
   leaving-told (Some x) is ends h =
       (λ i. told_of (sym (h x is).1 i) (lines.answer_text (sym (h x is).0 i))) ∙ ap (λ p. told_text seen p operands) (sym ends)
 
@@ -103,7 +103,7 @@ module _ (program : Units) (t : Top) (addresses : Addresses) (after : State) (se
   action-told continuing is h = ap lines.jump_text (sym h) ∙ same continuing is
   action-told leaving is h = leaving-told (function_name (unit_on_top program t)) refl is.operation h
   action-told resuming is h =
-      resuming-told t.below ∙ ap (λ (n : Numbers). lines.resume_text (resumed n.alone n.process)) (sym numbered) ∙ same resuming is
+      resuming-told t.below ∙ ap (λ (n : NextNumbers). lines.resume_text (resumed n.alone n.process)) (sym numbered) ∙ same resuming is
   action-told stopping is h = same stopping is
 
   -- ---- what comes next

@@ -1,4 +1,4 @@
--- Where the variables of an activation are kept: docs/MACHINE.md, "Variables and frames" and "Layout".
+-- The places of an activation's variables: docs/MACHINE.md, "Variables and frames" and "Layout".
 use Rattle.std.specs.Prelude.{◌≡◌, ◌≢◌, ℕ, false, List, Option, Some, None, Result, Ok, Err}
 use Rattle.hep_code.specs.declared.variable.Variable.{Variable}
 use Rattle.hep_code.specs.declared.variable.Variable.TheVariants.{Absent}
@@ -9,10 +9,10 @@ use Rattle.hep_machine.specs.declared.event.Kind.{Kind}
 use Rattle.hep_machine.specs.Words.{Level, Location, Name, Process, State, Statement, Store, Units, Value, living, run}
 use Rattle.hep_state.specs.declared.core_state.CoreState.{CoreState}
 use Rattle.hep_state.specs.Words.{IsMachineAfter}
-use Rattle.hep_views.specs.Listed.{place_of}
+use Rattle.hep_views.specs.ListedProcesses.{place_of}
 use Rattle.hep_event.specs.declared.sites.Site.{Site}
 
--- after turns of these processes, which a machine keeps, process p lives, with this level on top of others
+-- after these turns a machine keeps the state, and process p lives, with this level on top of others
 pub record LivesAfter (program : Units) (cells : ℕ) (choices : List ℕ) (m : CoreState) (p : ℕ) (top : Level × Process) : Type 0 where
   pub after : IsMachineAfter program cells choices m
   pub running : m.halted ≡ false
@@ -22,7 +22,7 @@ pub record LivesAfter (program : Units) (cells : ℕ) (choices : List ℕ) (m : 
 abbrev pub IsVariableOf : Units → List Statement → Name → Variable → Type 0
 IsVariableOf program unit x v = (variable_of program unit x ≡ v) × (v ≢ Absent)
 
--- the site of a location, which says whose it is in a state; or there is none, where there is no location
+-- the site of a location, with its names in a state; or none where there is no location
 abbrev pub IsSite : Units → State → Addressing → Option Site → Result Location Kind → Type 0
 IsSite program s addressing (Some site) (Ok at) = (addressing at ≡ Some site.cell) × (site.place ≡ place_of program s at)
 IsSite program s addressing None (Err k) = Unit {0}
@@ -35,7 +35,7 @@ abbrev pub stored_at : Store → Result Location Kind → Option Value
 stored_at store (Err k) = None
 stored_at store (Ok at) = (store at).value
 
--- in a machine after turns of these processes it is the site of a location
+-- in a machine after these turns it is the site of a location
 pub record IsSiteAfter (program : Units) (cells : ℕ) (choices : List ℕ) (m : CoreState) (site : Option Site) (at : Result Location Kind) : Type 0 where
   pub after : IsMachineAfter program cells choices m
   pub site_is : IsSite program (run program choices) (address program (run program choices) after.after.layout) site at
@@ -44,7 +44,7 @@ abbrev pub IsSomeSite : CoreState → Option Site → Type 0
 IsSomeSite m site =
     (program : Units) × (cells : ℕ) × (choices : List ℕ) × (at : Result Location Kind) × IsSiteAfter program cells choices m site at
 
--- whatever it is the site of has the value
+-- the storage unit at the site has this value, whichever it is
 abbrev pub HasValue : CoreState → Option Site → Option Value → Type 0
 HasValue m site v =
     (program : Units) (cells : ℕ) (choices : List ℕ) (at : Result Location Kind) → IsSiteAfter program cells choices m site at

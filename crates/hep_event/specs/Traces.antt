@@ -3,16 +3,16 @@ use Rattle.std.specs.Prelude.{ℕ, zero, suc, ◌+◌, Bool, true, false, not, n
 use Rattle.std.specs.List.{filter}
 use Rattle.hep_machine.specs.declared.event.Entry.{Entry}
 use Rattle.hep_machine.specs.Words.{Units, line_at, unit_name, unit_on_top, Level, Process, State, Top, is_held, is_number_among, living, opening, Progress, progress_after_entry, progress_after_step, state_after_turn, step_result_of}
-use Rattle.hep_event.specs.Cells.{touches}
-use Rattle.hep_event.specs.Deeds.{deed_text}
-use Rattle.hep_event.specs.Lines as lines
+use Rattle.hep_event.specs.AccessedNames.{touches}
+use Rattle.hep_event.specs.StepTexts.{deed_text}
+use Rattle.hep_event.specs.LineTexts as lines
 
--- so many numbers from one on
+-- n numbers from one on
 abbrev pub numbers_from : ℕ → ℕ → List ℕ
 numbers_from first zero = []
 numbers_from first (suc n) = first ∷ numbers_from (suc first) n
 
--- processes that were found waiting before a step of p and aren't after it, p left out, by their numbers
+-- the processes except p that were found waiting before its step and aren't after it, by their numbers
 abbrev pub woken : ℕ → Progress → Progress → List ℕ
 woken p old new =
     filter (λ q. (is_number_among q old.listed && not (is_number_among q new.listed)) && not (nat_eq p q)) (numbers_from 1 (length old.state.processes))
@@ -23,8 +23,9 @@ freed old new = filter (λ a. is_held old a && not (is_held new a)) (numbers_fro
 
 -- ---- what is shown
 
--- which entries are shown: from one number to another, of one process or of all; and of them the turns that access a variable of one name, or all
-pub record Shown : Type 0 where
+-- the entries that are shown: from one number to another, of one process or of all; and of these the turns that
+-- access a variable of one name, or all
+pub record LineSelection : Type 0 where
   pub first : ℕ
   pub last : ℕ
   pub process : Option ℕ
@@ -34,13 +35,13 @@ abbrev pub is_of : Option ℕ → ℕ → Bool
 is_of None p = true
 is_of (Some q) p = nat_eq q p
 
-abbrev pub is_shown : Shown → ℕ → ℕ → Bool
+abbrev pub is_shown : LineSelection → ℕ → ℕ → Bool
 is_shown shown entry p = nat_le shown.first entry && nat_le entry shown.last && is_of shown.process p
 
 -- ---- lines
 
 module _ (program : Units) where
-  -- what a process does with this activation on top, and what the step changed besides
+  -- what a process does with this activation on top, and what else the step changed
   abbrev pub turn_text : ℕ → Progress → Progress → Top → List ℕ
   turn_text entry old new t =
       lines.head_text entry t.process (unit_name (unit_on_top program t)) (line_at (unit_on_top program t) t.level.statement)
@@ -57,13 +58,13 @@ module _ (program : Units) where
       let t : Top = record { state = old.state; process = p; level = top.0; below = top.1 } in
       if is_accessed cell t then turn_text entry old new t else []
 
-  -- the line of a turn of process p, which is of the entry with this number, from what was known before it and after it
+  -- the line of a turn of process p, of the entry with this number, from the progress before and after it
   abbrev pub line_text : Option (List ℕ) → ℕ → ℕ → Progress → Progress → List ℕ
   line_text cell entry p old new = line_by cell entry p old new (living old.state p)
 
   -- ---- entries
 
-  -- so many steps of p, a line each
+  -- n steps of p, a line each
   abbrev pub steps_text : Option (List ℕ) → ℕ → ℕ → Progress → ℕ → List ℕ
   steps_text cell entry p x zero = []
   steps_text cell entry p x (suc n) =
@@ -75,13 +76,13 @@ module _ (program : Units) where
   entry_text cell entry x e zero = line_text cell entry e.process x (progress_after_entry program x e 0)
   entry_text cell entry x e (suc n) = steps_text cell entry e.process x (suc n)
 
-  -- the lines of entries, of which the first one has this number
-  unfoldable pub trace_from : Shown → ℕ → Progress → List Entry → List ℕ
+  -- the lines of entries from this number on
+  unfoldable pub trace_from : LineSelection → ℕ → Progress → List Entry → List ℕ
   trace_from shown entry x [] = []
   trace_from shown entry x (e ∷ es) =
       (if is_shown shown entry e.process then entry_text shown.cell entry x e e.steps else [])
       ++ trace_from shown (suc entry) (progress_after_entry program x e e.steps) es
 
-  -- those of a history, whose entries are counted from 1
-  abbrev pub trace_text : Shown → List Entry → List ℕ
+  -- the lines of a history, whose entries are counted from 1
+  abbrev pub trace_text : LineSelection → List Entry → List ℕ
   trace_text shown history = trace_from shown 1 (record { state = opening program; listed = [] }) history

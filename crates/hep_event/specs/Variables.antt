@@ -1,4 +1,4 @@
--- Which variable each name of a unit is: docs/MACHINE.md, "Variables and frames" and "Names and units".
+-- The variables of a unit's names: docs/MACHINE.md, "Variables and frames" and "Names and units".
 use Rattle.std.specs.Prelude.{◌≡◌, ◌≢◌, ◌<◌, ℕ, List, map, Option, Some, None, slice_get}
 use Rattle.hep_code.specs.declared.variable.Variable.{Variable}
 use Rattle.hep_image.specs.Places.{variable_of}
@@ -16,7 +16,7 @@ variables_of_units program = map (variables_of_names program) program
 abbrev pub AreVariablesOf : Units → Variables → Type 0
 AreVariablesOf program variables = variables.units ≡ variables_of_units program
 
--- the first index at which a variable stands among some
+-- the first index of a variable in a list
 abbrev pub IsFirstAmong : List Variable → Variable → Option ℕ → Type 0
 IsFirstAmong variables v (Some i) = (slice_get variables i ≡ Some v) × ((k : ℕ) → k < i → slice_get variables k ≢ Some v)
 IsFirstAmong variables v None = (k : ℕ) → slice_get variables k ≢ Some v

@@ -1,56 +1,47 @@
-//! One step of a history: the next operation, the variable that it accesses, the breakpoints of a variable, and the words of its line.
+//! One step of a history in words: the line that `trace` and other commands show for it (docs/RUNS.md, "What each
+//! step did"). `trace_text` of `specs/Traces` defines the whole text.
 //!
-//! What each step of a history did, a line a step, as a person reads of it: the words of these lines.
-//!
-//! The whole text is a definition, `trace_text` of `specs/Traces`.
-//!
-//! What comes next of a process, read from what a core keeps: the operation with its operands, and what an access comes to; and the
-//! names of variables.
-//!
-//! The variables of activations, by what a core keeps: which of them the operation that comes next of a process names, the name of each,
-//! and where it is kept.
-//!
-//! Where in the code a step may access a variable of one name.
-//!
-//! The indexes of all units at which one may are watched ([`watches_of`]), some too many where a dummy argument is accessed. A process that stands
-//! at another one accesses none with its next step ([`breakpoint_laws::unwatched_turns_access_nothing`]).
-//!
-//! What steps did, by the operation that stood ahead of their process and by what was seen of them.
+//! - [`next_operation`] reads the next operation of a process from a core's machine, and [`next_access`] its result;
+//!   [`sites`] finds the variable that it names.
+//! - [`line_text`], [`reduction_text`], [`plain_text`] and [`operation_text`] write the words of a step.
+//! - [`watches_of`] gives the indexes of the code at which a step may access a variable of one name, and perhaps more
+//!   where a dummy argument is accessed. A step from any other index accesses none
+//!   ([`breakpoint_laws::unwatched_turns_access_nothing`]).
 #![tactic(auto)]
 
-pub mod access;
 pub mod breakpoint_laws;
 pub mod line_laws;
-pub mod lines;
-pub mod names;
+pub mod line_text;
+pub mod name_laws;
+pub mod next_access;
 pub mod next_laws;
 pub mod next_operation;
-pub mod plain;
-pub mod pure;
+pub mod operation_text;
+pub mod plain_text;
+pub mod reduction_text;
 pub mod site_laws;
 pub mod sites;
-pub mod told;
-pub mod values;
+pub mod value_text;
+pub mod variable_breakpoints;
 pub mod variables;
-pub mod watching;
 
-pub use access::reply_ahead;
-pub use hep_dump::{Breakpoints, Core, Kind, Listed, Whereabouts, append_waiting};
-pub use hep_views::finding::{listed, whereabouts};
-pub use hep_views::{CoreState, TurnFault, Turned, activations_are_few};
-pub use lines::{
-    Accessed, append_accessed, append_answer, append_applied, append_branch, append_call,
+pub use hep_dump::{Breakpoints, Core, Kind, Listed, Whereabouts, append_waiting, name_of};
+pub use hep_views::lookup::{listed, whereabouts};
+pub use hep_views::{CoreState, TurnFault, TurnOutcome, activations_are_few};
+pub use line_text::{
+    AccessedVariable, append_accessed, append_answer, append_applied, append_branch, append_call,
     append_choice, append_combined, append_condition, append_create, append_end, append_fault,
     append_freed, append_head, append_jump, append_loop, append_negated, append_next,
     append_reference, append_resume, append_signed, append_stop, append_tested, append_waits,
     append_woken,
 };
+pub use next_access::reply_ahead;
 pub use next_laws::replies_are_answers;
 pub use next_operation::{NextOperation, coming_of};
-pub use plain::{Numbers, append_plain};
-pub use pure::append_pure;
+pub use operation_text::{StepObservation, append_told};
+pub use plain_text::{NextNumbers, append_plain};
+pub use reduction_text::append_pure;
 pub use sites::{Site, named, site_of, value_at};
-pub use told::{Seen, append_told};
-pub use values::{append_list, append_value};
+pub use value_text::{append_list, append_value};
+pub use variable_breakpoints::watches_of;
 pub use variables::Variables;
-pub use watching::watches_of;

@@ -1,4 +1,4 @@
-//! Laws of what is told.
+//! Laws of the words for steps: they say what the step does.
 ghost use Rattle.std.specs.Prelude.{◌≡◌, ℕ, ◌+◌, ◌++◌, ◌∷◌, [], List, None, Some, true, length, nat_eq};
 ghost use Rattle.hep_code.specs.declared.instruction.Evaluation.{Evaluation};
 ghost use Rattle.hep_code.specs.declared.instruction.Instruction.{Instruction};
@@ -7,14 +7,14 @@ ghost use Rattle.hep_code.specs.declared.variable.Variable.{Variable};
 ghost use Rattle.hep_code.specs.Words.{Addresses, IsNext, addressed_unit, evaluation_of, operands_of_redex};
 ghost use Rattle.hep_machine.specs.declared.record.Item.{Item};
 ghost use Rattle.hep_machine.specs.Words.{Level, Name, Process, Redex, State, Top, Units, Value, does, evaluating, living, next_of, printing, step_result_of, stepped, unit_at, unit_of, unit_on_top, wants};
-ghost use Rattle.hep_event.specs.Deeds.{deed_text, fault_added};
-ghost use Rattle.hep_event.specs.Plain.{IsNameOfCalled, is_plain, plain_text};
-ghost use Rattle.hep_event.specs.Pure.{is_pure, pure_text};
-ghost use Rattle.hep_event.specs.Seen.{IsSeen};
-ghost use Rattle.hep_event.specs.Told.{told_text};
-ghost use Rattle.hep_event.specs.declared.told.Seen.{Seen};
+ghost use Rattle.hep_event.specs.StepTexts.{deed_text, fault_added};
+ghost use Rattle.hep_event.specs.PlainTexts.{IsNameOfCalled, is_plain, plain_text};
+ghost use Rattle.hep_event.specs.ReductionTexts.{is_pure, pure_text};
+ghost use Rattle.hep_event.specs.StepObservations.{IsSeen};
+ghost use Rattle.hep_event.specs.OperationTexts.{told_text};
+ghost use Rattle.hep_event.specs.declared.operation_text.StepObservation.{StepObservation};
 
-/// The step of a process at a redex of values alone does what is told of the redex's operation and operands.
+/// The step of a process at a redex of values alone does what the words for the redex's operation and operands say.
 pub fn pure_steps_are_told()
     ensures { (program : Units) (s : State) (p : ℕ) (top : Level × Process) (r : Redex) (variables : Name → Variable) (e : Evaluation)
         → living s p ≡ Some top
@@ -24,8 +24,8 @@ pub fn pure_steps_are_told()
         ≡ pure_text e (operands_of_redex r) }
 {}
 
-/// The step of a process that is no fault, and whose operation names no variable and prints nothing, does what is told of the operation and
-/// its operands.
+/// A step that is no fault, and whose operation names no variable and prints nothing, does what the words for the
+/// operation and its operands say.
 pub fn plain_steps_are_told()
     ensures { (program : Units) (t : Top) (addresses : Addresses) (after : State) (called : List ℕ) (operands : List Value) (index : ℕ)
         (o : Operation) (behind : List Instruction)
@@ -38,9 +38,9 @@ pub fn plain_steps_are_told()
         o operands }
 {}
 
-/// The step of a process that is no fault does what is told of its operation and operands by what was seen of it.
+/// A step that is no fault does what the words for its operation, its operands and its observed results say.
 pub fn steps_are_told()
-    ensures { (program : Units) (t : Top) (addresses : Addresses) (after : State) (seen : Seen) (operands : List Value) (index : ℕ)
+    ensures { (program : Units) (t : Top) (addresses : Addresses) (after : State) (seen : StepObservation) (operands : List Value) (index : ℕ)
         (o : Operation) (behind : List Instruction)
         → living t.state t.process ≡ Some (t.level, t.below) → step_result_of program t.process t.state ≡ stepped after
         → fault_added t.state.faults after.faults ≡ None
@@ -50,7 +50,7 @@ pub fn steps_are_told()
         → deed_text program t (step_result_of program t.process t.state) ≡ told_text seen o operands }
 {}
 
-/// What a step printed is the last record after it.
+/// The record that a step printed is the last one after it.
 pub fn prints_are_last_records()
     ensures { (program : Units) (t : Top) (after : State) (items : List Item)
         → living t.state t.process ≡ Some (t.level, t.below) → step_result_of program t.process t.state ≡ stepped after

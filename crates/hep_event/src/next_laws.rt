@@ -1,4 +1,4 @@
-//! Laws of what comes next.
+//! Laws of the next operation.
 ghost use Rattle.std.specs.Prelude.{◌≡◌, ℕ, List, Some, false, true, is_some};
 ghost use Rattle.hep_code.specs.Words.{Answers, Reply as AReply, is_asynchronous};
 ghost use Rattle.hep_conditions.specs.Words.{IsAccepted};
@@ -9,12 +9,13 @@ ghost use Rattle.hep_state.specs.declared.core_state.CoreState.{CoreState as ACo
 ghost use Rattle.hep_state.specs.Words.{HasLevels, IsMachineAfter, snapshot_of};
 ghost use Rattle.hep_event.specs.declared.next_operation.NextOperation.{NextOperation as ANextOperation};
 ghost use Rattle.hep_step.specs.Simulation.{variable_in};
-ghost use Rattle.hep_event.specs.Access.{IsAccessed, IsOfLocation, replied_at};
-ghost use Rattle.hep_event.specs.Coming.{IsNextOperationOf};
+ghost use Rattle.hep_event.specs.NextAccesses.{IsAccessed, IsOfLocation, replied_at};
+ghost use Rattle.hep_event.specs.NextOperations.{IsNextOperationOf};
 
 use hep_state::laws::tops_are_running;
 
-/// Where a redex comes next of a process, the operation replies what the source machine answers to it, in the state that the core keeps.
+/// Where a redex comes next of a process, the reply of its operation is the source machine's answer, in the state
+/// that the core keeps.
 pub fn replies_are_answers()
     ensures { (program : Units) (cells : ℕ) (choices : List ℕ) (p : ℕ) (m : ACoreState) (c : ANextOperation) (levels : HasLevels (snapshot_of m) p)
         (top : Level × Process) (q : Redex) → IsAccepted program → is_some (main_among program) ≡ true → m.halted ≡ false
@@ -27,8 +28,8 @@ pub fn replies_are_answers()
     tops_are_running();
 }
 
-/// Where an access to a variable or an element comes next of a process, the operation names the variable, which is asynchronous where its
-/// name is, and replies by the cell in which that is kept, or by the fault for which it is nowhere.
+/// Where an access to a variable or an element comes next of a process, the operation names the variable, which is
+/// asynchronous if its name is. Its reply is by the cell of the variable, or is the fault for which there is none.
 pub fn accesses_are_found()
     ensures named { (program : Units) (cells : ℕ) (choices : List ℕ) (p : ℕ) (m : ACoreState) (c : ANextOperation) (levels : HasLevels (snapshot_of m) p)
         (top : Level × Process) (x : Reference) → IsAccepted program → is_some (main_among program) ≡ true → m.halted ≡ false

@@ -1,8 +1,8 @@
-//! What comes next of a process.
+//! The next operation of a process.
 ghost use Rattle.std.specs.Prelude.{◌≡◌, ◌+◌, ◌≤◌, ◌∷◌, ℕ, List, IfOk, length, vec_capacity};
 ghost use Rattle.hep_code.specs.declared.instruction.Instruction.TheVariants.{Step};
 ghost use Rattle.hep_state.specs.Words.{HasLevels, IsMachineAfter, snapshot_of};
-ghost use Rattle.hep_event.specs.Coming.{HasStep, IsNextOperationOf};
+ghost use Rattle.hep_event.specs.NextOperations.{HasStep, IsNextOperationOf};
 
 use hep_code::laws::operations_stand_ahead;
 use hep_code::operands::settle;
@@ -13,8 +13,8 @@ use hep_source::Value;
 use hep_state::CoreState;
 use std::alloc::{AllocError, Global};
 
-/// What comes next of a statement with this initial line: an operation with its operands, and the instructions behind it, the entries
-/// of the operation first.
+/// The next operation of a process, in a statement with this initial line, with its operands and the instructions
+/// after it, its entries first.
 #[derive(Drop)]
 pub struct NextOperation<'a> {
     pub line: u32,
@@ -23,7 +23,7 @@ pub struct NextOperation<'a> {
     pub behind: &'a [Instruction],
 }
 
-// The operation in front of instructions, with these operands.
+// The first of these instructions, which is an operation, with these operands.
 fn in_front(ahead: &[Instruction], operands: Vec<Value>) -> NextOperation<'_>
     requires { HasStep ahead.now }
     ensures operands { result.operands ≡ operands }
@@ -40,19 +40,19 @@ fn in_front(ahead: &[Instruction], operands: Vec<Value>) -> NextOperation<'_>
     }
 }
 
-// A copy of operands, with room for so many more.
+// A copy of operands, with room for `more` further ones.
 fn copied(alloc: Global, operands: &[Value], more: u32) -> Result<Vec<Value>, AllocError>
     ensures items { IfOk result (λ copy. copy.items ≡ operands.now) }
     ensures room { IfOk result (λ copy. length operands.now + more ≤ vec_capacity copy) }
 {
-    // Asked for at once, since this is done for each line.
+    // One request for all of it, since this is done for each line.
     let mut copy = Vec::new(alloc);
     copy.reserve(operands.len() + more as usize)?;
     copy.extend_from_slice(operands)?;
     Ok(copy)
 }
 
-/// What comes next of process p, which lives, by what a core keeps, whether the processes were stopped or not.
+/// The next operation of process p, which lives, by a core's machine, whether a STOP was executed or not.
 ///
 /// # Errors
 ///

@@ -1,22 +1,22 @@
-//! Laws of what comes next of a process.
+//! Laws of the variables that the next operation of a process names.
 ghost use Rattle.std.specs.Prelude.{◌≡◌, ◌≢◌, ℕ, List, None, Some, true, is_some};
 ghost use Rattle.hep_code.specs.declared.variable.Variable.TheVariants.{Absent};
 ghost use Rattle.hep_code.specs.Words.{is_asynchronous};
 ghost use Rattle.hep_conditions.specs.Words.{IsAccepted};
 ghost use Rattle.hep_event.specs.declared.next_operation.NextOperation.{NextOperation as ANextOperation};
-ghost use Rattle.hep_event.specs.Access.{IsAccessed};
-ghost use Rattle.hep_event.specs.Coming.{IsNextOperationOf};
+ghost use Rattle.hep_event.specs.NextAccesses.{IsAccessed};
+ghost use Rattle.hep_event.specs.NextOperations.{IsNextOperationOf};
 ghost use Rattle.hep_image.specs.Places.{variable_of};
 ghost use Rattle.hep_machine.specs.Words.{Level, Process, Reference, Units, living, main_among, next_of, run, unit_at, unit_of};
 ghost use Rattle.hep_state.specs.declared.core_state.CoreState.{CoreState as ACoreState};
 ghost use Rattle.hep_state.specs.Words.{IsMachineAfter};
-ghost use Rattle.hep_event.specs.Named.{IsNamed, named_by};
+ghost use Rattle.hep_event.specs.NamedVariables.{IsNamed, named_by};
 ghost use Rattle.hep_event.specs.Sites.{LivesAfter};
 
 use hep_views::{tops_are_running, variables_of_the_code_are_placed};
 
-/// Where an access to a variable or an element comes next of a process, whether the processes were stopped or not, its operation names that
-/// variable, with the same subscripts, which has storage units.
+/// Where an access to a variable or an element comes next of a process, whether a STOP was executed or not, its
+/// operation names that variable, with the same subscripts. The variable has storage units.
 pub fn accesses_name_variables()
     ensures { (program : Units) (cells : ℕ) (choices : List ℕ) (m : ACoreState) (p : ℕ) (top : Level × Process) (c : ANextOperation) (x : Reference)
         → IsAccepted program → IsMachineAfter program cells choices m → living (run program choices) p ≡ Some top → IsNextOperationOf program m p c
@@ -27,8 +27,9 @@ pub fn accesses_name_variables()
     variables_of_the_code_are_placed();
 }
 
-/// Where what comes next of a process names a variable or an element, its operation names that variable, with the same subscripts, which has
-/// storage units, and is asynchronous where its name is; and where the operation names one, so does what comes next.
+/// Where a variable or an element is named next in the source, the operation names that variable, with the same
+/// subscripts; it has storage units, and is asynchronous if its name is. Where the operation names one, so does the
+/// source.
 pub fn operations_name_variables()
     ensures variables { (program : Units) (cells : ℕ) (choices : List ℕ) (m : ACoreState) (p : ℕ) (top : Level × Process) (c : ANextOperation) (x : Reference)
         → IsAccepted program → is_some (main_among program) ≡ true → LivesAfter program cells choices m p top → IsNextOperationOf program m p c

@@ -1,33 +1,33 @@
-//! Where the variables of an activation are kept.
+//! The places of an activation's variables.
 ghost use Rattle.std.specs.Prelude.{◌≡◌, ◌-◌, ℕ, List, drop, length, option_map};
 ghost use Rattle.hep_layout.specs.Words.{address as addressing};
 ghost use Rattle.hep_machine.specs.Words.{Level, Name as SourceName, Process as SourceProcess, location_of_name, run, scope_of, unit_at, unit_of};
 ghost use Rattle.hep_step.specs.Effects.{subscripts_in};
-ghost use Rattle.hep_event.specs.Named.{named_by};
+ghost use Rattle.hep_event.specs.NamedVariables.{named_by};
 ghost use Rattle.hep_event.specs.Sites.{HasValue, IsSite, IsSomeSite, IsVariableOf, LivesAfter};
 
 use hep_code::{Evaluation, Operation, Variable};
 use hep_image::Image;
 use hep_source::Value;
 use hep_step::address;
-use hep_views::finding::place_at;
+use hep_views::lookup::place_at;
 use hep_views::{CoreState, Place, state_place as place, tops_are_running};
 
-/// Where a storage unit is: its cell of the arena, and whose it is.
+/// The place of a storage unit: its cell of the arena, and its names.
 #[derive(Clone, Copy, PartialEq, Eq)]
 pub struct Site {
     pub cell: u32,
     pub place: Place,
 }
 
-// The last so many operands.
-fn last(operands: &[Value], count: u32) -> &[Value]
+/// The last so many operands.
+pub(crate) fn last(operands: &[Value], count: u32) -> &[Value]
     ensures { result.now ≡ drop (length operands.now - count) operands.now }
 {
     &operands[operands.len().saturating_sub(count as usize)..]
 }
 
-// Those behind the first one.
+// The operands after the first one.
 fn others(operands: &[Value]) -> &[Value]
     ensures { result.now ≡ subscripts_in operands.now }
 {
@@ -63,10 +63,10 @@ pub fn named(operation: Operation, operands: &[Value]) -> Option<(Variable, &[Va
     }
 }
 
-/// Where a variable of the top activation of process p, which lives, or its element with these subscripts is kept. None where there is no
-/// such element.
+/// The site of a variable of the top activation of process p, which lives, or of its element with these subscripts.
+/// `None` where there is no such element.
 ///
-/// This costs what `place_at` of `hep_views` does.
+/// This costs as much as `place_at` of `hep_views`.
 pub fn site_of(
     machine: &CoreState,
     image: &Image,
@@ -96,7 +96,7 @@ pub fn site_of(
     }
 }
 
-/// The value that a storage unit has, if there is one and it has a value.
+/// The value of a storage unit, if there is one and it has a value.
 pub fn value_at(machine: &CoreState, site: Option<Site>) -> Option<Value>
     requires { IsSomeSite machine.now site }
     ensures { HasValue machine.now site result }

@@ -1,6 +1,6 @@
-//! Which variable each name of a unit is.
+//! The variables of a unit's names.
 ghost use Rattle.std.specs.Prelude.{◌≡◌, ◌≢◌, ◌<◌, ◌≤◌, ◌↔◌, ℕ, Some, IfOk, IsTrue, length, map};
-ghost use Rattle.hep_code.specs.Places.{variable_in};
+ghost use Rattle.hep_code.specs.Placements.{variable_in};
 ghost use Rattle.hep_code.specs.declared.variable.Variable.TheVariants.{Absent};
 ghost use Rattle.hep_common.specs.Starts.{AreStarts};
 ghost use Rattle.hep_conditions.specs.Words.{IsAccepted};
@@ -11,7 +11,7 @@ ghost use Rattle.hep_event.specs.Variables.{AreVariablesOf, IsFirstAmong, variab
 
 use hep_base::Sequence;
 use hep_code::Variable;
-use hep_code::places::Placement;
+use hep_code::placement::Placement;
 use hep_common::{CommonBlocks, CommonStarts};
 use hep_image::{FrameVariable, Image};
 use hep_names::{ProgramSymbols, Symbols};
@@ -19,7 +19,7 @@ use hep_places::unit_places;
 use hep_source::Name;
 use std::alloc::{AllocError, Global};
 
-/// The variables of the names of each unit, in the order of the names, so that the name of a variable is found.
+/// The variables of the names of each unit, in the order of the names. The name of a variable is found by a search.
 #[derive(Drop)]
 pub struct Variables {
     units: Sequence<Sequence<Variable>>,
@@ -82,7 +82,7 @@ fn is_same(left: Variable, right: Variable) -> bool
     left == right
 }
 
-// The index of the first one of some variables that is this one.
+// The index of the first of these variables that is this one.
 fn index_among(variables: &[Variable], variable: Variable) -> Option<usize>
     ensures { IsFirstAmong variables.now variable result }
 {
@@ -112,7 +112,8 @@ impl Variables {
         })
     }
 
-    /// The number of the name of a variable of a unit, by which `Image::name` tells it. None where none of the unit's names is this variable.
+    /// The number of the name of a variable of a unit, for `Image::name`. `None` where no name of the unit is this
+    /// variable.
     pub fn number_of(&self, image: &Image, unit: usize, variable: Variable) -> Option<u32>
         requires variables { AreVariablesOf image.now self.now }
         requires unit { unit < length image.now }

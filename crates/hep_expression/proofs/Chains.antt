@@ -2,8 +2,8 @@
 use Rattle.std.proofs.Common.{◌≡◌, ℕ, suc, ◌+◌, ◌-◌, ◌<◌, ◌≤◌, List, [], ◌∷◌, ◌++◌, Option, Some, None, refl, sym, ap, ◌∙◌, arith}
 use Rattle.hep_source.specs.Tree.{Tree, Trees, binary, no_trees, trees, trees_of}
 use Rattle.hep_source.specs.declared.operator.Operator.{Operator}
-use Rattle.hep_expression.specs.declared.unread.Unread.{Unread}
-use Rattle.hep_expression.specs.declared.unread.Unread.TheVariants as unread
+use Rattle.hep_expression.specs.declared.read_failure.ReadFailure.{ReadFailure}
+use Rattle.hep_expression.specs.declared.read_failure.ReadFailure.TheVariants as unread
 use Rattle.hep_expression.specs.Reading.{Reader, ◌>>=◌, after, Fails}
 use Rattle.hep_expression.specs.ReadingExpression.{operator_at, chain, arguments}
 
@@ -30,7 +30,7 @@ module _ (among : List Operator) (next : Reader Tree) (n i : ℕ) (t : Tree) (s 
       let turn : chain among next (n - i) t s ≡ Some (t, s) = rw left refl in
       sym so_far ∙ turn
 
-  pub chain_fails : (why : Unread) (o : Operator) (m : List ℕ) → i < n → operator_at among s ≡ Some (o, m) → Fails why (next m) → chain among next (n - i) t s ≡ whole → Fails why whole
+  pub chain_fails : (why : ReadFailure) (o : Operator) (m : List ℕ) → i < n → operator_at among s ≡ Some (o, m) → Fails why (next m) → chain among next (n - i) t s ≡ whole → Fails why whole
   unfolding chain
   chain_fails unread.NoMemory o m lt is_operator fails so_far = tt
   chain_fails unread.NoReading o m lt is_operator fails so_far =
@@ -85,7 +85,7 @@ module _ (inner : Reader Tree) (n i : ℕ) (ts : List Tree) (s : List ℕ) (whol
       let turn : after_read ts (arguments inner (n - i) s) ≡ None = rw left (nothing_after ts) in
       sym so_far ∙ turn
 
-  pub arguments_fail : (why : Unread) → i < n → Fails why (inner s) → after_read ts (arguments inner (n - i) s) ≡ whole → Fails why whole
+  pub arguments_fail : (why : ReadFailure) → i < n → Fails why (inner s) → after_read ts (arguments inner (n - i) s) ≡ whole → Fails why whole
   unfolding arguments
   arguments_fail unread.NoMemory lt fails so_far = tt
   arguments_fail unread.NoReading lt fails so_far =

@@ -1,4 +1,4 @@
--- Names and constants, of a text without blanks.
+-- The grammar of names and constants, in a text without blanks.
 use Rattle.std.specs.Prelude.{codes, ◌≡◌, ℕ, ◌+◌, ◌-◌, ◌*◌, ◌≤◌, ◌&&◌, ◌||◌, nat_le, min, Bool, true, false, IsTrue, List, [], ◌∷◌, ◌++◌, length, drop, ℤ, pos}
 use Rattle.std.specs.List.{list_all}
 use Rattle.hep_source.specs.declared.name.Name.{Name}
@@ -56,7 +56,7 @@ colon = 58
 abbrev pub equals : ℕ
 equals = 61
 
--- ---- digits and letters, which ASCII has in a row each
+-- ---- digits and letters: the codes of the digits are consecutive in ASCII, and so are those of the letters
 
 -- `0`
 abbrev pub first_digit : ℕ
@@ -101,15 +101,15 @@ abbrev pub name_sign : Bool → List ℕ
 name_sign true = codes "$"
 name_sign false = []
 
--- the name with these letters, asynchronous or not: blanks stand after them up to six
+-- the name with these letters, padded with blanks to six, asynchronous or not
 abbrev pub named : Bool → List ℕ → Name
 named a w = record { asynchronous = a; letters = w ++ drop (length w) six_blanks }
 
--- The text s begins with this name where it stands in the statement, and goes on with r.
+-- The text s begins with this occurrence of a name, and r follows.
 abbrev pub ReadsOccurrence : Context → Occurrence → List ℕ → List ℕ → Type 0
 ReadsOccurrence k p s r = (w : List ℕ) × IsName w × (s ≡ name_sign p.name.asynchronous ++ (w ++ r)) × (p.name ≡ named p.name.asynchronous w) × (p.position + length s ≡ k.length)
 
--- The same of a name without `$`.
+-- The same for a name without `$`.
 abbrev pub ReadsPlainOccurrence : Context → Occurrence → List ℕ → List ℕ → Type 0
 ReadsPlainOccurrence k p s r = (p.name.asynchronous ≡ false) × ReadsOccurrence k p s r
 
@@ -120,12 +120,12 @@ abbrev pub IsDigits : List ℕ → Type 0
 IsDigits [] = ⊥
 IsDigits (c ∷ s) = IsTrue (is_digit c) × IsTrue (list_all is_digit s)
 
--- the number that digits give after those that gave n
+-- the number that digits form after digits that form n
 abbrev pub number_after : ℕ → List ℕ → ℕ
 number_after n [] = n
 number_after n (c ∷ s) = number_after (n * 10 + (c - first_digit)) s
 
--- the number that digits stand for in base ten (X3.9-1978, 4.3.1)
+-- the number that digits form in base ten (X3.9-1978, 4.3.1)
 abbrev pub number_of_digits : List ℕ → ℕ
 number_of_digits d = number_after 0 d
 
@@ -138,7 +138,7 @@ abbrev pub IsInteger : Sizes → List ℕ → ℤ → Type 0
 IsInteger Fitting d v = (number_of_digits d ≤ greatest) × (v ≡ pos (number_of_digits d))
 IsInteger Any d v = v ≡ pos (min (number_of_digits d) greatest)
 
--- how a logical constant is written (X3.9-1978, 4.7.1)
+-- the characters of a logical constant (X3.9-1978, 4.7.1)
 abbrev pub logical_spelling : Bool → List ℕ
 logical_spelling true = codes ".TRUE."
 logical_spelling false = codes ".FALSE."

@@ -41,7 +41,7 @@ power = 7
 abbrev pub primary : ℕ
 primary = 8
 
--- the level of what an operator makes (X3.9-1978, 6.1.2, 6.3 and 6.4.2)
+-- the level of an expression by its outermost operator (X3.9-1978, 6.1.2, 6.3 and 6.4.2)
 abbrev pub level : Operator → ℕ
 level (Arithmetic Add) = sum
 level (Arithmetic Subtract) = sum
@@ -54,22 +54,21 @@ level (Logical Or) = disjunction
 level (Logical Equivalent) = equivalence
 level (Logical NotEquivalent) = equivalence
 
--- How operators of one level stand in a row: they apply from the left, or from the right, or a single
--- one stands there
+-- How several operators of one level combine: from the left, from the right, or not at all, so that there is a single one.
 pub data Associativity : Type 0 where
   from_left : Associativity
   from_right : Associativity
   single : Associativity
 
--- `**` goes from right to left (X3.9-1978, 6.1.2), a relation is no operand of a relation (6.3), and
--- all others go from left to right (6.1.2 and 6.4.2).
+-- `**` associates from right to left (X3.9-1978, 6.1.2), a relation is no operand of a relation (6.3), and
+-- all other operators associate from left to right (6.1.2 and 6.4.2).
 abbrev pub associativity : Operator → Associativity
 associativity (Arithmetic Power) = from_right
 associativity (Arithmetic _) = from_left
 associativity (Relational o) = single
 associativity (Logical o) = from_left
 
--- the levels of the operands where an operator of level l goes so
+-- the levels of the operands of an operator of level l with this associativity
 abbrev pub left_level : Associativity → ℕ → ℕ
 left_level from_left l = l
 left_level from_right l = suc l
@@ -84,7 +83,7 @@ right_level single l = suc l
 abbrev pub left : Operator → ℕ
 left o = left_level (associativity o) (level o)
 
--- and of its right one
+-- the level of an operator's right operand
 abbrev pub right : Operator → ℕ
 right o = right_level (associativity o) (level o)
 
@@ -112,26 +111,26 @@ sign_spelling Plus = codes "+"
 sign_spelling Minus = codes "-"
 
 abbrev mutual
-  -- The text s begins with this tree, read at this level, and goes on with r.
+  -- The text s begins with this tree, read at this level, and r follows.
   pub Reads : Context → Tree → ℕ → List ℕ → List ℕ → Type 0
   Reads k (constant (Int v)) l s r = (d : List ℕ) × IsDigits d × (s ≡ d ++ r) × IsInteger k.sizes d v
   Reads k (constant (Truth b)) l s r = s ≡ logical_spelling b ++ r
   Reads k (occurrence p) l s r = ReadsOccurrence k p s r
   Reads k (with_list p ts) l s r = (m : List ℕ) × ReadsOccurrence k p s (codes "(" ++ m) × ReadsAll k ts m r
   Reads k (parenthesized t) l s r = (m : List ℕ) × (s ≡ codes "(" ++ m) × Reads k t equivalence m (codes ")" ++ r)
-  -- a sign stands before the first term of a sum, and its operand is a whole term (X3.9-1978, 6.1.2)
+  -- a sign is written before the first term of a sum, and its operand is a whole term (X3.9-1978, 6.1.2)
   Reads k (signed g t) l s r = (l ≤ sum) × (m : List ℕ) × (s ≡ sign_spelling g ++ m) × Reads k t term m r
   Reads k (negated t) l s r = (l ≤ negation) × (m : List ℕ) × (s ≡ codes ".NOT." ++ m) × Reads k t relation m r
   Reads k (binary o a b) l s r = (l ≤ level o) × (m : List ℕ) × Reads k a (left o) s (spelling o ++ m) × Reads k b (right o) m r
 
-  -- The text s begins with these expressions with commas between them and `)` after the last, and
-  -- goes on with r.
+  -- The text s begins with these expressions, with commas between them and `)` after the last, and
+  -- r follows.
   pub ReadsAll : Context → Trees → List ℕ → List ℕ → Type 0
   ReadsAll k no_trees s r = s ≡ codes ")" ++ r
   ReadsAll k (trees t no_trees) s r = Reads k t equivalence s (codes ")" ++ r)
   ReadsAll k (trees t (trees u ts)) s r = (m : List ℕ) × Reads k t equivalence s (codes "," ++ m) × ReadsAll k (trees u ts) m r
 
--- The text s begins with this expression, and goes on with r.
+-- The text s begins with this expression, and r follows.
 abbrev pub ReadsExpression : Context → Tree → List ℕ → List ℕ → Type 0
 ReadsExpression k t s r = Reads k t equivalence s r
 

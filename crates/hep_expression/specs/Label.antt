@@ -1,8 +1,8 @@
--- Statement labels: which texts read as which numbers.
+-- The grammar of statement labels: which texts read as which numbers.
 use Rattle.std.specs.Prelude.{◌≡◌, ◌≢◌, ℕ, ◌≤◌, List, ◌++◌, length}
 use Rattle.hep_expression.specs.Characters.{IsDigits, number_of_digits}
 
--- the most digits of a label (X3.9-1978, 3.4) and of what STOP says (11.12)
+-- the greatest number of digits of a label (X3.9-1978, 3.4) and of STOP (11.12)
 abbrev pub most_digits : ℕ
 most_digits = 5
 

@@ -2,7 +2,7 @@
 pub mod Characters
 pub mod Expression
 pub mod Label
--- the reading functions, which give what the grammar reads
+-- the readers as functions on lists, which agree with the grammar
 pub mod Reading
 pub mod ReadingExpression
 pub mod ReadingLabel

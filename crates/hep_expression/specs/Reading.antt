@@ -1,4 +1,4 @@
--- Reading a text, as functions on lists: names, constants and words (docs/ARCHITECTURE.md, "Forms").
+-- The readers of names, constants and words, as functions on lists (docs/ARCHITECTURE.md, "Forms").
 use Rattle.std.specs.Prelude.{◌≡◌, ℕ, ◌-◌, ◌&&◌, nat_eq, nat_le, min, Bool, true, false, if◌then◌else◌, List, [], ◌∷◌, length, ℤ, pos, Option, Some, None, Result, Ok, Err}
 use Rattle.hep_source.specs.declared.name.Name.{Name}
 use Rattle.hep_source.specs.declared.name.Occurrence.{Occurrence}
@@ -7,8 +7,8 @@ use Rattle.hep_expression.specs.declared.characters.Class.TheVariants.{Digits, L
 use Rattle.hep_expression.specs.declared.characters.Sizes.{Sizes}
 use Rattle.hep_expression.specs.declared.characters.Sizes.TheVariants.{Fitting, Any}
 use Rattle.hep_expression.specs.declared.characters.Context.{Context}
-use Rattle.hep_expression.specs.declared.unread.Unread.{Unread}
-use Rattle.hep_expression.specs.declared.unread.Unread.TheVariants as unread
+use Rattle.hep_expression.specs.declared.read_failure.ReadFailure.{ReadFailure}
+use Rattle.hep_expression.specs.declared.read_failure.ReadFailure.TheVariants as unread
 use Rattle.hep_expression.specs.Characters.{is_digit, is_letter, is_letter_or_digit, currency_symbol, named, number_of_digits, greatest, logical_spelling}
 
 infixl 10 ◌>>=◌
@@ -20,16 +20,16 @@ abbrev pub if_some : {A B : Type 0} → Option A → (A → Option B) → Option
 if_some None f other = other
 if_some (Some x) f other = f x
 
--- what is read at the front of a text, and what follows it
+-- a reader: it gives what is read at the front of a text, and what follows that; none where nothing is read
 abbrev pub Reader : Type 0 → Type 0
 Reader A = List ℕ → Option (A × List ℕ)
 
--- What a function answers, seen by view, is what was read, unless memory was refused.
-abbrev pub Fails : {Y : Type 0} → Unread → Option Y → Type 0
+-- The function failed because memory was refused, or because nothing is read.
+abbrev pub Fails : {Y : Type 0} → ReadFailure → Option Y → Type 0
 Fails unread.NoMemory read = Unit {0}
 Fails unread.NoReading read = read ≡ None
 
-abbrev pub Gives : {X Y : Type 0} → (X → Y) → Result X Unread → Option Y → Type 0
+abbrev pub Gives : {X Y : Type 0} → (X → Y) → Result X ReadFailure → Option Y → Type 0
 Gives view (Ok x) read = read ≡ Some (view x)
 Gives view (Err e) read = Fails e read
 
@@ -38,7 +38,7 @@ abbrev pub all_read : {A : Type 0} → A → List ℕ → Option A
 all_read x [] = Some x
 all_read x (c ∷ s) = None
 
--- ---- rows of characters
+-- ---- runs of characters
 
 abbrev pub has : Class → ℕ → Bool
 has Digits = is_digit
@@ -48,7 +48,7 @@ abbrev pub begins : (ℕ → Bool) → List ℕ → Bool
 begins p [] = false
 begins p (c ∷ s) = p c
 
--- the characters at the front that stand in a row, and what follows them
+-- the longest run at the front of characters that pass a test
 abbrev pub front : (ℕ → Bool) → List ℕ → List ℕ
 front p [] = []
 front p (c ∷ s) = if p c then c ∷ front p s else []
@@ -67,7 +67,7 @@ abbrev pub after_text : List ℕ → List ℕ → Option (List ℕ)
 after_text [] s = Some s
 after_text (c ∷ w) s = after c s >>= after_text w
 
--- the first of these whose spelling the text begins with, and what follows it
+-- the first of these with whose spelling the text begins, and what follows it
 abbrev pub one_of : {A : Type 0} → (A → List ℕ) → List A → Reader A
 one_of spelling [] s = None
 one_of spelling (a ∷ more) s = if_some (after_text (spelling a) s) (λ r. Some (a, r)) (one_of spelling more s)

@@ -1,5 +1,5 @@
--- Reading an expression, as functions on lists: one for each level, which takes the reader of the
--- next one.
+-- The readers of expressions, as functions on lists: one for each level of precedence, which takes the reader of the
+-- next tighter level.
 use Rattle.std.specs.Prelude.{ℕ, zero, suc, ◌+◌, codes, List, [], ◌∷◌, length, Option, Some, None}
 use Rattle.hep_source.specs.Tree.{Tree, Trees, constant, occurrence, with_list, parenthesized, signed, negated, binary, no_trees, trees}
 use Rattle.hep_source.specs.declared.name.Occurrence.{Occurrence}
@@ -35,7 +35,7 @@ not_at s = after_text (codes ".NOT.") s
 abbrev pub comparing : List Operator
 comparing = Relational Less ∷ Relational LessOrEqual ∷ Relational Equal ∷ Relational NotEqual ∷ Relational Greater ∷ Relational GreaterOrEqual ∷ []
 
--- the operators of a level at which they go from left to right
+-- the operators of a level at which they associate from left to right
 abbrev pub operators : Precedence → List Operator
 operators Equivalence = Logical Equivalent ∷ Logical NotEquivalent ∷ []
 operators Disjunction = Logical Or ∷ []
@@ -43,7 +43,7 @@ operators Conjunction = Logical And ∷ []
 operators Sum = Arithmetic Add ∷ Arithmetic Subtract ∷ []
 operators Term = Arithmetic Multiply ∷ Arithmetic Divide ∷ []
 
--- operators and operands after a first one, from left to right; the number is the most operators that are read
+-- operators and operands after a first operand, from left to right; the number bounds how many operators are read
 unfoldable pub chain : List Operator → Reader Tree → ℕ → Tree → Reader Tree
 chain among next zero t s = Some (t, s)
 chain among next (suc n) t s = if_some (operator_at among s) (λ o. next o.1 >>= λ y. chain among next n (binary o.0 t y.0) y.1) (Some (t, s))
@@ -56,7 +56,7 @@ left_to_right among first next s = first s >>= λ x. chain among next (length s)
 unfoldable pub in_parentheses : Reader Tree → Reader Tree
 in_parentheses inner s = inner s >>= λ x. after right_parenthesis x.1 >>= λ r. Some (parenthesized x.0, r)
 
--- expressions with commas between them and `)` after the last; the number is the most expressions that are read
+-- expressions with commas between them and `)` after the last; the number bounds how many expressions are read
 unfoldable pub arguments : Reader Tree → ℕ → Reader Trees
 arguments inner zero s = None
 arguments inner (suc n) s =
@@ -102,7 +102,7 @@ conjunction next s = left_to_right (operators Conjunction) next next s
 unfoldable pub disjunction : Reader Tree → Reader Tree
 disjunction next s = left_to_right (operators Disjunction) next next s
 
--- what stands after an operator of a level, where powers are read so
+-- the operand after an operator of a level, by the reader of powers
 abbrev pub next_operand : Precedence → Reader Tree → Reader Tree
 next_operand Equivalence powers = disjunction (conjunction (negation (relation (sum (term powers)))))
 next_operand Disjunction powers = conjunction (negation (relation (sum (term powers))))
@@ -110,7 +110,7 @@ next_operand Conjunction powers = negation (relation (sum (term powers)))
 next_operand Sum powers = term powers
 next_operand Term powers = powers
 
--- what stands first at a level: before the first term of a sum a sign may stand
+-- the first operand of a level: a sign may be before the first term of a sum
 abbrev pub first_operand : Precedence → Reader Tree → Reader Tree
 first_operand Equivalence powers = next_operand Equivalence powers
 first_operand Disjunction powers = next_operand Disjunction powers
@@ -118,11 +118,11 @@ first_operand Conjunction powers = next_operand Conjunction powers
 first_operand Sum powers = first_term (next_operand Sum powers)
 first_operand Term powers = next_operand Term powers
 
--- what is read at a level
+-- an expression of a level
 abbrev pub at_level : Precedence → Reader Tree → Reader Tree
 at_level level powers s = left_to_right (operators level) (first_operand level powers) (next_operand level powers) s
 
--- The number bounds how deep parentheses, lists and powers go.
+-- The number bounds how deeply parentheses, lists and powers nest.
 unfoldable mutual
   pub expression : Context → ℕ → Reader Tree
   expression k zero s = None
@@ -132,7 +132,7 @@ unfoldable mutual
   power k zero s = None
   power k (suc n) s = power_of (primary k (expression k n)) (power k n) s
 
--- an expression and what follows it, where parentheses, lists and powers go as deep as the text allows
+-- an expression and what follows it, with a bound on nesting that the length of the text never reaches
 unfoldable pub expression_at : Context → Reader Tree
 expression_at k s = expression k (length s + length s + 1) s
 

@@ -1,11 +1,11 @@
--- Reading statement labels, as functions on lists (docs/ARCHITECTURE.md, "Forms").
+-- The readers of statement labels, as functions on lists (docs/ARCHITECTURE.md, "Forms").
 use Rattle.std.specs.Prelude.{ℕ, nat_eq, nat_le, ◌&&◌, if◌then◌else◌, List, length, Option, Some, None}
 use Rattle.hep_expression.specs.declared.characters.Context.{Context}
 use Rattle.hep_expression.specs.Characters.{is_digit, number_of_digits}
 use Rattle.hep_expression.specs.Reading.{Reader, ◌>>=◌, begins, front, rest_after}
 use Rattle.hep_expression.specs.Label.{most_digits}
 
--- one to five digits in a row: what they stand for, and what follows them
+-- the number that one to five digits at the front form, and what follows them; none for a longer run of digits
 abbrev pub few_digits_at : Reader ℕ
 few_digits_at s =
     if begins is_digit s && nat_le (length (front is_digit s)) most_digits

@@ -5,24 +5,24 @@ ghost use Rattle.hep_expression.specs.Reading as reading;
 ghost use Rattle.hep_expression.specs.Reading.{Gives};
 ghost use Rattle.hep_expression.specs.declared.characters.Sizes.TheVariants.{Fitting};
 
-use crate::unread::Unread;
+use crate::read_failure::ReadFailure;
 use hep_source::{Name, Occurrence};
 
-/// Which integer constants are read.
+/// Which integer constants a reader accepts.
 #[derive(Clone, Copy, PartialEq, Eq)]
 pub enum Sizes {
     /// Those up to 9223372036854775807.
     Fitting,
-    /// Those of any size; one that is too large stands for the greatest integer.
+    /// Those of any size. A constant that is too large is read as the greatest integer.
     Any,
 }
 
-/// What a reader knows of the statement.
+/// The context of a reader: facts about the whole statement.
 #[derive(Clone, Copy, PartialEq, Eq)]
 pub struct Context {
-    /// Which integer constants are read.
+    /// Which integer constants a reader accepts.
     pub sizes: Sizes,
-    /// How many characters the statement's text has.
+    /// The number of characters of the statement's text.
     pub length: usize,
 }
 
@@ -48,7 +48,7 @@ impl Class {
 }
 
 /// Whether a character is a digit (X3.9-1978, 3.1.2).
-fn is_digit(c: u8) -> bool
+pub fn is_digit(c: u8) -> bool
     ensures { result ≡ grammar.is_digit c }
 {
     b'0' <= c && c <= b'9'
@@ -61,7 +61,7 @@ fn is_letter(c: u8) -> bool
     b'A' <= c && c <= b'Z'
 }
 
-/// The characters of a class that stand in a row at the front, and what follows them.
+/// The longest run of characters of a class at the front, and what follows it.
 fn split_front(class: Class, s: &[u8]) -> (&[u8], &[u8])
     ensures front { result.0.now ≡ reading.front (reading.has class) s.now }
     ensures rest_after { result.1.now ≡ reading.rest_after (reading.has class) s.now }
@@ -74,21 +74,21 @@ fn split_front(class: Class, s: &[u8]) -> (&[u8], &[u8])
     (s, &s[s.len()..])
 }
 
-/// What was read, where nothing follows it.
+/// Answers with what was read, where nothing follows it.
 ///
 /// # Errors
 ///
-/// No reading, where something follows.
-pub fn all_read<T: Drop>(read: T, rest: &[u8]) -> Result<T, Unread>
+/// [`ReadFailure::NoReading`] where something follows.
+pub fn all_read<T: Drop>(read: T, rest: &[u8]) -> Result<T, ReadFailure>
     ensures { Gives (λ x. x) result (reading.all_read read rest.now) }
 {
     match rest {
         [] => Ok(read),
-        [_, ..] => Err(Unread::NoReading),
+        [_, ..] => Err(ReadFailure::NoReading),
     }
 }
 
-/// What follows where the text begins with this character.
+/// The text after its first character, where that is `c`; none elsewhere.
 pub fn after(c: u8, s: &[u8]) -> Option<&[u8]>
     ensures { option_map (λ x. x.now) result ≡ reading.after c s.now }
 {
@@ -96,7 +96,7 @@ pub fn after(c: u8, s: &[u8]) -> Option<&[u8]>
     if *first == c { Some(rest) } else { None }
 }
 
-/// What follows where the text begins with these characters.
+/// The text after `word`, where it begins with `word`; none elsewhere.
 pub fn after_text<'a>(word: &[u8], s: &'a [u8]) -> Option<&'a [u8]>
     ensures { option_map (λ x. x.now) result ≡ reading.after_text word.now s.now }
 {
@@ -109,7 +109,7 @@ pub fn after_text<'a>(word: &[u8], s: &'a [u8]) -> Option<&'a [u8]>
     }
 }
 
-/// A word with blanks after it up to six characters.
+/// A word, padded with blanks to six characters.
 fn padded(word: &[u8]) -> [u8; 6]
     requires { length word.now ≤ 6 }
     ensures { result ≡ (grammar.named false word.now).letters }
@@ -119,8 +119,8 @@ fn padded(word: &[u8]) -> [u8; 6]
     letters
 }
 
-/// A name at the front (X3.9-1978, 2.2) after its sign `$`, if it has one, and what follows it: one
-/// to six letters or digits, the first a letter. More letters and digits in a row are no name.
+/// A name at the front (X3.9-1978, 2.2), whose sign `$` was read before, and what follows it. A name is one
+/// to six letters or digits, of which the first is a letter. A longer run of letters and digits is no name.
 fn letters_at(asynchronous: bool, s: &[u8]) -> Option<(Name, &[u8])>
     ensures { option_map (λ x. (x.0, x.1.now)) result ≡ reading.letters_at asynchronous s.now }
 {
@@ -149,16 +149,16 @@ fn name_at(s: &[u8]) -> Option<(Name, &[u8])>
     }
 }
 
-/// How many characters of the statement stand before s, which is the rest of its text from some character on.
+/// The number of characters of the statement before `s`, which is a rest of the statement's text.
 fn position_of(context: Context, s: &[u8]) -> usize
     ensures { result ≡ context.length - length s.now }
 {
-    // s is no longer than the statement's text, so nothing saturates.
+    // The text s is no longer than that of the statement, so nothing saturates.
     context.length.saturating_sub(s.len())
 }
 
-/// A name at the front, which may have the sign `$`, with how many characters of the statement
-/// stand before it, and what follows it.
+/// A name at the front, which may have the sign `$`, with the number of characters of the statement
+/// before it, and what follows it.
 pub fn occurrence_at(context: Context, s: &[u8]) -> Option<(Occurrence, &[u8])>
     ensures { option_map (λ x. (x.0, x.1.now)) result ≡ reading.occurrence_at context s.now }
 {
@@ -167,7 +167,7 @@ pub fn occurrence_at(context: Context, s: &[u8]) -> Option<(Occurrence, &[u8])>
     Some((Occurrence { name, position }, rest))
 }
 
-/// The same of a name without `$`.
+/// The same for a name without `$`.
 pub fn plain_occurrence_at(context: Context, s: &[u8]) -> Option<(Occurrence, &[u8])>
     ensures { option_map (λ x. (x.0, x.1.now)) result ≡ reading.plain_occurrence_at context s.now }
 {
@@ -176,7 +176,7 @@ pub fn plain_occurrence_at(context: Context, s: &[u8]) -> Option<(Occurrence, &[
     Some((Occurrence { name, position }, rest))
 }
 
-/// The number that digits stand for, where it has 64 bits.
+/// The number that digits form; none where it is 2^64 or greater.
 #[tactic(auto, using(crate::proofs::Decimals::goes_on, crate::proofs::Decimals::is_large))]
 fn number(digits: &[u8]) -> Option<u64>
     ensures { MatchOption result (2 ^ 64 ≤ grammar.number_of_digits digits.now) (λ n. n ≡ grammar.number_of_digits digits.now) }
@@ -189,7 +189,7 @@ fn number(digits: &[u8]) -> Option<u64>
     Some(value)
 }
 
-/// The integer that digits stand for, where it is not above the greatest.
+/// The integer that digits form; none where it is above 9223372036854775807.
 fn integer(digits: &[u8]) -> Option<i64>
     ensures { result ≡ reading.integer Fitting (grammar.number_of_digits digits.now) }
 {

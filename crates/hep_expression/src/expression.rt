@@ -1,5 +1,5 @@
-//! Reading expressions (X3.9-1978, section 6): functions for the levels of precedence, from the loosest to
-//! the tightest, and one for what goes on from left to right after a first operand.
+//! Reading expressions (X3.9-1978, section 6). There is a function for each level of precedence, from the loosest to
+//! the tightest. One function, `chain`, reads the operators and operands that follow a first operand from left to right.
 ghost use Rattle.std.specs.Prelude.{◌≡◌, length, option_map};
 ghost use Rattle.hep_source.specs.Tree.{trees_of};
 ghost use Rattle.hep_expression.specs.Expression as grammar;
@@ -9,7 +9,7 @@ ghost use Rattle.hep_expression.specs.ReadingExpression as reading;
 use crate::characters::{
     Context, after, after_text, all_read, integer_at, logical_at, occurrence_at,
 };
-use crate::unread::Unread;
+use crate::read_failure::ReadFailure;
 use Precedence::{Conjunction, Disjunction, Equivalence, Sum, Term};
 use hep_source::{
     ArithmeticOperator, Expr, LogicalOperator, Occurrence, Operator, RelationalOperator, Sign,
@@ -17,7 +17,7 @@ use hep_source::{
 };
 use std::alloc::Global;
 
-/// How an operator is written (X3.9-1978, 6.1.1, 6.3.1 and 6.4.1).
+/// The characters of an operator (X3.9-1978, 6.1.1, 6.3.1 and 6.4.1).
 fn spelling(operator: Operator) -> &'static [u8]
     ensures { result.now ≡ grammar.spelling operator }
 {
@@ -40,7 +40,7 @@ fn spelling(operator: Operator) -> &'static [u8]
     }
 }
 
-/// A level of precedence at which operators go from left to right (X3.9-1978, 6.1.2 and 6.4.2), from the
+/// A level of precedence at which operators associate from left to right (X3.9-1978, 6.1.2 and 6.4.2), from the
 /// loosest to the tightest.
 #[derive(Clone, Copy, PartialEq, Eq)]
 enum Precedence {
@@ -119,24 +119,24 @@ fn sign_at(s: &[u8]) -> Option<(Sign, &[u8])>
 }
 
 /// An expression that was read, and what follows it.
-type Found<'a> = Result<(Expr, &'a [u8]), Unread>;
+type ReadExpression<'a> = Result<(Expr, &'a [u8]), ReadFailure>;
 
-/// An expression at the front, and what follows it. The depth bounds how deep parentheses, lists
-/// and powers go.
+/// An expression at the front, and what follows it. `depth` bounds how deeply parentheses, lists
+/// and powers nest.
 ///
 /// # Errors
 ///
-/// No reading, or no memory.
+/// [`ReadFailure::NoReading`] where the text has no such part, or [`ReadFailure::NoMemory`].
 #[cycle(expression)]
 #[tactic(auto, unfolding(crate::specs::ReadingExpression::expression, crate::specs::ReadingExpression::disjunction, crate::specs::ReadingExpression::conjunction))]
-fn expression(alloc: Global, context: Context, depth: usize, s: &[u8]) -> Found<'_>
+fn expression(alloc: Global, context: Context, depth: usize, s: &[u8]) -> ReadExpression<'_>
     ensures { Gives (λ x. (x.0, x.1.now)) result (reading.expression context depth s.now) }
 {
     if depth == 0 {
-        return Err(Unread::NoReading);
+        return Err(ReadFailure::NoReading);
     }
     let depth = depth - 1;
-    // A first operand is one of all levels: each goes on after it in turn, so that an open
+    // The first operand is read once for all levels. Then each level in turn continues after it, so that an open
     // parenthesis costs few calls.
     let (first, rest) = negation(alloc, context, depth, s)?;
     let (first, rest) = chain(alloc, context, depth, Conjunction, s.len(), first, rest)?;
@@ -144,8 +144,8 @@ fn expression(alloc: Global, context: Context, depth: usize, s: &[u8]) -> Found<
     chain(alloc, context, depth, Equivalence, s.len(), first, rest)
 }
 
-/// Operators of a level and their operands after a first operand, from left to right: at most `turns`
-/// operators.
+/// The expression that a first operand and the operators and operands of a level after it form, from left to right, with at most
+/// `turns` operators.
 #[cycle(expression)]
 #[tactic(auto, using(crate::proofs::Chains::chain_goes_on, crate::proofs::Chains::chain_ends, crate::proofs::Chains::chain_is_over, crate::proofs::Chains::chain_fails))]
 fn chain(
@@ -156,7 +156,7 @@ fn chain(
     turns: usize,
     first: Expr,
     s: &[u8],
-) -> Found<'_>
+) -> ReadExpression<'_>
     ensures { Gives (λ x. (x.0, x.1.now)) result
         (reading.chain (reading.operators level) (reading.next_operand level (reading.power context depth)) turns first s.now) }
 {
@@ -172,10 +172,16 @@ fn chain(
     Ok((left, rest))
 }
 
-/// What stands after an operator of a level.
+/// The operand after an operator of a level.
 #[cycle(expression)]
 #[tactic(auto, unfolding(crate::specs::ReadingExpression::disjunction, crate::specs::ReadingExpression::conjunction))]
-fn operand(alloc: Global, context: Context, depth: usize, level: Precedence, s: &[u8]) -> Found<'_>
+fn operand(
+    alloc: Global,
+    context: Context,
+    depth: usize,
+    level: Precedence,
+    s: &[u8],
+) -> ReadExpression<'_>
     ensures { Gives (λ x. (x.0, x.1.now)) result (reading.next_operand level (reading.power context depth) s.now) }
 {
     match level {
@@ -187,9 +193,15 @@ fn operand(alloc: Global, context: Context, depth: usize, level: Precedence, s: 
     }
 }
 
-/// Operands of a level, of which the first has no sign, with its operators between them.
+/// Operands of a level with its operators between them. The first operand has no sign.
 #[cycle(expression)]
-fn operands(alloc: Global, context: Context, depth: usize, level: Precedence, s: &[u8]) -> Found<'_>
+fn operands(
+    alloc: Global,
+    context: Context,
+    depth: usize,
+    level: Precedence,
+    s: &[u8],
+) -> ReadExpression<'_>
     ensures { Gives (λ x. (x.0, x.1.now)) result
         (reading.left_to_right (reading.operators level) (reading.next_operand level (reading.power context depth))
         (reading.next_operand level (reading.power context depth)) s.now) }
@@ -201,7 +213,7 @@ fn operands(alloc: Global, context: Context, depth: usize, level: Precedence, s:
 /// A relation, which may have `.NOT.` before it.
 #[cycle(expression)]
 #[tactic(auto, unfolding(crate::specs::ReadingExpression::negation))]
-fn negation(alloc: Global, context: Context, depth: usize, s: &[u8]) -> Found<'_>
+fn negation(alloc: Global, context: Context, depth: usize, s: &[u8]) -> ReadExpression<'_>
     ensures { Gives (λ x. (x.0, x.1.now)) result
         (reading.negation (reading.relation (reading.sum (reading.term (reading.power context depth)))) s.now) }
 {
@@ -218,7 +230,7 @@ fn negation(alloc: Global, context: Context, depth: usize, s: &[u8]) -> Found<'_
 /// A sum, or two sums with an operator of a relation between them.
 #[cycle(expression)]
 #[tactic(auto, unfolding(crate::specs::ReadingExpression::relation))]
-fn relation(alloc: Global, context: Context, depth: usize, s: &[u8]) -> Found<'_>
+fn relation(alloc: Global, context: Context, depth: usize, s: &[u8]) -> ReadExpression<'_>
     ensures { Gives (λ x. (x.0, x.1.now)) result (reading.relation (reading.sum (reading.term (reading.power context depth))) s.now) }
 {
     let (left, rest) = sum(alloc, context, depth, s)?;
@@ -235,7 +247,7 @@ fn relation(alloc: Global, context: Context, depth: usize, s: &[u8]) -> Found<'_
 /// Terms with `+` and `-` between them; the first one may have a sign.
 #[cycle(expression)]
 #[tactic(auto, unfolding(crate::specs::ReadingExpression::sum))]
-fn sum(alloc: Global, context: Context, depth: usize, s: &[u8]) -> Found<'_>
+fn sum(alloc: Global, context: Context, depth: usize, s: &[u8]) -> ReadExpression<'_>
     ensures { Gives (λ x. (x.0, x.1.now)) result (reading.sum (reading.term (reading.power context depth)) s.now) }
 {
     let (first, rest) = first_term(alloc, context, depth, s)?;
@@ -245,7 +257,7 @@ fn sum(alloc: Global, context: Context, depth: usize, s: &[u8]) -> Found<'_>
 /// The first term of a sum, which may have a sign.
 #[cycle(expression)]
 #[tactic(auto, unfolding(crate::specs::ReadingExpression::first_term))]
-fn first_term(alloc: Global, context: Context, depth: usize, s: &[u8]) -> Found<'_>
+fn first_term(alloc: Global, context: Context, depth: usize, s: &[u8]) -> ReadExpression<'_>
     ensures { Gives (λ x. (x.0, x.1.now)) result (reading.first_term (reading.term (reading.power context depth)) s.now) }
 {
     match sign_at(s) {
@@ -261,21 +273,21 @@ fn first_term(alloc: Global, context: Context, depth: usize, s: &[u8]) -> Found<
 /// Powers with `*` and `/` between them.
 #[cycle(expression)]
 #[tactic(auto, unfolding(crate::specs::ReadingExpression::term))]
-fn term(alloc: Global, context: Context, depth: usize, s: &[u8]) -> Found<'_>
+fn term(alloc: Global, context: Context, depth: usize, s: &[u8]) -> ReadExpression<'_>
     ensures { Gives (λ x. (x.0, x.1.now)) result (reading.term (reading.power context depth) s.now) }
 {
     let (first, rest) = power(alloc, context, depth, s)?;
     chain(alloc, context, depth, Term, s.len(), first, rest)
 }
 
-/// A primary, or a primary raised to a power: `**` goes from right to left.
+/// A primary, or a primary raised to a power: `**` associates from right to left.
 #[cycle(expression)]
 #[tactic(auto, unfolding(crate::specs::ReadingExpression::power, crate::specs::ReadingExpression::power_of))]
-fn power(alloc: Global, context: Context, depth: usize, s: &[u8]) -> Found<'_>
+fn power(alloc: Global, context: Context, depth: usize, s: &[u8]) -> ReadExpression<'_>
     ensures { Gives (λ x. (x.0, x.1.now)) result (reading.power context depth s.now) }
 {
     if depth == 0 {
-        return Err(Unread::NoReading);
+        return Err(ReadFailure::NoReading);
     }
     let (base, rest) = primary(alloc, context, depth - 1, s)?;
     match after_text(b"**", rest) {
@@ -296,7 +308,7 @@ fn power(alloc: Global, context: Context, depth: usize, s: &[u8]) -> Found<'_>
 /// A constant, a name, which may have a list, or an expression in parentheses.
 #[cycle(expression)]
 #[tactic(auto, unfolding(crate::specs::ReadingExpression::primary))]
-fn primary(alloc: Global, context: Context, depth: usize, s: &[u8]) -> Found<'_>
+fn primary(alloc: Global, context: Context, depth: usize, s: &[u8]) -> ReadExpression<'_>
     ensures { Gives (λ x. (x.0, x.1.now)) result (reading.primary context (reading.expression context depth) s.now) }
 {
     if let Some((value, rest)) = integer_at(context, s) {
@@ -310,11 +322,11 @@ fn primary(alloc: Global, context: Context, depth: usize, s: &[u8]) -> Found<'_>
     }
     match after(b'(', s) {
         Some(inside) => in_parentheses(alloc, context, depth, inside),
-        None => Err(Unread::NoReading),
+        None => Err(ReadFailure::NoReading),
     }
 }
 
-/// A name that was read, with a list where `(` follows it.
+/// The expression of a name that was read, with a list where `(` follows it.
 #[cycle(expression)]
 #[tactic(auto, unfolding(crate::specs::ReadingExpression::named))]
 fn named(
@@ -323,7 +335,7 @@ fn named(
     depth: usize,
     occurrence: Occurrence,
     s: &[u8],
-) -> Found<'_>
+) -> ReadExpression<'_>
     ensures { Gives (λ x. (x.0, x.1.now)) result (reading.named (reading.expression context depth) occurrence s.now) }
 {
     match after(b'(', s) {
@@ -343,7 +355,7 @@ fn listed(
     context: Context,
     depth: usize,
     s: &[u8],
-) -> Result<(Vec<Expr>, &[u8]), Unread>
+) -> Result<(Vec<Expr>, &[u8]), ReadFailure>
     ensures { Gives (λ x. (trees_of x.0.items, x.1.now)) result (reading.listed (reading.expression context depth) s.now) }
 {
     match after(b')', s) {
@@ -360,7 +372,7 @@ fn arguments(
     context: Context,
     depth: usize,
     s: &[u8],
-) -> Result<(Vec<Expr>, &[u8]), Unread>
+) -> Result<(Vec<Expr>, &[u8]), ReadFailure>
     ensures { Gives (λ x. (trees_of x.0.items, x.1.now)) result
         (reading.arguments (reading.expression context depth) (length s.now) s.now) }
 {
@@ -373,23 +385,23 @@ fn arguments(
             return Ok((list, rest_after));
         }
         let Some(rest_after) = after(b',', rest_after) else {
-            return Err(Unread::NoReading);
+            return Err(ReadFailure::NoReading);
         };
         rest = rest_after;
     }
-    Err(Unread::NoReading)
+    Err(ReadFailure::NoReading)
 }
 
 /// What follows `(`: an expression and `)`.
 #[cycle(expression)]
 #[tactic(auto, unfolding(crate::specs::ReadingExpression::in_parentheses))]
-fn in_parentheses(alloc: Global, context: Context, depth: usize, s: &[u8]) -> Found<'_>
+fn in_parentheses(alloc: Global, context: Context, depth: usize, s: &[u8]) -> ReadExpression<'_>
     ensures { Gives (λ x. (x.0, x.1.now)) result (reading.in_parentheses (reading.expression context depth) s.now) }
 {
     let (inner, rest) = expression(alloc, context, depth, s)?;
     match after(b')', rest) {
         Some(rest) => Ok((Expr::parenthesized(alloc, inner)?, rest)),
-        None => Err(Unread::NoReading),
+        None => Err(ReadFailure::NoReading),
     }
 }
 
@@ -397,22 +409,26 @@ fn in_parentheses(alloc: Global, context: Context, depth: usize, s: &[u8]) -> Fo
 ///
 /// # Errors
 ///
-/// No reading, or no memory.
+/// [`ReadFailure::NoReading`] where the text has no such part, or [`ReadFailure::NoMemory`].
 #[tactic(auto, unfolding(crate::specs::ReadingExpression::expression_at))]
-pub fn expression_at(alloc: Global, context: Context, s: &[u8]) -> Result<(Expr, &[u8]), Unread>
+pub fn expression_at(
+    alloc: Global,
+    context: Context,
+    s: &[u8],
+) -> Result<(Expr, &[u8]), ReadFailure>
     ensures { Gives (λ x. (x.0, x.1.now)) result (reading.expression_at context s.now) }
 {
-    // Each parenthesis, each list and each power goes two down at most, and takes at least a character.
+    // Each parenthesis, each list and each power adds at most two to the depth and takes at least one character.
     expression(alloc, context, s.len() + s.len() + 1, s)
 }
 
-/// The expression that a whole text is.
+/// The expression that a whole text forms.
 ///
 /// # Errors
 ///
-/// No reading, or no memory.
+/// [`ReadFailure::NoReading`] where the text has no such part, or [`ReadFailure::NoMemory`].
 #[tactic(auto, unfolding(crate::specs::ReadingExpression::whole_expression))]
-pub fn whole_expression(alloc: Global, context: Context, s: &[u8]) -> Result<Expr, Unread>
+pub fn whole_expression(alloc: Global, context: Context, s: &[u8]) -> Result<Expr, ReadFailure>
     ensures { Gives (λ e. e) result (reading.whole_expression context s.now) }
 {
     let (found, rest) = expression_at(alloc, context, s)?;

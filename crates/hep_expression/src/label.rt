@@ -4,10 +4,10 @@ ghost use Rattle.hep_expression.specs.ReadingLabel as reading;
 
 use crate::characters::{Context, Sizes, integer_at};
 
-/// The most digits of a label (X3.9-1978, 3.4) and of what STOP says (11.12).
+/// The greatest number of digits of a label (X3.9-1978, 3.4) and of STOP (11.12).
 const MOST_DIGITS: usize = 5;
 
-/// One to five digits in a row at the front: what they stand for, and what follows them.
+/// The number that one to five digits at the front form, and what follows them. None for a longer run of digits.
 pub fn few_digits_at(s: &[u8]) -> Option<(u32, &[u8])>
     ensures { option_map (λ x. (x.0, x.1.now)) result ≡ reading.few_digits_at s.now }
 {
@@ -24,8 +24,8 @@ pub fn few_digits_at(s: &[u8]) -> Option<(u32, &[u8])>
     Some((number, rest))
 }
 
-/// A label at the front (X3.9-1978, 3.4), and what follows it: one to five digits, not all of them
-/// 0. More digits in a row are no label.
+/// A label at the front (X3.9-1978, 3.4), and what follows it. A label is one to five digits, not all of them
+/// 0. A longer run of digits is no label.
 pub fn label_at(s: &[u8]) -> Option<(u32, &[u8])>
     ensures { option_map (λ x. (x.0, x.1.now)) result ≡ reading.label_at s.now }
 {

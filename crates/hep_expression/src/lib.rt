@@ -1,13 +1,13 @@
-//! From a text without blanks to names, constants, labels and expressions.
+//! Readers of names, constants, labels and expressions, for texts without blanks.
 //!
-//! The grammar is stated in `specs/`: a text begins with a part and goes on with what follows. The
-//! readers here answer with that part and what follows it.
+//! `specs/` states the grammar as relations between a part and a text that begins with it. Each reader
+//! answers with the part at the front and the rest of the text. Begin with [`expression::expression_at`].
 #![tactic(auto)]
 
 pub mod characters;
 pub mod expression;
 pub mod label;
-pub mod unread;
+pub mod read_failure;
 
 pub use characters::{Context, Sizes};
-pub use unread::Unread;
+pub use read_failure::ReadFailure;

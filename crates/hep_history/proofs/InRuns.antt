@@ -6,15 +6,17 @@ use Rattle.std.proofs.Math.Seq.{drop-cons}
 use Rattle.std.proofs.lemmas.List.Concat.{flat_map-append}
 use Rattle.hep_machine.specs.declared.event.Entry.{Entry}
 use Rattle.hep_history.specs.declared.run.Run.{Run}
-use Rattle.hep_history.specs.declared.run.Short.{Short}
+use Rattle.hep_history.specs.declared.run.ShortRun.{ShortRun}
 use Rattle.hep_history.specs.Runs.{AreFilled, AreRising, end_of_shorts, entries_of, entry_of, run_of_short, runs_in, runs_of_shorts}
+use Rattle.hep_machine.proofs.Others.{front_kept}
+use Rattle.hep_source.proofs.Tests.{get-second}
 
-pub runs_of_shorts-push : (from : ℕ) (shorts : List Short) (s : Short)
+pub runs_of_shorts-push : (from : ℕ) (shorts : List ShortRun) (s : ShortRun)
     → runs_of_shorts from (shorts ++ s ∷ []) ≡ runs_of_shorts from shorts ++ run_of_short (end_of_shorts from shorts) s ∷ []
 runs_of_shorts-push from [] s = refl
 runs_of_shorts-push from (short ∷ shorts) s = ap (λ rs. run_of_short from short ∷ rs) (runs_of_shorts-push short.end shorts s)
 
-pub AreRising-push : (from : ℕ) (shorts : List Short) (s : Short) → AreRising from shorts → end_of_shorts from shorts < s.end → AreRising from (shorts ++ s ∷ [])
+pub AreRising-push : (from : ℕ) (shorts : List ShortRun) (s : ShortRun) → AreRising from shorts → end_of_shorts from shorts < s.end → AreRising from (shorts ++ s ∷ [])
 AreRising-push from [] s rising above = (above, tt)
 AreRising-push from (short ∷ shorts) s rising above = (rising.0, AreRising-push short.end shorts s rising.1 above)
 
@@ -23,7 +25,7 @@ AreFilled-push [] r filled some = (some, tt)
 AreFilled-push (run ∷ runs) r filled some = (filled.0, AreFilled-push runs r filled.1 some)
 
 -- runs in eight bytes have as many entries as there are up to their end
-pub shorts_length : (from : ℕ) (shorts : List Short) → AreRising from shorts → from + length (entries_of (runs_of_shorts from shorts)) ≡ end_of_shorts from shorts
+pub shorts_length : (from : ℕ) (shorts : List ShortRun) → AreRising from shorts → from + length (entries_of (runs_of_shorts from shorts)) ≡ end_of_shorts from shorts
 shorts_length from [] rising = omega arith
 shorts_length from (short ∷ shorts) rising =
     let run : Run = run_of_short from short in
@@ -31,13 +33,13 @@ shorts_length from (short ∷ shorts) rising =
     omega (arith, shorts_length short.end shorts rising.1, length-append (replicate run.count (entry_of run)) (entries_of (runs_of_shorts short.end shorts)), length-replicate run.count (entry_of run))
 
 -- and so where the last one ends there are as many as all
-pub short_end : (shorts : List Short) (longs : List Run) (closed : ℕ) → longs ≡ [] → AreRising 0 shorts → closed ≡ length (entries_of (runs_in shorts longs)) → closed ≡ end_of_shorts 0 shorts
+pub short_end : (shorts : List ShortRun) (longs : List Run) (closed : ℕ) → longs ≡ [] → AreRising 0 shorts → closed ≡ length (entries_of (runs_in shorts longs)) → closed ≡ end_of_shorts 0 shorts
 short_end shorts longs closed none rising counted =
     let alone : runs_in shorts longs ≡ runs_of_shorts 0 shorts = ap (λ ls. runs_of_shorts 0 shorts ++ ls) none ∙ append-nil (runs_of_shorts 0 shorts) in
     omega (arith, counted, ap (λ rs. length (entries_of rs)) alone, shorts_length 0 shorts rising)
 
 -- a run in eight bytes behind the others, where there are no longer ones
-pub close_short : (shorts : List Short) (longs : List Run) (closed : ℕ) (run : Run) (s : Short)
+pub close_short : (shorts : List ShortRun) (longs : List Run) (closed : ℕ) (run : Run) (s : ShortRun)
     → longs ≡ [] → AreRising 0 shorts → closed ≡ length (entries_of (runs_in shorts longs)) → run_of_short closed s ≡ run
     → runs_in (shorts ++ s ∷ []) longs ≡ runs_in shorts longs ++ run ∷ []
 close_short shorts longs closed run s none rising counted same =
@@ -55,7 +57,7 @@ entries-push runs run =
     flat_map-append (λ (r : Run). replicate r.count (entry_of r)) runs (run ∷ [])
     ∙ ap (λ es. entries_of runs ++ es) (append-nil (replicate run.count (entry_of run)))
 
-pub entries-in : (shorts : List Short) (longs : List Run) → entries_of (runs_in shorts longs) ≡ entries_of (runs_of_shorts 0 shorts) ++ entries_of longs
+pub entries-in : (shorts : List ShortRun) (longs : List Run) → entries_of (runs_in shorts longs) ≡ entries_of (runs_of_shorts 0 shorts) ++ entries_of longs
 entries-in shorts longs = flat_map-append (λ (r : Run). replicate r.count (entry_of r)) (runs_of_shorts 0 shorts) longs
 
 -- the last run gets more entries
@@ -67,41 +69,18 @@ run_grows runs run more n same count =
     ∙ sym (append_assoc (entries_of runs) (replicate run.count (entry_of run)) (replicate n (entry_of run)))
     ∙ ap (λ es. es ++ replicate n (entry_of run)) (sym (entries-push runs run))
 
-pub nothing_in : {X : Type 0} (xs : List X) → length xs ≡ 0 → xs ≡ []
-nothing_in [] none = refl
-nothing_in (x ∷ xs) none = absurd (omega arith)
-
-abbrev pub no_short : Short
+abbrev pub no_short : ShortRun
 no_short = record { who = 0; end = 0 }
-
--- what stands in the first of two lists, and in the second
-pub slice_get-append_left : {X : Type 0} (xs ys : List X) (k : ℕ) → k < length xs → slice_get (xs ++ ys) k ≡ slice_get xs k
-slice_get-append_left [] ys k lt = absurd (omega arith)
-slice_get-append_left (x ∷ xs) ys zero lt = refl
-slice_get-append_left (x ∷ xs) ys (suc k) lt = slice_get-append_left xs ys k (omega (arith, lt))
-
-pub slice_get-append_right : {X : Type 0} (xs ys : List X) (k n : ℕ) → k ≡ length xs + n → slice_get (xs ++ ys) k ≡ slice_get ys n
-slice_get-append_right [] ys k n is = let same : k ≡ n = omega arith in ap (λ i. slice_get ys i) same
-slice_get-append_right (x ∷ xs) ys zero n is = absurd (omega arith)
-slice_get-append_right (x ∷ xs) ys (suc k) n is = slice_get-append_right xs ys k n (omega (arith, is))
-
--- what stands behind some first ones
-pub slice_get-behind : {X : Type 0} (n k : ℕ) (xs : List X) → slice_get xs (n + k) ≡ slice_get (drop n xs) k
-slice_get-behind zero k xs = let same : 0 + k ≡ k = omega arith in ap (λ i. slice_get xs i) same
-slice_get-behind (suc n) k [] = slice_get_past [] (suc n + k) (omega arith) ∙ sym (slice_get_past [] k (omega arith))
-slice_get-behind (suc n) k (x ∷ xs) =
-    let next : suc n + k ≡ suc (n + k) = omega arith in
-    ap (λ i. slice_get (x ∷ xs) i) next ∙ slice_get-behind n k xs
 
 -- in a run, and behind it
 pub run_has : (n k : ℕ) (e : Entry) (es : List Entry) → k < n → slice_get (replicate n e ++ es) k ≡ Some e
 run_has n k e es lt =
-    slice_get-append_left (replicate n e) es k (omega (arith, length-replicate n e, lt))
+    front_kept (replicate n e) es k (omega (arith, length-replicate n e, lt))
     ∙ slice_get-get_or (replicate n e) k e (omega (arith, length-replicate n e, lt))
     ∙ ap (λ x. Some x) (get_or-replicate n k e e lt)
 
 pub run_past : (n k j : ℕ) (e : Entry) (es : List Entry) → k ≡ n + j → slice_get (replicate n e ++ es) k ≡ slice_get es j
-run_past n k j e es is = slice_get-append_right (replicate n e) es k j (omega (arith, length-replicate n e, is))
+run_past n k j e es is = get-second (replicate n e) es k j (omega (arith, length-replicate n e, is))
 
 -- where some first entries of a run are left out, or all of it and some behind it
 pub drop_within : (n k : ℕ) (e : Entry) (es : List Entry) → k ≤ n → drop k (replicate n e ++ es) ≡ replicate (n - k) e ++ es
@@ -118,21 +97,21 @@ drop_past (suc n) (suc k) e es le =
     let same : k - n ≡ suc k - suc n = omega arith in
     drop_past n k e es (omega (arith, le)) ∙ ap (λ i. drop i es) same
 
-pub end_of_shorts-push : (from : ℕ) (shorts : List Short) (s : Short) → end_of_shorts from (shorts ++ s ∷ []) ≡ s.end
+pub end_of_shorts-push : (from : ℕ) (shorts : List ShortRun) (s : ShortRun) → end_of_shorts from (shorts ++ s ∷ []) ≡ s.end
 end_of_shorts-push from [] s = refl
 end_of_shorts-push from (short ∷ shorts) s = end_of_shorts-push short.end shorts s
 
-pub end_of_shorts-take : (from k : ℕ) (shorts : List Short) → k < length shorts → end_of_shorts from (take (k + 1) shorts) ≡ (get_or shorts k no_short).end
+pub end_of_shorts-take : (from k : ℕ) (shorts : List ShortRun) → k < length shorts → end_of_shorts from (take (k + 1) shorts) ≡ (get_or shorts k no_short).end
 end_of_shorts-take from k shorts lt =
     ap (λ ss. end_of_shorts from ss) (take_more shorts k no_short lt) ∙ end_of_shorts-push from (take k shorts) (get_or shorts k no_short)
 
-pub end_above : (from k : ℕ) (shorts : List Short) → AreRising from shorts → from ≤ end_of_shorts from (take k shorts)
+pub end_above : (from k : ℕ) (shorts : List ShortRun) → AreRising from shorts → from ≤ end_of_shorts from (take k shorts)
 end_above from zero shorts rising = omega arith
 end_above from (suc k) [] rising = omega arith
 end_above from (suc k) (short ∷ shorts) rising = omega (arith, end_above short.end k shorts rising.1, rising.0)
 
 -- an entry that isn't before the end of the runs before this one, and before its end
-pub short_here : (from j k : ℕ) (shorts : List Short) → AreRising from shorts → k < length shorts → end_of_shorts from (take k shorts) ≤ from + j → from + j < (get_or shorts k no_short).end
+pub short_here : (from j k : ℕ) (shorts : List ShortRun) → AreRising from shorts → k < length shorts → end_of_shorts from (take k shorts) ≤ from + j → from + j < (get_or shorts k no_short).end
     → slice_get (entries_of (runs_of_shorts from shorts)) j ≡ Some (entry_of (run_of_short 0 (get_or shorts k no_short)))
 short_here from j k [] rising lt before here = absurd (omega arith)
 short_here from j zero (short ∷ shorts) rising lt before here =
@@ -154,27 +133,27 @@ last_entry runs run some =
     omega (arith, ap (λ es. length es) all, length-append (entries_of runs) (replicate run.count (entry_of run)), length-replicate run.count (entry_of run)) in
     ap (λ k. slice_get (entries_of (runs ++ run ∷ [])) k) place
     ∙ ap (λ es. slice_get es (length (entries_of runs) + (run.count - 1))) all
-    ∙ slice_get-append_right (entries_of runs) (replicate run.count (entry_of run)) (length (entries_of runs) + (run.count - 1)) (run.count - 1) refl
+    ∙ get-second (entries_of runs) (replicate run.count (entry_of run)) (length (entries_of runs) + (run.count - 1)) (run.count - 1) refl
     ∙ ap (λ es. slice_get es (run.count - 1)) (sym (append-nil (replicate run.count (entry_of run))))
     ∙ run_has run.count (run.count - 1) (entry_of run) [] (omega arith)
 
-pub end_of_last : (shorts : List Short) (s : Short) → Some s ≡ slice_get shorts (length shorts - 1) → s.end ≡ end_of_shorts 0 shorts
+pub end_of_last : (shorts : List ShortRun) (s : ShortRun) → Some s ≡ slice_get shorts (length shorts - 1) → s.end ≡ end_of_shorts 0 shorts
 end_of_last shorts s is =
     let k : ℕ = length shorts - 1 in
     let within : k < length shorts = slice_get_within shorts k s (sym is) in
     let found : get_or shorts k no_short ≡ s = get_or_from_slice_get shorts k s no_short (sym is) in
     let whole : take (k + 1) shorts ≡ shorts = take_all (k + 1) shorts (omega arith) in
-    sym (ap (λ ss. end_of_shorts 0 ss) (sym whole) ∙ end_of_shorts-take 0 k shorts within ∙ ap (λ (x : Short). x.end) found)
+    sym (ap (λ ss. end_of_shorts 0 ss) (sym whole) ∙ end_of_shorts-take 0 k shorts within ∙ ap (λ (x : ShortRun). x.end) found)
 
 -- where a search by halves ends
-pub short_found : (shorts : List Short) (index low high : ℕ) → AreRising 0 shorts → high ≡ low → low < length shorts → end_of_shorts 0 (take low shorts) ≤ index
+pub short_found : (shorts : List ShortRun) (index low high : ℕ) → AreRising 0 shorts → high ≡ low → low < length shorts → end_of_shorts 0 (take low shorts) ≤ index
     → (high < length shorts → index < (get_or shorts high no_short).end)
     → slice_get (entries_of (runs_of_shorts 0 shorts)) index ≡ Some (entry_of (run_of_short 0 (get_or shorts low no_short)))
 short_found shorts index low high rising same lt before here =
     let ends : index < (get_or shorts low no_short).end = subst (λ h. h < length shorts → index < (get_or shorts h no_short).end) same here lt in
     short_here 0 index low shorts rising lt (omega (arith, before)) (omega (arith, ends))
 
-pub short_none : (shorts : List Short) (index low : ℕ) → AreRising 0 shorts → length shorts ≤ low → end_of_shorts 0 (take low shorts) ≤ index
+pub short_none : (shorts : List ShortRun) (index low : ℕ) → AreRising 0 shorts → length shorts ≤ low → end_of_shorts 0 (take low shorts) ≤ index
     → slice_get (entries_of (runs_of_shorts 0 shorts)) index ≡ None
 short_none shorts index low rising past before =
     let whole : end_of_shorts 0 (take low shorts) ≡ end_of_shorts 0 shorts = ap (λ ss. end_of_shorts 0 ss) (take_all low shorts past) in
@@ -200,27 +179,27 @@ long_past longs i k lt past =
     ∙ run_past run.count k (k - run.count) (entry_of run) (entries_of (drop (i + 1) longs)) (omega (arith, past))
 
 -- the entry of a history that is in a run in eight bytes, in another, or in the last
-pub in_shorts : (shorts : List Short) (longs : List Run) (run : Run) (i : ℕ) → AreRising 0 shorts → i < end_of_shorts 0 shorts
+pub in_shorts : (shorts : List ShortRun) (longs : List Run) (run : Run) (i : ℕ) → AreRising 0 shorts → i < end_of_shorts 0 shorts
     → slice_get (entries_of (runs_in shorts longs ++ run ∷ [])) i ≡ slice_get (entries_of (runs_of_shorts 0 shorts)) i
 in_shorts shorts longs run i rising lt =
     let S : List Entry = entries_of (runs_of_shorts 0 shorts) in
     let few : i < length S = omega (arith, lt, shorts_length 0 shorts rising) in
     ap (λ es. slice_get es i) (entries-push (runs_in shorts longs) run)
     ∙ ap (λ es. slice_get (es ++ replicate run.count (entry_of run)) i) (entries-in shorts longs)
-    ∙ slice_get-append_left (S ++ entries_of longs) (replicate run.count (entry_of run)) i (omega (arith, few, length-append S (entries_of longs)))
-    ∙ slice_get-append_left S (entries_of longs) i few
+    ∙ front_kept (S ++ entries_of longs) (replicate run.count (entry_of run)) i (omega (arith, few, length-append S (entries_of longs)))
+    ∙ front_kept S (entries_of longs) i few
 
-pub in_longs : (shorts : List Short) (longs : List Run) (run : Run) (i j : ℕ) → AreRising 0 shorts → i ≡ end_of_shorts 0 shorts + j → i < length (entries_of (runs_in shorts longs))
+pub in_longs : (shorts : List ShortRun) (longs : List Run) (run : Run) (i j : ℕ) → AreRising 0 shorts → i ≡ end_of_shorts 0 shorts + j → i < length (entries_of (runs_in shorts longs))
     → slice_get (entries_of (runs_in shorts longs ++ run ∷ [])) i ≡ slice_get (entries_of longs) j
 in_longs shorts longs run i j rising is lt =
     let S : List Entry = entries_of (runs_of_shorts 0 shorts) in
     ap (λ es. slice_get es i) (entries-push (runs_in shorts longs) run)
-    ∙ slice_get-append_left (entries_of (runs_in shorts longs)) (replicate run.count (entry_of run)) i lt
+    ∙ front_kept (entries_of (runs_in shorts longs)) (replicate run.count (entry_of run)) i lt
     ∙ ap (λ es. slice_get es i) (entries-in shorts longs)
-    ∙ slice_get-append_right S (entries_of longs) i j (omega (arith, is, shorts_length 0 shorts rising))
+    ∙ get-second S (entries_of longs) i j (omega (arith, is, shorts_length 0 shorts rising))
 
 pub in_last : (runs : List Run) (run : Run) (i j : ℕ) → i ≡ length (entries_of runs) + j → slice_get (entries_of (runs ++ run ∷ [])) i ≡ slice_get (replicate run.count (entry_of run)) j
-in_last runs run i j is = ap (λ es. slice_get es i) (entries-push runs run) ∙ slice_get-append_right (entries_of runs) (replicate run.count (entry_of run)) i j is
+in_last runs run i j is = ap (λ es. slice_get es i) (entries-push runs run) ∙ get-second (entries_of runs) (replicate run.count (entry_of run)) i j is
 
 pub last_here : (run : Run) (j : ℕ) → j < run.count → slice_get (replicate run.count (entry_of run)) j ≡ Some (entry_of run)
 last_here run j lt = ap (λ es. slice_get es j) (sym (append-nil (replicate run.count (entry_of run)))) ∙ run_has run.count j (entry_of run) [] lt
@@ -233,13 +212,13 @@ pub AreFilled-append : (runs others : List Run) → AreFilled runs → AreFilled
 AreFilled-append [] others filled more = more
 AreFilled-append (run ∷ runs) others filled more = (filled.0, AreFilled-append runs others filled.1 more)
 
-pub shorts_filled : (from : ℕ) (shorts : List Short) → AreRising from shorts → AreFilled (runs_of_shorts from shorts)
+pub shorts_filled : (from : ℕ) (shorts : List ShortRun) → AreRising from shorts → AreFilled (runs_of_shorts from shorts)
 shorts_filled from [] rising = tt
 shorts_filled from (short ∷ shorts) rising = (omega (arith, rising.0), shorts_filled short.end shorts rising.1)
 
 -- ---- the last one of the runs is taken
 
-pub AreRising-left : (from : ℕ) (shorts : List Short) (s : Short) → AreRising from (shorts ++ s ∷ []) → AreRising from shorts × (end_of_shorts from shorts < s.end)
+pub AreRising-left : (from : ℕ) (shorts : List ShortRun) (s : ShortRun) → AreRising from (shorts ++ s ∷ []) → AreRising from shorts × (end_of_shorts from shorts < s.end)
 AreRising-left from [] s rising = (tt, rising.0)
 AreRising-left from (short ∷ shorts) s rising = let rest = AreRising-left short.end shorts s rising.1 in ((rising.0, rest.0), rest.1)
 
@@ -248,10 +227,10 @@ AreFilled-left [] r filled = (tt, filled.0)
 AreFilled-left (run ∷ runs) r filled = let rest = AreFilled-left runs r filled.1 in ((filled.0, rest.0), rest.1)
 
 -- one in eight bytes, where there are no longer ones
-pub open_short : (shorts left : List Short) (longs : List Run) (s : Short) → shorts ≡ left ++ s ∷ [] → longs ≡ []
+pub open_short : (shorts left : List ShortRun) (longs : List Run) (s : ShortRun) → shorts ≡ left ++ s ∷ [] → longs ≡ []
     → runs_in shorts longs ≡ runs_in left longs ++ run_of_short (end_of_shorts 0 left) s ∷ []
 open_short shorts left longs s all none =
-    let alone : (ss : List Short) → runs_in ss longs ≡ runs_of_shorts 0 ss = λ ss. ap (λ ls. runs_of_shorts 0 ss ++ ls) none ∙ append-nil (runs_of_shorts 0 ss) in
+    let alone : (ss : List ShortRun) → runs_in ss longs ≡ runs_of_shorts 0 ss = λ ss. ap (λ ls. runs_of_shorts 0 ss ++ ls) none ∙ append-nil (runs_of_shorts 0 ss) in
     alone shorts
     ∙ ap (λ ss. runs_of_shorts 0 ss) all
     ∙ runs_of_shorts-push 0 left s

@@ -2,7 +2,7 @@
 use Rattle.std.proofs.Common.{◌≡◌, [], ◌∷◌, List, Some, None, refl, slice_get}
 use Rattle.hep_machine.specs.declared.event.Entry.{Entry}
 use Rattle.hep_history.specs.declared.run.Run.{Run}
-use Rattle.hep_history.specs.declared.run.Short.{Short}
+use Rattle.hep_history.specs.declared.run.ShortRun.{ShortRun}
 use Rattle.hep_history.specs.Runs.{end_of_shorts, entries_of, run_of_short, runs_in}
 
 abbrev first : Entry
@@ -15,7 +15,7 @@ abbrev waits : Entry
 waits = record { process = 2097152; steps = 0 }
 
 -- 2,048 times the process and its steps, and where the run ends
-abbrev shorts : List Short
+abbrev shorts : List ShortRun
 shorts = record { who = 2049; end = 1 } ∷ record { who = 4097; end = 2 } ∷ record { who = 2049; end = 5 } ∷ []
 
 abbrev longs : List Run

@@ -1,3 +1,3 @@
 pub mod Runs
 pub mod Entries
-pub mod Kept
+pub mod StoredRuns

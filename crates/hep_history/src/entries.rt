@@ -1,4 +1,4 @@
-//! The entries of a history, one after the other.
+//! The entries of a history, one after another.
 ghost use Rattle.std.specs.Prelude.{◌≡◌, drop};
 ghost use Rattle.std.specs.Iterator.{YieldsFirst, item_count};
 ghost use Rattle.hep_history.specs.Runs.{entries_of};
@@ -8,10 +8,10 @@ use crate::runs::Runs;
 use hep_machine::Entry;
 use std::marker::Model;
 
-/// The entries of a history that are left, in order. Contracts see the list of them.
+/// An iterator over the entries of a history. Contracts see the list of those that are left.
 #[derive(Drop)]
 pub struct Entries<'a> {
-    // The run that the next entry is of, if it has any left.
+    // The run of the next entry, unless it has none left.
     run: Run,
     runs: Runs<'a>,
 }
@@ -40,7 +40,7 @@ impl<'a> Entries<'a> {
         }
     }
 
-    /// Leaves out so many entries, or all where there are fewer. It takes a step for each run of which it leaves out the last entry.
+    /// Skips `count` entries, or all where fewer are left. It takes a step for each run whose last entry it skips.
     pub fn pass(&mut self, count: u64)
         ensures { self.new ≡ drop count self.old }
     {

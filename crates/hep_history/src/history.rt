@@ -3,25 +3,26 @@ ghost use Rattle.std.specs.Prelude.{◌≡◌, ◌+◌, ◌-◌, ◌≤◌, ◌<
 ghost use Rattle.hep_history.specs.Runs.{AreFilled, AreRising, entries_of, last_run, runs_in};
 
 use crate::entries::Entries;
-use crate::finding::{end_of, long_at, short_at};
-use crate::run::{Run, Short, shortened};
+use crate::entry_lookup::{end_of, long_at, short_at};
+use crate::run::{Run, ShortRun, shortened};
 use crate::runs::Runs;
 use hep_machine::Entry;
 use std::alloc::{AllocError, Global};
 use std::marker::Model;
 
-/// The entries of a run in order. Contracts see the list of them, and for how many there is room.
+/// The entries of a run in order. Contracts see the list of them, and the number of further ones that there is room
+/// for.
 ///
-/// They are kept in runs of equal ones. A run takes eight bytes, and sixteen from the first one on
-/// that is of a process above 2,097,151, or of more than 2,047 steps, or ends behind the entry
-/// 4,294,967,295; the last takes none. There are 9,223,372,036,854,775,808 entries at most.
+/// They are kept in runs of equal entries. A run takes eight bytes. From the first one on that is of a process above
+/// 2,097,151, or of more than 2,047 steps, or ends after the entry 4,294,967,295, runs take sixteen bytes. The last
+/// run takes none. There are 9,223,372,036,854,775,808 entries at most.
 #[derive(Debug)]
 pub struct History {
-    shorts: Vec<Short>,
+    shorts: Vec<ShortRun>,
     longs: Vec<Run>,
-    // How many entries these runs have.
+    // The number of entries of these runs.
     closed: u64,
-    // The last run, which gets more entries.
+    // The last run, to which entries are added.
     last: Run,
 }
 
@@ -38,18 +39,18 @@ impl Drop for History {
 }
 
 impl Model for History {
-    ghost use Rattle.hep_history.specs.Entries.{Kept};
+    ghost use Rattle.hep_history.specs.Entries.{EntriesLeft};
 
-    ghost Value = { Kept };
+    ghost Value = { EntriesLeft };
 
-    ghost use Rattle.hep_history.specs.Kept.{IsCounted, kept_of};
+    ghost use Rattle.hep_history.specs.StoredRuns.{IsCounted, kept_of};
 
     ghost view = { kept_of };
 
     ghost invariant = { IsCounted };
 }
 
-// The most entries.
+// The greatest number of entries.
 const MOST: u64 = 0x8000_0000_0000_0000;
 
 // Adds an item, for which there is room.
@@ -63,7 +64,8 @@ fn put<T: Copy>(items: &mut Vec<T>, item: T)
     items.push_reserved(item);
 }
 
-// Adds a run in sixteen bytes, for which there is room. A function of its own, so that a run in eight bytes needs no room for it.
+// Adds a run in sixteen bytes, for which there is room. It is a function of its own, so that a run in eight bytes
+// needs no stack space for it.
 #[cold]
 #[inline(never)]
 fn put_long(longs: &mut Vec<Run>, run: Run)
@@ -75,9 +77,9 @@ fn put_long(longs: &mut Vec<Run>, run: Run)
     longs.push_reserved(run);
 }
 
-// Adds a run behind the others, of so many entries. It takes no memory.
+// Adds a run after the others, which have `closed` entries. This takes no memory.
 #[inline(always)]
-fn close(shorts: &mut Vec<Short>, longs: &mut Vec<Run>, closed: u64, run: Run)
+fn close(shorts: &mut Vec<ShortRun>, longs: &mut Vec<Run>, closed: u64, run: Run)
     requires rising { AreRising 0 shorts.old.items }
     requires closed { closed ≡ length (entries_of (runs_in shorts.old.items longs.old.items)) }
     requires few { closed + run.count ≤ 2 ^ 63 }
@@ -99,8 +101,8 @@ fn close(shorts: &mut Vec<Short>, longs: &mut Vec<Run>, closed: u64, run: Run)
     put_long(longs, run);
 }
 
-// Takes the last one of the runs, if there is one, which has an entry.
-fn open(shorts: &mut Vec<Short>, longs: &mut Vec<Run>) -> Option<Run>
+// Removes the last of the runs and returns it, if there is one. It has an entry.
+fn open(shorts: &mut Vec<ShortRun>, longs: &mut Vec<Run>) -> Option<Run>
     requires rising { AreRising 0 shorts.old.items }
     requires filled { AreFilled longs.old.items }
     ensures runs { MatchOption result (runs_in shorts.new.items longs.new.items ≡ []) (λ run. 0 < run.count) }
@@ -118,7 +120,7 @@ fn open(shorts: &mut Vec<Short>, longs: &mut Vec<Run>) -> Option<Run>
 }
 
 impl History {
-    /// No entries. This takes no memory.
+    /// An empty history. This takes no memory.
     pub fn new(alloc: Global) -> History
         ensures items { result.items ≡ [] }
     {
@@ -134,7 +136,7 @@ impl History {
         }
     }
 
-    /// Makes room for an entry, so many times, if there is none.
+    /// Makes room to add one entry `count` times, if there is none.
     ///
     /// # Errors
     ///
@@ -158,7 +160,8 @@ impl History {
         Ok(())
     }
 
-    // Makes room for an entry, so many times, where there may be none. A function of its own, so that who has room needs no room for it.
+    // Makes room to add one entry any number of times, where there may be none. It is a function of its own, so that
+    // the fast case needs no stack space for it.
     #[cold]
     #[inline(never)]
     fn grow(&mut self) -> Result<(), AllocError>
@@ -171,7 +174,7 @@ impl History {
         self.shorts.reserve(1)
     }
 
-    // Begins a run behind the last one, of so many entries. It takes no memory.
+    // Begins a run of `count` entries after the last one. This takes no memory.
     #[inline(always)]
     fn begin(&mut self, entry: Entry, count: u32)
         requires room { 0 < self.old.room }
@@ -191,7 +194,7 @@ impl History {
         };
     }
 
-    /// Adds an entry so many times. It takes a constant time, and no memory.
+    /// Adds an entry `count` times. It takes a constant time, and no memory.
     #[inline(always)]
     pub fn push_many(&mut self, entry: Entry, count: u32)
         requires room { 0 < self.old.room }
@@ -217,7 +220,7 @@ impl History {
         self.push_many(entry, 1);
     }
 
-    /// Takes the last entry off, if there is one. It takes a constant time, and no memory.
+    /// Removes the last entry and returns it, if there is one. It takes a constant time, and no memory.
     pub fn pop(&mut self) -> Option<Entry>
         ensures items { MatchOption result ((self.old.items ≡ []) × (self.new.items ≡ [])) (λ entry. self.old.items ≡ self.new.items ++ entry ∷ []) }
         ensures room { self.old.room ≤ self.new.room }
@@ -240,7 +243,7 @@ impl History {
         Some(entry)
     }
 
-    /// Adds an entry so many times, and makes room for them.
+    /// Adds an entry `count` times, and makes room for it.
     ///
     /// # Errors
     ///
@@ -254,7 +257,7 @@ impl History {
         Ok(())
     }
 
-    /// How many entries there are.
+    /// The number of entries.
     #[inline(always)]
     pub fn len(&self) -> u64
         ensures count { result ≡ length self.now.items }
@@ -263,7 +266,8 @@ impl History {
         self.closed + self.last.count as u64
     }
 
-    /// The entry at an index. It takes the logarithm of the number of runs in eight bytes, and a step for each of the others.
+    /// The entry at an index. It takes the logarithm of the number of runs in eight bytes, and a step for each longer
+    /// run.
     pub fn get(&self, index: u64) -> Option<Entry>
         ensures { result ≡ slice_get self.now.items index }
     {
@@ -291,8 +295,8 @@ impl History {
         Some(self.last.entry())
     }
 
-    /// The runs, in order, of which none is empty. Runs that stand in a row have the same entry only where they
-    /// have more than 4,294,967,295 together.
+    /// The runs, in order. None is empty. Neighbouring runs have the same entry only where they have more than
+    /// 4,294,967,295 entries together.
     pub fn runs(&self) -> Runs<'_>
         ensures filled { AreFilled result }
         ensures entries { entries_of result ≡ self.now.items }
@@ -330,7 +334,7 @@ impl History {
         true
     }
 
-    /// A copy.
+    /// A copy of the history.
     ///
     /// # Errors
     ///

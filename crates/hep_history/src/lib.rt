@@ -1,8 +1,8 @@
-//! The history of a run: its entries in order, kept as runs of equal ones.
+//! The history of a run: its entries in order, kept as runs of equal entries. Begin with [`History`].
 #![tactic(auto)]
 
 mod entries;
-mod finding;
+mod entry_lookup;
 mod history;
 mod run;
 mod runs;

@@ -4,7 +4,7 @@ ghost use Rattle.hep_history.specs.Runs.{entry_of, run_of_short};
 
 use hep_machine::Entry;
 
-/// An entry, by its process and its steps, and how often it stands in a row.
+/// An entry, by its process and its steps, and the number of times that it is repeated.
 #[derive(Clone, Copy, Debug, PartialEq, Eq)]
 pub struct Run {
     pub process: u64,
@@ -34,14 +34,14 @@ impl Run {
 
 // A run of a process below 2^21 with steps below 2^11, which ends before the entry 2^32.
 #[derive(Clone, Copy, Debug)]
-pub(crate) struct Short {
+pub(crate) struct ShortRun {
     // 2,048 times the process, and the steps.
     pub(crate) who: u32,
-    // How many entries there are up to its end.
+    // The number of entries up to its end.
     pub(crate) end: u32,
 }
 
-impl Short {
+impl ShortRun {
     // The entry.
     pub(crate) fn entry(self) -> Entry
         ensures { result ≡ entry_of (run_of_short 0 self) }
@@ -49,7 +49,7 @@ impl Short {
         self.run(0).entry()
     }
 
-    // The run, which begins after so many entries.
+    // The run, which begins after `from` entries.
     pub(crate) fn run(self, from: u32) -> Run
         requires { from ≤ self.end }
         ensures { result ≡ run_of_short from self }
@@ -62,9 +62,9 @@ impl Short {
     }
 }
 
-// A run that begins after so many entries, in eight bytes, if they are enough.
+// A run that begins after `from` entries, in eight bytes, if they are enough.
 #[inline(always)]
-pub(crate) fn shortened(from: u64, run: Run) -> Option<Short>
+pub(crate) fn shortened(from: u64, run: Run) -> Option<ShortRun>
     requires few { from + run.count < 2 ^ 64 }
     ensures same { IfSome result (λ short. run_of_short from short ≡ run) }
     ensures end { IfSome result (λ short. short.end ≡ from + run.count) }
@@ -72,7 +72,7 @@ pub(crate) fn shortened(from: u64, run: Run) -> Option<Short>
     let end = from + run.count as u64;
     if run.process < 0x20_0000 && run.steps < 2048 && end <= u32::MAX as u64 {
         let who = run.process as u32 * 2048 + run.steps;
-        return Some(Short {
+        return Some(ShortRun {
             who,
             end: end as u32,
         });

@@ -1,17 +1,17 @@
-//! The runs of a history, one after the other.
+//! The runs of a history, one after another.
 ghost use Rattle.std.specs.Prelude.{◌≡◌, ◌<◌, ◌++◌, [], ◌∷◌, IfSome, MatchOption};
 ghost use Rattle.std.specs.Iterator.{YieldsFirst, item_count};
 ghost use Rattle.hep_history.specs.Runs.{AreFilled, AreRising, last_run, runs_of_shorts};
 
-use crate::run::{Run, Short};
+use crate::run::{Run, ShortRun};
 use std::marker::Model;
 
-/// The runs of a history that are left, in order. Contracts see the list of them.
+/// An iterator over the runs of a history. Contracts see the list of those that are left.
 #[derive(Drop)]
 pub struct Runs<'a> {
-    // Where the first of those in eight bytes begins.
+    // The start of the first run in eight bytes.
     from: u32,
-    shorts: &'a [Short],
+    shorts: &'a [ShortRun],
     longs: &'a [Run],
     last: Option<Run>,
 }
@@ -29,7 +29,7 @@ impl<'a> Model for Runs<'a> {
 }
 
 impl<'a> Runs<'a> {
-    pub(crate) fn new(shorts: &'a [Short], longs: &'a [Run], last: Option<Run>) -> Runs<'a>
+    pub(crate) fn new(shorts: &'a [ShortRun], longs: &'a [Run], last: Option<Run>) -> Runs<'a>
         requires rising { AreRising 0 shorts.now }
         requires filled { AreFilled longs.now × AreFilled (last_run last) }
         ensures filled { AreFilled result }

@@ -12,12 +12,12 @@ use Rattle.hep_machine.specs.declared.event.Kind.TheVariants.{Shape}
 use Rattle.hep_layout.specs.Words.{IsMadeAt}
 use Rattle.hep_layout.proofs.Passed.{IsMadeScope, made-further, made-storage}
 use Rattle.hep_layout.proofs.Storages.{element-counted, same-ok, shape-fits}
-use Rattle.hep_image.specs.Bound.{IsBoundTo, AreClosed, CallsAgree, IsBound, NextAgrees}
+use Rattle.hep_image.specs.BoundActivations.{IsBoundTo, AreClosed, CallsAgree, IsBound, NextAgrees}
 use Rattle.hep_image.proofs.ArrayExtents.{AreMore, all-adjustable, bounds-length, bounds-same, none-adjustable, shape-some}
 use Rattle.hep_machine.proofs.ConstantShapes.{shaped, constant-shape}
 use Rattle.std.proofs.lemmas.Bool.{eqb-false, eqb-true}
 use Rattle.hep_machine.proofs.Ages.{aged, on_stack_made}
-use Rattle.hep_image.proofs.Added.{Adds, Binds, added-next}
+use Rattle.hep_image.proofs.AddedNames.{Adds, Binds, added-next}
 use Rattle.hep_machine.proofs.Changes.{Makes, by_step, next_on, top_in}
 use Rattle.hep_layout.proofs.Memory.{activation-kept, activation-last, same-activation}
 use Rattle.hep_layout.proofs.References.{each-state, references-made}

@@ -39,6 +39,7 @@ shape-some bs rest h one = by_elements (elements bs) (elements-some bs (shape-pa
 
 -- ---- how many bounds there are
 
+-- there are as many bounds as dimensions
 pub bounds-length : (unit : List Statement) (values : Values) (ds : List Dimension) (bs : Bounds) → bounds_of unit values ds ≡ Some bs → length bs ≡ length ds
 bounds-length unit values [] bs e = ap (λ (cs : Bounds). length cs) (sym (same_Some [] bs e))
 bounds-length unit values (d ∷ ds) bs e = by_parts (bounds-length unit values ds) (lower_value unit values d.lower) (upper_value unit values d.upper) (bounds_of unit values ds) refl e where

@@ -3,7 +3,7 @@ use Rattle.std.proofs.Common.{◌≡◌, ℕ, zero, suc, Bool, true, false, ◌|
 use Rattle.std.specs.List.{filter, flat_map}
 use Rattle.hep_machine.specs.Words.{CommonBlock, Name, Statement, is_among, same_name, with_name, with_names, Units, names_of_occurrences, BlockName, block_of, blocks_of, blocks_of_unit, is_block_among, same_block, with_blocks, is_local, locals_of, names_of, occurrences_of}
 use Rattle.hep_source.proofs.NameTests.{equal_names, same_name-turned}
-use Rattle.hep_image.specs.Owners.{AreGivenOnce}
+use Rattle.hep_code.specs.Sources.{IsNamedOnce}
 
 -- ---- by any test of two things that can be turned round
 
@@ -77,7 +77,7 @@ index_of x (y ∷ ys) h = by (same_name x y) refl h (index_of x ys) where
   by true t h rest = (zero, ap (λ z. Some z) (sym (equal_names x y t)))
   by false t h rest = let found = rest h in (suc found.0, found.1)
 
-pub distinct_by_index : (xs : List Name) → AreGivenOnce xs → AreDistinct same_name xs
+pub distinct_by_index : (xs : List Name) → IsNamedOnce xs → AreDistinct same_name xs
 distinct_by_index [] once = tt
 distinct_by_index (x ∷ xs) once = (absent (is_among x xs) refl, distinct_by_index xs (λ i j y f g. omega (arith, once (suc i) (suc j) y f g))) where
   absent : (t : Bool) → is_among x xs ≡ t → t ≡ false

@@ -7,10 +7,11 @@ use Rattle.hep_layout.specs.Words.{FramePart, Row, header, argument, variable, i
 use Rattle.hep_layout.proofs.FrameRows.{equal_parts, none-arguments, none-iterations, none-variables}
 use Rattle.hep_layout.proofs.Rows.{first-behind, first-within, has_key}
 use Rattle.hep_image.specs.declared.owners.FrameVariable.{FrameVariable}
-use Rattle.hep_image.specs.Owners.{AreGivenOnce, AreInOrder, IsTold, argument_at, frame_variables, last_before, variable_at}
+use Rattle.hep_image.specs.Owners.{AreInOrder, IsTold, argument_at, frame_variables, last_before, variable_at}
 use Rattle.hep_image.proofs.Distinct.{AreDistinct, distinct_by_index, locals_distinct}
 use Rattle.hep_image.proofs.Numbers.{dummy-named, local-named, variable-inside}
 use Rattle.hep_image.proofs.RowOwners.{AreApart, AreFrom, from-append, from-firsts, from-found, from-rising, made, owner_back, owner_front, owner_key}
+use Rattle.hep_code.specs.Sources.{IsNamedOnce}
 
 self : (p : FramePart) → same_part p p ≡ true
 self header = refl
@@ -139,7 +140,7 @@ module _ (unit : List Statement) where
         array = refl;
       }
 
-  pub tells_argument : (x : Name) (i n : ℕ) → AreGivenOnce (dummies_of unit) → owner_in (frame_row unit) n ≡ Some (argument x, i)
+  pub tells_argument : (x : Name) (i n : ℕ) → IsNamedOnce (dummies_of unit) → owner_in (frame_row unit) n ≡ Some (argument x, i)
       → IsTold unit n x i
   tells_argument x i n once e =
       let dummies = arguments_row (dummies_of unit) in
@@ -164,7 +165,7 @@ module _ (unit : List Statement) where
         array = refl;
       }
 
-  pub in_order : AreGivenOnce (dummies_of unit) → AreInOrder (frame_variables unit)
+  pub in_order : IsNamedOnce (dummies_of unit) → AreInOrder (frame_variables unit)
   in_order once =
       subst AreInOrder (made_both (dummies_of unit) (locals_of unit)) (
       from-rising made_for first_of 1 (arguments_row (dummies_of unit) ++ variables) (both_from (distinct_by_index (dummies_of unit) once)))

@@ -1,6 +1,5 @@
 mod Children
 pub mod Openings
-pub mod Mains
 pub mod Lookups
 pub mod Distinct
 pub mod RowOwners
@@ -8,11 +7,11 @@ pub mod FrameOwners
 pub mod BlockOwners
 pub mod Members
 pub mod Numbers
-pub mod Named
-pub mod Found
-pub mod Counted
+pub mod NamedNumbers
+pub mod AddressedVariables
+pub mod CountedLoops
 pub mod Variables
-pub mod Within
+pub mod FrameBounds
 pub mod ArrayExtents
 pub mod Activations
-pub mod Added
+pub mod AddedNames

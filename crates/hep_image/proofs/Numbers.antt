@@ -4,13 +4,13 @@ use Rattle.std.specs.List.{flat_map}
 use Rattle.std.specs.Option.{option_map, unwrap_or}
 use Rattle.std.proofs.lemmas.List.{length-append, length-map, map-append}
 use Rattle.std.proofs.lemmas.Option.{slice_get-get_or, slice_get-map, slice_get_within}
-use Rattle.hep_machine.specs.Words.{Name, Occurrence, Form, Statement, index_where, is_among, same_name, spelling, Units, dummies_by_header, dummies_of, names_of_occurrences, unit_at, unit_name, BlockName, blocks_of, is_block_among, same_block, is_local, locals_of, names_of, occurrences_in, occurrences_in_form, occurrences_in_statement, occurrences_of}
+use Rattle.hep_machine.specs.Words.{Name, Occurrence, Form, Statement, index_where, is_among, same_name, spelling, Units, dummies_by_header, dummies_of, names_of_occurrences, unit_at, unit_name, BlockName, blocks_of, is_block_among, same_block, is_local, locals_of, names_of, occurrences_in, occurrences_in_form, occurrences_in_statement, occurrences_of, block_spelling}
 use Rattle.hep_source.specs.declared.statement.Form.TheVariants as form
 use Rattle.hep_machine.proofs.Locations.{equal_blocks}
 use Rattle.hep_image.specs.declared.names.ProgramNames.{ProgramNames}
-use Rattle.hep_image.specs.Names.{AreNames, block_index, block_number, block_spelling, first_variable, names_in_order, spellings_of, variable_index, variable_number}
+use Rattle.hep_image.specs.Names.{AreNames, block_index, block_number, first_variable, names_in_order, spellings_of, variable_index, variable_number}
 use Rattle.hep_image.proofs.Members.{among-added, among-before, among-behind, among-filtered, indexed}
-use Rattle.hep_source.proofs.Tests.{at-front}
+use Rattle.hep_source.proofs.Tests.{at-front, get-second}
 
 -- ---- indexes
 
@@ -41,11 +41,6 @@ block-inside program b h = slice_get_within (blocks_of program) (block_index pro
 
 -- ---- lists one behind the other
 
-at-behind : {A : Type 0} (xs ys : List A) (n i : ℕ) → n ≡ length xs + i → slice_get (xs ++ ys) n ≡ slice_get ys i
-at-behind [] ys n i h = let same : n ≡ i = omega (arith, h) in ap (slice_get ys) same
-at-behind (x ∷ xs) ys zero i h = absurd (omega (arith, h))
-at-behind (x ∷ xs) ys (suc n) i h = at-behind xs ys n i (omega (arith, h))
-
 -- in the lists that things give, those of the thing at u begin behind those of the things before it
 at-flat : {X A : Type 0} (f : X → List A) (us : List X) (rest : List A) (u n i : ℕ) (x : X) (a : A) → slice_get us u ≡ Some x → slice_get (f x) i ≡ Some a
     → n ≡ length (flat_map f (take u us)) + i → slice_get (flat_map f us ++ rest) n ≡ Some a
@@ -60,7 +55,7 @@ at-flat f (v ∷ vs) rest (suc u) n i x a there own at =
     let behind = length (flat_map f (take u vs)) + i in
     let split : n ≡ length (f v) + behind = omega (arith, at, length-append (f v) (flat_map f (take u vs))) in
     ap (λ zs. slice_get zs n) (append_assoc (f v) (flat_map f vs) rest)
-    ∙ (at-behind (f v) (flat_map f vs ++ rest) n behind split ∙ at-flat f vs rest u behind i x a there own refl)
+    ∙ (get-second (f v) (flat_map f vs ++ rest) n behind split ∙ at-flat f vs rest u behind i x a there own refl)
 
 -- ---- names
 
@@ -78,7 +73,7 @@ number-of-variable program u x inside among =
     let spelled : slice_get (spellings_of unit) i ≡ Some (spelling x)
     = slice_get-map spelling (names_of unit) i ∙ ap (option_map spelling) (variable-at unit x among) in
     let front : first_variable program u + i ≡ length (map unit_name program) + (before + i) = omega (arith, length-map program unit_name) in
-    at-behind (map unit_name program) (flat_map spellings_of program ++ map block_spelling (blocks_of program)) (variable_number program u x) (before + i) front
+    get-second (map unit_name program) (flat_map spellings_of program ++ map block_spelling (blocks_of program)) (variable_number program u x) (before + i) front
     ∙ at-flat spellings_of program (map block_spelling (blocks_of program)) u (before + i) i unit (spelling x) (unit-there program u inside) spelled refl
 
 pub number-of-block : (program : Units) (b : BlockName) → is_block_among b (blocks_of program) ≡ true
@@ -87,8 +82,8 @@ number-of-block program b among =
     let i = block_index program b in
     let all = flat_map spellings_of program in
     let front : block_number program b ≡ length (map unit_name program) + (length all + i) = omega (arith, length-map program unit_name) in
-    at-behind (map unit_name program) (all ++ map block_spelling (blocks_of program)) (block_number program b) (length all + i) front
-    ∙ (at-behind all (map block_spelling (blocks_of program)) (length all + i) i refl
+    get-second (map unit_name program) (all ++ map block_spelling (blocks_of program)) (block_number program b) (length all + i) front
+    ∙ (get-second all (map block_spelling (blocks_of program)) (length all + i) i refl
     ∙ (slice_get-map block_spelling (blocks_of program) i ∙ ap (option_map block_spelling) (block-at program b among)))
 
 -- ---- there is a name for each number

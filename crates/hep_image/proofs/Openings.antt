@@ -4,7 +4,8 @@ use Rattle.std.specs.Option.{option_map}
 use Rattle.hep_machine.specs.Words.{Units, main_unit, unit_at, Frame, common_cells, frame_of, opening_layout, opening, run, run_from, frame_cells}
 use Rattle.hep_image.specs.Data.{first_frames}
 
-abbrev frame_at : Units → ℕ → Frame
+-- the frame of the main program at a first cell
+abbrev pub frame_at : Units → ℕ → Frame
 frame_at program first = record { activation = 1; first = first; cells = frame_cells (unit_at program (main_unit program)) }
 
 pub layout-by-numbers : (program : Units) (cells : ℕ) → opening_layout program cells ≡ (if nat_le (common_cells program + frame_cells (unit_at program (main_unit program))) cells then Some (first_frames program) else None)

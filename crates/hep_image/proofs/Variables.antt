@@ -6,24 +6,24 @@ use Rattle.std.proofs.lemmas.Option.{same_Some, none-some}
 use Rattle.hep_machine.specs.Words.{Name, Statement, Value, index_among, is_among, Units, dummies_of, unit_at, adjustable_dimensions, cells_of_shape, constant_shape, constant_value, shape_by, BlockName, common_block, is_array, no_shape, no_dummy, Frame, Layout, common_cells, frame_of, StorageSequence, own_storage}
 use Rattle.hep_machine.specs.Words.{storage_by_dummy, storage_of, dummy_at, storage_of_dummy, Scope, location_of_name, unit_of, activation_of, Bounds, elements, is_most, is_shape, most_elements, State, Dummy, Location, local, common, scope_of, locals_of, unset_cell, integer_of, further, is_owned}
 use Rattle.hep_machine.specs.declared.slot.Slot.{Slot}
-use Rattle.hep_arena.specs.Gaps.{frame_among}
+use Rattle.hep_layout.specs.ArenaGaps.{frame_among}
 use Rattle.hep_layout.specs.Words.{bounds, first_in_common, first_of_part, variable, argument, RunsFrom, address, IsMemory, Describes, number, slot_of_bounds, slot_of_upper, descriptor_slots}
 use Rattle.hep_layout.proofs.Storages.{storage-common, storage-local, storage-dummy, shape-fits}
 use Rattle.hep_image.specs.declared.array.Extents.TheVariants.{Constant, Adjustable}
 use Rattle.hep_image.specs.declared.array.Start.{Start}
 use Rattle.hep_image.specs.declared.array.Start.TheVariants as start
-use Rattle.hep_image.specs.Finding.{base_at, bounds_at, rest_at, base_of_dummy, bounds_from, cells_in, integer_by, natural_in, rest_of_dummy}
+use Rattle.hep_image.specs.Addressing.{base_at, bounds_at, rest_at, base_of_dummy, bounds_from, cells_in, integer_by, natural_in, rest_of_dummy}
 use Rattle.hep_image.specs.Places.{extents_of, start_by, start_of, variable_of, variable_by}
 use Rattle.hep_image.specs.Constant.{HasConstantShape}
 use Rattle.hep_image.proofs.ArrayExtents.{shape-parts}
-use Rattle.hep_image.proofs.Found.{IsFound, IsAddressedBy, addressed}
+use Rattle.hep_image.proofs.AddressedVariables.{IsFound, IsAddressedBy, addressed}
 use Rattle.hep_machine.proofs.ConstantShapes.{constant-shape}
 use Rattle.std.proofs.lemmas.Bool.{eqb-false, eqb-true}
 use Rattle.hep_layout.proofs.Runs.{runs-value}
 use Rattle.hep_layout.proofs.Telling.{tells-bounds, tells-first, tells-rest, tells-value}
-use Rattle.hep_image.specs.Bound.{IsBound, IsBoundTo, AreKept}
+use Rattle.hep_image.specs.BoundActivations.{IsBound, IsBoundTo, AreKept}
 use Rattle.hep_machine.specs.declared.event.Kind.{Kind}
-use Rattle.hep_arena.specs.Holes.{Hole, IsOut}
+use Rattle.hep_layout.specs.ArenaHoles.{Hole, IsOut}
 use Rattle.hep_code.specs.declared.variable.Variable.{Variable}
 use Rattle.hep_code.specs.declared.variable.Variable.TheVariants.{Absent}
 use Rattle.hep_code.specs.Words.{IsAddressed, IsSame}
@@ -145,6 +145,7 @@ bounds-read cells first c (b ∷ bs) written = read (bounds-read cells first (su
 
 -- ---- dummy arguments: what they stand for begins where their cells say
 
+-- no cell further is the same place
 pub further-none : (at : Location) → further at 0 ≡ at
 further-none (local a x i) = ap (local a x) (omega arith)
 further-none (common b k) = ap (common b) (omega arith)

@@ -1,4 +1,4 @@
--- Names of which all bounds are constant: X3.9-1978, 5.1.1.
+-- Names with constant bounds alone: X3.9-1978, 5.1.1.
 use Rattle.std.specs.Prelude.{◌≡◌, true, List, Some}
 use Rattle.hep_machine.specs.Words.{Name, Statement, constant_shape, is_array, Bounds}
 

@@ -1,4 +1,4 @@
--- What an image has of the dummy arguments of a unit: X3.9-1978, 5.5.1 and 15.9.3.
+-- The dummy arguments of a unit in an image: X3.9-1978, 5.5.1 and 15.9.3.
 use Rattle.std.specs.Prelude.{ℕ, nat_eq, if◌then◌else◌, List, map, Option, Some, None}
 use Rattle.std.specs.Option.{unwrap_or}
 use Rattle.hep_machine.specs.Words.{Name, Statement, Units, dummies_of, constant_shape, adjustable_dimensions, BlockName, common_block, is_array, no_shape}

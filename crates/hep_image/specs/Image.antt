@@ -1,4 +1,4 @@
--- What an image has of a program: docs/ARCHITECTURE.md, "Forms".
+-- The parts of an image of a program: docs/ARCHITECTURE.md, "Forms".
 use Rattle.std.specs.Prelude.{◌≡◌, ℕ, ◌≤◌, List, map, length, slice_get, Some}
 use Rattle.hep_machine.specs.Words.{Units, main_among, unit_at, common_cells, frame_cells}
 use Rattle.hep_conditions.specs.Words.{IsAccepted}
@@ -14,11 +14,11 @@ use Rattle.hep_image.specs.declared.names.ProgramNames.{ProgramNames}
 use Rattle.hep_image.specs.declared.owners.BlockStart.{BlockStart}
 use Rattle.hep_image.specs.declared.unit.UnitCode.{UnitCode}
 
--- the cells that a frame, and COMMON, may have at most: docs/LANGUAGE.md, "Limits"
+-- the greatest number of cells of a frame, and of COMMON: docs/LANGUAGE.md, "Limits"
 abbrev pub most_cells : ℕ
 most_cells = 16777216
 
--- the code of unit u of a program, and what is known of it
+-- the code of unit u of a program, with all else of a unit
 pub record IsUnitCode (program : Units) (u : ℕ) (unit : UnitCode) : Type 0 where
   pub code : unit.code ≡ code_of (addressed_unit program (addresses_of program) u)
   pub entry : unit.entry ≡ entry_index (addressed_unit program (addresses_of program) u)
@@ -32,8 +32,8 @@ pub record IsUnitCode (program : Units) (u : ℕ) (unit : UnitCode) : Type 0 whe
   pub variables_are : unit.variables ≡ frame_variables (unit_at program u)
   pub in_order : AreInOrder unit.variables
 
--- an image of an accepted program with a main program has all of its units, the index of the main program, the cells of COMMON, what
--- DATA gives at the opening, the names, and where the common blocks begin
+-- an image of an accepted program with a main program has all of its units, the index of the main program, the number
+-- of cells of COMMON, the values of DATA at the opening, the names, and the first cells of the common blocks
 pub record IsImage (program : Units) (units : List UnitCode) (main common : ℕ) (rows : List DataRow) (names : ProgramNames) (blocks : List BlockStart) : Type 0 where
   pub accepted : IsAccepted program
   pub all : length units ≡ length program

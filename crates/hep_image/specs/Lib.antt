@@ -1,12 +1,12 @@
 pub mod Places
 pub mod Private
 pub mod Dummies
-pub mod Finding
-pub mod Within
+pub mod Addressing
+pub mod FrameBounds
 pub mod Data
 pub mod Names
 pub mod Owners
 pub mod Image
 pub mod Constant
 pub mod Arrays
-pub mod Bound
+pub mod BoundActivations

@@ -1,14 +1,9 @@
--- The names of a program, by which units, variables and common blocks are told: docs/MACHINE.md, "Names and units".
+-- The names of a program, which units, variables and common blocks have in lines: docs/MACHINE.md, "Names and units".
 use Rattle.std.specs.Prelude.{◌≡◌, ℕ, ◌+◌, ◌<◌, ◌^◌, List, [], ◌++◌, map, length, slice_get, take, Some, None}
 use Rattle.std.specs.List.{flat_map}
 use Rattle.std.specs.Option.{unwrap_or}
-use Rattle.hep_machine.specs.Words.{Name, Statement, index_among, index_where, spelling, Units, unit_at, unit_name, BlockName, blocks_of, same_block, names_of}
+use Rattle.hep_machine.specs.Words.{Name, Statement, index_among, index_where, block_spelling, spelling, Units, unit_at, unit_name, BlockName, blocks_of, same_block, names_of}
 use Rattle.hep_image.specs.declared.names.ProgramNames.{ProgramNames}
-
--- blank COMMON has no name (X3.9-1978, 8.3)
-abbrev pub block_spelling : BlockName → List ℕ
-block_spelling None = []
-block_spelling (Some x) = spelling x
 
 abbrev pub spellings_of : List Statement → List (List ℕ)
 spellings_of unit = map spelling (names_of unit)
@@ -26,7 +21,7 @@ first_variable program u = length program + length (flat_map spellings_of (take 
 abbrev pub first_block : Units → ℕ
 first_block program = length program + length (flat_map spellings_of program)
 
--- how many names of its unit, and how many blocks, come before one
+-- the number of names of its unit, and of blocks, before one
 abbrev pub variable_index : List Statement → Name → ℕ
 variable_index unit x = unwrap_or (index_among x (names_of unit)) 0
 
@@ -40,7 +35,7 @@ variable_number program u x = first_variable program u + variable_index (unit_at
 abbrev pub block_number : Units → BlockName → ℕ
 block_number program b = first_block program + block_index program b
 
--- the names of a program, of which each number has 32 bits, and where those of each unit's variables and of the blocks begin
+-- the names of a program, whose numbers have 32 bits, and the first number of each unit's variables and of the blocks
 pub record AreNames (program : Units) (names : ProgramNames) : Type 0 where
   pub spelled : names.spelled ≡ names_in_order program
   pub few : length names.spelled < 2 ^ 32

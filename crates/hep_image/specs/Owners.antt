@@ -1,5 +1,5 @@
 -- Whose a cell of a frame or of COMMON is: docs/MACHINE.md, "Variables and frames" and "Layout".
-use Rattle.std.specs.Prelude.{◌≡◌, ℕ, ◌+◌, ◌<◌, true, length, nat_le, if◌then◌else◌, List, [], ◌∷◌, ◌++◌, map, Option, Some, None, slice_get}
+use Rattle.std.specs.Prelude.{◌≡◌, ℕ, ◌+◌, ◌<◌, true, length, nat_le, if◌then◌else◌, List, [], ◌∷◌, ◌++◌, map, Option, Some, None}
 use Rattle.std.specs.List.Sorted.{IsNonDecreasingBy}
 use Rattle.std.specs.Option.{option_or}
 use Rattle.hep_machine.specs.Words.{Name, Statement, is_among, Units, dummies_of, BlockName, blocks_of, is_array, is_block_among, locals_of, names_of}
@@ -8,7 +8,7 @@ use Rattle.hep_image.specs.Names.{block_index, variable_index}
 use Rattle.hep_image.specs.declared.owners.BlockStart.{BlockStart}
 use Rattle.hep_image.specs.declared.owners.FrameVariable.{FrameVariable}
 
--- the last one that begins at a cell or before it, of things with their first cells
+-- the last of these things, with their first cells, that begins at a cell or before it
 abbrev pub last_before : {A : Type 0} → (A → ℕ) → List A → ℕ → Option A
 last_before first [] n = None
 last_before first (x ∷ xs) n = option_or (last_before first xs n) (if nat_le (first x) n then Some x else None)
@@ -29,10 +29,6 @@ frame_variables unit = map (argument_at unit) (dummies_of unit) ++ map (variable
 abbrev pub variable_before : List FrameVariable → ℕ → Option FrameVariable
 variable_before vs n = last_before (λ (v : FrameVariable). v.first) vs n
 
--- no name stands twice, as none does among the dummy arguments of a unit of an accepted program: 15.6.1
-abbrev pub AreGivenOnce : List Name → Type 0
-AreGivenOnce xs = (i j : ℕ) (x : Name) → slice_get xs i ≡ Some x → slice_get xs j ≡ Some x → i ≡ j
-
 -- none begins before one in front of it
 abbrev pub AreInOrder : List FrameVariable → Type 0
 AreInOrder vs = IsNonDecreasingBy (λ (v : FrameVariable). v.first) vs
@@ -50,7 +46,7 @@ block_starts program = map (block_start program) (blocks_of program)
 abbrev pub block_before : List BlockStart → ℕ → Option BlockStart
 block_before ss n = last_before (λ (s : BlockStart). s.first) ss n
 
--- ---- whose a cell is
+-- ---- the variable or block of a cell
 
 -- cell n of the frame of a unit is the one at index i, counted from 0, of a variable of this name: it is found among the variables
 pub record IsTold (unit : List Statement) (n : ℕ) (x : Name) (i : ℕ) : Type 0 where

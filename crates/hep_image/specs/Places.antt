@@ -1,4 +1,5 @@
--- Where the variables of a unit are, and the cells of its DOs: docs/MACHINE.md, "Variables and frames" and "Layout".
+-- The places of the variables of a unit, and of the cells of its DOs: docs/MACHINE.md, "Variables and frames" and
+-- "Layout".
 use Rattle.std.specs.Prelude.{ℕ, Bool, true, false, nat_eq, if◌then◌else◌, List, Option, Some, None}
 use Rattle.std.specs.List.{filter}
 use Rattle.std.specs.Option.{unwrap_or}
@@ -13,7 +14,7 @@ use Rattle.hep_image.specs.declared.array.Extents.TheVariants.{Constant, Adjusta
 use Rattle.hep_image.specs.declared.array.Start.{Start}
 use Rattle.hep_image.specs.declared.array.Start.TheVariants.{Local, Common, Dummy}
 
--- ---- where storage units begin
+-- ---- the first storage unit
 
 -- those of a dummy argument, of a name in COMMON and of a local variable: nothing else has any
 abbrev pub start_by : Units → List Statement → Name → Option ℕ → Option BlockName → Bool → Option Start
@@ -37,7 +38,7 @@ extents_of unit x =
     then Constant (unwrap_or (constant_shape unit x) no_shape)
     else Adjustable (first_of_part unit (bounds x)) (adjustable_dimensions unit x)
 
--- an array of an accepted program begins somewhere
+-- an array of an accepted program has a first storage unit
 abbrev pub array_of : Units → List Statement → Name → Array
 array_of program unit x = record { start = unwrap_or (start_of program unit x) (Local 0); extents = extents_of unit x }
 

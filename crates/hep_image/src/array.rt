@@ -4,16 +4,16 @@ use hep_code::Duplicate;
 use hep_shape::Shape;
 use std::alloc::{AllocError, Global};
 
-/// Where the storage units of a variable begin (X3.9-1978, 2.13, 8.3.2 and 15.9.3).
+/// The first storage unit of a variable (X3.9-1978, 2.13, 8.3.2 and 15.9.3).
 #[derive(Clone, Copy, PartialEq, Eq)]
 pub enum Start {
     /// A local variable, by its first cell, counted from that of the frame.
     Local(u32),
-    /// A variable in COMMON, by its first cell, counted from that of the arena, in front of which COMMON stands.
+    /// A variable in COMMON, by its first cell, counted from that of the arena, which begins with COMMON.
     Common(u32),
-    /// A dummy argument, by the first of two cells, counted from that of the frame. They have the first storage unit that
-    /// it stands for, and how many there are from there; where it stands for an expression, the first has its value and the
-    /// second has none.
+    /// A dummy argument, by the first of two cells, counted from that of the frame. They have the first storage unit
+    /// that it is associated with, and the number of storage units from there on. For an expression, the first cell
+    /// has its value and the second has none.
     Dummy(u32),
 }
 
@@ -26,7 +26,7 @@ pub enum Extents {
     Adjustable { cells: u32, dimensions: u32 },
 }
 
-/// Where the elements of an array begin, and its bounds.
+/// The first storage unit of an array, and its bounds.
 #[derive(Drop)]
 pub struct Array {
     pub start: Start,

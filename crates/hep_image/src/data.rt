@@ -1,10 +1,10 @@
-//! What DATA gives.
+//! The values of DATA.
 
 use hep_code::Duplicate;
 use hep_source::Value;
 use std::alloc::{AllocError, Global};
 
-/// Cells of the arena, one after the other, that have a value before the first step (X3.9-1978, section 9).
+/// Cells of the arena in a row that have a value before the first step (X3.9-1978, section 9).
 #[derive(Clone, Copy, PartialEq, Eq)]
 pub struct DataRow {
     /// The first cell, counted from that of the arena.

@@ -5,7 +5,7 @@ use hep_code::{BoundOperation, Duplicate};
 use hep_shape::Shape;
 use std::alloc::{AllocError, Global};
 
-/// A dummy argument, by what must be known of it where its unit is called (X3.9-1978, 15.9.3).
+/// A dummy argument, as a call of its unit needs it (X3.9-1978, 15.9.3).
 #[derive(Drop)]
 pub enum DummyArgument {
     /// It is no array.

@@ -40,7 +40,7 @@ fn copy_arguments(alloc: Global, arguments: &Vec<Expr>) -> Result<Vec<Expr>, All
     Ok(copies)
 }
 
-// Whether two expressions are one tree.
+// Whether two expressions are equal trees.
 #[cycle(same)]
 fn same_expressions(a: &Expr, b: &Expr) -> bool
     ensures { IsTrue result ↔ (a.now ≡ b.now) }

@@ -26,9 +26,9 @@ pub struct Image {
     units: Sequence<UnitCode>,
     /// The index of the main program.
     main: u32,
-    /// How many cells COMMON has.
+    /// The number of cells of COMMON.
     common: u32,
-    /// What DATA gives the cells of COMMON and of the main program's frame, which is just behind it.
+    /// The values of DATA for the cells of COMMON and of the main program's frame, which follows COMMON.
     rows: Sequence<DataRow>,
     /// The names of the units, the variables and the common blocks.
     names: ProgramNames,
@@ -68,8 +68,9 @@ impl Model for Image {
 }
 
 impl Image {
-    /// A program, what a core runs of its units, the index of its main program, how many cells COMMON has, what DATA
-    /// gives at the opening, the names, and where the common blocks begin. `hep_lower` finds out all of it.
+    /// An image of a program, with the code of its units, the index of its main program, the number of cells of
+    /// COMMON, the values of DATA at the opening, the names, and the first cells of the common blocks. `hep_lower`
+    /// makes all of them.
     pub fn new(
         program: Program,
         units: Sequence<UnitCode>,
@@ -100,7 +101,7 @@ impl Image {
         &self.program
     }
 
-    /// What a core runs of a unit, by its index in the source, counted from 0.
+    /// The code of a unit. Units are counted from 0 in the order of the source.
     pub fn unit(&self, index: usize) -> &UnitCode
         requires { index < length self.now }
         ensures { IsUnitCode self.now index result.now }
@@ -116,7 +117,7 @@ impl Image {
         self.main
     }
 
-    /// How many cells COMMON has.
+    /// The number of cells of COMMON.
     pub fn common(&self) -> u32
         ensures common { result ≡ common_cells self.now }
         ensures few { result ≤ spec.most_cells }
@@ -124,8 +125,8 @@ impl Image {
         self.common
     }
 
-    /// What DATA gives the cells of the arena at the opening, where COMMON stands at its front and the frame of
-    /// the main program just behind it; of two rows that have a cell the first one counts.
+    /// The values of DATA for the cells of the arena at the opening, where COMMON begins the arena and the frame of
+    /// the main program follows it. Where two rows have a cell, the first one counts.
     pub fn rows(&self) -> &[DataRow]
         ensures initial { AreInitial self.now result.now }
         ensures units { AreOfUnits self.now result.now }
@@ -133,9 +134,9 @@ impl Image {
         self.rows.as_slice()
     }
 
-    /// The name with this number, counted from 0, of a unit, a variable or a common block: first the units in
-    /// the order of the source, a main program without PROGRAM statement as `MAIN`; then the variables of each
-    /// unit, and then the common blocks, in order of first appearance, blank COMMON as an empty name. None
+    /// The name with this number, counted from 0, of a unit, a variable or a common block. First come the units in
+    /// the order of the source, with `MAIN` for a main program without PROGRAM statement; then the variables of each
+    /// unit; and then the common blocks in order of first appearance, with an empty name for blank COMMON. `None`
     /// where there is no such number.
     pub fn name(&self, number: u32) -> Option<&[u8]>
         ensures { option_map (λ name. name.now) result
@@ -145,7 +146,7 @@ impl Image {
         Some(name.as_slice())
     }
 
-    /// The number of the name of a variable of a unit, by which [`Image::name`] tells it.
+    /// The number of the name of a variable of a unit, for [`Image::name`].
     pub fn variable_number(&self, unit: usize, variable: FrameVariable) -> u32
         requires unit { unit < length self.now }
         requires variable { variable.index < length (names_of (unit_at self.now unit)) }
@@ -154,7 +155,7 @@ impl Image {
         (self.names.variables.as_slice()[unit] as usize + variable.index) as u32
     }
 
-    /// The number of the name of a common block, by which [`Image::name`] tells it.
+    /// The number of the name of a common block, for [`Image::name`].
     pub fn block_number(&self, block: BlockStart) -> u32
         requires { block.index < length (blocks_of self.now) }
         ensures { result ≡ names.first_block self.now + block.index }
@@ -162,8 +163,8 @@ impl Image {
         (self.names.blocks as usize + block.index) as u32
     }
 
-    /// The last common block that begins at this cell or before it, counted from that of the arena: the one whose
-    /// cell it is, where it is COMMON's.
+    /// The last common block that begins at this cell or before it, counted from that of the arena. It is the block
+    /// of the cell, if the cell is in COMMON.
     pub fn block_at(&self, cell: u32) -> Option<BlockStart>
         ensures { result ≡ block_before (block_starts self.now) cell }
     {
@@ -176,7 +177,7 @@ impl Image {
         }
     }
 
-    /// What is known of each image: its program is accepted, and has a main program.
+    /// States a fact about each image: its program is accepted, and has a main program.
     pub fn is_runnable(&self)
         ensures accepted { IsAccepted self.now }
         ensures main { is_some (main_among self.now) ≡ true }
@@ -203,8 +204,8 @@ impl Image {
         })
     }
 
-    /// Whether two images are of one program. What an image has beside follows from its program, but for how the values of DATA are
-    /// split into rows, which isn't compared.
+    /// Whether two images are of one program. All else of an image follows from its program, except how the values of
+    /// DATA are split into rows, which isn't compared.
     pub fn has_same_program(&self, other: &Image) -> bool
         ensures { IsTrue result ↔ (self.now ≡ other.now) }
     {

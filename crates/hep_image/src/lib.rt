@@ -1,12 +1,10 @@
-//! Images: a checked program with its code, its variables, DATA and names; copies of programs.
+//! Images: a checked program as a core runs it, with its tree, the code of its units, the places of their variables,
+//! the values of DATA and the names. Begin with [`Image`](image::Image). [`Syntax`](syntax::Syntax) copies and
+//! compares the trees of programs.
 //!
-//! Copies of programs, and whether two programs are one: what is there for each type of a program's tree.
-//!
-//! Images: a checked program as a core runs it, with its tree, the code of its units, and where their variables are.
-//!
-//! Where variables are stands in `specs/Places`, how their storage units are found from the cells of the arena in
-//! `specs/Finding`, whose a cell is in `specs/Owners`, and which number a name has in `specs/Names`. That what is found is where the
-//! source machine has it is said by the contracts of [`frame_laws`].
+//! `specs/Places` defines the places of variables, `specs/Addressing` how their storage units are found from the cells
+//! of the arena, `specs/Owners` which variable has a cell, and `specs/Names` the numbers of names. The contracts of
+//! [`frame_laws`] say that the source machine has the same at these places.
 #![tactic(auto)]
 
 pub mod array;

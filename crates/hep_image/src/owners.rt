@@ -1,10 +1,10 @@
-//! Whose the cells of a frame and of COMMON are.
+//! The variables and blocks of the cells of a frame and of COMMON.
 
 use hep_code::Duplicate;
 use std::alloc::{AllocError, Global};
 
-/// A variable whose storage units are in a frame: a dummy argument, whose first cell has the value where it stands
-/// for an expression (X3.9-1978, 15.9.3), or a local variable.
+/// A variable with storage units in a frame: a local variable, or a dummy argument, whose first cell has the value of
+/// an expression that it is associated with (X3.9-1978, 15.9.3).
 #[derive(Clone, Copy, PartialEq, Eq)]
 pub struct FrameVariable {
     /// The index of its name among the names of its unit, in order of first appearance.
@@ -19,7 +19,7 @@ pub struct FrameVariable {
 pub struct BlockStart {
     /// Its index among the common blocks of the program, in order of first appearance.
     pub index: usize,
-    /// Its first cell, counted from that of the arena, in front of which COMMON stands.
+    /// Its first cell, counted from that of the arena, which begins with COMMON.
     pub first: u32,
 }
 

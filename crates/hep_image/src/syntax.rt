@@ -1,4 +1,4 @@
-//! Copies of trees, and whether two trees are one.
+//! Copies and comparisons of trees.
 ghost use Rattle.std.specs.Prelude.{◌≡◌, ◌↔◌, IfOk, IsTrue};
 
 use hep_source::{Occurrence, Sequence};
@@ -14,7 +14,7 @@ pub trait Syntax: Drop {
     fn copy(&self, alloc: Global) -> Result<Self, AllocError>
         ensures { IfOk result (λ copy. copy ≡ self.now) };
 
-    /// Whether two parts are one.
+    /// Whether two parts are equal.
     fn same(&self, other: &Self) -> bool
         ensures { IsTrue result ↔ (self.now ≡ other.now) };
 }

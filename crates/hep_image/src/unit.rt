@@ -1,4 +1,4 @@
-//! What an image has of a unit.
+//! A unit of an image.
 ghost use Rattle.std.specs.Prelude.{◌≡◌};
 ghost use Rattle.hep_image.specs.Owners.{AreInOrder, variable_before};
 
@@ -19,20 +19,20 @@ pub struct UnitCode {
     pub arrays: Sequence<Array>,
     /// Its dummy arguments, in order.
     pub dummies: Sequence<DummyArgument>,
-    /// How many operands there are at once at most.
+    /// The greatest number of operands at once.
     pub operands: u32,
-    /// How many cells its frame has.
+    /// The number of cells of its frame.
     pub cells: u32,
-    /// The cells of its frame, counted from the first one, that have a plain local scalar which is nowhere a bare
-    /// actual argument; in rising order.
+    /// The cells of its private scalars, counted from the first one of its frame, in rising order: plain local
+    /// scalars that are nowhere an actual argument by themselves.
     pub private: Sequence<u32>,
     /// The variables with cells in its frame, in the order of their cells.
     pub variables: Sequence<FrameVariable>,
 }
 
 impl UnitCode {
-    /// The last of its variables that begins at this cell or before it, counted from the frame's first one: the one
-    /// whose cell it is, where it is a variable's.
+    /// The last of its variables that begins at this cell or before it, counted from the frame's first one. It is the
+    /// variable of the cell, if the cell has one.
     pub fn variable_at(&self, cell: u32) -> Option<FrameVariable>
         requires { AreInOrder self.now.variables }
         ensures { result ≡ variable_before self.now.variables cell }

@@ -1,6 +1,6 @@
-mod Framed
-mod Surveyed
+mod FrameLines
+mod StateViews
 mod Remaking
-mod Told
-mod Covered
-mod Compared
+mod InspectedStates
+mod CountedHistories
+mod ComparedRuns

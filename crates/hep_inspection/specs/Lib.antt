@@ -1,7 +1,9 @@
-pub use Rattle.hep_state_text.specs.Shown
+pub use Rattle.hep_state_text.specs.LineDisplay
 pub mod Frames
-pub mod States
+pub mod Origins
+pub mod Recorded
+pub mod Inspections
 pub mod Covers
-pub mod Counted
+pub mod CountedHistories
 pub mod Diffs
-pub mod Remade
+pub mod ReplayResults

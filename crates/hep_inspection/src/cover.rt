@@ -1,18 +1,19 @@
-//! The bytes of a source and of histories to how often the statement of each line began in them.
-ghost use Rattle.std.specs.Prelude.{◌≡◌, ◌≤◌, [], IfOk, OnErr, map};
-ghost use Rattle.hep_cover.specs.Begins.{operations_by_line};
+//! The bytes of a source and histories to how often the statement of each line began in them.
+ghost use Rattle.std.specs.Prelude.{◌≡◌, ◌≤◌, [], IfOk, OnErr};
+ghost use Rattle.hep_cover.specs.StatementStarts.{operations_by_line};
 ghost use Rattle.hep_cover.specs.Coverage.{unbegun};
 ghost use Rattle.hep_inspection.specs.Covers.{IsCovered, IsSourceCovered};
-ghost use Rattle.hep_inspection.specs.Counted.{IsCountedOrRefused};
+ghost use Rattle.hep_inspection.specs.CountedHistories.{IsCountedOrRefused};
 ghost use Rattle.hep_outcome.specs.Transcripts.{outcome_of};
 ghost use Rattle.hep_run.specs.Delivery.{LeavesOfSource, status_alone};
 ghost use Rattle.hep_run.specs.Memory.{MayReadOn, RefusesLargeSource};
 
-use crate::remade::{Remade, make_again};
+use crate::origin::Origin;
+use crate::replay_result::{ReplayResult, make_again};
 use hep_cover::{append_lines, count_history, line_count, operations_by_line, unbegun};
 use hep_image::Image;
-use hep_run::deliver::deliver_made;
-use hep_run::front::image_of_source;
+use hep_run::delivery::deliver_made;
+use hep_run::front_end::image_of_source;
 use hep_run::input::read_input;
 use hep_run::say_unread;
 use hep_run::source::MOST_BYTES;
@@ -20,49 +21,49 @@ use hep_run::transcript::{Transcript, fault_transcript, text_transcript};
 use std::alloc::{AllocError, Global};
 use std::io::{Read, Write};
 
-/// What is asked of histories.
+/// The histories and the options of `cover`.
 #[derive(Clone, Copy)]
-pub struct AskedCover<'a> {
-    /// The texts of the histories.
-    pub histories: &'a [Vec<u8>],
+pub struct CoverRequest<'a> {
+    /// Where the histories come from.
+    pub origins: &'a [Origin<'a>],
     /// The arena's size in cells, 1 to 16,777,216.
     pub arena: u32,
-    /// Whether more is said than the lines that are fixed.
+    /// Whether notes are written besides the lines of the standard form.
     pub long: bool,
     ghost some: { 1 ≤ arena },
     ghost few: { arena ≤ 16777216 },
 }
 
-/// How many operations the statement of each line has, and how often it began so far.
+/// The number of operations of each line's statement, and the number of times that it began so far.
 #[derive(Drop)]
-struct Counting {
+struct LineCounts {
     operations: Vec<usize>,
     counts: Vec<Option<u64>>,
 }
 
-// Before the first history, of so many lines.
-fn uncounted(alloc: Global, image: &Image, lines: usize) -> Result<Counting, AllocError>
+// The same before the first history.
+fn uncounted(alloc: Global, image: &Image, lines: usize) -> Result<LineCounts, AllocError>
     ensures operations { IfOk result (λ c. c.operations.items ≡ operations_by_line image.now lines) }
     ensures counts { IfOk result (λ c. c.counts.items ≡ unbegun image.now lines) }
 {
-    Ok(Counting {
+    Ok(LineCounts {
         operations: operations_by_line(alloc, image, lines)?,
         counts: unbegun(alloc, image, lines)?,
     })
 }
 
-// Counts the statements that the steps of a history begin; or says what is written where the text is refused.
-fn count_text(
+// Counts the statements that the steps of a history begin; or says what is written where there is none that can be made.
+fn count_one(
     alloc: Global,
     image: &Image,
-    asked: &AskedCover<'_>,
-    counting: &mut Counting,
-    text: &[u8],
+    asked: &CoverRequest<'_>,
+    counting: &mut LineCounts,
+    origin: &Origin<'_>,
 ) -> Result<Option<Transcript>, AllocError>
-    ensures { IfOk result (IsCountedOrRefused asked.now.long asked.now.arena image.now text.now counting.old counting.new) }
+    ensures { IfOk result (IsCountedOrRefused asked.now.long asked.now.arena image.now origin.now counting.old counting.new) }
 {
-    match make_again(alloc, image, asked.arena, asked.long, text)? {
-        Remade::Made { core, entries } => {
+    match make_again(alloc, image, asked.arena, asked.long, origin)? {
+        ReplayResult::Made { core, entries } => {
             count_history(
                 alloc,
                 &core,
@@ -72,24 +73,24 @@ fn count_text(
             )?;
             Ok(None)
         }
-        Remade::Refused(refused) => Ok(Some(refused)),
+        ReplayResult::Refused(refused) => Ok(Some(refused)),
     }
 }
 
-// What is written of the histories of an accepted program.
+// What is written about the histories of an accepted program.
 fn image_cover(
     alloc: Global,
     image: &Image,
     source: &[u8],
-    asked: &AskedCover<'_>,
+    asked: &CoverRequest<'_>,
 ) -> Result<Transcript, AllocError>
     ensures { IfOk result (λ r.
-        IsCovered asked.now.long asked.now.arena (map (λ text. text.items) asked.now.histories.now) source.now image.now (outcome_of r)) }
+        IsCovered asked.now.long asked.now.arena asked.now.origins.now source.now image.now (outcome_of r)) }
 {
     let mut counting = uncounted(alloc, image, line_count(source))?;
-    for index in 0..asked.histories.len() {
-        let text = &asked.histories[index];
-        match count_text(alloc, image, asked, &mut counting, text)? {
+    for index in 0..asked.origins.len() {
+        let origin = &asked.origins[index];
+        match count_one(alloc, image, asked, &mut counting, origin)? {
             Some(refused) => return Ok(refused),
             None => {}
         }
@@ -99,7 +100,7 @@ fn image_cover(
     Ok(text_transcript(alloc, text))
 }
 
-/// All that is written of histories, before a byte of it is.
+/// All that is written about histories, before a byte of it is written.
 ///
 /// # Errors
 ///
@@ -107,10 +108,10 @@ fn image_cover(
 pub fn cover_transcript(
     alloc: Global,
     source: &[u8],
-    asked: &AskedCover<'_>,
+    asked: &CoverRequest<'_>,
 ) -> Result<Transcript, AllocError>
     ensures made { IfOk result (λ r.
-        IsSourceCovered asked.now.long asked.now.arena (map (λ text. text.items) asked.now.histories.now) source.now (outcome_of r)) }
+        IsSourceCovered asked.now.long asked.now.arena asked.now.origins.now source.now (outcome_of r)) }
     ensures unmade { OnErr result (MayReadOn asked.now.long source.now) }
 {
     match image_of_source(alloc, source, asked.long) {
@@ -119,18 +120,18 @@ pub fn cover_transcript(
     }
 }
 
-/// Reads a source, makes histories of it again, and writes to `output` the lines of the source, each with how often its statement began in
-/// them; or to `messages` what is refused.
+/// Reads a source, makes histories of it again, and writes to `output` the lines of the source, each with the number
+/// of times that its statement began; or to `messages` why something is refused.
 ///
-/// The histories' bytes were read before, as those of `replay_noted` are. The answer is the code of a `Status`.
+/// The bytes or the choices of the histories were read before. The answer is the code of a `Status`.
 pub fn cover_noted<R: Read, W: Write, E: Write>(
     alloc: Global,
     source: &mut R,
-    asked: &AskedCover<'_>,
+    asked: &CoverRequest<'_>,
     output: &mut W,
     messages: &mut E,
 ) -> u8
-    ensures left { LeavesOfSource (IsSourceCovered asked.now.long asked.now.arena (map (λ text. text.items) asked.now.histories.now))
+    ensures left { LeavesOfSource (IsSourceCovered asked.now.long asked.now.arena asked.now.origins.now)
         (R.remaining source.old) (R.remaining source.new)
         (status_alone result) (W.contents output.old) (W.contents output.new)
         (E.contents messages.old) (E.contents messages.new) }

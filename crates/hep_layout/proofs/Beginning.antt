@@ -21,7 +21,8 @@ memory-begins program s layout contents e same empty clear = record { laid = lai
 
 -- ---- the tree
 
-abbrev main_node : ℕ → ℕ → ℕ → FrameNode
+-- the frame of the main program, before the first step
+abbrev pub main_node : ℕ → ℕ → ℕ → FrameNode
 main_node unit first cells = record { activation = 1; unit = unit; first = first; cells = cells; parent = None; children = 0; finished = false }
 
 -- the node under a key is that of the main program's activation

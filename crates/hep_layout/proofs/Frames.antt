@@ -6,10 +6,9 @@ use Rattle.std.proofs.lemmas.Option.{none-some}
 use Rattle.hep_machine.specs.Words.{StandApart, Frame, Layout, lowest_gap, with_frame}
 use Rattle.hep_arena.specs.Gaps.{frame_among, gaps, without}
 use Rattle.hep_arena.specs.Holes.{IsOut}
-use Rattle.hep_arena.proofs.Cases.{chosen}
 use Rattle.hep_arena.proofs.Gaps.{apart-end, cut, frame-out}
 use Rattle.hep_layout.specs.Words.{AreSingle}
-use Rattle.hep_machine.proofs.Frames.{apart_further, gap_after}
+use Rattle.hep_machine.proofs.Frames.{apart_further, gap_after, chosen}
 
 -- ---- the frame of an activation
 

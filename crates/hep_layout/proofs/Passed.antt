@@ -3,7 +3,7 @@ use Rattle.std.specs.Result.{IfOk}
 use Rattle.std.proofs.Common.{◌≡◌, ◌⊎◌, inl, inr, ℕ, zero, suc, ◌-◌, ◌<◌, ◌≤◌, Bool, true, false, List, [], ◌∷◌, ◌++◌, length, Option, Some, None, Result, Ok, Err, refl, ◌∙◌, arith, ℤ, ◌+ℤ◌, ◌&&◌, not, length-append}
 use Rattle.hep_machine.specs.Words.{StateFunction, IsFull, IsEmpty, ValueOf, SetEmpty, WaitFull, Name, Statement, Value, Int, index_among, Units, unit_at, dummies_of, Outcome, reading_asynchronous, setting_empty, waiting_full, integer_of, integer_or_overflow, signed_value, negated_value, combined_value, function_value}
 use Rattle.hep_machine.specs.Words.{Binding, binding_for, binding_with_shapes, bound_values, dummies_for, dummy_before, dummy_for, dummy_with_shape, first_element, from_element, with_actual, with_actuals, with_shape, with_shapes, with_store, shape_by, level_after_statement, variable_of, BlockName, common_block}
-use Rattle.hep_machine.specs.Words.{is_array, is_nonempty, Redex, signing, negating, combining, applying, testing, Actual, evaluated, referred, Action, assigning, jumping, choosing, branching, testing_condition, entering_block, entering_loop, ending_loop, calling, creating, purging, printing, continuing, leaving, resuming, Sought, evaluating, referring, function_name, function_unit, Process, state_resumed}
+use Rattle.hep_machine.specs.Words.{is_array, is_nonempty, Redex, signing, negating, combining, applying, testing, Actual, evaluated, referred, Action, assigning, jumping, choosing, branching, testing_condition, entering_block, entering_loop, ending_loop, calling, creating, purging, printing, continuing, leaving, resuming, RedexOrReference, evaluating, referring, function_name, function_unit, Process, state_resumed}
 use Rattle.hep_machine.specs.Words.{result_after_leaving, result_after_result, result_after_sought, result_after_value}
 use Rattle.hep_machine.specs.Words.{stopping, Next, wants, does, Reference, Scope, dummy_at, element_of, location_in, location_of_name, start_by_block, storage_by_dummy, storage_of, loop_at, Bounds, fits, Activation, Cell, Dummy, Level, Location, Loop, State, Store, local, common, Answer, fails, answer_at, answer_of}
 use Rattle.hep_machine.specs.Words.{answer_of_read_at, answer_of_test_at, binding_of, by_result, iterations, next_activation, result_after_action, result_after_answer, result_after_assignment, result_after_call, result_after_create, result_after_do, result_after_increment, result_after_loop_end}
@@ -319,7 +319,7 @@ module _ (program : Units) (t : Top) (made : IsMadeScope (length t.state.activat
   stored-action resuming = stored-resuming t.below
   stored-action stopping = unchanged
 
-  stored-sought : (r : Sought) → Makes (HasStored program t) (result_after_sought program t r)
+  stored-sought : (r : RedexOrReference) → Makes (HasStored program t) (result_after_sought program t r)
   stored-sought (evaluating r) = stored-answer (answer_of scope old r) (later-answer n scope old r made)
   stored-sought (referring x actuals) = stored-call (function_unit program x) (binding_of program t (function_unit program x) actuals) (binds (function_unit program x) actuals)
 

@@ -18,6 +18,7 @@ use Rattle.hep_layout.proofs.Rows.{place-at}
 
 -- ---- sequences
 
+-- cells further, and then more, are as many cells further as both
 pub further-further : (at : Location) (m n : ℕ) → further (further at m) n ≡ further at (m + n)
 further-further (local a x i) m n = ap (local a x) (omega arith)
 further-further (common b k) m n = ap (common b) (omega arith)
@@ -88,11 +89,13 @@ among-append : (x : Name) (ds es : List Declarator) → is_among x (names_declar
 among-append x [] es h = absurd cc
 among-append x (d ∷ ds) es h = grind (arith, among-append x ds es)
 
+-- a name of the last declarators is among those of both lists
 among-behind : (x : Name) (ds es : List Declarator) → is_among x (names_declared es) ≡ true → is_among x (names_declared (ds ++ es)) ≡ true
 among-behind x [] es h = h
 among-behind x (d ∷ ds) es h = grind (arith, among-behind x ds es h)
 
-held-under : (x : Name) (b : BlockName) (cs : List CommonBlock) → block_holding x cs ≡ Some b → is_among x (names_declared (entries_under b cs)) ≡ true
+-- a name that a block holds is among the entries under the block
+pub held-under : (x : Name) (b : BlockName) (cs : List CommonBlock) → block_holding x cs ≡ Some b → is_among x (names_declared (entries_under b cs)) ≡ true
 held-under x b [] e = absurd (none-some b e)
 held-under x b (c ∷ cs) e = grind (arith, held-under x b cs, block-self b, among-append x c.entries (entries_under b cs), among-behind x c.entries (entries_under b cs))
 

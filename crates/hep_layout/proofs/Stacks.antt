@@ -126,10 +126,12 @@ find-append : {A : Type 0} (test : A → Bool) (xs ys : List A) → find test (x
 find-append test [] ys = refl
 find-append test (x ∷ xs) ys = grind (arith, find-append test xs ys)
 
-abbrev is_of : ℕ → Level → Bool
+-- whether a level is of an activation
+abbrev pub is_of : ℕ → Level → Bool
 is_of a level = nat_eq level.activation a
 
-abbrev all_levels : List Process → List Level
+-- the levels of all processes
+abbrev pub all_levels : List Process → List Level
 all_levels qs = flat_map (λ (q : Process). q) qs
 
 -- an activation that isn't on a stack has no level there

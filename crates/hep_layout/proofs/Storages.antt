@@ -16,7 +16,7 @@ use Rattle.hep_layout.proofs.Runs.{among-filter, local-index, runs-common, runs-
 -- ---- names
 
 -- a local variable is in no common block
-local-block : (unit : List Statement) (x : Name) → is_among x (locals_of unit) ≡ true → common_block unit x ≡ None
+pub local-block : (unit : List Statement) (x : Name) → is_among x (locals_of unit) ≡ true → common_block unit x ≡ None
 local-block unit x h =
     let both = (and_parts (not (is_dummy unit x)) (not (is_common unit x) && not (is_constant_name unit x)) (among-filter x (is_local unit) (names_of unit) h)).1 in
     none-from-not (common_block unit x) (not-true (is_common unit x) (and_parts (not (is_common unit x)) (not (is_constant_name unit x)) both).0)

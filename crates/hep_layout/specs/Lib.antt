@@ -1,3 +1,5 @@
+pub use Rattle.hep_arena.specs.Gaps as ArenaGaps
+pub use Rattle.hep_arena.specs.Holes as ArenaHoles
 pub mod Rows
 pub mod Addresses
 pub mod Runs

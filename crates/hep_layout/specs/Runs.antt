@@ -3,6 +3,6 @@ use Rattle.std.specs.Prelude.{◌≡◌, ℕ, ◌+◌, ◌<◌, Some}
 use Rattle.hep_machine.specs.Words.{Units, Layout, Location, State, further}
 use Rattle.hep_layout.specs.Addresses.{address}
 
--- so many storage units from a location on are kept one after the other, the first one in a cell
+-- `count` storage units from a location on are in consecutive cells, and the first one is in this cell.
 abbrev pub RunsFrom : Units → State → Layout → Location → ℕ → ℕ → Type 0
 RunsFrom program s layout start count first = (k : ℕ) → k < count → address program s layout (further start k) ≡ Some (first + k)

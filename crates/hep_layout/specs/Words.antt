@@ -1,4 +1,4 @@
--- What others name of this crate's definitions, passed on from one place. Declares nothing.
+-- The names of this crate's definitions, exported again for later crates. This file declares nothing.
 unfoldable pub use Rattle.hep_layout.specs.Rows.{arguments_row, block_row, bounds_row, cells_in, common_row, first_in, first_in_common}
 unfoldable pub use Rattle.hep_layout.specs.Rows.{first_of_block, first_of_part, frame_row, iterations_row, owner_in, place_in}
 unfoldable pub use Rattle.hep_layout.specs.Rows.{place_of_block, place_of_part, Row, same_part, size_in, variables_row}

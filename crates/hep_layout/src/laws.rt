@@ -1,5 +1,5 @@
-//! Laws of frames: what holds of the frames of every unit, of COMMON in every program, and of the arena in
-//! which the storage units of a state are kept.
+//! Laws of layouts: about the frame of every unit, about COMMON in every program, and about the arena that holds the
+//! storage units of a state.
 ghost use Rattle.std.specs.Prelude.{◌≡◌, ◌⊎◌, ◌↔◌, ◌<◌, ◌≤◌, ◌+◌, ◌*◌, ◌∷◌, ◌++◌, [], ℕ, nat_eq, nat_lt, pos, if◌then◌else◌, Bool, true};
 ghost use Rattle.std.specs.Prelude.{false, List, Option, Some, None, is_some, Ok, ◌-◌, length, take, slice_get, slice_set};
 ghost use Rattle.std.specs.List.{filter};
@@ -22,8 +22,8 @@ ghost use Rattle.hep_layout.specs.Words.{with_ended, with_node, without_node, Fr
 ghost use Rattle.hep_layout.specs.Words.{first_in, first_in_common, first_of_block, first_of_part, frame_row, iteration, owner_in};
 ghost use Rattle.hep_layout.specs.Words.{place_in, place_of_block, place_of_part, same_part, size_in, variable};
 
-/// The rows have just the cells that there are: of a frame, of COMMON, and of a block in a unit, which
-/// has no more of them than the block.
+/// The parts of a frame have together the cells of the frame. The blocks have together the cells of COMMON. The names of
+/// a block in a unit have together the cells of the block in that unit, which are at most those of the block.
 pub fn rows_have_all_cells()
     ensures frame { (unit : List Statement) → cells_in (frame_row unit) ≡ frame_cells unit }
     ensures common { (program : Units) → cells_in (common_row program) ≡ common_cells program }
@@ -32,8 +32,7 @@ pub fn rows_have_all_cells()
         → cells_in (block_row unit b) ≤ block_cells program b }
 {}
 
-/// The cells of a part, of a block and of a name in a block follow one another from the first one on,
-/// as many as it has.
+/// The cells of a part of a frame, of a block and of a name in a block are consecutive, from the first one on.
 pub fn places_follow_first_cells()
     ensures frame { (unit : List Statement) (part : FramePart) (i : ℕ)
         → place_of_part unit part i ≡ (if nat_lt i (size_in (same_part part) (frame_row unit)) then Some (first_of_part unit part + i)
@@ -46,8 +45,8 @@ pub fn places_follow_first_cells()
         ≡ (if nat_lt i (size_in (same_name x) (block_row unit b)) then Some (first_in (same_name x) (block_row unit b) + i) else None) }
 {}
 
-/// No cell is one of two parts, of two blocks or of two names in a block, nor twice of one of them: from
-/// the cell its owner and the index are found again. Each lies within the frame, COMMON or the block.
+/// A cell has one owner and one index: a part of the frame, a block of COMMON, or a name of a block. The cell determines
+/// both. Each cell is within the frame, COMMON or the block.
 pub fn owners_share_no_cell()
     ensures frame { (unit : List Statement) (part : FramePart) (i n : ℕ) → place_of_part unit part i ≡ Some n
         → (owner_in (frame_row unit) n ≡ Some (part, i)) × (n < frame_cells unit) }
@@ -57,8 +56,8 @@ pub fn owners_share_no_cell()
         → (owner_in (block_row unit b) n ≡ Some (x, i)) × (n < cells_of_all unit (names_in_block unit b)) }
 {}
 
-/// Where the cells of each part of a frame begin, and how many they are: behind the header and what
-/// stands before the part, in the order of the frame's cells.
+/// The first cell of each part of a frame, and the number of its cells. The order is the header, the dummy arguments, the
+/// local variables, the DOs, and the bounds of adjustable arrays.
 pub fn parts_in_order()
     ensures argument { (unit : List Statement) (x : Name) (k : ℕ) → index_among x (dummies_of unit) ≡ Some k
         → (first_of_part unit (argument x) ≡ 1 + 2 * k) × (size_in (same_part (argument x)) (frame_row unit) ≡ 2) }
@@ -76,7 +75,7 @@ pub fn parts_in_order()
         × (size_in (same_part (bounds x)) (frame_row unit) ≡ 2 * adjustable_dimensions unit x) }
 {}
 
-/// A name in a block begins as many cells behind the block's first one as the names before it have.
+/// The first cell of a name in a block is the block's first cell plus the number of cells of the names before it.
 pub fn names_follow_in_common()
     ensures first { (program : Units) (unit : List Statement) (b : BlockName) (x : Name)
         → first_in_common program unit b x ≡ first_of_block program b + cells_before unit x (names_in_block unit b) }
@@ -84,7 +83,7 @@ pub fn names_follow_in_common()
         → size_in (same_name x) (block_row unit b) ≡ cells_of unit x }
 {}
 
-/// No two storage units are kept in the same cell. Each one's lies in the arena and in no hole.
+/// Two storage units have different cells. The cell of a storage unit is within the arena and in no hole.
 pub fn addresses_are_apart()
     ensures one { (program : Units) (s : State) (cells : ℕ) (layout : Layout) (l m : Location) (p : ℕ) → IsLaid program s cells layout
         → address program s layout l ≡ Some p → address program s layout m ≡ Some p → l ≡ m }
@@ -94,7 +93,7 @@ pub fn addresses_are_apart()
         → IsMemory program s layout contents holes → address program s layout at ≡ Some p → IsOut p holes }
 {}
 
-/// A write of a storage unit's cell is a write at its address: what is kept elsewhere stays.
+/// A write to a storage unit is a write of the cell at its address. All other storage units keep their contents.
 pub fn writes_change_one_cell()
     ensures same { (program : Units) (s t : State) (layout : Layout) (contents : List Slot) (holes : List Hole)
         → IsMemory program s layout contents holes → t.activations ≡ s.activations → t.store ≡ s.store
@@ -107,8 +106,8 @@ pub fn writes_change_one_cell()
         → (l ≡ m → ⊥) → slice_get (slice_set contents p cell) q ≡ slice_get contents q }
 {}
 
-/// Cells that are all unset are the arena of the opening before DATA gives values, where COMMON and the frame
-/// of the main program are out.
+/// An arena of unset cells is that of the opening before DATA gives values, where COMMON and the frame
+/// of the main program are allocated.
 pub fn memory_begins()
     ensures { (program : Units) (s : State) (layout : Layout) (contents : List Slot)
         → opening_layout program (length contents) ≡ Some layout → s.activations ≡ (run program []).activations
@@ -116,9 +115,9 @@ pub fn memory_begins()
         → IsMemory program s layout contents (gaps (length contents) (common_cells program) layout) }
 {}
 
-/// The frame of a new activation fits just where the layout has a gap. Where it enters, the block is taken
-/// and its cells are cleared, the arena is that of the state with the activation, in which nothing is
-/// stored yet; and what was kept somewhere is kept there still.
+/// The frame of a new activation fits if and only if the layout has a gap for it. After the block is taken and its cells
+/// are cleared, the arena is that of the state with the activation, whose variables have no values. All other storage units
+/// keep their addresses.
 pub fn frames_enter()
     ensures fits { (program : Units) (s : State) (layout : Layout) (contents : List Slot) (holes : List Hole) (n : ℕ)
         → IsMemory program s layout contents holes → 1 ≤ n
@@ -136,8 +135,8 @@ pub fn frames_enter()
         → address program t (with_frame layout (frame_from program t (length t.activations) first)) at ≡ Some p }
 {}
 
-/// Where an activation's frame is given back, the arena is that of the state with the layout without it,
-/// and what is of other activations or in COMMON is kept where it was.
+/// After the frame of an activation is freed, the arena is that of the state with the layout without that frame.
+/// The storage units of other activations and of COMMON keep their addresses.
 pub fn frames_leave()
     ensures out { (program : Units) (s : State) (layout : Layout) (contents : List Slot) (holes : List Hole) (a p : ℕ) (f : Frame)
         → IsMemory program s layout contents holes → frame_among a layout ≡ Some f → f.first ≤ p → p < f.first + f.cells → IsOut p holes }
@@ -149,13 +148,13 @@ pub fn frames_leave()
         → is_owned a at ≡ false → address program s (without a layout) at ≡ address program s layout at }
 {}
 
-/// COMMON, the frames of the layout and the holes are all cells of the arena.
+/// COMMON, the frames of the layout and the holes have together all cells of the arena.
 pub fn cells_are_used_or_free()
     ensures { (program : Units) (s : State) (layout : Layout) (contents : List Slot) (holes : List Hole)
         → IsMemory program s layout contents holes → free_cells holes + (common_cells program + framed_cells layout) ≡ length contents }
 {}
 
-/// Two cells of frames at one place are one cell. Where a cell keeps no storage unit, no storage unit is kept.
+/// Two cells of frames with the same address are one cell. The address of a descriptor cell is the address of no storage unit.
 pub fn descriptors_are_apart()
     ensures one { (program : Units) (s : State) (cells : ℕ) (layout : Layout) (a b p : ℕ) (c d : FramePart × ℕ)
         → IsLaid program s cells layout → frame_address program s layout a c ≡ Some p → frame_address program s layout b d ≡ Some p
@@ -165,8 +164,8 @@ pub fn descriptors_are_apart()
         → address program s layout at ≡ Some p → ⊥ }
 {}
 
-/// A write to a storage unit leaves the descriptors, and a write to a descriptor the storage units and the
-/// other descriptors. A DO that begins or goes on is two writes.
+/// A write to a storage unit changes no descriptor. A write to a descriptor changes no storage unit and no other
+/// descriptor. A DO that begins or continues makes two writes.
 pub fn descriptors_are_written()
     ensures unit { (program : Units) (s : State) (layout : Layout) (wanted : DescriptorSlots) (contents : List Slot) (at : Location) (p : ℕ)
         (slot : Slot) → IsLaid program s (length contents) layout → Describes program s layout wanted contents
@@ -193,8 +192,8 @@ pub fn descriptors_are_written()
         → ((a : ℕ) (c : FramePart × ℕ) (v : Slot) → new a c ≡ Some v → old a c ≡ Some v) → Describes program t layout new contents }
 {}
 
-/// What is wanted of the cells of an activation is the same where the frame of a new one enters, and where
-/// that of another one leaves which its dummy arguments don't stand for.
+/// The required descriptors of an activation don't change when the frame of a new activation is placed. They don't change
+/// either when the frame of another activation is removed to which no dummy argument refers.
 pub fn what_is_wanted_stays()
     ensures enters { (program : Units) (s t : State) (x : Activation) (layout : Layout) (first cells a : ℕ) (c : FramePart × ℕ)
         → IsLaid program s cells layout → t.activations ≡ s.activations ++ x ∷ [] → a ≤ length s.activations
@@ -206,8 +205,8 @@ pub fn what_is_wanted_stays()
         → descriptor_slots program s (without b layout) a c ≡ descriptor_slots program s layout a c }
 {}
 
-/// What is found in the cells of a dummy argument, of the bounds of an adjustable array and of a DO, so many
-/// cells behind the first one of its activation's frame.
+/// The contents of the descriptor cells of a dummy argument, of the bounds of an adjustable array and of a DO, by their distance
+/// from the first cell of the activation's frame.
 pub fn descriptors_tell()
     ensures start { (program : Units) (s : State) (layout : Layout) (contents : List Slot) (a : ℕ) (f : Frame) (x : Name) (k base : ℕ)
         → Describes program s layout (descriptor_slots program s layout) contents → frame_among a layout ≡ Some f
@@ -240,7 +239,7 @@ pub fn descriptors_tell()
         → slice_get contents (f.first + first_of_part (unit_at program (unit_of s a)) (iteration d) + i) ≡ Some slot }
 {}
 
-/// Where a frame enters or leaves, the descriptors of the others stay; those of a new frame have no values.
+/// When a frame is placed or removed, the descriptors of the other frames don't change. Those of a new frame have no values.
 pub fn descriptors_stay()
     ensures enters { (program : Units) (s t : State) (x : Activation) (layout : Layout) (first : ℕ) (wanted : DescriptorSlots)
         (old new : List Slot)
@@ -256,8 +255,8 @@ pub fn descriptors_stay()
         → Describes program s (without a layout) wanted new }
 {}
 
-/// At the opening the main program's activation has the one node, and nothing is to be given back. A step
-/// that makes no activation leaves the tree, but for what is on stacks.
+/// At the opening the activation of the main program has the only node, and no frame is left to be freed. A step
+/// that makes no activation doesn't change the tree, apart from which activations are on stacks.
 pub fn trees_begin_and_stay()
     ensures begins { (program : Units) (v first cells : ℕ)
         → IsAtRest (run program []) (λ a. nat_eq a 1) (first_nodes v (main_unit program) first cells) }
@@ -267,8 +266,8 @@ pub fn trees_begin_and_stay()
         → AreNeededBut exception s on out → AreNeededBut exception t on out }
 {}
 
-/// Where nothing is to be given back before a step, nothing is after one that leaves the same activations on
-/// stacks, or begins one. After one that ends the activation on top, that one alone may have to be given back.
+/// Suppose that no frame is left to be freed before a step. Then none is left after a step that leaves the same activations on
+/// stacks or begins one. After a step that ends the activation on top, only the frame of that activation may have to be freed.
 pub fn steps_lead_to_rest()
     ensures same { (s t : State) (out : ℕ → Bool) (nodes : Nodes) → IsAtRest s out nodes → t.activations ≡ s.activations
         → ((a : ℕ) → is_stacked t a ≡ is_stacked s a) → IsAtRest t out nodes }
@@ -282,7 +281,7 @@ pub fn steps_lead_to_rest()
         → IsFrameTree t (is_stacked t) out (with_ended nodes k) × AreNeededBut (Some n.activation) t (is_stacked t) out }
 {}
 
-/// Where nothing is left to be given back, just the frames of held activations are out, and these have nodes.
+/// While no frame is left to be freed, the allocated frames are exactly those of held activations, and exactly these have nodes.
 pub fn frames_out_are_held()
     ensures out { (program : Units) (processes : List ℕ) (out : ℕ → Bool) (nodes : Nodes) (a : ℕ)
         → IsAtRest (run program processes) out nodes → out a ≡ is_held (run program processes) a }
@@ -291,8 +290,8 @@ pub fn frames_out_are_held()
         ↔ ((k : ℕ) × (n : FrameNode) × (nodes k ≡ Some n) × (n.activation ≡ a)) }
 {}
 
-/// An activation that has ended and has no child out is given back: the tree is one without it, and then
-/// its parent alone may not be needed any more, whose node is another one and has counted it.
+/// The frame of an ended activation without a child in the tree is freed: the result is the tree without its node. Then
+/// at most the frame of its parent isn't needed any more. The parent has another node, which has counted this child.
 pub fn frames_are_given_back_upwards()
     ensures tree { (s : State) (on out : ℕ → Bool) (nodes : Nodes) (k : ℕ) (n : FrameNode) → IsFrameTree s on out nodes → nodes k ≡ Some n
         → n.finished ≡ true → n.children ≡ 0 → IsFrameTree s on (but n.activation out) (without_node nodes k n) }
@@ -308,7 +307,8 @@ pub fn frames_are_given_back_upwards()
         → n.parent ≡ Some l → nodes l ≡ Some m → 1 ≤ m.children }
 {}
 
-/// What has not ended, or has a child out, is needed; where that was the exception, all that is out is needed.
+/// The frame of an activation that hasn't ended, or that has a child in the tree, is needed. If that frame was the only exception, all
+/// frames in the tree are needed.
 pub fn giving_back_stops()
     ensures node { (s : State) (on out : ℕ → Bool) (nodes : Nodes) (k : ℕ) (n : FrameNode) → IsFrameTree s on out nodes → nodes k ≡ Some n
         → (n.finished ≡ false) ⊎ (1 ≤ n.children) → IsNeeded s on out n.activation }
@@ -316,14 +316,14 @@ pub fn giving_back_stops()
         → AreNeededBut None s on out }
 {}
 
-/// An activation that ends stays out until it is given back, and it alone may not be needed any more.
+/// The frame of an activation that ends stays in the tree until it is freed. Only this frame may not be needed any more.
 pub fn activations_end()
     ensures tree { (s : State) (on out : ℕ → Bool) (nodes : Nodes) (k : ℕ) (n : FrameNode) → IsFrameTree s on out nodes → nodes k ≡ Some n
         → IsFrameTree s (but n.activation on) out (with_ended nodes k) }
     ensures needed { (s : State) (on out : ℕ → Bool) (a : ℕ) → AreNeededBut None s on out → AreNeededBut (Some a) s (but a on) out }
 {}
 
-/// A new activation is a child of the one that makes it.
+/// A new activation becomes a child of the activation that makes it.
 pub fn activations_begin()
     ensures tree { (s t : State) (x : Activation) (on out : ℕ → Bool) (nodes : Nodes) (first cells v k : ℕ) (n : FrameNode)
         → IsFrameTree s on out nodes → nodes v ≡ None → nodes k ≡ Some n → t.activations ≡ s.activations ++ x ∷ []
@@ -335,8 +335,8 @@ pub fn activations_begin()
         → AreNeededBut None t (also (length t.activations) on) (also (length t.activations) out) }
 {}
 
-/// The nodes have the frames of the layout, whatever begins, ends or is given back; and the frames of what
-/// is out, without that of one activation, are those of what is out but that one.
+/// The nodes have the frames of the layout after an activation begins or ends and after its frame is freed. Removing the frame of
+/// an activation from a layout is the same as leaving that activation out of the allocated ones.
 pub fn nodes_have_frames()
     ensures begun { (s t : State) (x : Activation) (on out : ℕ → Bool) (nodes : Nodes) (first cells v k : ℕ) (n : FrameNode)
         (layout : Layout)
@@ -352,8 +352,8 @@ pub fn nodes_have_frames()
         → without a (filter (λ (f : Frame). out f.activation) layout) ≡ filter (λ (f : Frame). but a out f.activation) layout }
 {}
 
-/// What a name stands for is kept in consecutive cells: that of a local variable from its first cell in the
-/// frame, in COMMON from its first cell there, of a dummy argument from where what it stands for begins.
+/// The storage units of a name have consecutive cells: those of a local variable from its first cell in the frame, those of a
+/// name in COMMON from its first cell there, and those of a dummy argument from the first cell of the actual argument.
 pub fn variables_are_kept_in_runs()
     ensures local { (program : Units) (s : State) (layout : Layout) (a : ℕ) (x : Name) (f : Frame) → frame_among a layout ≡ Some f
         → is_among x (locals_of (unit_at program (unit_of s a))) ≡ true
@@ -375,8 +375,8 @@ pub fn variables_are_kept_in_runs()
         → RunsFrom program s layout (local a x 1) 1 (f.first + first_of_part (unit_at program (unit_of s a)) (argument x)) }
 {}
 
-/// A scalar or an element is kept so many cells behind the first one of its variable as elements are before
-/// it; and what an actual argument passes is kept from the cell of the element on that it begins with.
+/// The address of element n is that of the variable's first cell plus n - 1. The storage units that an actual argument passes
+/// have consecutive cells from the cell of its first element on.
 pub fn elements_are_kept_in_order()
     ensures element { (program : Units) (s : State) (layout : Layout) (scope : Scope) (x : Name) (subscripts : List Value) (first : ℕ)
         (at : Location) → RunsFrom program s layout (storage_of scope x).start (storage_of scope x).rest first
@@ -388,8 +388,8 @@ pub fn elements_are_kept_in_order()
         × RunsFrom program s layout d.start d.rest (first + (n - 1)) }
 {}
 
-/// What is kept in consecutive cells stays there where a frame enters, and where the frame of another
-/// activation leaves.
+/// Storage units in consecutive cells keep these cells when a frame is placed, and when the frame of another
+/// activation is removed.
 pub fn runs_stay()
     ensures enters { (program : Units) (s t : State) (x : Activation) (layout : Layout) (entered cells : ℕ) (start : Location)
         (count first : ℕ) → IsLaid program s cells layout → t.activations ≡ s.activations ++ x ∷ []
@@ -400,8 +400,8 @@ pub fn runs_stay()
         → RunsFrom program s (without a layout) start count first }
 {}
 
-/// No activation is twice on stacks. So the level on top of a process is the one that is found by its
-/// activation, and another level there leaves those of the other activations.
+/// No activation is on stacks twice. So the search for the level of an activation on top of a process finds that level, and a
+/// change of that level changes no level of another activation.
 pub fn stacks_share_nothing()
     ensures once { (program : Units) (processes : List ℕ) (a : ℕ) → times_on a (run program processes).processes ≤ 1 }
     ensures found { (program : Units) (processes : List ℕ) (p : ℕ) (top : Level × Process) → living (run program processes) p ≡ Some top
@@ -411,9 +411,9 @@ pub fn stacks_share_nothing()
         → nat_eq top.0.activation b ≡ false → level_of t b ≡ level_of s b }
 {}
 
-/// What is on stacks where a process gets another stack: the same where its activations are the same, all but
-/// the one on top where that ends, all but those of the process where that ends, and one more where an
-/// activation begins on top or with a process of its own.
+/// The activations on stacks after a change of one stack. They are the same where the stack has the same activations. One is
+/// missing where the top activation ends, and all of the process where the process ends. There is one more where an activation begins on
+/// top or with a new process.
 pub fn stacks_change()
     ensures same { (s t : State) (p a : ℕ) (top : Level × Process) (q : Process) → living s p ≡ Some top
         → t.processes ≡ with_numbered s.processes p q → activations_on q ≡ activations_on (top.0 ∷ top.1)
@@ -431,8 +431,8 @@ pub fn stacks_change()
         → is_stacked t a ≡ also c (is_stacked s) a }
 {}
 
-/// What a dummy argument stands for is in COMMON or of its activation or one above it. So it was made, and
-/// with an activation all is held that its dummy arguments stand for.
+/// The storage units of a dummy argument are in COMMON, or belong to its activation or an ancestor of that. So their activation
+/// was made before, and it is held while the activation of the dummy argument is held.
 pub fn references_lead_upwards()
     ensures above { (program : Units) (processes : List ℕ) (a k : ℕ)
         → IsOwnedAbove (run program processes) a (dummy_at (activation_of (run program processes) a).dummies k).start }
@@ -443,21 +443,21 @@ pub fn references_lead_upwards()
         → is_held (run program processes) above ≡ true }
 {}
 
-/// Nothing is stored in a variable of an activation that wasn't made yet.
+/// No value is stored in a variable of an activation that wasn't made yet.
 pub fn nothing_is_stored_ahead()
     ensures { (program : Units) (processes : List ℕ) (a : ℕ) (x : Name) (i : ℕ) → length (run program processes).activations < a
         → (run program processes).store (local a x i) ≡ unset_cell }
 {}
 
-/// What was made and isn't held is never held again, so a frame that was given back is never needed.
+/// An activation that was made and isn't held is never held again. So a freed frame is never needed again.
 pub fn what_was_held_is_held_no_more()
     ensures { (program : Units) (processes : List ℕ) (p a : ℕ) → a ≤ length (run program processes).activations
         → is_held (run program (processes ++ p ∷ [])) a ≡ true → is_held (run program processes) a ≡ true }
 {}
 
-/// Where frames are given back as soon as their activations aren't held, the frames of a run are those of
-/// just the held activations, each with the cells of its unit, and the cells in use are COMMON's and theirs:
-/// all that are in no hole.
+/// Suppose that each frame is freed as soon as its activation isn't held. Then the frames of a run are exactly those of the held
+/// activations, each with the cells of its unit. The used cells are those of COMMON and of these frames: all cells that are in
+/// no hole.
 pub fn layouts_have_what_is_held()
     ensures laid { (program : Units) (cells : ℕ) (processes : List ℕ) (layout : Layout)
         → layout_of program cells is_held processes ≡ Some layout → IsLaid program (run program processes) cells layout }

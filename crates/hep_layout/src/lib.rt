@@ -1,7 +1,7 @@
-//! The layout of frames and of COMMON: what their cells are for, and where in the arena the storage units of a state are.
+//! The layout of COMMON and of frames in the arena: the purpose of each cell, and the address of each storage unit.
 //!
-//! There is no code here. The definitions stand in `specs/`, and what holds of them is said by the
-//! contracts of the functions in [`laws`].
+//! This crate has no code that runs. `specs/` has the definitions; begin with `specs/Rows` and `specs/Addresses`. The contracts of the
+//! functions in [`laws`] state the laws about them.
 #![tactic(auto)]
 
 pub mod laws;

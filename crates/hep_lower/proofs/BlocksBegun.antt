@@ -9,7 +9,7 @@ use Rattle.hep_common.specs.Starts.{AreStarts, start_in}
 use Rattle.hep_common.specs.declared.common.CommonBlocks.{CommonBlocks}
 use Rattle.hep_common.specs.declared.starts.CommonStarts.{CommonStarts}
 use Rattle.hep_common.proofs.Beginnings.{first-start}
-use Rattle.hep_lower.specs.Blocks.{block_begun}
+use Rattle.hep_lower.specs.BlockStarts.{block_begun}
 use Rattle.hep_source.proofs.Tests.{or-true}
 use Rattle.hep_machine.proofs.Locations.{block-self}
 

@@ -4,7 +4,7 @@ use Rattle.hep_base.specs.declared.refusal.Refusal.{Refusal as LowerFault}
 use Rattle.hep_base.specs.declared.refusal.Refusal.TheVariants.{NoMemory, Refused}
 use Rattle.hep_machine.specs.Words.{Units}
 use Rattle.hep_lower.specs.Counts.{IsByCount, IsLongLine, IsManyParts}
-use Rattle.hep_lower.specs.Parts.{IsOfLongStatement, parts_of}
+use Rattle.hep_lower.specs.PartCounts.{IsOfLongStatement, parts_of}
 use Rattle.hep_lower.specs.Refusals.{AreCellsBeyond, IsCodeBeyond, IsFirstDeep, IsUnlowered, Refuses, instructions_in}
 
 other-number : (n a b : ℕ) → n ≡ a → n ≡ b → a < b ⊎ b < a → ⊥

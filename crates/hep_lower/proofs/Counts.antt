@@ -7,11 +7,11 @@ use Rattle.hep_machine.specs.Words.{Units, Statement}
 use Rattle.hep_code.specs.Words.{line_too_deep, statement_code, statements_code, Table, addressed_unit, AddressedUnit, code_of, table_of}
 use Rattle.hep_image.specs.declared.unit.UnitCode.{UnitCode}
 use Rattle.hep_image.specs.Image.{IsUnitCode}
-use Rattle.hep_accepted_laws.specs.Placed.{code_in}
+use Rattle.hep_accepted_laws.specs.PlacedCode.{code_in}
 use Rattle.hep_lower.specs.declared.units.LoweredUnit.TheVariants.{Runnable}
 use Rattle.hep_lower.specs.declared.units.LoweredUnits.{LoweredUnits}
 use Rattle.hep_lower.specs.Refusals.{IsFirstDeep, instructions_in}
-use Rattle.hep_lower.specs.Units.{AreUnits, IsUnit}
+use Rattle.hep_lower.specs.LoweredUnits.{AreUnits, IsUnit}
 use Rattle.hep_names.proofs.Passes.{within}
 use Rattle.hep_image.specs.Places.{addresses_of}
 

@@ -11,7 +11,7 @@ use Rattle.hep_code.specs.declared.instruction.Instruction.TheVariants.{Step}
 use Rattle.hep_code.specs.declared.instruction.Operation.TheVariants.{Condition}
 use Rattle.hep_code.specs.Words.{tree_code, target_code, addressed_unit, operands_code, operation_code, form_code, conditions_code, loop_end_code, statement_code, statements_code, Table, AddressedUnit, code_of, table_of}
 use Rattle.hep_image.specs.Places.{addresses_of}
-use Rattle.hep_lower.specs.Parts.{in_tree, in_list, in_target, in_item, in_form, labels_of_form, parts_of_statement, parts_of_unit, parts_of}
+use Rattle.hep_lower.specs.PartCounts.{in_tree, in_list, in_target, in_item, in_form, labels_of_form, parts_of_statement, parts_of_unit, parts_of}
 use Rattle.hep_lower.specs.Refusals.{IsCodeBeyond, instructions_in}
 use Rattle.hep_lower.proofs.FewOperands.{tree_gives, actuals_short, target_gives, targets_short, items_short, control_gives, leading, passing, purging, showing}
 

@@ -20,7 +20,7 @@ use Rattle.hep_code.specs.Words.{actuals_code_in, ending_of, passes, arity, oper
 use Rattle.hep_code.specs.Words.{actual_name_code, actual_listed_code, actual_code, actuals_code, argument_of, argument_of_name, argument_of_listed, argument_of_target, target_code, item_code, printed_of, control_code, most_operands, addressed_unit, operands_code, operation_code, conditions_code, loop_end_code}
 use Rattle.hep_code.specs.Words.{statement_code, statements_code, NameTable, Table, AddressedUnit, code_of, table_of}
 use Rattle.hep_image.specs.Places.{addresses_of}
-use Rattle.hep_lower.specs.Parts.{HasLongStatement, IsOfLongStatement, in_tree, in_trees, in_list, in_optional, in_target, in_control, in_item, in_form, names_and_constants}
+use Rattle.hep_lower.specs.PartCounts.{HasLongStatement, IsOfLongStatement, in_tree, in_trees, in_list, in_optional, in_target, in_control, in_item, in_form, names_and_constants}
 use Rattle.hep_lower.specs.Refusals.{IsFirstDeep}
 
 -- ---- code that gives values

@@ -1,6 +1,6 @@
 pub mod Counts
-pub mod Placing
-pub mod Told
+pub mod PlacedUnits
+pub mod RefusalReasons
 pub mod BlocksBegun
 pub mod Numbers
 pub mod FewInstructions

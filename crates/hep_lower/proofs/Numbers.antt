@@ -3,9 +3,9 @@ use Rattle.std.proofs.Common.{◌≡◌, ℕ, zero, suc, ◌+◌, ◌<◌, ◌^�
 use Rattle.std.specs.List.{flat_map}
 use Rattle.std.proofs.lemmas.List.{length-append, length-map}
 use Rattle.std.proofs.lemmas.Option.{same_Some}
-use Rattle.hep_machine.specs.Words.{Units, unit_name, blocks_of}
+use Rattle.hep_machine.specs.Words.{Units, unit_name, blocks_of, block_spelling}
 use Rattle.hep_image.specs.declared.names.ProgramNames.{ProgramNames}
-use Rattle.hep_image.specs.Names.{AreNames, block_spelling, spellings_of}
+use Rattle.hep_image.specs.Names.{AreNames, spellings_of}
 use Rattle.hep_lower.specs.Numbers.{numbers_from}
 
 numbers-all : (n : ℕ) (us : Units) → length (numbers_from n us) ≡ length us

@@ -7,7 +7,7 @@ use Rattle.hep_source.specs.declared.declaration.UpperBound.TheVariants as bound
 use Rattle.hep_source.specs.declared.statement.Form.TheVariants as form
 use Rattle.hep_source.specs.declared.statement.PrintItem.TheVariants as item
 use Rattle.hep_code.specs.Words.{code_of}
-use Rattle.hep_lower.specs.Parts.{names_and_constants, parts_of}
+use Rattle.hep_lower.specs.PartCounts.{names_and_constants, parts_of}
 use Rattle.hep_lower.specs.Refusals.{instructions_in}
 
 -- ---- names of one letter, by its code

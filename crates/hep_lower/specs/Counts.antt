@@ -1,9 +1,9 @@
--- What a refusal by a limit says of the names, constants and statements of a program: docs/LANGUAGE.md, 12.
+-- The number of names, constants and statements of a program that a limit refuses: docs/LANGUAGE.md, 12.
 use Rattle.std.specs.Prelude.{◌≡◌, ◌⊎◌, ℕ, ◌<◌}
 use Rattle.hep_base.specs.declared.refusal.Refusal.{Refusal as LowerFault}
 use Rattle.hep_base.specs.declared.refusal.Refusal.TheVariants.{NoMemory, Refused}
 use Rattle.hep_machine.specs.Words.{Units}
-use Rattle.hep_lower.specs.Parts.{IsOfLongStatement, parts_of}
+use Rattle.hep_lower.specs.PartCounts.{IsOfLongStatement, parts_of}
 use Rattle.hep_lower.specs.Refusals.{AreCellsBeyond}
 
 -- 401: there are too many cells, or more than 524,288 names, constants, labels, operators and statements
@@ -14,7 +14,7 @@ IsManyParts program number = number ≡ 401 → AreCellsBeyond program ⊎ (5242
 abbrev pub IsLongLine : Units → ℕ → ℕ → Type 0
 IsLongLine program number line = number ≡ 402 → IsOfLongStatement program line
 
--- both; want of memory says nothing of the program's parts
+-- both; a refusal of memory says nothing about the program's parts
 abbrev pub IsByCount : Units → LowerFault → Type 0
 IsByCount program NoMemory = Unit {0}
 IsByCount program (Refused number line name) = IsManyParts program number × IsLongLine program number line

@@ -1,6 +1,6 @@
 pub mod Refusals
-pub mod Parts
+pub mod PartCounts
 pub mod Counts
-pub mod Units
-pub mod Blocks
+pub mod LoweredUnits
+pub mod BlockStarts
 pub mod Numbers

@@ -1,17 +1,17 @@
--- Which accepted programs have an image, and why the others have none: docs/LANGUAGE.md, "Limits".
+-- The accepted programs that have an image, and why the others have none: docs/LANGUAGE.md, "Limits".
 use Rattle.std.specs.Prelude.{◌≡◌, ◌≢◌, ◌⊎◌, ℕ, zero, suc, ◌+◌, ◌<◌, ◌≤◌, [], length, Option, Some, None}
 use Rattle.hep_base.specs.declared.refusal.Refusal.{Refusal as LowerFault}
 use Rattle.hep_base.specs.declared.refusal.Refusal.TheVariants.{NoMemory, Refused}
 use Rattle.hep_machine.specs.Words.{Units, main_among, unit_at, common_cells, frame_cells}
 use Rattle.hep_code.specs.Words.{line_too_deep, most_instructions}
 use Rattle.hep_image.specs.Image.{most_cells}
-use Rattle.hep_accepted_laws.specs.Placed.{code_in}
+use Rattle.hep_accepted_laws.specs.PlacedCode.{code_in}
 use Rattle.hep_emit.specs.declared.fault.EmitFault.{EmitFault}
 use Rattle.hep_emit.specs.declared.fault.EmitFault.TheVariants as emit_fault
 
 -- ---- 401: COMMON and frames of at most 16,777,216 cells, and at most 1,048,576 instructions in all units together
 
--- how many instructions the first n units have
+-- the number of instructions of the first n units
 abbrev pub instructions_in : Units → ℕ → ℕ
 instructions_in program zero = 0
 instructions_in program (suc n) = instructions_in program n + length (code_in program n)
@@ -31,7 +31,7 @@ IsCodeBeyond program = most_instructions < instructions_in program (length progr
 
 -- ---- 402: statements of at most 256 operands at once
 
--- among the first n units the first line with a statement of more, if there is any
+-- the first line of a statement with more, in the first n units, if there is one
 abbrev pub IsFirstDeep : Units → ℕ → Option ℕ → Type 0
 IsFirstDeep program n None = (u : ℕ) → u < n → line_too_deep (code_in program u) ≡ None
 IsFirstDeep program n (Some line) = (u : ℕ) × (u < n) × (line_too_deep (code_in program u) ≡ Some line) × ((v : ℕ) → v < u → line_too_deep (code_in program v) ≡ None)
@@ -44,25 +44,25 @@ pub record IsLowered (program : Units) : Type 0 where
   pub within : IsWithinLimits program
   pub shallow : IsFirstDeep program (length program) None
 
--- it is refused: 204 without a line where it has no main program, as no program that was read from a text is; else 401 without a
--- line; else 402 at its first line that is too deep
+-- it is refused: as 204 without a line where it has no main program, which a program that was read from a text always
+-- has; else as 401 without a line; else as 402 at its first line that is too deep
 abbrev pub IsUnlowered : Units → ℕ → ℕ → Type 0
 IsUnlowered program number line =
     ((number ≡ 204) × (line ≡ 0) × (main_among program ≡ None))
     ⊎ (((number ≡ 401) × (line ≡ 0) × (main_among program ≢ None) × (AreCellsBeyond program ⊎ IsCodeBeyond program))
     ⊎ ((number ≡ 402) × (main_among program ≢ None) × IsWithinLimits program × IsFirstDeep program (length program) (Some line)))
 
--- the fault says why; memory is asked for only where there is a main program
+-- the fault is the right one; memory is asked for only where there is a main program
 abbrev pub Refuses : Units → LowerFault → Type 0
 Refuses program NoMemory = main_among program ≢ None
 Refuses program (Refused number line name) = IsUnlowered program number line × (name ≡ [])
 
--- the fault is that there are too many instructions, or want of memory
+-- the fault is that there are too many instructions, or that memory was refused
 abbrev pub RefusesCode : Units → LowerFault → Type 0
 RefusesCode program NoMemory = Unit {0}
 RefusesCode program (Refused number line name) = (number ≡ 401) × (line ≡ 0) × (name ≡ []) × IsCodeBeyond program
 
--- how it is told that a unit has no code
+-- the refusal of a unit that has no code
 abbrev pub fault_by : EmitFault → LowerFault
 fault_by emit_fault.NoMemory = NoMemory
 fault_by emit_fault.TooLong = Refused 401 0 []

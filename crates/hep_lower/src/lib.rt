@@ -1,11 +1,12 @@
-//! Lowering: checked programs become images, and the statements of each unit its code.
+//! Lowering: a checked program becomes an image, with the code of each unit. Begin with [`lower`], which also says
+//! which programs are refused as 401 and 402.
 #![tactic(auto)]
 
-mod blocks;
+mod block_starts;
 pub mod laws;
-mod mains;
+mod main_program;
 mod program;
-mod spellings;
+mod program_names;
 mod units;
 
 pub use hep_base::Refusal as LowerFault;

@@ -1,4 +1,4 @@
-//! Checked programs become images.
+//! Checked programs, made into images.
 ghost use Rattle.std.specs.Prelude.{◌≡◌, ◌≤◌, ◌<◌, ℕ, Some, None, IfOk, IfErr, OnOk, IsTrue, true, false, length};
 ghost use Rattle.hep_machine.specs.Words.{main_among, unit_at, common_cells, frame_cells};
 ghost use Rattle.hep_common.specs.Starts.{AreBlocks, AreStarts};
@@ -6,12 +6,12 @@ ghost use Rattle.hep_code.specs.Words.{most_instructions};
 ghost use Rattle.hep_image.specs.Image.{most_cells};
 ghost use Rattle.hep_lower.specs.Counts.{IsByCount};
 ghost use Rattle.hep_lower.specs.Refusals.{AreCellsBeyond, IsLowered, Refuses};
-ghost use Rattle.hep_lower.specs.Units.{AreRows, AreTables, AreUnits};
+ghost use Rattle.hep_lower.specs.LoweredUnits.{AreRows, AreTables, AreUnits};
 
-use crate::blocks::starts_of;
+use crate::block_starts::starts_of;
 use crate::laws::limits_are_wide;
-use crate::mains::main_index;
-use crate::spellings::names_in_order;
+use crate::main_program::main_index;
+use crate::program_names::names_in_order;
 use crate::units::{LoweredProgram, lower_units};
 use hep_base::{Refusal as LowerFault, Sequence};
 use hep_common::{CommonBlocks, CommonStarts};
@@ -22,7 +22,7 @@ use hep_names::ProgramSymbols;
 use hep_source::Program;
 use std::alloc::{AllocError, Global};
 
-/// The most cells that a frame, and COMMON, may have.
+/// The greatest number of cells of a frame, and of COMMON.
 pub const MOST_CELLS: u128 = 16_777_216;
 
 // Whether COMMON or the frame of a unit has more cells than it may have.
@@ -43,7 +43,7 @@ fn exceeds_cells(checked: &Checked, common: &CommonStarts) -> bool
     false
 }
 
-/// All that an image has beside its program.
+/// All parts of an image besides its program.
 #[derive(Drop)]
 pub(crate) struct ImageTables {
     pub units: Sequence<UnitCode>,
@@ -72,7 +72,7 @@ impl ImageTables {
     }
 }
 
-// What the image of a program has, of which all units were lowered.
+// The parts of the image of a program whose units were all lowered.
 fn image_tables(
     alloc: Global,
     checked: &Checked,
@@ -108,7 +108,7 @@ fn image_tables(
     })
 }
 
-// What the image of a program has whose main program has this index.
+// The parts of the image of a program, whose main program has this index.
 fn lower_program(alloc: Global, checked: &Checked, main: usize) -> Result<ImageTables, LowerFault>
     requires { main_among checked.now ≡ Some main }
     ensures tables { IfOk result (AreTables checked.now) }
@@ -117,7 +117,7 @@ fn lower_program(alloc: Global, checked: &Checked, main: usize) -> Result<ImageT
 {
     checked.is_accepted();
     let source = checked.program().as_slice();
-    // Each unit has an instruction at least.
+    // Each unit has at least one instruction.
     if MOST_INSTRUCTIONS < source.len() {
         return Err(LowerFault::refused(alloc, 401, 0));
     }
@@ -134,24 +134,27 @@ fn lower_program(alloc: Global, checked: &Checked, main: usize) -> Result<ImageT
     Ok(image_tables(alloc, checked, main, &program, &blocks, &common, lowered)?)
 }
 
-/// The image of a checked program: the code of its units, where their variables are, what DATA gives at the
-/// opening, and the names. The program is moved into it, since an image keeps its program.
+/// The image of a checked program: the code of its units, the places of their variables, the values of DATA at the
+/// opening, and the names. The program is moved into the image.
 ///
 /// # Errors
 ///
-/// 204 without a line where there is no main program, as in no program that was read from a text. Else 401, without a
-/// line, where COMMON or the frame of a unit would have more than 16,777,216 cells, or there would be more than
-/// 1,048,576 instructions in all units together. Else 402 with the line of the first statement that would have more
-/// than 256 operands at once (docs/LANGUAGE.md, 12). Or that memory was refused, which is asked for only where there is
-/// a main program.
+/// The first of these that holds:
+///
+/// - 204 without a line, where there is no main program, which a program that was read from a text always has;
+/// - 401 without a line, where COMMON or the frame of a unit would have more than 16,777,216 cells, or all units
+///   together more than 1,048,576 instructions;
+/// - 402 with the line of the first statement that would have more than 256 operands at once (docs/LANGUAGE.md, 12).
+///
+/// Or `NoMemory`, where memory was refused, which is asked for only where there is a main program.
 pub fn lower(alloc: Global, checked: Checked) -> Result<Image, LowerFault>
-    // What is lowered is the program.
+    // The image has this program.
     ensures same { IfOk result (λ image. image ≡ checked) }
-    // It has a main program and is within the limits where there is an image.
+    // Where there is an image, the program has a main program and is within the limits.
     ensures lowered { OnOk result (IsLowered checked) }
-    // Else the number and the line say why there is none.
+    // Otherwise the number and the line say why there is none.
     ensures refused { IfErr result (Refuses checked) }
-    // A program that is refused by 401 or 402 is large by what stands in it.
+    // A program that is refused as 401 or 402 is large by the number of its parts.
     ensures counted { IfErr result (IsByCount checked) }
 {
     limits_are_wide();

@@ -1,4 +1,4 @@
-//! The units of a program, lowered one after the other.
+//! The units of a program, lowered one after another.
 ghost use Rattle.std.specs.Prelude.{◌≡◌, ◌<◌, ◌≤◌, ◌+◌, ℕ, length, IfOk, IfErr, OnOk};
 ghost use Rattle.hep_machine.specs.Words.{Units, main_unit, unit_at, common_cells, frame_cells};
 ghost use Rattle.hep_conditions.specs.Words.{IsAccepted};
@@ -7,8 +7,8 @@ ghost use Rattle.hep_image.specs.Image.{most_cells};
 ghost use Rattle.hep_common.specs.Starts.{AreStarts};
 ghost use Rattle.hep_lower.specs.Refusals.{RefusesCode, fault_by};
 ghost use Rattle.hep_emit.specs.Names.{greatest};
-ghost use Rattle.hep_lower.specs.Units.{AreRows, AreUnits, IsUnit};
-ghost use Rattle.hep_places.specs.Unit.{ArePlaces};
+ghost use Rattle.hep_lower.specs.LoweredUnits.{AreRows, AreUnits, IsUnit};
+ghost use Rattle.hep_places.specs.UnitPlaces.{ArePlaces};
 
 use hep_base::{Refusal as LowerFault, Sequence};
 use hep_code::Instruction;
@@ -19,35 +19,35 @@ use hep_names::{ProgramSymbols, Symbols};
 use hep_places::{MainFrame, UnitPlaces, data_rows, unit_places};
 use std::alloc::{AllocError, Global};
 
-/// A unit, or the line of its first statement that has too many operands.
+/// A lowered unit, or the line of its first statement with too many operands.
 #[derive(Drop)]
 pub(crate) enum LoweredUnit {
     Runnable(UnitCode),
-    /// With how many instructions it has.
+    /// The number of its instructions is kept too.
     TooDeep { line: u32, instructions: usize },
 }
 
 /// The units that were lowered so far.
 #[derive(Drop)]
 pub(crate) struct LoweredUnits {
-    /// All of them, as long as none has a statement that is too deep.
+    /// All of them, as long as no unit has a statement that is too deep.
     pub codes: Vec<UnitCode>,
     /// The line of the first statement with too many operands.
     pub too_deep: Option<u32>,
-    /// How many instructions they have together.
+    /// The number of instructions of all of them.
     pub instructions: usize,
 }
 
-/// A program of which all units were lowered.
+/// A program whose units were all lowered.
 #[derive(Drop)]
 pub(crate) struct LoweredProgram {
     pub units: LoweredUnits,
-    /// What DATA gives at the opening.
+    /// The values of DATA at the opening.
     pub rows: Vec<DataRow>,
 }
 
 impl LoweredUnits {
-    // None yet, with room for so many.
+    // No units yet, with room for `units` units.
     fn new(alloc: Global, units: usize) -> Result<LoweredUnits, AllocError>
         ensures { IfOk result (λ units. (program : Units) → AreUnits program 0 units) }
     {
@@ -58,7 +58,7 @@ impl LoweredUnits {
         })
     }
 
-    // One unit more.
+    // Adds a unit.
     fn add(&mut self, unit: LoweredUnit) -> Result<(), AllocError>
         requires few { self.old.instructions ≤ most_instructions }
         requires short { (program : Units) × (n : ℕ) × IsUnit program n unit }
@@ -79,14 +79,14 @@ impl LoweredUnits {
     }
 }
 
-// How many instructions there are.
+// The number of instructions.
 fn count(code: &[Instruction]) -> usize
     ensures { result ≡ length code.now }
 {
     code.len()
 }
 
-// Why a unit has no code: it is told without a line.
+// Why a unit has no code, as a refusal without a line.
 fn fault_of(alloc: Global, fault: EmitFault) -> LowerFault
     ensures { result ≡ fault_by fault }
 {
@@ -96,7 +96,7 @@ fn fault_of(alloc: Global, fault: EmitFault) -> LowerFault
     }
 }
 
-// The unit of this index, where all of it is known to be.
+// The unit of this index, with all its places.
 fn lower_placed(
     alloc: Global,
     program: &ProgramSymbols,
@@ -134,7 +134,7 @@ fn lower_placed(
     }))
 }
 
-// What DATA gives at the opening, where these are the places of the main program.
+// The values of DATA at the opening, by the places of the main program.
 fn main_rows(
     alloc: Global,
     symbols: &Symbols,
@@ -156,8 +156,8 @@ fn main_rows(
     data_rows(alloc, &frame)
 }
 
-/// All units of a checked program, of which no frame has more than 16,777,216 cells, and COMMON hasn't; and what
-/// DATA gives at the opening. The main program has this index.
+/// All units of a checked program, and the values of DATA at the opening. Neither a frame nor COMMON has more than
+/// 16,777,216 cells. The main program has the index `main`.
 ///
 /// # Errors
 ///

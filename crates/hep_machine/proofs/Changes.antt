@@ -2,7 +2,7 @@
 use Rattle.std.proofs.Common.{◌≡◌, ℕ, Bool, true, false, List, [], ◌∷◌, ◌++◌, Option, Some, None, Result, Ok, Err, refl, sym, ◌∙◌, ap, subst, ℤ, ◌+ℤ◌, ◌-ℤ◌, if◌then◌else◌, int_lt, pos}
 use Rattle.std.proofs.lemmas.Option.{same_Some, none-some}
 use Rattle.hep_machine.specs.declared.event.Kind.{Kind}
-use Rattle.hep_machine.specs.Words.{Name, Statement, Value, Sought, evaluating, referring, resuming, function_name, function_unit, result_after_leaving, result_after_result, result_after_value, stack_after_value, state_resumed, integer_of, logical_of, integer_or_overflow, Binding, level_at_end_of, level_after_statement, level_at_choice, label_chosen, level_after_condition, level_in_block, level_in_range, level_after_loop, terminal_of, loops_around, loops_ending_at, variable_of, Action}
+use Rattle.hep_machine.specs.Words.{Name, Statement, Value, RedexOrReference, evaluating, referring, resuming, function_name, function_unit, result_after_leaving, result_after_result, result_after_value, stack_after_value, state_resumed, integer_of, logical_of, integer_or_overflow, Binding, level_at_end_of, level_after_statement, level_at_choice, label_chosen, level_after_condition, level_in_block, level_in_range, level_after_loop, terminal_of, loops_around, loops_ending_at, variable_of, Action}
 use Rattle.hep_machine.specs.Words.{assigning, jumping, choosing, branching, testing_condition, entering_block, entering_loop, ending_loop, calling, creating, purging, printing, continuing, leaving, stopping, Next, wants, does, next_of, activations_on, location_of_name, Activation, Level, Loop, Process, State}
 use Rattle.hep_machine.specs.Words.{Location, Store, Answer, fails, answer_of, StepResult, stepped, waiting, absent, Top, unit_on_top, scope_of, result_after_answer, answer_at, written, result_after_write, result_after_store, result_after_assignment, store_after_purge, result_after_purge, iterations, level_after_count}
 use Rattle.hep_machine.specs.Words.{state_after_count, result_after_do, result_after_increment, result_after_loop_variable, result_after_loop_end, entry_level, next_activation, result_after_call, result_after_create, unit_called, binding_of, stack_after_return, result_after_action, result_after_next}
@@ -43,7 +43,8 @@ Makes P absent = Unit {0}
 
 -- ---- the activation on top stays
 
-stays-level_at_end_of : (unit : List Statement) (level : Level) (k : ℕ) (ds : List ℕ) → (level_at_end_of unit level k ds).activation ≡ level.activation
+-- the end of a DO leaves the level in its activation
+pub stays-level_at_end_of : (unit : List Statement) (level : Level) (k : ℕ) (ds : List ℕ) → (level_at_end_of unit level k ds).activation ≡ level.activation
 stays-level_at_end_of unit level k [] = refl
 stays-level_at_end_of unit level k (d ∷ ds) = refl
 
@@ -65,7 +66,8 @@ stays-level_in_block : (unit : List Statement) (level : Level) (b : Bool) → (l
 stays-level_in_block unit level true = refl
 stays-level_in_block unit level false = refl
 
-stays-level_after_count : (unit : List Statement) (level : Level) (d : ℕ) (count : ℤ) → (level_after_count unit level d count).activation ≡ level.activation
+-- a count of a DO leaves the level in its activation
+pub stays-level_after_count : (unit : List Statement) (level : Level) (d : ℕ) (count : ℤ) → (level_after_count unit level d count).activation ≡ level.activation
 stays-level_after_count unit level d count =
     elim (int_lt (pos 0) count) as (λ (b : Bool). (if b then level_in_range unit level d else level_after_loop unit level d).activation ≡ level.activation)
     [ true ↦ refl | false ↦ stays-level_after_loop unit level d ]

@@ -8,7 +8,8 @@ use Rattle.hep_machine.specs.Words.{StandApart, Frame, Layout, Placing, lowest_g
 
 -- ---- choices
 
-chosen : {A : Type 0} (b : Bool) (x : A) (o : Option A) (y : A) → (if b then Some x else o) ≡ Some y → ((b ≡ true) × (x ≡ y)) ⊎ ((b ≡ false) × (o ≡ Some y))
+-- a choice between two options that has a value has it by the one that was chosen
+pub chosen : {A : Type 0} (b : Bool) (x : A) (o : Option A) (y : A) → (if b then Some x else o) ≡ Some y → ((b ≡ true) × (x ≡ y)) ⊎ ((b ≡ false) × (o ≡ Some y))
 chosen true x o y e = inl (refl, same_Some x y e)
 chosen false x o y e = inr (refl, e)
 

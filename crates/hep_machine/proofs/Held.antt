@@ -11,6 +11,7 @@ use Rattle.hep_machine.proofs.Ages.{IsAged, aged, older_parent, on_stack_made}
 
 -- ---- numbers among others
 
+-- a number is among two lists where it is among the first or among the second
 pub among-append : (a : ℕ) (xs ys : List ℕ) → is_number_among a (xs ++ ys) ≡ (is_number_among a xs || is_number_among a ys)
 among-append a xs ys = list_any-append (nat_eq a) xs ys
 

@@ -1,6 +1,6 @@
 mod Powers
 mod Arguments
-mod Remainders
+pub mod Remainders
 mod Worked
 pub mod Frames
 pub mod Replays

@@ -14,6 +14,7 @@ other_kept (y ∷ ys) zero (suc j) x d = refl
 other_kept (y ∷ ys) (suc i) zero x d = refl
 other_kept (y ∷ ys) (suc i) (suc j) x d = other_kept ys i j x (λ e. d (ap suc e))
 
+-- an element of the first of two lists is at its place in both
 pub front_kept : {A : Type 0} (xs ys : List A) (j : ℕ) → j < length xs → slice_get (xs ++ ys) j ≡ slice_get xs j
 front_kept [] ys j h = absurd (omega arith)
 front_kept (x ∷ xs) ys zero h = refl

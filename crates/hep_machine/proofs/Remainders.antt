@@ -15,7 +15,8 @@ is-integer : (z : ℤ) → unsigned_abs z < 2 ^ 63 → is_integer z ≡ true
 is-integer (pos n) h = grind (arith, nat_tests)
 is-integer (negsuc n) h = grind (arith, nat_tests)
 
-as-integer : (z : ℤ) → is_integer z ≡ true → integer_or_overflow z ≡ Ok z
+-- an integer that fits is no overflow
+pub as-integer : (z : ℤ) → is_integer z ≡ true → integer_or_overflow z ≡ Ok z
 as-integer z h = rw h refl
 
 rest : (x r : ℤ) → SFits w64 r → 0 < unsigned_abs r → integer_or_overflow (x -ℤ int_div x r *ℤ r) ≡ Ok (int_rem x r)

@@ -4,7 +4,7 @@ use Rattle.hep_machine.specs.declared.event.Entry.{Entry}
 use Rattle.hep_machine.specs.Words.{IsEntry, AreEntries, IsLegal, state_replayed, opening, state_after_turn, run_from, AreSteps, run, schedule_of_entry, schedule_of, state_after, State, Units}
 
 -- steps before others
-steps_before : (program : Units) (s : State) (ps qs : List ℕ) → AreSteps program s ps → AreSteps program (run_from program s ps) qs → AreSteps program s (ps ++ qs)
+pub steps_before : (program : Units) (s : State) (ps qs : List ℕ) → AreSteps program s ps → AreSteps program (run_from program s ps) qs → AreSteps program s (ps ++ qs)
 unfolding run_from
 steps_before program s [] qs h more = more
 steps_before program s (p ∷ ps) qs h more = (h.0, steps_before program (state_after_turn program p s) ps qs h.1 more)
@@ -22,6 +22,7 @@ steps_of_entries program s (e ∷ es) h =
 pub legal_steps : (program : Units) (cells limit : ℕ) (history : List Entry) → IsLegal program cells limit history → AreSteps program (opening program) (schedule_of history)
 legal_steps program cells limit history h = steps_of_entries program (opening program) history h.entries
 
+-- a run by choices, and then by more, is the run by all of them
 pub run_after : (program : Units) (s : State) (ps qs : List ℕ) → run_from program s (ps ++ qs) ≡ run_from program (run_from program s ps) qs
 unfolding run_from
 run_after program s [] qs = refl

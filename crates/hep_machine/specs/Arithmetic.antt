@@ -1,4 +1,4 @@
--- Operators and functions of values, in exact whole numbers: X3.9-1978, sections 6.1, 6.3, 6.4 and 15.10.
+-- Operators and functions on values, by exact whole numbers: X3.9-1978, sections 6.1, 6.3, 6.4 and 15.10.
 use Rattle.std.specs.Prelude.{ℕ, zero, suc, ◌^◌, ℤ, pos, negsuc, ◌+ℤ◌, ◌-ℤ◌, ◌*ℤ◌, nat_abs, int_div, int_lt, int_le, Bool, not, ◌&&◌, ◌||◌, nat_lt, if◌then◌else◌, List, [], ◌∷◌, Result, Ok, Err}
 use Rattle.std.specs.Int.{int_pow}
 use Rattle.hep_machine.specs.declared.event.Kind.{Kind}
@@ -22,22 +22,22 @@ use Rattle.hep_machine.specs.Defaults.{no_integer, no_logical}
 
 -- ---- integers: 4.3 and 6.1
 
--- an integer is from -9223372036854775808 to 9223372036854775807
+-- whether a whole number is an integer of the language: from -9223372036854775808 to 9223372036854775807
 abbrev pub is_integer : ℤ → Bool
 is_integer (pos n) = nat_lt n (2 ^ 63)
 is_integer (negsuc n) = nat_lt n (2 ^ 63)
 
--- the exact result, where it is an integer
+-- the exact result, or OVERFLOW where it is no integer of the language
 abbrev pub integer_or_overflow : ℤ → Result ℤ Kind
 integer_or_overflow z = if is_integer z then Ok z else Err Overflow
 
--- division drops the fraction: 6.1.5
+-- a quotient without its fraction: 6.1.5
 abbrev pub quotient_of : ℤ → ℤ → Result ℤ Kind
 quotient_of x (pos zero) = Err Divide
 quotient_of x (pos (suc n)) = integer_or_overflow (int_div x (pos (suc n)))
 quotient_of x (negsuc n) = integer_or_overflow (int_div x (negsuc n))
 
--- 1 / x ** n, for n above 0
+-- 1 / x ** n without its fraction, for n above 0
 abbrev pub reciprocal_of : ℤ → ℕ → Result ℤ Kind
 reciprocal_of (pos zero) n = Err Divide
 reciprocal_of (pos (suc zero)) n = Ok (pos 1)
@@ -85,7 +85,7 @@ logical_result NotEquivalent a b = not (same_logical a b)
 abbrev pub size_of : ℤ → ℤ
 size_of x = pos (nat_abs x)
 
--- x - (x / y) * y, which is an integer even where the quotient is none
+-- x - (x / y) * y by the exact quotient, so that the remainder fits even where the quotient doesn't
 abbrev pub remainder_of : ℤ → ℤ → Result ℤ Kind
 remainder_of x (pos zero) = Err Divide
 remainder_of x (pos (suc n)) = integer_or_overflow (x -ℤ int_div x (pos (suc n)) *ℤ pos (suc n))

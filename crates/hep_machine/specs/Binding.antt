@@ -1,4 +1,4 @@
--- How dummy arguments get what they stand for: X3.9-1978, 15.9.3.
+-- The association of dummy arguments with actual arguments: X3.9-1978, 15.9.3.
 use Rattle.std.specs.Prelude.{ℕ, ◌+◌, ◌-◌, not, ◌&&◌, ◌||◌, if◌then◌else◌, List, [], ◌∷◌, Option, Some, None, Result, Ok, Err}
 use Rattle.std.specs.Option.{option_or}
 use Rattle.hep_machine.specs.declared.event.Kind.{Kind}
@@ -16,17 +16,17 @@ use Rattle.hep_source.specs.Units.{dummies_of}
 
 -- ---- actual arguments: 15.9.2 and 15.9.3
 
--- a sequence that begins with an element of an array has the elements from there on
+-- An element as actual argument passes the sequence of the array's elements from that element on.
 abbrev pub from_element : StorageSequence → Result ℕ Kind → Result Dummy Kind
 from_element e (Err k) = Err k
 from_element e (Ok n) = Ok (record { start = further e.start (n - 1); rest = (e.rest + 1) - n; shape = [] })
 
--- the number of the first element: of a whole array 1
+-- the number of the first element that an actual argument passes: 1 for a whole array
 abbrev pub first_element : Scope → Reference → Result ℕ Kind
 first_element scope r =
     if is_array scope.unit r.0 && not (is_nonempty r.1) then Ok 1 else element_of (storage_of scope r.0) r.1
 
--- what a dummy argument of activation a stands for, its shape not yet known; that of an expression is a variable of its own
+-- The storage of a dummy argument of activation a, before its shape is known. For an expression it is a new variable of the activation.
 abbrev pub dummy_for : Scope → ℕ → Name → Actual → Result Dummy Kind
 dummy_for scope a x (evaluated v) = Ok (record { start = local a x 1; rest = 1; shape = [] })
 dummy_for scope a x (referred r) = from_element (storage_of scope r.0) (first_element scope r)
@@ -51,7 +51,7 @@ with_actuals store a _ _ = store
 
 -- ---- shapes: 5.5 and 15.9.3.3
 
--- in a bound a constant has its value, and a scalar that is a dummy argument or in COMMON what is stored in it
+-- the value of a name in a bound: that of a constant, or the value stored in a scalar that is a dummy argument or in COMMON
 abbrev pub bound_values : Scope → Store → Values
 bound_values scope store x =
     option_or (constant_value scope.unit x) (
@@ -61,7 +61,7 @@ abbrev pub dummy_with_shape : Dummy → Option Bounds → Result Dummy Kind
 dummy_with_shape d None = Err Shape
 dummy_with_shape d (Some bs) = if fits bs d.rest then Ok (record d { shape = bs }) else Err Shape
 
--- a dummy argument with its shape; SHAPE where it has none, or more elements than the actual argument
+-- a dummy argument with its shape; the fault SHAPE where it has none, or more elements than the actual argument
 abbrev pub with_shape : Scope → Store → Name → Dummy → Result Dummy Kind
 with_shape scope store x d = if is_array scope.unit x then dummy_with_shape d (shape_by scope.unit (bound_values scope store) x) else Ok d
 
@@ -71,7 +71,7 @@ with_shapes scope store _ _ = Ok []
 
 -- ---- binding: docs/MACHINE.md, "Binding"
 
--- a new activation's dummy arguments, and the store that they are in
+-- the dummy arguments of a new activation, and the store with the values of expressions
 pub record Binding : Type 0 where
   pub dummies : List Dummy
   pub store : Store
@@ -85,8 +85,8 @@ binding_with_shapes unit a store (Err k) = Err k
 binding_with_shapes unit a store (Ok ds) =
     with_store store (with_shapes (record { unit = unit; number = a; dummies = ds }) store (dummies_of unit) ds)
 
--- the dummy arguments of activation a of a unit, from the actual arguments of another activation: RANGE of an actual argument
--- comes before SHAPE
+-- The binding of activation a of a unit, by the actual arguments in another activation. The fault RANGE of an actual argument
+-- precedes the fault SHAPE.
 abbrev pub binding_for : Scope → Store → List Statement → ℕ → List Actual → Result Binding Kind
 binding_for scope store unit a actuals =
     binding_with_shapes unit a (with_actuals store a (dummies_of unit) actuals) (dummies_for scope a (dummies_of unit) actuals)

@@ -1,4 +1,4 @@
--- Values of expressions in which names have values: constant expressions and dimension bounds (X3.9-1978, 5.1.1, 6.1.3 and 8.6).
+-- Values of constant expressions and dimension bounds, by the values of names (X3.9-1978, 5.1.1, 6.1.3 and 8.6).
 use Rattle.std.specs.Prelude.{ℕ, ◌+◌, ℤ, pos, Bool, true, ◌&&◌, if◌then◌else◌, List, [], ◌∷◌, ◌++◌, Option, Some, None, Result, Ok, Err, is_some, length}
 use Rattle.std.specs.Option.{option_map, unwrap_or}
 use Rattle.std.specs.List.{list_all}
@@ -21,7 +21,7 @@ use Rattle.hep_machine.specs.Defaults.{no_cells}
 
 -- ---- expressions: 6.1.3 and 6.4.4
 
--- what names have as values
+-- the values of names, as far as they have one
 abbrev pub Values : Type 0
 Values = Name → Option Value
 
@@ -43,13 +43,13 @@ both None vs = None
 both (Some v) None = None
 both (Some v) (Some vs) = Some (v ∷ vs)
 
--- only functions of integers may stand in such an expression: docs/LANGUAGE.md, 7
+-- the value of a name with a list: only functions of integers may be in such an expression (docs/LANGUAGE.md, 7)
 abbrev pub by_meaning : Meaning → Option (List Value) → Option Value
 by_meaning (pure f) (Some vs) = without_fault (function_value f vs)
 by_meaning _ _ = None
 
 abbrev mutual
-  -- the value of an expression in a unit, none where it faults or something in it has no value
+  -- the value of an expression in a unit; none where it faults or where a part of it has no value
   pub value_of : List Statement → Values → Tree → Option Value
   value_of unit values (constant v) = Some v
   value_of unit values (occurrence p) = values p.name
@@ -65,7 +65,7 @@ abbrev mutual
 
 -- ---- named constants: 8.6
 
--- names with their values, the first one of a name
+-- constants with their values; the first entry of a name counts
 abbrev pub Constants : Type 0
 Constants = List (Name × Value)
 
@@ -77,7 +77,7 @@ abbrev pub with_constant : Constants → Name → Option Value → Constants
 with_constant known x None = known
 with_constant known x (Some v) = known ++ (x, v) ∷ []
 
--- each constant is given by those before it
+-- the constants after a PARAMETER statement; each may use those before it
 abbrev pub given_by : List Statement → Constants → List NamedConstant → Constants
 given_by unit known [] = known
 given_by unit known (c ∷ cs) = given_by unit (with_constant known c.occurrence.name (value_of unit (value_among known) c.value)) cs
@@ -94,7 +94,7 @@ abbrev pub upper_value : List Statement → Values → UpperBound → Option (Op
 upper_value unit values Open = Some None
 upper_value unit values (Expression t) = option_map (λ v. Some (integer_of v)) (value_of unit values t)
 
--- 1 where there is no lower bound
+-- the value of a lower bound; 1 where none is written
 abbrev pub lower_value : List Statement → Values → Option Tree → Option ℤ
 lower_value unit values None = Some (pos 1)
 lower_value unit values (Some t) = option_map integer_of (value_of unit values t)
@@ -118,15 +118,15 @@ abbrev pub if_shape : Option Bounds → Option Bounds
 if_shape None = None
 if_shape (Some bs) = if is_shape bs then Some bs else None
 
--- the shape of an array, none where a bound has no value or the bounds are no shape
+-- the shape of an array; none where a bound has no value or where the bounds make no shape
 abbrev pub shape_by : List Statement → Values → Name → Option Bounds
 shape_by unit values x = if_shape (bounds_of unit values (dimensions_of unit x))
 
--- a scalar has no dimension
+-- the shape of a name by the constants of the unit; that of a scalar has no dimension
 abbrev pub constant_shape : List Statement → Name → Option Bounds
 constant_shape unit x = if is_nonempty (dimensions_of unit x) then shape_by unit (constant_value unit) x else Some []
 
--- the cells of a scalar or an array of constant shape
+-- the number of cells of a scalar or an array of constant shape
 abbrev pub cells_of_shape : Option Bounds → ℕ
 cells_of_shape None = no_cells
 cells_of_shape (Some bs) = unwrap_or (elements bs) 0
@@ -150,7 +150,7 @@ is_constant_upper unit (Expression t) = is_constant unit t
 abbrev pub is_constant_dimension : List Statement → Dimension → Bool
 is_constant_dimension unit d = is_constant_lower unit d.lower && is_constant_upper unit d.upper
 
--- the dimensions that are fixed anew at each call: all those of an array with a bound that isn't constant
+-- the number of dimensions that each call fixes anew: all dimensions of an array with a bound that isn't constant
 abbrev pub adjustable_dimensions : List Statement → Name → ℕ
 adjustable_dimensions unit x = if list_all (is_constant_dimension unit) (dimensions_of unit x) then 0 else length (dimensions_of unit x)
 

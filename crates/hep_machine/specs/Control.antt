@@ -1,4 +1,4 @@
--- Which statement comes next: X3.9-1978, section 11.
+-- The flow of control: X3.9-1978, section 11.
 use Rattle.std.specs.Prelude.{ℕ, zero, suc, ◌+◌, ℤ, pos, negsuc, Bool, true, false, ◌&&◌, nat_eq, if◌then◌else◌, List, [], ◌∷◌, Option, Some, None, take, drop, slice_get}
 use Rattle.std.specs.Option.{option_map, unwrap_or}
 use Rattle.hep_source.specs.Tree.{Tree}
@@ -48,18 +48,18 @@ abbrev pub role_after : List Tree → Form → Role
 role_after [] f = role_of_form f
 role_after (t ∷ ts) f = other
 
--- what a statement is to the block IFs around it; a logical IF is nothing to them
+-- the role of a statement in the block IFs around it; a logical IF has none
 abbrev pub role_of : Statement → Role
 role_of s = role_after s.conditions s.form
 
--- the search for an END IF at one statement: it goes on at the depth after it, or ends there
+-- one statement in the search for an END IF: the search ends there, or continues at the depth after the statement
 abbrev pub to_end_if : Role → ℕ → (ℕ → ℕ) → ℕ
 to_end_if opens depth rest_after = suc (rest_after (suc depth))
 to_end_if closes zero rest_after = 0
 to_end_if closes (suc depth) rest_after = suc (rest_after depth)
 to_end_if _ depth rest_after = suc (rest_after depth)
 
--- how many statements stand before the END IF of the block IF that is so deep
+-- the number of statements before the END IF of the block IF at this depth
 abbrev pub before_end_if : List Statement → ℕ → ℕ
 before_end_if [] depth = 0
 before_end_if (s ∷ ss) depth = to_end_if (role_of s) depth (before_end_if ss)
@@ -69,7 +69,7 @@ to_alternative alternative zero rest_after = 0
 to_alternative otherwise zero rest_after = 0
 to_alternative r depth rest_after = to_end_if r depth rest_after
 
--- how many statements stand before the ELSE IF, ELSE or END IF that ends the first block
+-- the number of statements before the ELSE IF, ELSE or END IF that ends the block at this depth
 abbrev pub before_alternative : List Statement → ℕ → ℕ
 before_alternative [] depth = 0
 before_alternative (s ∷ ss) depth = to_alternative (role_of s) depth (before_alternative ss)
@@ -77,13 +77,13 @@ before_alternative (s ∷ ss) depth = to_alternative (role_of s) depth (before_a
 abbrev pub end_if_after : List Statement → ℕ → ℕ
 end_if_after unit k = suc k + before_end_if (drop (suc k) unit) 0
 
--- from an ELSE IF or ELSE, where a block ends, to its END IF: 11.6.3
+-- from an ELSE IF or ELSE, which ends the block before it, to the END IF: 11.6.3
 abbrev pub past_block : List Statement → ℕ → Role → ℕ
 past_block unit k alternative = end_if_after unit k
 past_block unit k otherwise = end_if_after unit k
 past_block unit k _ = k
 
--- the index of the statement that is executed next after that at index k
+-- the index of the statement that is executed after the one at index k
 abbrev pub following : List Statement → ℕ → ℕ
 following unit k = past_block unit (executable_from unit (suc k)) (role_of (statement_at unit (executable_from unit (suc k))))
 
@@ -91,7 +91,8 @@ abbrev pub past_else : List Statement → ℕ → Role → ℕ
 past_else unit k otherwise = executable_from unit (suc k)
 past_else unit k _ = k
 
--- where the condition of an IF THEN or ELSE IF is false: its next ELSE IF, the statement after its ELSE, or its END IF
+-- the index where control goes if the condition of the IF THEN or ELSE IF at index k is false: the next ELSE IF, the statement after
+-- ELSE, or the END IF
 abbrev pub alternative_of : List Statement → ℕ → ℕ
 alternative_of unit k = past_else unit next (role_of (statement_at unit next)) where
   next : ℕ
@@ -107,17 +108,18 @@ abbrev pub is_ended_at : List Statement → ℕ → Option ℕ → Bool
 is_ended_at unit k None = false
 is_ended_at unit k (Some l) = nat_eq (index_of_label unit l) k
 
--- the indexes of the DO statements among these that end at index k, the last first
+-- the indices of the DO statements among these whose terminal statement is at index k, the last first
 abbrev pub loops_among : List Statement → ℕ → ℕ → List Statement → List ℕ → List ℕ
 loops_among unit k j [] found = found
 loops_among unit k j (s ∷ ss) found =
     loops_among unit k (suc j) ss (if is_ended_at unit k (terminal_by_form s.conditions s.form) then j ∷ found else found)
 
--- the DO statements that end at index k, the innermost first: a process that is there is in all their ranges, by condition 308
+-- the DO statements whose terminal statement is at index k, the innermost first; condition 308 says that control there is in all
+-- their ranges
 abbrev pub loops_ending_at : List Statement → ℕ → List ℕ
 loops_ending_at unit k = loops_among unit k 0 (take k unit) []
 
--- of these the ones around the DO at index d
+-- those of these DOs that are around the DO at index d
 abbrev pub loops_around : ℕ → List ℕ → List ℕ
 loops_around d [] = []
 loops_around d (e ∷ es) = if nat_eq e d then es else loops_around d es
@@ -133,25 +135,25 @@ variable_by_form _ = no_name
 abbrev pub variable_of : List Statement → ℕ → Name
 variable_of unit d = variable_by_form (statement_at unit d).form
 
--- ---- where an activation goes: 3.6
+-- ---- where control goes in an activation: 3.6
 
 abbrev pub level_at_statement : List Statement → Level → ℕ → Level
 level_at_statement unit level k = record level { statement = k; work = doing (statement_at unit k).conditions (statement_at unit k).form }
 
--- to the end of the innermost of these DOs, which end at index k (11.10.6), or else to the next statement
+-- the level at the end of the innermost of these DOs, whose terminal statement is at index k (11.10.6), or else at the next statement
 abbrev pub level_at_end_of : List Statement → Level → ℕ → List ℕ → Level
 level_at_end_of unit level k [] = level_at_statement unit level (following unit k)
 level_at_end_of unit level k (d ∷ ds) = record level { statement = k; work = ending d }
 
--- after the statement that it is at
+-- the level after its current statement
 abbrev pub level_after_statement : List Statement → Level → Level
 level_after_statement unit level = level_at_end_of unit level level.statement (loops_ending_at unit level.statement)
 
--- after the DO at index d, whose terminal statement other DOs may share
+-- the level after the DO at index d, whose terminal statement other DOs may share
 abbrev pub level_after_loop : List Statement → Level → ℕ → Level
 level_after_loop unit level d = level_at_end_of unit level (terminal_of unit d) (loops_around d (loops_ending_at unit (terminal_of unit d)))
 
--- to the first statement of the range of the DO at index d: 11.10.5
+-- the level at the first statement of the range of the DO at index d: 11.10.5
 abbrev pub level_in_range : List Statement → Level → ℕ → Level
 level_in_range unit level d = level_at_statement unit level (following unit d)
 

@@ -1,4 +1,4 @@
--- What the names and values of DATA stand for: X3.9-1978, 9.1 and 9.2.
+-- The elements and values that DATA names: X3.9-1978, 9.1 and 9.2.
 use Rattle.std.specs.Prelude.{ℕ, ◌-◌, pos, int_le, nat_lt, if◌then◌else◌, List, [], ◌∷◌, Option, Some, None, option_map, option_and_then}
 use Rattle.std.specs.List.{flat_map}
 use Rattle.hep_source.specs.Tree.{trees_of}
@@ -29,15 +29,15 @@ groups_in _ = []
 abbrev pub data_groups : List Statement → List DataGroup
 data_groups unit = flat_map (λ (s : Statement). groups_in s.form) unit
 
--- ---- what is given a value: 9.2
+-- ---- the elements that get a value: 9.2
 
--- a stretch: elements of a variable, one after the other, by the number of the first one and how many they are
+-- a range of consecutive elements of a variable: the number of the first one, and how many there are
 pub record Stretch : Type 0 where
   pub name : Name
   pub first : ℕ
   pub count : ℕ
 
--- a scalar is its one element, and an array by itself all of its elements in their order (5.2.4)
+-- all elements of a variable: a scalar has one, and an array has them in their order (5.2.4)
 abbrev pub all_elements : Name → Option Bounds → Option Stretch
 all_elements x shape = option_map (λ n. record { name = x; first = 1; count = n }) (option_and_then elements shape)
 
@@ -46,16 +46,16 @@ element_with x shape subscripts =
     option_map (λ n. record { name = x; first = n; count = 1 }) (
     option_and_then (λ bs. option_and_then (λ vs. element_number bs (integers_of vs)) subscripts) shape)
 
--- the elements that a name in DATA stands for, where names have these values: none where its shape or a subscript has no value
+-- the elements that a name in DATA denotes, by the values of names; none where the shape or a subscript has no value
 abbrev pub elements_named : List Statement → Values → Target → Option Stretch
 elements_named unit values t =
     if is_nonempty t.subscripts
     then element_with t.occurrence.name (constant_shape unit t.occurrence.name) (values_of unit values (trees_of t.subscripts))
     else all_elements t.occurrence.name (constant_shape unit t.occurrence.name)
 
--- ---- the values that are given: 9.1
+-- ---- the values: 9.1
 
--- an item, and how often it stands in a list, one after the other
+-- an item, and how often it is repeated
 pub record Repeated (A : Type 0) : Type 0 where
   pub item : A
   pub count : ℕ
@@ -65,13 +65,13 @@ abbrev pub item_at : {A : Type 0} → List (Repeated A) → ℕ → Option A
 item_at [] i = None
 item_at (r ∷ rs) i = if nat_lt i r.count then Some r.item else item_at rs (i - r.count)
 
--- an integer from 1
+-- the repeat count by the value of a name: an integer of at least 1
 abbrev pub count_by : Option Value → Option ℕ
 count_by None = None
 count_by (Some (Truth b)) = None
 count_by (Some (Int z)) = if int_le (pos 1) z then Some (natural z) else None
 
--- how often a value is given: once without a repeat count
+-- how often a value is given: once where no repeat count is written
 abbrev pub repeat_of : Values → Option Repeat → Option ℕ
 repeat_of values None = Some 1
 repeat_of values (Some (repeat.Count n)) = Some (natural n)
@@ -81,7 +81,7 @@ abbrev pub value_of_constant : Values → DataConstant → Option Value
 value_of_constant values (data_constant.Value v) = Some v
 value_of_constant values (data_constant.Named p) = values p.name
 
--- a value as often as it is given: none where a name has no value, or one that is no repeat count
+-- a value with its repeat count; none where a name has no value, or one that is no repeat count
 abbrev pub values_given : Values → DataValue → Option (Repeated Value)
 values_given values v =
     option_and_then (λ n. option_map (λ x. record { item = x; count = n }) (value_of_constant values v.constant)) (repeat_of values v.repeat)

@@ -1,4 +1,4 @@
--- What the specification statements of a unit say of a name: X3.9-1978, section 8.
+-- The properties of names that the specification statements of a unit declare: X3.9-1978, section 8.
 use Rattle.std.specs.Prelude.{ℕ, Bool, true, false, ◌&&◌, nat_le, if◌then◌else◌, List, [], ◌∷◌, ◌++◌, map, get_or, Option, Some, None, is_some}
 use Rattle.std.specs.Option.{option_or, option_map, option_map_or}
 use Rattle.std.specs.List.{list_any, find, flat_map}
@@ -23,7 +23,7 @@ use Rattle.hep_source.specs.Units.{dummies_of, Units}
 abbrev pub names_declared : List Declarator → List Name
 names_declared ds = map (λ (d : Declarator). d.occurrence.name) ds
 
--- the type that a type statement gives a name, and a header with a type the function (15.5.1)
+-- the type that a type statement gives a name, or a header with a type gives its function (15.5.1)
 abbrev pub type_by_statement : Name → Form → Option ValueType
 type_by_statement x (form.Function (Some t) p ds) = if same_name p.name x then Some t else None
 type_by_statement x (form.Declare t ds) = if is_among x (names_declared ds) then Some t else None
@@ -51,15 +51,15 @@ implicit_type c (s ∷ ss) = option_or (type_by_implicit c s.form) (implicit_typ
 abbrev pub first_letter : Name → ℕ
 first_letter x = get_or x.letters 0 0
 
--- without a declaration a name is an integer where its letter is I to N: 4.1.2
+-- whether a name without a declaration is an integer: its first letter is I to N (4.1.2)
 abbrev pub is_integer_by_letter : Name → Bool
 is_integer_by_letter x = nat_le 73 (first_letter x) && nat_le (first_letter x) 78
 
--- and else it is real, which no variable is here
+-- the type of a name without a declaration; none for a real one, which the language leaves out
 abbrev pub type_by_letter : Name → Option ValueType
 type_by_letter x = if is_integer_by_letter x then Some Integer else None
 
--- the type of a name in a unit, none where it is real
+-- the type of a name in a unit; none where it is real
 abbrev pub type_of : List Statement → Name → Option ValueType
 type_of unit x = option_or (declared_type x unit) (option_or (implicit_type (first_letter x) unit) (type_by_letter x))
 
@@ -97,7 +97,7 @@ is_array unit x = is_nonempty (dimensions_of unit x)
 
 -- ---- common blocks: 8.3
 
--- the name of a block, none for blank COMMON
+-- the name of a block; blank COMMON has none
 abbrev pub BlockName : Type 0
 BlockName = Option Name
 
@@ -121,7 +121,7 @@ blocks_in _ = []
 abbrev pub blocks_of_unit : List Statement → List CommonBlock
 blocks_of_unit unit = flat_map (λ (s : Statement). blocks_in s.form) unit
 
--- the names in a block of a unit, in order; a block that is named again goes on
+-- the names in a block of a unit, in order; the lists of a block that is named several times are joined
 abbrev pub names_in_block : List Statement → BlockName → List Name
 names_in_block unit b = names_declared (entries_under b (blocks_of_unit unit))
 

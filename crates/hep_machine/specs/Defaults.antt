@@ -1,4 +1,4 @@
--- What the definitions answer where no accepted program ever is: docs/MACHINE.md, "What is never reached".
+-- The results of the definitions in cases that no accepted program has: docs/MACHINE.md, "What is never reached".
 use Rattle.std.specs.Prelude.{ℕ, ℤ, pos, Bool, false, List, [], length, replicate, None}
 use Rattle.hep_source.specs.declared.name.Name.{Name}
 use Rattle.hep_source.specs.declared.statement.Statement.{Statement}
@@ -10,7 +10,8 @@ use Rattle.hep_machine.specs.State.{common, Activation, Dummy, Loop}
 
 -- ---- values
 
--- for a logical value as operand of arithmetic, for the other way round, and for a function with another number of arguments
+-- for a logical value where an integer is expected, for an integer where a logical value is expected, and for a function with a wrong
+-- number of arguments
 abbrev pub no_integer : ℤ
 no_integer = pos 0
 
@@ -27,7 +28,7 @@ no_value = Truth false
 abbrev pub no_name : Name
 no_name = record { asynchronous = false; letters = replicate 6 32 }
 
--- for a label that no executable statement of the unit has: the index past its last statement
+-- for a label that no executable statement of the unit has: the index after its last statement
 abbrev pub no_index : List Statement → ℕ
 no_index unit = length unit
 

@@ -1,4 +1,5 @@
--- What of a statement is evaluated next: X3.9-1978, 6.6. A partly evaluated statement is the statement with values in the place of what was evaluated.
+-- The evaluation of a statement, part by part: X3.9-1978, 6.6. A partly evaluated statement has values in the place of the parts that were
+-- evaluated.
 use Rattle.std.specs.Prelude.{ℕ, pos, List, [], ◌∷◌, Option, Some, None}
 use Rattle.hep_source.specs.Tree.{Tree, Trees, constant, occurrence, with_list, parenthesized, signed, negated, binary, no_trees, trees, trees_of}
 use Rattle.hep_source.specs.declared.declaration.Target.{Target}
@@ -29,7 +30,7 @@ use Rattle.hep_machine.specs.Defaults.{no_value, no_name}
 abbrev pub Reference : Type 0
 Reference = Name × List Value
 
--- an expression by its value; a variable, an element or a whole array by its location, which isn't read
+-- an actual argument: the value of an expression, or a reference to a variable, an element or a whole array, which isn't read
 pub data Actual : Type 0 where
   evaluated : (v : Value) → Actual
   referred : (reference : Reference) → Actual
@@ -45,17 +46,17 @@ pub data Redex : Type 0 where
   applying : (f : PureFunction) (arguments : List Value) → Redex
   testing : (f : StateFunction) (reference : Name × List Value) → Redex
 
--- what a part wants first: the value of a redex, or that of a function, to which these actual arguments are given
-pub data Sought : Type 0 where
-  evaluating : (r : Redex) → Sought
-  referring : (x : Name) (actuals : List Actual) → Sought
+-- the value that a part needs first: that of a redex, or that of a function with these actual arguments
+pub data RedexOrReference : Type 0 where
+  evaluating : (r : Redex) → RedexOrReference
+  referring : (x : Name) (actuals : List Actual) → RedexOrReference
 
--- what a part is so far: a whole, or one that has a first redex
+-- the state of a part: it is completely evaluated, or it has a first redex
 pub data Part (A : Type 0) : Type 0 where
   whole : (x : A) → Part A
-  first_redex : (r : Sought) → Part A
+  first_redex : (r : RedexOrReference) → Part A
 
--- parts in a row: the first redex is that of the first one that has one
+-- two parts, evaluated from left to right: the first redex is that of the first part with a redex
 abbrev pub then_part : {A B C : Type 0} → (A → B → C) → Part A → Part B → Part C
 then_part f (first_redex r) q = first_redex r
 then_part f (whole x) (first_redex r) = first_redex r
@@ -65,31 +66,32 @@ abbrev pub mapped_part : {A B : Type 0} → (A → B) → Part A → Part B
 mapped_part f (whole x) = whole (f x)
 mapped_part f (first_redex r) = first_redex r
 
--- a part whose operands are all values is a redex; else its first redex is one of an operand
+-- a part whose operands are all values is a redex; else its first redex is that of its operands
 abbrev pub redex_of : {A B : Type 0} → (A → Redex) → Part A → Part B
 redex_of f (whole x) = first_redex (evaluating (f x))
 redex_of f (first_redex r) = first_redex r
 
 -- ---- expressions: operands from left to right (6.6)
 
--- named constants are values
+-- a named constant is a value, and any other name is a reference to read
 abbrev pub part_of_name : Option Value → Name → Part Value
 part_of_name None x = first_redex (evaluating (reading (x, [])))
 part_of_name (Some v) x = whole v
 
--- a reference of a function whose actual arguments are evaluated
+-- the reference of a function, once its actual arguments are evaluated
 abbrev pub reference_part : Name → Part (List Actual) → Part Value
 reference_part x (whole actuals) = first_redex (referring x actuals)
 reference_part x (first_redex r) = first_redex r
 
--- a name with a list by what it is: its list as operands, as the argument of FULL, EMPTY, VALUE, SETE or WAITF, and as actual arguments
+-- A name with a list, by its meaning. The list is given as operands, as the argument of FULL, EMPTY, VALUE, SETE or WAITF, and as actual
+-- arguments.
 abbrev pub part_of_listed : Meaning → Name → Part (List Value) → Part Reference → Part (List Actual) → Part Value
 part_of_listed element x vs r ys = redex_of (λ subscripts. reading (x, subscripts)) vs
 part_of_listed (pure f) x vs r ys = redex_of (applying f) vs
 part_of_listed (state f) x vs r ys = redex_of (testing f) r
 part_of_listed external x vs r ys = reference_part x ys
 
--- the argument of FULL, EMPTY, VALUE, SETE or WAITF that has a list is an element
+-- an argument of FULL, EMPTY, VALUE, SETE or WAITF with a list: an element
 abbrev pub reference_of_listed : Meaning → Name → Part (List Value) → Part Reference
 reference_of_listed element x vs = mapped_part (λ subscripts. (x, subscripts)) vs
 reference_of_listed _ x vs = whole (no_name, [])
@@ -140,7 +142,7 @@ abbrev mutual
   actuals_in unit no_trees = whole []
   actuals_in unit (trees t ts) = then_part (λ x xs. x ∷ xs) (actual_of unit t) (actuals_in unit ts)
 
--- an expression whose operands are all values is a redex itself, and becomes the value that it gives
+-- an expression whose operands are all values is the redex, and its value replaces it
 abbrev pub plugged : {A : Type 0} → Part A → Tree → Value → Tree
 plugged (whole x) t v = constant v
 plugged (first_redex r) t v = t
@@ -155,7 +157,7 @@ plugged_listed (pure f) vs r ys t v = plugged vs t v
 plugged_listed (state f) vs r ys t v = plugged r t v
 plugged_listed external vs r ys t v = plugged ys t v
 
--- the list of a name by what it is: as actual arguments, or as operands
+-- the list of a name after the replacement, by the meaning of the name: actual arguments, or operands
 abbrev pub plugged_arguments : Meaning → Trees → Trees → Trees
 plugged_arguments external actuals operands = actuals
 plugged_arguments _ actuals operands = operands
@@ -200,7 +202,7 @@ abbrev pub plug_actuals : List Statement → List Tree → Value → List Tree
 plug_actuals unit [] v = []
 plug_actuals unit (t ∷ ts) v = plugged_first (actual_of unit t) (plug unit t v ∷ ts) (t ∷ plug_actuals unit ts v)
 
--- ---- what is assigned (10.1 and 10.2) or purged (docs/LANGUAGE.md, 9)
+-- ---- the targets of assignment (10.1 and 10.2) and PURGE (docs/LANGUAGE.md, 9)
 
 abbrev pub target_part : List Statement → Target → Part Reference
 target_part unit t = mapped_part (λ vs. (t.occurrence.name, vs)) (list_part unit t.subscripts)
@@ -238,7 +240,7 @@ abbrev pub plug_items : List Statement → List PrintItem → Value → List Pri
 plug_items unit [] v = []
 plug_items unit (i ∷ is) v = plugged_first (item_part unit i) (plug_item unit i v ∷ is) (i ∷ plug_items unit is v)
 
--- ---- DO: 11.10.3, its increment is 1 where it has none
+-- ---- DO: 11.10.3; the increment is 1 where none is written
 
 abbrev pub increment_of : Option Tree → Tree
 increment_of None = constant (value.Int (pos 1))
@@ -256,7 +258,7 @@ plug_control unit c v =
 
 -- ---- statements: docs/MACHINE.md, "Steps"
 
--- what a statement does once all its operands are values
+-- the action of a statement, once all its operands are values
 pub data Action : Type 0 where
   assigning : (target : Reference) (v : Value) → Action
   jumping : (label : ℕ) → Action
@@ -275,16 +277,16 @@ pub data Action : Type 0 where
   resuming : Action
   stopping : Action
 
--- what comes next of a statement
+-- the next part of a statement: a value that it needs, or its action
 pub data Next : Type 0 where
-  wants : (r : Sought) → Next
+  wants : (r : RedexOrReference) → Next
   does : (a : Action) → Next
 
 abbrev pub next_by : {A : Type 0} → (A → Action) → Part A → Next
 next_by f (whole x) = does (f x)
 next_by f (first_redex r) = wants r
 
--- a statement that isn't executable is passed over, and so is ELSE, at which no process ever is
+-- the next part of a statement, by its form; a form that isn't executable is skipped, and so is ELSE, which no process ever reaches
 abbrev pub next_of_form : List Statement → Form → Next
 next_of_form unit (form.Assign x t) = next_by (λ (both : Value × Reference). assigning both.1 both.0) (then_part (λ v r. (v, r)) (part_of unit t) (target_part unit x))
 next_of_form unit (form.GoTo s) = does (jumping s)

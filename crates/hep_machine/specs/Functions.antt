@@ -1,4 +1,4 @@
--- The functions that are there without a declaration: X3.9-1978, 15.10, and docs/LANGUAGE.md, 8.
+-- The functions that need no declaration: X3.9-1978, 15.10, and docs/LANGUAGE.md, 8.
 use Rattle.std.specs.Prelude.{ℕ, Bool, true, false, if◌then◌else◌, codes, List, [], ◌∷◌, Option, Some, None}
 use Rattle.hep_source.specs.declared.function.PureFunction.{PureFunction}
 use Rattle.hep_source.specs.declared.function.PureFunction.TheVariants.{AbsoluteValue, Remainder, TransferOfSign, PositiveDifference, Largest, Smallest}
@@ -9,7 +9,7 @@ use Rattle.hep_source.specs.declared.statement.Statement.{Statement}
 use Rattle.hep_source.specs.Names.{same_letters, spelling}
 use Rattle.hep_machine.specs.Declarations.{is_array}
 
--- what a word means in a table
+-- the entry of a word in a table
 abbrev pub word_in : {A : Type 0} → List (List ℕ × A) → List ℕ → Option A
 word_in [] cs = None
 word_in (w ∷ ws) cs = if same_letters w.0 cs then Some w.1 else word_in ws cs
@@ -23,8 +23,8 @@ pure_functions =
 abbrev pub state_functions : List (List ℕ × StateFunction)
 state_functions = (codes "FULL", IsFull) ∷ (codes "EMPTY", IsEmpty) ∷ (codes "VALUE", ValueOf) ∷ (codes "SETE", SetEmpty) ∷ (codes "WAITF", WaitFull) ∷ []
 
--- ---- what a name with a list is: an element of the unit's array, a reference of one of these functions, or else one of a FUNCTION of the
--- program, if there is one (5.3, 15.3 and 15.5)
+-- ---- the meaning of a name with a list: an element of an array of the unit, a reference of one of these functions, or else of a FUNCTION
+-- of the program, if there is one (5.3, 15.3 and 15.5)
 
 pub data Meaning : Type 0 where
   element : Meaning

@@ -1,4 +1,4 @@
--- The expressions of a statement, and the functions that a unit refers to: X3.9-1978, sections 5 to 11 and 15.5.
+-- The expressions of a statement, and the functions that a unit references: X3.9-1978, sections 5 to 11 and 15.5.
 use Rattle.std.specs.Prelude.{Bool, not, ◌&&◌, List, [], ◌∷◌, ◌++◌, map, option_to_list}
 use Rattle.std.specs.List.{flat_map}
 use Rattle.hep_source.specs.Tree.{Tree, Trees, constant, occurrence, with_list, parenthesized, signed, negated, binary, no_trees, trees}
@@ -37,7 +37,7 @@ abbrev pub trees_in_item : PrintItem → List Tree
 trees_in_item (item.Expression t) = t ∷ []
 trees_in_item (item.Characters cs) = []
 
--- the expressions of an executable statement; the subscripts of what is assigned or purged too
+-- the expressions of an executable statement, with the subscripts of its targets
 abbrev pub trees_in_form : Form → List Tree
 trees_in_form (form.Assign x t) = x.subscripts ++ t ∷ []
 trees_in_form (form.ComputedGoTo labels t) = t ∷ []
@@ -51,7 +51,7 @@ trees_in_form (form.Purge targets) = flat_map (λ (t : Target). t.subscripts) ta
 trees_in_form (form.Print items) = flat_map trees_in_item items
 trees_in_form _ = []
 
--- all expressions of a statement: bounds, the values of constants and the subscripts in DATA too
+-- all expressions of a statement, with bounds, the values of constants, and the subscripts in DATA
 abbrev pub trees_in_statement : Statement → List Tree
 trees_in_statement s =
     s.conditions
@@ -59,10 +59,10 @@ trees_in_statement s =
     ++ (map (λ (c : NamedConstant). c.value) (constants_in s.form)
     ++ (flat_map (λ (g : DataGroup). flat_map (λ (t : Target). t.subscripts) g.targets) (groups_in s.form) ++ trees_in_form s.form)))
 
--- ---- functions that a unit refers to: 15.5
+-- ---- functions that a unit references: 15.5
 
 abbrev mutual
-  -- the names with lists in an expression, its lists included
+  -- the names with lists in an expression and within its lists
   pub names_listed_in : Tree → List Name
   names_listed_in (constant v) = []
   names_listed_in (occurrence p) = []
@@ -82,6 +82,7 @@ names_listed_by s = flat_map names_listed_in (trees_in_statement s)
 abbrev pub names_listed : List Statement → List Name
 names_listed unit = flat_map names_listed_by unit
 
--- a name with a list that is no array and none of the functions of the language; in a function its own name is its result
+-- whether a unit references a name as a function of the program: a name with a list that is no array and no function of the language; a
+-- function doesn't reference its own name, which is its result
 abbrev pub is_referenced : List Statement → Name → Bool
 is_referenced unit x = is_external (listed_meaning unit x) && (not (is_named (function_name unit) x) && is_among x (names_listed unit))

@@ -1,4 +1,4 @@
--- Which storage units a name stands for in an activation: X3.9-1978, 2.13, 2.14, 5.2.5, 8.3.2 and 15.9.3.
+-- The storage units that a name denotes in an activation: X3.9-1978, 2.13, 2.14, 5.2.5, 8.3.2 and 15.9.3.
 use Rattle.std.specs.Prelude.{ℕ, ◌+◌, ◌-◌, nat_le, if◌then◌else◌, List, Option, Some, None, Result, Ok, Err, slice_get}
 use Rattle.std.specs.Option.{unwrap_or}
 use Rattle.hep_machine.specs.declared.event.Kind.{Kind}
@@ -16,7 +16,7 @@ use Rattle.hep_machine.specs.State.{Dummy, Location, local, common}
 use Rattle.hep_source.specs.Units.{dummies_of}
 use Rattle.hep_machine.specs.Defaults.{no_dummy, no_shape}
 
--- an activation as its statements see it: the unit, the number, and what the dummy arguments stand for
+-- an activation as its statements see it: its unit, its number, and its dummy arguments
 pub record Scope : Type 0 where
   pub unit : List Statement
   pub number : ℕ
@@ -25,7 +25,7 @@ pub record Scope : Type 0 where
 abbrev pub dummy_at : List Dummy → ℕ → Dummy
 dummy_at dummies i = unwrap_or (slice_get dummies i) no_dummy
 
--- a variable: its first storage unit, how many there are, and its shape
+-- the storage of a variable: its first storage unit, the number of its storage units, and its shape
 pub record StorageSequence : Type 0 where
   pub start : Location
   pub rest : ℕ
@@ -35,7 +35,7 @@ abbrev pub start_by_block : Scope → Name → Option BlockName → Location
 start_by_block scope x None = local scope.number x 1
 start_by_block scope x (Some b) = common b (1 + cells_before scope.unit x (names_in_block scope.unit b))
 
--- a variable that is no dummy argument is in COMMON or local
+-- the storage of a variable that is no dummy argument: it is in COMMON or local
 abbrev pub own_storage : Scope → Name → StorageSequence
 own_storage scope x =
     record {
@@ -44,7 +44,8 @@ own_storage scope x =
       shape = unwrap_or (constant_shape scope.unit x) no_shape;
     }
 
--- a dummy array of known shape has the elements of that shape, one that is open all that is left of its actual argument
+-- the storage of a dummy argument: an array of known size has the elements of its shape, and an assumed-size array has all elements that
+-- the actual argument has from there on
 abbrev pub storage_of_dummy : Dummy → StorageSequence
 storage_of_dummy d = record { start = d.start; rest = unwrap_or (elements d.shape) d.rest; shape = d.shape }
 
@@ -61,7 +62,7 @@ abbrev pub element_in : StorageSequence → Option ℕ → Result ℕ Kind
 element_in e None = Err Range
 element_in e (Some n) = if nat_le n e.rest then Ok n else Err Range
 
--- the number of an element; RANGE for a subscript outside its bounds and for an element past what there is
+-- the number of an element; the fault RANGE for a subscript outside its bounds and for an element past the last one
 abbrev pub element_of : StorageSequence → List Value → Result ℕ Kind
 element_of e subscripts = element_in e (element_number e.shape (integers_of subscripts))
 

@@ -1,4 +1,4 @@
--- The first state of a run: what DATA gives (X3.9-1978, section 9), and process 1 at the main program (3.6).
+-- The first state of a run: the values of DATA (X3.9-1978, section 9), and process 1 at the main program (3.6).
 use Rattle.std.specs.Prelude.{ℕ, ◌+◌, ◌-◌, nat_lt, false, if◌then◌else◌, List, [], ◌∷◌, map, Option, Some, None, option_and_then, option_to_list}
 use Rattle.std.specs.Option.{option_map}
 use Rattle.std.specs.List.{flat_map}
@@ -17,14 +17,15 @@ use Rattle.hep_source.specs.Units.{Units, unit_at, main_unit}
 
 -- ---- DATA: 9.2
 
--- storage units, one after the other: the first one, and how many
+-- consecutive storage units: the first one, and how many there are
 abbrev pub StorageUnits : Type 0
 StorageUnits = Location × ℕ
 
 abbrev pub storage_units_of : Scope → Stretch → StorageUnits
 storage_units_of scope e = (further (storage_of scope e.name).start (e.first - 1), e.count)
 
--- the index of a storage unit in rows of them: in the first row, where it is so far from its beginning, or else in those after it
+-- the index of a storage unit in lists of consecutive units: its distance from the first one, where that is within the first list, or else
+-- its index in the lists after it
 abbrev pub index_within : ℕ → Option ℕ → Option ℕ → Option ℕ
 index_within count None after = option_map (λ n. count + n) after
 index_within count (Some i) after = if nat_lt i count then Some i else option_map (λ n. count + n) after
@@ -37,7 +38,7 @@ abbrev pub cell_given : Option Value → Cell → Cell
 cell_given None cell = cell
 cell_given (Some v) cell = record { value = Some v; full = cell.full }
 
--- the first value to the first storage unit, and so on
+-- the store in which the first storage unit has the first value, and so on
 abbrev pub with_values : Store → List StorageUnits → List (Repeated Value) → Store
 with_values store us vs location = cell_given (option_and_then (item_at vs) (index_of_location us location)) (store location)
 
@@ -55,7 +56,7 @@ abbrev pub with_groups : Scope → Store → List DataGroup → Store
 with_groups scope store [] = store
 with_groups scope store (g ∷ gs) = with_groups scope (with_group scope store g) gs
 
--- what is stored before the first step
+-- the store before the first step
 abbrev pub initial_store : Units → Store
 initial_store program =
     with_groups (record { unit = unit_at program (main_unit program); number = 1; dummies = [] }) (λ location. unset_cell) (

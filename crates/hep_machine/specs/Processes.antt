@@ -10,7 +10,7 @@ use Rattle.hep_machine.specs.Defaults.{no_activation, no_loop}
 abbrev pub is_number_among : ℕ → List ℕ → Bool
 is_number_among n ns = list_any (nat_eq n) ns
 
--- what has this number, counted from 1
+-- the item with this number, counted from 1
 abbrev pub numbered : {A : Type 0} → List A → ℕ → Option A
 numbered xs zero = None
 numbered xs (suc k) = slice_get xs k
@@ -25,7 +25,7 @@ top_of None = None
 top_of (Some []) = None
 top_of (Some (level ∷ levels)) = Some (level, levels)
 
--- the top of a living process, and what is below it
+-- the top level of a living process, and the levels below it; none where the process isn't alive
 abbrev pub living : State → ℕ → Option (Level × Process)
 living s p = top_of (numbered s.processes p)
 
@@ -41,7 +41,7 @@ activation_of s a = unwrap_or (numbered s.activations a) no_activation
 abbrev pub unit_of : State → ℕ → ℕ
 unit_of s a = (activation_of s a).unit
 
--- the activation that called or created this one, none for the main program's
+-- the activation that called or created this one; that of the main program has none
 abbrev pub parent_of : State → ℕ → Option ℕ
 parent_of s a = (activation_of s a).parent
 

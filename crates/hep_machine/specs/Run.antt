@@ -7,7 +7,7 @@ use Rattle.hep_machine.specs.State.{State}
 use Rattle.hep_machine.specs.Step.{step}
 use Rattle.hep_source.specs.Units.{Units}
 
--- the state after a turn of p: after its step, and the same state where it has none
+-- the state after a turn of p: the state after its step, or the same state where p has no step
 abbrev pub state_after_turn : Units → ℕ → State → State
 state_after_turn program p s = unwrap_or (step program p s) s
 
@@ -15,7 +15,7 @@ unfoldable pub run_from : Units → State → List ℕ → State
 run_from program s [] = s
 run_from program s (p ∷ ps) = run_from program (state_after_turn program p s) ps
 
--- each of these turns, one after the other, makes a step
+-- Each of these turns, in order, makes a step.
 abbrev pub AreSteps : Units → State → List ℕ → Type 0
 AreSteps program s [] = Unit {0}
 AreSteps program s (p ∷ ps) = (step program p s ≢ None) × AreSteps program (state_after_turn program p s) ps
@@ -24,11 +24,11 @@ AreSteps program s (p ∷ ps) = (step program p s ≢ None) × AreSteps program 
 unfoldable pub run : Units → List ℕ → State
 run program processes = run_from program (opening program) processes
 
--- the turns of an entry: its process, so often as it made steps
+-- the turns of an entry: its process, once for each step
 abbrev pub schedule_of_entry : Entry → List ℕ
 schedule_of_entry e = replicate e.steps e.process
 
--- the turns of a history, one entry after the other
+-- the turns of a history: those of its entries, in order
 unfoldable pub schedule_of : List Entry → List ℕ
 schedule_of [] = []
 schedule_of (e ∷ es) = schedule_of_entry e ++ schedule_of es

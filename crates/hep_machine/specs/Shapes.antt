@@ -3,7 +3,7 @@ use Rattle.std.specs.Prelude.{ℕ, ◌+◌, ◌*◌, ◌^◌, ℤ, pos, negsuc, 
 use Rattle.std.specs.Option.{unwrap_or}
 use Rattle.hep_machine.specs.declared.shape.Bound.{Bound}
 
--- the bounds of each dimension; no upper bound where it is written `*`: 5.1.1
+-- the bounds of each dimension; there is no upper bound where `*` is written: 5.1.1
 abbrev pub Bounds : Type 0
 Bounds = List Bound
 
@@ -11,7 +11,7 @@ abbrev pub natural : ℤ → ℕ
 natural (pos n) = n
 natural (negsuc n) = 0
 
--- the size of a dimension, none where its upper bound is open: 5.2.2
+-- the size of a dimension; none where its upper bound is open: 5.2.2
 abbrev pub size_between : ℤ → Option ℤ → Option ℕ
 size_between l None = None
 size_between l (Some u) = Some (natural ((u -ℤ l) +ℤ pos 1))
@@ -24,7 +24,7 @@ product None n = None
 product (Some m) None = None
 product (Some m) (Some n) = Some (m * n)
 
--- how many elements an array has, none where its last bound is open: 5.2.3
+-- the number of elements of an array; none where its last bound is open: 5.2.3
 abbrev pub elements : Bounds → Option ℕ
 elements [] = Some 1
 elements (b ∷ bs) = product (extent b) (elements bs)
@@ -32,7 +32,8 @@ elements (b ∷ bs) = product (extent b) (elements bs)
 abbrev pub most_elements : ℕ
 most_elements = 2 ^ 20
 
--- an upper bound below its lower one makes no dimension (5.1.1.2); an open one stands last (5.1.2)
+-- whether bounds make a dimension, by the dimensions after it: the upper bound isn't below the lower one (5.1.1.2), and only the last
+-- upper bound may be open (5.1.2)
 abbrev pub is_between : ℤ → Option ℤ → Bounds → Bool
 is_between l None [] = true
 is_between l None (b ∷ bs) = false
@@ -46,7 +47,7 @@ abbrev pub is_most : Option ℕ → Bool
 is_most None = true
 is_most (Some n) = nat_le n most_elements
 
--- one to seven dimensions (5.1.1), and no more than 1,048,576 elements (docs/LANGUAGE.md, 7)
+-- whether bounds make a shape: one to seven dimensions (5.1.1), and no more than 1,048,576 elements (docs/LANGUAGE.md, 7)
 abbrev pub is_shape : Bounds → Bool
 is_shape bs = nat_le 1 (length bs) && (nat_le (length bs) 7 && (are_dimensions bs && is_most (elements bs)))
 
@@ -63,7 +64,7 @@ abbrev pub sum : ℕ → Option ℕ → Option ℕ
 sum m None = None
 sum m (Some n) = Some (m + n)
 
--- the elements before that of these subscripts, where each step of the first dimension is of so many: 5.4.3, table 1
+-- the number of elements before the one with these subscripts, where a step in the first dimension passes `size` elements: 5.4.3, table 1
 abbrev pub before_element : ℕ → Bounds → List ℤ → Option ℕ
 before_element size [] [] = Some 0
 before_element size [] (s ∷ ss) = None
@@ -71,14 +72,15 @@ before_element size (b ∷ bs) [] = None
 before_element size (b ∷ bs) (s ∷ ss) =
     if is_within b s then sum (natural (s -ℤ b.lower) * size) (before_element (size * unwrap_or (extent b) 1) bs ss) else None
 
--- the number of an element, counted from 1; none where the number of subscripts or one of them is wrong. A scalar is its one element
+-- the number of an element, counted from 1; none where the number of subscripts is wrong or a subscript is outside its bounds; a scalar has
+-- one element
 abbrev pub element_number : Bounds → List ℤ → Option ℕ
 element_number bs ss = sum 1 (before_element 1 bs ss)
 
--- no number of an element is above 1,048,576, not even where the last bound is open: docs/LANGUAGE.md, 7
+-- the number of an element; none where it is above 1,048,576, also where the last bound is open: docs/LANGUAGE.md, 7
 abbrev pub counted_element : Bounds → List ℤ → Option ℕ
 counted_element bs ss = if is_most (element_number bs ss) then element_number bs ss else None
 
--- an array has no more elements than these; what is open fits anywhere: 15.9.3.3
+-- whether an array has no more elements than these; an array with an open bound always fits: 15.9.3.3
 abbrev pub fits : Bounds → ℕ → Bool
 fits bs rest = nat_le (unwrap_or (elements bs) 0) rest

@@ -1,4 +1,4 @@
--- What a state of the machine is: docs/MACHINE.md, "Storage" and "Activations and processes".
+-- The states of the machine: docs/MACHINE.md, "Storage" and "Activations and processes".
 use Rattle.std.specs.Prelude.{ℕ, ℤ, Bool, List, Option}
 use Rattle.hep_source.specs.Tree.{Tree}
 use Rattle.hep_machine.specs.declared.event.Fault.{Fault}
@@ -10,13 +10,13 @@ use Rattle.hep_machine.specs.Shapes.{Bounds}
 
 -- ---- storage: "Storage"
 
--- where a storage unit is: an element of a variable of an activation, or a position in a common block, both counted from 1
+-- the location of a storage unit: an element of a variable of an activation, or a position in a common block, both counted from 1
 -- (X3.9-1978, 2.13, 5.2.5 and 8.3.2)
 pub data Location : Type 0 where
   local : (activation : ℕ) (name : Name) (element : ℕ) → Location
   common : (block : Option Name) (position : ℕ) → Location
 
--- what a storage unit holds: the value that was stored last, if any, and whether it is full
+-- the content of a storage unit: the value that was stored last, if there is one, and whether the unit is full
 abbrev pub Cell : Type 0
 Cell = Slot
 
@@ -25,14 +25,14 @@ Store = Location → Cell
 
 -- ---- activations: "Activations and processes"
 
--- what a dummy argument stands for: its first storage unit, how many the actual argument has from there, and its shape,
--- fixed when the activation began
+-- the association of a dummy argument: its first storage unit, the number of units that the actual argument has from there on, and its
+-- shape, which is fixed when the activation begins
 pub record Dummy : Type 0 where
   pub start : Location
   pub rest : ℕ
   pub shape : Bounds
 
--- an activation of a unit, the activation that made it, none for that of the main program, and its dummy arguments
+-- an activation: its unit, the activation that made it (none for the main program), and its dummy arguments
 pub record Activation : Type 0 where
   pub unit : ℕ
   pub parent : Option ℕ
@@ -40,25 +40,25 @@ pub record Activation : Type 0 where
 
 -- ---- processes: "Activations and processes"
 
--- what is left of a statement: the conditions before its form, or the end of the DO at an index (X3.9-1978, 11.10.4 to 11.10.7)
+-- the work left of a statement: its remaining conditions and its form, or the end of the DO at an index (X3.9-1978, 11.10.4 to 11.10.7)
 pub data Work : Type 0 where
   doing : (conditions : List Tree) (form : Form) → Work
   ending : (loop : ℕ) → Work
 
--- a DO that was begun: its index, its iteration count and its increment
+-- an active DO: its index, its iteration count and its increment
 pub record Loop : Type 0 where
   pub statement : ℕ
   pub count : ℤ
   pub increment : ℤ
 
--- an activation on a stack: the statement that it is at, what is left of it, and its DOs
+-- a level of a stack: an activation, the index of its current statement, the work left of it, and its active DOs
 pub record Level : Type 0 where
   pub activation : ℕ
   pub statement : ℕ
   pub work : Work
   pub loops : List Loop
 
--- a process: its stack, the top first. It lives while this isn't empty
+-- a process: its stack, the top first. The process is alive while the stack isn't empty.
 abbrev pub Process : Type 0
 Process = List Level
 

@@ -17,7 +17,7 @@ use Rattle.hep_machine.specs.Arithmetic.{integer_of, logical_of, integer_or_over
 use Rattle.hep_machine.specs.Binding.{Binding, binding_for}
 use Rattle.hep_machine.specs.Control.{level_after_statement, level_at_label, level_at_choice, label_chosen, label_by_sign, level_in_block, level_after_condition, level_in_range, level_after_loop, variable_of, level_at_statement}
 use Rattle.hep_machine.specs.Declarations.{is_array, is_nonempty}
-use Rattle.hep_machine.specs.Evaluation.{Redex, Sought, evaluating, referring, reading, signing, negating, combining, applying, testing, Reference, Actual, Action, assigning, jumping, choosing, branching, testing_condition, entering_block, entering_loop, ending_loop, calling, creating, purging, printing, continuing, leaving, resuming, stopping, Next, wants, does, next_of, plug_work}
+use Rattle.hep_machine.specs.Evaluation.{Redex, RedexOrReference, evaluating, referring, reading, signing, negating, combining, applying, testing, Reference, Actual, Action, assigning, jumping, choosing, branching, testing_condition, entering_block, entering_loop, ending_loop, calling, creating, purging, printing, continuing, leaving, resuming, stopping, Next, wants, does, next_of, plug_work}
 use Rattle.hep_machine.specs.Locations.{Scope, storage_of, location_of_name}
 use Rattle.hep_machine.specs.Shapes.{natural}
 use Rattle.hep_machine.specs.State.{Cell, Level, Loop, Process, State, doing, Location, Store}
@@ -28,12 +28,12 @@ use Rattle.hep_machine.specs.Processes.{living, unit_of, activation_of, with_pro
 
 -- ---- a redex: "Steps"
 
--- a storage unit, and the state that is waited for
+-- the storage unit that an access waits for, and whether it waits until the unit is full or until it is empty
 pub record Wanted : Type 0 where
   pub at : Location
   pub full : Bool
 
--- what a redex gives, with the store that it leaves, or what it waits for, or its fault
+-- the result of a redex: a value and the store after it, or what it waits for, or its fault
 pub data Answer : Type 0 where
   gives : (v : Value) (store : Store) → Answer
   waits : (w : Wanted) → Answer
@@ -43,7 +43,7 @@ abbrev pub by_result : Result Value Kind → Store → Answer
 by_result (Ok v) store = gives v store
 by_result (Err k) store = fails k
 
--- what an access to the cell of a storage unit comes to, with the store that it leaves
+-- the result of an access to a storage unit, by its outcome for the cell
 abbrev pub answer_at : Store → Location → Outcome → Answer
 answer_at store at (access.gives v) = gives v store
 answer_at store at (access.makes v cell) = gives v (with_cell store at cell)
@@ -77,14 +77,14 @@ answer_of scope store (combining o v w) = by_result (combined_value o v w) store
 answer_of scope store (applying f vs) = by_result (function_value f vs) store
 answer_of scope store (testing f r) = answer_of_test_at f store (location_of_name scope r.0 r.1)
 
--- ---- what a turn of a process makes: "Steps"
+-- ---- the result of a turn: "Steps"
 
 pub data StepResult : Type 0 where
   stepped : (s : State) → StepResult
   waiting : (w : Wanted) → StepResult
   absent : StepResult
 
--- a process with its top activation, in a state
+-- a living process in a state: its top level, and the levels below
 pub record Top : Type 0 where
   pub state : State
   pub process : ℕ
@@ -98,7 +98,7 @@ abbrev pub scope_of : Units → State → ℕ → Scope
 scope_of program s a =
     record { unit = unit_at program (unit_of s a); number = a; dummies = (activation_of s a).dummies }
 
--- the state with this on top of the process
+-- the state with this level on top of the process
 abbrev pub state_with_level : Top → Level → State
 state_with_level t level = with_process t.state t.process (level ∷ t.below)
 
@@ -116,7 +116,7 @@ fault_of program t k =
       kind = k;
     }
 
--- a fault ends its process
+-- the result of a fault: it is recorded, and its process ends
 abbrev pub result_after_fault : Units → Top → Kind → StepResult
 result_after_fault program t k =
     stepped (with_process (record t.state { faults = t.state.faults ++ fault_of program t k ∷ [] }) t.process [])
@@ -133,7 +133,7 @@ abbrev pub written : Bool → Value → Cell → Outcome
 written false v cell = writing v cell
 written true v cell = writing_asynchronous v cell
 
--- where a value was stored the process goes on at this level
+-- the result of an assignment: after the value is stored the process continues at this level
 abbrev pub result_after_write : Units → Top → Level → Answer → StepResult
 result_after_write program t level (gives v store) = stepped (state_with_store t store level)
 result_after_write program t level (waits w) = waiting w
@@ -148,7 +148,7 @@ result_after_assignment program t asynchronous (Err k) v = result_after_fault pr
 result_after_assignment program t asynchronous (Ok at) v =
     result_after_store program asynchronous t at v (level_after_statement (unit_on_top program t) t.level)
 
--- a whole array with all its elements, or one element
+-- the store after PURGE of a scalar or an element, by its location or the fault of its subscripts
 abbrev pub store_after_purge_at : Store → Result Location Kind → Result Store Kind
 store_after_purge_at store (Err k) = Err k
 store_after_purge_at store (Ok at) = Ok (with_empty store at)
@@ -167,24 +167,24 @@ abbrev pub store_after_purge : Scope → List Reference → Store → Result Sto
 store_after_purge scope [] store = Ok store
 store_after_purge scope (r ∷ rs) store = store_after_both (store_after_purge_of scope r store) (store_after_purge scope rs)
 
--- a fault changes no storage unit
+-- the result of a PURGE; a fault changes no storage unit
 abbrev pub result_after_purge : Units → Top → Result Store Kind → StepResult
 result_after_purge program t (Err k) = result_after_fault program t k
 result_after_purge program t (Ok store) = stepped (state_with_store t store (level_after_statement (unit_on_top program t) t.level))
 
 -- ---- DO: X3.9-1978, 11.10.3 to 11.10.7
 
--- the iteration count, from the initial value, the limit and the increment: 0 where the quotient is below it
+-- the iteration count, by the initial value, the terminal value and the increment: 0 where the quotient is negative
 abbrev pub iterations : ℤ → ℤ → ℤ → Result ℤ Kind
 iterations m n (pos zero) = Err Step
 iterations m n (pos (suc k)) = integer_or_overflow (pos (natural (int_div ((n -ℤ m) +ℤ pos (suc k)) (pos (suc k)))))
 iterations m n (negsuc k) = integer_or_overflow (pos (natural (int_div ((n -ℤ m) +ℤ negsuc k) (negsuc k))))
 
--- into the range where iterations are left, and else after the DO
+-- the level in the range where iterations are left, and else after the DO
 abbrev pub level_after_count : List Statement → Level → ℕ → ℤ → Level
 level_after_count unit level d count = if int_lt (pos 0) count then level_in_range unit level d else level_after_loop unit level d
 
--- a DO at index d that has its count, its variable set
+-- the state after a DO at index d sets its variable and its iteration count
 abbrev pub state_after_count : Units → Top → ℕ → Location → ℤ → ℤ → ℤ → State
 state_after_count program t d at value count increment =
     state_with_store t (with_value t.state.store at (Some (Int value))) (
@@ -199,7 +199,7 @@ abbrev pub result_after_increment : Units → Top → Loop → Location → Resu
 result_after_increment program t l at (Err k) = result_after_fault program t k
 result_after_increment program t l at (Ok z) = stepped (state_after_count program t l.statement at z (l.count -ℤ pos 1) l.increment)
 
--- the variable is raised by the increment, and an iteration is over
+-- the result of the end of an iteration: the increment is added to the variable, and the count falls by 1
 abbrev pub result_after_loop_variable : Units → Top → Loop → Location → Option Value → StepResult
 result_after_loop_variable program t l at None = result_after_fault program t Undefined
 result_after_loop_variable program t l at (Some v) = result_after_increment program t l at (integer_or_overflow (integer_of v +ℤ l.increment))
@@ -210,7 +210,7 @@ result_after_loop_end program t l (Ok at) = result_after_loop_variable program t
 
 -- ---- CALL, CREATE and RETURN: 15.6.2 and 15.8
 
--- an activation at the first executable statement of its unit
+-- the level of a new activation, at the first executable statement of its unit
 abbrev pub entry_level : List Statement → ℕ → Level
 entry_level unit a =
     level_at_statement unit (record { activation = a; statement = 0; work = doing [] End; loops = [] }) (executable_from unit 0)
@@ -218,7 +218,7 @@ entry_level unit a =
 abbrev pub next_activation : State → ℕ
 next_activation s = length s.activations + 1
 
--- the state with one more activation, of unit u, which the top one makes
+-- the state with one more activation, of unit u, whose parent is the top activation
 abbrev pub with_activation : Top → ℕ → Binding → State
 with_activation t u b =
     record t.state {
@@ -234,7 +234,7 @@ result_after_call program t u (Ok b) =
 abbrev pub with_new_process : State → Process → State
 with_new_process s q = record s { processes = s.processes ++ q ∷ [] }
 
--- the new process has the next number
+-- the result of CREATE; the new process has the next number
 abbrev pub result_after_create : Units → Top → ℕ → Result Binding Kind → StepResult
 result_after_create program t u (Err k) = result_after_fault program t k
 result_after_create program t u (Ok b) =
@@ -248,7 +248,7 @@ abbrev pub binding_of : Units → Top → ℕ → List Actual → Result Binding
 binding_of program t u actuals =
     binding_for (scope_of program t.state t.level.activation) t.state.store (unit_at program u) (next_activation t.state) actuals
 
--- the caller of an activation that has ended goes on after its CALL
+-- the stack after an activation ended: its caller continues after its CALL
 abbrev pub stack_after_return : Units → State → Process → Process
 stack_after_return program s [] = []
 stack_after_return program s (level ∷ levels) = level_after_statement (unit_at program (unit_of s level.activation)) level ∷ levels
@@ -258,14 +258,14 @@ stack_after_return program s (level ∷ levels) = level_after_statement (unit_at
 abbrev pub function_unit : Units → Name → ℕ
 function_unit program x = unwrap_or (function_called program x) no_unit
 
--- what is sought has its value by itself, or an activation begins that gives it
-abbrev pub result_after_sought : Units → Top → Sought → StepResult
+-- the result for a needed value: a redex is evaluated, or the activation of a function begins
+abbrev pub result_after_sought : Units → Top → RedexOrReference → StepResult
 result_after_sought program t (evaluating r) =
     result_after_answer program t (answer_of (scope_of program t.state t.level.activation) t.state.store r)
 result_after_sought program t (referring x actuals) =
     result_after_call program t (function_unit program x) (binding_of program t (function_unit program x) actuals)
 
--- the value of a function stands in the place of its reference, in the level below
+-- the stack after a function ended: its value replaces its reference in the level below
 abbrev pub stack_after_value : Units → State → Value → Process → Process
 stack_after_value program s v [] = []
 stack_after_value program s v (level ∷ levels) =
@@ -279,7 +279,7 @@ abbrev pub result_after_result : Units → Top → Result Location Kind → Step
 result_after_result program t (Err k) = result_after_fault program t k
 result_after_result program t (Ok at) = result_after_value program t (t.state.store at).value
 
--- an activation ends: that of a function by its result, a variable of its name
+-- the result of the end of an activation; that of a function gives the value of the variable with its name
 abbrev pub result_after_leaving : Units → Top → Option Name → StepResult
 result_after_leaving program t None = stepped (with_process t.state t.process (stack_after_return program t.state t.below))
 result_after_leaving program t (Some x) =
@@ -287,7 +287,7 @@ result_after_leaving program t (Some x) =
 
 -- ---- RESUME: docs/LANGUAGE.md, 9
 
--- above another activation this one becomes the next process, and its caller goes on after its CALL
+-- the state after RESUME: an activation with a caller becomes the next process, and the caller continues after its CALL
 abbrev pub state_resumed : Units → Top → Process → State
 state_resumed program t [] = state_with_level t (level_after_statement (unit_on_top program t) t.level)
 state_resumed program t (caller ∷ callers) =
@@ -335,7 +335,7 @@ step_result_of_top program s p (Some top) =
     result_after_next program (record { state = s; process = p; level = top.0; below = top.1 }) (
     next_of (unit_at program (unit_of s top.0.activation)) top.0.work)
 
--- what a turn of process p makes: nothing where p doesn't live
+-- the result of a turn of process p; `absent` where p isn't alive
 unfoldable pub step_result_of : Units → ℕ → State → StepResult
 step_result_of program p s = step_result_of_top program s p (living s p)
 
@@ -344,7 +344,7 @@ state_made (stepped s) = Some s
 state_made (waiting w) = None
 state_made absent = None
 
--- the state that a step of process p leads to; none where the machine is halted, p doesn't live or p waits
+-- the state after a step of process p; none where the machine is halted, p isn't alive, or p waits
 abbrev pub step : Units → ℕ → State → Option State
 step program p s = if s.halted then None else state_made (step_result_of program p s)
 
@@ -353,10 +353,10 @@ wanted_of (stepped s) = None
 wanted_of (waiting w) = Some w
 wanted_of absent = None
 
--- what the next step of process p waits for, where p lives and that step waits
+-- what the next step of process p waits for; none where p isn't alive or doesn't wait
 abbrev pub wanted_by : Units → ℕ → State → Option Wanted
 wanted_by program p s = wanted_of (step_result_of program p s)
 
--- p lives and its next step waits for a storage unit
+-- whether p is alive and its next step waits for a storage unit
 abbrev pub is_waiting : Units → State → ℕ → Bool
 is_waiting program s p = is_some (wanted_by program p s)

@@ -29,7 +29,7 @@ use Rattle.hep_machine.specs.Listed.{is_referenced}
 use Rattle.hep_source.specs.Names.{with_names}
 use Rattle.hep_source.specs.Units.{dummies_of, names_of_occurrences}
 
--- ---- where a statement names variables and constants, in the order of its text: docs/MACHINE.md, "Variables and frames"
+-- ---- occurrences of variables and constants in a statement, in the order of its text: docs/MACHINE.md, "Variables and frames"
 
 -- a name with a list names a variable only where the unit has that array
 abbrev pub array_occurrence : List Statement → Occurrence → List Occurrence
@@ -63,7 +63,7 @@ occurrences_in_dimension unit d = occurrences_in_some unit d.lower ++ occurrence
 abbrev pub occurrences_in_declarator : List Statement → Declarator → List Occurrence
 occurrences_in_declarator unit d = d.occurrence ∷ flat_map (occurrences_in_dimension unit) d.dimensions
 
--- a type statement makes no variable of a function that the unit refers to
+-- in a type statement, the name of a function that the unit references is no variable
 abbrev pub occurrences_in_declared : List Statement → Declarator → List Occurrence
 occurrences_in_declared unit d = if not (is_nonempty d.dimensions) && is_referenced unit d.occurrence.name then [] else occurrences_in_declarator unit d
 
@@ -132,7 +132,7 @@ occurrences_of unit = flat_map (occurrences_in_statement unit) unit
 abbrev pub names_of : List Statement → List Name
 names_of unit = with_names [] (names_of_occurrences (occurrences_of unit))
 
--- a variable that an activation owns: neither a dummy argument nor in COMMON
+-- whether a name is a local variable: no dummy argument, not in COMMON, and no constant
 abbrev pub is_local : List Statement → Name → Bool
 is_local unit x = not (is_dummy unit x) && (not (is_common unit x) && not (is_constant_name unit x))
 

@@ -1,4 +1,4 @@
--- What of a state is compared: docs/MACHINE.md, "What is compared".
+-- The view of a state, by which states are compared: docs/MACHINE.md, "What is compared".
 use Rattle.std.specs.Prelude.{ℕ, zero, suc, Bool, false, nat_eq, if◌then◌else◌, List, [], ◌∷◌, ◌++◌, Option}
 use Rattle.std.specs.List.{flat_map}
 use Rattle.hep_machine.specs.declared.event.Fault.{Fault}
@@ -17,7 +17,7 @@ use Rattle.hep_machine.specs.Processes.{unit_of}
 
 -- ---- processes
 
--- where a living process is: its number, the unit and the line of its top statement, and what it waits for, if it does
+-- the view of a living process: its number, the unit and the line of its top statement, and what it waits for, if it waits
 pub record ProcessView : Type 0 where
   pub process : ℕ
   pub unit : ℕ
@@ -40,7 +40,7 @@ process_views_from program s p (q ∷ qs) = process_view_of program s p q ++ pro
 
 -- ---- storage
 
--- a location, and the cell that it holds
+-- a location, and its cell
 pub record CellView : Type 0 where
   pub at : Location
   pub cell : Cell
@@ -59,7 +59,7 @@ abbrev pub is_owned : ℕ → Location → Bool
 is_owned a (local b x i) = nat_eq a b
 is_owned a (common b k) = false
 
--- a dummy argument that stands for an expression is a variable of its own
+-- the cell of a dummy argument that is associated with an expression; any other dummy argument owns none
 abbrev pub cells_of_dummy : Store → ℕ → Dummy → List CellView
 cells_of_dummy store a d = if is_owned a d.start then cell_view store d.start ∷ [] else []
 
@@ -78,8 +78,8 @@ cells_of_block program store b = cells_at store (common b 1) (block_cells progra
 
 -- ---- the view
 
--- records, faults, halted or not, each living process with its statement, and the cells of COMMON and of every variable of the
--- activations that have frames, each with its location
+-- the view: records, faults, whether the machine is halted, each living process with its statement, and the cells of COMMON and of every
+-- variable of the activations that have frames, each with its location
 pub record View : Type 0 where
   pub records : List (List Item)
   pub faults : List Fault

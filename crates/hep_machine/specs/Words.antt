@@ -1,12 +1,12 @@
--- What others name of trees and of the source machine, passed on from one place. Declares nothing.
+-- The names of definitions of trees and of the source machine, exported again for later crates. This file declares nothing.
 pub use Rattle.hep_source.specs.Names.{index_among, index_where, is_among, letters_of, name_eq, same_letters, same_logical, same_name}
-pub use Rattle.hep_source.specs.Names.{spelling, with_name, with_names}
+pub use Rattle.hep_source.specs.Names.{block_spelling, spelling, with_name, with_names}
 pub use Rattle.hep_source.specs.Units.{dummies_by_header, dummies_of, executable_from, is_executable, is_main, is_named, line_at}
 pub use Rattle.hep_source.specs.Units.{function_by_header, function_called, function_name, procedure_name}
 pub use Rattle.hep_source.specs.Units.{main_among, main_name, main_unit, names_of_occurrences, passed_over, statement_at}
 pub use Rattle.hep_source.specs.Units.{subroutine_by_header, subroutine_called, subroutine_name, unit_at, unit_name, Units}
 pub use Rattle.hep_source.specs.Tree.{binary, constant, negated, no_trees, nodes, nodes_of_all, occurrence, parenthesized, signed, Tree}
-pub use Rattle.hep_source.specs.Tree.{Trees, trees, trees_of, with_list}
+pub use Rattle.hep_source.specs.Tree.{list_of, Trees, trees, trees_of, with_list}
 pub use Rattle.hep_source.specs.Defaults.{no_statement, no_unit}
 pub use Rattle.hep_source.specs.NodeTree.{node_tree}
 pub use Rattle.hep_source.specs.declared.declaration.CommonBlock.{CommonBlock}
@@ -95,7 +95,7 @@ unfoldable pub use Rattle.hep_machine.specs.Evaluation.{plug_actuals, plug_all, 
 unfoldable pub use Rattle.hep_machine.specs.Evaluation.{plug_target, plug_targets, plug_work, plugged, plugged_first, plugged_listed}
 unfoldable pub use Rattle.hep_machine.specs.Evaluation.{redex_of, Reference, reference_of, reference_of_listed, target_part, targets_part}
 unfoldable pub use Rattle.hep_machine.specs.Evaluation.{then_part, actuals_in, plug_actuals_in, plugged_arguments, reference_part}
-pub use Rattle.hep_machine.specs.Evaluation.{Sought, evaluating, referring, resuming}
+pub use Rattle.hep_machine.specs.Evaluation.{RedexOrReference, evaluating, referring, resuming}
 pub use Rattle.hep_machine.specs.Evaluation.{Action, Actual, applying, assigning, branching, calling, choosing, combining, continuing}
 pub use Rattle.hep_machine.specs.Evaluation.{creating, does, ending_loop, entering_block, entering_loop, evaluated, first_redex, jumping}
 pub use Rattle.hep_machine.specs.Evaluation.{leaving, negating, Next, Part, printing, purging, Redex, referred, signing, stopping, testing}

@@ -1,4 +1,4 @@
-//! Integer arithmetic: exact whole numbers, then one test that the result fits.
+//! Integer arithmetic: results are exact whole numbers, and one test decides whether a result fits.
 ghost use Rattle.std.specs.Prelude.{◌≡◌, ◌<◌};
 ghost use Rattle.std.specs.Int.{int_pow};
 ghost use Rattle.hep_machine.specs.Words.{integer_or_overflow, result_of, signed_result, power_of, reciprocal_of};
@@ -11,7 +11,7 @@ use hep_source::{ArithmeticOperator, Sign};
 /// # Errors
 ///
 /// `Divide` for a zero divisor or a negative power of zero, `Overflow` where the exact result is
-/// no 64-bit integer.
+/// not a 64-bit integer.
 #[inline(always)]
 pub fn apply(operator: ArithmeticOperator, left: i64, right: i64) -> Result<i64, Kind>
     ensures { result ≡ result_of operator left right }
@@ -39,7 +39,7 @@ pub fn apply_sign(sign: Sign, operand: i64) -> Result<i64, Kind>
     }
 }
 
-// The quotient without its fraction (6.1.5).
+// The quotient without its fraction (X3.9-1978, 6.1.5).
 fn quotient(left: i64, right: i64) -> Result<i64, Kind>
     ensures { result ≡ result_of ArithmeticOperator.Divide left right }
 {
@@ -49,7 +49,7 @@ fn quotient(left: i64, right: i64) -> Result<i64, Kind>
     left.checked_div(right).ok_or(Kind::Overflow)
 }
 
-// A power; a negative exponent is a quotient of 1 by a power.
+// A power. A power with a negative exponent is 1 divided by the power with the exponent's absolute value, without its fraction.
 fn power(base: i64, exponent: i64) -> Result<i64, Kind>
     ensures { result ≡ power_of base exponent }
 {
@@ -63,7 +63,7 @@ fn power(base: i64, exponent: i64) -> Result<i64, Kind>
     }
 }
 
-// A power with an exponent so large that only 0, 1 and -1 have one that fits.
+// A power with an exponent above 63. Only powers of 0, 1 and -1 fit.
 fn distant_power(base: i64, exponent: u64) -> Result<i64, Kind>
     requires { 63 < exponent }
     ensures { result ≡ integer_or_overflow (int_pow base exponent) }
@@ -75,7 +75,7 @@ fn distant_power(base: i64, exponent: u64) -> Result<i64, Kind>
     }
 }
 
-// One divided by a power, without its fraction.
+// 1 divided by a power, without its fraction.
 fn reciprocal(base: i64, exponent: u64) -> Result<i64, Kind>
     ensures { result ≡ reciprocal_of base exponent }
 {

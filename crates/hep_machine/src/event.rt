@@ -1,23 +1,23 @@
-//! What a run leaves beside its records: faults and the history.
+//! The faults and the history of a run.
 
-/// Why a process ended early.
+/// The kind of a fault: the reason why a process ended early.
 #[derive(Clone, Copy, Debug, PartialEq, Eq)]
 pub enum Kind {
     /// An integer above 9223372036854775807 or below -9223372036854775808.
     Overflow,
     /// A division by zero.
     Divide,
-    /// A subscript outside its bounds, or an element past what the actual argument's array has.
+    /// A subscript outside its bounds, or an element past the end of the actual argument's array.
     Range,
     /// A variable that was read before a value was assigned to it.
     Undefined,
-    /// An array of an argument that has no shape, or more elements than the actual argument's.
+    /// A dummy array whose bounds make no shape, or that has more elements than its actual argument.
     Shape,
     /// A DO whose increment is zero.
     Step,
 }
 
-/// A fault: which process ended early, where and why.
+/// A fault: the process that ended early, the place in the source, and the reason.
 #[derive(Clone, Copy, Debug, PartialEq, Eq)]
 pub struct Fault {
     pub process: u64,
@@ -28,7 +28,7 @@ pub struct Fault {
     pub kind: Kind,
 }
 
-/// An entry of the history: so many steps of a process, none where it was found waiting.
+/// An entry of the history: a process, and the number of its steps. The number is 0 where the process was found waiting.
 #[derive(Clone, Copy, Debug, PartialEq, Eq)]
 pub struct Entry {
     pub process: u64,

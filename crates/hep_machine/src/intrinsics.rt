@@ -1,4 +1,4 @@
-//! Functions of integers (X3.9-1978, 15.10): exact whole numbers, then one test that the result fits.
+//! Intrinsic functions of integers (X3.9-1978, 15.10): results are exact whole numbers, and one test decides whether a result fits.
 ghost use Rattle.std.specs.Prelude.{◌≡◌, pos, ◌-ℤ◌, [], ◌∷◌};
 ghost use Rattle.hep_machine.specs.Arithmetic as arithmetic;
 
@@ -6,7 +6,7 @@ use crate::event::Kind;
 use crate::values::integer_of;
 use hep_source::{PureFunction, Value};
 
-// For another number of arguments, which no accepted program has.
+// The result for a wrong number of arguments, which no accepted program has.
 const NO_INTEGER: i64 = 0;
 
 fn absolute_value(argument: i64) -> Result<i64, Kind>
@@ -15,7 +15,7 @@ fn absolute_value(argument: i64) -> Result<i64, Kind>
     argument.checked_abs().ok_or(Kind::Overflow)
 }
 
-// What is left of a quotient; nothing by -1, even where the quotient is no integer.
+// The remainder of a division. It is 0 for the divisor -1, even where the quotient overflows.
 fn remainder(left: i64, right: i64) -> Result<i64, Kind>
     ensures { result ≡ arithmetic.remainder_of left right }
 {
@@ -26,14 +26,14 @@ fn remainder(left: i64, right: i64) -> Result<i64, Kind>
     }
 }
 
-// The negative of the absolute value, which is always an integer.
+// The negative of the absolute value. It always fits.
 fn negative_size(argument: i64) -> i64
     ensures { result ≡ pos 0 -ℤ arithmetic.size_of argument }
 {
     if argument < 0 { argument } else { -argument }
 }
 
-// The size of the first argument with the sign of the second.
+// The absolute value of the first argument with the sign of the second.
 fn with_sign(argument: i64, sign: i64) -> Result<i64, Kind>
     ensures { result ≡ arithmetic.function_result PureFunction.TransferOfSign (argument ∷ sign ∷ []) }
 {
@@ -80,7 +80,7 @@ fn smallest(first: i64, more: &[Value]) -> i64
     smallest
 }
 
-// The result of a function; 0 for another number of arguments.
+// The result of a function; 0 for a wrong number of arguments.
 fn function_result(function: PureFunction, arguments: &[Value]) -> Result<i64, Kind>
     ensures { result ≡ arithmetic.function_result function (arithmetic.integers_of arguments.now) }
 {
@@ -116,7 +116,7 @@ fn function_result(function: PureFunction, arguments: &[Value]) -> Result<i64, K
 ///
 /// # Errors
 ///
-/// `Divide` for a remainder by zero, `Overflow` where the exact result is no 64-bit integer.
+/// `Divide` for a remainder by zero, `Overflow` where the exact result is not a 64-bit integer.
 pub fn function_value(function: PureFunction, arguments: &[Value]) -> Result<Value, Kind>
     ensures { result ≡ arithmetic.function_value function arguments.now }
 {

@@ -1,8 +1,8 @@
-//! The source machine: what a program means, step by step, and what its run leaves.
+//! The source machine: the meaning of a program as steps of its processes, and the results of a run.
 //!
-//! The definitions stand in `specs/`, in files by subject, and laws about them are contracts of the
-//! functions in [`laws`]. Arithmetic, operators and functions on values, and the types of records, faults and
-//! histories are code that every crate above shares.
+//! `specs/` has the definitions, in files by subject; begin with `specs/State` and `specs/Step`. The contracts of the functions in
+//! [`laws`] are laws about them. The code of this crate is what all later crates share: arithmetic, operators and functions on values, and
+//! the types of records, faults and histories.
 #![tactic(auto)]
 
 pub mod arithmetic;
@@ -15,6 +15,7 @@ pub mod slot;
 pub mod values;
 
 pub use event::{Entry, Fault, Kind};
+pub use hep_source::{ArithmeticOperator, Value};
 pub use record::{Item, Record};
 pub use shape::Bound;
 pub use slot::Slot;

@@ -1,4 +1,4 @@
-//! What PRINT writes.
+//! The records that PRINT writes.
 use hep_source::{Sequence, Text};
 
 /// One item of a record.
@@ -10,5 +10,5 @@ pub enum Item {
     Text(Text),
 }
 
-/// What one execution of a PRINT statement writes: its items, in order.
+/// A record: the items that one execution of a PRINT statement writes, in order.
 pub type Record = Sequence<Item>;

@@ -5,6 +5,6 @@
 pub struct Bound {
     /// The least subscript.
     pub lower: i64,
-    /// The greatest subscript; none where it is written `*`, as in an assumed-size array (5.1.2).
+    /// The greatest subscript; none where `*` is written, as in an assumed-size array (5.1.2).
     pub upper: Option<i64>,
 }

@@ -1,21 +1,9 @@
 -- The local variables of a unit, by its tables.
-use Rattle.std.proofs.Common.{◌≡◌, ℕ, suc, Bool, true, false, not, ◌&&◌, is_some, Option, Some, None, List, [], ◌∷◌, refl, ap, ◌∙◌, if◌then◌else◌}
+use Rattle.std.proofs.Common.{◌≡◌, ℕ, Bool, not, ◌&&◌, is_some, Option, List, [], ◌∷◌, refl, ap, ◌∙◌}
 use Rattle.std.specs.List.{filter}
-use Rattle.std.specs.Option.{option_map}
-use Rattle.hep_machine.specs.Words.{Name, Statement, same_name, is_among, index_among, dummies_of, BlockName, common_block, is_constant_name, is_local, names_of, locals_of}
+use Rattle.hep_machine.specs.Words.{Name, Statement, is_among, index_among, dummies_of, BlockName, common_block, is_constant_name, is_local, names_of, locals_of}
 use Rattle.hep_names.specs.Tables.{is_local_by}
-
-some-index : (o : Option ℕ) → is_some (option_map suc o) ≡ is_some o
-some-index None = refl
-some-index (Some k) = refl
-
-index-there : (x : Name) (xs : List Name) → is_some (index_among x xs) ≡ is_among x xs
-index-there x [] = refl
-index-there x (y ∷ ys) = by (same_name x y) (some-index (index_among x ys) ∙ index-there x ys)
-  where
-    by : (b : Bool) → is_some (option_map suc (index_among x ys)) ≡ is_among x ys → is_some (if b then Some 0 else option_map suc (index_among x ys)) ≡ (if b then true else is_among x ys)
-    by true h = refl
-    by false h = h
+use Rattle.hep_source.proofs.NameTests.{index_there}
 
 filter-same : (p q : Name → Bool) → ((x : Name) → p x ≡ q x) → (xs : List Name) → filter p xs ≡ filter q xs
 filter-same p q h [] = refl
@@ -32,5 +20,5 @@ locals-owned unit dummies blocks constants names d b k n =
     same x =
         let ds = dummies_of unit in
         ap (λ o. not (is_some o) && (not (is_some (blocks x)) && not (constants x))) (d x)
-        ∙ (ap (λ a. not a && (not (is_some (blocks x)) && not (constants x))) (index-there x ds)
+        ∙ (ap (λ a. not a && (not (is_some (blocks x)) && not (constants x))) (index_there x ds)
         ∙ (ap (λ o. not (is_among x ds) && (not (is_some o) && not (constants x))) (b x) ∙ ap (λ a. not (is_among x ds) && (not (is_some (common_block unit x)) && not a)) (k x)))

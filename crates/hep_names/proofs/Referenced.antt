@@ -1,17 +1,14 @@
 -- The functions that a unit refers to, statement by statement.
-use Rattle.std.proofs.Common.{◌≡◌, Bool, true, false, ◌&&◌, if◌then◌else◌, List, [], ◌∷◌, ◌++◌, map, refl, ap, sym, ◌∙◌, true≢false}
+use Rattle.std.proofs.Common.{◌≡◌, Bool, true, false, ◌&&◌, if◌then◌else◌, List, [], ◌∷◌, ◌++◌, refl, ap, sym, ◌∙◌, true≢false}
 use Rattle.std.specs.List.{flat_map}
 use Rattle.std.proofs.lemmas.List.{map-append}
 use Rattle.hep_machine.specs.Words.{Tree, Trees, constant, occurrence, with_list, parenthesized, signed, negated, binary, no_trees, trees, Name, Statement, same_name, is_among, names_listed_by, trees_in_statement}
 use Rattle.hep_machine.specs.Listed.{names_listed_in, names_listed_in_all}
 use Rattle.hep_source.proofs.NameTests.{equal_names}
-use Rattle.hep_conditions.specs.Words.{NameWithList, names_with_lists, names_with_lists_in, names_with_lists_in_all}
+use Rattle.hep_conditions.specs.Words.{NameWithList, names_with_lists, names_with_lists_in, names_with_lists_in_all, names_of_lists}
 use Rattle.hep_names.specs.Tables.{either}
 
 -- ---- names with lists, and their names
-
-abbrev pub names_of_lists : List NameWithList → List Name
-names_of_lists rs = map (λ (r : NameWithList). r.occurrence.name) rs
 
 mutual
   names-in : (t : Tree) → names_of_lists (names_with_lists_in t) ≡ names_listed_in t
@@ -39,6 +36,7 @@ names_by_statement s = of (trees_in_statement s)
 
 -- ---- turns of loops
 
+-- a name is among two lists where it is among the first or among the second
 pub among-append : (x : Name) (xs ys : List Name) → is_among x (xs ++ ys) ≡ either (is_among x xs) (is_among x ys)
 among-append x [] ys = refl
 among-append x (y ∷ xs) ys = by (same_name x y) (among-append x xs ys)

@@ -1,4 +1,4 @@
--- What a name with a list is, as contracts see it.
+-- The meaning of a name with a list, as contracts see it.
 use Rattle.hep_machine.specs.Functions as functions
 use Rattle.hep_names.specs.declared.functions.Meaning.{Meaning}
 use Rattle.hep_names.specs.declared.functions.Meaning.TheVariants.{Element, Pure, State, External}

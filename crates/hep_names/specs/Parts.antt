@@ -9,14 +9,14 @@ use Rattle.hep_names.specs.declared.parts.Part.TheVariants as reference
 
 pub data Part : Type 0 where
   expression : (t : Tree) → Part
-  -- a name that stands alone
+  -- a name by itself
   name : (p : Occurrence) → Part
-  -- a name with subscripts that is assigned (10.1), given a value by DATA (9.1), or purged; the subscripts are the parts behind it
+  -- a name with subscripts that is assigned (10.1), given a value by DATA (9.1), or purged; the subscripts are the parts after it
   element : (p : Occurrence) → Part
-  -- a name without bounds in a type statement (8.4): a variable, unless it is a function that the unit refers to
+  -- a name without bounds in a type statement (8.4): a variable, unless the unit references it as a function
   declared : (p : Occurrence) → Part
 
--- a part that lies in memory
+-- the view of a reference to a part
 abbrev pub part : Reference → Part
 part (reference.Expression r) = expression r.now
 part (reference.Name p) = name p
@@ -100,7 +100,7 @@ parts_in_form _ = []
 abbrev pub parts_of : Statement → List Part
 parts_of s = parts_in_expressions s.conditions ++ parts_in_form s.form
 
--- ---- what a part gives of its own
+-- ---- the expressions and occurrences of a part
 
 abbrev pub tree_in : Part → List Tree
 tree_in (expression t) = t ∷ []

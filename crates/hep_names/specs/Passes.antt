@@ -11,7 +11,7 @@ use Rattle.hep_conditions.specs.Words.{FunctionTypes, is_untyped, is_counted, is
 abbrev pub untyped : FunctionTypes → List Statement → ℕ → Occurrence → Violations
 untyped functions unit line p = when (is_untyped functions unit p.name) (at_occurrence 301 line p)
 
--- a name has a type
+-- whether a name has a type
 abbrev pub is_typed : List Statement → Name → Bool
 is_typed unit x = not (is_none (type_of unit x))
 
@@ -20,7 +20,7 @@ is_typed unit x = not (is_none (type_of unit x))
 abbrev pub line_of : Statement → ℕ
 line_of s = s.line
 
--- as many as the unit that is called has dummy arguments
+-- whether the called unit has n dummy arguments
 abbrev pub takes_dummies : Option (List Statement) → ℕ → Bool
 takes_dummies None n = true
 takes_dummies (Some unit) n = nat_eq n (length (dummies_of unit))

@@ -1,4 +1,4 @@
--- What tables of names give: X3.9-1978, section 8.
+-- Tables of names: X3.9-1978, section 8.
 use Rattle.std.specs.Prelude.{◌≡◌, ◌<◌, get_or, ℕ, ◌+◌, Bool, true, false, ◌&&◌, ◌||◌, not, is_some, if◌then◌else◌, List, [], ◌∷◌, Option, Some, None}
 use Rattle.std.specs.Borrow.{Bor}
 use Rattle.std.specs.List.{filter, flat_map}
@@ -9,33 +9,33 @@ use Rattle.hep_machine.specs.Words.{Declarator, Name, Occurrence, Form, Subrouti
 abbrev pub either : Bool → Bool → Bool
 either a b = if a then true else b
 
--- what a reference points at
+-- the value to which an optional reference points
 abbrev pub seen : {A : Type 0} → Option (Bor A) → Option A
 seen None = None
 seen (Some r) = Some r.now
 
--- this, where the test is true
+-- this value where the test is true, and else none
 abbrev pub given : {A : Type 0} → Bool → A → Option A
 given b a = if b then Some a else None
 
--- what name x has, where a value is given to name y alone
+-- the value of name x in a table that has a value only for name y
 abbrev pub by_name : {A : Type 0} → Name → A → Name → Option A
 by_name y value x = if same_name x y then Some value else None
 
--- what name x has, where a value is given to the names of these declarators alone
+-- the value of name x in a table that has a value only for the names of these declarators
 abbrev pub by_declarators : {A : Type 0} → A → List Declarator → Name → Option A
 by_declarators value ds x = if is_among x (names_declared ds) then Some value else None
 
--- what name x has, where the header of a function gives its name a type, or none
+-- the type that the header of a function gives name x, if it is the name of the function and the header has a type
 abbrev pub by_header : Option ValueType → Name → Name → Option ValueType
 by_header None name x = None
 by_header (Some t) name x = if same_name name x then Some t else None
 
--- those of these declarators that give dimensions
+-- those of these declarators that have dimensions
 abbrev pub arrays_among : List Declarator → List Declarator
 arrays_among ds = filter (λ (d : Declarator). is_nonempty d.dimensions) ds
 
--- none of these names was seen before, and none stands twice among them
+-- whether none of these names was seen before, and none occurs twice among them
 abbrev pub are_new : (Name → Bool) → List Name → Bool
 are_new seen [] = true
 are_new seen (x ∷ xs) = not (seen x) && are_new (λ y. same_name y x || seen y) xs
@@ -44,17 +44,17 @@ are_new seen (x ∷ xs) = not (seen x) && are_new (λ y. same_name y x || seen y
 abbrev pub names_in_common : List Statement → List Name
 names_in_common unit = flat_map (λ (s : Statement). names_declared (entries_of_blocks (blocks_in s.form))) unit
 
--- what the first of these statements says that says anything
+-- the first result that one of these statements gives
 abbrev pub first_in : {A : Type 0} → (Form → Option A) → List Statement → Option A
 first_in says [] = None
 first_in says (s ∷ ss) = option_or (says s.form) (first_in says ss)
 
--- some one of these statements says so
+-- whether one of these statements passes the test
 abbrev pub any_in : (Form → Bool) → List Statement → Bool
 any_in says [] = false
 any_in says (s ∷ ss) = either (says s.form) (any_in says ss)
 
--- the index of a name among these, counted from k
+-- the index of a name among these occurrences, counted from k
 abbrev pub index_from : ℕ → Name → List Occurrence → Option ℕ
 index_from k x [] = None
 index_from k x (p ∷ ps) = if same_name x p.name then Some k else index_from (k + 1) x ps
@@ -68,7 +68,7 @@ constant_by_form x f = is_among x (names_of_constants (constants_in f))
 abbrev pub declarator_by_form : Name → Form → Option Declarator
 declarator_by_form x f = declarator_among x (declarators_in f)
 
--- this declarator, where it gives a name dimensions
+-- this declarator, where it gives this name dimensions, and else none
 abbrev pub by_declarator : Declarator → Name → Option Declarator
 by_declarator d x = given (same_name d.occurrence.name x && is_nonempty d.dimensions) d
 
@@ -77,12 +77,12 @@ dummies_by_form (Subroutine p dummies) = dummies
 dummies_by_form (Function t p dummies) = dummies
 dummies_by_form _ = []
 
--- where the dummy arguments of a unit stand in its header
+-- the occurrences of the dummy arguments in the header of a unit
 abbrev pub dummies_in : List Statement → List Occurrence
 dummies_in [] = []
 dummies_in (s ∷ ss) = dummies_by_form s.form
 
--- the tables of a unit: what they give for each name is what its specification statements say of it
+-- The tables of a unit have for each name what its specification statements declare.
 pub record Describes (unit : List Statement) (types : Name → Option ValueType) (letters : List (Option ValueType)) (arrays : List Statement) (dummies : Name → Option ℕ) (blocks : Name → Option BlockName) (are_once : Bool) (constants : Name → Bool) (names locals : List Name) : Type 0 where
   pub typed : (x : Name) → types x ≡ declared_type x unit
   pub lettered : (c : ℕ) → c < 256 → get_or letters c None ≡ implicit_type c unit
@@ -94,20 +94,21 @@ pub record Describes (unit : List Statement) (types : Name → Option ValueType)
   pub named : names ≡ names_of unit
   pub owned : locals ≡ locals_of unit
 
--- the index of the first of these units that has this name, counted from k
+-- the index of the first of these units with this name, counted from k
 abbrev pub called_from : (List Statement → Option Name) → ℕ → Name → Units → Option ℕ
 called_from name_of k x [] = None
 called_from name_of k x (u ∷ us) = option_or (given (is_named (name_of u) x) k) (called_from name_of (k + 1) x us)
 
--- the tables of a program: the subroutine and the function that each name calls
+-- The tables of a program have the indices of the subroutine and the function with each name.
 pub record Numbers (program : Units) (subroutines functions : Name → Option ℕ) : Type 0 where
   pub called : (x : Name) → subroutines x ≡ subroutine_called program x
   pub referred : (x : Name) → functions x ≡ function_called program x
 
--- a name with a list that is no array, no function of the language, and not the name of the function where it stands
+-- whether a name with a list may reference a function of the program: it is no array, no function of the language, and not the name of
+-- the unit itself
 abbrev pub may_refer : List Statement → Name → Bool
 may_refer unit x = is_external (listed_meaning unit x) && not (is_named (function_name unit) x)
 
--- a name that these tables have neither as a dummy argument nor in COMMON nor as a constant
+-- whether a name is in none of the tables of dummy arguments, of COMMON and of constants
 abbrev pub is_local_by : (Name → Option ℕ) → (Name → Option BlockName) → (Name → Bool) → Name → Bool
 is_local_by dummies blocks constants x = not (is_some (dummies x)) && (not (is_some (blocks x)) && not (constants x))

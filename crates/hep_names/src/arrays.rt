@@ -8,7 +8,7 @@ use hep_source::{Declarator, Dimension, Name, Statement};
 use std::alloc::{AllocError, Global};
 use std::marker::Model;
 
-/// Which names of a unit are arrays, and of what dimensions, by look-ups of constant time. Contracts see
+/// A table of the arrays of a unit and their dimensions. Contracts see
 /// the statements of the unit.
 pub(crate) struct Arrays<'a> {
     statements: &'a [Statement],
@@ -72,7 +72,7 @@ impl<'a> Arrays<'a> {
         }
     }
 
-    // The name is an array's.
+    // Whether the name is that of an array.
     pub(crate) fn is_array(&self, name: &Name) -> bool
         ensures { result ≡ declarations.is_array self.now name.now }
     {

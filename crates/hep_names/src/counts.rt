@@ -39,7 +39,7 @@ fn takes_list(listed: Meaning, count: usize) -> bool
     }
 }
 
-/// A function has as many arguments as it takes.
+/// Whether a function of the language has the right number of arguments. True for any other name with a list.
 #[tactic(auto, using(crate::proofs::Passes::count_is_length))]
 pub fn is_counted(symbols: &Symbols, name: &NameWithList) -> bool
     ensures { result ≡ conditions.is_counted symbols.now (listed name.now) }
@@ -61,7 +61,7 @@ fn are_counted(symbols: &Symbols, names: &[NameWithList]) -> bool
     true
 }
 
-// A reference has as many actual arguments as its function has dummy arguments.
+// Whether a reference has as many actual arguments as its function has dummy arguments.
 #[tactic(auto, using(crate::proofs::Passes::dummies_counted))]
 fn takes_actuals(program: &ProgramSymbols, name: &Name, count: usize) -> bool
     ensures { result ≡ passes.takes_dummies (passes.unit_referred program.now name.now) count }
@@ -72,7 +72,12 @@ fn takes_actuals(program: &ProgramSymbols, name: &Name, count: usize) -> bool
     }
 }
 
-fn is_reference_counted(program: &ProgramSymbols, symbols: &Symbols, name: &NameWithList) -> bool
+/// A reference to a function of the program has as many actual arguments as the function has dummy arguments.
+pub fn is_reference_counted(
+    program: &ProgramSymbols,
+    symbols: &Symbols,
+    name: &NameWithList,
+) -> bool
     ensures { result ≡ conditions.is_reference_counted program.now symbols.now (listed name.now) }
 {
     match symbols.listed_meaning(&name.occurrence.name) {
@@ -96,9 +101,9 @@ fn are_references_counted(
     true
 }
 
-// A call has as many actual arguments as its subroutine has dummy arguments.
+// Whether a call has as many actual arguments as its subroutine has dummy arguments.
 #[tactic(auto, using(crate::proofs::Passes::dummies_counted))]
-fn is_call_counted(program: &ProgramSymbols, name: &Name, actuals: &[Expr]) -> bool
+pub fn is_call_counted(program: &ProgramSymbols, name: &Name, actuals: &[Expr]) -> bool
     ensures { result ≡ passes.takes_dummies (passes.unit_called program.now name.now) (length actuals.now) }
 {
     match program.called(name) {
@@ -151,7 +156,7 @@ fn least_miscounted(
     Ok(least)
 }
 
-/// The first violation of 303 in a unit of a program: a call or a function has another number of arguments.
+/// The first violation of 303 in a unit of a program: a call or a function has a wrong number of arguments.
 ///
 /// # Errors
 ///

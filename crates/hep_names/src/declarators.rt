@@ -1,4 +1,4 @@
-//! What specification statements declare (X3.9-1978, section 8).
+//! The declarators and blocks of specification statements (X3.9-1978, section 8).
 ghost use Rattle.std.specs.Prelude.{◌≡◌, ◌++◌, ◌∷◌, [], IfOk, OnOk};
 ghost use Rattle.hep_machine.specs.Declarations as declarations;
 ghost use Rattle.hep_names.specs.Statements.{rest_after};
@@ -25,6 +25,20 @@ pub fn blocks_in(form: &Form) -> &[CommonBlock]
         Form::Common(lists) => lists.as_slice(),
         _ => &[],
     }
+}
+
+/// Adds the names that declarators declare.
+///
+/// # Errors
+///
+/// Only where memory was refused.
+pub fn add_declared(names: &mut Vec<Name>, declarators: &[Declarator]) -> Result<(), AllocError>
+    ensures { OnOk result (names.new.items ≡ names.old.items ++ declarations.names_declared declarators.now) }
+{
+    for declarator in declarators {
+        names.push(declarator.occurrence.name)?;
+    }
+    Ok(())
 }
 
 type Found<'a> = Vec<&'a Declarator>;

@@ -1,4 +1,4 @@
-//! What a name with a list is (X3.9-1978, 5.3, 15.3 and 15.5).
+//! The meaning of a name with a list (X3.9-1978, 5.3, 15.3 and 15.5).
 ghost use Rattle.std.specs.Prelude.{◌≡◌};
 ghost use Rattle.hep_source.specs.Names as names;
 ghost use Rattle.hep_machine.specs.Functions as functions;
@@ -7,7 +7,7 @@ ghost use Rattle.hep_names.specs.Meanings.{meaning};
 use crate::symbols::Symbols;
 use hep_source::{Name, PureFunction, StateFunction};
 
-/// What a name with a list is: an element of the unit's array, a function of the language, or else one of
+/// The meaning of a name with a list: an element of an array of the unit, a function of the language, or else a function of
 /// the program, if it has such a function (docs/LANGUAGE.md, 8).
 #[derive(Clone, Copy, PartialEq, Eq)]
 pub enum Meaning {
@@ -17,7 +17,7 @@ pub enum Meaning {
     External,
 }
 
-// These are the letters of a word, with blanks anywhere.
+// Whether the letters of a name without its blanks are this word.
 fn are_letters(letters: &[u8], word: &[u8]) -> bool
     ensures { result ≡ names.same_letters word.now (names.letters_of letters.now) }
 {
@@ -74,7 +74,7 @@ fn state_function(letters: &[u8]) -> Option<StateFunction>
     }
 }
 
-/// The function of a name that is no array's; no name with `$` is one.
+/// The function with a name that is no array. No function has a name with `$`.
 pub fn function_named(name: &Name) -> Meaning
     ensures { meaning result ≡ functions.function_named name.now }
 {
@@ -89,7 +89,7 @@ pub fn function_named(name: &Name) -> Meaning
 }
 
 impl<'a> Symbols<'a> {
-    /// What a name with a list is in the unit.
+    /// The meaning of a name with a list in the unit.
     pub fn listed_meaning(&self, name: &Name) -> Meaning
         ensures { meaning result ≡ functions.listed_meaning self.now name.now }
     {

@@ -10,7 +10,7 @@ use crate::parts::{Part, parts_of};
 use hep_source::{CommonBlock, Declarator, Expr, Form, Node, Occurrence, Statement};
 use std::alloc::{AllocError, Global};
 
-/// A name with a list, where it stands in an expression (X3.9-1978, 5.3 and 15.2).
+/// A name with a list in an expression (X3.9-1978, 5.3 and 15.2).
 #[derive(Clone, Copy)]
 pub struct NameWithList<'a> {
     pub occurrence: Occurrence,
@@ -61,7 +61,7 @@ fn add_in_list<'a>(found: &mut Found<'a>, list: &'a [Expr]) -> Result<(), AllocE
     }
 }
 
-// Some name has bounds; where none has, there are no expressions.
+// Whether some name has bounds. Where none has, there are no expressions.
 fn have_bounds(entries: &[Declarator]) -> bool
     ensures { result ≡ false → flat_map trees_in_declarator entries.now ≡ [] }
 {
@@ -84,8 +84,8 @@ fn have_bounds_in_blocks(blocks: &[CommonBlock]) -> bool
     false
 }
 
-// A statement may have expressions. One that only lists names of COMMON has none: most names of programs with large
-// common blocks stand there, so that they are passed over here.
+// Whether a statement may have expressions. A COMMON statement with only names has none. Most names of programs with large common
+// blocks are in such statements, which are skipped here.
 fn may_have_expressions(statement: &Statement) -> bool
     ensures { result ≡ false → statements.names_with_lists statement.now ≡ [] }
 {

@@ -7,7 +7,7 @@ ghost use Rattle.hep_machine.specs.Words.{name_eq, with_name, with_names, names_
 ghost use Rattle.hep_machine.specs.Variables as variables;
 ghost use Rattle.hep_names.specs.Tables as tables;
 
-use crate::listed::Listed;
+use crate::list_table::ListTable;
 use crate::occurrences::occurrences_of;
 use crate::table::{NameSet, Table};
 use hep_source::{Name, Occurrence};
@@ -31,7 +31,7 @@ fn add_names(names: &mut IndexSet<Name>, occurrences: &[Occurrence]) -> Result<(
 }
 
 // The names of variables and constants of a unit, each once, in order of first appearance.
-pub(crate) fn names_of(alloc: Global, listed: &Listed) -> Result<NameSet, AllocError>
+pub(crate) fn names_of(alloc: Global, listed: &ListTable) -> Result<NameSet, AllocError>
     ensures { IfOk result (λ names. names.set.keys ≡ variables.names_of listed.now) }
 {
     let occurrences = occurrences_of(alloc, listed)?;
@@ -56,7 +56,7 @@ fn is_local(
         && !constants.set.contains(name)
 }
 
-// Those of these names that are neither dummy arguments nor in COMMON, and no constants' either.
+// Those of these names that are neither dummy arguments nor in COMMON nor constants.
 pub(crate) fn locals_among(
     alloc: Global,
     dummies: &Table<usize>,

@@ -1,4 +1,4 @@
-//! Where a statement names variables and constants, in the order of its text.
+//! The occurrences of variables and constants in a statement, in the order of its text.
 ghost use Rattle.std.specs.Prelude.{◌≡◌, ◌++◌, map, IfOk, OnOk};
 ghost use Rattle.std.specs.List.{flat_map};
 ghost use Rattle.hep_machine.specs.Words.{trees_of};
@@ -6,7 +6,7 @@ ghost use Rattle.hep_machine.specs.Variables as variables;
 ghost use Rattle.hep_conditions.specs.Statements as statements;
 ghost use Rattle.hep_names.specs.Parts as rows;
 
-use crate::listed::Listed;
+use crate::list_table::ListTable;
 use crate::parts::{Part, add_all, parts_of, parts_of_targets};
 use crate::symbols::Symbols;
 use hep_source::{DataGroup, Expr, Node, Occurrence, Statement};
@@ -14,8 +14,12 @@ use std::alloc::{AllocError, Global};
 
 type Found = Vec<Occurrence>;
 
-// A name with a list names a variable only where the unit has that array.
-fn add_array(listed: &Listed, found: &mut Found, occurrence: Occurrence) -> Result<(), AllocError>
+// Adds the name of a name with a list, where it is an array of the unit.
+fn add_array(
+    listed: &ListTable,
+    found: &mut Found,
+    occurrence: Occurrence,
+) -> Result<(), AllocError>
     ensures { OnOk result (found.new.items ≡ found.old.items ++ variables.array_occurrence listed.now occurrence) }
 {
     if listed.is_array(&occurrence.name) {
@@ -24,9 +28,9 @@ fn add_array(listed: &Listed, found: &mut Found, occurrence: Occurrence) -> Resu
     Ok(())
 }
 
-// A type statement names a variable, unless it is of a function that the unit refers to.
+// Adds a name in a type statement, unless the unit references it as a function.
 fn add_declared(
-    listed: &Listed,
+    listed: &ListTable,
     found: &mut Found,
     occurrence: Occurrence,
 ) -> Result<(), AllocError>
@@ -39,7 +43,7 @@ fn add_declared(
 }
 
 #[cycle(add_in)]
-fn add_in(listed: &Listed, found: &mut Found, expression: &Expr) -> Result<(), AllocError>
+fn add_in(listed: &ListTable, found: &mut Found, expression: &Expr) -> Result<(), AllocError>
     ensures { OnOk result (found.new.items ≡ found.old.items ++ variables.occurrences_in listed.now expression.now) }
 {
     match &expression.node {
@@ -63,7 +67,7 @@ fn add_in(listed: &Listed, found: &mut Found, expression: &Expr) -> Result<(), A
 }
 
 #[cycle(add_in)]
-fn add_in_list(listed: &Listed, found: &mut Found, list: &[Expr]) -> Result<(), AllocError>
+fn add_in_list(listed: &ListTable, found: &mut Found, list: &[Expr]) -> Result<(), AllocError>
     ensures { OnOk result (found.new.items ≡ found.old.items ++ variables.occurrences_in_all listed.now (trees_of list.now)) }
 {
     match list {
@@ -75,7 +79,7 @@ fn add_in_list(listed: &Listed, found: &mut Found, list: &[Expr]) -> Result<(), 
     }
 }
 
-fn add_in_parts(listed: &Listed, found: &mut Found, parts: &[Part]) -> Result<(), AllocError>
+fn add_in_parts(listed: &ListTable, found: &mut Found, parts: &[Part]) -> Result<(), AllocError>
     ensures { OnOk result (found.new.items ≡ found.old.items ++ flat_map (rows.occurrences_in_part listed.now) (map rows.part parts.now)) }
 {
     for part in parts {
@@ -89,7 +93,7 @@ fn add_in_parts(listed: &Listed, found: &mut Found, parts: &[Part]) -> Result<()
     Ok(())
 }
 
-/// Adds where an expression of a unit names variables and constants, in the order of its text.
+/// Adds the occurrences of variables and constants in an expression of a unit, in the order of its text.
 ///
 /// # Errors
 ///
@@ -104,9 +108,12 @@ pub fn add_in_expression(
     add_in(symbols.listed(), found, expression)
 }
 
-// Where the statements of a unit name variables and constants, in the order of its text.
+// The occurrences of variables and constants in the statements of a unit, in the order of the text.
 #[tactic(auto, using(crate::proofs::PartsGiven::unit_occurrences))]
-pub(crate) fn occurrences_of(alloc: Global, listed: &Listed) -> Result<Vec<Occurrence>, AllocError>
+pub(crate) fn occurrences_of(
+    alloc: Global,
+    listed: &ListTable,
+) -> Result<Vec<Occurrence>, AllocError>
     ensures { IfOk result (λ found. found.items ≡ variables.occurrences_of listed.now) }
 {
     let mut parts = Vec::new(alloc);
@@ -116,7 +123,7 @@ pub(crate) fn occurrences_of(alloc: Global, listed: &Listed) -> Result<Vec<Occur
     Ok(found)
 }
 
-/// Where a statement of a unit names variables and constants, in the order of its text.
+/// The occurrences of variables and constants in a statement of a unit, in the order of its text.
 ///
 /// # Errors
 ///
@@ -135,7 +142,7 @@ pub fn occurrences(
     Ok(found)
 }
 
-/// Where DATA names what it gives values to, with its subscripts, in the order of its text.
+/// The occurrences of variables and constants in the targets of DATA and their subscripts, in the order of the text.
 ///
 /// # Errors
 ///

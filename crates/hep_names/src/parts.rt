@@ -1,4 +1,4 @@
-//! The parts of a statement: its expressions, and what it names beside them, in the order of its text.
+//! The parts of a statement: its expressions, and its names outside expressions, in the order of its text.
 ghost use Rattle.std.specs.Prelude.{◌≡◌, ◌++◌, map, option_to_list, IfOk, OnOk};
 ghost use Rattle.std.specs.List.{flat_map};
 ghost use Rattle.hep_conditions.specs.Words.{targets_of_groups};
@@ -10,20 +10,20 @@ use hep_source::{
 };
 use std::alloc::{AllocError, Global};
 
-// A part of a statement, where it stands in its text.
+// A part of a statement.
 #[derive(Clone, Copy)]
 pub(crate) enum Part<'a> {
-    // An expression, with all that it is made of.
+    // A whole expression.
     Expression(&'a Expr),
-    // A name that stands alone.
+    // A name by itself.
     Name(Occurrence),
-    // A name with subscripts that is assigned, given a value by DATA, or purged; these are the parts behind it.
+    // A name with subscripts that is assigned, given a value by DATA, or purged. The subscripts are the parts after it.
     Element(Occurrence),
-    // A name without bounds in a type statement: a variable, unless it is a function that the unit refers to.
+    // A name without bounds in a type statement: a variable, unless the unit references it as a function.
     Declared(Occurrence),
 }
 
-// What has parts.
+// Types of values that have parts.
 pub(crate) trait HasParts {
     ghost use Rattle.std.specs.Prelude.{List};
     ghost use Rattle.hep_names.specs.Parts.{Part as PurePart};
@@ -35,7 +35,7 @@ pub(crate) trait HasParts {
         ensures { OnOk result (map rows.part found.new.items ≡ map rows.part found.old.items ++ parts self.now) };
 }
 
-// Adds the parts of things in a row.
+// Adds the parts of a list of values.
 pub(crate) fn add_all<'a, T: HasParts>(
     found: &mut Vec<Part<'a>>,
     things: &'a [T],
@@ -98,7 +98,7 @@ impl HasParts for Declarator {
     }
 }
 
-// Adds the parts of what a type statement names.
+// Adds the parts of a declarator in a type statement.
 fn add_declared<'a>(
     found: &mut Vec<Part<'a>>,
     declarators: &'a [Declarator],
@@ -241,7 +241,7 @@ pub(crate) fn parts_of(alloc: Global, statement: &Statement) -> Result<Vec<Part<
     Ok(found)
 }
 
-// The parts of what DATA gives values to, in the order of its text.
+// The parts of the targets of DATA, in the order of the text.
 pub(crate) fn parts_of_targets(
     alloc: Global,
     groups: &[DataGroup],

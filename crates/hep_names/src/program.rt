@@ -7,15 +7,14 @@ ghost use Rattle.hep_source.specs.declared.name.Name.{Name as PureName};
 ghost use Rattle.hep_names.specs.Tables as tables;
 ghost use Rattle.hep_machine.specs.Words.{name_eq};
 
-use crate::listed::function_name;
 use crate::symbols::Symbols;
 use crate::table::{Table, note};
-use hep_source::{Form, Name, Statement, Unit};
+use hep_source::{Form, Name, Statement, Unit, function_name};
 use indexmap::IndexMap;
 use std::alloc::{AllocError, Global};
 use std::marker::Model;
 
-/// The symbol tables of all units of a program, and its subroutines and functions by name. Contracts see the
+/// The symbol tables of all units of a program, and tables of its subroutines and functions. Contracts see the
 /// units.
 pub struct ProgramSymbols<'a> {
     units: Vec<Symbols<'a>>,
@@ -51,7 +50,7 @@ impl<'a> Model for ProgramSymbols<'a> {
     ghost invariant = { λ a. Numbers a.units.items (get name_eq a.subroutines.map) (get name_eq a.functions.map) };
 }
 
-// The name by which a unit is called; a main program has none.
+// The name of a subroutine; none for another unit.
 fn subroutine_name(unit: &[Statement]) -> Option<Name>
     ensures { result ≡ units.subroutine_name unit.now }
 {
@@ -80,7 +79,7 @@ fn note_unit(
     Ok(())
 }
 
-// The index of the subroutine that each name calls: the first of those with the name.
+// The index of the first subroutine with each name.
 fn subroutines(alloc: Global, program: &[Symbols]) -> Result<Table<usize>, AllocError>
     ensures { IfOk result (λ table. (x : PureName)
         → get name_eq table.map x ≡ tables.called_from units.subroutine_name 0 x program.now) }
@@ -94,7 +93,7 @@ fn subroutines(alloc: Global, program: &[Symbols]) -> Result<Table<usize>, Alloc
     Ok(numbers)
 }
 
-// The index of the function that each name refers to: the first of those with the name.
+// The index of the first function with each name.
 fn functions(alloc: Global, program: &[Symbols]) -> Result<Table<usize>, AllocError>
     ensures { IfOk result (λ table. (x : PureName)
         → get name_eq table.map x ≡ tables.called_from units.function_name 0 x program.now) }
@@ -119,7 +118,7 @@ fn tables_of<'a>(alloc: Global, program: &'a [Unit]) -> Result<Vec<Symbols<'a>>,
 }
 
 impl<'a> ProgramSymbols<'a> {
-    /// The symbol tables of these units.
+    /// Makes the symbol tables of these units.
     ///
     /// # Errors
     ///
@@ -144,14 +143,14 @@ impl<'a> ProgramSymbols<'a> {
         &self.units
     }
 
-    /// The index of the subroutine of a name, counted from 0: the first of those with the name.
+    /// The index of the first subroutine with a name, counted from 0.
     pub fn subroutine_called(&self, name: &Name) -> Option<usize>
         ensures { result ≡ units.subroutine_called self.now name.now }
     {
         self.subroutines.map.get(name).copied()
     }
 
-    /// The table of the subroutine that a name calls.
+    /// The symbol table of the first subroutine with a name.
     pub fn called(&self, name: &Name) -> Option<&Symbols<'a>>
         ensures { option_copied result ≡ option_map (units.unit_at self.now) (units.subroutine_called self.now name.now) }
     {
@@ -161,14 +160,14 @@ impl<'a> ProgramSymbols<'a> {
         }
     }
 
-    /// The index of the function of a name, counted from 0: the first of those with the name.
+    /// The index of the first function with a name, counted from 0.
     pub fn function_called(&self, name: &Name) -> Option<usize>
         ensures { result ≡ units.function_called self.now name.now }
     {
         self.functions.map.get(name).copied()
     }
 
-    /// The table of the function of a name.
+    /// The symbol table of the first function with a name.
     pub fn function(&self, name: &Name) -> Option<&Symbols<'a>>
         ensures { option_copied result ≡ option_map (units.unit_at self.now) (units.function_called self.now name.now) }
     {

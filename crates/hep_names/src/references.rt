@@ -1,4 +1,4 @@
-//! The functions that a unit refers to (X3.9-1978, 15.5).
+//! The functions that a unit references (X3.9-1978, 15.5).
 ghost use Rattle.std.specs.Prelude.{◌≡◌};
 ghost use Rattle.hep_conditions.specs.Types as conditions;
 ghost use Rattle.hep_names.specs.Functions.{functions_of};
@@ -7,8 +7,8 @@ use crate::program::ProgramSymbols;
 use crate::symbols::Symbols;
 use hep_source::{Name, ValueType};
 
-/// The type of the function of a name, real where it is `Some(None)`. No function has the name where only
-/// constants stand: there no program is handed over.
+/// The type of the function with a name; `Some(None)` for real, and none where there is no such function. Without a program, as for
+/// constant expressions, there is no function.
 pub fn function_type(program: Option<&ProgramSymbols>, name: &Name) -> Option<Option<ValueType>>
     ensures { result ≡ functions_of program.entry name.now }
 {
@@ -27,7 +27,7 @@ fn type_in(program: &ProgramSymbols, name: &Name) -> Option<Option<ValueType>>
     }
 }
 
-/// The name is that of a function, and the unit refers to it.
+/// Whether the name is that of a function which the unit references.
 pub fn is_function_in(program: Option<&ProgramSymbols>, symbols: &Symbols, name: &Name) -> bool
     ensures { result ≡ conditions.is_function_in (functions_of program.entry) symbols.now name.now }
 {

@@ -1,4 +1,4 @@
-//! Tables of what the specification statements of a unit say of its names (X3.9-1978, section 8).
+//! Tables of the properties of names that specification statements declare (X3.9-1978, section 8).
 ghost use Rattle.std.specs.List.{list_any};
 ghost use Rattle.std.specs.Prelude.{nat_eq, ◌≡◌, ◌<◌, ℕ, None, is_some, false, get_or, IfOk, OnOk};
 ghost use Rattle.std.specs.Option.{option_or};
@@ -35,7 +35,7 @@ fn note_types(
     Ok(())
 }
 
-// Notes the type that the header of a function gives its name, if any.
+// Records the type that the header of a function gives its name, if there is one.
 fn note_type(
     types: &mut IndexMap<Name, ValueType>,
     name: Name,
@@ -50,7 +50,7 @@ fn note_type(
     Ok(())
 }
 
-// Notes the types that a type statement gives (8.4), or the header of a function with a type (15.5.1).
+// Records the types that a type statement gives (8.4), or the header of a function with a type (15.5.1).
 fn note_types_by(types: &mut IndexMap<Name, ValueType>, form: &Form) -> Result<(), AllocError>
     ensures { OnOk result ((x : PureName) → get name_eq types.new x
         ≡ option_or (get name_eq types.old x) (declarations.type_by_statement x form.now)) }
@@ -83,7 +83,7 @@ pub(crate) fn declared_types(
     Ok(types)
 }
 
-// Says whether all names are new.
+// Records the block of these names. The result is whether all names are new.
 fn note_block(
     blocks: &mut IndexMap<Name, Option<Name>>,
     block: Option<Name>,
@@ -102,7 +102,7 @@ fn note_block(
     Ok(are_new)
 }
 
-// Says whether all names are new.
+// Records the block of these names. The result is whether all names are new.
 fn note_blocks(
     blocks: &mut IndexMap<Name, Option<Name>>,
     named: &[CommonBlock],
@@ -128,7 +128,7 @@ fn entry_count(blocks: &[CommonBlock]) -> usize {
     count
 }
 
-// How many names there are in COMMON, so that their table has room at once.
+// The number of names in COMMON, by which the table gets its size.
 fn common_count(unit: &[Statement]) -> usize {
     let mut count: usize = 0;
     for statement in unit {
@@ -137,7 +137,7 @@ fn common_count(unit: &[Statement]) -> usize {
     count
 }
 
-// The block in which each name of COMMON is (8.3), none for blank COMMON, and whether each name stands there once.
+// The block of each name in COMMON (8.3), none for blank COMMON, and whether each name occurs there once.
 pub(crate) struct CommonNames {
     pub(crate) blocks: Table<Option<Name>>,
     pub(crate) are_once: bool,
@@ -185,7 +185,7 @@ pub(crate) fn constant_names(alloc: Global, unit: &[Statement]) -> Result<NameSe
     Ok(constants)
 }
 
-// The index of each dummy argument, the first where it stands twice (15.6.1).
+// The index of each dummy argument, and the first one where the name occurs twice (15.6.1).
 fn numbered(alloc: Global, dummies: &[Occurrence]) -> Result<Table<usize>, AllocError>
     ensures { IfOk result (λ table. (x : PureName) → get name_eq table.map x ≡ tables.index_from 0 x dummies.now) }
 {
@@ -215,7 +215,7 @@ pub(crate) fn dummy_positions(alloc: Global, unit: &[Statement]) -> Result<Table
     }
 }
 
-// Notes a declarator where it gives a name dimensions.
+// Records a declarator with dimensions.
 fn note_array<'a>(
     arrays: &mut IndexMap<Name, &'a Declarator>,
     declarator: &'a Declarator,
@@ -260,7 +260,7 @@ pub(crate) fn arrays<'a>(
     Ok(arrays)
 }
 
-// The type of each first letter, as IMPLICIT gives it.
+// The type that IMPLICIT gives each first letter.
 type LetterTypes = [Option<ValueType>; 256];
 
 // Gives a letter a type, unless it has one.
@@ -324,7 +324,7 @@ fn has_implicit(unit: &[Statement]) -> bool
     false
 }
 
-// The types that IMPLICIT gives by first letters (8.5). Most units have no IMPLICIT, and keep nothing.
+// The types that IMPLICIT gives by first letters (8.5). Most units have no IMPLICIT, and so no such table.
 pub(crate) fn letter_types(
     alloc: Global,
     unit: &[Statement],

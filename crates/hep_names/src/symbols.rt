@@ -7,7 +7,7 @@ ghost use Rattle.hep_machine.specs.Variables as variables;
 ghost use Rattle.hep_machine.specs.Words.{is_referenced};
 ghost use Rattle.hep_names.specs.Tables as tables;
 
-use crate::listed::Listed;
+use crate::list_table::ListTable;
 use crate::names::{locals_among, names_of};
 use crate::specification::{
     CommonNames, common_names, constant_names, declared_types, dummy_positions, letter_types,
@@ -18,13 +18,13 @@ use indexmap::IndexSet;
 use std::alloc::{AllocError, Global};
 use std::marker::Model;
 
-/// What the specification statements of a unit say of its names (X3.9-1978, section 8), by look-ups in
-/// tables. Contracts see the statements of the unit.
+/// The symbol table of a unit: the properties of names that its specification statements declare (X3.9-1978,
+/// section 8). Contracts see the statements of the unit.
 pub struct Symbols<'a> {
     statements: &'a [Statement],
     types: Table<ValueType>,
     letters: Vec<Option<ValueType>>,
-    listed: Listed<'a>,
+    listed: ListTable<'a>,
     dummies: Table<usize>,
     blocks: Table<Option<Name>>,
     are_common_once: bool,
@@ -71,7 +71,7 @@ impl<'a> Model for Symbols<'a> {
 }
 
 impl<'a> Symbols<'a> {
-    /// The symbol table of these statements, which are those of one unit.
+    /// Makes the symbol table of the statements of a unit.
     ///
     /// # Errors
     ///
@@ -81,7 +81,7 @@ impl<'a> Symbols<'a> {
     {
         let types = declared_types(alloc, statements)?;
         let letters = letter_types(alloc, statements)?;
-        let listed = Listed::new(alloc, statements)?;
+        let listed = ListTable::new(alloc, statements)?;
         let dummies = dummy_positions(alloc, statements)?;
         let CommonNames { blocks, are_once } = common_names(alloc, statements)?;
         let constants = constant_names(alloc, statements)?;
@@ -108,8 +108,8 @@ impl<'a> Symbols<'a> {
         self.statements
     }
 
-    // What names with lists are in the unit.
-    pub(crate) fn listed(&self) -> &Listed<'a>
+    // The meanings of names with lists in the unit.
+    pub(crate) fn listed(&self) -> &ListTable<'a>
         ensures { result.now ≡ self.now }
     {
         &self.listed
@@ -123,7 +123,7 @@ impl<'a> Symbols<'a> {
         &self.names.set
     }
 
-    /// The variables that an activation of the unit owns, in the same order: those that are neither dummy
+    /// The local variables of the unit, in the same order: those that are neither dummy
     /// arguments nor in COMMON (2.5).
     pub fn locals(&self) -> &[Name]
         ensures { result.now ≡ variables.locals_of self.now }
@@ -165,14 +165,14 @@ impl<'a> Symbols<'a> {
         self.listed.dimensions(name)
     }
 
-    /// The name is an array's.
+    /// Whether the name is that of an array.
     pub fn is_array(&self, name: &Name) -> bool
         ensures { result ≡ declarations.is_array self.now name.now }
     {
         self.listed.is_array(name)
     }
 
-    /// The unit refers to a function of the program by the name, if there is one (15.5): it has a list, and is
+    /// Whether the unit references the name as a function of the program (15.5). The name has a list, and is
     /// no array, no function of the language, and not the name of the unit itself.
     pub fn is_referenced(&self, name: &Name) -> bool
         ensures { result ≡ is_referenced self.now name.now }
@@ -203,7 +203,7 @@ impl<'a> Symbols<'a> {
         self.dummies.map.get(name).copied()
     }
 
-    /// The block of COMMON in which a name is (8.3), where blank COMMON has no name; none where the name
+    /// The common block of a name (8.3): `Some(None)` for blank COMMON, and none where the name
     /// isn't in COMMON.
     pub fn common_block(&self, name: &Name) -> Option<Option<Name>>
         ensures { result ≡ declarations.common_block self.now name.now }
@@ -211,21 +211,21 @@ impl<'a> Symbols<'a> {
         self.blocks.map.get(name).copied()
     }
 
-    /// No name stands twice in COMMON (8.3).
+    /// Whether no name occurs twice in COMMON (8.3).
     pub fn are_common_once(&self) -> bool
         ensures { result ≡ tables.are_new (λ x. false) (tables.names_in_common self.now) }
     {
         self.are_common_once
     }
 
-    /// The name is in COMMON (8.3).
+    /// Whether the name is in COMMON (8.3).
     pub fn is_common(&self, name: &Name) -> bool
         ensures { result ≡ declarations.is_common self.now name.now }
     {
         self.common_block(name).is_some()
     }
 
-    /// The name is a constant's (8.6).
+    /// Whether the name is that of a constant (8.6).
     pub fn is_constant_name(&self, name: &Name) -> bool
         ensures { result ≡ declarations.is_constant_name self.now name.now }
     {
@@ -233,8 +233,8 @@ impl<'a> Symbols<'a> {
     }
 }
 
-/// The type of a name without a declaration: an integer where its first letter is I to N, else real, which
-/// no variable is here (4.1.2).
+/// The type of a name without a declaration: integer where its first letter is I to N, and else none, for real
+/// (4.1.2).
 pub fn type_by_letter(name: &Name) -> Option<ValueType>
     ensures { result ≡ declarations.type_by_letter name.now }
 {

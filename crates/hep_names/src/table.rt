@@ -11,7 +11,7 @@ use hep_source::Name;
 use indexmap::{IndexMap, IndexSet};
 use std::alloc::AllocError;
 
-// A table of names, whose drop is a call: a function that owns several checks in a tenth of the time.
+// A table of names. Its drop is a call, so that the proof of a function with several tables is ten times faster.
 pub(crate) struct Table<V: Drop> {
     pub(crate) map: IndexMap<Name, V>,
 }
@@ -33,7 +33,7 @@ impl Drop for NameSet {
     }
 }
 
-// Gives a name a value, unless it has one, and says whether it had none.
+// Gives a name a value, unless it has one. The result is whether it had none.
 pub(crate) fn note_first<V: Drop>(
     table: &mut IndexMap<Name, V>,
     name: Name,
@@ -43,7 +43,7 @@ pub(crate) fn note_first<V: Drop>(
         ≡ option_or (get name_eq table.old x) (by_name name value x)) }
     ensures new { IfOk result (λ is_new. is_new ≡ not (is_some (get name_eq table.old name))) }
 {
-    // One look-up: most names are new.
+    // This makes one look-up in the usual case, where the name is new.
     match table.insert(name, value)? {
         Some(before) => {
             table.insert(name, before)?;
@@ -66,7 +66,7 @@ pub fn note<V: Drop>(table: &mut IndexMap<Name, V>, name: Name, value: V) -> Res
     Ok(())
 }
 
-// Adds a name to a set, and says whether it was there.
+// Adds a name to a set. The result is whether the set had the name.
 pub(crate) fn add(set: &mut IndexSet<Name>, name: Name) -> Result<bool, AllocError>
     ensures added { OnOk result ((x : PureName) → contains name_eq set.new x
         ≡ either (contains name_eq set.old x) (same_name x name)) }

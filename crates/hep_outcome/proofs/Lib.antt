@@ -1,9 +1,10 @@
-pub use Rattle.hep_replay.proofs.Going
-pub mod Draws
-mod Made
+pub use Rattle.hep_replay.proofs.ReplayTurns as ReplayReplayTurns
+pub use Rattle.hep_replay.proofs.SilentChoices
+pub mod RunsByLots
+mod MadeTranscripts
 mod Worked
 pub mod Schedules
 pub mod Outcomes
-mod Drawings
+mod LotDraws
 pub mod Counts
 pub mod Wanted

@@ -3,12 +3,12 @@ use Rattle.std.proofs.Common.{◌≡◌, ℕ, Bool, Option, Some, None, refl, ap
 use Rattle.hep_machine.specs.Words.{IsLegal, Units}
 use Rattle.hep_replay.specs.ChoiceStop.{ChoiceStop}
 use Rattle.hep_replay.specs.ChoiceStop.TheVariants.{Halted, ArenaFull, StepLimit}
-use Rattle.hep_replay.specs.Value as core
-use Rattle.hep_replay.specs.Value.{CoreValue}
+use Rattle.hep_replay.specs.CoreValues as core
+use Rattle.hep_replay.specs.CoreValues.{CoreValue}
 use Rattle.hep_outcome.specs.declared.options.Options.{Options}
 use Rattle.hep_outcome.specs.declared.halt.Halt.TheVariants.{NoSuchProcess}
 use Rattle.hep_outcome.specs.Outcome.{Outcome, IsHistory, IsOver, IsRunOutcome, next_process, outcome_of_refused_choice, outcome_of_end}
-use Rattle.hep_outcome.specs.Progress.{IsStopOfRun, IsRunning, IsHaltedBy}
+use Rattle.hep_outcome.specs.RunProgress.{IsStopOfRun, IsRunning, IsHaltedBy}
 
 made : (options : Options) (core : CoreValue) → IsRunning options core → IsLegal core.program core.cells core.limit core.history → IsHistory core.program options core.history
 made options core running legal =

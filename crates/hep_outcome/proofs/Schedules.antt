@@ -1,11 +1,11 @@
 -- A choice makes a history longer by one entry, of the process that comes next.
-use Rattle.std.proofs.Common.{◌≡◌, ℕ, zero, suc, ◌+◌, ◌<◌, ◌≤◌, Bool, true, false, List, [], ◌∷◌, ◌++◌, length, take, Option, Some, None, refl, sym, ap, ◌∙◌, subst, arith, inl, inr, Ok, Err, length-append, ◌≢◌, slice_get, nat_lt, not, true≢false, replicate, cond, if◌then◌else◌}
+use Rattle.std.proofs.Common.{◌≡◌, ℕ, zero, suc, ◌+◌, ◌<◌, ◌≤◌, Bool, true, false, List, [], ◌∷◌, ◌++◌, length, take, Option, Some, None, refl, sym, ap, ◌∙◌, subst, arith, inl, inr, Ok, Err, length-append, ◌≢◌, slice_get, nat_lt, not, cond, if◌then◌else◌}
 use Rattle.std.specs.List.{filter}
 use Rattle.hep_replay.specs.States.{HasNoGap}
 use Rattle.hep_replay.specs.ChoiceStop.{ChoiceStop}
 use Rattle.hep_replay.specs.ChoiceStop.TheVariants.{ArenaFull, Halted, StepLimit}
 use Rattle.hep_replay.specs.ChooseFault.{ChooseFault}
-use Rattle.hep_replay.specs.ChooseFault.TheVariants.{IsOut, NoSuchProcess, Stopped}
+use Rattle.hep_replay.specs.ChooseFault.TheVariants.{NoSuchProcess, Stopped}
 use Rattle.std.proofs.lemmas.Bool.{cases_lt}
 use Rattle.std.proofs.lemmas.List.{take-append-le}
 use Rattle.std.proofs.Math.Seq.{take-append_seam}
@@ -14,15 +14,16 @@ use Rattle.hep_machine.specs.declared.event.Entry.{Entry}
 use Rattle.hep_machine.specs.Words.{Units, State, Process, schedule_of, state_after, progress_after, living_from, ready_in, last_process, first_above, next_of_ready, next_ready, living, top_of, is_number_among}
 use Rattle.hep_replay.specs.Turn.{Turn}
 use Rattle.hep_replay.specs.Turns.{Turns}
-use Rattle.hep_replay.specs.Going.{AreChoices, AreRounds, AreTurns, again, begun, goes_round, started}
+use Rattle.hep_replay.specs.SilentChoices.{AreChoices, AreRounds, AreTurns, again, begun, goes_round, started}
 use Rattle.hep_replay.proofs.Histories.{progress-state}
-use Rattle.hep_replay.proofs.Going.{choices-began, rounds-going, rounds-none, unmoved}
-use Rattle.hep_replay.proofs.Outs.{all_free}
-use Rattle.hep_replay.specs.Value.{CoreValue, state_of, core_after_choice, free_of, next_ready_of, ready_of, stop_after, HasNoStop, IsFree, IsTurn, IsChoice}
+use Rattle.hep_replay.proofs.SilentChoices.{choices-began, rounds-going, rounds-none, unmoved}
+use Rattle.hep_replay.proofs.ProcessesOut.{all_free}
+use Rattle.hep_replay.specs.CoreValues.{CoreValue, state_of, core_after_choice, next_ready_of, ready_of, stop_after, HasNoStop, IsFree, IsTurn, IsChoice}
 use Rattle.hep_outcome.specs.declared.options.Options.{Options}
 use Rattle.hep_outcome.specs.declared.halt.Halt.TheVariants as halts
 use Rattle.hep_outcome.specs.Outcome.{first_choice, next_process, IsNextEntry, IsScheduled}
-use Rattle.hep_outcome.specs.Progress.{IsHaltedBy, IsStopOfRun, IsRunning}
+use Rattle.hep_outcome.specs.RunProgress.{IsHaltedBy, IsStopOfRun, IsRunning}
+use Rattle.hep_core.proofs.SilentChoices.{last-more}
 
 -- without a STOP the choice comes next, or what is ready
 pub next_is_chosen : (program : Units) (choices : List ℕ) (history : List Entry) → (state_after program history).halted ≡ false → next_process program choices history ≡ first_choice (slice_get choices (length history)) (next_ready program history)
@@ -278,16 +279,7 @@ nobody_chosen options old new p i c running count here =
 pub comes_next : (options : Options) (core : CoreValue) → IsRunning options core → next_ready_of core ≡ next_ready core.program core.history
 comes_next options core running = ap (next_of_ready (last_process core.history)) (all_free (ready_of core) core.out running.out)
 
-pub is_none : (o : Option ℕ) → ((p : ℕ) → o ≡ Some p → ⊥) → o ≡ None
-is_none None h = refl
-is_none (Some p) h = absurd (h p refl)
-
 -- ---- what is ready, again and again
-
-last_of_more : (h : List Entry) (e : Entry) → last_process (h ++ e ∷ []) ≡ e.process
-last_of_more [] e = refl
-last_of_more (x ∷ []) e = refl
-last_of_more (x ∷ y ∷ es) e = last_of_more (y ∷ es) e
 
 -- once the choices are made: where it is chosen more than once, it came last before, so no other process is ready
 module _ (options : Options) (p : ℕ) (old : CoreValue) (running : IsRunning options old) (past : length options.choices ≤ length old.history) (ready : next_ready old.program old.history ≡ Some p) where
@@ -313,7 +305,7 @@ module _ (options : Options) (p : ℕ) (old : CoreValue) (running : IsRunning op
       record {
         far = one_longer options old core new n same gone.far (chosen options core new p (record { steps = 1; blocked = false }) is.chosen gone.far.running comes);
         same = is.ready ∙ gone.same;
-        last = λ some. ap (λ (v : CoreValue). last_process v.history) made.3 ∙ last_of_more core.history (record { process = p; steps = made.0 });
+        last = λ some. ap (λ (v : CoreValue). last_process v.history) made.3 ∙ last-more core.history (record { process = p; steps = made.0 });
       }
 
   pub ready_turns : (turns : Turns) (new : CoreValue) → 1 ≤ turns.made → (2 ≤ turns.made → last_process old.history ≡ p) → AreTurns old p turns new → IsLonger options old turns.made new

@@ -1,7 +1,7 @@
 -- What some seeds draw, word by word.
 use Rattle.std.proofs.Common.{◌≡◌, ◌∷◌, [], Some, None, true, false, refl}
 use Rattle.rand_pcg.specs.Lcg.{state_after}
-use Rattle.hep_outcome.specs.Drawing.{drawn, drawn_anew, further, is_ready, stay_of, word_of}
+use Rattle.hep_outcome.specs.LotDraws.{drawn, drawn_anew, further, is_ready, stay_of, word_of}
 
 -- the words of seed 42 are those of PCG's own example
 first_word : word_of 42 0 ≡ 0xa15c02b7

@@ -1,16 +1,16 @@
 pub use Rattle.hep_replay.specs.Histories
 pub use Rattle.hep_replay.specs.Choices
-pub use Rattle.hep_replay.specs.Following
+pub use Rattle.hep_replay.specs.HistoryChoices
 pub use Rattle.hep_replay.specs.Verdict
 pub use Rattle.hep_replay.specs.ChoiceStop
 pub use Rattle.hep_replay.specs.Turns
 pub use Rattle.hep_replay.specs.ChooseFault
-pub use Rattle.hep_replay.specs.Going
+pub use Rattle.hep_replay.specs.SilentChoices
 pub use Rattle.hep_replay.specs.Replays
-pub use Rattle.hep_replay.specs.Value
+pub use Rattle.hep_replay.specs.CoreValues
 pub use Rattle.hep_replay.specs.Lines as OutcomeHistoryLines
-pub mod Drawing
-pub mod Kept
+pub mod LotDraws
+pub mod KeptLots
 pub mod Texts
 pub mod Lines
 pub mod Statuses
@@ -19,6 +19,6 @@ pub mod Outcome
 pub mod Replay
 pub mod Memory
 pub mod Transcripts
-pub mod Progress
-pub mod Draws
+pub mod RunProgress
+pub mod RunsByLots
 pub mod Tallies

@@ -1,19 +1,19 @@
--- What stands behind a stop where more is asked for: docs/MACHINE.md, "Notes".
+-- The notes after a stop: docs/MACHINE.md, "Notes".
 use Rattle.std.specs.Prelude.{ℕ, Bool, true, false, List, [], ◌++◌, Option, Some, None}
 use Rattle.hep_machine.specs.declared.event.Entry.{Entry}
 use Rattle.hep_machine.specs.Words.{is_held, state_after, Units, used_cells}
 use Rattle.hep_replay.specs.ChoiceStop.{ChoiceStop}
 use Rattle.hep_replay.specs.ChoiceStop.TheVariants.{ArenaFull, Halted, StepLimit}
-use Rattle.hep_dump.specs.Stops.{all_places_notes, opening_notes, used_notes}
-use Rattle.hep_dump.specs.Wants.{all_wants_notes}
+use Rattle.hep_dump.specs.StopNotes.{all_places_notes, opening_notes, used_notes}
+use Rattle.hep_dump.specs.PendingCalls.{all_wants_notes}
 
--- where COMMON and the frame of the main program don't fit an arena of so many cells
+-- where COMMON and the frame of the main program don't fit an arena of `cells` cells
 abbrev pub opening_notes_when : Bool → Units → ℕ → List ℕ
 opening_notes_when false program cells = []
 opening_notes_when true program cells = opening_notes program cells
 
--- after a history in an arena of so many cells: where a frame has no gap, how many are taken, and what the frames take that processes are
--- to make; where each process is, where the history is full
+-- after a history in an arena of `cells` cells: where a frame has no gap, the number of taken cells, and the cells of
+-- the frames that processes have to make; where the history is full, the place of each process
 abbrev pub notes_of_stop : Units → ℕ → List Entry → Option ChoiceStop → List ℕ
 notes_of_stop program cells history (Some ArenaFull) =
     used_notes (used_cells program is_held (state_after program history)) cells ++ all_wants_notes program cells history

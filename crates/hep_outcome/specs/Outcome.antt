@@ -1,4 +1,4 @@
--- What a run of a program comes to, with the bytes that it writes: docs/MACHINE.md, "The program".
+-- The outcome of a run of a program, with the bytes that it writes: docs/MACHINE.md, "The program".
 use Rattle.std.specs.Prelude.{◌≡◌, ◌≢◌, ◌⊎◌, ℕ, ◌+◌, ◌<◌, ◌≤◌, Bool, true, false, if◌then◌else◌, List, [], ◌∷◌, ◌++◌, length, take, slice_get, Option, Some, None}
 use Rattle.hep_machine.specs.declared.event.Entry.{Entry}
 use Rattle.hep_machine.specs.declared.event.Fault.{Fault}
@@ -8,7 +8,7 @@ use Rattle.hep_replay.specs.ChoiceStop.{ChoiceStop}
 use Rattle.hep_replay.specs.ChoiceStop.TheVariants.{Halted, ArenaFull, StepLimit}
 use Rattle.hep_replay.specs.Verdict.{Verdict}
 use Rattle.hep_replay.specs.Verdict.TheVariants as verdicts
-use Rattle.hep_replay.specs.Value.{verdict_by}
+use Rattle.hep_replay.specs.CoreValues.{verdict_by}
 use Rattle.hep_image.specs.Names.{names_in_order}
 use Rattle.hep_outcome.specs.declared.options.Options.{Options}
 use Rattle.hep_outcome.specs.declared.status.Status.{Status}
@@ -19,7 +19,7 @@ use Rattle.hep_dump.specs.Waiting.{all_waiting_text}
 use Rattle.hep_outcome.specs.Notes.{opening_notes_when, stop_notes}
 use Rattle.hep_outcome.specs.Texts.{stop_text, choice_text}
 
--- what a run writes to its two outputs, its status, and its history
+-- the bytes of a run for its two outputs, its status, and its history
 pub record Outcome : Type 0 where
   pub output : List ℕ
   pub messages : List ℕ
@@ -32,7 +32,8 @@ abbrev pub first_choice : Option ℕ → Option ℕ → Option ℕ
 first_choice (Some p) ready = Some p
 first_choice None ready = ready
 
--- the process that comes after a history: none after a STOP, else the choices in their order, and then what is ready
+-- the process that comes next after a history: none after a STOP, otherwise the choices in their order, and then the
+-- ready processes
 abbrev pub next_process : Units → List ℕ → List Entry → Option ℕ
 next_process program choices history =
     if (state_after program history).halted then None else first_choice (slice_get choices (length history)) (next_ready program history)
@@ -82,7 +83,7 @@ IsChoiceRefused program options history =
 abbrev pub full_with : List ℕ → Outcome
 full_with notes = record { output = []; messages = stop_text (Some ArenaFull) ++ notes; status = statuses.ArenaFull; history = [] }
 
--- COMMON and the frame of the main program don't fit an arena of so many cells
+-- COMMON and the frame of the main program don't fit an arena of `cells` cells
 abbrev pub outcome_of_full_arena : Bool → Units → ℕ → Outcome
 outcome_of_full_arena long program cells = full_with (opening_notes_when long program cells)
 
@@ -111,12 +112,12 @@ abbrev pub verdict_after : Units → List Entry → Option ChoiceStop → Verdic
 verdict_after program history stop =
     verdict_by stop (living_from 1 (state_after program history).processes) (ready_in (progress_after program history))
 
--- the lines of the processes that wait, where all do that live
+-- the lines of the waiting processes, if all living ones wait
 abbrev pub dump_text : Bool → Units → List Entry → Verdict → List ℕ
 dump_text long program history verdicts.Waiting = all_waiting_text long program history
 dump_text long program history _ = []
 
--- a run in an arena of so many cells, after a history and with a stop
+-- a run in an arena of `cells` cells, after a history and with a stop
 abbrev pub outcome_of_end : Bool → Units → ℕ → List Entry → Option ChoiceStop → Outcome
 outcome_of_end long program cells history stop =
     record {

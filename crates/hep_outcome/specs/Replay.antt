@@ -1,11 +1,12 @@
--- What a replay of a program comes to, from the bytes of a history to the bytes that it writes: docs/MACHINE.md, "The program".
+-- The outcome of a replay of a program, from the bytes of a history to the bytes that it writes: docs/MACHINE.md,
+-- "The program".
 use Rattle.std.specs.Prelude.{◌≡◌, ◌⊎◌, ℕ, Bool, List, [], ◌++◌, codes, length, None, IsSome}
 use Rattle.hep_machine.specs.declared.event.Entry.{Entry}
 use Rattle.hep_machine.specs.Words.{Units, opening_layout}
 use Rattle.hep_replay.specs.Verdict.{Verdict}
 use Rattle.hep_replay.specs.Verdict.TheVariants.{Running}
 use Rattle.hep_image.specs.Names.{names_in_order}
-use Rattle.hep_replay.specs.Value.{CoreValue, state_of, verdict_of}
+use Rattle.hep_replay.specs.CoreValues.{CoreValue, state_of, verdict_of}
 use Rattle.hep_output.specs.Records.{records_text}
 use Rattle.hep_dump.specs.Faults.{faults_text}
 use Rattle.hep_replay.specs.Lines.{AreLines, IsRefusedText}
@@ -27,7 +28,7 @@ abbrev pub running_text : Verdict → List ℕ
 running_text Running = codes "STILL RUNNING\n"
 running_text _ = []
 
--- what a core shows that has made all entries
+-- the outcome of a core that has made all entries
 abbrev pub outcome_of_core : Bool → CoreValue → Outcome
 outcome_of_core long core =
     record {
@@ -40,7 +41,7 @@ outcome_of_core long core =
 
 -- ---- histories
 
--- what comes of these entries
+-- the outcome of these entries
 abbrev pub IsEntriesOutcome : Bool → Units → ℕ → List Entry → Outcome → Type 0
 IsEntriesOutcome long program cells entries o =
     ((opening_layout program cells ≡ None) × (o ≡ outcome_of_full_arena long program cells))
@@ -48,7 +49,7 @@ IsEntriesOutcome long program cells entries o =
     ((k : ℕ) × IsFirstImpossible program cells entries k × (o ≡ outcome_of_refused_history 603 k))
     ⊎ (ArePossible program cells entries (length entries) × (o ≡ outcome_of_core long (replayed program cells entries)))))
 
--- what comes of a text of a history
+-- the outcome of a text of a history
 abbrev pub IsTextOutcome : Bool → List ℕ → ℕ → Units → Outcome → Type 0
 IsTextOutcome long text cells program o =
     ((k : ℕ) × IsRefusedText entry_text IsAllowed text k × (o ≡ outcome_of_refused_history 601 k))

@@ -1,4 +1,4 @@
--- What many runs by lots come to, counted: docs/RUNS.md, "Lots".
+-- The outcomes of many runs by lots, counted: docs/RUNS.md, "Lots".
 use Rattle.std.specs.Prelude.{◌≡◌, ℕ, suc, ◌+◌, ◌-◌, ◌%◌, ◌&&◌, Bool, nat_eq, if◌then◌else◌, List, [], ◌∷◌, ◌++◌, codes}
 use Rattle.std.specs.Fmt.{decimal}
 use Rattle.std.specs.List.{flat_map}
@@ -10,17 +10,17 @@ use Rattle.hep_outcome.specs.Statuses.{status_code}
 
 -- ---- runs
 
--- the seed of the run with this number, counted from 0: the next one each time, and 1 behind 4294967296
+-- the seed of the run with this number, counted from 0: the next one each time, and 1 after 4294967296
 abbrev pub nth_seed : ℕ → ℕ → ℕ
 nth_seed seed i = (seed - 1 + i) % 4294967296 + 1
 
--- how the run with this number is made
+-- the options of the run with this number
 abbrev pub IsNth : SampleOptions → ℕ → LotOptions → Type 0
 IsNth options i by = (by.arena ≡ options.arena) × (by.steps ≡ options.steps) × (by.seed ≡ nth_seed options.seed i)
 
 -- ---- tallies
 
--- how many runs came to an exit status and these lines, and the seed of the first one
+-- the number of runs with an exit status and these lines, and the seed of the first one
 pub record Tally : Type 0 where
   pub count : ℕ
   pub seed : ℕ
@@ -38,12 +38,12 @@ tally_of seed o = record { count = 1; seed = seed; status = status_code o.status
 abbrev pub is_like : Tally → Tally → Bool
 is_like a b = nat_eq a.status b.status && bytes_eq a.lines b.lines
 
--- with one run more
+-- with one more run
 abbrev pub counted : Tally → List Tally → List Tally
 counted one [] = one ∷ []
 counted one (t ∷ ts) = if is_like one t then record t { count = t.count + 1 } ∷ ts else t ∷ counted one ts
 
--- of these runs, of which the first one has this number
+-- the tallies of runs from this number on
 abbrev pub tallied_from : ℕ → ℕ → List Tally → List Outcome → List Tally
 tallied_from seed i ts [] = ts
 tallied_from seed i ts (o ∷ os) = tallied_from seed (suc i) (counted (tally_of (nth_seed seed i) o) ts) os
@@ -53,7 +53,7 @@ tallied seed outcomes = tallied_from seed 0 [] outcomes
 
 -- ---- texts
 
--- how many of the runs, and their status
+-- the number of the runs, and their status
 abbrev pub count_text : ℕ → Tally → List ℕ
 count_text runs t = decimal t.count ++ codes " OF " ++ decimal runs ++ codes " STATUS " ++ decimal t.status
 
@@ -64,6 +64,6 @@ seed_text seed = codes " FIRST BY SEED " ++ decimal seed ++ codes "\n"
 abbrev pub tally_text : ℕ → Tally → List ℕ
 tally_text runs t = count_text runs t ++ (seed_text t.seed ++ t.lines)
 
--- what no lot shows isn't shown never to happen
+-- an outcome that no lot shows may still be possible
 abbrev pub sample_text : ℕ → List Tally → List ℕ
 sample_text runs ts = flat_map (tally_text runs) ts ++ codes "OTHER OUTCOMES MAY BE POSSIBLE\n"

@@ -1,4 +1,4 @@
--- The lines that the program writes of itself: docs/MACHINE.md, "The program".
+-- The program's own lines: docs/MACHINE.md, "The program".
 use Rattle.std.specs.Prelude.{ℕ, List, [], ◌∷◌, ◌++◌, codes, Option, Some, None}
 use Rattle.std.specs.Fmt.{decimal}
 use Rattle.hep_replay.specs.ChoiceStop.{ChoiceStop}

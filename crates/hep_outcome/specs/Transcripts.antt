@@ -1,4 +1,4 @@
--- What a transcript says, as an outcome: docs/ARCHITECTURE.md, "Forms".
+-- The outcome of a transcript: docs/ARCHITECTURE.md, "Forms".
 use Rattle.hep_outcome.specs.declared.transcript.Transcript.{Transcript}
 use Rattle.hep_outcome.specs.Lines.{lines_text}
 use Rattle.hep_outcome.specs.Outcome.{Outcome}

@@ -1,10 +1,10 @@
-//! Lines that are to be written.
+//! Lines of an output.
 ghost use Rattle.std.specs.Prelude.{◌≡◌, IfOk};
 ghost use Rattle.hep_outcome.specs.Lines.{lines_text};
 
 use std::alloc::{AllocError, Global};
 
-/// Lines that are to be written: fixed ones, which take no memory, or others that were made.
+/// Lines of an output: fixed ones, which take no memory, or others that were made.
 #[derive(Drop)]
 pub enum Lines {
     Fixed(&'static [u8]),
@@ -22,7 +22,7 @@ impl Lines {
         }
     }
 
-    /// Their bytes, to which others may be added.
+    /// Their bytes, in a vector to which others may be added.
     ///
     /// # Errors
     ///

@@ -1,16 +1,16 @@
-//! What a run is asked to do.
+//! The options of runs.
 ghost use Rattle.std.specs.Prelude.{◌≡◌, ◌≤◌, []};
 
 use hep_replay::Choices;
 use std::alloc::Global;
 
-/// How a source is run.
+/// The options of a run by choices.
 #[derive(Drop)]
 pub struct Options {
     /// The arena's size in cells, 1 to 16,777,216.
     pub arena: u32,
-    /// How many entries the history may have. A caller is to hand in 1 to 2^40; of any other number
-    /// the calls promise the same, so that a history of none is full before the first step.
+    /// The greatest number of entries of the history. A caller should pass 1 to 2^40. The contracts hold for any
+    /// other number too, so that a history without entries may be full before the first step.
     pub steps: u64,
     /// The choices that the scheduler makes first.
     pub choices: Choices,
@@ -33,50 +33,50 @@ impl Options {
     }
 }
 
-/// What a run of a source is asked for.
+/// The options of a run of a source.
 #[derive(Clone, Copy)]
-pub struct AskedRun<'a> {
+pub struct RunRequest<'a> {
     pub options: &'a Options,
-    /// Whether more is said than the lines that are fixed.
+    /// Whether notes are written besides the lines of the standard form.
     pub long: bool,
 }
 
-/// What a replay of a history is asked for.
+/// The options of a replay of a history.
 #[derive(Clone, Copy)]
-pub struct AskedReplay<'a> {
+pub struct ReplayRequest<'a> {
     /// The text of the history.
     pub history: &'a [u8],
     /// The arena's size in cells, 1 to 16,777,216.
     pub arena: u32,
-    /// Whether more is said than the lines that are fixed.
+    /// Whether notes are written besides the lines of the standard form.
     pub long: bool,
     ghost some: { 1 ≤ arena },
     ghost few: { arena ≤ 16777216 },
 }
 
-/// How lots run a source.
+/// The options of a run by lots.
 #[derive(Clone, Copy, Debug, PartialEq, Eq)]
 pub struct LotOptions {
     /// The arena's size in cells, 1 to 16,777,216.
     pub arena: u32,
-    /// How many entries the history may have.
+    /// The greatest number of entries of the history.
     pub steps: u64,
-    /// What the lots are drawn by.
+    /// The seed of the lots.
     pub seed: u64,
     ghost some: { 1 ≤ arena },
     ghost few: { arena ≤ 16777216 },
 }
 
-/// How a source is sampled.
+/// The options of a sample.
 #[derive(Clone, Copy, Debug, PartialEq, Eq)]
 pub struct SampleOptions {
     /// The arena's size in cells, 1 to 16,777,216.
     pub arena: u32,
-    /// How many entries the history of a run may have.
+    /// The greatest number of entries of the history of a run.
     pub steps: u64,
     /// The seed of the first run, 1 to 4,294,967,296.
     pub seed: u64,
-    /// How many runs there are.
+    /// The number of runs.
     pub runs: u32,
     ghost some: { 1 ≤ arena },
     ghost few: { arena ≤ 16777216 },
@@ -84,18 +84,18 @@ pub struct SampleOptions {
     ghost seeds: { seed ≤ 4294967296 },
 }
 
-/// What a run by lots is asked for.
+/// The options of a run of a source by lots.
 #[derive(Clone, Copy)]
-pub struct AskedLots<'a> {
+pub struct LotsRequest<'a> {
     pub options: &'a LotOptions,
-    /// Whether more is said than the lines that are fixed.
+    /// Whether notes are written besides the lines of the standard form.
     pub long: bool,
 }
 
-/// What a sample is asked for.
+/// The options of a sample of a source.
 #[derive(Clone, Copy)]
-pub struct AskedSample<'a> {
+pub struct SampleRequest<'a> {
     pub options: &'a SampleOptions,
-    /// Whether more is said than the lines that are fixed.
+    /// Whether notes are written besides the lines of the standard form.
     pub long: bool,
 }

@@ -1,19 +1,19 @@
-//! Lots, and the process that they draw.
+//! Lots, and the processes that they draw.
 ghost use Rattle.std.specs.Prelude.{◌≡◌, ◌≤◌, length};
-ghost use Rattle.hep_core.specs.Value.{free_of, state_of};
-ghost use Rattle.hep_outcome.specs.Kept.{lots_after, lots_next, next_in};
-ghost use Rattle.hep_outcome.specs.Drawing as spec;
+ghost use Rattle.hep_core.specs.CoreValues.{free_of, state_of};
+ghost use Rattle.hep_outcome.specs.KeptLots.{lots_after, lots_next, next_in};
+ghost use Rattle.hep_outcome.specs.LotDraws as spec;
 
 use hep_core::Core;
 use rand_core::utils::NextWord;
 use rand_pcg::Pcg32;
 use std::marker::Model;
 
-// The stream of the generator that all seeds share.
+// The stream of the generator, which is the same for all seeds.
 const STREAM: u64 = 54;
 
-/// Lots by a seed. Each draw takes one word of a generator, PCG32, so the same seed draws the same on every machine. Contracts see out of
-/// how many words one draws another process, and the generator.
+/// The lots of a seed. Each draw takes one word of a generator, PCG32, so that a seed draws the same on every
+/// machine. Contracts see `stay`, where one word out of `stay` draws another process, and the generator.
 #[derive(Drop)]
 pub struct Lots {
     stay: u32,
@@ -22,7 +22,7 @@ pub struct Lots {
 
 impl Model for Lots {
     ghost use Rattle.std.specs.Prelude.{◌≤◌};
-    ghost use Rattle.hep_outcome.specs.Kept.{LotsValue};
+    ghost use Rattle.hep_outcome.specs.KeptLots.{LotsValue};
 
     ghost Value = { LotsValue };
 
@@ -31,7 +31,7 @@ impl Model for Lots {
     ghost invariant = { λ lots. 1 ≤ lots.stay };
 }
 
-// 2 to the power of the seed's remainder by 8.
+// 2 to the power of the seed modulo 8.
 fn stay_of(seed: u64) -> u32
     ensures stay { result ≡ spec.stay_of seed }
     ensures some { 1 ≤ result }
@@ -39,7 +39,7 @@ fn stay_of(seed: u64) -> u32
     1 << (seed % 8)
 }
 
-// The process p is ready and isn't out.
+// Whether process p is ready and isn't out.
 fn is_ready(core: &Core, p: u64) -> bool
     ensures { result ≡ spec.is_ready p (free_of core.now.core) }
 {
@@ -49,7 +49,7 @@ fn is_ready(core: &Core, p: u64) -> bool
     }
 }
 
-// So many of the ready ones that aren't out further on from p, around.
+// The process that is `count` places after p among the ready ones that aren't out, in a circle.
 fn further(core: &Core, count: u32, p: u64) -> Option<u64>
     ensures { result ≡ spec.further count p (free_of core.now.core) }
 {
@@ -60,7 +60,7 @@ fn further(core: &Core, count: u32, p: u64) -> Option<u64>
     Some(at)
 }
 
-// Any of the ready ones that aren't out, as a word says.
+// Any of the ready processes that aren't out, by a word.
 fn drawn_anew(core: &Core, word: u32) -> Option<u64>
     ensures { result ≡ spec.drawn_anew word (length (state_of core.now.core).processes) (free_of core.now.core) }
 {
@@ -69,7 +69,7 @@ fn drawn_anew(core: &Core, word: u32) -> Option<u64>
 }
 
 impl Lots {
-    /// The lots of a seed, of which none is drawn.
+    /// The lots of a seed, before the first draw.
     pub fn new(seed: u64) -> Lots
         ensures { result ≡ lots_after seed 0 }
     {
@@ -79,9 +79,9 @@ impl Lots {
         }
     }
 
-    /// The process that comes next, by the next draw: one that is ready and isn't out; none where there is none.
+    /// The process of the next draw: one that is ready and isn't out. `None` where there is none.
     ///
-    /// This costs what `ready_after` of the core does, five times at most.
+    /// This costs five times as much as `ready_after` of the core at most.
     pub fn next(&mut self, core: &Core) -> Option<u64>
         ensures process { result ≡ next_in self.old core.now.core }
         ensures lots { self.new ≡ lots_next self.old }

@@ -2,18 +2,18 @@
 ghost use Rattle.std.specs.Prelude.{◌≡◌};
 ghost use Rattle.hep_outcome.specs.Statuses.{status_code};
 
-/// What a run comes to, in a word (docs/MACHINE.md, "The program").
+/// The result of a run, in a word (docs/MACHINE.md, "The program").
 #[derive(Clone, Copy, Debug, PartialEq, Eq)]
 pub enum Status {
     /// The run is done, and no process ended by a fault.
     Done,
     /// The source is refused.
     Refused,
-    /// What was handed in beside the source can't be used: the words, the choices or a history.
+    /// The command line, the choices or a history can't be used.
     Usage,
     /// The run is over, and a process ended by a fault.
     Faulted,
-    /// All processes that live wait, and none ended by a fault.
+    /// All living processes wait, and none has ended by a fault.
     Waiting,
     /// A frame doesn't fit the arena.
     ArenaFull,

@@ -1,4 +1,4 @@
-//! Many runs by lots, counted.
+//! Tallies of many runs by lots.
 ghost use Rattle.std.specs.Prelude.{◌≡◌, ◌≤◌, ◌+◌, ◌++◌, map, IfOk, OnOk};
 ghost use Rattle.hep_outcome.specs.Tallies as spec;
 ghost use Rattle.hep_outcome.specs.Tallies.{IsNth, Tally as Counted, counted, sample_text, tally_text};
@@ -10,10 +10,10 @@ use hep_output::append_number;
 use std::alloc::{AllocError, Global};
 use std::marker::Model;
 
-/// The most seeds, which are 1 to this number.
+/// The greatest seed. Seeds are 1 to this number.
 pub const MOST_SEED: u64 = 4_294_967_296;
 
-/// How many runs came to a status and these lines, and the seed of the first one.
+/// The number of runs with a status and these lines, and the seed of the first one.
 #[derive(Drop)]
 pub struct Tally {
     count: u64,
@@ -71,7 +71,7 @@ impl Tally {
         self.status == other.status && self.lines.as_slice() == other.lines.as_slice()
     }
 
-    // Counts one run more, unless there are more than a `u64` counts.
+    // Counts one more run, unless there are more than a `u64` can count.
     fn raise(&mut self) -> Result<(), AllocError>
         ensures { OnOk result (self.new ≡ record self.old { count = self.old.count + 1 }) }
     {
@@ -82,7 +82,7 @@ impl Tally {
         Ok(())
     }
 
-    // Appends how many of the runs came to it, and the status.
+    // Appends the number of these runs out of all runs, and the status.
     fn append_count(&self, text: &mut Vec<u8>, runs: u32) -> Result<(), AllocError>
         ensures { OnOk result (text.new.items ≡ text.old.items ++ spec.count_text runs self.now) }
     {
@@ -122,7 +122,7 @@ pub fn count(tallies: &mut Vec<Tally>, one: Tally) -> Result<(), AllocError>
     Ok(())
 }
 
-// The seed of a run, counted from 0.
+// The seed of the run with a number, counted from 0.
 fn nth_seed(seed: u64, run: u32) -> u64
     requires one { 1 ≤ seed }
     requires seeds { seed ≤ 4294967296 }
@@ -131,7 +131,7 @@ fn nth_seed(seed: u64, run: u32) -> u64
     (seed - 1 + u64::from(run)) % MOST_SEED + 1
 }
 
-/// How the run with a number is made, counted from 0.
+/// The options of the run with a number, counted from 0.
 pub fn nth_options(options: &SampleOptions, run: u32) -> LotOptions
     ensures { IsNth options.now run result }
 {
@@ -142,7 +142,7 @@ pub fn nth_options(options: &SampleOptions, run: u32) -> LotOptions
     }
 }
 
-/// The text of tallies of so many runs.
+/// The text of tallies of `runs` runs.
 ///
 /// # Errors
 ///

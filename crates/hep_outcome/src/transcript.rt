@@ -1,4 +1,4 @@
-//! What a run writes, its status and its history.
+//! The outputs of a run, its status and its history.
 ghost use Rattle.std.specs.Prelude.{◌≡◌, ◌≢◌, ◌+◌, ◌++◌, [], true, IfOk, OnErr, OnOk, length};
 ghost use Rattle.hep_outcome.specs.Texts as texts;
 ghost use Rattle.hep_outcome.specs.Outcome as outcome;
@@ -9,8 +9,8 @@ ghost use Rattle.hep_outcome.specs.Replay.{outcome_of_core, outcome_of_refused_h
 ghost use Rattle.hep_outcome.specs.Transcripts.{outcome_of};
 
 use crate::lines::Lines;
+use crate::refusal_text::put_refusal;
 use crate::status::Status;
-use crate::texts::put_refusal;
 use hep_base::Text;
 use hep_dump::{
     append_all_waiting, append_all_wants, append_faults, append_places, opening_notes, used_notes,
@@ -21,14 +21,14 @@ use hep_output::append_records;
 use hep_replay::{ChoiceStop, Core, Fault, Verdict};
 use std::alloc::{AllocError, Global};
 
-/// What a run writes to both outputs, its status and its history.
+/// The bytes of a run for both outputs, its status and its history.
 #[derive(Drop)]
 pub struct Transcript {
     /// The lines of the records.
     pub output: Vec<u8>,
-    /// The lines of the faults, of the processes that wait and of a stop, or that of a refusal.
+    /// The lines of the faults, of the waiting processes and of a stop, or that of a refusal.
     pub messages: Lines,
-    /// What the run came to.
+    /// The status of the run.
     pub status: Status,
     /// An entry for each choice that was made.
     pub history: History,
@@ -74,7 +74,7 @@ fn status_of(verdict: Verdict, faults: &[Fault]) -> Status
     }
 }
 
-// The lines of the processes that wait, where all do that live, with notes where `long` is true.
+// The lines of the waiting processes, if all living ones wait, with notes where `long` is true.
 fn append_dump(
     alloc: Global,
     text: &mut Vec<u8>,
@@ -90,7 +90,7 @@ fn append_dump(
     }
 }
 
-// What is said behind the stop of a core.
+// The notes after the stop of a core.
 fn append_notes_of_stop(
     alloc: Global,
     text: &mut Vec<u8>,
@@ -111,7 +111,7 @@ fn append_notes_of_stop(
     }
 }
 
-// The same where `long` is true, and nothing where it is false.
+// The notes after the stop where `long` is true, and nothing where it is false.
 fn append_stop_notes(
     alloc: Global,
     text: &mut Vec<u8>,
@@ -128,7 +128,7 @@ fn append_stop_notes(
     Ok(())
 }
 
-/// The stop that a core is at.
+/// The stop of a core, if it has one.
 fn stop_of(core: &Core) -> Option<ChoiceStop>
     ensures { result ≡ core.now.core.stop }
 {
@@ -145,7 +145,7 @@ fn history_of(core: Core) -> History
     core.into_history()
 }
 
-/// What a run that is over writes, with notes where `long` is true.
+/// The transcript of a run that is over, with notes where `long` is true.
 ///
 /// # Errors
 ///
@@ -180,7 +180,7 @@ fn running_text(verdict: Verdict) -> &'static [u8]
     }
 }
 
-/// What a core writes that has made all entries of a history, with notes where `long` is true.
+/// The transcript of a core that has made all entries of a history, with notes where `long` is true.
 ///
 /// # Errors
 ///
@@ -205,7 +205,7 @@ pub fn core_transcript(alloc: Global, core: Core, long: bool) -> Result<Transcri
     })
 }
 
-/// What a run writes whose next choice is refused; it is this one, counted from 1.
+/// The transcript of a run whose next choice is refused. `choice` is its number, counted from 1.
 ///
 /// # Errors
 ///
@@ -220,7 +220,7 @@ pub fn choice_transcript(alloc: Global, core: Core, choice: usize) -> Result<Tra
     Ok(Transcript::silent(alloc, Lines::Made(messages), Status::Usage, history))
 }
 
-/// What a history leaves that is refused at this line of its text, or at this entry.
+/// The transcript of a history that is refused at this line of its text, or at this entry.
 ///
 /// # Errors
 ///
@@ -234,7 +234,8 @@ pub fn history_transcript(alloc: Global, number: u16, place: u64) -> Result<Tran
     Ok(Transcript::silent(alloc, Lines::Made(messages), Status::Usage, history))
 }
 
-/// What is said where COMMON and the main program's frame don't fit an arena of so many cells; nothing where `long` is false.
+/// The notes where COMMON and the main program's frame don't fit an arena of `cells` cells; nothing where `long` is
+/// false.
 ///
 /// # Errors
 ///
@@ -255,7 +256,7 @@ pub fn opening_notes_when(
     }
 }
 
-// What a program leaves whose main program's frame doesn't fit the arena, where nothing more is said.
+// The transcript of a program whose main program's frame doesn't fit the arena, without notes.
 fn bare_full_transcript(alloc: Global) -> Transcript
     ensures { outcome_of result ≡ outcome.full_with [] }
 {
@@ -274,7 +275,7 @@ fn noted_full_transcript(alloc: Global, notes: &Text) -> Result<Transcript, Allo
     Ok(Transcript::silent(alloc, Lines::Made(messages), Status::ArenaFull, history))
 }
 
-/// What a program leaves whose main program's frame doesn't fit the arena, with these notes.
+/// The transcript of a program whose main program's frame doesn't fit the arena, with these notes.
 ///
 /// # Errors
 ///

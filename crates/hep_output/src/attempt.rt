@@ -1,20 +1,20 @@
-//! One write, and the fault that its refusal is.
+//! One write to a stream, and the error of a write that failed.
 ghost use Rattle.std.specs.Prelude.{◌≡◌, ◌≤◌, ◌<◌, ◌+◌, drop, length, take, IfOk, IfErr, OnErr};
 ghost use Rattle.std.specs.Io.KnownBytes.{Appends, Keeps};
 
 use std::io::{self, ErrorKind, Write};
 use thiserror::Error;
 
-// What a writer answers that takes no more.
+// The answer of a writer that takes no more.
 #[derive(Clone, Copy, Debug, PartialEq, Eq)]
 enum Answer {
     Failed,
-    // The stream is a pipe or a socket that nobody reads any more.
+    // The stream is a pipe or a socket that no process reads any more.
     Closed,
     TookNothing,
 }
 
-// What a writer answers that fails so.
+// The answer that an error of a writer means.
 fn answer_of(fault: &io::Error) -> Answer {
     match fault.kind() {
         ErrorKind::BrokenPipe => Answer::Closed,
@@ -22,25 +22,26 @@ fn answer_of(fault: &io::Error) -> Answer {
     }
 }
 
-/// A write that failed: the writer has taken just the first `written` bytes.
+/// A write that failed. The writer has taken just the first `written` bytes.
 ///
-/// No code but `write_on` can make one, which does so right behind a writer's answer.
+/// Only `write_on` can make one, right after a writer's answer.
 #[derive(Clone, Copy, Debug, PartialEq, Eq, Error)]
 #[error("write fault after {written}")]
 pub struct PutFault {
-    /// How many bytes were taken.
+    /// The number of bytes that were taken.
     pub written: usize,
     answer: Answer,
 }
 
 impl PutFault {
-    /// Whether the writer is a pipe or a socket that nobody reads any more.
+    /// Whether the writer is a pipe or a socket that no process reads any more.
     pub fn is_closed_pipe(&self) -> bool {
         self.answer == Answer::Closed
     }
 }
 
-/// Writes on where so many bytes were taken: how many further ones the writer takes, which is one at least.
+/// Writes the bytes after the first `written`, and returns how many further ones the writer takes, which is one at
+/// least.
 ///
 /// # Errors
 ///

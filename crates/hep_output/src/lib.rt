@@ -1,8 +1,5 @@
-//! The lines of records, numbers as text, and writing a whole text.
-//!
-//! Numbers in a text, each with one spelling: shortest decimals with a byte behind them that is no digit.
-//!
-//! The lines of records, and writing a whole output.
+//! Text that programs read and write: the lines of records ([`records`]), numbers as shortest decimals ([`number`]),
+//! and a whole text written to a stream ([`writer`]).
 #![tactic(auto)]
 
 mod attempt;
@@ -11,6 +8,7 @@ pub mod records;
 pub mod writer;
 
 pub use attempt::PutFault;
+pub use hep_base::append_number;
 pub use number::number_before;
-pub use records::{append_number, append_record, append_records, output_text, record_text};
+pub use records::{append_record, append_records, output_text, record_text};
 pub use writer::put_all;

@@ -1,11 +1,11 @@
-//! Numbers in a text: shortest decimals, each with a byte after it that is no digit.
+//! Numbers in a text: shortest decimals, each followed by a byte that is no digit.
 ghost use Rattle.std.specs.Prelude.{◌≡◌, ◌≢◌, ℕ, ◌^◌, ◌<◌, ◌≤◌, List, ◌++◌, ◌∷◌, slice_index, EachIndex, IfSome, IfNone};
 ghost use Rattle.std.specs.Char.{IsAsciiDigit, is_ascii_digit};
 ghost use Rattle.std.specs.Fmt.{decimal};
 ghost use Rattle.std.specs.List.{prefix_len};
 ghost use Rattle.std.specs.Str.Parse.{digits_value};
 
-// How many digits stand at the front of a text.
+// The number of digits at the front of a text.
 fn digit_count(text: &[u8]) -> usize
     ensures { result ≡ prefix_len is_ascii_digit text.now }
 {

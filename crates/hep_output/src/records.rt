@@ -2,21 +2,9 @@
 ghost use Rattle.std.specs.Prelude.{◌≡◌, ◌++◌, IfOk, OnOk, false};
 ghost use Rattle.hep_output.specs.Records as words;
 
+use hep_base::append_number;
 use hep_machine::{Item, Record};
-use itoa::{Buffer, Integer};
 use std::alloc::{AllocError, Global};
-
-/// Appends a number in decimal.
-///
-/// # Errors
-///
-/// Only where memory was refused.
-pub fn append_number<I: Integer>(text: &mut Vec<u8>, number: I) -> Result<(), AllocError>
-    ensures { OnOk result (text.new.items ≡ text.old.items ++ I.text number) }
-{
-    let mut buffer = Buffer::new();
-    text.extend_from_slice(buffer.format(number).as_bytes())
-}
 
 fn append_item(text: &mut Vec<u8>, item: &Item) -> Result<(), AllocError>
     ensures { OnOk result (text.new.items ≡ text.old.items ++ words.item_text item.now) }

@@ -9,8 +9,8 @@ use std::io::Write;
 ///
 /// # Errors
 ///
-/// Where a write failed, an interrupted one too, or took nothing: then fewer bytes than these were
-/// taken. The writer is asked for nothing more.
+/// Where a write failed, an interrupted one too, or took nothing. Then the writer has taken fewer bytes than these,
+/// and isn't called any more.
 pub fn put_all<W: Write>(writer: &mut W, bytes: &[u8]) -> Result<(), PutFault>
     ensures all { OnOk result (Appends (W.contents writer.old) (W.contents writer.new) bytes.now) }
     ensures fewer { IfErr result (λ fault. fault.written < length bytes.now) }

@@ -1,7 +1,7 @@
 -- Text in HTML: docs/page/README.md.
 use Rattle.std.specs.Prelude.{ℕ, nat_eq, if◌then◌else◌, List, [], ◌∷◌, codes}
 use Rattle.std.specs.List.{flat_map}
-use Rattle.hep_text.specs.Shown.{shown}
+use Rattle.hep_text.specs.LineDisplay.{shown}
 
 -- a character as HTML has it: a name stands for each of the three that it reads itself, and a question mark for a byte that can't be shown
 abbrev pub html_character : ℕ → List ℕ

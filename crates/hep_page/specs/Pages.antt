@@ -1,13 +1,13 @@
 -- The page of a run: docs/page/README.md.
 use Rattle.std.specs.Prelude.{ℕ, List, [], ◌++◌, codes, length, None, take}
 use Rattle.std.specs.List.{flat_map}
-use Rattle.hep_event.specs.Traces.{Shown, trace_text}
+use Rattle.hep_event.specs.Traces.{LineSelection, trace_text}
 use Rattle.hep_machine.specs.declared.event.Entry.{Entry}
 use Rattle.hep_machine.specs.Words.{Units}
 use Rattle.hep_page.specs.Changes.{changes_text}
 use Rattle.hep_page.specs.Html.{html}
 use Rattle.hep_page.specs.declared.page.Template.{Template}
-use Rattle.hep_state_text.specs.Shown.{line_shown}
+use Rattle.hep_state_text.specs.LineDisplay.{line_shown}
 use Rattle.hep_state_text.specs.States.{state_text}
 use Rattle.hep_text.specs.Line.{lines}
 
@@ -23,7 +23,7 @@ abbrev pub unshown : ℕ → List ℕ
 unshown = line_shown []
 
 -- all turns of so many entries are shown
-abbrev pub all_shown : ℕ → Shown
+abbrev pub all_shown : ℕ → LineSelection
 all_shown entries = record { first = 1; last = entries; process = None; cell = None }
 
 -- the pieces of a template, with these texts between them

@@ -1,7 +1,7 @@
 -- One iteration of the loop that reads parts up to the end of a text.
 use Rattle.std.proofs.Common.{◌≡◌, ℕ, suc, ◌+◌, ◌-◌, ◌<◌, ◌≤◌, List, [], ◌∷◌, ◌++◌, Option, Some, None, Result, Ok, Err, refl, sym, ap, ◌∙◌, arith, append-nil, append_assoc}
-use Rattle.hep_expression.specs.declared.unread.Unread.{Unread}
-use Rattle.hep_expression.specs.declared.unread.Unread.TheVariants as unread
+use Rattle.hep_expression.specs.declared.read_failure.ReadFailure.{ReadFailure}
+use Rattle.hep_expression.specs.declared.read_failure.ReadFailure.TheVariants as unread
 use Rattle.hep_expression.specs.Reading.{Reader, ◌>>=◌, Gives, all_read}
 use Rattle.hep_parse.specs.ReadingLists.{after_optional_comma}
 use Rattle.hep_parse.specs.ReadingDeclaration.{parts_to_end}
@@ -44,7 +44,7 @@ module _ {A : Type 0} where
         sym so_far ∙ turn
 
 -- what all_read gives, seen by a view
-pub read_as : {X Y : Type 0} (view : X → Y) (r : Result X Unread) (x : X) (s : List ℕ) → Gives (λ y. y) r (all_read x s) → Gives view r (all_read (view x) s)
+pub read_as : {X Y : Type 0} (view : X → Y) (r : Result X ReadFailure) (x : X) (s : List ℕ) → Gives (λ y. y) r (all_read x s) → Gives view r (all_read (view x) s)
 read_as view (Ok y) x [] h = ap (λ z. Some (view z)) (same_Some x y h)
 read_as view (Ok y) x (c ∷ s) h = absurd (none-some y h)
 read_as view (Err unread.NoMemory) x s h = tt

@@ -1,8 +1,8 @@
 -- What is read as a statement that the language leaves out is one, and the other way round.
 use Rattle.std.proofs.Common.{◌≡◌, ◌⊎◌, inl, inr, ℕ, zero, suc, ◌+◌, ◌-◌, ◌<◌, ◌≤◌, Bool, true, false, List, [], ◌∷◌, ◌++◌, length, Option, Some, None, refl, sym, ap, subst, ◌∙◌, arith, ◌≢◌, not, ◌&&◌, nat_eq}
 use Rattle.hep_source.specs.Tree.{Tree}
-use Rattle.hep_expression.specs.declared.unread.Unread.{Unread}
-use Rattle.hep_expression.specs.declared.unread.Unread.TheVariants as unread
+use Rattle.hep_expression.specs.declared.read_failure.ReadFailure.{ReadFailure}
+use Rattle.hep_expression.specs.declared.read_failure.ReadFailure.TheVariants as unread
 use Rattle.hep_expression.specs.declared.characters.Context.{Context}
 use Rattle.hep_expression.specs.Expression.{equivalence}
 use Rattle.hep_expression.specs.Reading.{◌>>=◌, if_some, Fails, after_text}
@@ -32,7 +32,7 @@ module _ (k : Context) (n i : ℕ) (s : List ℕ) (whole : Option (List ℕ)) wh
       let turn : left_out k (suc (n - (i + 1))) s ≡ left_out k (n - (i + 1)) x.1 = rw (rule, read) refl in
       sym turn ∙ one_turn lt so_far
 
-  pub condition_fails : (why : Unread) → i < n → rule_of s ≡ LogicalIf → Fails why (logical_if k s) → left_out k (n - i) s ≡ whole → Fails why whole
+  pub condition_fails : (why : ReadFailure) → i < n → rule_of s ≡ LogicalIf → Fails why (logical_if k s) → left_out k (n - i) s ≡ whole → Fails why whole
   unfolding left_out
   condition_fails unread.NoMemory lt rule fails so_far = tt
   condition_fails unread.NoReading lt rule fails so_far =

@@ -1,12 +1,12 @@
 -- One iteration of the loop that reads parts in a row.
 use Rattle.std.proofs.Common.{◌≡◌, ℕ, suc, ◌+◌, ◌-◌, ◌<◌, ◌≤◌, List, [], ◌∷◌, ◌++◌, length, Option, Some, None, refl, sym, ap, ◌∙◌, arith, append-nil, append_assoc}
-use Rattle.hep_expression.specs.declared.unread.Unread.{Unread}
-use Rattle.hep_expression.specs.declared.unread.Unread.TheVariants as unread
+use Rattle.hep_expression.specs.declared.read_failure.ReadFailure.{ReadFailure}
+use Rattle.hep_expression.specs.declared.read_failure.ReadFailure.TheVariants as unread
 use Rattle.hep_expression.specs.Reading.{Reader, Fails}
 use Rattle.hep_parse.specs.ReadingLists.{part_after_comma, with_part, parts_after, listed}
 
 -- no reading, and memory wasn't refused
-pub nothing_read : {Y : Type 0} (why : Unread) (read : Option Y) → why ≡ unread.NoReading → Fails why read → read ≡ None
+pub nothing_read : {Y : Type 0} (why : ReadFailure) (read : Option Y) → why ≡ unread.NoReading → Fails why read → read ≡ None
 nothing_read unread.NoReading read is e = e
 nothing_read unread.NoMemory read is e = absurd cc
 

@@ -1,4 +1,4 @@
--- The forms of headers, specification statements and DATA: which texts read as which forms (X3.9-1978, sections 8, 9, 14 and 15,
+-- The grammar of headers, specification statements and DATA: which texts read as which forms (X3.9-1978, sections 8, 9, 14 and 15,
 -- and docs/LANGUAGE.md, 5).
 use Rattle.std.specs.Prelude.{◌≡◌, ◌≢◌, ◌⊎◌, ℕ, ◌≤◌, Bool, true, false, IsTrue, codes, List, [], ◌∷◌, ◌++◌, length, ℤ, pos, neg_ℤ, Option, Some, None}
 use Rattle.hep_source.specs.Tree.{Tree}
@@ -35,12 +35,12 @@ abbrev pub type_spelling : ValueType → List ℕ
 type_spelling Integer = codes "INTEGER"
 type_spelling Logical = codes "LOGICAL"
 
--- with which the header of a function begins, with a type or without (15.5.1)
+-- the words with which the header of a function begins, with a type or without (15.5.1)
 abbrev pub function_spelling : Option ValueType → List ℕ
 function_spelling None = codes "FUNCTION"
 function_spelling (Some t) = type_spelling t ++ codes "FUNCTION"
 
--- a letter, or two with `-` between them, of which the first isn't after the second (8.5)
+-- a letter, or two letters in alphabetical order with `-` between them (8.5)
 abbrev pub ReadsLetters : LetterRange → List ℕ → List ℕ → Type 0
 ReadsLetters x s r =
     IsTrue (is_letter x.first) × IsTrue (is_letter x.last) × (x.first ≤ x.last)
@@ -50,9 +50,9 @@ ReadsLetters x s r =
 abbrev pub ReadsImplicit : ImplicitGroup → List ℕ → List ℕ → Type 0
 ReadsImplicit x s r = (m : List ℕ) × (s ≡ type_spelling x.value_type ++ m) × AreEnclosed ReadsLetters x.letters m r
 
--- ---- which dimensions an array can have (X3.9-1978, 5.1.1 and 5.1.2)
+-- ---- the dimensions of an array (X3.9-1978, 5.1.1 and 5.1.2)
 
--- the most dimensions of an array
+-- the greatest number of dimensions of an array
 abbrev pub most_dimensions : ℕ
 most_dimensions = 7
 
@@ -69,12 +69,12 @@ OnlyLastOpen (x ∷ y ∷ more) = (is_open x.upper ≡ false) × OnlyLastOpen (y
 
 -- ---- signs of constants (4.3.1)
 
--- the sign of an integer constant
+-- the characters of the sign of an integer constant, if it has one
 abbrev pub optional_sign : Option Sign → List ℕ
 optional_sign None = []
 optional_sign (Some g) = sign_spelling g
 
--- what it makes of one
+-- the value of a constant with a sign
 abbrev pub signed_value : Option Sign → ℤ → ℤ
 signed_value None v = v
 signed_value (Some Plus) v = v
@@ -88,7 +88,7 @@ module _ (k : Context) where
   ReadsUpper (Expression t) s r = ReadsExpression k t s r
   ReadsUpper Open s r = s ≡ codes "*" ++ r
 
-  -- a lower bound with its `:`, which may be missing
+  -- a lower bound with its `:`, or nothing
   abbrev pub ReadsLower : Option Tree → List ℕ → List ℕ → Type 0
   ReadsLower None s r = s ≡ r
   ReadsLower (Some t) s r = ReadsExpression k t s (codes ":" ++ r)
@@ -107,19 +107,19 @@ module _ (k : Context) where
 
   -- ---- COMMON (8.3)
 
-  -- the name of a block between two `/`, of blank COMMON none
+  -- the name of a block between two `/`; blank COMMON has no name
   abbrev pub ReadsBlockName : Option Occurrence → List ℕ → List ℕ → Type 0
   ReadsBlockName None s r = s ≡ codes "//" ++ r
   ReadsBlockName (Some p) s r = (m : List ℕ) × (s ≡ codes "/" ++ m) × ReadsPlainOccurrence k p m (codes "/" ++ r)
 
-  -- the whole text is these blocks, after others
+  -- The whole text is these blocks, which follow another block.
   abbrev pub AreMoreBlocks : List CommonBlock → List ℕ → Type 0
   AreMoreBlocks [] s = s ≡ []
   AreMoreBlocks (x ∷ more) s =
       (m : List ℕ) × (n : List ℕ) × (r : List ℕ) × IsOptionalComma s m × ReadsBlockName x.block m n
       × AreListed ReadsDeclarator x.entries n r × AreMoreBlocks more r
 
-  -- the first block is blank COMMON where it has no `/` before its list
+  -- the name of the first block, which is blank COMMON where no `/` is before its list
   abbrev pub ReadsFirstName : Option Occurrence → List ℕ → List ℕ → Type 0
   ReadsFirstName None s r = (s ≡ r) ⊎ (s ≡ codes "//" ++ r)
   ReadsFirstName (Some p) s r = ReadsBlockName (Some p) s r
@@ -143,7 +143,7 @@ module _ (k : Context) where
   ReadsDataConstant (ConstantValue (Truth b)) s r = s ≡ logical_spelling b ++ r
   ReadsDataConstant (ConstantName p) s r = ReadsPlainOccurrence k p s r
 
-  -- a repeat count is 1 or more
+  -- a repeat count with its `*`, or nothing; a count is 1 or more
   abbrev pub ReadsRepeat : Option Repeat → List ℕ → List ℕ → Type 0
   ReadsRepeat None s r = s ≡ r
   ReadsRepeat (Some (Count n)) s r = (d : List ℕ) × IsDigits d × (s ≡ d ++ codes "*" ++ r) × IsInteger k.sizes d n × (n ≢ pos 0)

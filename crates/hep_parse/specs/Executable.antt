@@ -1,4 +1,4 @@
--- The forms of executable statements: which texts read as which forms (X3.9-1978, sections 10 to 12 and 15, and
+-- The grammar of executable statements: which texts read as which forms (X3.9-1978, sections 10 to 12 and 15, and
 -- docs/LANGUAGE.md, 5).
 use Rattle.std.specs.Prelude.{◌≡◌, ◌⊎◌, ℕ, ◌≤◌, codes, List, [], ◌++◌, length, Option, Some, None}
 use Rattle.hep_source.specs.Tree.{Tree}
@@ -14,7 +14,7 @@ use Rattle.hep_expression.specs.Label.{most_digits, ReadsLabel}
 use Rattle.hep_parse.specs.Constant.{ReadsCharacters, ReadsItem}
 use Rattle.hep_parse.specs.Target.{ReadsTarget}
 
--- what may stand after STOP: nothing, one to five digits, or a character constant (11.12)
+-- what may follow STOP: nothing, one to five digits, or a character constant (11.12)
 abbrev pub IsStopText : List ℕ → Type 0
 IsStopText s = (s ≡ []) ⊎ (IsDigits s × (length s ≤ most_digits)) ⊎ ((t : List ℕ) × ReadsCharacters t s [])
 

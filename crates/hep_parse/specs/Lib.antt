@@ -7,7 +7,7 @@ pub mod Target
 pub mod Declaration
 pub mod Executable
 pub mod Statement
--- the reading functions, which give what the grammar reads
+-- the readers as functions on lists, which agree with the grammar
 pub mod ReadingLists
 pub mod ReadingConstant
 pub mod ReadingTarget

@@ -1,4 +1,4 @@
--- Programs, and why some statements are none: docs/LANGUAGE.md, 6.
+-- Which statements are a program, and which fault is reported of others: docs/LANGUAGE.md, 6.
 use Rattle.std.specs.Prelude.{◌≡◌, ◌≢◌, ◌⊎◌, ℕ, ◌||◌, Bool, true, false, IsTrue, codes, List, [], ◌∷◌, ◌++◌, Result, Ok, Err}
 use Rattle.hep_source.specs.Tree.{Tree}
 use Rattle.hep_source.specs.declared.statement.Form.{Form}
@@ -16,13 +16,13 @@ use Rattle.hep_parse.specs.declared.program.StatementClass.{StatementClass}
 use Rattle.hep_parse.specs.declared.program.StatementClass.TheVariants as part
 use Rattle.hep_parse.specs.Statement.{IsLogicalIf, context, IsForm}
 
--- A text with its line and label is this statement.
+-- A text with its line and label reads as this statement.
 abbrev pub IsStatement : Stmt → Statement → Type 0
 IsStatement given read = (read.line ≡ given.line) × (read.label ≡ given.label) × IsForm Fitting given.text read.conditions read.form
 
 -- ---- units (X3.9-1978, 3.5)
 
--- the part of a unit to which a form belongs; a logical IF holds an action
+-- the part of a unit to which a statement with these conditions and this form belongs; a logical IF is an action
 abbrev pub class_of : List Tree → Form → StatementClass
 class_of (t ∷ more) f = part.Action
 class_of [] (Program p) = part.Header
@@ -36,7 +36,7 @@ class_of [] (Common xs) = part.Specification
 class_of [] End = part.End
 class_of [] _ = part.Action
 
--- whether a statement of the one part may stand anywhere before one of the other in a unit
+-- whether a statement of the first part may be anywhere before one of the second part in a unit
 abbrev pub may_precede : StatementClass → StatementClass → Bool
 may_precede part.End _ = false
 may_precede _ part.Header = false
@@ -46,12 +46,12 @@ may_precede part.Action _ = false
 may_precede part.Specification part.Implicit = false
 may_precede _ _ = true
 
--- a part may stand after those before it in its unit
+-- A statement of this part may follow statements of these parts in a unit.
 abbrev pub MayStandAfter : List StatementClass → StatementClass → Type 0
 MayStandAfter [] x = Unit {0}
 MayStandAfter (y ∷ before) x = IsTrue (may_precede y x) × MayStandAfter before x
 
--- parts after others of their unit: each may stand there, and the last one is END
+-- Each of these statements may follow those before it in its unit, and the last one is END.
 abbrev pub AreOrdered : List StatementClass → List Statement → Type 0
 AreOrdered before [] = ⊥
 AreOrdered before (s ∷ []) = MayStandAfter before (class_of s.conditions s.form) × (class_of s.conditions s.form ≡ part.End)
@@ -60,7 +60,7 @@ AreOrdered before (s ∷ t ∷ more) = MayStandAfter before (class_of s.conditio
 abbrev pub IsUnit : List Statement → Type 0
 IsUnit unit = AreOrdered [] unit
 
--- a unit is a main program unless its first statement is SUBROUTINE or FUNCTION (14.1, 15.5.1 and 15.6.1)
+-- whether a unit is a main program: its first statement is neither SUBROUTINE nor FUNCTION (14.1, 15.5.1 and 15.6.1)
 abbrev pub begins_main : Form → Bool
 begins_main (Subroutine p ds) = false
 begins_main (Function t p ds) = false
@@ -74,12 +74,12 @@ abbrev pub AreSubroutines : List (List Statement) → Type 0
 AreSubroutines [] = Unit {0}
 AreSubroutines (unit ∷ more) = IsUnit unit × (is_main unit ≡ false) × AreSubroutines more
 
--- one main program and any number of subroutines, in any order (2.4)
+-- There are one main program and any number of subprograms, in any order (2.4).
 abbrev pub AreUnits : List (List Statement) → Type 0
 AreUnits [] = ⊥
 AreUnits (unit ∷ more) = IsUnit unit × (((is_main unit ≡ true) × AreSubroutines more) ⊎ ((is_main unit ≡ false) × AreUnits more))
 
--- each of the statements in order, unit after unit
+-- The given texts begin with texts that read as these statements, in order, and the rest is left.
 abbrev pub AreStatements : List Stmt → List Statement → List Stmt → Type 0
 AreStatements given [] left = given ≡ left
 AreStatements [] (read ∷ reads) left = ⊥
@@ -89,7 +89,7 @@ abbrev pub AreAllStatements : List Stmt → List (List Statement) → Type 0
 AreAllStatements given [] = given ≡ []
 AreAllStatements given (unit ∷ units) = (left : List Stmt) × AreStatements given unit left × AreAllStatements left units
 
--- The statements of a source are this program (2.4).
+-- The statements of a source form this program (2.4).
 abbrev pub IsProgram : List Stmt → List (List Statement) → Type 0
 IsProgram given units = AreAllStatements given units × AreUnits units
 
@@ -104,7 +104,7 @@ HasNoReading z s = (conditions : List Tree) (f : Form) → IsForm z s.text condi
 abbrev pub plain : List ℕ → List ℕ × List ℕ
 plain w = (w, w)
 
--- the words of statements that the language leaves out, each with the name that is reported
+-- the words of statements that the language leaves out, each with the name that a refusal reports
 abbrev pub left_out_words : List (List ℕ × List ℕ)
 left_out_words =
     plain (codes "REAL") ∷ plain (codes "DOUBLEPRECISION") ∷ plain (codes "COMPLEX") ∷ plain (codes "CHARACTER")
@@ -114,13 +114,13 @@ left_out_words =
     ∷ plain (codes "INTRINSIC") ∷ plain (codes "ASSIGN") ∷ plain (codes "PAUSE") ∷ plain (codes "BLOCKDATA")
     ∷ plain (codes "INCLUDE") ∷ []
 
--- one of these words begins the text, and has this name
+-- The text begins with one of these words, which has this name.
 abbrev pub BeginsWith : List (List ℕ × List ℕ) → List ℕ → List ℕ → Type 0
 BeginsWith [] s name = ⊥
 BeginsWith (x ∷ more) s name = ((m : List ℕ) × (s ≡ x.0 ++ m) × (name ≡ x.1)) ⊎ BeginsWith more s name
 
--- The text begins with a word that is left out, after these conditions of logical IFs, where the
--- rules come to the words.
+-- After these conditions of logical IFs the text begins with the word of a statement that is left out, and its rule is the one
+-- for words.
 abbrev pub IsLeftOut : Context → List Tree → List ℕ → List ℕ → Type 0
 IsLeftOut k [] s name = (rule_of s ≡ Worded) × BeginsWith left_out_words s name
 IsLeftOut k (t ∷ more) s name = (r : List ℕ) × IsLogicalIf k t s r × IsLeftOut k more r name
@@ -128,8 +128,8 @@ IsLeftOut k (t ∷ more) s name = (r : List ℕ) × IsLogicalIf k t s r × IsLef
 abbrev pub IsLeftOutStatement : Stmt → List ℕ → Type 0
 IsLeftOutStatement s name = (conditions : List Tree) × IsLeftOut (context Any s.text) conditions s.text name
 
--- The statement is in the wrong order after these parts of its unit: it may not stand there; it begins a
--- second main program; it is the last statement of the source and isn't END.
+-- The statement is out of order after these parts of its unit: its part may not follow them, or it begins a
+-- second main program, or it is the last statement of the source and isn't END.
 abbrev pub IsMisplaced : List StatementClass → Bool → List Tree → Form → List Stmt → Type 0
 IsMisplaced before main_is_there conditions f rest_after =
     (MayStandAfter before (class_of conditions f) → ⊥)
@@ -144,18 +144,18 @@ IsRefusedStatement before main_is_there s rest_after number name =
     ⊎ ((number ≡ 203) × HasReading Any s × HasNoReading Fitting s × (name ≡ []))
     ⊎ ((number ≡ 205) × (conditions : List Tree) × (f : Form) × IsForm Fitting s.text conditions f × IsMisplaced before main_is_there conditions f rest_after × (name ≡ []))
 
--- the parts of the unit that goes on after one more; none after its END
+-- the parts of the current unit after a statement of one more part; none after END
 abbrev pub parts_after : List StatementClass → StatementClass → List StatementClass
 parts_after before part.End = []
 parts_after before x = before ++ x ∷ []
 
--- whether a main program is there after one more statement
+-- whether a main program has begun after one more statement
 abbrev pub main_after : List StatementClass → Bool → Form → Bool
 main_after [] main_is_there f = main_is_there || begins_main f
 main_after (x ∷ before) main_is_there f = main_is_there
 
--- The first fault of the statements after these parts of a unit, with its number, line and name:
--- that of the first statement that is refused; 204 where none is and there is no main program.
+-- The first fault of the statements after these parts of a unit has this number, line and name. It is
+-- that of the first statement that is refused, or 204 where none is refused and there is no main program.
 abbrev pub IsFirstFaultFrom : List StatementClass → Bool → List Stmt → ℕ → ℕ → List ℕ → Type 0
 IsFirstFaultFrom before main_is_there [] number line name = (main_is_there ≡ false) × (number ≡ 204) × (line ≡ 0) × (name ≡ [])
 IsFirstFaultFrom before main_is_there (s ∷ rest_after) number line name =
@@ -164,25 +164,25 @@ IsFirstFaultFrom before main_is_there (s ∷ rest_after) number line name =
     × (conditions : List Tree) × (f : Form) × IsForm Fitting s.text conditions f
     × IsFirstFaultFrom (parts_after before (class_of conditions f)) (main_after before main_is_there f) rest_after number line name)
 
--- the fault of a source
+-- The first fault of a source has this number, line and name.
 abbrev pub IsFirstFault : List Stmt → ℕ → ℕ → List ℕ → Type 0
 IsFirstFault given number line name = IsFirstFaultFrom [] false given number line name
 
--- ---- what is answered
+-- ---- results of `parse`
 
--- this program, unless memory was refused
+-- The result is this program, unless memory was refused.
 abbrev pub IsRead : List (List Statement) → Result (List (List Statement)) ParseFault → Type 0
 IsRead p (Ok q) = q ≡ p
 IsRead p (Err NoMemory) = Unit {0}
 IsRead p (Err (Refused number line name)) = ⊥
 
--- this refusal, unless memory was refused
+-- The result is the refusal with this number, line and name, unless memory was refused.
 abbrev pub IsReported : ℕ → ℕ → List ℕ → Result (List (List Statement)) ParseFault → Type 0
 IsReported number line name (Ok p) = ⊥
 IsReported number line name (Err NoMemory) = Unit {0}
 IsReported number line name (Err (Refused n l word)) = (n ≡ number) × (l ≡ line) × (word ≡ name)
 
--- a refusal reports the first fault
+-- The refusal reports the first fault, unless memory was refused.
 abbrev pub IsTrueFault : List Stmt → ParseFault → Type 0
 IsTrueFault given NoMemory = Unit {0}
 IsTrueFault given (Refused number line name) = IsFirstFault given number line name

@@ -1,5 +1,5 @@
--- Reading headers, specification statements and DATA, as functions on lists. What stands after the
--- word of a statement gives its form.
+-- The readers of headers, specification statements and DATA, as functions on lists. Each takes the text after the
+-- word with which the statement begins.
 use Rattle.std.specs.Prelude.{ℕ, zero, suc, nat_le, ◌&&◌, not, Bool, true, false, if◌then◌else◌, List, [], ◌∷◌, length, ℤ, pos, negsuc, neg_ℤ, Option, Some, None}
 use Rattle.std.specs.List.{list_all}
 use Rattle.hep_source.specs.Tree.{Tree}
@@ -51,7 +51,7 @@ abbrev pub letter_at : Reader ℕ
 letter_at [] = None
 letter_at (c ∷ s) = if is_letter c then Some (c, s) else None
 
--- a letter, or two with `-` between them, of which the first isn't after the second
+-- a letter, or two letters in alphabetical order with `-` between them
 abbrev pub letter_range_at : Reader LetterRange
 letter_range_at s =
     letter_at s >>= λ x. if_some (after minus x.1)
@@ -75,7 +75,7 @@ implicit k s = whole form.Implicit (listed (implicit_group_at k) s)
 abbrev pub upper_bound_at : Context → Reader UpperBound
 upper_bound_at k s = if_some (after asterisk s) (λ r. Some (Open, r)) (expression_at k s >>= λ x. Some (Expression x.0, x.1))
 
--- the dimension that begins with this expression
+-- a dimension whose first expression was read
 abbrev pub dimension_after : Context → Tree → Reader Dimension
 dimension_after k t s =
     if_some (after colon s) (λ m. upper_bound_at k m >>= λ y. Some (record { lower = Some t; upper = y.0 }, y.1))
@@ -112,18 +112,18 @@ dimension k s = listed (declarator_at k) s >>= λ x. if list_all is_array x.0 th
 
 -- ---- parts up to the end of a text
 
--- each after a comma that may be missing; the number bounds how many
+-- parts up to the end of the text, each after an optional comma; the number bounds how many are read
 unfoldable pub parts_to_end : {A : Type 0} → Reader A → ℕ → List ℕ → Option (List A)
 parts_to_end next zero s = all_read [] s
 parts_to_end next (suc n) s = if_some (next (after_optional_comma s)) (λ x. parts_to_end next n x.1 >>= λ more. Some (x.0 ∷ more)) (all_read [] s)
 
--- those with a first one before them
+-- a first part and the parts after it up to the end of the text
 abbrev pub up_to_end : {A : Type 0} → Reader A → A → List ℕ → Option (List A)
 up_to_end next x s = parts_to_end next (length s) s >>= λ more. Some (x ∷ more)
 
 -- ---- COMMON
 
--- the name of a block after its first `/`, of blank COMMON none
+-- the name of a block, read after its first `/`; blank COMMON has no name
 abbrev pub block_name_at : Context → Reader (Option Occurrence)
 block_name_at k s =
     if_some (after slash s) (λ r. Some (None, r))
@@ -138,7 +138,7 @@ block_after k s = block_name_at k s >>= λ x. entries_at k x.0 x.1
 unfoldable pub block_at : Context → Reader CommonBlock
 block_at k s = after slash s >>= block_after k
 
--- the first block is blank COMMON where it has no `/` before its list
+-- the first block, which is blank COMMON where no `/` is before its list
 abbrev pub first_block_at : Context → Reader CommonBlock
 first_block_at k s = if_some (after slash s) (block_after k) (entries_at k None s)
 
@@ -175,7 +175,7 @@ is_zero (negsuc n) = false
 abbrev pub count_at : Context → Reader Repeat
 count_at k s = integer_at k s >>= λ x. after asterisk x.1 >>= λ r. if is_zero x.0 then None else Some (Count x.0, r)
 
--- a repeat count with its `*`: a number but 0, or a name
+-- a repeat count with its `*`: a number other than 0, or a name
 abbrev pub repeat_at : Context → Reader Repeat
 repeat_at k s =
     if_some (count_at k s) (λ x. Some x)
@@ -186,7 +186,7 @@ data_value_at k s =
     if_some (repeat_at k s) (λ x. data_constant_at k x.1 >>= λ y. Some (record { repeat = Some x.0; constant = y.0 }, y.1))
     (data_constant_at k s >>= λ y. Some (record { repeat = None; constant = y.0 }, y.1))
 
--- names up to a `/`, and values between it and the next
+-- the names up to a `/`, and the values between it and the next `/`
 unfoldable pub group_at : Context → Reader DataGroup
 group_at k s =
     listed (target_at k) s >>= λ x. after slash x.1 >>= λ m. listed (data_value_at k) m >>= λ y. after slash y.1 >>= λ r.

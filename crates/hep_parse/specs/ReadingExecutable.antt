@@ -1,4 +1,4 @@
--- Reading the forms of executable statements, as functions on lists (docs/ARCHITECTURE.md, "Forms").
+-- The readers of executable statements, as functions on lists (docs/ARCHITECTURE.md, "Forms").
 use Rattle.std.specs.Prelude.{ℕ, codes, List, [], ◌∷◌, Option, Some, None}
 use Rattle.hep_source.specs.Tree.{Tree}
 use Rattle.hep_source.specs.declared.statement.SignLabels.{SignLabels}
@@ -38,25 +38,25 @@ sign_labels s =
     label_at s >>= λ x. after comma x.1 >>= λ p. label_at p >>= λ y. after comma y.1 >>= λ q. label_at q >>= λ z.
     all_read (record { negative = x.0; zero = y.0; positive = z.0 }) z.1
 
--- a condition and the parenthesis that closes it
+-- a condition and its closing parenthesis
 unfoldable pub condition_at : Context → Reader Tree
 condition_at k s = expression_at k s >>= λ x. after right_parenthesis x.1 >>= λ r. Some (x.0, r)
 
--- the same after `IF(`
+-- a condition and its closing parenthesis, after `IF(`
 abbrev pub if_condition_at : Context → Reader Tree
 if_condition_at k s = after_text (codes "IF(") s >>= condition_at k
 
 unfoldable pub arithmetic_if : Context → List ℕ → Option Form
 arithmetic_if k s = if_condition_at k s >>= λ x. sign_labels x.1 >>= λ y. Some (ArithmeticIf x.0 y)
 
--- the condition before THEN
+-- the condition, where THEN and nothing else follows it
 abbrev pub before_then : Tree × List ℕ → Option Tree
 before_then x = after_text (codes "THEN") x.1 >>= λ r. all_read x.0 r
 
 unfoldable pub if_then : Context → List ℕ → Option Form
 if_then k s = if_condition_at k s >>= λ x. before_then x >>= λ t. Some (IfThen t)
 
--- after `ELSEIF(`
+-- what follows `ELSEIF(`
 unfoldable pub else_if : Context → List ℕ → Option Form
 else_if k s = condition_at k s >>= λ x. before_then x >>= λ t. Some (ElseIf t)
 

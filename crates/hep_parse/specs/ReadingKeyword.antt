@@ -1,4 +1,4 @@
--- Reading the words with which a form of statement begins, as functions on lists (docs/ARCHITECTURE.md, "Forms").
+-- The readers of the words with which a form of statement begins, as functions on lists (docs/ARCHITECTURE.md, "Forms").
 use Rattle.std.specs.Prelude.{ℕ, codes, List, [], ◌∷◌}
 use Rattle.hep_expression.specs.Reading.{Reader, one_of}
 use Rattle.hep_parse.specs.declared.keyword.Keyword.{Keyword}
@@ -32,7 +32,7 @@ spelling Return = codes "RETURN"
 spelling Resume = codes "RESUME"
 spelling Stop = codes "STOP"
 
--- the words, each one before those with which it begins
+-- the words; a word comes before the shorter words with which it begins
 abbrev pub keywords : List Keyword
 keywords =
     Program ∷ Subroutine ∷ IntegerFunction ∷ LogicalFunction ∷ Function ∷ Implicit ∷ Integer ∷ Logical ∷ Dimension ∷ Common ∷ Parameter ∷ Data ∷ GoTo ∷ ElseIf ∷ Else

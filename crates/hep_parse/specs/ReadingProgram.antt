@@ -1,4 +1,4 @@
--- Reading a program, as functions on lists (docs/ARCHITECTURE.md, "Forms").
+-- The reader of programs, as functions on lists (docs/ARCHITECTURE.md, "Forms").
 use Rattle.std.specs.Prelude.{◌≡◌, ℕ, zero, suc, Bool, true, false, not, ◌&&◌, ◌||◌, if◌then◌else◌, List, [], ◌∷◌, ◌++◌, length, Option, Some, None, ok_or, Result, Ok, Err}
 use Rattle.hep_source.specs.Tree.{Tree}
 use Rattle.hep_source.specs.declared.statement.Form.{Form}
@@ -31,7 +31,7 @@ abbrev pub Misses : {Y : Type 0} → ParseFault → Result Y Refusal → Type 0
 Misses NoMemory read = Unit {0}
 Misses (Refused number line name) read = read ≡ Err (number, line, name)
 
--- What a function answers, seen by view, is what was read or the refusal, unless memory was refused.
+-- The view of a function's result is what is read, or its error is the refusal, unless memory was refused.
 abbrev pub Answers : {X Y : Type 0} → (X → Y) → Result X ParseFault → Result Y Refusal → Type 0
 Answers view (Ok x) read = read ≡ Ok (view x)
 Answers view (Err e) read = Misses e read
@@ -47,13 +47,13 @@ abbrev pub word_at : List (List ℕ × List ℕ) → List ℕ → Option (List �
 word_at [] s = None
 word_at (x ∷ more) s = if_some (after_text x.0 s) (λ m. Some x.1) (word_at more s)
 
--- what is read by the rule: of a logical IF, and where a word begins the statement
+-- the first result where the rule is that of a logical IF, and the second where it is the one for words
 abbrev pub by_rule : {A : Type 0} → Rule → Option A → Option A → Option A
 by_rule LogicalIf held word = held
 by_rule Worded held word = word
 by_rule _ held word = None
 
--- the name of the word with which the innermost statement begins; the number bounds the conditions
+-- the name of the left-out word with which the innermost statement begins; the number bounds the nesting of logical IFs
 unfoldable pub left_out : Context → ℕ → List ℕ → Option (List ℕ)
 left_out k zero s = None
 left_out k (suc n) s = by_rule (rule_of s) (logical_if k s >>= λ x. left_out k n x.1) (word_at left_out_words s)
@@ -63,7 +63,7 @@ left_out k (suc n) s = by_rule (rule_of s) (logical_if k s >>= λ x. left_out k 
 abbrev pub with_line : Stmt → List Tree × Form → Statement
 with_line given x = record { line = given.line; label = given.label; conditions = x.0; form = x.1 }
 
--- why a statement is refused that has no reading with constants of any size
+-- the refusal of a statement that has no reading even with constants of any size, by the name of its left-out word
 abbrev pub refusal_by : ℕ → Option (List ℕ) → Refusal
 refusal_by line None = (201, line, [])
 refusal_by line (Some name) = (202, line, name)
@@ -75,7 +75,7 @@ abbrev pub refusal_unless_found : {A : Type 0} → Refusal → Refusal → Optio
 refusal_unless_found found other None = other
 refusal_unless_found found other (Some x) = found
 
--- why a statement is refused that has no reading
+-- the refusal of a statement that has no reading: 203 where it has one with constants of any size, and else 202 or 201
 unfoldable pub refusal_of : Stmt → Refusal
 refusal_of given = refusal_unless_found (203, given.line, []) (nameless_refusal given) (form Any given.text)
 
@@ -88,7 +88,7 @@ abbrev pub is_start : Stage → Bool
 is_start Start = true
 is_start _ = false
 
--- whether a part may stand after those of its unit so far
+-- whether a statement of this part may follow those of its unit so far
 abbrev pub may_follow : Stage → StatementClass → Bool
 may_follow Start x = true
 may_follow Opening x = may_precede part.Header x
@@ -102,7 +102,7 @@ stage_after stage part.Specification = Specification
 stage_after Specification _ = Specification
 stage_after _ _ = Opening
 
--- the state after a statement, where it may stand there
+-- the state after a statement; none where the statement is out of order
 abbrev pub state_after_statement : State → StatementClass → Bool → Option State
 state_after_statement x p begins =
     if may_follow x.stage p && not (is_start x.stage && x.has_main && begins)
@@ -117,7 +117,7 @@ placed x given =
 
 -- ---- units
 
--- the rest of a unit and the units after it, with statements of the unit before them
+-- statements of a unit before the rest of the unit and the units after it
 abbrev pub after_some : List Statement → List (List Statement) → List (List Statement)
 after_some [] units = units
 after_some (s ∷ unit) [] = (s ∷ unit) ∷ []
@@ -127,7 +127,7 @@ abbrev pub after_one : Statement → Stage → List (List Statement) → List (L
 after_one s Start units = (s ∷ []) ∷ units
 after_one s _ units = after_some (s ∷ []) units
 
--- at the end of the source, after a unit or not, where a main program was there or not
+-- the result at the end of the source: whether a unit was ended, whether there was a main program, and the line of the last statement
 abbrev pub ended : Bool → Bool → ℕ → Result (List (List Statement)) Refusal
 ended true true line = Ok []
 ended true false line = Err (204, 0, [])
@@ -136,7 +136,7 @@ ended false main_is_there line = Err (205, line, [])
 abbrev pub at_end : State → ℕ → Result (List (List Statement)) Refusal
 at_end x line = ended (is_start x.stage) x.has_main line
 
--- the rest of a unit and the units after it, where the last statement so far is at this line
+-- the rest of a unit and the units after it, by the state and the line of the last statement read
 unfoldable pub units : State → ℕ → List Stmt → Result (List (List Statement)) Refusal
 units x line [] = at_end x line
 units x line (given ∷ more) =

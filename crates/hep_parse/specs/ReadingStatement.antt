@@ -1,4 +1,4 @@
--- Reading a statement, as functions on lists (docs/ARCHITECTURE.md, "Forms").
+-- The reader of statements, as functions on lists (docs/ARCHITECTURE.md, "Forms").
 use Rattle.std.specs.Prelude.{ℕ, zero, suc, nat_eq, Bool, true, if◌then◌else◌, List, [], ◌∷◌, length, Option, Some, None}
 use Rattle.std.specs.Cmp.Lexicographic.{pointwise}
 use Rattle.hep_source.specs.Tree.{Tree}
@@ -22,7 +22,7 @@ use Rattle.hep_parse.specs.ReadingExecutable.{print, assignment, go_to, if_condi
 
 -- ---- forms that begin with their words
 
--- the form of a header, a specification statement or DATA after its word
+-- the form of a header, a specification statement or DATA, from its word and the text after the word
 abbrev pub declaration : Context → Keyword → List ℕ → Option Form
 declaration k words.Program s = program_header k s
 declaration k words.Subroutine s = subroutine_header k s
@@ -38,7 +38,7 @@ declaration k words.Parameter s = parameter k s
 declaration k words.Data s = data_statement k s
 declaration k _ s = None
 
--- the form of a text after its word
+-- the form of a statement, from its word and the text after the word
 abbrev pub after_word : Context → Keyword → List ℕ → Option Form
 after_word k words.GoTo s = go_to k s
 after_word k words.ElseIf s = else_if k s
@@ -56,11 +56,11 @@ after_word k words.Resume s = all_read forms.Resume s
 after_word k words.Stop s = stop s
 after_word k w s = declaration k w s
 
--- a form that begins with its word
+-- the form of a statement that begins with a word
 unfoldable pub worded : Context → List ℕ → Option Form
 worded k s = keyword_at s >>= λ x. after_word k x.0 x.1
 
--- the form of a statement that is no logical IF, by the rule that applies
+-- the form of a statement that is no logical IF, by its rule
 abbrev pub form_by : Context → Rule → List ℕ → Option Form
 form_by k Assignment s = assignment k s
 form_by k BlockIf s = if_then k s
@@ -71,34 +71,34 @@ form_by k Worded s = worded k s
 
 -- ---- logical IFs
 
--- the condition, where it ends at that parenthesis
+-- the condition, where the text after it is the text after the closing parenthesis
 abbrev pub closed_there : Option (List ℕ) → Tree × List ℕ → Option (Tree × List ℕ)
 closed_there None x = None
 closed_there (Some r) x = if pointwise nat_eq x.1 r then Some x else None
 
--- the condition of a logical IF, and the statement that it holds, where the rule is that of one
+-- the condition of a logical IF and the text of the statement within it, where the rule is that of a logical IF
 abbrev pub held_by : Context → Rule → Reader Tree
 held_by k LogicalIf s = if_condition_at k s >>= closed_there (after_if s)
 held_by k _ s = None
 
--- the condition of a logical IF, and the statement that it holds
+-- the condition of a logical IF, and the text of the statement within it
 unfoldable pub logical_if : Context → Reader Tree
 logical_if k s = held_by k (rule_of s) s
 
--- a condition with those after it, or none
+-- a condition and those after it; none where no condition was read
 abbrev pub after_condition : Option (Tree × List ℕ) → (List ℕ → List Tree × List ℕ) → List ℕ → List Tree × List ℕ
 after_condition None next s = ([], s)
 after_condition (Some x) next s = (x.0 ∷ (next x.1).0, (next x.1).1)
 
--- the conditions of logical IFs, of which each one holds the next, and the statement that the last
--- one holds; the number bounds how many
+-- the conditions of logical IFs, each within the one before, and the text of the innermost statement; the number bounds
+-- how many are read
 unfoldable pub conditions : Context → ℕ → List ℕ → List Tree × List ℕ
 conditions k zero s = ([], s)
 conditions k (suc n) s = after_condition (logical_if k s) (λ r. conditions k n r) s
 
 -- ---- statements
 
--- whether a form may stand after these conditions
+-- whether a statement of this form may follow these conditions
 abbrev pub may_stand : List Tree → Form → Bool
 may_stand [] f = true
 may_stand (t ∷ more) f = is_executable f

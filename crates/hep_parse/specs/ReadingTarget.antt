@@ -1,5 +1,5 @@
--- Reading expressions in a row, and what is assigned, purged or given a value by DATA, as functions
--- on lists.
+-- The readers of expressions in a list and of targets, as functions on lists. A target is assigned, purged or given a value
+-- by DATA.
 use Rattle.std.specs.Prelude.{Some}
 use Rattle.hep_source.specs.Tree.{Tree}
 use Rattle.hep_source.specs.declared.declaration.Target.{Target}

@@ -1,4 +1,4 @@
--- Which rule says what form a statement has: docs/LANGUAGE.md, 5.
+-- The rule that decides the form of a statement: docs/LANGUAGE.md, 5.
 use Rattle.std.specs.Prelude.{ℕ, zero, suc, ◌&&◌, ◌||◌, not, nat_eq, nat_le, Bool, true, false, if◌then◌else◌, codes, List, [], ◌∷◌, Option, Some, None}
 use Rattle.hep_expression.specs.Characters.{apostrophe, left_parenthesis, right_parenthesis, comma, equals, is_digit}
 use Rattle.hep_expression.specs.Reading.{after_text}
@@ -6,8 +6,8 @@ use Rattle.hep_parse.specs.declared.rule.Rule.{Rule}
 use Rattle.hep_parse.specs.declared.rule.Rule.TheVariants.{Assignment, BlockIf, SignIf, LogicalIf, Unclosed, Worded}
 use Rattle.hep_parse.specs.declared.rule.Scan.{Scan}
 
--- What stands after the parenthesis that closes those that are open: one, and so many more.
--- Character constants are passed over.
+-- The text after the closing parenthesis of the outermost open one. The number counts the open parentheses within that one, and the
+-- Boolean says whether a character constant is open. Parentheses in character constants don't count.
 abbrev pub after_closing : ℕ → Bool → List ℕ → Option (List ℕ)
 after_closing depth quoted [] = None
 after_closing depth true (c ∷ s) = after_closing depth (not (nat_eq c apostrophe)) s
@@ -16,8 +16,8 @@ after_closing zero false (c ∷ s) =
 after_closing (suc depth) false (c ∷ s) =
     after_closing (if nat_eq c right_parenthesis then depth else if nat_eq c left_parenthesis then suc (suc depth) else suc depth) (nat_eq c apostrophe) s
 
--- where a text has come to: how many parentheses were opened and closed, within a character
--- constant or not, whether `=` was found outside both, and a comma there after it
+-- the state of the search for `=` before a text: no parentheses, no open character constant, and neither `=` nor
+-- a comma found
 abbrev pub beginning : Scan
 beginning = record { opened = 0; closed = 0; quoted = false; equals = false; comma = false }
 
@@ -46,7 +46,7 @@ is_nothing None = false
 is_nothing (Some []) = true
 is_nothing (Some (c ∷ s)) = false
 
--- the rule by what stands after the parenthesis that closes that of IF
+-- the rule of a text that begins with `IF(`, by what follows the closing parenthesis
 abbrev pub rule_after : Option (List ℕ) → Rule
 rule_after None = Unclosed
 rule_after (Some []) = LogicalIf
@@ -59,6 +59,6 @@ abbrev pub rule_by_word : Option (List ℕ) → List ℕ → Rule
 rule_by_word (Some s) whole = rule_after (after_closing 0 false s)
 rule_by_word None whole = if is_assignment (scanned beginning whole) then Assignment else Worded
 
--- the rule that applies to a text: IF with its parenthesis first, then `=`, then the words
+-- the rule of a text: `IF(` is tested first, then `=`, and then the words
 abbrev pub rule_of : List ℕ → Rule
 rule_of s = rule_by_word (after_text (codes "IF(") s) s

@@ -1,4 +1,4 @@
--- Which form a statement has: docs/LANGUAGE.md, 5.
+-- The form of a statement: docs/LANGUAGE.md, 5.
 use Rattle.std.specs.Prelude.{◌≡◌, ℕ, true, false, codes, List, [], ◌∷◌, ◌++◌, length, Some}
 use Rattle.hep_source.specs.Tree.{Tree}
 use Rattle.hep_source.specs.Units.{is_executable}
@@ -17,7 +17,7 @@ use Rattle.hep_parse.specs.declared.rule.Rule.TheVariants.{Assignment, BlockIf, 
 use Rattle.hep_parse.specs.Rules.{after_closing, rule_of}
 
 module _ (k : Context) where
-  -- a form that begins with its word
+  -- The text has this form and begins with its word.
   abbrev pub IsWorded : Form → List ℕ → Type 0
   IsWorded (Program p) s = (m : List ℕ) × (s ≡ codes "PROGRAM" ++ m) × ReadsPlainOccurrence k p m []
   IsWorded (Subroutine p ds) s = (m : List ℕ) × (n : List ℕ) × (s ≡ codes "SUBROUTINE" ++ m) × ReadsPlainOccurrence k p m n × AreArguments (ReadsOccurrence k) ds n
@@ -59,7 +59,7 @@ module _ (k : Context) where
   IsOfSignIf (ArithmeticIf t x) s = IsArithmeticIf k t x s
   IsOfSignIf _ s = ⊥
 
-  -- the form of a statement that is no logical IF, by the rule that applies
+  -- The text is no logical IF and has this form by its rule.
   abbrev pub IsFormBy : Rule → Form → List ℕ → Type 0
   IsFormBy Assignment f s = IsOfAssignment f s
   IsFormBy BlockIf f s = IsOfBlockIf f s
@@ -68,14 +68,14 @@ module _ (k : Context) where
   IsFormBy Unclosed f s = ⊥
   IsFormBy Worded f s = IsWorded f s
 
-  -- The text is a logical IF with this condition, and r is the statement that it holds (X3.9-1978,
+  -- The text is a logical IF with this condition, and r is the text of the statement within it (X3.9-1978,
   -- 11.5).
   abbrev pub IsLogicalIf : Tree → List ℕ → List ℕ → Type 0
   IsLogicalIf t s r =
       (m : List ℕ) × (s ≡ codes "IF(" ++ m) × (rule_of s ≡ LogicalIf) × (after_closing 0 false m ≡ Some r)
       × ReadsExpression k t m (codes ")" ++ r)
 
-  -- The whole text has this form, after these conditions of logical IFs; a logical IF holds an
+  -- The whole text has these conditions of logical IFs and this form within them. A logical IF contains an
   -- executable statement.
   abbrev pub HasForm : List Tree → Form → List ℕ → Type 0
   HasForm [] f s = IsFormBy (rule_of s) f s
@@ -84,6 +84,6 @@ module _ (k : Context) where
 abbrev pub context : Sizes → List ℕ → Context
 context z s = record { sizes = z; length = length s }
 
--- The whole text is this statement's.
+-- The whole text has these conditions and this form.
 abbrev pub IsForm : Sizes → List ℕ → List Tree → Form → Type 0
 IsForm z s conditions f = HasForm (context z s) conditions f s

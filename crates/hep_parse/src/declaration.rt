@@ -1,5 +1,5 @@
-//! Reading headers, specification statements and DATA (X3.9-1978, sections 8, 9, 14 and 15): each
-//! from what stands after the word of the statement.
+//! Reading headers, specification statements and DATA (X3.9-1978, sections 8, 9, 14 and 15). Each reader
+//! takes the text after the word with which the statement begins.
 ghost use Rattle.std.specs.Prelude.{◌≡◌, option_map};
 ghost use Rattle.std.specs.List.{list_all};
 ghost use Rattle.hep_expression.specs.Reading.{Gives};
@@ -8,7 +8,7 @@ ghost use Rattle.hep_parse.specs.ReadingDeclaration as reading;
 use crate::list::{
     Readable, after_optional_comma, enclosed, listed, name_and_arguments, optional, parenthesized,
 };
-use hep_expression::Unread;
+use hep_expression::ReadFailure;
 use hep_expression::characters::{
     Context, after, after_text, all_read, integer_at, logical_at, occurrence_at,
     plain_occurrence_at,
@@ -20,18 +20,18 @@ use hep_source::{
 };
 use std::alloc::Global;
 
-/// The most dimensions of an array (X3.9-1978, 5.1.1).
+/// The greatest number of dimensions of an array (X3.9-1978, 5.1.1).
 const MOST_DIMENSIONS: usize = 7;
 
 /// The header of a main program (X3.9-1978, 14.1): its name.
 ///
 /// # Errors
 ///
-/// No reading.
-pub fn program_header(context: Context, s: &[u8]) -> Result<Form, Unread>
+/// [`ReadFailure::NoReading`] where the text has no such form.
+pub fn program_header(context: Context, s: &[u8]) -> Result<Form, ReadFailure>
     ensures { Gives (λ x. x) result (reading.program_header context s.now) }
 {
-    let (name, rest) = plain_occurrence_at(context, s).ok_or(Unread::NoReading)?;
+    let (name, rest) = plain_occurrence_at(context, s).ok_or(ReadFailure::NoReading)?;
     all_read(Form::Program(name), rest)
 }
 
@@ -41,8 +41,12 @@ impl Readable for Occurrence {
 
     ghost part_at = { dummy_at };
 
-    fn read(_alloc: Global, context: Context, s: &[u8]) -> Result<(Occurrence, &[u8]), Unread> {
-        occurrence_at(context, s).ok_or(Unread::NoReading)
+    fn read(
+        _alloc: Global,
+        context: Context,
+        s: &[u8],
+    ) -> Result<(Occurrence, &[u8]), ReadFailure> {
+        occurrence_at(context, s).ok_or(ReadFailure::NoReading)
     }
 }
 
@@ -50,30 +54,30 @@ impl Readable for Occurrence {
 ///
 /// # Errors
 ///
-/// No reading, or no memory.
+/// [`ReadFailure::NoReading`] where the text has no such form, or [`ReadFailure::NoMemory`].
 #[tactic(auto, unfolding(crate::specs::ReadingDeclaration::subroutine_header))]
-pub fn subroutine_header(alloc: Global, context: Context, s: &[u8]) -> Result<Form, Unread>
+pub fn subroutine_header(alloc: Global, context: Context, s: &[u8]) -> Result<Form, ReadFailure>
     ensures { Gives (λ x. x) result (reading.subroutine_header context s.now) }
 {
     let (name, dummies) = name_and_arguments::<Occurrence>(alloc, context, s)?;
     Ok(Form::Subroutine(name, Sequence::from(dummies)))
 }
 
-/// The header of a function (15.5.1): the type that stands before it, its name and its dummy arguments.
+/// The header of a function (15.5.1): the type written before FUNCTION, if there is one, the name and the dummy arguments.
 ///
 /// # Errors
 ///
-/// No reading, or no memory.
+/// [`ReadFailure::NoReading`] where the text has no such form, or [`ReadFailure::NoMemory`].
 #[tactic(auto, unfolding(crate::specs::ReadingDeclaration::function_header))]
 pub fn function_header(
     alloc: Global,
     context: Context,
     value_type: Option<ValueType>,
     s: &[u8],
-) -> Result<Form, Unread>
+) -> Result<Form, ReadFailure>
     ensures { Gives (λ x. x) result (reading.function_header context value_type s.now) }
 {
-    let (name, rest) = plain_occurrence_at(context, s).ok_or(Unread::NoReading)?;
+    let (name, rest) = plain_occurrence_at(context, s).ok_or(ReadFailure::NoReading)?;
     let dummies = parenthesized::<Occurrence>(alloc, context, rest)?;
     Ok(Form::Function(value_type, name, Sequence::from(dummies)))
 }
@@ -90,8 +94,7 @@ fn letter_at(s: &[u8]) -> Option<(u8, &[u8])>
     }
 }
 
-/// A letter, or two with `-` between them (8.5), of which the first isn't after the second, and
-/// what follows.
+/// A letter, or two letters in alphabetical order with `-` between them (8.5), and what follows.
 fn letter_range_at(s: &[u8]) -> Option<(LetterRange, &[u8])>
     ensures { option_map (λ x. (x.0, x.1.now)) result ≡ reading.letter_range_at s.now }
 {
@@ -107,14 +110,18 @@ fn letter_range_at(s: &[u8]) -> Option<(LetterRange, &[u8])>
     }
 }
 
-/// Letters of an IMPLICIT statement.
+/// A range of letters in an IMPLICIT statement.
 impl Readable for LetterRange {
     ghost use Rattle.hep_parse.specs.ReadingDeclaration.{letter_range_part};
 
     ghost part_at = { letter_range_part };
 
-    fn read(_alloc: Global, _context: Context, s: &[u8]) -> Result<(LetterRange, &[u8]), Unread> {
-        letter_range_at(s).ok_or(Unread::NoReading)
+    fn read(
+        _alloc: Global,
+        _context: Context,
+        s: &[u8],
+    ) -> Result<(LetterRange, &[u8]), ReadFailure> {
+        letter_range_at(s).ok_or(ReadFailure::NoReading)
     }
 }
 
@@ -136,8 +143,12 @@ impl Readable for ImplicitGroup {
     ghost part_at = { implicit_group_at };
 
     #[tactic(auto, unfolding(crate::specs::ReadingDeclaration::implicit_group_at))]
-    fn read(alloc: Global, context: Context, s: &[u8]) -> Result<(ImplicitGroup, &[u8]), Unread> {
-        let (value_type, rest) = value_type_at(s).ok_or(Unread::NoReading)?;
+    fn read(
+        alloc: Global,
+        context: Context,
+        s: &[u8],
+    ) -> Result<(ImplicitGroup, &[u8]), ReadFailure> {
+        let (value_type, rest) = value_type_at(s).ok_or(ReadFailure::NoReading)?;
         let (letters, rest) = enclosed::<LetterRange>(alloc, context, rest)?;
         let letters = Sequence::from(letters);
         let group = ImplicitGroup {
@@ -152,9 +163,9 @@ impl Readable for ImplicitGroup {
 ///
 /// # Errors
 ///
-/// No reading, or no memory.
+/// [`ReadFailure::NoReading`] where the text has no such form, or [`ReadFailure::NoMemory`].
 #[tactic(auto, unfolding(crate::specs::ReadingDeclaration::implicit))]
-pub fn implicit(alloc: Global, context: Context, s: &[u8]) -> Result<Form, Unread>
+pub fn implicit(alloc: Global, context: Context, s: &[u8]) -> Result<Form, ReadFailure>
     ensures { Gives (λ x. x) result (reading.implicit context s.now) }
 {
     let (groups, rest) = listed::<ImplicitGroup>(alloc, context, s)?;
@@ -162,7 +173,11 @@ pub fn implicit(alloc: Global, context: Context, s: &[u8]) -> Result<Form, Unrea
 }
 
 /// An upper dimension bound (5.1.1), and what follows it.
-fn upper_bound_at(alloc: Global, context: Context, s: &[u8]) -> Result<(UpperBound, &[u8]), Unread>
+fn upper_bound_at(
+    alloc: Global,
+    context: Context,
+    s: &[u8],
+) -> Result<(UpperBound, &[u8]), ReadFailure>
     ensures { Gives (λ x. (x.0, x.1.now)) result (reading.upper_bound_at context s.now) }
 {
     if let Some(rest) = after(b'*', s) {
@@ -179,7 +194,7 @@ impl Readable for Dimension {
     ghost part_at = { dimension_at };
 
     #[tactic(auto, unfolding(crate::specs::ReadingDeclaration::dimension_at))]
-    fn read(alloc: Global, context: Context, s: &[u8]) -> Result<(Dimension, &[u8]), Unread> {
+    fn read(alloc: Global, context: Context, s: &[u8]) -> Result<(Dimension, &[u8]), ReadFailure> {
         if let Some(rest) = after(b'*', s) {
             let upper = UpperBound::Open;
             return Ok((Dimension { lower: None, upper }, rest));
@@ -226,11 +241,11 @@ impl Readable for Declarator {
     ghost part_at = { declarator_at };
 
     #[tactic(auto, unfolding(crate::specs::ReadingDeclaration::declarator_at))]
-    fn read(alloc: Global, context: Context, s: &[u8]) -> Result<(Declarator, &[u8]), Unread> {
-        let (occurrence, rest) = occurrence_at(context, s).ok_or(Unread::NoReading)?;
+    fn read(alloc: Global, context: Context, s: &[u8]) -> Result<(Declarator, &[u8]), ReadFailure> {
+        let (occurrence, rest) = occurrence_at(context, s).ok_or(ReadFailure::NoReading)?;
         let (dimensions, rest) = optional::<Dimension>(alloc, context, rest)?;
         if !are_dimensions(&dimensions) {
-            return Err(Unread::NoReading);
+            return Err(ReadFailure::NoReading);
         }
         let dimensions = Sequence::from(dimensions);
         Ok((
@@ -247,21 +262,21 @@ impl Readable for Declarator {
 ///
 /// # Errors
 ///
-/// No reading, or no memory.
+/// [`ReadFailure::NoReading`] where the text has no such form, or [`ReadFailure::NoMemory`].
 #[tactic(auto, unfolding(crate::specs::ReadingDeclaration::declare))]
 pub fn declare(
     alloc: Global,
     context: Context,
     value_type: ValueType,
     s: &[u8],
-) -> Result<Form, Unread>
+) -> Result<Form, ReadFailure>
     ensures { Gives (λ x. x) result (reading.declare context value_type s.now) }
 {
     let (declarators, rest) = listed::<Declarator>(alloc, context, s)?;
     all_read(Form::Declare(value_type, Sequence::from(declarators)), rest)
 }
 
-/// Whether all of these have dimensions.
+/// Whether all of these declarators have dimensions.
 fn all_arrays(declarators: &[Declarator]) -> bool
     ensures { result ≡ list_all reading.is_array declarators.now }
 {
@@ -274,26 +289,26 @@ fn all_arrays(declarators: &[Declarator]) -> bool
 ///
 /// # Errors
 ///
-/// No reading, or no memory.
+/// [`ReadFailure::NoReading`] where the text has no such form, or [`ReadFailure::NoMemory`].
 #[tactic(auto, unfolding(crate::specs::ReadingDeclaration::dimension))]
-pub fn dimension(alloc: Global, context: Context, s: &[u8]) -> Result<Form, Unread>
+pub fn dimension(alloc: Global, context: Context, s: &[u8]) -> Result<Form, ReadFailure>
     ensures { Gives (λ x. x) result (reading.dimension context s.now) }
 {
     let (declarators, rest) = listed::<Declarator>(alloc, context, s)?;
     if !all_arrays(&declarators) {
-        return Err(Unread::NoReading);
+        return Err(ReadFailure::NoReading);
     }
     all_read(Form::Dimension(Sequence::from(declarators)), rest)
 }
 
-/// These parts and those that stand after them up to the end of the text, each after a comma that
-/// may be missing.
+/// The part `first` and the parts after it up to the end of the text, each after an optional
+/// comma.
 fn up_to_end<P: Readable>(
     alloc: Global,
     context: Context,
     first: P,
     s: &[u8],
-) -> Result<Vec<P>, Unread>
+) -> Result<Vec<P>, ReadFailure>
     ensures { Gives (λ x. x.items) result (reading.up_to_end (P.part_at context) first s.now) }
 {
     let mut parts = Vec::new(alloc);
@@ -305,15 +320,15 @@ fn up_to_end<P: Readable>(
                 parts.push(part)?;
                 rest = rest_after;
             }
-            Err(Unread::NoReading) => return all_read(parts, rest),
-            Err(Unread::NoMemory) => return Err(Unread::NoMemory),
+            Err(ReadFailure::NoReading) => return all_read(parts, rest),
+            Err(ReadFailure::NoMemory) => return Err(ReadFailure::NoMemory),
         }
     }
     all_read(parts, rest)
 }
 
-/// The name of a COMMON block after its first `/`, none for blank COMMON, and what follows the
-/// second.
+/// The name of a common block, read after the first `/`, and what follows the second `/`. Blank COMMON has no
+/// name.
 fn block_name_at(context: Context, s: &[u8]) -> Option<(Option<Occurrence>, &[u8])>
     ensures { option_map (λ x. (x.0, x.1.now)) result ≡ reading.block_name_at context s.now }
 {
@@ -325,13 +340,13 @@ fn block_name_at(context: Context, s: &[u8]) -> Option<(Option<Occurrence>, &[u8
     Some((Some(name), rest))
 }
 
-/// The list of a COMMON block with this name, and what follows it.
+/// The list of a common block with this name, and what follows it.
 fn entries_at(
     alloc: Global,
     context: Context,
     block: Option<Occurrence>,
     s: &[u8],
-) -> Result<(CommonBlock, &[u8]), Unread>
+) -> Result<(CommonBlock, &[u8]), ReadFailure>
     ensures { Gives (λ x. (x.0, x.1.now)) result (reading.entries_at context block s.now) }
 {
     let (entries, rest) = listed::<Declarator>(alloc, context, s)?;
@@ -339,32 +354,44 @@ fn entries_at(
     Ok((CommonBlock { block, entries }, rest))
 }
 
-/// A COMMON block after its first `/`, and what follows it.
-fn block_after(alloc: Global, context: Context, s: &[u8]) -> Result<(CommonBlock, &[u8]), Unread>
+/// A common block, read after its first `/`, and what follows it.
+fn block_after(
+    alloc: Global,
+    context: Context,
+    s: &[u8],
+) -> Result<(CommonBlock, &[u8]), ReadFailure>
     ensures { Gives (λ x. (x.0, x.1.now)) result (reading.block_after context s.now) }
 {
-    let (name, rest) = block_name_at(context, s).ok_or(Unread::NoReading)?;
+    let (name, rest) = block_name_at(context, s).ok_or(ReadFailure::NoReading)?;
     entries_at(alloc, context, name, rest)
 }
 
-/// A COMMON block with its name between two `/` (8.3).
+/// A common block with its name between two `/` (8.3).
 impl Readable for CommonBlock {
     ghost use Rattle.hep_parse.specs.ReadingDeclaration.{block_at};
 
     ghost part_at = { block_at };
 
     #[tactic(auto, unfolding(crate::specs::ReadingDeclaration::block_at))]
-    fn read(alloc: Global, context: Context, s: &[u8]) -> Result<(CommonBlock, &[u8]), Unread> {
+    fn read(
+        alloc: Global,
+        context: Context,
+        s: &[u8],
+    ) -> Result<(CommonBlock, &[u8]), ReadFailure> {
         match after(b'/', s) {
             Some(rest_after) => block_after(alloc, context, rest_after),
-            None => Err(Unread::NoReading),
+            None => Err(ReadFailure::NoReading),
         }
     }
 }
 
-/// The first block of a COMMON statement, which is blank COMMON where it has no `/`, and what
-/// follows it.
-fn first_block_at(alloc: Global, context: Context, s: &[u8]) -> Result<(CommonBlock, &[u8]), Unread>
+/// The first block of a COMMON statement, and what follows it. Without a `/` it is blank
+/// COMMON.
+fn first_block_at(
+    alloc: Global,
+    context: Context,
+    s: &[u8],
+) -> Result<(CommonBlock, &[u8]), ReadFailure>
     ensures { Gives (λ x. (x.0, x.1.now)) result (reading.first_block_at context s.now) }
 {
     match after(b'/', s) {
@@ -377,9 +404,9 @@ fn first_block_at(alloc: Global, context: Context, s: &[u8]) -> Result<(CommonBl
 ///
 /// # Errors
 ///
-/// No reading, or no memory.
+/// [`ReadFailure::NoReading`] where the text has no such form, or [`ReadFailure::NoMemory`].
 #[tactic(auto, unfolding(crate::specs::ReadingDeclaration::common))]
-pub fn common(alloc: Global, context: Context, s: &[u8]) -> Result<Form, Unread>
+pub fn common(alloc: Global, context: Context, s: &[u8]) -> Result<Form, ReadFailure>
     ensures { Gives (λ x. x) result (reading.common context s.now) }
 {
     let (first, rest) = first_block_at(alloc, context, s)?;
@@ -394,9 +421,13 @@ impl Readable for NamedConstant {
     ghost part_at = { named_constant_at };
 
     #[tactic(auto, unfolding(crate::specs::ReadingDeclaration::named_constant_at))]
-    fn read(alloc: Global, context: Context, s: &[u8]) -> Result<(NamedConstant, &[u8]), Unread> {
-        let (occurrence, rest) = plain_occurrence_at(context, s).ok_or(Unread::NoReading)?;
-        let rest = after(b'=', rest).ok_or(Unread::NoReading)?;
+    fn read(
+        alloc: Global,
+        context: Context,
+        s: &[u8],
+    ) -> Result<(NamedConstant, &[u8]), ReadFailure> {
+        let (occurrence, rest) = plain_occurrence_at(context, s).ok_or(ReadFailure::NoReading)?;
+        let rest = after(b'=', rest).ok_or(ReadFailure::NoReading)?;
         let (value, rest) = expression_at(alloc, context, rest)?;
         Ok((NamedConstant { occurrence, value }, rest))
     }
@@ -406,9 +437,9 @@ impl Readable for NamedConstant {
 ///
 /// # Errors
 ///
-/// No reading, or no memory.
+/// [`ReadFailure::NoReading`] where the text has no such form, or [`ReadFailure::NoMemory`].
 #[tactic(auto, unfolding(crate::specs::ReadingDeclaration::parameter))]
-pub fn parameter(alloc: Global, context: Context, s: &[u8]) -> Result<Form, Unread>
+pub fn parameter(alloc: Global, context: Context, s: &[u8]) -> Result<Form, ReadFailure>
     ensures { Gives (λ x. x) result (reading.parameter context s.now) }
 {
     let (constants, rest) = enclosed::<NamedConstant>(alloc, context, s)?;
@@ -429,7 +460,7 @@ fn signed_integer_at(context: Context, s: &[u8]) -> Option<(i64, &[u8])>
     }
 }
 
-/// A constant of DATA, or a name of one (9.1), and what follows it.
+/// A constant of DATA, or the name of a constant (9.1), and what follows it.
 fn data_constant_at(context: Context, s: &[u8]) -> Option<(DataConstant, &[u8])>
     ensures { option_map (λ x. (x.0, x.1.now)) result ≡ reading.data_constant_at context s.now }
 {
@@ -443,7 +474,7 @@ fn data_constant_at(context: Context, s: &[u8]) -> Option<(DataConstant, &[u8])>
     Some((DataConstant::Value(Value::Int(value)), rest))
 }
 
-/// A number but 0 with the `*` that makes it a repeat count, and what follows it.
+/// A number other than 0 and the `*` that makes it a repeat count, and what follows them.
 fn count_at(context: Context, s: &[u8]) -> Option<(Repeat, &[u8])>
     ensures { option_map (λ x. (x.0, x.1.now)) result ≡ reading.count_at context s.now }
 {
@@ -493,23 +524,23 @@ impl Readable for DataValue {
 
     ghost part_at = { data_value_at };
 
-    fn read(_alloc: Global, context: Context, s: &[u8]) -> Result<(DataValue, &[u8]), Unread> {
-        data_value_at(context, s).ok_or(Unread::NoReading)
+    fn read(_alloc: Global, context: Context, s: &[u8]) -> Result<(DataValue, &[u8]), ReadFailure> {
+        data_value_at(context, s).ok_or(ReadFailure::NoReading)
     }
 }
 
-/// The names of a DATA statement up to a `/`, and the values between it and the next (9.1).
+/// A group of a DATA statement (9.1): the names up to a `/`, and the values between it and the next `/`.
 impl Readable for DataGroup {
     ghost use Rattle.hep_parse.specs.ReadingDeclaration.{group_at};
 
     ghost part_at = { group_at };
 
     #[tactic(auto, unfolding(crate::specs::ReadingDeclaration::group_at))]
-    fn read(alloc: Global, context: Context, s: &[u8]) -> Result<(DataGroup, &[u8]), Unread> {
+    fn read(alloc: Global, context: Context, s: &[u8]) -> Result<(DataGroup, &[u8]), ReadFailure> {
         let (targets, rest) = listed::<Target>(alloc, context, s)?;
-        let rest = after(b'/', rest).ok_or(Unread::NoReading)?;
+        let rest = after(b'/', rest).ok_or(ReadFailure::NoReading)?;
         let (values, rest) = listed::<DataValue>(alloc, context, rest)?;
-        let rest = after(b'/', rest).ok_or(Unread::NoReading)?;
+        let rest = after(b'/', rest).ok_or(ReadFailure::NoReading)?;
         let targets = Sequence::from(targets);
         let values = Sequence::from(values);
         Ok((DataGroup { targets, values }, rest))
@@ -520,9 +551,9 @@ impl Readable for DataGroup {
 ///
 /// # Errors
 ///
-/// No reading, or no memory.
+/// [`ReadFailure::NoReading`] where the text has no such form, or [`ReadFailure::NoMemory`].
 #[tactic(auto, unfolding(crate::specs::ReadingDeclaration::data_statement))]
-pub fn data_statement(alloc: Global, context: Context, s: &[u8]) -> Result<Form, Unread>
+pub fn data_statement(alloc: Global, context: Context, s: &[u8]) -> Result<Form, ReadFailure>
     ensures { Gives (λ x. x) result (reading.data_statement context s.now) }
 {
     let (first, rest) = DataGroup::read(alloc, context, s)?;

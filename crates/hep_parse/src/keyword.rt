@@ -55,14 +55,14 @@ pub enum Keyword {
     Continue,
     /// RETURN (15.8).
     Return,
-    /// RESUME, which lets the caller of a subroutine go on (docs/LANGUAGE.md).
+    /// RESUME, after which the caller of a subroutine continues (docs/LANGUAGE.md).
     Resume,
     /// STOP (11.12).
     Stop,
 }
 
 impl Keyword {
-    /// How a word is written.
+    /// The characters of a word.
     fn spelling(self) -> &'static [u8]
         ensures { result.now ≡ words.spelling self }
     {
@@ -110,7 +110,7 @@ fn keyword_among<'a>(among: &[Keyword], s: &'a [u8]) -> Option<(Keyword, &'a [u8
     }
 }
 
-/// The word with which the text begins, and what follows it: of two the longer one.
+/// The word with which the text begins, and what follows it. Where the text begins with two words, the result is the longer one.
 pub fn keyword_at(s: &[u8]) -> Option<(Keyword, &[u8])>
     ensures { option_map (λ x. (x.0, x.1.now)) result ≡ words.keyword_at s.now }
 {

@@ -6,11 +6,11 @@ ghost use Rattle.hep_parse.specs.ReadingProgram as reading;
 
 use crate::rule::{Rule, rule_of};
 use crate::statement::logical_if;
-use hep_expression::Unread;
+use hep_expression::ReadFailure;
 use hep_expression::characters::{Context, after_text};
 use std::alloc::Global;
 
-/// The words with which these statements begin, each with the name that is reported.
+/// The words with which these statements begin, each with the name that a refusal reports.
 const WORDS: [(&[u8], &[u8]); 22] = [
     (b"REAL", b"REAL"),
     (b"DOUBLEPRECISION", b"DOUBLEPRECISION"),
@@ -49,21 +49,21 @@ fn name_at(words: &[(&'static [u8], &'static [u8])], s: &[u8]) -> Option<&'stati
     }
 }
 
-/// The name of the word with which a text begins, where the language leaves out what it begins.
-fn word_at(s: &[u8]) -> Result<&'static [u8], Unread>
+/// The name of the word with which a text begins, where that word begins a statement that the language leaves out.
+fn word_at(s: &[u8]) -> Result<&'static [u8], ReadFailure>
     ensures { Gives (λ x. x.now) result (reading.word_at grammar.left_out_words s.now) }
 {
-    name_at(&WORDS, s).ok_or(Unread::NoReading)
+    name_at(&WORDS, s).ok_or(ReadFailure::NoReading)
 }
 
 /// The name of the word with which the innermost statement begins, after the conditions of logical
-/// IFs, where the language leaves that statement out.
+/// IFs. The language leaves that statement out.
 ///
 /// # Errors
 ///
-/// No reading where it begins with no such word, or no memory.
+/// [`ReadFailure::NoReading`] where it begins with no such word, or [`ReadFailure::NoMemory`].
 #[tactic(auto, using(crate::proofs::LeftOut::goes_on, crate::proofs::LeftOut::condition_fails, crate::proofs::LeftOut::begins_with_word, crate::proofs::LeftOut::begins_otherwise, crate::proofs::LeftOut::turns_are_over))]
-pub fn left_out(alloc: Global, context: Context, s: &[u8]) -> Result<&'static [u8], Unread>
+pub fn left_out(alloc: Global, context: Context, s: &[u8]) -> Result<&'static [u8], ReadFailure>
     ensures { Gives (λ x. x.now) result (reading.left_out context (length s.now) s.now) }
 {
     let mut rest = s;
@@ -74,8 +74,8 @@ pub fn left_out(alloc: Global, context: Context, s: &[u8]) -> Result<&'static [u
                 rest = rest_after;
             }
             Rule::Worded => return word_at(rest),
-            _ => return Err(Unread::NoReading),
+            _ => return Err(ReadFailure::NoReading),
         }
     }
-    Err(Unread::NoReading)
+    Err(ReadFailure::NoReading)
 }

@@ -1,16 +1,8 @@
-//! The rule and the form of a statement, and the tree of a program.
+//! The parser: it reads the statements of a source text as the tree of a program.
 //!
-//! From the text of a statement without blanks to the rule that says what form it has.
-//!
-//! From the text of a statement without blanks to its conditions and its form.
-//!
-//! The grammar is stated in `specs/`: which texts have a form after the conditions of logical IFs, by its rule. [`form`] answers with these conditions and this
-//! form.
-//!
-//! From the statements of a source text to the tree of the program.
-//!
-//! The grammar is stated in `specs/`: the statements of a source are a program. [`parse`] answers
-//! with that program, or with the first statement that is at fault.
+//! Begin with [`parse`], which answers with the program or with the first statement at fault. For each statement [`rule_of`] finds the
+//! rule that decides its form, and [`form`] reads the conditions of logical IFs and the form. `specs/` states the grammar: which texts
+//! have which form, and which statements are a program.
 #![tactic(auto)]
 
 mod constant;
@@ -27,6 +19,6 @@ mod target;
 
 pub use rule::{Rule, after_if, rule_of};
 pub use statement::{form, logical_if};
-/// Why there is no program: refusals 201 to 205, of which 202 is about a name.
+/// The reason why a source is no program: one of the refusals 201 to 205. Only 202 is about a name.
 pub use hep_base::Refusal as ParseFault;
 pub use program::{at_most_one_program, parse};

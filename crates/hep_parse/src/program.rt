@@ -11,7 +11,7 @@ ghost use Rattle.hep_parse.specs.ReadingProgram.{Answers};
 use crate::left_out::left_out;
 use crate::statement::form;
 use hep_base::Refusal as ParseFault;
-use hep_expression::Unread;
+use hep_expression::ReadFailure;
 use hep_expression::characters::{Context, Sizes};
 use hep_source::{Expr, Form, Program, Sequence, Statement, Unit};
 use hep_text::Stmt;
@@ -35,7 +35,7 @@ pub enum StatementClass {
 }
 
 impl StatementClass {
-    /// The part of a form with these conditions; a logical IF holds an action.
+    /// The part to which a statement with these conditions and this form belongs. A logical IF is an action.
     fn of(conditions: &[Expr], form: &Form) -> StatementClass
         ensures { result ≡ grammar.class_of conditions.now form.now }
     {
@@ -65,11 +65,11 @@ fn begins_main(form: &Form) -> bool
 /// Which parts of a unit have been read (X3.9-1978, 3.5).
 #[derive(Clone, Copy, PartialEq, Eq)]
 enum Stage {
-    /// None.
+    /// No part.
     Start,
-    /// Its header, IMPLICIT and PARAMETER statements, some of them.
+    /// Only the header, IMPLICIT or PARAMETER statements.
     Opening,
-    /// Specification statements, and no actions.
+    /// Specification statements, but no actions.
     Specification,
     /// Actions.
     Actions,
@@ -96,7 +96,7 @@ impl Stage {
         }
     }
 
-    /// The stage after one more part: after END another unit begins.
+    /// The stage after one more part. After END another unit begins.
     fn rest_after(self, part: StatementClass) -> Stage
         ensures { result ≡ reading.stage_after self part }
     {
@@ -112,14 +112,14 @@ impl Stage {
 /// How far a source has been read.
 #[derive(Clone, Copy, PartialEq, Eq)]
 struct State {
-    /// Which parts of the unit were there.
+    /// Which parts of the unit have been read.
     stage: Stage,
-    /// Whether a main program was there, or has begun.
+    /// Whether a main program was read, or has begun.
     has_main: bool,
 }
 
 impl State {
-    /// The state after one more statement, where it may stand there.
+    /// The state after one more statement; none where the statement is out of order.
     fn rest_after(self, part: StatementClass, begins_main: bool) -> Option<State>
         ensures { result ≡ reading.state_after_statement self part begins_main }
     {
@@ -134,8 +134,8 @@ impl State {
     }
 }
 
-/// Why a statement is refused that has no reading with constants of any size: 202 where the
-/// language leaves it out, else 201.
+/// The refusal of a statement that has no reading even with constants of any size: 202 where the
+/// language leaves it out, and else 201. Where memory is refused, the result says so.
 #[tactic(auto, unfolding(crate::specs::ReadingProgram::nameless_refusal))]
 fn nameless_refusal(alloc: Global, given: &Stmt) -> ParseFault
     ensures { Reports result (reading.nameless_refusal given.now) }
@@ -147,29 +147,29 @@ fn nameless_refusal(alloc: Global, given: &Stmt) -> ParseFault
     };
     match left_out(alloc, context, text) {
         Ok(word) => ParseFault::named(alloc, 202, given.line, word),
-        Err(Unread::NoReading) => ParseFault::refused(alloc, 201, given.line),
-        Err(Unread::NoMemory) => ParseFault::NoMemory,
+        Err(ReadFailure::NoReading) => ParseFault::refused(alloc, 201, given.line),
+        Err(ReadFailure::NoMemory) => ParseFault::NoMemory,
     }
 }
 
-/// Why a statement is refused that has no reading: 203 where only the size of its integer constants
-/// is against it.
+/// The refusal of a statement that has no reading: 203 where it has one with constants of any size,
+/// and else 202 or 201. Where memory is refused, the result says so.
 #[tactic(auto, unfolding(crate::specs::ReadingProgram::refusal_of))]
 fn refusal_of(alloc: Global, given: &Stmt) -> ParseFault
     ensures { Reports result (reading.refusal_of given.now) }
 {
     match form(alloc, Sizes::Any, given.text.as_slice()).err() {
         None => ParseFault::refused(alloc, 203, given.line),
-        Some(Unread::NoReading) => nameless_refusal(alloc, given),
-        Some(Unread::NoMemory) => ParseFault::NoMemory,
+        Some(ReadFailure::NoReading) => nameless_refusal(alloc, given),
+        Some(ReadFailure::NoMemory) => ParseFault::NoMemory,
     }
 }
 
-/// The statement that a text with its line and label is.
+/// Reads a statement from its text, with its line and label.
 ///
 /// # Errors
 ///
-/// 201, 202 or 203 where it has no reading; no memory.
+/// 201, 202 or 203 where the text has no reading; [`ParseFault::NoMemory`].
 #[tactic(auto, unfolding(crate::specs::ReadingProgram::statement))]
 fn statement(alloc: Global, given: &Stmt) -> Result<Statement, ParseFault>
     ensures { Answers (λ x. x) result (reading.statement given.now) }
@@ -181,8 +181,8 @@ fn statement(alloc: Global, given: &Stmt) -> Result<Statement, ParseFault>
             conditions: Sequence::from(conditions),
             form,
         }),
-        Err(Unread::NoReading) => Err(refusal_of(alloc, given)),
-        Err(Unread::NoMemory) => Err(ParseFault::NoMemory),
+        Err(ReadFailure::NoReading) => Err(refusal_of(alloc, given)),
+        Err(ReadFailure::NoMemory) => Err(ParseFault::NoMemory),
     }
 }
 
@@ -190,7 +190,7 @@ fn statement(alloc: Global, given: &Stmt) -> Result<Statement, ParseFault>
 ///
 /// # Errors
 ///
-/// A refusal of the statement, with 205 where it may not stand there; no memory.
+/// 201, 202 or 203 where the text has no reading; 205 where the statement is out of order; [`ParseFault::NoMemory`].
 #[tactic(auto, unfolding(crate::specs::ReadingProgram::placed))]
 fn placed(alloc: Global, state: State, given: &Stmt) -> Result<(Statement, State), ParseFault>
     ensures { Answers (λ x. x) result (reading.placed state given.now) }
@@ -203,11 +203,11 @@ fn placed(alloc: Global, state: State, given: &Stmt) -> Result<(Statement, State
     }
 }
 
-/// The units of a program.
+/// Reads the units of the program that these statements form.
 ///
 /// # Errors
 ///
-/// The first refusal, or no memory.
+/// The first refusal, or [`ParseFault::NoMemory`].
 fn units(alloc: Global, statements: &[Stmt]) -> Result<Vec<Unit>, ParseFault>
     ensures { Answers (λ x. x.items) result (reading.program statements.now) }
 {
@@ -237,11 +237,11 @@ fn units(alloc: Global, statements: &[Stmt]) -> Result<Vec<Unit>, ParseFault>
     Ok(units)
 }
 
-/// The program of these units.
+/// Reads the program that these statements form.
 ///
 /// # Errors
 ///
-/// The first refusal, or no memory.
+/// The first refusal, or [`ParseFault::NoMemory`].
 fn program(alloc: Global, statements: &[Stmt]) -> Result<Program, ParseFault>
     ensures { Answers (λ p. p) result (reading.program statements.now) }
 {
@@ -249,31 +249,34 @@ fn program(alloc: Global, statements: &[Stmt]) -> Result<Program, ParseFault>
     Ok(Program::from(units))
 }
 
-/// The program that the statements of a source are.
+/// Reads the program that the statements of a source form.
 ///
 /// # Errors
 ///
-/// [`ParseFault::Refused`] with the first fault by the order of the statements. Of a statement
-/// without a reading it is 203 where only the size of its integer constants is against it, 202 with
-/// the word where the language leaves the statement out, and else 201; 205 is for a statement that
-/// may not stand where it does in the unit, for the first statement of a second main program, and for
-/// a last statement that isn't END. 204 is reported where no statement is refused and there is no main
-/// program. [`ParseFault::NoMemory`] where memory was refused.
+/// [`ParseFault::Refused`] with the first fault, in the order of the statements:
+/// - 203 where only the size of its integer constants keeps a statement from being read;
+/// - 202 with the word of a statement that the language leaves out;
+/// - 201 for any other statement without a reading;
+/// - 205 for a statement out of order in its unit, for the first statement of a second main program, and for a last statement that
+///   isn't END;
+/// - 204 at line 0 where no statement is refused and there is no main program.
+///
+/// [`ParseFault::NoMemory`] where memory was refused.
 pub fn parse(alloc: Global, statements: &[Stmt]) -> Result<Program, ParseFault>
-    // What is read is the program.
+    // The result is the program that the statements form.
     ensures accepted { IfOk result (λ p. IsProgram statements.now p) }
-    // A program is read.
+    // Where the statements form a program, the result is that program, unless memory was refused.
     ensures complete { (p : List (List Statement)) → IsProgram statements.now p → IsRead p result }
-    // What is reported is the first fault.
+    // A refusal reports the first fault.
     ensures refused { IfErr result (λ e. IsTrueFault statements.now e) }
-    // The first fault is reported.
+    // Where there is a first fault, it is reported, unless memory was refused.
     ensures reported { (number line : ℕ) (name : List ℕ) → IsFirstFault statements.now number line name
         → IsReported number line name result }
 {
     program(alloc, statements)
 }
 
-/// The statements of a source are at most one program.
+/// The statements of a source form at most one program.
 pub fn at_most_one_program()
     ensures { (statements : List Stmt) (p q : List (List Statement)) → IsProgram statements p → IsProgram statements q → p ≡ q }
 {}

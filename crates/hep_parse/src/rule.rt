@@ -1,45 +1,44 @@
-//! Which rule says what form a statement has.
+//! The rule that decides the form of a statement.
 ghost use Rattle.std.specs.Prelude.{◌≡◌, ◌≤◌, ◌<◌, ◌+◌, ◌^◌, ◌∷◌, ℕ, List, Some, false, option_map, MatchOption};
-ghost use Rattle.hep_expression.specs.Characters as characters;
 ghost use Rattle.hep_parse.specs.Rules as grammar;
 ghost use Rattle.hep_parse.specs.ReadingRule as reading;
 
-use hep_expression::characters::after_text;
+use hep_expression::characters::{after_text, is_digit};
 
-/// The rule that applies to a statement's text (docs/LANGUAGE.md).
+/// The rule that decides the form of a statement's text (docs/LANGUAGE.md).
 #[derive(Clone, Copy, PartialEq, Eq)]
 pub enum Rule {
-    /// It is an assignment, to an element of an array IF too.
+    /// The statement is an assignment. It may assign to an element of an array named IF.
     Assignment,
-    /// `IF(..)THEN`.
+    /// `IF(..)THEN`: a block IF.
     BlockIf,
-    /// `IF(..)` with labels: an arithmetic IF.
+    /// `IF(..)` and labels: an arithmetic IF.
     SignIf,
-    /// `IF(..)` with a statement.
+    /// `IF(..)` and a statement: a logical IF.
     LogicalIf,
     /// `IF(` whose parenthesis is never closed.
     Unclosed,
-    /// It begins with a word.
+    /// The statement begins with a word.
     Worded,
 }
 
-/// Where a search for `=` has come to.
+/// The state of a search for `=` outside parentheses and character constants.
 #[derive(Clone, Copy, PartialEq, Eq)]
 pub struct Scan {
-    /// How many parentheses were opened.
+    /// The number of parentheses that were opened.
     pub opened: usize,
-    /// How many were closed.
+    /// The number of parentheses that were closed.
     pub closed: usize,
-    /// Whether it is within a character constant.
+    /// Whether the search is within a character constant.
     pub quoted: bool,
     /// Whether `=` was found outside parentheses and character constants.
     pub equals: bool,
-    /// Whether a comma was found there after it.
+    /// Whether a comma was found outside them after that `=`.
     pub comma: bool,
 }
 
 impl Scan {
-    /// Where the search begins.
+    /// The state in which the search begins.
     fn beginning() -> Scan
         ensures { result ≡ grammar.beginning }
     {
@@ -59,7 +58,7 @@ impl Scan {
         self.opened <= self.closed && !self.quoted
     }
 
-    /// Where the search is after one more character.
+    /// The state of the search after one more character.
     fn rest_after(self, c: u8) -> Scan
         requires { (self.opened + 1 < 2 ^ 64) × (self.closed + 1 < 2 ^ 64) }
         ensures { result ≡ grammar.after_character self c }
@@ -77,7 +76,7 @@ impl Scan {
         next
     }
 
-    /// Whether the search has found what an assignment has: `=`, and no comma after it.
+    /// Whether the search has found an assignment: `=`, and no comma after it.
     fn is_assignment(self) -> bool
         ensures { result ≡ grammar.is_assignment self }
     {
@@ -85,7 +84,7 @@ impl Scan {
     }
 }
 
-/// Where the search for `=` comes to at the end of a text.
+/// The state of the search for `=` at the end of a text.
 #[tactic(auto, using(crate::proofs::Rules::scan_goes_on, crate::proofs::Rules::opened_more, crate::proofs::Rules::closed_more))]
 fn scanned(s: &[u8]) -> Scan
     ensures { result ≡ grammar.scanned grammar.beginning s.now }
@@ -97,8 +96,8 @@ fn scanned(s: &[u8]) -> Scan
     scan
 }
 
-/// How many parentheses are open after one more character, and whether it is within a character
-/// constant there; none where the character closes the last parenthesis.
+/// The number of open parentheses after one more character, and whether a character constant is open there;
+/// none where the character closes the last parenthesis.
 fn nested(depth: usize, quoted: bool, c: u8) -> Option<(usize, bool)>
     requires { depth + 1 < 2 ^ 64 }
     ensures goes_on { (r : List ℕ) → grammar.after_closing depth quoted (c ∷ r) ≡ reading.nested_after result r }
@@ -117,7 +116,8 @@ fn nested(depth: usize, quoted: bool, c: u8) -> Option<(usize, bool)>
     }
 }
 
-/// What follows the parenthesis that closes the one before a text, character constants passed over.
+/// What follows the parenthesis that closes the one before a text; none where there is no such parenthesis. Parentheses in character
+/// constants don't count.
 fn after_closing(s: &[u8]) -> Option<&[u8]>
     ensures { option_map (λ x. x.now) result ≡ grammar.after_closing 0 false s.now }
 {
@@ -132,18 +132,11 @@ fn after_closing(s: &[u8]) -> Option<&[u8]>
     None
 }
 
-/// What follows the parenthesis that closes that of IF, where the text begins with it.
+/// What follows the closing parenthesis of `IF(`, where the text begins with `IF(`; none elsewhere.
 pub fn after_if(s: &[u8]) -> Option<&[u8]>
     ensures { option_map (λ x. x.now) result ≡ reading.after_if s.now }
 {
     after_closing(after_text(b"IF(", s)?)
-}
-
-/// Whether a character is a digit (X3.9-1978, 3.1.2).
-fn is_digit(c: u8) -> bool
-    ensures { result ≡ characters.is_digit c }
-{
-    b'0' <= c && c <= b'9'
 }
 
 /// The rule by what follows the parenthesis that closes that of IF.
@@ -161,7 +154,7 @@ fn rule_after(rest: &[u8]) -> Rule
     }
 }
 
-/// The rule that applies to a text: IF with its parenthesis first, then `=`, then the words.
+/// The rule of a text. A text that begins with `IF(` is tested first, then one with `=`, and then one with a word.
 pub fn rule_of(s: &[u8]) -> Rule
     ensures { result ≡ grammar.rule_of s.now }
 {

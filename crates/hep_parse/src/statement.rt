@@ -1,6 +1,5 @@
 //! Reading statements: the form that a statement's text has.
 ghost use Rattle.std.specs.Prelude.{◌≡◌, if◌then◌else◌, None, Some, length};
-ghost use Rattle.hep_source.specs.Units as units;
 ghost use Rattle.hep_expression.specs.Reading.{Gives};
 ghost use Rattle.hep_parse.specs.ReadingStatement as reading;
 ghost use Rattle.hep_parse.specs.Rules as rules;
@@ -15,13 +14,18 @@ use crate::executable::{
 };
 use crate::keyword::{Keyword, keyword_at};
 use crate::rule::{Rule, after_if, rule_of};
-use hep_expression::Unread;
+use hep_expression::ReadFailure;
 use hep_expression::characters::{Context, Sizes, all_read};
-use hep_source::{Expr, Form, ValueType};
+use hep_source::{Expr, Form, ValueType, is_executable};
 use std::alloc::Global;
 
-/// The form of a header, a specification statement or DATA, after its word.
-fn declaration(alloc: Global, context: Context, keyword: Keyword, s: &[u8]) -> Result<Form, Unread>
+/// The form of a header, a specification statement or DATA, from its word and the text after the word.
+fn declaration(
+    alloc: Global,
+    context: Context,
+    keyword: Keyword,
+    s: &[u8],
+) -> Result<Form, ReadFailure>
     ensures { Gives (λ x. x) result (reading.declaration context keyword s.now) }
 {
     match keyword {
@@ -37,12 +41,17 @@ fn declaration(alloc: Global, context: Context, keyword: Keyword, s: &[u8]) -> R
         Keyword::Common => common(alloc, context, s),
         Keyword::Parameter => parameter(alloc, context, s),
         Keyword::Data => data_statement(alloc, context, s),
-        _ => Err(Unread::NoReading),
+        _ => Err(ReadFailure::NoReading),
     }
 }
 
-/// The form of a text after its word.
-fn after_word(alloc: Global, context: Context, keyword: Keyword, s: &[u8]) -> Result<Form, Unread>
+/// The form of a statement, from its word and the text after the word.
+fn after_word(
+    alloc: Global,
+    context: Context,
+    keyword: Keyword,
+    s: &[u8],
+) -> Result<Form, ReadFailure>
     ensures { Gives (λ x. x) result (reading.after_word context keyword s.now) }
 {
     match keyword {
@@ -75,53 +84,53 @@ fn after_word(alloc: Global, context: Context, keyword: Keyword, s: &[u8]) -> Re
     }
 }
 
-/// A form that begins with its word.
+/// The form of a statement that begins with a word.
 #[tactic(auto, unfolding(crate::specs::ReadingStatement::worded))]
-fn worded(alloc: Global, context: Context, s: &[u8]) -> Result<Form, Unread>
+fn worded(alloc: Global, context: Context, s: &[u8]) -> Result<Form, ReadFailure>
     ensures { Gives (λ x. x) result (reading.worded context s.now) }
 {
     match keyword_at(s) {
         Some((keyword, rest)) => after_word(alloc, context, keyword, rest),
-        None => Err(Unread::NoReading),
+        None => Err(ReadFailure::NoReading),
     }
 }
 
-/// The form of a statement that is no logical IF, by the rule that applies.
-fn form_by_rule(alloc: Global, context: Context, s: &[u8]) -> Result<Form, Unread>
+/// The form of a statement that is no logical IF, by its rule.
+fn form_by_rule(alloc: Global, context: Context, s: &[u8]) -> Result<Form, ReadFailure>
     ensures { Gives (λ x. x) result (reading.form_by context (rules.rule_of s.now) s.now) }
 {
     match rule_of(s) {
         Rule::Assignment => assignment(alloc, context, s),
         Rule::BlockIf => if_then(alloc, context, s),
         Rule::SignIf => arithmetic_if(alloc, context, s),
-        Rule::LogicalIf | Rule::Unclosed => Err(Unread::NoReading),
+        Rule::LogicalIf | Rule::Unclosed => Err(ReadFailure::NoReading),
         Rule::Worded => worded(alloc, context, s),
     }
 }
 
-/// The condition of a logical IF (X3.9-1978, 11.5), and the statement that it holds.
+/// The condition of a logical IF (X3.9-1978, 11.5), and the text of the statement within it.
 ///
 /// # Errors
 ///
-/// No reading, or no memory.
+/// [`ReadFailure::NoReading`] where the text has no such form, or [`ReadFailure::NoMemory`].
 #[tactic(auto, unfolding(crate::specs::ReadingStatement::logical_if))]
-pub fn logical_if(alloc: Global, context: Context, s: &[u8]) -> Result<(Expr, &[u8]), Unread>
+pub fn logical_if(alloc: Global, context: Context, s: &[u8]) -> Result<(Expr, &[u8]), ReadFailure>
     ensures { Gives (λ x. (x.0, x.1.now)) result (reading.logical_if context s.now) }
 {
     let Rule::LogicalIf = rule_of(s) else {
-        return Err(Unread::NoReading);
+        return Err(ReadFailure::NoReading);
     };
     let (condition, rest) = if_condition_at(alloc, context, s)?;
     match after_if(s) {
         Some(held) if rest == held => Ok((condition, rest)),
-        _ => Err(Unread::NoReading),
+        _ => Err(ReadFailure::NoReading),
     }
 }
 
-/// The conditions of logical IFs, of which each one holds the next, and the statement that the last
-/// one holds: the whole text, where it is no logical IF.
+/// The conditions of logical IFs, each within the one before, and the text of the innermost statement. This is
+/// the whole text where the statement is no logical IF.
 #[tactic(auto, using(crate::proofs::ConditionLoops::ends, crate::proofs::ConditionLoops::is_over))]
-fn conditions(alloc: Global, context: Context, s: &[u8]) -> Result<(Vec<Expr>, &[u8]), Unread>
+fn conditions(alloc: Global, context: Context, s: &[u8]) -> Result<(Vec<Expr>, &[u8]), ReadFailure>
     ensures { Gives (λ x. (x.0.items, x.1.now)) result (Some (reading.conditions context (length s.now) s.now)) }
 {
     let mut conditions = Vec::new(alloc);
@@ -132,29 +141,11 @@ fn conditions(alloc: Global, context: Context, s: &[u8]) -> Result<(Vec<Expr>, &
                 conditions.push(condition)?;
                 rest = held;
             }
-            Err(Unread::NoReading) => return Ok((conditions, rest)),
-            Err(Unread::NoMemory) => return Err(Unread::NoMemory),
+            Err(ReadFailure::NoReading) => return Ok((conditions, rest)),
+            Err(ReadFailure::NoMemory) => return Err(ReadFailure::NoMemory),
         }
     }
     Ok((conditions, rest))
-}
-
-/// Whether a form is that of an executable statement (X3.9-1978, 7.1).
-fn is_executable(form: &Form) -> bool
-    ensures { result ≡ units.is_executable form.now }
-{
-    match form {
-        Form::Program(_)
-        | Form::Subroutine(..)
-        | Form::Function(..)
-        | Form::Implicit(_)
-        | Form::Declare(..)
-        | Form::Dimension(_)
-        | Form::Common(_)
-        | Form::Parameter(_)
-        | Form::Data(_) => false,
-        _ => true,
-    }
 }
 
 /// Whether a form may stand after these conditions.
@@ -164,25 +155,25 @@ fn may_stand(conditions: &[Expr], form: &Form) -> bool
     conditions.is_empty() || is_executable(form)
 }
 
-/// What was read, where it may stand.
-fn standing<T: Drop>(is_allowed: bool, read: T) -> Result<T, Unread>
+/// Answers with what was read, where it is allowed, and else with [`ReadFailure::NoReading`].
+fn standing<T: Drop>(is_allowed: bool, read: T) -> Result<T, ReadFailure>
     ensures { Gives (λ x. x) result (if is_allowed then Some read else None) }
 {
     if is_allowed {
         Ok(read)
     } else {
-        Err(Unread::NoReading)
+        Err(ReadFailure::NoReading)
     }
 }
 
-/// The conditions of logical IFs and the form that a text has; a logical IF holds an executable
+/// The conditions of logical IFs and the form of the statement within them, from a whole text. A logical IF contains an executable
 /// statement.
 ///
 /// # Errors
 ///
-/// No reading, or no memory.
+/// [`ReadFailure::NoReading`] where the text has no such form, or [`ReadFailure::NoMemory`].
 #[tactic(auto, unfolding(crate::specs::ReadingStatement::form))]
-pub fn form(alloc: Global, sizes: Sizes, text: &[u8]) -> Result<(Vec<Expr>, Form), Unread>
+pub fn form(alloc: Global, sizes: Sizes, text: &[u8]) -> Result<(Vec<Expr>, Form), ReadFailure>
     ensures { Gives (λ x. (x.0.items, x.1)) result (reading.form sizes text.now) }
 {
     let context = Context {

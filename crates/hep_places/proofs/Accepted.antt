@@ -3,8 +3,8 @@ use Rattle.std.proofs.Common.{◌≡◌, ◌<◌, Bool, true, false, List, None,
 use Rattle.std.proofs.lemmas.Option.{none-some}
 use Rattle.hep_machine.specs.Words.{Name, Statement, index_among, is_among, dummies_of, cells_of, is_dummy}
 use Rattle.hep_accepted_laws.specs.Typing.{HasShape}
-use Rattle.hep_places.proofs.Few.{some-cells}
-use Rattle.hep_places.proofs.Right.{index-there}
+use Rattle.hep_places.proofs.FewCells.{some-cells}
+use Rattle.hep_places.proofs.RightPlaces.{index-there}
 
 pub no-dummy : (unit : List Statement) (x : Name) → index_among x (dummies_of unit) ≡ None → is_dummy unit x ≡ false
 no-dummy unit x i = by (is_among x (dummies_of unit)) refl where

@@ -10,10 +10,10 @@ use Rattle.hep_image.specs.declared.dummy.DummyArgument.TheVariants.{Scalar, Arr
 use Rattle.hep_image.specs.Dummies.{common_cell, common_cell_by, dummy_of}
 use Rattle.hep_common.specs.Starts.{AreStarts}
 use Rattle.hep_common.specs.declared.starts.CommonStarts.{CommonStarts}
-use Rattle.hep_places.specs.Dummies.{array_found, cell_by, constant_array, dummy_found, source_found}
-use Rattle.hep_places.specs.Found.{Table, entries_of, no_length, offset_among}
-use Rattle.hep_places.proofs.Begins.{common-first}
-use Rattle.hep_places.proofs.Right.{HasShapes, map-same}
+use Rattle.hep_places.specs.DummyArguments.{array_found, cell_by, constant_array, dummy_found, source_found}
+use Rattle.hep_places.specs.StorageStarts.{Table, entries_of, no_length, offset_among}
+use Rattle.hep_places.proofs.FrameStarts.{common-first}
+use Rattle.hep_places.proofs.RightPlaces.{HasShapes, map-same}
 
 -- ---- where the values of names are
 

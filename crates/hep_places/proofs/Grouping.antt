@@ -4,7 +4,7 @@ use Rattle.std.specs.Option.{option_or}
 use Rattle.hep_machine.specs.Words.{DataGroup, Name, Statement, Value}
 use Rattle.hep_code.specs.declared.variable.Variable.{Variable}
 use Rattle.hep_image.specs.declared.array.Array.{Array}
-use Rattle.hep_places.specs.Given.{value_by_group, value_by_groups}
+use Rattle.hep_places.specs.InitialValues.{value_by_group, value_by_groups}
 use Rattle.hep_names.proofs.Notes.{or-none, or-assoc}
 
 module _ (unit : List Statement) (table : Name → Option Variable) (arrays : List Array) (common : ℕ) (p : ℕ) where

@@ -8,17 +8,17 @@ use Rattle.hep_accepted_laws.proofs.Members.{Has, has_flat, has_more}
 use Rattle.hep_layout.specs.Words.{Row, block_row, first_in}
 use Rattle.hep_layout.proofs.Rows.{has_key}
 use Rattle.hep_common.specs.Starts.{narrowed}
-use Rattle.hep_places.specs.declared.blocks.Entry.{Entry}
-use Rattle.hep_places.specs.Found.{entries_in, entries_of, entry_of, lengthened, name_row, no_length, offset_among}
+use Rattle.hep_places.specs.declared.block_offsets.NameInBlock.{NameInBlock}
+use Rattle.hep_places.specs.StorageStarts.{entries_in, entries_of, entry_of, lengthened, name_row, no_length, offset_among}
 use Rattle.hep_places.proofs.Narrowed.{narrowed-more, narrowed-zero}
 use Rattle.hep_common.proofs.Entries.{last-among}
 use Rattle.hep_machine.proofs.Locations.{block-stays, block-self}
 
-abbrev pub row_under : List Statement → BlockName → List Entry → Row Name
+abbrev pub row_under : List Statement → BlockName → List NameInBlock → Row Name
 row_under unit b [] = []
 row_under unit b (e ∷ es) = if same_block e.block b then (e.name, cells_of unit e.name) ∷ row_under unit b es else row_under unit b es
 
-abbrev pub block_among : Name → List Entry → Option BlockName
+abbrev pub block_among : Name → List NameInBlock → Option BlockName
 block_among x [] = None
 block_among x (e ∷ es) = if same_name x e.name then Some e.block else block_among x es
 
@@ -42,7 +42,7 @@ none-more n m e = omega (arith, e)
 pub grouped : (a b c : ℕ) → a + b + c ≡ a + (b + c)
 grouped a b c = omega arith
 
-first-after : (unit : List Statement) (x : Name) (e : Entry) (es : List Entry) (lengths : BlockName → ℕ) → same_name x e.name ≡ false → (b : BlockName)
+first-after : (unit : List Statement) (x : Name) (e : NameInBlock) (es : List NameInBlock) (lengths : BlockName → ℕ) → same_name x e.name ≡ false → (b : BlockName)
     → longer lengths e.block (cells_of unit e.name) b + first_in (same_name x) (row_under unit b es) ≡ lengths b + first_in (same_name x) (row_under unit b (e ∷ es))
 first-after unit x e es lengths t b = by (same_block e.block b) where
   by : (u : Bool) → (if u then lengths b + cells_of unit e.name else lengths b) + first_in (same_name x) (row_under unit b es)
@@ -52,12 +52,12 @@ first-after unit x e es lengths t b = by (same_block e.block b) where
       ∙ ap (λ s. lengths b + (if s then 0 else cells_of unit e.name + first_in (same_name x) (row_under unit b es))) (sym t)
   by false = refl
 
-first-here : (unit : List Statement) (x : Name) (e : Entry) (es : List Entry) → same_name x e.name ≡ true → first_in (same_name x) (row_under unit e.block (e ∷ es)) ≡ 0
+first-here : (unit : List Statement) (x : Name) (e : NameInBlock) (es : List NameInBlock) → same_name x e.name ≡ true → first_in (same_name x) (row_under unit e.block (e ∷ es)) ≡ 0
 first-here unit x e es t =
     ap (λ u. first_in (same_name x) (if u then (e.name, cells_of unit e.name) ∷ row_under unit e.block es else row_under unit e.block es)) (block-self e.block)
     ∙ ap (λ s. if s then 0 else cells_of unit e.name + first_in (same_name x) (row_under unit e.block es)) t
 
-offset-is : (unit : List Statement) (x : Name) (es : List Entry) (lengths : BlockName → ℕ)
+offset-is : (unit : List Statement) (x : Name) (es : List NameInBlock) (lengths : BlockName → ℕ)
     → offset_among unit (narrowed_at lengths) es x ≡ option_map (λ b. narrowed (lengths b + first_in (same_name x) (row_under unit b es))) (block_among x es)
 offset-is unit x [] lengths = refl
 offset-is unit x (e ∷ es) lengths = by (same_name x e.name) refl (offset-is unit x es (longer lengths e.block (cells_of unit e.name))) where
@@ -73,7 +73,7 @@ offset-is unit x (e ∷ es) lengths = by (same_name x e.name) refl (offset-is un
 
 -- ---- entries, block by block
 
-block-one : (x : Name) (k : BlockName) (ds : List Declarator) (es : List Entry) → block_among x (map (entry_of k) ds ++ es) ≡ (if is_among x (names_declared ds) then Some k else block_among x es)
+block-one : (x : Name) (k : BlockName) (ds : List Declarator) (es : List NameInBlock) → block_among x (map (entry_of k) ds ++ es) ≡ (if is_among x (names_declared ds) then Some k else block_among x es)
 block-one x k [] es = refl
 block-one x k (d ∷ ds) es = by (same_name x d.occurrence.name) (block-one x k ds es) where
   by : (t : Bool) → block_among x (map (entry_of k) ds ++ es) ≡ (if is_among x (names_declared ds) then Some k else block_among x es)
@@ -85,7 +85,7 @@ block-is : (x : Name) (cs : List CommonBlock) → block_among x (entries_in cs) 
 block-is x [] = refl
 block-is x (c ∷ cs) = block-one x (block_of c) c.entries (entries_in cs) ∙ ap (λ o. if is_among x (names_declared c.entries) then Some (block_of c) else o) (block-is x cs)
 
-row-one : (unit : List Statement) (b k : BlockName) (ds : List Declarator) (es : List Entry)
+row-one : (unit : List Statement) (b k : BlockName) (ds : List Declarator) (es : List NameInBlock)
     → row_under unit b (map (entry_of k) ds ++ es) ≡ (if same_block k b then name_row unit (names_declared ds) else []) ++ row_under unit b es
 row-one unit b k [] es = by (same_block k b) where
   by : (t : Bool) → row_under unit b es ≡ (if t then [] else []) ++ row_under unit b es
@@ -122,7 +122,7 @@ offsets-are unit x =
     ∙ ap (option_map (λ b. narrowed (first_in (same_name x) (block_row unit b)))) (block-is x (blocks_of_unit unit))))
 
 -- a name in a block is in its row
-key-under : (unit : List Statement) (x : Name) (b : BlockName) (es : List Entry) → block_among x es ≡ Some b → has_key (same_name x) (row_under unit b es) ≡ true
+key-under : (unit : List Statement) (x : Name) (b : BlockName) (es : List NameInBlock) → block_among x es ≡ Some b → has_key (same_name x) (row_under unit b es) ≡ true
 key-under unit x b [] e = absurd (none-some b e)
 key-under unit x b (f ∷ es) e = by (same_name x f.name) refl e (key-under unit x b es) where
   later : (u : Bool) → has_key (same_name x) (row_under unit b es) ≡ true → same_name x f.name ≡ false → has_key (same_name x) (if u then (f.name, cells_of unit f.name) ∷ row_under unit b es else row_under unit b es) ≡ true

@@ -8,10 +8,10 @@ use Rattle.hep_image.specs.Names.{variable_index}
 use Rattle.hep_image.specs.declared.owners.FrameVariable.{FrameVariable}
 use Rattle.hep_image.specs.Owners.{argument_at, frame_variables, variable_at}
 use Rattle.hep_common.specs.Starts.{narrowed}
-use Rattle.hep_places.specs.Found.{Table}
-use Rattle.hep_places.specs.Owners.{argument_found, local_found, variables_found}
-use Rattle.hep_places.proofs.Begins.{argument-at}
-use Rattle.hep_places.proofs.Right.{index-there, map-same}
+use Rattle.hep_places.specs.StorageStarts.{Table}
+use Rattle.hep_places.specs.FrameOwners.{argument_found, local_found, variables_found}
+use Rattle.hep_places.proofs.FrameStarts.{argument-at}
+use Rattle.hep_places.proofs.RightPlaces.{index-there, map-same}
 
 module _ (unit : List Statement) (small : frame_cells unit ≤ 16777216) (locals : Table) (at : (x : Name) → is_among x (locals_of unit) ≡ true → locals x ≡ Some (first_of_part unit (variable x))) where
   argument-right : (x : Name) → Has (dummies_of unit) x → argument_found unit x ≡ argument_at unit x

@@ -1,22 +1,21 @@
 mod Narrowed
-mod Taken
-mod Gathered
+mod TakenValues
+mod GatheredStarts
 mod Lengths
 mod Extents
 mod InBlocks
-mod Begins
-mod Right
-mod Few
+mod FrameStarts
+pub mod RightPlaces
+mod FewCells
 mod Accepted
 mod InFrame
-mod Final
-mod Counts
+mod FinalStarts
 mod Arguments
-pub mod Giving
+pub mod InitialRows
 pub mod Grouping
 pub mod Naming
 pub mod Located
-pub mod Beginning
+pub mod BlockOffsets
 pub mod Owning
-pub mod Fitting
-pub mod Taking
+pub mod FrameFit
+pub mod GroupValueTaking

@@ -13,8 +13,8 @@ use Rattle.hep_layout.proofs.HeldFrames.{opening-is, placed-opening}
 use Rattle.hep_layout.proofs.Runs.{local-index, further-further}
 use Rattle.hep_layout.proofs.Storages.{storage-local}
 use Rattle.hep_image.specs.Data.{first_frames}
-use Rattle.hep_places.specs.declared.data_cells.Cells.{Cells}
-use Rattle.hep_places.specs.Cells.{is_among_cells}
+use Rattle.hep_places.specs.declared.data_cells.CellRange.{CellRange}
+use Rattle.hep_places.specs.CellRows.{is_among_cells}
 use Rattle.hep_source.proofs.Tests.{number-self}
 
 -- ---- storage units, so many further
@@ -103,7 +103,7 @@ module _ (program : Units) where
   -- a storage unit is so far in a stretch as its cell is in the cells of the stretch
   module _ (start : Location) (rest first before count : ℕ) (kept : RunsFrom program (opening program) (first_frames program) start rest first) (room : before + count ≤ rest)
       (at : Location) (p : ℕ) (here : address program (opening program) (first_frames program) at ≡ Some p) where
-    abbrev run_cells : Cells
+    abbrev run_cells : CellRange
     run_cells = record { first = first + before; count = count }
 
     inside : is_among_cells run_cells p ≡ true → distance (further start before) at ≡ Some (p - (first + before))

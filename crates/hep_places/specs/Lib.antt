@@ -1,8 +1,8 @@
-pub mod Found
-pub mod Unit
-pub mod Dummies
-pub mod Owners
-pub mod Cells
-pub mod Given
-pub mod Left
-pub mod Frame
+pub mod StorageStarts
+pub mod UnitPlaces
+pub mod DummyArguments
+pub mod FrameOwners
+pub mod CellRows
+pub mod InitialValues
+pub mod GroupValues
+pub mod MainFrame

@@ -4,21 +4,21 @@ ghost use Rattle.std.specs.List.{filter};
 ghost use Rattle.indexmap.specs.IndexMap.{get};
 ghost use Rattle.hep_machine.specs.Words.{name_eq, adjustable_dimensions, value_among, constant_value};
 ghost use Rattle.hep_machine.specs.Declarations as declarations;
-ghost use Rattle.hep_places.specs.Found as found;
+ghost use Rattle.hep_places.specs.StorageStarts as found;
 
-use crate::bounds::Known;
-use crate::cells::in_32_bits;
-use crate::tables::start_of;
+use crate::bound_code::BoundContext;
+use crate::cell_numbers::in_32_bits;
+use crate::storage_starts::start_of;
 use hep_image::{Array, Extents, Start};
 use hep_shape::Shape;
 use hep_source::Name;
 use hep_values::bounds_of;
 use std::alloc::{AllocError, Global};
 
-// The shape of an array whose bounds are all constant; no array of an accepted program has some that make none.
+// The shape of an array with constant bounds. In accepted programs such bounds always are a shape.
 pub(crate) fn shape_of(
     alloc: Global,
-    known: &Known,
+    known: &BoundContext,
     name: &Name,
 ) -> Result<Option<Option<Shape>>, AllocError>
     requires values { value_among known.now.constants.now ≡ constant_value known.now.symbols.now }
@@ -34,7 +34,7 @@ pub(crate) fn shape_of(
     }
 }
 
-fn extents_of(alloc: Global, known: &Known, name: &Name) -> Result<Extents, AllocError>
+fn extents_of(alloc: Global, known: &BoundContext, name: &Name) -> Result<Extents, AllocError>
     requires values { value_among known.now.constants.now ≡ constant_value known.now.symbols.now }
     requires array { declarations.is_array known.now.symbols.now name.now ≡ true }
     ensures { IfOk result (λ extents. extents
@@ -53,13 +53,13 @@ fn extents_of(alloc: Global, known: &Known, name: &Name) -> Result<Extents, Allo
     }
 }
 
-fn array_of(alloc: Global, known: &Known, name: &Name) -> Result<Array, AllocError>
+fn array_of(alloc: Global, known: &BoundContext, name: &Name) -> Result<Array, AllocError>
     requires values { value_among known.now.constants.now ≡ constant_value known.now.symbols.now }
     requires array { declarations.is_array known.now.symbols.now name.now ≡ true }
     ensures { IfOk result (λ array. array ≡ found.array_in known.now name.now) }
 {
     let extents = extents_of(alloc, known, name)?;
-    // Each array of an accepted program begins somewhere.
+    // Each array of an accepted program has a first storage unit.
     let start = start_of(known.symbols, known.common, known.tables, name);
     let start = start.unwrap_or(Start::Local(0));
     Ok(Array { start, extents })
@@ -68,7 +68,7 @@ fn array_of(alloc: Global, known: &Known, name: &Name) -> Result<Array, AllocErr
 // Those of these names that are arrays.
 pub(crate) fn arrays_among(
     alloc: Global,
-    known: &Known,
+    known: &BoundContext,
     names: &[Name],
 ) -> Result<Vec<Array>, AllocError>
     requires { value_among known.now.constants.now ≡ constant_value known.now.symbols.now }

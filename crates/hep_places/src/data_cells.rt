@@ -1,9 +1,9 @@
-//! The cells that a name in DATA stands for (X3.9-1978, 9.2).
+//! The cells of a name in DATA (X3.9-1978, 9.2).
 ghost use Rattle.std.specs.Prelude.{◌≡◌, IfOk, slice_get};
 ghost use Rattle.std.specs.Option.{option_map, unwrap_or};
 ghost use Rattle.indexmap.specs.IndexMap.{get};
 ghost use Rattle.hep_machine.specs.Words.{name_eq, value_among, constant_value, is_nonempty};
-ghost use Rattle.hep_places.specs.Given as given;
+ghost use Rattle.hep_places.specs.InitialValues as given;
 
 use crate::main_frame::MainFrame;
 use hep_code::Variable;
@@ -13,21 +13,21 @@ use hep_source::Target;
 use hep_values::{Constants, integers};
 use std::alloc::{AllocError, Global};
 
-/// Cells of the arena, one after the other.
+/// Cells of the arena in a row.
 #[derive(Clone, Copy, PartialEq, Eq)]
-pub(crate) struct Cells {
+pub(crate) struct CellRange {
     /// The first one, counted from that of the arena.
     pub(crate) first: u32,
     pub(crate) count: u32,
 }
 
-// So many cells of a local variable behind its first ones. The frame stands behind COMMON.
-fn cells_from(common: u32, cell: u32, before: u32, count: u32) -> Option<Cells>
+// `count` cells of a local variable after its first `before` ones. The frame follows COMMON.
+fn cells_from(common: u32, cell: u32, before: u32, count: u32) -> Option<CellRange>
     ensures { result ≡ given.cells_from common cell before count }
 {
     let end = u64::from(common) + (u64::from(cell) + (u64::from(before) + u64::from(count)));
     if end < 4_294_967_296 {
-        Some(Cells {
+        Some(CellRange {
             first: common + (cell + before),
             count,
         })
@@ -42,7 +42,7 @@ fn has_subscripts(target: &Target) -> bool
     !target.subscripts.as_slice().is_empty()
 }
 
-fn cells_of_scalar(common: u32, cell: u32, target: &Target) -> Option<Cells>
+fn cells_of_scalar(common: u32, cell: u32, target: &Target) -> Option<CellRange>
     ensures { result ≡ given.cells_of_scalar common cell target.now }
 {
     if has_subscripts(target) {
@@ -53,7 +53,7 @@ fn cells_of_scalar(common: u32, cell: u32, target: &Target) -> Option<Cells>
 }
 
 // The cell of the element that has this number; elements are counted from 1.
-fn cell_of_element(common: u32, cell: u32, number: Option<u32>) -> Option<Cells>
+fn cell_of_element(common: u32, cell: u32, number: Option<u32>) -> Option<CellRange>
     ensures { result ≡ given.cell_of_element common cell number }
 {
     match number {
@@ -62,7 +62,7 @@ fn cell_of_element(common: u32, cell: u32, number: Option<u32>) -> Option<Cells>
     }
 }
 
-fn cells_of_all_elements(common: u32, cell: u32, count: Option<u32>) -> Option<Cells>
+fn cells_of_all_elements(common: u32, cell: u32, count: Option<u32>) -> Option<CellRange>
     ensures { result ≡ given.cells_of_all_elements common cell count }
 {
     match count {
@@ -87,7 +87,7 @@ fn cells_of_array(
     cell: u32,
     shape: &Shape,
     target: &Target,
-) -> Result<Option<Cells>, AllocError>
+) -> Result<Option<CellRange>, AllocError>
     requires { value_among constants.now ≡ constant_value frame.now.symbols.now }
     ensures { IfOk result (λ cells. cells ≡ given.cells_of_array frame.now.symbols.now frame.now.common cell shape.now target.now) }
 {
@@ -100,14 +100,14 @@ fn cells_of_array(
     }
 }
 
-// The same of the array at an index, where it is a local one of constant bounds.
+// The same of the array at an index, if it is a local one with constant bounds.
 fn cells_by_array(
     alloc: Global,
     frame: &MainFrame,
     constants: &Constants,
     index: u32,
     target: &Target,
-) -> Result<Option<Cells>, AllocError>
+) -> Result<Option<CellRange>, AllocError>
     requires { value_among constants.now ≡ constant_value frame.now.symbols.now }
     ensures { IfOk result (λ cells. cells
         ≡ given.cells_by_array frame.now.symbols.now frame.now.common (slice_get frame.now.arrays.now index) target.now) }
@@ -123,7 +123,7 @@ fn cells_by_array(
     }
 }
 
-// Where a variable is: what was entered of it, and else nowhere.
+// The place of a variable, or `Absent` where none was entered.
 fn variable(frame: &MainFrame, target: &Target) -> Variable
     ensures { result ≡ unwrap_or (get name_eq frame.now.variables.now target.now.occurrence.name) Variable.Absent }
 {
@@ -134,14 +134,14 @@ fn variable(frame: &MainFrame, target: &Target) -> Variable
         .unwrap_or(Variable::Absent)
 }
 
-// The cells of what a name in DATA stands for: of a local variable, or of elements of one. The constants are all those of
-// the main program.
+// The cells of a name in DATA: of a local variable, or of elements of one. `constants` has all constants of the main
+// program.
 pub(crate) fn cells_named(
     alloc: Global,
     frame: &MainFrame,
     constants: &Constants,
     target: &Target,
-) -> Result<Option<Cells>, AllocError>
+) -> Result<Option<CellRange>, AllocError>
     requires { value_among constants.now ≡ constant_value frame.now.symbols.now }
     ensures { IfOk result (λ cells. cells
         ≡ given.cells_named frame.now.symbols.now (get name_eq frame.now.variables.now) frame.now.arrays.now frame.now.common target.now) }

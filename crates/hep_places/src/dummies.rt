@@ -1,10 +1,10 @@
 //! The dummy arguments of a unit (X3.9-1978, 5.5.1 and 15.9.3).
 ghost use Rattle.std.specs.Prelude.{◌≡◌, true, map, IfOk};
 ghost use Rattle.hep_machine.specs.Words.{dummies_of, value_among, constant_value, is_array};
-ghost use Rattle.hep_places.specs.Dummies as dummies;
+ghost use Rattle.hep_places.specs.DummyArguments as dummies;
 
 use crate::arrays::shape_of;
-use crate::bounds::{Known, add_dimensions};
+use crate::bound_code::{BoundContext, add_dimensions};
 use hep_base::Sequence;
 use hep_image::DummyArgument;
 use hep_source::{Dimension, Name};
@@ -13,7 +13,7 @@ use std::alloc::{AllocError, Global};
 // An array whose bounds are fixed at each call.
 fn adjustable_array(
     alloc: Global,
-    known: &Known,
+    known: &BoundContext,
     dimensions: &[Dimension],
 ) -> Result<DummyArgument, AllocError>
     ensures { IfOk result (λ argument. argument ≡ dummies.adjustable_array known.now dimensions.now) }
@@ -23,7 +23,11 @@ fn adjustable_array(
     Ok(DummyArgument::Adjustable(Sequence::from(code)))
 }
 
-fn array_argument(alloc: Global, known: &Known, name: &Name) -> Result<DummyArgument, AllocError>
+fn array_argument(
+    alloc: Global,
+    known: &BoundContext,
+    name: &Name,
+) -> Result<DummyArgument, AllocError>
     requires values { value_among known.now.constants.now ≡ constant_value known.now.symbols.now }
     requires array { is_array known.now.symbols.now name.now ≡ true }
     ensures { IfOk result (λ argument. argument ≡ dummies.array_found known.now.symbols.now (dummies.source_in known.now) name.now) }
@@ -35,8 +39,12 @@ fn array_argument(alloc: Global, known: &Known, name: &Name) -> Result<DummyArgu
     }
 }
 
-// What must be known of one dummy argument where its unit is called (15.9.3).
-fn dummy_argument(alloc: Global, known: &Known, name: &Name) -> Result<DummyArgument, AllocError>
+// A dummy argument, as a call of its unit needs it (15.9.3).
+fn dummy_argument(
+    alloc: Global,
+    known: &BoundContext,
+    name: &Name,
+) -> Result<DummyArgument, AllocError>
     requires { value_among known.now.constants.now ≡ constant_value known.now.symbols.now }
     ensures { IfOk result (λ argument. argument ≡ dummies.dummy_found known.now.symbols.now (dummies.source_in known.now) name.now) }
 {
@@ -47,10 +55,10 @@ fn dummy_argument(alloc: Global, known: &Known, name: &Name) -> Result<DummyArgu
     }
 }
 
-// What must be known of all of them, in order.
+// The same for all dummy arguments, in order.
 pub(crate) fn dummy_arguments(
     alloc: Global,
-    known: &Known,
+    known: &BoundContext,
 ) -> Result<Vec<DummyArgument>, AllocError>
     requires { value_among known.now.constants.now ≡ constant_value known.now.symbols.now }
     ensures { IfOk result (λ arguments. arguments.items

@@ -1,30 +1,28 @@
-//! Where the variables, arrays and DOs of a unit are, and what DATA gives the cells before the first step.
-//!
-//! Where the variables of a unit, its arrays and its DOs are (docs/MACHINE.md, "Variables and frames" and "Layout").
-//!
-//! What DATA gives the cells of the arena before the first step (X3.9-1978, section 9).
+//! The places of the variables, arrays and DOs of a unit ([`unit_places`](unit::unit_places); docs/MACHINE.md,
+//! "Variables and frames" and "Layout"), and the values of DATA for the cells of the arena before the first step
+//! ([`data_rows`](stored::data_rows); X3.9-1978, section 9).
 #![tactic(auto)]
 
-mod actuals;
 mod arrays;
-mod blocks;
-mod bounds;
-mod cells;
+mod bare_actuals;
+mod block_offsets;
+mod bound_code;
+mod cell_numbers;
 mod data_cells;
 mod dummies;
-mod groups;
+mod frame_owners;
+mod frame_starts;
+mod group_list;
+mod group_rows;
+mod group_values;
+pub mod initial_rows;
 pub mod laws;
-mod loops;
+mod loop_cells;
 pub mod main_frame;
-mod names;
-mod owners;
-mod rows;
-pub mod stored;
-mod tables;
+mod storage_starts;
 pub mod unit;
-mod values;
 mod variables;
 
+pub use initial_rows::data_rows;
 pub use main_frame::MainFrame;
-pub use stored::data_rows;
 pub use unit::{UnitPlaces, unit_places};

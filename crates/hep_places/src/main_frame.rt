@@ -1,4 +1,4 @@
-//! Where the variables of the main program are.
+//! The places of the main program's variables.
 
 use hep_code::Variable;
 use hep_image::Array;
@@ -10,10 +10,10 @@ use indexmap::IndexMap;
 #[derive(Clone, Copy)]
 pub struct MainFrame<'a> {
     pub symbols: &'a Symbols<'a>,
-    /// Where each variable of the main program is.
+    /// The place of each variable of the main program.
     pub variables: &'a IndexMap<Name, Variable>,
-    /// Where its arrays begin, and their bounds, in the order of their first appearance.
+    /// Its arrays, with their first storage units and their bounds, in the order of their first appearance.
     pub arrays: &'a [Array],
-    /// How many cells COMMON has. The frame stands behind it.
+    /// The number of cells of COMMON. The frame follows it.
     pub common: u32,
 }

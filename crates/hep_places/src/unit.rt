@@ -1,17 +1,17 @@
-//! Where all of a unit is.
+//! All places of a unit.
 ghost use Rattle.std.specs.Prelude.{◌≡◌, ◌≤◌, ◌<◌, ℕ, length, IfOk};
 ghost use Rattle.hep_machine.specs.Words.{Units, unit_at, common_cells};
 ghost use Rattle.hep_machine.specs.Variables as variables;
 ghost use Rattle.hep_conditions.specs.Words.{IsAccepted};
 ghost use Rattle.hep_common.specs.Starts.{AreStarts};
-ghost use Rattle.hep_places.specs.Unit.{ArePlaces};
+ghost use Rattle.hep_places.specs.UnitPlaces.{ArePlaces};
 
 use crate::arrays::arrays_among;
-use crate::bounds::Known;
+use crate::bound_code::BoundContext;
 use crate::dummies::dummy_arguments;
+use crate::frame_owners::variables_in_frame;
 use crate::laws::arrays_are_few;
-use crate::owners::variables_in_frame;
-use crate::tables::tables_of;
+use crate::storage_starts::tables_of;
 use crate::variables::{private_among, variables_among};
 use hep_accepted_laws::code::constant_shapes;
 use hep_accepted_laws::names::names_are_given_once;
@@ -20,30 +20,30 @@ use hep_code::Placement;
 use hep_common::CommonStarts;
 use hep_image::{Array, DummyArgument, FrameVariable};
 use hep_names::Symbols;
-use hep_values::given::constants;
+use hep_values::named_constants::constants;
 use std::alloc::{AllocError, Global};
 use std::mem::replace;
 
-/// Where a unit's variables, arrays and DOs are.
+/// The places of a unit's variables, arrays and DOs.
 #[derive(Drop)]
 pub struct UnitPlaces {
     pub places: Placement,
     /// Its arrays, in order of first appearance.
     pub arrays: Vec<Array>,
-    /// How many cells its frame has.
+    /// The number of cells of its frame.
     pub cells: u32,
-    /// The cells of its frame, counted from the first one, that have a plain local scalar which is nowhere a bare
-    /// actual argument; in rising order.
+    /// The cells of its private scalars, counted from the first one of its frame, in rising order: plain local
+    /// scalars that are nowhere an actual argument by themselves.
     pub private: Vec<u32>,
-    /// What must be known of its dummy arguments where it is called, in their order.
+    /// Its dummy arguments, as a call of the unit needs them, in their order.
     pub dummies: Vec<DummyArgument>,
     /// The variables with cells in its frame, in the order of their cells.
     pub frame_variables: Vec<FrameVariable>,
 }
 
-/// Where the variables, arrays and DOs of a unit of an accepted program are, by one pass over each row of its frame and
-/// over its common blocks (docs/MACHINE.md, "Variables and frames" and "Layout"). Neither its frame nor COMMON has more
-/// than 16,777,216 cells, as in every arena.
+/// The places of the variables, arrays and DOs of a unit of an accepted program, by one pass over each row of its
+/// frame and over its common blocks (docs/MACHINE.md, "Variables and frames" and "Layout"). Neither its frame nor
+/// COMMON has more than 16,777,216 cells, as in every arena.
 ///
 /// # Errors
 ///
@@ -57,7 +57,7 @@ pub fn unit_places(
         → AreStarts program common.now → common_cells program ≤ 16777216 → variables.frame_cells (unit_at program u) ≤ 16777216
         → ArePlaces program (unit_at program u) places) }
 {
-    // What holds of the arrays and the dummy arguments of every accepted program.
+    // Laws about the arrays and the dummy arguments of every accepted program.
     arrays_are_few();
     constant_shapes();
     arrays_have_shapes();
@@ -77,7 +77,7 @@ pub fn unit_places(
         symbols.dummies(),
         symbols.locals(),
     )?;
-    let known = Known {
+    let known = BoundContext {
         symbols,
         common,
         constants: &constants,

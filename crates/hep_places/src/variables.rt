@@ -1,4 +1,4 @@
-//! The variables of a unit (X3.9-1978, 2.5), and which of them only their own activation can change.
+//! The variables of a unit (X3.9-1978, 2.5), and its private scalars.
 ghost use Rattle.std.specs.Prelude.{◌≡◌, map, IfOk, OnOk};
 ghost use Rattle.std.specs.List.{filter};
 ghost use Rattle.std.specs.Option.{option_or, unwrap_or};
@@ -9,11 +9,11 @@ ghost use Rattle.hep_machine.specs.Words.{is_among, name_eq};
 ghost use Rattle.hep_names.specs.Tables.{by_name};
 ghost use Rattle.hep_image.specs.Places as places;
 ghost use Rattle.hep_image.specs.Private as private;
-ghost use Rattle.hep_places.specs.Found as found;
+ghost use Rattle.hep_places.specs.StorageStarts as found;
 
-use crate::actuals::bare_actuals;
-use crate::cells::further;
-use crate::tables::{Tables, start_of};
+use crate::bare_actuals::bare_actuals;
+use crate::cell_numbers::further;
+use crate::storage_starts::{StorageStarts, start_of};
 use hep_code::Variable;
 use hep_common::CommonStarts;
 use hep_image::Start;
@@ -35,7 +35,7 @@ fn scalar(asynchronous: bool, start: Start) -> Variable
     }
 }
 
-// The variable that a name is, before which there are so many arrays.
+// The variable of a name, before which there are `arrays` arrays.
 fn variable_of(symbols: &Symbols, arrays: u32, name: &Name, start: Option<Start>) -> Variable
     ensures { result ≡ found.variable_found symbols.now arrays name.now start }
 {
@@ -55,7 +55,7 @@ fn variable_of(symbols: &Symbols, arrays: u32, name: &Name, start: Option<Start>
     }
 }
 
-// How many arrays there are with this name.
+// The number of arrays up to and including this name.
 fn arrays_with(symbols: &Symbols, arrays: u32, name: &Name) -> u32
     ensures { result ≡ found.arrays_with symbols.now arrays name.now }
 {
@@ -69,7 +69,7 @@ fn arrays_with(symbols: &Symbols, arrays: u32, name: &Name) -> u32
 fn add(
     symbols: &Symbols,
     common: &CommonStarts,
-    tables: &Tables,
+    tables: &StorageStarts,
     table: &mut IndexMap<Name, Variable>,
     arrays: u32,
     name: &Name,
@@ -83,12 +83,12 @@ fn add(
     Ok(())
 }
 
-// The variables that these names are.
+// The variables of these names.
 pub(crate) fn variables_among(
     alloc: Global,
     symbols: &Symbols,
     common: &CommonStarts,
-    tables: &Tables,
+    tables: &StorageStarts,
     names: &[Name],
 ) -> Result<IndexMap<Name, Variable>, AllocError>
     ensures { IfOk result (λ table. (x : PureName) → get name_eq table x
@@ -111,11 +111,12 @@ fn is_private(symbols: &Symbols, actuals: &IndexSet<Name>, name: &Name) -> bool
     !name.asynchronous && !symbols.is_array(name) && !actuals.contains(name)
 }
 
-// The cells of those of these local variables that are scalars without `$` and nowhere bare actual arguments.
+// The cells of the private scalars among these local variables: scalars without `$` that are nowhere an actual
+// argument by themselves.
 pub(crate) fn private_among(
     alloc: Global,
     symbols: &Symbols,
-    tables: &Tables,
+    tables: &StorageStarts,
     names: &[Name],
 ) -> Result<Vec<u32>, AllocError>
     ensures { IfOk result (λ cells. cells.items

@@ -9,7 +9,7 @@ use Rattle.hep_machine.specs.Words.{progress_after_entry, progress_after_step, p
 use Rattle.hep_machine.specs.Words.{schedule_of, state_after, state_after_turn, step, without}
 use Rattle.hep_machine.proofs.Others.{dead_idle}
 use Rattle.hep_machine.proofs.Replays.{legal_steps}
-use Rattle.hep_blocked.proofs.Living.{waits-idle}
+use Rattle.hep_blocked.proofs.LivingProcesses.{waits-idle}
 use Rattle.hep_core.proofs.Histories.{progress-state}
 use Rattle.hep_blocked.proofs.Members.{among-filter, among-living, among-ready, among-without, none-among}
 use Rattle.hep_endings.specs.Endings.{Ending, IsEndingWithin, IsTerminal, ending_of}

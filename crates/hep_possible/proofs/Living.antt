@@ -2,7 +2,7 @@
 use Rattle.std.proofs.Common.{◌≡◌, ℕ, Bool, true, false, if◌then◌else◌, ℤ, ◌+ℤ◌, [], Option, Some, None, Result}
 use Rattle.std.proofs.Common.{Ok, Err, is_some, refl, sym, ap, ◌∙◌}
 use Rattle.hep_machine.specs.declared.event.Kind.{Kind}
-use Rattle.hep_machine.specs.Words.{Action, Answer, Binding, Level, Location, Loop, Name, Next, Process, Sought, State, StepResult, Store}
+use Rattle.hep_machine.specs.Words.{Action, Answer, Binding, Level, Location, Loop, Name, Next, Process, RedexOrReference, State, StepResult, Store}
 use Rattle.hep_machine.specs.Words.{Top, Units, Value}
 use Rattle.hep_machine.specs.Words.{absent, answer_at, answer_of, assigning, binding_of, branching, calling, choosing, continuing, creating}
 use Rattle.hep_machine.specs.Words.{does, ending_loop, entering_block, entering_loop, evaluating, fails, function_name, function_unit}
@@ -103,7 +103,7 @@ module _ (program : Units) (t : Top) where
   of_action resuming = tt
   of_action stopping = tt
 
-  of_sought : (x : Sought) → IsMadeOrWaits (result_after_sought program t x)
+  of_sought : (x : RedexOrReference) → IsMadeOrWaits (result_after_sought program t x)
   of_sought (evaluating e) = of_answer (answer_of (scope_of program t.state t.level.activation) t.state.store e)
   of_sought (referring x actuals) = of_call (function_unit program x) (binding_of program t (function_unit program x) actuals)
 

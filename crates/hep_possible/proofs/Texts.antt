@@ -7,15 +7,15 @@ use Rattle.hep_machine.specs.declared.event.Entry.{Entry}
 use Rattle.hep_machine.specs.Words.{Level, Location, Process, Progress, State, Units, Wanted, common, is_number_among, line_at}
 use Rattle.hep_machine.specs.Words.{living, living_from, local, progress_after, ready_in, state_after, top_of, unit_at, unit_of, wanted_by}
 use Rattle.hep_machine.specs.Views.{ProcessView, process_views_from}
-use Rattle.hep_blocked.proofs.Living.{waits-live}
+use Rattle.hep_blocked.proofs.LivingProcesses.{waits-live}
 use Rattle.hep_blocked.proofs.Members.{among-ready}
 use Rattle.hep_image.specs.Names.{names_in_order}
-use Rattle.hep_views.specs.Listed.{listed_by, listed_with, place_of}
+use Rattle.hep_views.specs.ListedProcesses.{listed_by, listed_with, place_of}
 use Rattle.hep_views.specs.declared.place.Place.{Place}
 use Rattle.hep_dump.specs.Faults.{faults_text}
 use Rattle.hep_dump.specs.Waiting.{listed_text, process_text, told_text, waiting_text}
 use Rattle.hep_core.proofs.Histories.{progress-state}
-use Rattle.hep_core.specs.Value.{listed_after, verdict_by}
+use Rattle.hep_core.specs.CoreValues.{listed_after, verdict_by}
 use Rattle.hep_core.specs.declared.stop.ChoiceStop.TheVariants.{Halted}
 use Rattle.hep_outcome.specs.declared.status.Status.{Status}
 use Rattle.hep_outcome.specs.Outcome.{dump_text, outcome_of_end, status_of}

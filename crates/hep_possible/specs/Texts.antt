@@ -5,7 +5,7 @@ use Rattle.std.specs.Option.{unwrap_or}
 use Rattle.hep_machine.specs.declared.event.Fault.{Fault}
 use Rattle.hep_machine.specs.Words.{Location, Units, Wanted, common, local}
 use Rattle.hep_image.specs.Names.{names_in_order}
-use Rattle.hep_views.specs.Listed.{block_place, variable_place}
+use Rattle.hep_views.specs.ListedProcesses.{block_place, variable_place}
 use Rattle.hep_views.specs.declared.listed.Listed.{Listed}
 use Rattle.hep_views.specs.declared.place.Place.{Place}
 use Rattle.hep_output.specs.Records.{records_text}

@@ -1,27 +1,27 @@
-pub mod Moves
-pub mod Along
+pub mod StepEffects
+pub mod StepRows
 mod Dependence
-pub mod Cases
+pub mod StepCases
 mod Worked
-pub mod Changed
-pub mod Stored
-mod Places
+pub mod StoredCells
+pub mod StoredValues
+mod LastStoredPlaces
 mod Constants
-mod Ends
+mod LoopEnds
 pub mod Steps
-pub mod Coded
-mod Taken
+pub mod AbsentUnits
+mod SegmentSteps
 mod Blank
-mod Finished
-pub mod Again
-mod Kept
+mod FinishedSegments
+pub mod RemadeSegments
+mod KeptSegments
 mod SegmentOfBatch
 mod Copies
-mod Ended
+mod StableEnds
 mod InPlace
-pub mod Onward
-pub mod Plain
-pub mod Reached
-pub mod Same
-mod Batched
-pub mod Unmade
+pub mod OperandRoom
+pub mod PrivateIsPlain
+pub mod TableMoves
+pub mod PrivateCodeSteps
+pub mod BatchSegments
+pub mod NonPrivateSteps

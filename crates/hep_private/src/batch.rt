@@ -1,7 +1,7 @@
-//! Private steps without a record of each.
+//! Batches: private steps without a record of each.
 ghost use Rattle.std.specs.Prelude.{◌≡◌, ◌≤◌, [], IfOk, length, nat_eq};
 ghost use Rattle.hep_code.specs.Words.{most_operands};
-ghost use Rattle.hep_private.specs.Records.{most_records};
+ghost use Rattle.hep_private.specs.RecordRoom.{most_records};
 ghost use Rattle.hep_private.specs.Batches.{batch_value};
 
 use crate::operands::Operands;
@@ -13,8 +13,9 @@ use hep_source::Value;
 use std::alloc::{AllocError, Global};
 use std::marker::Model;
 
-/// What a worker has made of a process that is out, without the core and without a record of each step. Contracts see which ticket it is made
-/// of, where the activation was and is, its operands and the cells of its frame then and now, and how many steps there are.
+/// Private steps of a process that is out, which a worker made without the core and without a record of each.
+/// Contracts see the ticket that it is made of, the activation's place, operands and cells at the start and at the
+/// end, and the number of steps.
 #[derive(Drop)]
 pub struct Batch {
     pub(crate) id: TicketId,
@@ -30,7 +31,7 @@ pub struct Batch {
 
 impl Model for Batch {
     ghost use Rattle.std.specs.Prelude.{◌≤◌};
-    ghost use Rattle.hep_private.specs.Records.{most_records};
+    ghost use Rattle.hep_private.specs.RecordRoom.{most_records};
     ghost use Rattle.hep_private.specs.Batches.{BatchValue, batch_value};
 
     ghost Value = { BatchValue };
@@ -41,7 +42,8 @@ impl Model for Batch {
 }
 
 impl Batch {
-    /// A batch without a step, in whose place others are made. It has room for all that they need.
+    /// A batch without steps, which is then overwritten with others. It has room for all cells and operands of a
+    /// batch.
     ///
     /// # Errors
     ///
@@ -68,14 +70,14 @@ impl Batch {
         })
     }
 
-    /// Which ticket it is made of.
+    /// The ticket that it is made of.
     pub fn ticket(&self) -> TicketId
         ensures { result ≡ self.now.id }
     {
         self.id
     }
 
-    /// It is of this ticket from now on, whose activation stands where it begins.
+    /// Gives the batch another ticket. The activation of that ticket has to be where the batch begins.
     pub fn give_ticket(&mut self, id: TicketId)
         ensures { self.new ≡ record self.old { id = id } }
     {
@@ -89,14 +91,14 @@ impl Batch {
         self.unit
     }
 
-    /// Where the activation was in the unit's code.
+    /// The activation's index in the unit's code at the start.
     pub fn index(&self) -> usize
         ensures { result ≡ self.now.index }
     {
         self.index
     }
 
-    /// The operands that it had there.
+    /// The activation's operands at the start.
     pub fn operands(&self) -> &[Value]
         ensures operands { result.now ≡ self.now.operands }
         ensures few { length result.now ≤ most_operands }
@@ -104,14 +106,14 @@ impl Batch {
         self.operands.as_slice()
     }
 
-    /// The cells of its frame then, from the first one on, as far as there were copies.
+    /// The cells of its frame at the start, from the first one on, as far as the ticket has copies.
     pub fn start(&self) -> &[Cell]
         ensures { result.now ≡ self.now.start }
     {
         &self.start
     }
 
-    /// How many steps it has.
+    /// The number of its steps, 1,023 at most.
     pub fn steps(&self) -> u32
         ensures steps { result ≡ self.now.steps }
         ensures few { result ≤ most_records }
@@ -119,28 +121,28 @@ impl Batch {
         self.steps
     }
 
-    /// It has as many steps as it may have.
+    /// The batch has 1,023 steps, as many as a batch may have.
     pub fn is_full(&self) -> bool
         ensures { result ≡ nat_eq self.now.steps most_records }
     {
         self.steps == MOST_RECORDS as u32
     }
 
-    /// Where the activation is then.
+    /// The activation's index in the unit's code at the end.
     pub fn end_index(&self) -> usize
         ensures { result ≡ self.now.end_index }
     {
         self.end_index
     }
 
-    /// The operands that it has there.
+    /// The activation's operands at the end.
     pub fn end_operands(&self) -> &[Value]
         ensures { result.now ≡ self.now.end_operands }
     {
         &self.end_operands
     }
 
-    /// The cells of its frame there, as many as there were.
+    /// The cells of its frame at the end, the same number as at the start.
     pub fn end(&self) -> &[Cell]
         ensures { result.now ≡ self.now.end }
     {

@@ -1,73 +1,59 @@
-//! Private steps, which use nothing but what an activation has for itself: tickets, segments with their records, and batches without.
+//! Private steps: steps that use nothing but the operands, the private scalars and the DOs of their activation
+//! (docs/MACHINE.md, "Private steps").
+//! A worker makes them without the core, from a ticket and the image alone.
 //!
-//! Private steps: those of an activation that use its operands, its private scalars and its DOs alone.
+//! - A [`Ticket`] is the right to commit private steps of one process. It has the place, the operands and copies of
+//!   the own cells.
+//! - A [`Segment`] is made of a ticket by [`compute`]: the private steps that come next, with a [`Record`] of each.
+//! - A [`Batch`] is a segment without records. [`make_batch`] makes it by the loop of the serial run (`hep_fast`),
+//!   which is faster. [`make_in_place`] runs that loop in the cells of the frame themselves.
 //!
-//! What such a step makes of them is said in `specs/`, and laws of it are the contracts of the functions in [`step_laws`]. A [`Record`] says what
-//! one of them was.
-//!
-//! What a private step reads: what was there before the first step, and what the steps before it have stored.
-//!
-//! Private steps, one after the other, each with its record.
-//!
-//! As many private steps as are asked for.
-//!
-//! Segments: what a worker makes of a process that is out, without the core.
-//!
-//! A [`Ticket`] has what the top activation of the process has for itself: its place, its operands, and copies of its private scalars and of
-//! the cells of its DOs. [`compute`] makes the private steps that come next from that and from the image alone, and
-//! records them.
-//!
-//! The tickets that are out: which processes have one, and which ticket is whose.
-//!
-//! Batches: private steps that a worker makes at once, by a table, without a record of each.
-//!
-//! A [`Batch`] is what a segment is, but for its records: the program and the start of its steps say what these are.
-//! [`make_batch`] makes one of a ticket, by the loop that the serial run has (`hep_fast`), over copies of the cells that the activation has
-//! for itself. [`make_in_place`] makes private steps by the same loop in the cells of a frame themselves.
+//! Begin with `specs/StepRecords.antt`, which says what a private step is, and with `src/segment.rt`. The laws are the
+//! contracts of the functions in [`step_laws`] and [`segment_laws`].
 #![tactic(auto)]
 
+mod activation_place;
 pub mod batch;
-mod comparing;
-pub mod copied;
+pub mod batch_maker;
+pub mod bounded_steps;
+pub mod cell_copy;
+mod frame_copies;
 pub mod in_place;
-mod looping;
-pub mod making;
-pub mod memory;
+pub mod last_stores;
+mod loops;
 pub mod operands;
-pub mod performing;
-mod place;
+pub mod operation_values;
+pub mod private_step;
 pub mod progress;
-pub mod recent;
 mod record;
+mod record_equality;
 pub mod records;
 mod segment;
 pub mod segment_laws;
 pub mod step_laws;
 pub mod table;
-pub mod taking;
 mod ticket;
 mod tickets;
-pub mod values;
-mod window;
+pub mod write_log;
 
+pub use activation_place::{ActivationPlace, is_kept, is_made, is_next_private, same_values};
 pub use batch::Batch;
-pub use copied::Copied;
+pub use batch_maker::{PrivateImage, make_batch, make_behind, segment_of};
+pub use bounded_steps::{take_steps, unit_of};
+pub use cell_copy::CellCopy;
 pub use hep_code::{Evaluation, Variable};
 pub use hep_step::{Cell, Image, UnitCode};
-pub use in_place::{InFrame, make_in_place};
-pub use making::{Ahead, make_batch, make_behind, segment_of};
-pub use memory::{Base, Memory};
+pub use in_place::{FrameActivation, make_in_place};
 pub use operands::{Operands, assign};
-pub use performing::{Deed, Here};
-pub use place::{Place, is_kept, is_made, is_next_private};
-pub use progress::{Progress, Source, advance, is_first_private};
+pub use operation_values::value_of;
+pub use private_step::{PrivateStep, StepContext};
+pub use progress::{StepProgress, StepSource, advance, is_first_private};
 pub use record::Record;
 pub use records::{MOST_RECORDS, Records};
 pub use segment::{Segment, compute, compute_from, compute_into};
 pub use segment_laws::segments_depend_on_reads;
 pub use step_laws::private_steps_depend_on_reads;
-pub use table::{PrivateTable, private_tables_of};
-pub use taking::{take_steps, unit_of};
+pub use table::{PrivateTable, loop_at, private_tables_of};
 pub use ticket::{Ticket, TicketId};
 pub use tickets::{come_back, has_ticket, is_out};
-pub use values::{operand, value_of};
+pub use write_log::{BaseValues, WriteLog};

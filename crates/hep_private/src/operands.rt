@@ -1,4 +1,4 @@
-//! Operands in a room of a fixed size.
+//! Operands in a buffer of a fixed size.
 ghost use Rattle.std.specs.Prelude.{◌≡◌, ◌≤◌, ◌++◌, ◌∷◌, [], length, nat_lt, take, if◌then◌else◌};
 ghost use Rattle.hep_code.specs.Words.{most_operands};
 
@@ -7,7 +7,7 @@ use std::marker::Model;
 
 pub const MOST_OPERANDS: usize = 256;
 
-/// As many operands as an activation has at most. Contracts see the list of them.
+/// The operands of an activation, 256 at most. Contracts see the list of them.
 #[derive(Drop)]
 pub struct Operands {
     values: [Value; MOST_OPERANDS],
@@ -45,7 +45,7 @@ impl Operands {
         &self.values[..self.count]
     }
 
-    /// Puts a value behind them, if there is room for it.
+    /// Pushes a value, if there is room for it, and returns whether there was.
     #[inline(always)]
     pub fn push(&mut self, value: Value) -> bool
         ensures room { result ≡ nat_lt (length self.old) most_operands }
@@ -59,7 +59,8 @@ impl Operands {
         true
     }
 
-    /// Puts a value in the place of all but so many of them, the first ones, if there is room for it.
+    /// Keeps the first `kept` operands and pushes a value after them, if there is room for it. Returns whether there
+    /// was.
     #[inline(always)]
     pub fn replace(&mut self, kept: usize, value: Value) -> bool
         ensures room { result ≡ nat_lt (length (take kept self.old)) most_operands }
@@ -74,7 +75,7 @@ impl Operands {
         true
     }
 
-    /// Keeps so many of them at most, the first ones.
+    /// Keeps the first `count` operands, or all where there are fewer.
     #[inline(always)]
     pub fn truncate(&mut self, count: usize)
         ensures { self.new ≡ take count self.old }
@@ -85,7 +86,7 @@ impl Operands {
     }
 }
 
-/// Puts these values in the place of all operands.
+/// Replaces all operands by these values.
 pub fn assign(operands: &mut Operands, values: &[Value])
     requires { length values.now ≤ most_operands }
     ensures { operands.new ≡ values.now }

@@ -1,38 +1,39 @@
-//! Private steps, one after the other.
+//! Private steps, one after another.
 ghost use Rattle.std.specs.Prelude.{◌≡◌, ◌<◌, ◌≤◌, [], drop, length, nat_le, IfSome, None};
 ghost use Rattle.std.specs.Option.{is_some};
 ghost use Rattle.hep_code.specs.Words.{most_operands};
-ghost use Rattle.hep_private.specs.Recorded.{next_made};
-ghost use Rattle.hep_private.specs.Bases.{values_of};
+ghost use Rattle.hep_private.specs.StepRecords.{next_made};
+ghost use Rattle.hep_private.specs.BaseValues.{values_of};
 ghost use Rattle.hep_private.specs.Stores.{records_among};
-ghost use Rattle.hep_private.specs.Deeds.{HasSettled, constant_ahead, operands_left};
-ghost use Rattle.hep_private.specs.Progress.{HasAdvanced, HasFound, HasMade, own_behind, own_of};
-ghost use Rattle.hep_private.specs.Records.{most_records};
+ghost use Rattle.hep_private.specs.PrivateSteps.{HasSettled, constant_ahead, operands_left};
+ghost use Rattle.hep_private.specs.StepProgress.{HasAdvanced, HasFound, HasMade, own_behind, own_of};
+ghost use Rattle.hep_private.specs.RecordRoom.{most_records};
 
-use crate::memory::{Base, Memory};
 use crate::operands::{MOST_OPERANDS, Operands, assign};
-use crate::performing::{Deed, Here, deed_ahead};
+use crate::private_step::{PrivateStep, StepContext, deed_ahead};
 use crate::records::Records;
+use crate::write_log::{BaseValues, WriteLog};
 use hep_code::Instruction;
 use hep_source::Value;
 
-/// The steps that were made so far, and where the activation is, with its operands.
+/// The records of the steps made so far, and the activation's operands and index now.
 #[derive(Drop)]
-pub struct Progress {
+pub struct StepProgress {
     pub records: Records,
     pub operands: Operands,
     pub index: usize,
 }
 
-/// What the steps are made of: the code of a unit, the cells of its private scalars, and what is in the frame before the first step.
+/// What the steps are made from: the code of a unit, the cells of its private scalars, and the values in the frame
+/// before the first step.
 #[derive(Clone, Copy)]
-pub struct Source<'a> {
+pub struct StepSource<'a> {
     pub code: &'a [Instruction],
     pub private: &'a [u32],
-    pub base: Base<'a>,
+    pub base: BaseValues<'a>,
 }
 
-// The constant at an index of the code, if one stands there.
+// The constant at an index of the code, if the instruction there pushes one.
 #[inline(always)]
 fn constant_at(code: &[Instruction], index: usize) -> Option<Value>
     ensures value { result ≡ constant_ahead (drop index code.now) }
@@ -44,7 +45,8 @@ fn constant_at(code: &[Instruction], index: usize) -> Option<Value>
     }
 }
 
-// Puts the constants that stand ahead behind the operands, and says where the operation is; none where they have no room.
+// Pushes the leading constants, and returns the index of the operation after them. `None` where the operands have no
+// room.
 #[inline(always)]
 fn settle(code: &[Instruction], operands: &mut Operands, index: usize) -> Option<usize>
     ensures { HasSettled code.now operands.old index result operands.new }
@@ -59,25 +61,25 @@ fn settle(code: &[Instruction], operands: &mut Operands, index: usize) -> Option
     Some(at)
 }
 
-// The next step behind those with these records, if it is private. The constants that stand ahead are operands then.
+// The step after those with these records, if it is private. The leading constants are pushed first.
 #[inline(always)]
 fn deed_behind(
-    source: &Source<'_>,
+    source: &StepSource<'_>,
     records: Option<&Records>,
     operands: &mut Operands,
     index: usize,
-) -> Option<Deed>
+) -> Option<PrivateStep>
     ensures { HasFound source.now.private.now source.now.code.now (own_behind (values_of source.now.base) (records_among records.entry) operands.old index)
         result operands.new }
 {
     match settle(source.code, operands, index) {
         Some(index) => {
-            let memory = Memory {
+            let memory = WriteLog {
                 private: source.private,
                 base: source.base,
                 records,
             };
-            let here = Here {
+            let here = StepContext {
                 memory,
                 operands: operands.as_slice(),
                 index,
@@ -90,7 +92,7 @@ fn deed_behind(
 
 // The next step of a segment, if it is private.
 #[inline(always)]
-fn next_deed(source: &Source<'_>, progress: &mut Progress) -> Option<Deed>
+fn next_deed(source: &StepSource<'_>, progress: &mut StepProgress) -> Option<PrivateStep>
     ensures found { HasFound source.now.private.now source.now.code.now (own_of (values_of source.now.base) progress.old)
         result progress.new.operands }
     ensures records { progress.new.records ≡ progress.old.records }
@@ -104,8 +106,8 @@ fn next_deed(source: &Source<'_>, progress: &mut Progress) -> Option<Deed>
     )
 }
 
-// What a step gives has room behind the operands that it leaves.
-fn has_room(operands: &[Value], deed: Deed) -> bool
+// Whether the operands have room for the value that a step pushes.
+fn has_room(operands: &[Value], deed: PrivateStep) -> bool
     ensures { result ≡ nat_le (length (operands_left operands.now deed.given)) most_operands }
 {
     match deed.given {
@@ -114,20 +116,20 @@ fn has_room(operands: &[Value], deed: Deed) -> bool
     }
 }
 
-// What the operation at an index makes, behind no step, if it is private.
+// The operation at an index as the first step, if it is private.
 #[inline(always)]
-fn deed_at(source: &Source<'_>, operands: &[Value], index: usize) -> Option<Deed>
+fn deed_at(source: &StepSource<'_>, operands: &[Value], index: usize) -> Option<PrivateStep>
     requires few { length operands.now ≤ most_operands }
     requires none { constant_ahead (drop index source.now.code.now) ≡ None }
     ensures { HasFound source.now.private.now source.now.code.now (own_behind (values_of source.now.base) [] operands.now index)
         result operands.now }
 {
-    let memory = Memory {
+    let memory = WriteLog {
         private: source.private,
         base: source.base,
         records: None,
     };
-    let here = Here {
+    let here = StepContext {
         memory,
         operands,
         index,
@@ -135,10 +137,10 @@ fn deed_at(source: &Source<'_>, operands: &[Value], index: usize) -> Option<Deed
     deed_ahead(&here, source.code)
 }
 
-// The first step is private, by its operands and the constants that stand ahead.
+// Whether the first step is private, where the code begins with constants.
 #[cold]
 #[inline(never)]
-fn is_behind_constants(source: &Source<'_>, operands: &[Value], index: usize) -> bool
+fn is_behind_constants(source: &StepSource<'_>, operands: &[Value], index: usize) -> bool
     requires { length operands.now ≤ most_operands }
     ensures { result ≡ is_some (next_made source.now.private.now source.now.code.now (own_behind (values_of source.now.base) [] operands.now index)) }
 {
@@ -150,12 +152,12 @@ fn is_behind_constants(source: &Source<'_>, operands: &[Value], index: usize) ->
     }
 }
 
-/// The first step is private, with these operands.
-pub fn is_first_private(source: &Source<'_>, operands: &[Value], index: usize) -> bool
+/// Whether the first step is private, with these operands.
+pub fn is_first_private(source: &StepSource<'_>, operands: &[Value], index: usize) -> bool
     requires { length operands.now ≤ most_operands }
     ensures { result ≡ is_some (next_made source.now.private.now source.now.code.now (own_behind (values_of source.now.base) [] operands.now index)) }
 {
-    // Where an operation stands ahead, the operands needn't be copied.
+    // Where the code begins with an operation, the operands needn't be copied.
     if constant_at(source.code, index).is_some() {
         return is_behind_constants(source, operands, index);
     }
@@ -165,9 +167,9 @@ pub fn is_first_private(source: &Source<'_>, operands: &[Value], index: usize) -
     }
 }
 
-// Makes a step, if its operands have room, and says whether they have. Else so many of the operands stay, the first ones.
+// Makes a step if its operands have room, and returns whether they have. If not, the first `kept` operands stay.
 #[inline(always)]
-fn make(deed: Deed, kept: usize, progress: &mut Progress) -> bool
+fn make(deed: PrivateStep, kept: usize, progress: &mut StepProgress) -> bool
     requires { length progress.old.records < most_records }
     ensures { HasMade deed kept progress.old result progress.new }
 {
@@ -187,9 +189,9 @@ fn make(deed: Deed, kept: usize, progress: &mut Progress) -> bool
     made
 }
 
-/// Makes the next step, if it is private, and says whether it did. Else nothing changes.
+/// Makes the next step if it is private, and returns whether it is. If not, nothing changes.
 #[inline(always)]
-pub fn advance(source: &Source<'_>, progress: &mut Progress) -> bool
+pub fn advance(source: &StepSource<'_>, progress: &mut StepProgress) -> bool
     requires { length progress.old.records < most_records }
     ensures { HasAdvanced (next_made source.now.private.now source.now.code.now (own_of (values_of source.now.base) progress.old))
         progress.old result progress.new }

@@ -1,22 +1,23 @@
-//! What a private step was.
+//! The records of private steps.
 
 use hep_source::Value;
 
 /// A private step: the index of its operation in the code of its unit, and what it read and wrote.
 ///
-/// Cells are counted from the first one of the frame. What is *first* was read in a cell in which no step before it had stored.
+/// Cells are counted from the first one of the frame. A `first` flag is true where no earlier step of the segment had
+/// stored in the cell that was read.
 #[derive(Clone, Copy, Debug, PartialEq, Eq)]
 pub enum Record {
-    /// Only the place is another one.
+    /// The step read and wrote nothing. It only moved the activation.
     Goes {
         at: usize,
     },
-    /// An operator or a function of integers gave a value, which is an operand.
+    /// An operator or a function of integers gave a value, which was pushed.
     Gives {
         at: usize,
         value: Value,
     },
-    /// A private scalar was read. Its value is an operand.
+    /// A private scalar was read, and its value pushed.
     Reads {
         first: bool,
         cell: u32,
@@ -29,7 +30,7 @@ pub enum Record {
         at: usize,
         value: Value,
     },
-    /// A DO was entered: its variable has the initial value, and its two cells the iteration count and the increment.
+    /// A DO was entered: its variable got the initial value, and its two cells the iteration count and the increment.
     Enters {
         variable: u32,
         cells: u32,
@@ -38,7 +39,8 @@ pub enum Record {
         count: i64,
         increment: i64,
     },
-    /// An iteration of a DO ended: its variable was raised by the increment, and of so many iterations one less is left.
+    /// An iteration of a DO ended: its variable was raised by the increment, and the number of iterations left was
+    /// lowered by one.
     Ends {
         first_variable: bool,
         first_count: bool,

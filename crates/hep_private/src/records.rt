@@ -1,15 +1,15 @@
-//! Records in a room of a fixed size.
+//! Records in a buffer of a fixed size.
 ghost use Rattle.std.specs.Prelude.{◌≡◌, ◌≤◌, ◌<◌, ◌++◌, ◌∷◌, [], length};
-ghost use Rattle.hep_private.specs.Records.{most_records};
-ghost use Rattle.hep_private.specs.Stored.{stored_in};
+ghost use Rattle.hep_private.specs.RecordRoom.{most_records};
+ghost use Rattle.hep_private.specs.StoredValues.{stored_in};
 
-use crate::memory::stored;
-use crate::recent::{Recent, nothing, put_stores, recent_at};
+use crate::last_stores::{LastStores, nothing, put_stores, recent_at};
 use crate::record::Record;
+use crate::write_log::stored;
 use hep_source::Value;
 use std::marker::Model;
 
-/// How many private steps a segment has at most.
+/// The greatest number of private steps of a segment.
 pub const MOST_RECORDS: usize = 1023;
 
 /// The records of the steps of a segment, in order. Contracts see the list of them.
@@ -17,14 +17,14 @@ pub const MOST_RECORDS: usize = 1023;
 pub struct Records {
     items: [Record; MOST_RECORDS],
     count: usize,
-    recent: Recent,
+    recent: LastStores,
 }
 
 impl Model for Records {
     ghost use Rattle.std.specs.Prelude.{◌≤◌, List, take};
     ghost use Rattle.hep_private.specs.declared.record.Record.{Record as ARecord};
-    ghost use Rattle.hep_private.specs.Recent.{IsRecent};
-    ghost use Rattle.hep_private.specs.Records.{most_records};
+    ghost use Rattle.hep_private.specs.LastStores.{IsRecent};
+    ghost use Rattle.hep_private.specs.RecordRoom.{most_records};
 
     ghost Value = { List ARecord };
 
@@ -53,7 +53,7 @@ impl Records {
         &self.items[..self.count]
     }
 
-    /// How many they are.
+    /// The number of records.
     #[inline(always)]
     pub fn len(&self) -> usize
         ensures { result ≡ length self.now }
@@ -61,7 +61,7 @@ impl Records {
         self.as_slice().len()
     }
 
-    /// What the last one of these steps that stored in a cell has stored there.
+    /// The value that the steps stored last in a cell, if one of them stored there.
     #[inline(always)]
     pub fn stored(&self, cell: usize) -> Option<Value>
         ensures { result ≡ stored_in self.now cell }
@@ -78,7 +78,7 @@ impl Records {
         }
     }
 
-    /// Puts a record behind them.
+    /// Appends a record.
     #[inline(always)]
     pub fn push(&mut self, note: Record)
         requires { length self.old < most_records }

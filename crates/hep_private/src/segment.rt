@@ -1,31 +1,31 @@
-//! Segments.
+//! Segments: private steps with a record of each.
 ghost use Rattle.std.specs.Prelude.{◌≡◌, ◌≤◌, [], length};
 ghost use Rattle.hep_code.specs.Words.{most_operands};
-ghost use Rattle.hep_private.specs.Places.{start_at};
+ghost use Rattle.hep_private.specs.ActivationPlaces.{start_at};
 ghost use Rattle.hep_private.specs.Segments.{IsComputed, IsComputedFrom, IsSegment};
-ghost use Rattle.hep_private.specs.Records.{most_records};
+ghost use Rattle.hep_private.specs.RecordRoom.{most_records};
 
-use crate::memory::Base;
+use crate::activation_place::ActivationPlace;
+use crate::bounded_steps::take_steps;
 use crate::operands::{Operands, assign};
-use crate::place::Place;
-use crate::progress::Progress;
+use crate::progress::StepProgress;
 use crate::record::Record;
 use crate::records::{MOST_RECORDS, Records};
-use crate::taking::take_steps;
 use crate::ticket::{Ticket, TicketId};
+use crate::write_log::BaseValues;
 use hep_source::Value;
 use hep_step::Image;
 use std::marker::Model;
 
-/// What a worker has made of a process that is out, without the core: private steps, each with its record. Contracts see which ticket it is
-/// made of, where the activation was and is, its operands then and now, and the records.
+/// Private steps of a process that is out, which a worker made without the core, each with its record. Contracts see
+/// the ticket that it is made of, the activation's place and operands at the start and at the end, and the records.
 #[derive(Drop)]
 pub struct Segment {
     id: TicketId,
     unit: u32,
     index: usize,
     operands: Operands,
-    progress: Progress,
+    progress: StepProgress,
 }
 
 impl Model for Segment {
@@ -39,7 +39,7 @@ impl Model for Segment {
 }
 
 impl Segment {
-    /// A segment without a step, in which others can be made.
+    /// A segment without steps, which is then overwritten with others.
     pub fn new() -> Segment
         ensures { result.records ≡ [] }
     {
@@ -51,7 +51,7 @@ impl Segment {
             unit: 0,
             index: 0,
             operands: Operands::new(),
-            progress: Progress {
+            progress: StepProgress {
                 records: Records::new(),
                 operands: Operands::new(),
                 index: 0,
@@ -59,14 +59,15 @@ impl Segment {
         }
     }
 
-    /// Its records are those of private steps from its start to its end, and not too many.
+    /// States a fact about every segment: its records are those of private steps from its start to its end, 1,023 at
+    /// most.
     pub fn is_made(&self)
         ensures { IsSegment self.now }
     {
         let _ = &self.progress;
     }
 
-    /// Which ticket it is made of.
+    /// The ticket that it is made of.
     pub fn ticket(&self) -> TicketId
         ensures { result ≡ self.now.id }
     {
@@ -80,14 +81,14 @@ impl Segment {
         self.unit
     }
 
-    /// Where the activation was in the unit's code.
+    /// The activation's index in the unit's code at the start.
     pub fn index(&self) -> usize
         ensures { result ≡ self.now.index }
     {
         self.index
     }
 
-    /// The operands that it had there.
+    /// The activation's operands at the start.
     pub fn operands(&self) -> &[Value]
         ensures operands { result.now ≡ self.now.operands }
         ensures few { length result.now ≤ most_operands }
@@ -103,14 +104,14 @@ impl Segment {
         self.progress.records.as_slice()
     }
 
-    /// Where the activation is then.
+    /// The activation's index in the unit's code at the end.
     pub fn end_index(&self) -> usize
         ensures { result ≡ self.now.end_index }
     {
         self.progress.index
     }
 
-    /// The operands that it has there.
+    /// The activation's operands at the end.
     pub fn end_operands(&self) -> &[Value]
         ensures operands { result.now ≡ self.now.end_operands }
         ensures few { length result.now ≤ most_operands }
@@ -119,9 +120,10 @@ impl Segment {
     }
 }
 
-/// Makes the segment of a ticket in the place of another one, by an image. This needs no core and takes no memory.
+/// Makes the segment of a ticket, by an image, and overwrites an older segment with it. This needs no core and takes
+/// no memory.
 ///
-/// It makes the private steps that come next, until the next one isn't private or there are 1,023.
+/// It makes private steps until the next one isn't private or there are 1,023.
 pub fn compute_into(image: &Image, ticket: &Ticket, segment: &mut Segment)
     ensures { IsComputed image.now ticket.now segment.new }
 {
@@ -135,13 +137,13 @@ pub fn compute_into(image: &Image, ticket: &Ticket, segment: &mut Segment)
     take_steps(
         image,
         ticket.unit(),
-        Base::Copies(ticket.copies()),
+        BaseValues::Copies(ticket.copies()),
         MOST_RECORDS,
         &mut segment.progress,
     );
 }
 
-/// The segment of a ticket, by an image, as [`compute_into`] makes it.
+/// Makes the segment of a ticket, by an image, as [`compute_into`] does.
 pub fn compute(image: &Image, ticket: &Ticket) -> Segment
     ensures { IsComputed image.now ticket.now result }
 {
@@ -150,14 +152,15 @@ pub fn compute(image: &Image, ticket: &Ticket) -> Segment
     segment
 }
 
-/// Makes the segment of a ticket in the place of another one, by an image, from where an activation is: so many of the private steps that come
-/// next there at most, and fewer only where the next one isn't private. This needs no core and takes no memory.
+/// Makes a segment of a ticket from a place of its activation, by an image, and overwrites an older segment with it.
+/// It makes at most `most` of the private steps that come next there, and fewer only where the next one isn't
+/// private. This needs no core and takes no memory.
 #[cold]
 #[inline(never)]
 pub fn compute_from(
     image: &Image,
     id: TicketId,
-    place: &Place<'_>,
+    place: &ActivationPlace<'_>,
     most: usize,
     segment: &mut Segment,
 )

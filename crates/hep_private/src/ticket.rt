@@ -3,28 +3,29 @@ ghost use Rattle.std.specs.Prelude.{◌≡◌, ◌≤◌, [], length};
 ghost use Rattle.hep_code.specs.Words.{most_operands};
 ghost use Rattle.hep_private.specs.Segments.{ticket_value};
 
-use crate::copied::Copied;
+use crate::cell_copy::CellCopy;
 use hep_source::Value;
 use std::alloc::Global;
 use std::marker::Model;
 
-/// Which ticket it is.
+/// The identity of a ticket.
 #[derive(Clone, Copy, Debug, PartialEq, Eq)]
 pub struct TicketId {
-    /// Tickets of a core are numbered from 1 in the order in which they are given; no number comes twice.
+    /// The number of the ticket. A core numbers its tickets from 1 in the order in which it gives them, and uses no
+    /// number twice.
     pub number: u64,
-    /// The process that is out by it.
+    /// The process that is out with it.
     pub process: u64,
 }
 
-/// The right to commit a segment of a process, with what the segment is made of. Contracts see all of it.
+/// The right to commit a segment of a process, with all that the segment is made from. Contracts see all of it.
 #[derive(Drop)]
 pub struct Ticket {
     id: TicketId,
     unit: u32,
     index: usize,
     operands: Vec<Value>,
-    copies: Vec<Copied>,
+    copies: Vec<CellCopy>,
 }
 
 impl Model for Ticket {
@@ -40,14 +41,15 @@ impl Model for Ticket {
 }
 
 impl Ticket {
-    /// A ticket of a process whose top activation is of this unit, counted from 0 in the order of the source, is at this index of its code,
-    /// has these operands, and has these values in its cells; in those of which there is no copy it has none.
+    /// A ticket of a process, whose top activation is of unit `unit`, counted from 0 in the order of the source, at
+    /// `index` of its code. The activation has these operands and these values in its cells. A cell without a copy
+    /// has no value.
     pub fn new(
         id: TicketId,
         unit: u32,
         index: usize,
         operands: Vec<Value>,
-        copies: Vec<Copied>,
+        copies: Vec<CellCopy>,
     ) -> Ticket
         requires { length operands.items ≤ most_operands }
         ensures { result ≡ ticket_value id unit index operands.items copies.items }
@@ -61,7 +63,7 @@ impl Ticket {
         }
     }
 
-    /// A ticket of no process, whose room another one can have. This takes no memory.
+    /// A ticket of no process, whose buffers another one can take over. This takes no memory.
     pub fn blank(alloc: Global) -> Ticket
         ensures { result ≡ ticket_value (record { number = 0; process = 0 }) 0 0 [] [] }
     {
@@ -77,8 +79,8 @@ impl Ticket {
         }
     }
 
-    /// The operands and the copies, whose room another ticket can have.
-    pub fn into_parts(self) -> (Vec<Value>, Vec<Copied>)
+    /// The buffers of operands and of copies, which another ticket can take over.
+    pub fn into_parts(self) -> (Vec<Value>, Vec<CellCopy>)
         ensures operands { result.0.items ≡ self.operands }
         ensures copies { result.1.items ≡ self.copies }
     {
@@ -92,7 +94,7 @@ impl Ticket {
         (operands, copies)
     }
 
-    /// Which ticket it is.
+    /// The identity of the ticket.
     pub fn id(&self) -> TicketId
         ensures { result ≡ self.now.id }
     {
@@ -121,8 +123,8 @@ impl Ticket {
         &self.operands
     }
 
-    /// The copies of its cells. Of two copies of one cell the first one counts.
-    pub fn copies(&self) -> &[Copied]
+    /// The copies of its cells. Where a cell has two copies, the first one counts.
+    pub fn copies(&self) -> &[CellCopy]
         ensures { result.now ≡ self.now.copies }
     {
         &self.copies

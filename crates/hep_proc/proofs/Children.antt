@@ -3,7 +3,7 @@ use Rattle.std.proofs.Common.{ℕ, zero, suc, ◌+◌, ◌<◌, ◌≤◌, ◌^�
 use Rattle.hep_machine.specs.Words.{parent_of}
 use Rattle.hep_arena.specs.Space.{Space}
 use Rattle.hep_layout.specs.Words.{count_up_to, is_just, Nodes}
-use Rattle.hep_proc.specs.Keeping.{FramesOf, Keeps}
+use Rattle.hep_proc.specs.FrameTable.{FramesOf, Keeps}
 use Rattle.hep_proc.specs.Nodes.{CanCount}
 
 few-counted : (test : ℕ → Bool) (n : ℕ) → count_up_to test n ≤ n

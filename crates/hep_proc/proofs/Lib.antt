@@ -1,9 +1,9 @@
 pub mod Slabs
-pub mod Begun
+pub mod BegunActivations
 mod Opened
 mod Openings
-mod Giving
-pub mod Several
-pub mod Stays
+mod ReturnedFrames
+pub mod SeveralFrames
+pub mod UnchangedFrames
 mod Children
 pub mod Levels

@@ -14,7 +14,7 @@ use Rattle.hep_layout.proofs.Descriptors.{described-entered}
 use Rattle.hep_layout.proofs.HeldFrames.{opening-is}
 use Rattle.hep_layout.proofs.Memory.{memory-entered, memory-fits}
 use Rattle.hep_layout.proofs.Resting.{rest-same}
-use Rattle.hep_proc.specs.Keeping.{frames_in, IsOpening, IsTaken, IsUnused, Keeps}
+use Rattle.hep_proc.specs.FrameTable.{frames_in, IsOpening, IsTaken, IsUnused, Keeps}
 use Rattle.hep_source.proofs.Tests.{numbers-turned}
 use Rattle.hep_layout.specs.Words.{FrameNode}
 

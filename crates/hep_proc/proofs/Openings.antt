@@ -4,7 +4,7 @@ use Rattle.std.proofs.lemmas.Option.{same_Some, none-some}
 use Rattle.hep_machine.specs.Words.{Name, index_among, Units, dummies_of, main_unit, unit_at, unset_cell, Layout, opening, activation_of, unit_of, run, run_from, Activation, Dummy, Process, State, entry_level}
 use Rattle.hep_machine.specs.declared.slot.Slot.{Slot}
 use Rattle.hep_layout.specs.Words.{level_of, slot_by_dummy, slot_of_bounds, slot_of_dummy, slot_on_level, descriptor_slots, FramePart, argument, bounds, header, iteration, variable}
-use Rattle.hep_proc.specs.Keeping.{IsOpening}
+use Rattle.hep_proc.specs.FrameTable.{IsOpening}
 
 opening-unit : (program : Units) → unit_of (run program []) 1 ≡ main_unit program
 unfolding run run_from opening

@@ -1,5 +1,5 @@
 pub mod Nodes
-pub mod Keeping
-pub mod Placing
+pub mod FrameTable
+pub mod FrameEntry
 pub mod Stacks
-pub mod Leaving
+pub mod StackExit

@@ -1,4 +1,4 @@
--- The nodes of the frames that are out, as the definitions have them: docs/MACHINE.md, "Layout".
+-- The nodes of the frames in the arena, in the terms of the definitions: docs/MACHINE.md, "Layout".
 use Rattle.std.specs.Prelude.{◌≡◌, ℕ, ◌≤◌, ◌+◌, ◌<◌, ◌^◌, false, nat_eq, if◌then◌else◌, Some}
 use Rattle.std.specs.Option.{option_map}
 use Rattle.slab.specs.Slab.{Slab, get}
@@ -13,11 +13,11 @@ nodes_of slab key = option_map shown (get slab key)
 
 -- ---- children
 
--- the node under a key, if any, has one child less that is out
+-- the node under a key, if there is one, has one child less
 abbrev pub with_fewer : Nodes → ℕ → Nodes
 with_fewer nodes key k = if nat_eq k key then option_map with_one_less (nodes k) else nodes k
 
--- it has one more
+-- it has one child more
 abbrev pub with_more : Nodes → ℕ → Nodes
 with_more nodes key k = if nat_eq k key then option_map with_one_more (nodes k) else nodes k
 
@@ -25,7 +25,7 @@ with_more nodes key k = if nat_eq k key then option_map with_one_more (nodes k) 
 abbrev pub HasChildren : Nodes → ℕ → Type 0
 HasChildren nodes key = (n : FrameNode) → nodes key ≡ Some n → 1 ≤ n.children
 
--- one more can be counted
+-- one more child can be counted
 abbrev pub CanCount : Nodes → ℕ → Type 0
 CanCount nodes key = (n : FrameNode) → nodes key ≡ Some n → n.children + 1 < 2 ^ 64
 

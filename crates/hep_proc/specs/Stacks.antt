@@ -1,4 +1,5 @@
--- A process: its stack, and what is done to it by its parts: the top level, those below it, the operands of the top one and of those below.
+-- A process and its changes, by parts: the top level, the levels below it, the operands of the top level, and those
+-- of all others.
 use Rattle.std.specs.Prelude.{◌≡◌, ◌+◌, ◌-◌, ◌≤◌, ◌&&◌, ◌==◌, ℕ, Bool, List, [], ◌∷◌, ◌++◌, drop, length, map, not, reverse, take, vec_capacity, vec_len}
 use Rattle.hep_machine.specs.Words.{Value}
 use Rattle.hep_proc.specs.declared.process.Local.{Local}
@@ -13,7 +14,7 @@ pub record Stack : Type 0 where
 abbrev pub stack_of : Process → Stack
 stack_of q = record { levels = reverse q.levels.items; operands = q.operands.items; pending = q.pending.items }
 
--- that of a process of which nothing is left
+-- the stack of a process that has nothing left
 abbrev pub no_stack : Stack
 no_stack = record { levels = []; operands = []; pending = [] }
 
@@ -35,7 +36,8 @@ pub record IsSameProcess (old new : Process) : Type 0 where
 
 -- ---- the top level
 
--- this is so of its top level, those below it, the operands of the top one and those of all others, if it has a top level
+-- a statement holds of its top level, the levels below it, the operands of the top level and those of all others, if
+-- it has a top level
 abbrev pub HoldsOfTop : Process → (Local → List Local → List Value → List Value → Type 0) → Type 0
 HoldsOfTop q IsSo =
     (l : Local) (ls : List Local) (operands pending : List Value) → stack_of q ≡ stack_with l ls operands pending
@@ -45,7 +47,7 @@ HoldsOfTop q IsSo =
 abbrev pub HasTop : Process → Local → Type 0
 HasTop q top = HoldsOfTop q (λ l _ _ _. top ≡ l)
 
--- ---- what changes it
+-- ---- its changes
 
 -- it is at another index
 abbrev pub StandsAt : Process → ℕ → Process → Type 0
@@ -61,18 +63,19 @@ GoesOnAt old index new =
 abbrev pub PutsTop : Process → Local → Process → Type 0
 PutsTop old level new = HoldsOfTop old (λ _ ls operands pending. stack_of new ≡ stack_with level ls operands pending)
 
--- a level is above it; it keeps its first operands, so many, and is to go on at an index
+-- a level is put above it; it keeps its first operands and goes on at an index
 abbrev pub PutsAbove : Process → ℕ → ℕ → Local → Process → Type 0
 PutsAbove old kept index level new =
     HoldsOfTop old (λ l ls operands pending.
     stack_of new ≡ stack_with level (record l { kept = kept; index = index } ∷ ls) [] (pending ++ take kept operands))
 
--- it is taken off
+-- its top level is taken off
 abbrev pub EndsTop : Process → Process → Type 0
 EndsTop old new =
     HoldsOfTop old (λ _ ls _ pending. stack_of new ≡ record { levels = ls; operands = []; pending = pending })
 
--- of these levels the top one has its operands back, with a value behind them, and the others have what is pending then
+-- after a function has ended the top one of these levels has its operands back, with the value after them, and the
+-- others have the rest of the pending operands
 abbrev pub operands_answered : List Value → List Local → Value → List Value
 operands_answered pending [] v = []
 operands_answered pending (l ∷ ls) v = drop (length pending - l.kept) pending ++ v ∷ []
@@ -81,11 +84,11 @@ abbrev pub pending_answered : List Value → List Local → List Value
 pending_answered pending [] = pending
 pending_answered pending (l ∷ ls) = take (length pending - l.kept) pending
 
--- there is room for the operands that it keeps and a value more
+-- there is room for the operands that it keeps, and one more value
 abbrev pub HasRoomForValue : Process → Type 0
 HasRoomForValue q = HoldsOfTop q (λ l _ _ _. l.kept + 1 ≤ vec_capacity q.operands)
 
--- it has the operands back that it keeps, and a value behind them
+-- it has its operands back, and the value after them
 abbrev pub TakesValue : Process → Value → Process → Type 0
 TakesValue old value new =
     (ls : List Local) (pending : List Value) → stack_of old ≡ record { levels = ls; operands = []; pending = pending }

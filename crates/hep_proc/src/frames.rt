@@ -11,9 +11,9 @@ ghost use Rattle.hep_arena.specs.Holes.{IsOut, first_fit, free_cells};
 ghost use Rattle.hep_layout.specs.Words.{address, frame_address, DescriptorSlots, is_descriptor, FramePart, FrameNode};
 ghost use Rattle.hep_layout.specs.Words.{but, first_nodes, is_stacked, new_node, with_node, without_node};
 ghost use Rattle.hep_proc.specs.Nodes.{nodes_of};
-ghost use Rattle.hep_proc.specs.Keeping.{AreOfSomeState, CanAllLeave, CanLeave, HasLeft, IsBegun, IsEnded, IsOpening, IsTaken, IsUnused};
-ghost use Rattle.hep_proc.specs.Placing.{CanEnter, CanGoBack, HasPlaceFor, IsCellOut, IsGivenBack};
-ghost use Rattle.hep_proc.specs.Keeping.{FramesOf, Keeps, LeadUpwards, all_but, as_wanted, frames_begun, frames_in};
+ghost use Rattle.hep_proc.specs.FrameTable.{AreOfSomeState, CanAllLeave, CanLeave, HasLeft, IsBegun, IsEnded, IsOpening, IsTaken, IsUnused};
+ghost use Rattle.hep_proc.specs.FrameEntry.{CanEnter, CanGoBack, HasPlaceFor, IsCellOut, IsGivenBack};
+ghost use Rattle.hep_proc.specs.FrameTable.{FramesOf, Keeps, LeadUpwards, all_but, as_wanted, frames_begun, frames_in};
 
 use crate::nodes::{self, Node};
 use hep_arena::Arena;
@@ -21,29 +21,29 @@ use hep_machine::Slot;
 use slab::Slab;
 use std::alloc::{AllocError, Global};
 
-/// An activation whose frame enters: its number, the index of the unit that it runs, how many cells its frame has, and the key of its
-/// parent's node.
+/// An activation whose frame enters the arena: its number, the index of its unit, the number of cells of its frame,
+/// and the key of its parent's node.
 #[derive(Clone, Copy)]
-pub struct Entrant {
+pub struct NewFrame {
     pub activation: u64,
     pub unit: u32,
     pub cells: u32,
     pub parent: usize,
 }
 
-/// The arena, and a node for each frame that is out, under a key of its own.
+/// The arena, and a node for each frame in it, under a key of its own.
 #[derive(Drop)]
 pub struct Frames {
     nodes: Slab<Node>,
-    /// The cells. No call of it takes or gives back cells but those of the frames.
+    /// The cells. Frames are entered and given back by calls of this type alone.
     pub arena: Arena,
 }
 
 impl Frames {
-    /// An arena of so many cells, of which the first ones are COMMON's. They are out and unset, and no frame
-    /// is out.
+    /// An arena of `cells` cells, of which the first `common` are COMMON's. These are taken and have no value, and
+    /// there is no frame.
     ///
-    /// There is one cell at least, and no more than 16,777,216. Fails where memory was refused.
+    /// `cells` is 1 to 16,777,216. Fails where memory was refused.
     pub fn new(alloc: Global, cells: u32, common: u32) -> Result<Frames, AllocError>
         requires some { 1 ≤ cells }
         requires few { cells ≤ 16777216 }
@@ -62,7 +62,7 @@ impl Frames {
         })
     }
 
-    /// How many cells are out.
+    /// The number of taken cells.
     pub fn used(&self) -> u32
         ensures cells { result + free_cells self.now.arena.holes ≡ length self.now.arena.contents }
         ensures used { (f : FramesOf) → Keeps f self.now.arena (nodes_of self.now.nodes)
@@ -71,7 +71,7 @@ impl Frames {
         self.arena.used()
     }
 
-    /// There is a gap of so many cells.
+    /// Whether there is a gap of `cells` cells.
     #[inline(always)]
     pub fn fits(&self, cells: u32) -> bool
         ensures fit { result ≡ is_some (first_fit cells self.now.arena.holes) }
@@ -83,7 +83,7 @@ impl Frames {
         self.arena.fits(cells)
     }
 
-    /// Makes room for one node more.
+    /// Makes room for one more node.
     ///
     /// Fails where memory was refused; nothing has changed then.
     #[inline(always)]
@@ -96,10 +96,10 @@ impl Frames {
         self.nodes.reserve(1)
     }
 
-    /// The frame of the main program's activation enters, which runs the unit of this index. Answers the key of
-    /// its node.
+    /// Enters the frame of the main program's activation, which runs the unit of this index. Returns the key of its
+    /// node.
     ///
-    /// No frame is out, there is room for a node, and a gap of so many cells, one at least.
+    /// There is no frame yet, there is room for a node, and there is a gap of `cells` cells, one at least.
     pub fn open(&mut self, unit: u32, cells: u32) -> usize
         requires room { HasRoomFor self.old.nodes 1 }
         requires some { 1 ≤ cells }
@@ -117,11 +117,11 @@ impl Frames {
         self.add(1, unit, cells, None)
     }
 
-    /// The frame of a new activation enters. Answers the key of its node.
+    /// Enters the frame of a new activation. Returns the key of its node.
     ///
-    /// There is room for a node, and a gap of so many cells, one at least.
+    /// There is room for a node, and a gap for the cells of the frame, one at least.
     #[inline(always)]
-    pub fn enter(&mut self, entrant: Entrant) -> usize
+    pub fn enter(&mut self, entrant: NewFrame) -> usize
         requires { CanEnter entrant self.old }
         ensures vacant { nodes_of self.old.nodes result ≡ None }
         ensures taken { (first : ℕ) → first_fit entrant.cells self.old.arena.holes ≡ Some first
@@ -136,7 +136,7 @@ impl Frames {
             × (lowest_gap (length self.old.arena.contents) entrant.cells (common_cells f.program) f.layout ≡ Some first)
             × Keeps (frames_begun f t first) self.new.arena (nodes_of self.new.nodes) }
     {
-        let Entrant {
+        let NewFrame {
             activation,
             unit,
             cells,
@@ -147,7 +147,7 @@ impl Frames {
         key
     }
 
-    // A node that has no children, and its block.
+    // Adds a node without children, and its block.
     #[inline(always)]
     fn add(&mut self, activation: u64, unit: u32, cells: u32, parent: Option<usize>) -> usize
         requires { HasPlaceFor cells self.old }
@@ -177,8 +177,8 @@ impl Frames {
         })
     }
 
-    /// The activation under a key has ended: its frame goes back where no child of it is out, and so on
-    /// upwards.
+    /// Notes that the activation under a key has ended. Its frame is given back if no child of it is in the arena;
+    /// and then its parent's, if that has ended and has no other child, and so on upwards.
     #[inline(always)]
     pub fn leave(&mut self, key: usize)
         requires there { ContainsKey self.old.nodes key }
@@ -204,8 +204,8 @@ impl Frames {
         }
     }
 
-    /// Several activations have ended, one after the other, as at a fault those of a process from the top of
-    /// its stack on: the frames of each go back as [`Frames::leave`] says.
+    /// Notes that several activations have ended, one after another, as a fault ends those of a process from the top
+    /// of its stack on. Their frames are given back as by [`Frames::leave`].
     pub fn leave_all(&mut self, keys: &[usize])
         requires { CanAllLeave self.old.arena (nodes_of self.old.nodes) keys.now }
         ensures left { (f : FramesOf) (ends : List ℕ) → Keeps (as_wanted f) self.old.arena (nodes_of self.old.nodes)
@@ -224,7 +224,7 @@ impl Frames {
         }
     }
 
-    // Gives the frame under a key back, and answers its parent's key.
+    // Gives the frame under a key back, and returns its parent's key.
     #[inline(always)]
     fn give(&mut self, key: usize) -> Option<usize>
         requires { CanGoBack key self.old }
@@ -253,7 +253,7 @@ impl Frames {
         self.nodes[key].block.at()
     }
 
-    /// How many cells the frame under a key has.
+    /// The number of cells of the frame under a key.
     #[inline(always)]
     pub fn cells(&self, key: usize) -> u32
         requires { ContainsKey self.now.nodes key }
@@ -262,7 +262,7 @@ impl Frames {
         self.nodes[key].block.len()
     }
 
-    /// Whose frame is under a key: the number of its activation.
+    /// The number of the activation whose frame is under a key.
     pub fn activation(&self, key: usize) -> u64
         requires { ContainsKey self.now.nodes key }
         ensures { (n : FrameNode) → nodes_of self.now.nodes key ≡ Some n → result ≡ n.activation }
@@ -270,7 +270,7 @@ impl Frames {
         self.nodes[key].activation
     }
 
-    /// The index of the unit that the activation runs whose frame is under a key.
+    /// The index of the unit of the activation whose frame is under a key.
     pub fn unit(&self, key: usize) -> u32
         requires { ContainsKey self.now.nodes key }
         ensures { (n : FrameNode) → nodes_of self.now.nodes key ≡ Some n → result ≡ n.unit }
@@ -278,7 +278,7 @@ impl Frames {
         self.nodes[key].unit
     }
 
-    /// The key of the frame of the activation's parent whose frame is under a key; none for the main program's.
+    /// The key of the parent's frame of the frame under a key. `None` for the main program's.
     pub fn parent(&self, key: usize) -> Option<usize>
         requires { ContainsKey self.now.nodes key }
         ensures { (n : FrameNode) → nodes_of self.now.nodes key ≡ Some n → result ≡ n.parent }
@@ -286,7 +286,7 @@ impl Frames {
         self.nodes[key].parent
     }
 
-    /// The slot of a cell that is out.
+    /// The slot of a taken cell.
     pub fn get(&self, at: u32) -> Slot
         requires inside { at < length self.now.arena.contents }
         requires out { IsOut at self.now.arena.holes }
@@ -297,7 +297,7 @@ impl Frames {
         self.arena.get(at)
     }
 
-    /// Writes the slot of a cell that is out.
+    /// Writes the slot of a taken cell.
     pub fn set(&mut self, at: u32, slot: Slot)
         requires { IsCellOut at self.old.arena }
         ensures contents { self.new.arena.contents ≡ slice_set self.old.arena.contents at slot }

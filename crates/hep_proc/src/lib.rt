@@ -1,21 +1,18 @@
-//! The frames of activations, as a tree in the arena; processes with their activations and operands, and how an activation ends.
+//! Frames and processes. [`Frames`] has the arena and the tree of frames: each frame has a block of the arena's
+//! cells, and a node that names its activation. [`Process`] has the activations on its stack and their operands.
+//! [`stack_exit`] says how an activation leaves a stack.
 //!
-//! The frames of activations, each with a block of the arena's cells and a node that says whose it is; and processes, each with its
-//! activations and their operands.
-//!
-//! A frame is out while its activation hasn't ended or has a child whose frame is out. No call takes memory
-//! but the ones that make the table and reserve room in it.
-//!
-//! How the top activation of a process leaves its stack.
+//! A frame is in the arena as long as its activation hasn't ended or has a child whose frame is there. Only the calls
+//! that make the table and reserve room in it take memory.
 #![tactic(auto)]
 
 mod frames;
-mod keeping;
 pub mod laws;
-pub mod leaving;
 mod nodes;
+mod pending_operands;
 mod process;
+pub mod stack_exit;
 
-pub use frames::{Entrant, Frames};
-pub use leaving::{Leaving, leave};
+pub use frames::{Frames, NewFrame};
 pub use process::{Local, Process};
+pub use stack_exit::{ExitReason, leave};

@@ -1,4 +1,4 @@
-//! The nodes of frames that are out.
+//! The nodes of frames in the arena.
 ghost use Rattle.std.specs.Prelude.{◌≡◌, ℕ};
 ghost use Rattle.slab.specs.Slab.{slab_len};
 ghost use Rattle.hep_layout.specs.Words.{with_ended};
@@ -7,8 +7,8 @@ ghost use Rattle.hep_proc.specs.Nodes.{CanCount, HasChildren, nodes_of, with_few
 use hep_arena::Block;
 use slab::Slab;
 
-/// A frame that is out: its activation and the unit that this runs, its cells, the key of its parent's node, how many children of it
-/// are out, and whether its activation has ended.
+/// A frame in the arena: its activation and the unit of that, its cells, the key of its parent's node, the number of
+/// its children in the arena, and whether its activation has ended.
 #[derive(Drop)]
 pub(crate) struct Node {
     pub(crate) activation: u64,
@@ -19,7 +19,7 @@ pub(crate) struct Node {
     pub(crate) finished: bool,
 }
 
-// The activation under a key has ended.
+// Notes that the activation under a key has ended.
 #[inline(always)]
 pub(crate) fn end(nodes: &mut Slab<Node>, key: usize)
     ensures ended { (k : ℕ) → nodes_of nodes.new k ≡ with_ended (nodes_of nodes.old) key k }
@@ -29,7 +29,7 @@ pub(crate) fn end(nodes: &mut Slab<Node>, key: usize)
     }
 }
 
-// One child less of the frame under a key is out.
+// Counts one child less of the frame under a key.
 #[inline(always)]
 pub(crate) fn lose_child(nodes: &mut Slab<Node>, key: usize)
     requires { HasChildren (nodes_of nodes.old) key }
@@ -41,7 +41,7 @@ pub(crate) fn lose_child(nodes: &mut Slab<Node>, key: usize)
     }
 }
 
-// One child more of the frame under a key is out.
+// Counts one child more of the frame under a key.
 #[inline(always)]
 pub(crate) fn gain_child(nodes: &mut Slab<Node>, key: usize)
     requires { CanCount (nodes_of nodes.old) key }

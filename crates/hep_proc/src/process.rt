@@ -2,35 +2,37 @@
 ghost use Rattle.std.specs.Prelude.{◌≡◌, ◌+◌, ◌<◌, ◌≤◌, ◌++◌, ◌∷◌, [], OnOk, vec_len, vec_capacity};
 ghost use Rattle.hep_proc.specs.Stacks.{EndsTop, GoesOnAt, HasTop, PutsAbove, PutsTop, StandsAt, is_left};
 
-use crate::keeping::keep_back;
+use crate::pending_operands::keep_back;
 use hep_source::Value;
 use std::alloc::AllocError;
 
-/// An activation on a stack: the key of its node, the index of its unit in the program, and where it is in the
-/// unit's code, both counted from 0.
+/// An activation on a stack: the key of its node, the index of its unit in the program, and its index in the unit's
+/// code, both counted from 0.
 #[derive(Clone, Copy)]
 pub struct Local {
     pub key: usize,
     pub unit: u32,
-    /// How many operands it keeps among those that are pending, while another activation is above it.
+    /// The number of operands that it keeps among the pending ones, while another activation is above it.
     pub kept: u32,
     pub index: usize,
 }
 
-/// A process: its number, its activations, the top last, and their operands. It has ended where there are none.
+/// A process: its number, its activations, the top one last, and their operands. It has ended if it has no
+/// activations.
 #[derive(Drop)]
 pub struct Process {
     /// Counted from 1, in the order in which processes are made.
     pub number: u64,
     pub levels: Vec<Local>,
-    /// Those of the top activation.
+    /// The operands of the top activation.
     pub operands: Vec<Value>,
-    /// Those of all others, the lowest one's first. No CALL leaves any, so that it asks for no memory here.
+    /// The operands of all other activations, the lowest one's first. A CALL leaves none, so that it asks for no
+    /// memory here.
     pub pending: Vec<Value>,
 }
 
 impl Process {
-    /// Something is left of it: an activation or operands.
+    /// Whether it has an activation or operands left.
     pub fn is_left(&self) -> bool
         ensures { result ≡ is_left self.now }
     {
@@ -46,7 +48,7 @@ impl Process {
         self.levels[self.levels.len() - 1]
     }
 
-    /// Its top activation is at an index.
+    /// Moves its top activation to an index.
     #[inline(always)]
     pub fn stand_at(&mut self, index: usize)
         requires { 0 < vec_len self.old.levels }
@@ -60,7 +62,7 @@ impl Process {
         self.levels[top].index = index;
     }
 
-    // Another level is in the place of that of its top activation.
+    // Replaces the level of its top activation.
     #[inline(always)]
     fn put_top(&mut self, level: Local)
         requires { 0 < vec_len self.old.levels }
@@ -73,7 +75,7 @@ impl Process {
         self.levels[top] = level;
     }
 
-    /// Its top activation is to go on at an index.
+    /// Moves its top activation to an index, without operands.
     #[inline(always)]
     pub fn go_on(&mut self, index: usize)
         requires { 0 < vec_len self.old.levels }
@@ -87,7 +89,7 @@ impl Process {
         self.operands.clear();
     }
 
-    /// Its top activation keeps its first operands, so many, and is to go on at an index, and a new one is above it.
+    /// Puts a new activation above its top one, which keeps its first `kept` operands and goes on at an index.
     #[inline(always)]
     pub fn put_above(&mut self, kept: u32, index: usize, level: Local)
         requires levels { (0 < vec_len self.old.levels) × (vec_len self.old.levels < vec_capacity self.old.levels) }
@@ -107,7 +109,7 @@ impl Process {
         self.levels.push_reserved(level);
     }
 
-    /// Its top activation has ended: the level is taken off, and the one below it has no operands.
+    /// Ends its top activation: takes the level off the stack and returns it. The one below has no operands.
     #[inline(always)]
     pub fn end_top(&mut self) -> Local
         requires { 0 < vec_len self.old.levels }
@@ -121,7 +123,7 @@ impl Process {
         self.levels.pop().unwrap()
     }
 
-    /// Room for a level more, for so many operands at once, and for so many more that are pending.
+    /// Makes room for one more level, for `operands` operands, and for `kept` more pending ones.
     #[inline(always)]
     pub fn reserve(&mut self, operands: u32, kept: u32) -> Result<(), AllocError>
         ensures level { OnOk result (vec_len self.new.levels < vec_capacity self.new.levels) }

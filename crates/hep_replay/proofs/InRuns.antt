@@ -1,18 +1,19 @@
 -- Runs of entries that are left, and the places of their entries; and the lines of a run.
-use Rattle.std.proofs.Common.{◌≡◌, ℕ, zero, suc, ◌+◌, ◌-◌, ◌<◌, ◌≤◌, List, [], ◌∷◌, ◌++◌, Some, length, min, replicate, drop, take, refl, sym, ap, ◌∙◌, arith, slice_get, append_assoc}
+use Rattle.std.proofs.Common.{◌≡◌, ℕ, zero, suc, ◌+◌, ◌-◌, ◌<◌, List, [], ◌∷◌, ◌++◌, Some, length, min, replicate, drop, take, sym, ap, ◌∙◌, arith, slice_get, append_assoc}
 use Rattle.std.proofs.lemmas.Grind.{flat_map-append}
-use Rattle.std.proofs.lemmas.List.{append-nil, drop-drop, length-drop, length-replicate, replicate-append-replicate}
+use Rattle.std.proofs.lemmas.List.{append-nil, drop-drop, length-drop, replicate-append-replicate}
 use Rattle.hep_machine.specs.declared.event.Entry.{Entry}
 use Rattle.hep_history.specs.declared.run.Run.{Run}
 use Rattle.hep_history.specs.Runs.{entries_of, entry_of}
-use Rattle.hep_history.proofs.InRuns.{drop_past, run_has, slice_get-behind}
+use Rattle.hep_history.proofs.InRuns.{drop_past, run_has}
 use Rattle.hep_replay.specs.Histories.{entry_text, history_text}
+use Rattle.hep_source.proofs.Tests.{get-drop}
 
 -- the first of the runs that are left, behind so many entries
 module _ (entries : List Entry) (at : ℕ) (run : Run) (rest : List Run) (place : drop at entries ≡ entries_of (run ∷ rest)) where
   -- where its entries stand
   pub run_here : (k : ℕ) → k < run.count → slice_get entries (at + k) ≡ Some (entry_of run)
-  run_here k lt = slice_get-behind at k entries ∙ ap (λ es. slice_get es k) place ∙ run_has run.count k (entry_of run) (entries_of rest) lt
+  run_here k lt = get-drop entries at k ∙ ap (λ es. slice_get es k) place ∙ run_has run.count k (entry_of run) (entries_of rest) lt
 
   -- what is left behind it
   pub run_after : drop (at + run.count) entries ≡ entries_of rest

@@ -1,10 +1,10 @@
-pub use Rattle.hep_core.proofs.Outs
+pub use Rattle.hep_core.proofs.ProcessesOut
 pub use Rattle.hep_core.proofs.Histories
-pub use Rattle.hep_core.proofs.Going
+pub use Rattle.hep_core.proofs.SilentChoices
 pub mod Readings
 pub mod Digits
 pub mod InRuns
-pub mod Fronts
-pub mod Turns
-mod Choosing
+pub mod HistoryPrefixes
+pub mod ReplayTurns
+mod ChoiceRows
 mod Worked

@@ -4,11 +4,11 @@ use Rattle.std.specs.List.{AllByRecursion, flat_map}
 use Rattle.hep_base.specs.declared.refusal.Refusal.{Refusal as HistFault}
 use Rattle.hep_base.specs.declared.refusal.Refusal.TheVariants.{NoMemory, Refused}
 
--- the most bytes of a text
+-- the greatest number of bytes of a text
 abbrev pub most_bytes : ℕ
 most_bytes = 150000000
 
--- a line so many times, one after the other
+-- a line repeated n times
 abbrev pub repeated : ℕ → List ℕ → List ℕ
 repeated zero line = []
 repeated (suc n) line = line ++ repeated n line
@@ -39,7 +39,7 @@ abbrev pub IsRefusedText : {A : Type 0} → (A → List ℕ) → (A → Type 0) 
 IsRefusedText line Allows text k =
     ((k ≡ 0) × (most_bytes < length text)) ⊎ ((length text ≤ most_bytes) × IsFirstBad line Allows text k)
 
--- the fault has this number and names a line that is refused so; want of memory says nothing of the text
+-- the fault has this number and names a line that is refused so; a refusal of memory says nothing about the text
 abbrev pub ReportsLine : ℕ → (ℕ → Type 0) → HistFault → Type 0
 ReportsLine n IsAt NoMemory = Unit {0}
 ReportsLine n IsAt (Refused number line name) = (number ≡ n) × (name ≡ []) × IsAt line

@@ -1,17 +1,17 @@
--- Histories made again: docs/MACHINE.md, "Histories and choices as texts".
+-- Histories that are made again: docs/MACHINE.md, "Histories and choices as texts".
 use Rattle.std.specs.Prelude.{◌≡◌, ℕ, zero, suc, ◌+◌, ◌^◌, ◌<◌, ◌≤◌, true, false, List, [], ◌∷◌, ◌++◌, length, replicate, take, slice_get, Some, None, IsSome}
 use Rattle.std.specs.List.{flat_map}
 use Rattle.hep_machine.specs.declared.event.Entry.{Entry}
 use Rattle.hep_machine.specs.Words.{is_held, layout_of, opening_layout, AreSteps, schedule_of, state_after, State, is_waiting, Units, view_of}
-use Rattle.hep_core.specs.declared.fault.NewFault.{NewFault}
-use Rattle.hep_core.specs.declared.fault.NewFault.TheVariants as new
-use Rattle.hep_core.specs.Value.{CoreValue, stop_after}
-use Rattle.hep_replay.specs.declared.fault.ReplayFault.{ReplayFault}
-use Rattle.hep_replay.specs.declared.fault.ReplayFault.TheVariants.{NoMemory, ArenaFull, Refused}
+use Rattle.hep_core.specs.declared.core_fault.NewFault.{NewFault}
+use Rattle.hep_core.specs.declared.core_fault.NewFault.TheVariants as new
+use Rattle.hep_core.specs.CoreValues.{CoreValue, stop_after}
+use Rattle.hep_replay.specs.declared.replay_fault.ReplayFault.{ReplayFault}
+use Rattle.hep_replay.specs.declared.replay_fault.ReplayFault.TheVariants.{NoMemory, ArenaFull, Refused}
 
 -- ---- entries one step at a time
 
--- so many entries of one step, or the entry of none
+-- n entries of one step, or the entry without steps
 abbrev pub single_steps : ℕ → ℕ → List Entry
 single_steps p zero = record { process = p; steps = 0 } ∷ []
 single_steps p (suc n) = replicate (suc n) (record { process = p; steps = 1 })
@@ -25,16 +25,17 @@ single_entries es = flat_map (λ (e : Entry). single_steps e.process e.steps) es
 abbrev pub most_entries : ℕ
 most_entries = 2 ^ 40
 
--- each step of the entry is there, or its process waits where it has none
+-- each step of the entry can be made, or its process waits where it has none
 abbrev pub IsThere : Units → State → ℕ → ℕ → Type 0
 IsThere program s p zero = (s.halted ≡ false) × (is_waiting program s p ≡ true)
 IsThere program s p (suc n) = AreSteps program s (replicate (suc n) p)
 
--- each frame that these entries make has its gap in an arena of so many cells
+-- each frame that these entries make has its gap in an arena of `cells` cells
 abbrev pub HaveGaps : Units → ℕ → List Entry → Type 0
 HaveGaps program cells entries = IsSome (layout_of program cells is_held (schedule_of entries))
 
--- after these entries the history has room for the entry, the entry is there, and each frame has its gap in the arena
+-- after these entries the history has room for the entry, the entry can be made, and each frame has its gap in the
+-- arena
 abbrev pub IsPossible : Units → ℕ → List Entry → Entry → Type 0
 IsPossible program cells before e =
     (length (single_entries before) + length (single_steps e.process e.steps) ≤ most_entries)
@@ -55,9 +56,10 @@ pub record IsFirstImpossible (program : Units) (cells : ℕ) (entries : List Ent
   pub before : ArePossible program cells entries place
   pub impossible : IsPossible program cells (take place entries) entry → ⊥
 
--- ---- what comes of making entries again
+-- ---- the result of making entries again
 
--- the core that has made a history of entries of one step and of none, whose stop is a STOP's alone, and of which no process is out
+-- the core that has made a history of entries of one step and without steps; its only stop is that of a STOP, and no
+-- process is out
 abbrev pub standing : Units → ℕ → List Entry → CoreValue
 standing program cells history =
     record {

@@ -4,7 +4,7 @@ ghost use Rattle.hep_base.specs.declared.refusal.Refusal.TheVariants.{NoMemory};
 ghost use Rattle.hep_replay.specs.Lines.{AreLines, IsRefusedText, ReportsLine};
 ghost use Rattle.hep_replay.specs.Choices.{choice_text, IsProcess};
 
-use crate::history::MOST_PROCESS;
+use crate::history_text::MOST_PROCESS;
 use crate::lines::{FromLine, Row, read_lines};
 use hep_base::{Refusal as HistFault, Sequence};
 use hep_output::number_before;
@@ -38,7 +38,7 @@ impl Row<u64> for Vec<u64> {
     }
 }
 
-/// The choices that a text has: a line `p` for each.
+/// The choices of a text: a line `p` for each.
 ///
 /// # Errors
 ///

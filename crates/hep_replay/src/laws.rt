@@ -1,4 +1,4 @@
-//! Laws of the texts, which hold whatever is read.
+//! Laws of the texts, whatever was read.
 ghost use Rattle.std.specs.Prelude.{◌≡◌, ℕ, List};
 ghost use Rattle.std.specs.List.{AllByRecursion};
 ghost use Rattle.hep_machine.specs.declared.event.Entry.{Entry};
@@ -6,7 +6,7 @@ ghost use Rattle.hep_replay.specs.Choices.{choice_text, choices_text, IsProcess}
 ghost use Rattle.hep_replay.specs.Histories.{entry_text, history_text, IsAllowed};
 ghost use Rattle.hep_replay.specs.Lines.{IsRefusedText};
 
-/// Two histories that may have a text have two texts, and so have two lists of choices.
+/// Different histories that may have a text have different texts, and so have different lists of choices.
 pub fn one_spelling()
     ensures histories { (es fs : List Entry) → AllByRecursion IsAllowed es → AllByRecursion IsAllowed fs → history_text es ≡ history_text fs
         → es ≡ fs }

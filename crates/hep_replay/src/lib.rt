@@ -6,23 +6,23 @@
 #![tactic(auto)]
 
 pub mod choices;
-pub mod fault;
-pub mod first;
-pub mod following;
-pub mod history;
+pub mod history_choices;
+pub mod history_prefix;
+pub mod history_replay;
+pub mod history_text;
 pub mod laws;
 mod lines;
-pub mod replays;
+pub mod replay_fault;
 
 pub use choices::{Choices, read_choices};
-pub use fault::ReplayFault;
-pub use first::First;
-pub use following::{choices_of_history, read_followed};
 pub use hep_core::{Breakpoints, DecodedImage, go_on, stands_watched, tables_of};
+pub use history_choices::{choices_of_history, read_followed};
+pub use history_prefix::HistoryPrefix;
+pub use replay_fault::ReplayFault;
 /// Why a text is refused: 601 for a history, 602 for choices, with the first bad line, and line 0
 /// where the text is too long. Neither is about a name.
 pub use hep_base::Refusal as HistFault;
 pub use hep_core::{ChoiceStop, ChooseFault, Core, Fault, NewFault, Verdict};
 pub use hep_history::History;
-pub use history::{read_text, write_text};
-pub use replays::{make_run, replay, replay_first};
+pub use history_replay::{make_run, replay, replay_first};
+pub use history_text::{read_text, write_text};

@@ -3,40 +3,40 @@ ghost use Rattle.std.specs.Prelude.{◌≡◌, ◌<◌, ◌≤◌, ◌++◌, [],
 ghost use Rattle.hep_base.specs.declared.refusal.Refusal.TheVariants.{NoMemory};
 ghost use Rattle.hep_replay.specs.Lines.{AreApart, AreLines, IsRefusedText, ReportsLine, most_bytes, repeated};
 
-use crate::history::MOST_BYTES;
+use crate::history_text::MOST_BYTES;
 use hep_base::Refusal as HistFault;
 use std::alloc::{AllocError, Global};
 
-// What has a line in a text.
+// Items that have a line in a text.
 pub(crate) trait FromLine: Drop {
     ghost use Rattle.std.specs.Prelude.{◌≡◌, ◌≢◌, ℕ, ◌++◌, List, IfSome, IfNone};
 
-    // Its line.
+    // The line of an item.
     ghost line: { Self → List ℕ };
 
-    // Those that a text may have.
+    // The items that a text may have.
     ghost allows: { Self → Type 0 };
 
-    // The one whose line stands at the front of a text, and the text after it.
+    // The item of the line at the front of a text, and the text after it.
     fn from_front(text: &[u8]) -> Option<(Self, &[u8])>
         ensures allowed { IfSome result (λ found. allows found.0) }
         ensures found { IfSome result (λ found. text.now ≡ line found.0 ++ found.1.now) }
         ensures none { IfNone result ((x : Self) (more : List ℕ) → allows x → text.now ≢ line x ++ more) };
 }
 
-// What items are kept in, one after the other.
+// A list to which the items are appended.
 pub(crate) trait Row<T>: Drop {
     ghost use Rattle.std.specs.Prelude.{◌≡◌, ◌++◌, List, OnOk, replicate};
 
-    // Its items, in order.
+    // The items of the list, in order.
     ghost items: { Self → List T };
 
-    // Appends an item so many times.
+    // Appends an item `count` times.
     fn append(&mut self, item: T, count: u32) -> Result<(), AllocError>
         ensures { OnOk result (items self.new ≡ items self.old ++ replicate count item) };
 }
 
-// How often a line stands at the front of a text, one after the other, and the text after that.
+// The number of times that a line is repeated at the front of a text, and the text after that.
 fn past_repeated<'a>(line: &[u8], text: &'a [u8]) -> (u32, &'a [u8])
     requires filled { 0 < length line.now }
     requires few { length text.now ≤ most_bytes }
@@ -51,7 +51,7 @@ fn past_repeated<'a>(line: &[u8], text: &'a [u8]) -> (u32, &'a [u8])
     (count, rest)
 }
 
-// The same. Nothing is called where the text begins otherwise, as it mostly does where processes take turns.
+// The same. It calls nothing where the text begins otherwise, as it mostly does where processes take turns.
 #[inline(always)]
 fn past_again<'a>(line: &[u8], text: &'a [u8]) -> (u32, &'a [u8])
     requires filled { 0 < length line.now }
@@ -64,8 +64,8 @@ fn past_again<'a>(line: &[u8], text: &'a [u8]) -> (u32, &'a [u8])
     past_repeated(line, text)
 }
 
-// What the lines of a text are, each of which is allowed, in this row; or a refusal with this number, at the first bad line,
-// or at line 0 where the text is too long. A line that stands several times in a row is parsed once.
+// The items of the lines of a text, each of which is allowed, appended to a list; or a refusal with this number, at
+// the first bad line, or at line 0 where the text is too long. A line that is repeated several times is parsed once.
 pub(crate) fn read_lines<T: FromLine, R: Row<T>>(
     alloc: Global,
     text: &[u8],

@@ -14,12 +14,13 @@ use Rattle.hep_run.specs.Outcome.{ComesTo}
 use Rattle.hep_run.specs.declared.options.Run.{Run}
 use Rattle.hep_run.specs.Delivery.{IsOutcomeOf, LeavesOneOf, LeavesOfSource}
 
-long : (n : ℕ) → 4194304 < n → nat_lt 4194304 n ≡ true
-long n h = grind (arith, nat_tests)
+-- the test of a size that is too large
+pub over : (n : ℕ) → 4194304 < n → nat_lt 4194304 n ≡ true
+over n h = grind (arith, nat_tests)
 
 too_long : (s : List ℕ) → 4194304 < length s → statements_of s ≡ refusal 107 0
 unfolding statements_of
-too_long s h = rw (long (length s) h) refl
+too_long s h = rw (over (length s) h) refl
 
 refused_too : (Is : Units → ℕ → ℕ → List ℕ → Type 0) (s t : List ℕ) (number line : ℕ) (name : List ℕ) → statements_of s ≡ statements_of t → IsRefusedFor Is t number line name → IsRefusedFor Is s number line name
 refused_too Is s t number line name same (inl (e, none)) = inl (same ∙ e, none)
@@ -33,7 +34,8 @@ front bytes rest end = elim (cases_lt 4194304 (length bytes)) [
   | inr within ↦ inl (ap (λ (l : List ℕ). bytes ++ l) (end within) ∙ append-nil bytes)
 ]
 
-line_in : Result (List Stmt) Refusal → ℕ
+-- the line of a refusal; 0 where there is none
+unfoldable pub line_in : Result (List Stmt) Refusal → ℕ
 line_in (Ok statements) = 0
 line_in (Err e) = e.line
 

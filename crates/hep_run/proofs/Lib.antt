@@ -2,9 +2,9 @@ mod Counts
 mod Messages
 pub mod Fronts
 pub mod Accepted
-mod Answered
+mod AnsweredRuns
 pub mod Outcomes
-pub mod Large
-mod Noted
+pub mod LargeSources
+mod RefusalNotes
 mod Worked
 pub mod Wanted

@@ -17,15 +17,11 @@ use Rattle.hep_run.specs.Sources.{IsRefusedFor, IsSourceOf}
 use Rattle.hep_run.specs.declared.refusal.SourceFault.{SourceFault}
 use Rattle.hep_run.specs.declared.refusal.SourceFault.TheVariants.{NoMemory, Refused}
 use Rattle.hep_outcome.specs.Texts.{refusal_text}
-use Rattle.hep_run.proofs.Fronts.{unread}
+use Rattle.hep_run.proofs.Fronts.{unread, line_in}
 
 number_in : Result (List Stmt) Refusal → ℕ
 number_in (Ok statements) = 0
 number_in (Err e) = e.number
-
-line_in : Result (List Stmt) Refusal → ℕ
-line_in (Ok statements) = 0
-line_in (Err e) = e.line
 
 -- a source that has statements isn't too large
 pub read-small : (source : List ℕ) (statements : List Stmt) → statements_of source ≡ Ok statements → is_too_large source ≡ false
@@ -39,7 +35,7 @@ pub program-small : (Is : Units → Type 0) (source : List ℕ) (program : Units
 program-small Is source program (statements, read, reading, holds) = read-small source statements read
 
 -- the source is refused so, with these notes
-abbrev IsNoted : Bool → (Units → ℕ → ℕ → List ℕ → Type 0) → List ℕ → SourceFault → Type 0
+abbrev pub IsNoted : Bool → (Units → ℕ → ℕ → List ℕ → Type 0) → List ℕ → SourceFault → Type 0
 IsNoted long Is bytes fault = Tells (λ number line name notes. IsRefusedFor Is bytes number line name × AreNotes long bytes number line name notes) fault
 
 -- a source that is too large has this refusal alone

@@ -2,10 +2,10 @@
 use Rattle.std.proofs.Common.{◌≡◌, ◌≢◌, ℕ, Bool, Some, IsSome, inr, refl, sym, ap, ◌∙◌, subst}
 use Rattle.std.proofs.lemmas.Option.{none-some}
 use Rattle.hep_machine.specs.Words.{IsLegal, opening_layout, Units}
-use Rattle.hep_outcome.specs.Value.{CoreValue, IsStop}
+use Rattle.hep_outcome.specs.CoreValues.{CoreValue, IsStop}
 use Rattle.hep_workers.specs.declared.close_fault.CloseFault.{CloseFault}
-use Rattle.hep_workers.specs.declared.fault.WorkFault.{WorkFault}
-use Rattle.hep_workers.specs.declared.fault.WorkFault.TheVariants.{NoMemory, ArenaFull, NoTicket, NoThread, Close}
+use Rattle.hep_workers.specs.declared.work_fault.WorkFault.{WorkFault}
+use Rattle.hep_workers.specs.declared.work_fault.WorkFault.TheVariants.{NoMemory, ArenaFull, NoTicket, NoThread, Close}
 use Rattle.hep_workers.specs.declared.options.WorkOptions.{WorkOptions}
 use Rattle.hep_workers.specs.Reports.{IsOfRun}
 use Rattle.hep_workers.specs.Faults.{IsSharedBy, IsWorkFault, number_of}

@@ -1,4 +1,5 @@
--- What `check` and `list` of a source come to, from its bytes to the bytes that they write: docs/MACHINE.md, "The program".
+-- The outcomes of `check` and `list`, from the bytes of a source to the bytes that they write: docs/MACHINE.md, "The
+-- program".
 use Rattle.std.specs.Prelude.{◌≡◌, ℕ, Bool, List, []}
 use Rattle.hep_conditions.specs.Words.{IsAccepted}
 use Rattle.hep_check.specs.Listing.{listing}
@@ -7,14 +8,15 @@ use Rattle.hep_run.specs.Sources.{IsViolatingProgram}
 use Rattle.hep_outcome.specs.Outcome.{Outcome}
 use Rattle.hep_run.specs.Outcome.{ComesTo, RunsTo}
 
--- this text is the answer
+-- the outcome of a text
 abbrev pub outcome_of_text : List ℕ → Outcome
 outcome_of_text text = record { output = text; messages = []; status = statuses.Done; history = [] }
 
--- what `check` comes to: why the source isn't run, or nothing
+-- the outcome of `check`: why the source isn't run, or nothing
 abbrev pub IsCheckOutcome : Bool → List ℕ → Outcome → Type 0
 IsCheckOutcome long source o = RunsTo long (λ program end. end ≡ outcome_of_text []) source o
 
--- what `list` comes to: why the source isn't accepted, or the lines of its units and common blocks; it may pass a limit
+-- the outcome of `list`: why the source isn't accepted, or the lines of its units and common blocks; it may pass a
+-- limit
 abbrev pub IsListOutcome : Bool → List ℕ → Outcome → Type 0
 IsListOutcome long source o = ComesTo long IsViolatingProgram IsAccepted (λ program end. end ≡ outcome_of_text (listing program)) source o

@@ -1,4 +1,4 @@
--- What a run leaves at its two outputs: docs/MACHINE.md, "The program".
+-- The bytes of a run at its two outputs: docs/MACHINE.md, "The program".
 use Rattle.std.specs.Prelude.{◌≡◌, ◌⊎◌, ℕ, ◌<◌, ◌≤◌, List, [], ◌++◌, codes, length, take, Option, Some, None}
 use Rattle.std.specs.Fmt.{decimal}
 use Rattle.std.specs.Io.KnownBytes.{Appends, Keeps, Consumes, IsAtEnd}
@@ -19,7 +19,7 @@ pub record IsDelivered (o : Outcome) (run : Run) (output output' messages messag
   pub output_taken : Appends output output' o.output
   pub messages_taken : Appends messages messages' o.messages
 
--- the line of a writer that failed after so many bytes
+-- the line for a writer that failed after n bytes
 abbrev pub write_fault_text : ℕ → List ℕ
 write_fault_text n = codes "WRITE FAULT AFTER " ++ decimal n ++ codes "\n"
 
@@ -27,7 +27,7 @@ write_fault_text n = codes "WRITE FAULT AFTER " ++ decimal n ++ codes "\n"
 abbrev pub SomeOf : Option (List ℕ) → Option (List ℕ) → List ℕ → Type 0
 SomeOf contents contents' text = (k : ℕ) × Appends contents contents' (take k text)
 
--- the messages' writer took so many bytes of what it was given last
+-- the messages' writer took some first bytes of what it was given last
 abbrev pub WritesStartOf : Option (List ℕ) → Option (List ℕ) → List ℕ → List ℕ → Type 0
 WritesStartOf messages messages' before last = (k : ℕ) × Appends messages messages' (before ++ take k last)
 
@@ -58,7 +58,7 @@ SaysLines lines status code messages messages' =
     ((code ≡ status_code status) × Appends messages messages' lines)
     ⊎ ((code ≡ status_code DeviceFailed) × (n : ℕ) × (n < length lines) × WritesStartOf messages messages' (take n lines) (write_fault_text n))
 
--- a run with this history says these lines, with this status, or fails at them
+-- a run with this history writes these lines, with this status, or fails at them
 abbrev pub WritesMessages : List ℕ → Status → List Entry → Run → Option (List ℕ) → Option (List ℕ) → Type 0
 WritesMessages lines status history run messages messages' =
     (run.history.items ≡ history) × SaysLines lines status run.status messages messages'
@@ -73,7 +73,7 @@ abbrev pub WantsMemory : Run → Option (List ℕ) → Option (List ℕ) → Opt
 WantsMemory run output output' messages messages' =
     Keeps output output' × WritesMessages (codes "NO MEMORY\n") NoMemory [] run messages messages'
 
--- what is left where an outcome is one of these: memory was refused, or one of them is delivered
+-- memory was refused, or one of these outcomes is delivered
 abbrev pub LeavesOneOf : (Outcome → Type 0) → Run → Option (List ℕ) → Option (List ℕ) → Option (List ℕ) → Option (List ℕ) → Type 0
 LeavesOneOf Is run output output' messages messages' =
     WantsMemory run output output' messages messages'
@@ -92,11 +92,12 @@ abbrev pub SaysUnread : ReadFault → ℕ → Option (List ℕ) → Option (List
 SaysUnread unread.NoMemory code messages messages' = SaysLines (codes "NO MEMORY\n") NoMemory code messages messages'
 SaysUnread unread.Failed code messages messages' = SaysLines (codes "READ FAULT\n") DeviceFailed code messages messages'
 
--- an input that may have so many bytes couldn't be read
+-- an input of `most` bytes at most couldn't be read
 abbrev pub CannotRead : ℕ → Option (List ℕ) → Option (List ℕ) → ℕ → Option (List ℕ) → Option (List ℕ) → Type 0
 CannotRead most source source' code messages messages' = HasLost most source source' × (fault : ReadFault) × SaysUnread fault code messages messages'
 
--- All that may be left of a reader's bytes that have these outcomes: they couldn't be read, and no record is written; or they were.
+-- the results for a reader's bytes with these outcomes: they couldn't be read, and no record is written; or they were
+-- read, and an outcome is delivered
 abbrev pub LeavesOfSource : (List ℕ → Outcome → Type 0) → Option (List ℕ) → Option (List ℕ) → Run → Option (List ℕ) → Option (List ℕ) → Option (List ℕ) → Option (List ℕ) → Type 0
 LeavesOfSource Is source source' run output output' messages messages' =
     (Keeps output output' × (run.history.items ≡ []) × CannotRead most_source_bytes source source' run.status messages messages')

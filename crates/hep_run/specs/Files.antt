@@ -1,11 +1,11 @@
--- Files and texts beside a source, and its two outputs: docs/MACHINE.md, "The program".
+-- Files and texts besides a source, and its two outputs: docs/MACHINE.md, "The program".
 use Rattle.std.specs.Prelude.{◌≡◌, ◌⊎◌, ℕ, ◌<◌, ◌≤◌, List, [], codes, length, take, Option, Result, Ok, Err}
 use Rattle.std.specs.Io.KnownBytes.{Appends, Keeps, Consumes, IsAtEnd}
 use Rattle.hep_base.specs.declared.refusal.Refusal.{Refusal}
 use Rattle.hep_base.specs.declared.refusal.Refusal.TheVariants as refusals
 use Rattle.hep_outcome.specs.OutcomeHistoryLines.{AreLines, IsRefusedText, most_bytes}
 use Rattle.hep_outcome.specs.Choices.{choice_text, IsProcess}
-use Rattle.hep_outcome.specs.Following.{AreFollowed}
+use Rattle.hep_outcome.specs.HistoryChoices.{AreFollowed}
 use Rattle.hep_outcome.specs.Histories.{entry_text, history_text, IsAllowed}
 use Rattle.hep_run.specs.declared.options.Run.{Run}
 use Rattle.hep_outcome.specs.declared.status.Status.TheVariants.{Usage, NoMemory, DeviceFailed}
@@ -19,12 +19,12 @@ use Rattle.hep_run.specs.Delivery.{write_fault_text, SaysLines, WritesStartOf}
 abbrev pub HasReadText : Option (List ℕ) → Option (List ℕ) → List ℕ → Type 0
 HasReadText left left' bytes = Consumes left left' bytes × (length bytes ≤ most_bytes → IsAtEnd left')
 
--- a refusal of what stands beside a source, or want of memory
+-- a refusal of a text besides a source, or of memory
 abbrev pub SaysRefusal : ℕ → ℕ → ℕ → Option (List ℕ) → Option (List ℕ) → Type 0
 SaysRefusal number k code messages messages' =
     SaysLines (codes "NO MEMORY\n") NoMemory code messages messages' ⊎ SaysLines (refusal_text number k []) Usage code messages messages'
 
--- why a text gives nothing
+-- why a text can't be used
 abbrev pub SaysFault : Refusal → ℕ → Option (List ℕ) → Option (List ℕ) → Type 0
 SaysFault refusals.NoMemory code messages messages' = SaysLines (codes "NO MEMORY\n") NoMemory code messages messages'
 SaysFault (refusals.Refused number line name) code messages messages' = SaysRefusal number line code messages messages'
@@ -39,14 +39,15 @@ abbrev pub ReadsChoices : List ℕ → Result (List ℕ) ℕ → Option (List �
 ReadsChoices text (Ok choices) messages messages' = AreLines choice_text IsProcess text choices × Keeps messages messages'
 ReadsChoices text (Err code) messages messages' = SaysRefusalAt 602 (IsRefusedText choice_text IsProcess text) code messages messages'
 
--- the choices that make the steps of the history that a text has, or why there are none
+-- the choices that make the steps of the history of a text, or why there are none
 abbrev pub ReadsFollowed : List ℕ → Result (List ℕ) ℕ → Option (List ℕ) → Option (List ℕ) → Type 0
 ReadsFollowed text (Ok choices) messages messages' = AreFollowed text choices × Keeps messages messages'
 ReadsFollowed text (Err code) messages messages' = SaysRefusalAt 601 (IsRefusedText entry_text IsAllowed text) code messages messages'
 
 -- ---- what is written
 
--- a stream took the text, and the answer is this code; or it took just n bytes, fewer than there are, and this was said
+-- a stream took the text, and this code is returned; or it took just n bytes, fewer than there are, and this was
+-- written
 abbrev pub PutsText : List ℕ → ℕ → ℕ → Option (List ℕ) → Option (List ℕ) → Option (List ℕ) → Option (List ℕ) → Type 0
 PutsText text code answer stream stream' messages messages' =
     ((answer ≡ code) × Appends stream stream' text × Keeps messages messages')

@@ -8,11 +8,11 @@ use Rattle.hep_run.specs.Outcome.{refused}
 use Rattle.hep_run.specs.declared.refusal.SourceFault.{SourceFault}
 use Rattle.hep_run.specs.declared.refusal.SourceFault.TheVariants.{NoMemory, Refused}
 
--- notes are asked for, or it isn't too large, which is found before
+-- notes are asked for, or the source isn't too large, which is found first
 abbrev pub MayReadOn : Bool → List ℕ → Type 0
 MayReadOn long source = (long ≡ true) ⊎ (is_too_large source ≡ false)
 
--- memory was refused for a source only where it may have been asked for
+-- memory was refused for a source only if it may have been asked for
 abbrev pub IsWant : Bool → List ℕ → SourceFault → Type 0
 IsWant long source fault = fault ≡ NoMemory → MayReadOn long source
 
@@ -21,7 +21,7 @@ abbrev pub tells_large : SourceFault → Bool
 tells_large NoMemory = false
 tells_large (Refused number line name notes) = nat_eq number 107 && (nat_eq line 0 && (nat_eq (length name) 0 && nat_eq (length notes) 0))
 
--- ---- what is left of a source that is too large
+-- ---- the result for a source that is too large
 
 -- without notes its refusal, whatever memory there is
 abbrev pub RefusesLarge : Bool → List ℕ → Run → Option (List ℕ) → Option (List ℕ) → Option (List ℕ) → Option (List ℕ) → Type 0
@@ -33,7 +33,7 @@ abbrev pub IsKnownLarge : Option (List ℕ) → Type 0
 IsKnownLarge None = ⊥
 IsKnownLarge (Some source) = is_too_large source ≡ true
 
--- the same of these, where they could be read
+-- the same for such a reader, if its bytes could be read
 abbrev pub RefusesLargeSource : Bool → Option (List ℕ) → Option (List ℕ) → Run → Option (List ℕ) → Option (List ℕ) → Option (List ℕ) → Option (List ℕ) → Type 0
 RefusesLargeSource long source source' run output output' messages messages' =
     long ≡ false → IsKnownLarge source

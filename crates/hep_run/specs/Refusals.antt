@@ -1,4 +1,4 @@
--- Why a source isn't run, as the program keeps it: docs/ARCHITECTURE.md, "Forms".
+-- Why a source isn't run, in the program's form: docs/ARCHITECTURE.md, "Forms".
 use Rattle.std.specs.Prelude.{ℕ, Bool, List, []}
 use Rattle.std.specs.Option.{option_map_or}
 use Rattle.hep_base.specs.declared.refusal.Refusal.{Refusal}
@@ -14,12 +14,12 @@ use Rattle.hep_run.specs.Sources.{IsRefusedSource, IsUnacceptedSource}
 abbrev pub refusal_of : Violation → Refusal
 refusal_of v = Refused v.number v.line (option_map_or spelling v.name [])
 
--- a refusal with these notes behind it
+-- a refusal with these notes
 abbrev pub noted : (ℕ → ℕ → List ℕ → List ℕ) → Refusal → SourceFault
 noted notes NoMemory = source.NoMemory
 noted notes (Refused number line name) = source.Refused number line name (notes number line name)
 
--- why there is no program: it has such a number, line, name and notes; want of memory says nothing
+-- why there is no program: a refusal with such a number, line, name and notes; a refusal of memory says nothing
 abbrev pub Tells : (ℕ → ℕ → List ℕ → List ℕ → Type 0) → SourceFault → Type 0
 Tells Is source.NoMemory = Unit {0}
 Tells Is (source.Refused number line name notes) = Is number line name notes

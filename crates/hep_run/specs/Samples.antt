@@ -1,4 +1,4 @@
--- What a sample of a source comes to: docs/RUNS.md, "Lots".
+-- The outcome of a sample of a source: docs/RUNS.md, "Lots".
 use Rattle.std.specs.Prelude.{◌≡◌, ◌⊎◌, ℕ, Bool, false, List, [], length, map, slice_get, Some}
 use Rattle.hep_machine.specs.Words.{Units}
 use Rattle.hep_outcome.specs.Histories.{history_text}
@@ -10,16 +10,16 @@ use Rattle.hep_run.specs.Checks.{outcome_of_text}
 use Rattle.hep_run.specs.Outcome.{IsLotOutcome, RunsTo}
 use Rattle.hep_run.specs.Sources.{IsRunnableSource}
 
--- the run with this number, counted from 0, comes to this
+-- this is the outcome of the run with this number, counted from 0
 abbrev pub IsNthOutcome : Bool → SampleOptions → List ℕ → ℕ → Outcome → Type 0
 IsNthOutcome long options source i o = (by : LotOptions) × IsNth options i by × IsLotOutcome long by source o
 
--- these are so many runs, each by lots and its own seed
+-- these are the outcomes of `runs` runs, each by lots and its own seed
 pub record AreRuns (long : Bool) (options : SampleOptions) (source : List ℕ) (runs : ℕ) (outcomes : List Outcome) : Type 0 where
   pub count : length outcomes ≡ runs
   pub each : (i : ℕ) (o : Outcome) → slice_get outcomes i ≡ Some o → IsNthOutcome long options source i o
 
--- these are the tallies of so many runs
+-- these are the tallies of `runs` runs
 abbrev pub IsTallied : Bool → SampleOptions → List ℕ → ℕ → List Tally → Type 0
 IsTallied long options source runs ts = (outcomes : List Outcome) × AreRuns long options source runs outcomes × (ts ≡ tallied options.seed outcomes)
 
@@ -29,7 +29,7 @@ IsSampled long options source seeds o =
     (ts : List Tally) × IsTallied long options source options.runs ts × (seeds ≡ map (λ (t : Tally). t.seed) ts)
     × (o ≡ outcome_of_text (sample_text options.runs ts))
 
--- what a sample of a source comes to: why it isn't run, or its runs, counted
+-- the outcome of a sample of a source: why it isn't run, or its runs, counted
 abbrev pub IsSampleOutcome : Bool → SampleOptions → List ℕ → List ℕ → Outcome → Type 0
 IsSampleOutcome long options seeds source o = RunsTo long (λ program. IsSampled long options source seeds) source o
 

@@ -1,4 +1,4 @@
--- Which sources are refused, accepted and run: docs/MACHINE.md, "The program".
+-- The sources that are refused, accepted and run: docs/MACHINE.md, "The program".
 use Rattle.std.specs.Prelude.{◌≡◌, ◌⊎◌, ℕ, List, [], Ok}
 use Rattle.hep_base.specs.declared.refusal.Refusal.TheVariants as refusals
 use Rattle.hep_text.specs.declared.statement.Stmt.{Stmt}
@@ -6,10 +6,10 @@ use Rattle.hep_text.specs.Reading.{statements_of, refusal}
 use Rattle.hep_parse.specs.Program.{IsProgram, IsFirstFault}
 use Rattle.hep_machine.specs.Words.{Units}
 use Rattle.hep_conditions.specs.Words.{IsAccepted}
-use Rattle.hep_check.specs.Faults.{Refuses}
+use Rattle.hep_check.specs.Rejections.{Refuses}
 use Rattle.hep_lower.specs.Refusals.{IsLowered, IsUnlowered}
 
--- ---- why there is no program to go on with: a number, a line and a name
+-- ---- why there is no program: a number, a line and a name
 
 -- the program violates a condition, and its first violation is reported so
 abbrev pub IsViolatingProgram : Units → ℕ → ℕ → List ℕ → Type 0
@@ -40,7 +40,7 @@ IsRefusedSource source number line name = IsRefusedFor IsRefusedProgram source n
 
 -- ---- programs
 
--- the source is this program, of which this holds
+-- the source is this program, which satisfies `Is`
 abbrev pub IsSourceOf : (Units → Type 0) → List ℕ → Units → Type 0
 IsSourceOf Is source program = (statements : List Stmt) × (statements_of source ≡ Ok statements) × IsProgram statements program × Is program
 

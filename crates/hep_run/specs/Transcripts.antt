@@ -1,4 +1,4 @@
--- What is left where a transcript was to be made: docs/ARCHITECTURE.md, "Forms".
+-- The result of making a transcript: docs/ARCHITECTURE.md, "Forms".
 use Rattle.std.specs.Prelude.{◌≡◌, ℕ, List, Option, Result, Ok, Err}
 use Rattle.hep_run.specs.declared.options.Run.{Run}
 use Rattle.hep_outcome.specs.declared.transcript.Transcript.{Transcript}
@@ -9,7 +9,7 @@ use Rattle.hep_run.specs.Outcome.{refused}
 use Rattle.hep_run.specs.declared.refusal.SourceFault.{SourceFault}
 use Rattle.hep_run.specs.declared.refusal.SourceFault.TheVariants as source
 
--- the outcome of a source that isn't run for this reason; want of memory has none
+-- the outcome of a source that isn't run for this reason; a refusal of memory has none
 abbrev pub IsOutcomeOfFault : SourceFault → Outcome → Type 0
 IsOutcomeOfFault source.NoMemory o = ⊥
 IsOutcomeOfFault (source.Refused number line name notes) o = o ≡ refused number line name notes

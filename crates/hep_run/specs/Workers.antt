@@ -1,24 +1,25 @@
--- What a run by workers comes to, from the bytes of a source to the bytes that it writes: docs/MACHINE.md, "Workers".
+-- The outcome of a run by workers, from the bytes of a source to the bytes that it writes: docs/MACHINE.md,
+-- "Workers".
 use Rattle.std.specs.Prelude.{◌≡◌, ◌≢◌, ◌⊎◌, ℕ, Bool, List, [], ◌++◌, codes, Option, None, IsSome}
 use Rattle.std.specs.Fmt.{decimal}
 use Rattle.hep_machine.specs.declared.event.Entry.{Entry}
 use Rattle.hep_machine.specs.Words.{IsLegal, opening_layout, Units}
 use Rattle.hep_outcome.specs.ChoiceStop.{ChoiceStop}
 use Rattle.hep_outcome.specs.Verdict.TheVariants.{Running}
-use Rattle.hep_outcome.specs.Value.{CoreValue, IsStop}
+use Rattle.hep_outcome.specs.CoreValues.{CoreValue, IsStop}
 use Rattle.hep_workers.specs.declared.options.WorkOptions.{WorkOptions}
 use Rattle.hep_workers.specs.Faults.{IsSharedBy}
 use Rattle.hep_outcome.specs.declared.status.Status.TheVariants as statuses
 use Rattle.hep_outcome.specs.Outcome.{Outcome, outcome_of_end, outcome_of_full_arena, verdict_after}
 use Rattle.hep_run.specs.Outcome.{RunsTo}
 
--- workers have made a core with this history and this stop of the opening: so each entry is that of one commit
+-- workers have made a core with this history and this stop from the opening: so each entry is that of one commit
 abbrev pub AreTurns : Units → WorkOptions → List Entry → Option ChoiceStop → Type 0
 AreTurns program options history stop =
     (core : CoreValue) × IsSharedBy program options core × (core.history ≡ history) × (core.stop ≡ stop)
 
--- the workers' history is a legal one of the program by these options, with the stop that it says, after which the run is over; and its entries are
--- their turns
+-- the workers' history is a legal one of the program by these options; the run is over after it, with the stop given;
+-- and its entries are their turns
 pub record IsWorked (program : Units) (options : WorkOptions) (history : List Entry) (stop : Option ChoiceStop) : Type 0 where
   pub turns : AreTurns program options history stop
   pub legal : IsLegal program options.arena options.steps history
@@ -40,6 +41,6 @@ IsImageWorked long program options o =
     ⊎ ((history : List Entry) × (stop : Option ChoiceStop) × IsWorked program options history stop
     × (o ≡ outcome_of_end long program options.arena history stop))
 
--- what a run of a source by workers comes to by these options
+-- the outcome of a run of a source by workers, by these options
 abbrev pub IsWorkOutcome : Bool → WorkOptions → List ℕ → Outcome → Type 0
 IsWorkOutcome long options source o = RunsTo long (λ program. IsImageWorked long program options) source o

@@ -1,16 +1,16 @@
-//! The bytes of a source to what `check` and `list` write.
+//! From the bytes of a source to the outputs of `check` and `list`.
 ghost use Rattle.std.specs.Prelude.{IfOk, OnErr};
 ghost use Rattle.hep_run.specs.Memory.{MayReadOn};
 ghost use Rattle.hep_run.specs.Checks.{IsCheckOutcome, IsListOutcome};
 ghost use Rattle.hep_outcome.specs.Transcripts.{outcome_of};
 
-use crate::front::{checked_source, image_of_source};
+use crate::front_end::{checked_source, image_of_source};
 use crate::transcript::{fault_transcript, text_transcript};
 use hep_check::list_text;
 use hep_outcome::Transcript;
 use std::alloc::{AllocError, Global};
 
-/// All that `check` of a source comes to, before a byte of it is written.
+/// All that `check` of a source writes, before a byte of it is written.
 ///
 /// # Errors
 ///
@@ -25,7 +25,7 @@ pub fn check_transcript(alloc: Global, source: &[u8], long: bool) -> Result<Tran
     }
 }
 
-/// All that `list` of a source comes to, before a byte of it is written.
+/// All that `list` of a source writes, before a byte of it is written.
 ///
 /// # Errors
 ///

@@ -7,7 +7,7 @@ use std::alloc::{AllocError, AllocFailed, Global};
 use std::io::{ErrorKind, Read};
 use thiserror::Error;
 
-/// How many calls of `read` an input gets before it counts as broken.
+/// The number of calls of `read` after which an input counts as broken.
 pub const MOST_READS: u32 = 5_000_000;
 
 /// Why an input couldn't be read.
@@ -32,15 +32,15 @@ impl From<AllocError> for ReadFault {
     }
 }
 
-/// The bytes of an input to its end, or its first bytes once more than `most` have come, which is no
-/// more than 4,096 further.
+/// The bytes of an input to its end, or its first bytes, as soon as there are more than `most`; they are 4,096 more
+/// at most.
 ///
 /// An interrupted read is tried again.
 ///
 /// # Errors
 ///
-/// `Failed` where a read failed or 5,000,000 reads didn't reach the end, `NoMemory`. The reader has given first bytes then, which are no
-/// more than 4,096 above `most`.
+/// `Failed` where a read failed or 5,000,000 reads didn't reach the end; `NoMemory`. Then the reader has given its
+/// first bytes, which are 4,096 more than `most` at most.
 pub fn read_input<R: Read>(alloc: Global, reader: &mut R, most: usize) -> Result<Vec<u8>, ReadFault>
     ensures first { IfOk result (λ bytes.
         Consumes (R.remaining reader.old) (R.remaining reader.new) bytes.items) }

@@ -1,38 +1,38 @@
-//! What a run is asked to do, and what it leaves.
+//! The options of a run by workers, and the result of a run.
 ghost use Rattle.std.specs.Prelude.{◌≡◌};
 ghost use Rattle.hep_outcome.specs.Statuses.{status_code};
 
 use hep_history::History;
 use hep_outcome::Status;
 pub use hep_outcome::{
-    AskedLots, AskedReplay, AskedRun, AskedSample, LotOptions, Options, SampleOptions,
+    LotOptions, LotsRequest, Options, ReplayRequest, RunRequest, SampleOptions, SampleRequest,
 };
 use hep_workers::WorkOptions;
 
-/// What a run by workers is asked for.
+/// The options of a run by workers.
 #[derive(Drop)]
-pub struct AskedWork<'a, H, G> {
-    /// What starts the threads.
+pub struct WorkRequest<'a, H, G> {
+    /// The runtime that starts the threads.
     pub threads: &'a H,
     pub options: &'a WorkOptions,
-    /// What workers pass between two of their turns.
+    /// The gate that makes the private steps of workers.
     pub gate: &'a G,
-    /// Whether more is said than the lines that are fixed.
+    /// Whether notes are written besides the lines of the standard form.
     pub long: bool,
 }
 
-/// What a run came to.
+/// The result of a run.
 #[derive(Drop)]
 pub struct Run {
     /// The exit status of the program: the code of a `Status`.
     pub status: u8,
-    /// An entry for each choice that was made; none where the source is refused, couldn't be read, or
-    /// memory was refused.
+    /// An entry for each choice that was made; none where the source is refused or couldn't be read, or memory was
+    /// refused.
     pub history: History,
 }
 
 impl Run {
-    // A run that came to this status and has this history.
+    // A run with this status and this history.
     pub(crate) fn new(status: Status, history: History) -> Run
         ensures status { result.status ≡ status_code status }
         ensures history { result.history ≡ history }

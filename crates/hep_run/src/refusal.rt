@@ -4,7 +4,7 @@ use hep_base::Text;
 use std::alloc::AllocError;
 use thiserror::Error;
 
-/// Why a source isn't run, with what is said of it.
+/// Why a source isn't run, with the notes about it.
 #[derive(Debug, Drop, Error)]
 pub enum SourceFault {
     /// Memory was refused, which says nothing of the source.
@@ -19,7 +19,7 @@ pub enum SourceFault {
         line: u32,
         /// The name that the rule is about, empty where it is about none.
         name: Text,
-        /// What stands behind the line of the refusal.
+        /// The notes after the line of the refusal.
         notes: Text,
     },
 }

@@ -1,15 +1,15 @@
-//! The bytes of a source and of a history to what a replay writes.
+//! From the bytes of a source and of a history to the output of a replay.
 ghost use Rattle.std.specs.Prelude.{IfOk, OnErr};
 ghost use Rattle.hep_outcome.specs.Transcripts.{outcome_of};
 ghost use Rattle.hep_run.specs.Memory.{MayReadOn};
 ghost use Rattle.hep_run.specs.Outcome.{IsReplayOutcome};
 
-use crate::front::image_of_source;
+use crate::front_end::image_of_source;
 use crate::transcript::fault_transcript;
-use hep_outcome::{AskedReplay, Transcript, replay_transcript as image_transcript};
+use hep_outcome::{ReplayRequest, Transcript, replay_transcript as image_transcript};
 use std::alloc::{AllocError, Global};
 
-/// All that a replay of a source comes to, before a byte of it is written.
+/// All that a replay of a source writes, before a byte of it is written.
 ///
 /// # Errors
 ///
@@ -17,7 +17,7 @@ use std::alloc::{AllocError, Global};
 pub fn replay_transcript(
     alloc: Global,
     source: &[u8],
-    asked: &AskedReplay<'_>,
+    asked: &ReplayRequest<'_>,
 ) -> Result<Transcript, AllocError>
     ensures made { IfOk result (λ r. IsReplayOutcome asked.now.long asked.now.history.now asked.now.arena source.now (outcome_of r)) }
     ensures unmade { OnErr result (MayReadOn asked.now.long source.now) }

@@ -1,16 +1,16 @@
-//! From a source's bytes to what its run writes.
+//! From the bytes of a source to the output of its run.
 ghost use Rattle.std.specs.Prelude.{IfOk, OnErr};
 ghost use Rattle.hep_outcome.specs.Transcripts.{outcome_of};
 ghost use Rattle.hep_run.specs.Memory.{MayReadOn};
 ghost use Rattle.hep_run.specs.Outcome.{IsOutcome};
 
-use crate::front::image_of_source;
+use crate::front_end::image_of_source;
 use crate::transcript::fault_transcript;
-use hep_outcome::run::image_transcript;
+use hep_outcome::run_by_choices::image_transcript;
 use hep_outcome::{Options, Transcript};
 use std::alloc::{AllocError, Global};
 
-/// All that a run of a source comes to, before a byte of it is written, with notes where `long` is true.
+/// All that a run of a source writes, before a byte of it is written, with notes where `long` is true.
 ///
 /// # Errors
 ///

@@ -1,4 +1,4 @@
-//! Many runs of a source by lots, counted.
+//! A sample: many runs of a source by lots, counted by their outcomes.
 ghost use Rattle.std.specs.Io.KnownBytes.{Keeps};
 ghost use Rattle.std.specs.Prelude.{◌≡◌, [], codes, IfOk, IfErr, OnErr};
 ghost use Rattle.hep_outcome.specs.declared.status.Status.TheVariants.{NoMemory};
@@ -7,19 +7,19 @@ ghost use Rattle.hep_run.specs.Memory.{MayReadOn, RefusesLarge};
 ghost use Rattle.hep_run.specs.Samples.{AreFirstSeeds, HasLotHistory, IsSampleOutcome, IsSampled, IsTallied};
 ghost use Rattle.hep_outcome.specs.Transcripts.{outcome_of};
 
-use crate::deliver::{deliver, say};
-use crate::front::image_of_source;
-use crate::lots::lots_transcript;
+use crate::delivery::{deliver, say};
+use crate::front_end::image_of_source;
+use crate::run_by_lots::lots_transcript;
 use crate::source::NO_MEMORY;
 use crate::transcript::{fault_transcript, text_transcript};
 use hep_outcome::{
-    AskedSample, LotOptions, SampleOptions, Status, Tally, Transcript, count, nth_options,
+    LotOptions, SampleOptions, SampleRequest, Status, Tally, Transcript, count, nth_options,
     seeds_of, text_of, write_text,
 };
 use std::alloc::{AllocError, Global};
 use std::io::Write;
 
-/// What a sample came to.
+/// The result of a sample.
 #[derive(Drop)]
 pub struct Sample {
     /// The exit status of the program: the code of a `Status`.
@@ -46,7 +46,7 @@ fn tallies_of(
     Ok(tallies)
 }
 
-// All that a sample of a source that runs comes to, before a byte of it is written, and the seeds of the first runs.
+// All that a sample of a runnable source writes, before a byte of it is written, and the seeds of the first runs.
 fn counted_transcript(
     alloc: Global,
     source: &[u8],
@@ -61,7 +61,7 @@ fn counted_transcript(
     Ok((text_transcript(alloc, text), seeds))
 }
 
-// All that a sample of a source comes to, before a byte of it is written, and the seeds of the first runs.
+// All that a sample of a source writes, before a byte of it is written, and the seeds of the first runs.
 fn sample_transcript(
     alloc: Global,
     source: &[u8],
@@ -78,14 +78,14 @@ fn sample_transcript(
     }
 }
 
-/// Samples a source that was read: runs it by lots, by so many seeds, and writes how many runs came to each outcome, with the seed of the
-/// first one; or to `messages` why it isn't run, with notes where they are asked for.
+/// Samples a source, which has been read: runs it by lots, once for each seed, and writes the number of runs of each
+/// outcome, with the seed of the first one; or to `messages` why it isn't run, with notes where they are asked for.
 ///
-/// Each run is compared with the outcomes before it, one after the other.
+/// Each run is compared with the outcomes before it, one after another.
 pub fn sample_bytes<W: Write, E: Write>(
     alloc: Global,
     source: &[u8],
-    asked: &AskedSample<'_>,
+    asked: &SampleRequest<'_>,
     output: &mut W,
     messages: &mut E,
 ) -> Sample
@@ -109,7 +109,7 @@ pub fn sample_bytes<W: Write, E: Write>(
     }
 }
 
-/// The text of the history of a source's run by lots. Nothing is written to `messages` then.
+/// The text of the history of a source's run by lots. Where there is one, nothing is written to `messages`.
 ///
 /// # Errors
 ///

@@ -6,31 +6,30 @@ ghost use Rattle.hep_run.specs.Memory.{RefusesLarge, RefusesLargeSource};
 ghost use Rattle.hep_run.specs.Outcome.{IsOutcome, IsReplayOutcome};
 
 use crate::checks::{check_transcript, list_transcript};
-use crate::deliver::deliver_made;
-use crate::files::say_unread;
+use crate::companion_files::say_unread;
+use crate::delivery::deliver_made;
 use crate::input::read_input;
 use crate::options::Run;
 use crate::replay::replay_transcript;
 use crate::run::transcript_of;
 use hep_history::History;
-use hep_outcome::{AskedReplay, AskedRun, Options};
+use hep_outcome::{Options, ReplayRequest, RunRequest};
 use std::alloc::Global;
 use std::io::{Read, Write};
 
-/// The most bytes of a source; its reading ends once more have come.
+/// The greatest number of bytes of a source. Reading stops as soon as there are more.
 ///
-/// It is `MOST_BYTES` of `hep_text`, which refuses a longer source with 107. Were it less, the
-/// first part of a source could be run as if it were the source; `run_source` is proved for just this number
-/// in both.
+/// It is `MOST_BYTES` of `hep_text`, which refuses a longer source with 107. If it were less, the first part of a
+/// source could be run as if it were the source; the proof of `run_source` needs just this number in both.
 pub const MOST_BYTES: usize = 4_194_304;
 
 /// The line where memory was refused.
 pub const NO_MEMORY: &[u8] = b"NO MEMORY\n";
 
-/// Checks a source: reads it, and writes to `messages` why it is refused, if it is, with notes where `long` is true. Where it
-/// isn't, nothing is written, and `run_noted` would run it.
+/// Checks a source: reads it, and writes to `messages` why it is refused, if it is, with notes where `long` is true.
+/// If it isn't refused, nothing is written, and `run_noted` would run it.
 ///
-/// The answer is the code of a `Status`.
+/// Returns the code of a `Status`.
 pub fn check_noted<R: Read, W: Write, E: Write>(
     alloc: Global,
     source: &mut R,
@@ -69,10 +68,10 @@ pub fn check_source<R: Read, W: Write, E: Write>(
     check_noted(alloc, source, false, output, messages)
 }
 
-/// Lists a source: reads it, and writes to `output` the lines of its units and common blocks, also where it
-/// passes a limit; or to `messages` why it is refused, with notes where `long` is true.
+/// Lists a source: reads it, and writes to `output` the lines of its units and common blocks, also where it passes a
+/// limit; or to `messages` why it is refused, with notes where `long` is true.
 ///
-/// The answer is the code of a `Status`.
+/// Returns the code of a `Status`.
 pub fn list_noted<R: Read, W: Write, E: Write>(
     alloc: Global,
     source: &mut R,
@@ -111,14 +110,14 @@ pub fn list_source<R: Read, W: Write, E: Write>(
     list_noted(alloc, source, false, output, messages)
 }
 
-/// Runs a source that was read: checks it, runs it by the options, and then writes the records to
-/// `output` and the faults, the stop or the refusal to `messages`, with notes where they are asked for.
+/// Runs a source, which has been read: checks it, runs it by the options, and then writes the records to `output` and
+/// the faults, the stop or the refusal to `messages`, with notes where they are asked for.
 ///
 /// The run's status is the code of a `Status`.
 pub fn run_bytes<W: Write, E: Write>(
     alloc: Global,
     source: &[u8],
-    asked: &AskedRun<'_>,
+    asked: &RunRequest<'_>,
     output: &mut W,
     messages: &mut E,
 ) -> Run
@@ -139,7 +138,7 @@ pub fn run_bytes<W: Write, E: Write>(
 pub fn run_noted<R: Read, W: Write, E: Write>(
     alloc: Global,
     source: &mut R,
-    asked: &AskedRun<'_>,
+    asked: &RunRequest<'_>,
     output: &mut W,
     messages: &mut E,
 ) -> Run
@@ -172,21 +171,21 @@ pub fn run_source<R: Read, W: Write, E: Write>(
     ensures large { RefusesLargeSource false (R.remaining source.old) (R.remaining source.new) result
         (W.contents output.old) (W.contents output.new) (E.contents messages.old) (E.contents messages.new) }
 {
-    let asked = AskedRun {
+    let asked = RunRequest {
         options,
         long: false,
     };
     run_noted(alloc, source, &asked, output, messages)
 }
 
-/// Makes the steps of a history of a source again, both as bytes, and then writes as `run_bytes` does, and `STILL RUNNING` to
-/// `messages` where the run could go on.
+/// Makes the steps of a history of a source again, where both have been read. Then it writes as `run_bytes` does, and
+/// `STILL RUNNING` to `messages` where the run could go on.
 ///
 /// The run's status is the code of a `Status`, and its history has an entry for each step.
 pub fn replay_bytes<W: Write, E: Write>(
     alloc: Global,
     source: &[u8],
-    asked: &AskedReplay<'_>,
+    asked: &ReplayRequest<'_>,
     output: &mut W,
     messages: &mut E,
 ) -> Run
@@ -202,12 +201,12 @@ pub fn replay_bytes<W: Write, E: Write>(
 
 /// Reads a source and makes the steps of a history of it again, as `replay_bytes` does.
 ///
-/// The history's bytes were read before, so that faults come in the order of the words: one of
-/// reading the history first, then those of the source, then those of the history's text.
+/// The bytes of the history have been read before, so that faults are reported in the order of the command line:
+/// first a fault of reading the history, then those of the source, then those of the history's text.
 pub fn replay_noted<R: Read, W: Write, E: Write>(
     alloc: Global,
     source: &mut R,
-    asked: &AskedReplay<'_>,
+    asked: &ReplayRequest<'_>,
     output: &mut W,
     messages: &mut E,
 ) -> Run
@@ -245,7 +244,7 @@ pub fn replay_source<R: Read, W: Write, E: Write>(
     ensures large { RefusesLargeSource false (R.remaining source.old) (R.remaining source.new) result
         (W.contents output.old) (W.contents output.new) (E.contents messages.old) (E.contents messages.new) }
 {
-    let asked = AskedReplay {
+    let asked = ReplayRequest {
         history,
         arena: cells,
         long: false,

@@ -1,4 +1,4 @@
-//! What is written where a source isn't run, or a text is the answer.
+//! The output where a source isn't run, or where the result is a text.
 ghost use Rattle.std.specs.Prelude.{◌≡◌, [], false, IfOk, OnErr};
 ghost use Rattle.hep_outcome.specs.Transcripts.{outcome_of};
 ghost use Rattle.hep_run.specs.Checks.{outcome_of_text};
@@ -14,14 +14,14 @@ use hep_outcome::{Lines, Status, put_refusal};
 pub use hep_outcome::{Transcript, full_transcript, history_transcript, opening_notes_when};
 use std::alloc::{AllocError, Global};
 
-// A source that is refused so, with nothing behind it, is too large.
+// Whether a refusal with nothing after it is that of a source that is too large.
 fn is_too_large(number: u16, line: u32, name: &Text, notes: &Text) -> bool
     ensures { result ≡ tells_large (Refused number line name.now notes.now) }
 {
     number == 107 && line == 0 && name.as_slice().is_empty() && notes.as_slice().is_empty()
 }
 
-// What a source leaves that is too large.
+// The transcript of a source that is too large.
 fn large_transcript(alloc: Global) -> Transcript
     ensures { outcome_of result ≡ outcome.refused 107 0 [] [] }
 {
@@ -34,7 +34,7 @@ fn large_transcript(alloc: Global) -> Transcript
     )
 }
 
-// What a source leaves that is refused so, whose line is made.
+// The transcript of a source that is refused so, whose line is made.
 fn told_transcript(
     alloc: Global,
     number: u16,
@@ -51,7 +51,7 @@ fn told_transcript(
     Ok(Transcript::silent(alloc, Lines::Made(messages), Status::Refused, history))
 }
 
-// What a refused source leaves.
+// The transcript of a refused source.
 fn refused_transcript(
     alloc: Global,
     number: u16,
@@ -68,7 +68,7 @@ fn refused_transcript(
     told_transcript(alloc, number, line, name, notes)
 }
 
-/// What a source leaves that isn't run for this reason.
+/// The transcript of a source that isn't run for this reason.
 ///
 /// # Errors
 ///
@@ -88,7 +88,7 @@ pub fn fault_transcript(alloc: Global, fault: SourceFault) -> Result<Transcript,
     }
 }
 
-/// What is left where this text is the answer.
+/// The transcript of a text.
 pub fn text_transcript(alloc: Global, text: Vec<u8>) -> Transcript
     ensures { outcome_of result ≡ outcome_of_text text.items }
 {

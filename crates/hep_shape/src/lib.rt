@@ -1,7 +1,7 @@
-//! Shapes of arrays: which bounds make one, how many elements it has, and which of them subscripts
-//! name (X3.9-1978, section 5).
+//! Shapes of arrays (X3.9-1978, section 5): which bounds make a shape, the number of its elements, and the element that
+//! subscripts name. Begin with [`Shape`].
 //!
-//! Nothing here takes memory.
+//! Nothing here allocates memory.
 #![tactic(auto)]
 
 pub mod shape;

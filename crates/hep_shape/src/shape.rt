@@ -8,14 +8,14 @@ use arrayvec::ArrayVec;
 use hep_machine::Bound;
 use std::marker::Model;
 
-// The most dimensions that an array may have (X3.9-1978, 5.1.1).
+// The greatest number of dimensions of an array (X3.9-1978, 5.1.1).
 const MOST_DIMENSIONS: usize = 7;
 
-// The most elements that an array may have.
+// The greatest number of elements of an array.
 const MOST_ELEMENTS: u32 = 1_048_576;
 
 /// The shape of an array: the bounds of its dimensions, one to seven, the first one first. Contracts
-/// see their list.
+/// see it as the list of the bounds.
 #[derive(Drop)]
 pub struct Shape {
     bounds: ArrayVec<Bound, MOST_DIMENSIONS>,
@@ -37,8 +37,8 @@ impl Model for Shape {
 impl Shape {
     /// The shape of an array with these bounds (X3.9-1978, 5.1.1 and 5.1.2).
     ///
-    /// None where there is no dimension or are more than seven, an upper bound is below its lower one, a
-    /// dimension before the last has no upper bound, or there would be more than 1,048,576 elements.
+    /// None where there is no dimension or more than seven, where an upper bound is below its lower bound, where
+    /// a dimension before the last has no upper bound, or where there would be more than 1,048,576 elements.
     pub fn new(bounds: &[Bound]) -> Option<Shape>
         ensures { result ≡ if is_shape bounds.now then Some bounds.now else None }
     {
@@ -54,7 +54,7 @@ impl Shape {
         Some(Shape { bounds, elements })
     }
 
-    /// The bounds of its dimensions, the first one first.
+    /// The bounds of the dimensions, the first one first.
     pub fn bounds(&self) -> &[Bound]
         ensures value { result.now ≡ self.now }
         ensures shape { is_shape result.now ≡ true }
@@ -62,9 +62,9 @@ impl Shape {
         &self.bounds
     }
 
-    /// The number of the element that these subscripts name, counted from 1 by columns (X3.9-1978, 5.4.3).
+    /// The number of the element that these subscripts name, counted from 1 in the standard's order (X3.9-1978, 5.4.3).
     ///
-    /// None where there is another number of subscripts than of dimensions, one is outside its bounds, or
+    /// None where the numbers of subscripts and dimensions differ, where a subscript is outside its bounds, or where
     /// the number would be above 1,048,576.
     pub fn element(&self, subscripts: &[i64]) -> Option<u32>
         ensures { result ≡ counted_element self.now subscripts.now }
@@ -72,21 +72,21 @@ impl Shape {
         element_among(&self.bounds, subscripts)
     }
 
-    /// How many elements the array has, a cell each (X3.9-1978, 5.2.3); none where its last upper bound is open.
+    /// The number of elements of the array, one cell each (X3.9-1978, 5.2.3); none where the last upper bound is open.
     pub fn cells(&self) -> Option<u32>
         ensures { result ≡ elements self.now }
     {
         self.elements
     }
 
-    /// The array fits where so many cells are left (X3.9-1978, 15.9.3.3); one that is open fits anywhere.
+    /// Whether the array fits in `rest` cells (X3.9-1978, 15.9.3.3). An array with an open upper bound always fits.
     pub fn fits(&self, rest: u32) -> bool
         ensures { result ≡ fits self.now rest }
     {
         self.cells().is_none_or(|cells| cells <= rest)
     }
 
-    /// The same shape.
+    /// A copy of the shape.
     pub fn copy(&self) -> Shape
         ensures { result ≡ self.now }
     {
@@ -94,7 +94,7 @@ impl Shape {
         Shape { bounds, elements }
     }
 
-    /// Whether two shapes are one.
+    /// Whether two shapes are equal.
     pub fn same(&self, other: &Shape) -> bool
         ensures { IsTrue result ↔ (self.now ≡ other.now) }
     {
@@ -102,10 +102,10 @@ impl Shape {
     }
 }
 
-/// The number of the element that these subscripts name among such dimensions, counted from 1 by columns
+/// The number of the element that these subscripts name in dimensions with these bounds, counted from 1 in the standard's order
 /// (X3.9-1978, 5.4.3). The bounds need not make a shape.
 ///
-/// None where there is another number of subscripts than of dimensions, one is outside its bounds, or the number
+/// None where the numbers of subscripts and dimensions differ, where a subscript is outside its bounds, or where the number
 /// would be above 1,048,576.
 #[inline(always)]
 pub fn element_among(bounds: &[Bound], subscripts: &[i64]) -> Option<u32>
@@ -117,14 +117,14 @@ pub fn element_among(bounds: &[Bound], subscripts: &[i64]) -> Option<u32>
     counted_element(bounds, subscripts)
 }
 
-/// Some upper bound is open, so that there is no number of elements.
+/// Whether an upper bound is open, so that the number of elements isn't known.
 pub fn is_open(bounds: &[Bound]) -> bool
     ensures { result ≡ is_none (elements bounds.now) }
 {
     bounds.iter().any(|bound| bound.upper.is_none())
 }
 
-// The same bounds, of which there are seven at most.
+// A copy of these bounds, which are at most seven.
 fn copied(bounds: &[Bound]) -> ArrayVec<Bound, MOST_DIMENSIONS>
     requires { length bounds.now ≤ 7 }
     ensures { result.items ≡ bounds.now }
@@ -136,7 +136,7 @@ fn copied(bounds: &[Bound]) -> ArrayVec<Bound, MOST_DIMENSIONS>
     copy
 }
 
-// Whether bounds in a row are the same.
+// Whether two lists of bounds are equal.
 fn are_same(a: &[Bound], b: &[Bound]) -> bool
     ensures { IsTrue result ↔ (a.now ≡ b.now) }
 {
@@ -151,7 +151,7 @@ fn are_same(a: &[Bound], b: &[Bound]) -> bool
     true
 }
 
-// No upper bound is below its lower one, and only the last dimension is open.
+// Whether no upper bound is below its lower bound, and at most the last dimension is open.
 fn are_dimensions(bounds: &[Bound]) -> bool
     ensures { result ≡ are_dimensions bounds.now }
 {
@@ -167,7 +167,7 @@ fn are_dimensions(bounds: &[Bound]) -> bool
     true
 }
 
-// How many elements there are; none where there is no number of them, or more than an array may have.
+// The number of elements; none where a bound is open, or where there are more elements than an array may have.
 fn element_count(bounds: &[Bound]) -> Option<u32>
     requires { are_dimensions bounds.now ≡ true }
     ensures { result ≡ if is_most (elements bounds.now) then elements bounds.now else None }
@@ -175,7 +175,7 @@ fn element_count(bounds: &[Bound]) -> Option<u32>
     let mut count = 1;
     for bound in bounds {
         count *= extent(bound)?;
-        // No extent is 0, so this does not get smaller again.
+        // No extent is 0, so the count doesn't decrease again.
         if count > u128::from(MOST_ELEMENTS) {
             return None;
         }
@@ -184,7 +184,7 @@ fn element_count(bounds: &[Bound]) -> Option<u32>
 }
 
 // The number of an element, by one subscript for each dimension; none where a subscript is outside its
-// bounds, or the number is above the last that is counted.
+// bounds, or where the number is above 1,048,576.
 #[inline(always)]
 fn counted_element(bounds: &[Bound], subscripts: &[i64]) -> Option<u32>
     requires { length subscripts.now ≡ length bounds.now }
@@ -198,13 +198,13 @@ fn counted_element(bounds: &[Bound], subscripts: &[i64]) -> Option<u32>
         if number > most {
             return None;
         }
-        // A step over so many elements leads past the last that is counted, as any longer one does.
+        // A step over this many elements leads past element 1,048,576, and so does any longer one.
         size = most.min(size * extent(bound).unwrap_or(1));
     }
     Some(number as u32)
 }
 
-// How far a subscript is above its lower bound; none where it is outside its bounds.
+// The subscript less its lower bound; none where the subscript is outside its bounds.
 fn offset(bound: &Bound, subscript: i64) -> Option<u64>
     ensures { result ≡ if is_within bound.now subscript then Some (natural (subscript -ℤ bound.now.lower)) else None }
 {
@@ -212,10 +212,11 @@ fn offset(bound: &Bound, subscript: i64) -> Option<u64>
     is_within.then(|| subscript.abs_diff(bound.lower))
 }
 
-// The size of a dimension (X3.9-1978, 5.2.2), none where it is open. It may be 2^64.
-fn extent(bound: &Bound) -> Option<u128>
+/// The size of a dimension (X3.9-1978, 5.2.2), none where it is open. It may be 2^64.
+pub fn extent(bound: &Bound) -> Option<u128>
     requires { is_between bound.now.lower bound.now.upper [] ≡ true }
     ensures size { result ≡ extent bound.now }
+    ensures some { IfSome result (λ size. 1 ≤ size) }
     ensures bounded { IfSome result (λ size. size ≤ 2 ^ 64) }
 {
     bound

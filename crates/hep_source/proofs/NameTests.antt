@@ -1,12 +1,14 @@
 -- Tests of names, and lists that they make.
-use Rattle.std.proofs.Common.{if◌then◌else◌, ◌≡◌, ℕ, Bool, true, false, List, [], ◌∷◌, ◌++◌, refl, ap, sym, ◌∙◌}
+use Rattle.std.proofs.Common.{if◌then◌else◌, ◌≡◌, ℕ, zero, suc, Option, Some, None, is_some, Bool, true, false, List, [], ◌∷◌, ◌++◌, refl, ap, sym, ◌∙◌}
 use Rattle.std.proofs.lemmas.Bool.{and_parts, eqb-true, eq-eqb}
 use Rattle.std.specs.Prelude.{◌&&◌, ◌||◌, nat_eq}
 use Rattle.std.specs.List.{list_any}
+use Rattle.std.specs.Option.{option_map}
 use mathlib.Core.Bool.{beq}
 use lib.Pointwise.{pointwise}
 use Rattle.hep_source.specs.declared.name.Name.{Name}
-use Rattle.hep_source.specs.Names.{name_eq, same_logical, same_name, same_letters, is_among, with_name, with_names}
+use Rattle.hep_source.specs.Names.{index_among, name_eq, same_logical, same_name, same_letters, is_among, with_name, with_names}
+use Rattle.hep_source.proofs.Tests.{some-mapped}
 
 -- ---- names are the same where they are equal
 
@@ -31,6 +33,7 @@ equal_names x y e =
     let l = equal_letters x.letters y.letters h.1 in
     λ i. record { asynchronous = t i; letters = l i }
 
+-- same_logical finds a truth value equal to itself
 pub same_logical-self : (a : Bool) → same_logical a a ≡ true
 same_logical-self true = refl
 same_logical-self false = refl
@@ -86,3 +89,19 @@ inserted xs x = ap (λ b. if b then xs else xs ++ x ∷ []) (among-is x xs)
 pub with_names-append : (xs ys zs : List Name) → with_names xs (ys ++ zs) ≡ with_names (with_names xs ys) zs
 with_names-append xs [] zs = refl
 with_names-append xs (y ∷ ys) zs = with_names-append (with_name xs y) ys zs
+
+-- ---- the index of a name
+
+-- a name has an index in a list where it is among the list
+pub index_there : (x : Name) (xs : List Name) → is_some (index_among x xs) ≡ is_among x xs
+index_there x [] = refl
+index_there x (y ∷ ys) = by (same_name x y) (some-mapped suc (index_among x ys) ∙ index_there x ys)
+  where
+    by : (b : Bool) → is_some (option_map suc (index_among x ys)) ≡ is_among x ys
+        → is_some (if b then Some 0 else option_map suc (index_among x ys)) ≡ (if b then true else is_among x ys)
+    by true h = refl
+    by false h = h
+
+-- a name with an index in a list is among the list
+pub among-index : (x : Name) (xs : List Name) (k : ℕ) → index_among x xs ≡ Some k → is_among x xs ≡ true
+among-index x xs k e = sym (index_there x xs) ∙ ap is_some e

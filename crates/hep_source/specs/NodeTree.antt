@@ -1,4 +1,4 @@
--- The tree that contracts see in a node (docs/ARCHITECTURE.md, "Forms").
+-- The tree as which contracts see a node (docs/ARCHITECTURE.md, "Forms").
 use Rattle.hep_source.specs.Tree as tree
 use Rattle.hep_source.specs.Tree.{Tree, trees_of}
 use Rattle.hep_source.specs.declared.expression.Node.{Node}

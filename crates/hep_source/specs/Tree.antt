@@ -1,4 +1,4 @@
--- An expression without where it lies in memory.
+-- Expressions as pure values.
 use Rattle.std.specs.Prelude.{ℕ, ◌+◌, List, [], ◌∷◌}
 use Rattle.hep_source.specs.declared.value.Value.{Value}
 use Rattle.hep_source.specs.declared.name.Occurrence.{Occurrence}
@@ -17,7 +17,7 @@ mutual
     negated : (t : Tree) → Tree
     binary : (o : Operator) (a b : Tree) → Tree
 
-  -- expressions in a row
+  -- a list of expressions
   pub data Trees : Type 0 where
     no_trees : Trees
     trees : (first : Tree) (more : Trees) → Trees
@@ -26,8 +26,12 @@ abbrev pub trees_of : List Tree → Trees
 trees_of [] = no_trees
 trees_of (t ∷ ts) = trees t (trees_of ts)
 
+abbrev pub list_of : Trees → List Tree
+list_of no_trees = []
+list_of (trees t ts) = t ∷ list_of ts
+
 abbrev mutual
-  -- how many nodes a tree has
+  -- the number of nodes of a tree
   pub nodes : Tree → ℕ
   nodes (constant v) = 1
   nodes (occurrence p) = 1

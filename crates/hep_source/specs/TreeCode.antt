@@ -1,4 +1,5 @@
--- A tree as a tree of numbers, which gives it back: contracts store values by such a code (docs/ARCHITECTURE.md, "Forms").
+-- A code of trees as trees of numbers, and the proof that decoding gives the tree back. Contracts store values by such a code
+-- (docs/ARCHITECTURE.md, "Forms").
 use Rattle.std.specs.Prelude.{ℕ, zero, suc, ◌≡◌, ℤ, pos, negsuc, Bool, true, false, List, [], ◌∷◌, refl}
 use Rattle.std.proofs.Common.{ap}
 use Rattle.std.specs.Coded.{Coded, code_by}

@@ -13,13 +13,13 @@ use Rattle.hep_source.specs.Defaults.{no_unit, no_statement}
 abbrev pub Units : Type 0
 Units = List (List Statement)
 
--- the statements of a unit
+-- the statements of the unit with this index
 abbrev pub unit_at : Units → ℕ → List Statement
 unit_at program u = unwrap_or (slice_get program u) []
 
 -- ---- headers: 14.1 and 15.6.1
 
--- the name by which a main program without PROGRAM statement is shown: docs/MACHINE.md, "Names and units"
+-- the name that is shown for a main program without a PROGRAM statement: docs/MACHINE.md, "Names and units"
 abbrev pub main_name : List ℕ
 main_name = codes "MAIN"
 
@@ -29,7 +29,7 @@ name_by_header (Subroutine p dummies) = spelling p.name
 name_by_header (Function t p dummies) = spelling p.name
 name_by_header _ = main_name
 
--- the name that a unit has
+-- the name of a unit
 abbrev pub unit_name : List Statement → List ℕ
 unit_name [] = main_name
 unit_name (s ∷ ss) = name_by_header s.form
@@ -38,7 +38,7 @@ abbrev pub subroutine_by_header : Form → Option Name
 subroutine_by_header (Subroutine p dummies) = Some p.name
 subroutine_by_header _ = None
 
--- the name of a subroutine; a main program has none by which it is called
+-- the name of a subroutine; none for another unit
 abbrev pub subroutine_name : List Statement → Option Name
 subroutine_name [] = None
 subroutine_name (s ∷ ss) = subroutine_by_header s.form
@@ -47,12 +47,12 @@ abbrev pub function_by_header : Form → Option Name
 function_by_header (Function t p dummies) = Some p.name
 function_by_header _ = None
 
--- the name of a function, which its result has too
+-- the name of a function, which is also the name of its result; none for another unit
 abbrev pub function_name : List Statement → Option Name
 function_name [] = None
 function_name (s ∷ ss) = function_by_header s.form
 
--- the name of a subroutine or function
+-- the name of a subroutine or function; none for a main program
 abbrev pub procedure_name : List Statement → Option Name
 procedure_name unit = option_or (subroutine_name unit) (function_name unit)
 
@@ -73,11 +73,11 @@ abbrev pub is_named : Option Name → Name → Bool
 is_named None x = false
 is_named (Some y) x = same_name y x
 
--- the index of the subroutine that has a name
+-- the index of the subroutine with a name
 abbrev pub subroutine_called : Units → Name → Option ℕ
 subroutine_called program x = index_where (λ unit. is_named (subroutine_name unit) x) program
 
--- the index of the function that has a name
+-- the index of the function with a name
 abbrev pub function_called : Units → Name → Option ℕ
 function_called program x = index_where (λ unit. is_named (function_name unit) x) program
 
@@ -107,12 +107,12 @@ is_executable (Parameter constants) = false
 is_executable (Data groups) = false
 is_executable _ = true
 
--- how many statements stand before the first executable one
+-- the number of statements before the first executable one
 abbrev pub passed_over : List Statement → ℕ
 passed_over [] = 0
 passed_over (s ∷ ss) = if is_executable s.form then 0 else suc (passed_over ss)
 
--- the index of the first executable statement of a unit from index k on
+-- the index of the first executable statement of a unit, from index k on
 abbrev pub executable_from : List Statement → ℕ → ℕ
 executable_from unit k = k + passed_over (drop k unit)
 

@@ -5,21 +5,21 @@ use crate::name::Occurrence;
 use crate::value::Value;
 use hep_base::Sequence;
 
-/// The type that a name is given (X3.9-1978, 4.1).
+/// The type of a name (X3.9-1978, 4.1).
 #[derive(Clone, Copy, Debug, PartialEq, Eq)]
 pub enum ValueType {
     Integer,
     Logical,
 }
 
-/// Letters from the first to the last, as IMPLICIT names them (8.5).
+/// A range of letters in an IMPLICIT statement, with both ends (8.5).
 #[derive(Clone, Copy, Debug, PartialEq, Eq)]
 pub struct LetterRange {
     pub first: u8,
     pub last: u8,
 }
 
-/// The letters that an IMPLICIT statement gives a type (8.5).
+/// A type and the letters to which an IMPLICIT statement gives it (8.5).
 #[derive(Drop)]
 pub struct ImplicitGroup {
     pub value_type: ValueType,
@@ -34,7 +34,7 @@ pub enum UpperBound {
     Open,
 }
 
-/// A dimension declarator (5.1.1): its lower bound is 1 where it has none.
+/// A dimension declarator (5.1.1). The lower bound is 1 where none is written.
 #[derive(Drop)]
 pub struct Dimension {
     pub lower: Option<Expr>,
@@ -48,7 +48,7 @@ pub struct Declarator {
     pub dimensions: Sequence<Dimension>,
 }
 
-/// A block of a COMMON statement with its list (8.3); blank COMMON has no name.
+/// A common block in a COMMON statement, with its list (8.3). Blank COMMON has no name.
 #[derive(Drop)]
 pub struct CommonBlock {
     pub block: Option<Occurrence>,
@@ -69,28 +69,28 @@ pub struct Target {
     pub subscripts: Sequence<Expr>,
 }
 
-/// How often a value of DATA stands (9.1): an integer constant or a name of one.
+/// The repeat count of a value of DATA (9.1): an integer constant, or the name of one.
 #[derive(Clone, Copy, Debug, PartialEq, Eq)]
 pub enum Repeat {
     Count(i64),
     Named(Occurrence),
 }
 
-/// A value of DATA (9.1): a constant, which may be an integer with a sign, or a name of one.
+/// A value of DATA (9.1): a constant, which may be an integer with a sign, or the name of a constant.
 #[derive(Clone, Copy, Debug, PartialEq, Eq)]
 pub enum DataConstant {
     Value(Value),
     Named(Occurrence),
 }
 
-/// A value of DATA with its repeat count, which is 1 where it has none.
+/// A value of DATA with its repeat count. The count is 1 where none is written.
 #[derive(Clone, Copy, Debug, PartialEq, Eq)]
 pub struct DataValue {
     pub repeat: Option<Repeat>,
     pub constant: DataConstant,
 }
 
-/// The names of a DATA statement up to a `/`, and the values between it and the next (9.1).
+/// A group of a DATA statement (9.1): the names up to a `/`, and the values between it and the next `/`.
 #[derive(Drop)]
 pub struct DataGroup {
     pub targets: Sequence<Target>,

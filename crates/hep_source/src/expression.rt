@@ -8,14 +8,14 @@ use crate::value::Value;
 use std::alloc::{AllocError, Global};
 use std::marker::Model;
 
-/// An expression (X3.9-1978, section 6). Contracts see the tree that it is.
+/// An expression (X3.9-1978, section 6). Contracts see it as a tree.
 #[cycle(expression)]
 #[derive(Drop)]
 pub struct Expr {
     pub node: Node,
 }
 
-/// The top of an expression.
+/// The outermost node of an expression.
 #[cycle(expression)]
 #[derive(Drop)]
 pub enum Node {

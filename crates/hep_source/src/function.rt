@@ -20,14 +20,14 @@ pub enum PureFunction {
 /// A function of an asynchronous scalar or element (`docs/LANGUAGE.md`).
 #[derive(Clone, Copy, Debug, PartialEq, Eq)]
 pub enum StateFunction {
-    /// FULL: whether it is full.
+    /// FULL: whether the variable is full.
     IsFull,
-    /// EMPTY: whether it is empty.
+    /// EMPTY: whether the variable is empty.
     IsEmpty,
-    /// VALUE: its value, whatever its state is.
+    /// VALUE: the value of the variable, full or empty.
     ValueOf,
-    /// SETE: its value, and it becomes empty.
+    /// SETE: the value of the variable, which becomes empty.
     SetEmpty,
-    /// WAITF: its value, once it is full.
+    /// WAITF: the value of the variable. The process waits until the variable is full.
     WaitFull,
 }

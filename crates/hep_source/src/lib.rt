@@ -1,6 +1,7 @@
 //! The tree of a program: its units, statements and expressions, and their names.
 //!
-//! Contracts see each type as a pure value: an expression as a tree, a list type as its list.
+//! Contracts see each type as a pure value: an expression as a tree, and a sequence as a list. Begin with [`Program`], [`Statement`] and
+//! [`Expr`].
 #![tactic(auto)]
 
 pub mod declaration;
@@ -19,8 +20,8 @@ pub use declaration::{
 pub use expression::{Expr, Node};
 pub use function::{PureFunction, StateFunction};
 pub use hep_base::{Sequence, Text};
-pub use name::{Name, Occurrence};
+pub use name::{Name, Occurrence, block_spelling};
 pub use operator::{ArithmeticOperator, LogicalOperator, Operator, RelationalOperator, Sign};
-pub use program::{MAIN_NAME, Program, Unit};
-pub use statement::{DoControl, Form, PrintItem, SignLabels, Statement};
+pub use program::{MAIN_NAME, Program, Unit, function_name, line_at};
+pub use statement::{DoControl, Form, PrintItem, SignLabels, Statement, is_executable};
 pub use value::Value;

@@ -1,4 +1,4 @@
-//! Symbolic names, and names where they stand in a statement.
+//! Symbolic names, and occurrences of names in a statement.
 ghost use Rattle.std.specs.Prelude.{◌≡◌, ◌∷◌, [], IfOk};
 ghost use Rattle.std.specs.Cmp.Rules.{hashing};
 ghost use Rattle.std.proofs.Common.{rules};
@@ -8,17 +8,17 @@ use hep_base::Text;
 use std::alloc::{AllocError, Global};
 use std::hash::{Hash, Hasher};
 
-/// A symbolic name (X3.9-1978, 2.2): one to six letters or digits, the first a letter, with blanks
-/// after them up to six. The sign `$` before a name makes it asynchronous; it isn't one of the
-/// six, and `$X` and `X` are two names.
+/// A symbolic name (X3.9-1978, 2.2): one to six letters or digits, of which the first is a letter. Blanks after them pad
+/// it to six characters. The sign `$` before a name makes it asynchronous. The sign isn't one of the six characters, and
+/// `$X` and `X` are two names.
 #[derive(Clone, Copy, Debug, PartialEq, Eq)]
 pub struct Name {
     pub asynchronous: bool,
     pub letters: [u8; 6],
 }
 
-// By hand, and in one write, since names are looked up in tables all the time: a derived hash writes eight times. `$X` and
-// `X` have the same hash, and few programs have both.
+// This hash is written by hand because names are looked up in tables very often: it makes one write, and a derived hash makes
+// eight. `$X` and `X` have the same hash, but few programs have both names.
 impl Hash for Name {
     ghost hash_input = { λ name. name.letters ∷ [] };
 
@@ -30,7 +30,7 @@ impl Hash for Name {
 }
 
 impl Name {
-    /// The characters of the name, with `$` before them where it is asynchronous.
+    /// The characters of the name without padding, with `$` before them where the name is asynchronous.
     ///
     /// # Errors
     ///
@@ -51,10 +51,24 @@ impl Name {
     }
 }
 
-/// A name where it stands in a statement.
+/// An occurrence of a name in a statement.
 #[derive(Clone, Copy, Debug, PartialEq, Eq)]
 pub struct Occurrence {
     pub name: Name,
-    /// How many characters of the statement's text stand before the name.
+    /// The number of characters of the statement's text before the name.
     pub position: usize,
+}
+
+/// A common block as it is written between slashes (X3.9-1978, 8.3): its name, and no character for blank COMMON.
+///
+/// # Errors
+///
+/// Only where memory was refused.
+pub fn block_spelling(alloc: Global, block: Option<Name>) -> Result<Text, AllocError>
+    ensures { IfOk result (λ text. text ≡ names.block_spelling block) }
+{
+    match block {
+        Some(name) => name.spelling(alloc),
+        None => Ok(Text::from(Vec::new(alloc))),
+    }
 }

@@ -2,16 +2,17 @@
 ghost use Rattle.std.specs.Prelude.{◌≡◌, IfOk};
 ghost use Rattle.hep_source.specs.Units as units;
 
+use crate::name::Name;
 use crate::statement::{Form, Statement};
 use hep_base::Text;
 use std::alloc::{AllocError, Global};
 use std::marker::Model;
 
-/// The name by which a main program without PROGRAM statement is shown (X3.9-1978, 14.1).
+/// The name that is shown for a main program without a PROGRAM statement (X3.9-1978, 14.1).
 pub const MAIN_NAME: &[u8] = b"MAIN";
 
-/// A program unit (X3.9-1978, 2.4): its statements from the header, where it has one, to END.
-/// Contracts see their list.
+/// A program unit (X3.9-1978, 2.4): its statements from the header, if it has one, to END.
+/// Contracts see it as the list of its statements.
 #[derive(Drop)]
 pub struct Unit {
     statements: Vec<Statement>,
@@ -46,14 +47,14 @@ impl Unit {
         &self.statements
     }
 
-    /// The vector that holds the statements; this takes no memory.
+    /// The vector that holds the statements. This allocates no memory.
     pub fn into_vec(self) -> Vec<Statement>
         ensures { result.items ≡ self }
     {
         self.statements
     }
 
-    /// The name by which the unit is shown: that of its header, or `MAIN` for a main program without PROGRAM
+    /// The name that is shown for the unit: that of its header, or `MAIN` for a main program without a PROGRAM
     /// statement.
     ///
     /// # Errors
@@ -74,7 +75,7 @@ impl Unit {
     }
 }
 
-/// A program (X3.9-1978, 2.4): its units in the order of the source. Contracts see their list.
+/// A program (X3.9-1978, 2.4): its units in the order of the source. Contracts see it as the list of its units.
 #[derive(Drop)]
 pub struct Program {
     units: Vec<Unit>,
@@ -109,10 +110,35 @@ impl Program {
         &self.units
     }
 
-    /// The vector that holds the units; this takes no memory.
+    /// The vector that holds the units. This allocates no memory.
     pub fn into_vec(self) -> Vec<Unit>
         ensures { result.items ≡ self }
     {
         self.units
+    }
+}
+
+/// The name of a function, which its result has too; no other unit has one.
+pub fn function_name(unit: &[Statement]) -> Option<Name>
+    ensures { result ≡ units.function_name unit.now }
+{
+    match unit.first() {
+        Some(
+            Statement {
+                form: Form::Function(_, occurrence, _),
+                ..
+            },
+        ) => Some(occurrence.name),
+        _ => None,
+    }
+}
+
+/// The initial line of the statement at an index of a unit; 0 where there is none.
+pub fn line_at(unit: &[Statement], index: usize) -> u32
+    ensures { result ≡ units.line_at unit.now index }
+{
+    match unit.get(index) {
+        Some(statement) => statement.line,
+        None => 0,
     }
 }

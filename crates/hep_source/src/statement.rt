@@ -1,4 +1,6 @@
 //! Statements.
+ghost use Rattle.std.specs.Prelude.{◌≡◌};
+ghost use Rattle.hep_source.specs.Units as units;
 
 use crate::declaration::{
     CommonBlock, DataGroup, Declarator, ImplicitGroup, NamedConstant, Target, ValueType,
@@ -15,7 +17,7 @@ pub enum PrintItem {
     Characters(Text),
 }
 
-/// What a DO statement has (X3.9-1978, 11.10).
+/// The parts of a DO statement (X3.9-1978, 11.10).
 #[derive(Drop)]
 pub struct DoControl {
     /// The label of the terminal statement.
@@ -23,11 +25,11 @@ pub struct DoControl {
     pub variable: Occurrence,
     pub initial: Expr,
     pub limit: Expr,
-    /// 1 where it has none.
+    /// The increment. It is 1 where none is written.
     pub increment: Option<Expr>,
 }
 
-/// The labels to which an arithmetic IF goes (11.4).
+/// The labels of an arithmetic IF (11.4): where control goes by the sign of the expression.
 #[derive(Clone, Copy, Debug, PartialEq, Eq)]
 pub struct SignLabels {
     pub negative: u32,
@@ -35,14 +37,14 @@ pub struct SignLabels {
     pub positive: u32,
 }
 
-/// What a statement is and has. A logical IF's is that of the statement that it holds.
+/// The form of a statement, with its parts. The form of a logical IF is that of the statement within it.
 #[derive(Drop)]
 pub enum Form {
     /// The header of a main program (X3.9-1978, 14.1).
     Program(Occurrence),
     /// The header of a subroutine with its dummy arguments (15.6.1).
     Subroutine(Occurrence, Sequence<Occurrence>),
-    /// The header of a function with its dummy arguments, and its type where the header gives it one (15.5.1).
+    /// The header of a function with its dummy arguments, and its type if the header has one (15.5.1).
     Function(Option<ValueType>, Occurrence, Sequence<Occurrence>),
     /// IMPLICIT (8.5).
     Implicit(Sequence<ImplicitGroup>),
@@ -76,7 +78,7 @@ pub enum Form {
     Do(DoControl),
     /// CALL (15.6.2).
     Call(Occurrence, Sequence<Expr>),
-    /// CREATE: a call whose subroutine runs as a process of its own (docs/LANGUAGE.md).
+    /// CREATE: a call whose subroutine runs as a new process (docs/LANGUAGE.md).
     Create(Occurrence, Sequence<Expr>),
     /// PURGE: variables, elements and arrays become empty (docs/LANGUAGE.md).
     Purge(Sequence<Target>),
@@ -86,7 +88,7 @@ pub enum Form {
     Continue,
     /// RETURN (15.8).
     Return,
-    /// RESUME: the activation goes on beside its caller (docs/LANGUAGE.md).
+    /// RESUME: the caller continues, and the activation runs in parallel to it (docs/LANGUAGE.md).
     Resume,
     /// STOP (11.12).
     Stop,
@@ -98,13 +100,14 @@ pub enum Form {
 pub struct Statement {
     pub line: u32,
     pub label: Option<u32>,
-    /// The conditions of a logical IF (X3.9-1978, 11.5), of which each one holds the next; none
+    /// The conditions of logical IFs, of which each contains the next (X3.9-1978, 11.5). There are none
     /// where the statement is no logical IF.
     pub conditions: Sequence<Expr>,
     pub form: Form,
 }
 
-// By hand, so that who drops a program has a call in the place of all forms and their parts.
+// This is written by hand so that code that drops a program calls this function. The drops of all forms and their parts would else be
+// repeated there.
 impl Drop for Statement {
     fn drop(self) {
         let Statement {
@@ -113,5 +116,23 @@ impl Drop for Statement {
             conditions,
             form,
         } = self;
+    }
+}
+
+/// Whether a form is that of an executable statement (X3.9-1978, 7.1).
+pub fn is_executable(form: &Form) -> bool
+    ensures { result ≡ units.is_executable form.now }
+{
+    match form {
+        Form::Program(_)
+        | Form::Subroutine(..)
+        | Form::Function(..)
+        | Form::Implicit(_)
+        | Form::Declare(..)
+        | Form::Dimension(_)
+        | Form::Common(_)
+        | Form::Parameter(_)
+        | Form::Data(_) => false,
+        _ => true,
     }
 }

@@ -8,25 +8,25 @@ use Rattle.hep_layout.proofs.HeldFrames.{run-last}
 use Rattle.hep_cells.specs.Changes.{full_after}
 use Rattle.hep_cells.specs.declared.want.Want.{Want}
 use Rattle.hep_blocked.specs.Needs.{on_top, touched_by, touched_by_next}
-use Rattle.hep_blocked.proofs.Touching.{states-stay}
+use Rattle.hep_blocked.proofs.TouchedUnits.{states-stay}
 use Rattle.hep_code.specs.declared.instruction.Instruction.{Instruction}
 use Rattle.hep_code.specs.declared.instruction.Instruction.TheVariants.{Step}
 use Rattle.hep_code.specs.declared.instruction.Operation.{Operation}
 use Rattle.hep_code.specs.Words.{IsPastPushes}
-use Rattle.hep_code.proofs.Ahead.{step_is_ahead}
+use Rattle.hep_code.proofs.NextOperation.{step_is_ahead}
 use Rattle.hep_step.specs.declared.effect.Effect.{Effect}
 use Rattle.hep_step.specs.Changes.{AreChanged, changed_ahead, changed_at, may_change}
 use Rattle.hep_step.specs.Effects as effects
 use Rattle.hep_step.specs.Effects.{effect_ahead, effect_at}
-use Rattle.hep_step.specs.Performed as performed
-use Rattle.hep_step.specs.Performed.{changed_in, performed as done, snapshot}
+use Rattle.hep_step.specs.PerformedSteps as performed
+use Rattle.hep_step.specs.PerformedSteps.{changed_in, performed as done, snapshot}
 use Rattle.hep_step.specs.Simulation.{IsNotLeftOut, RunningTop, addressed_on_top, arrays_running, code_on_top, code_running, unit_arrays, unit_code, unit_running}
 use Rattle.hep_step.proofs.Changes.{changes-told, none-changed, none-told}
 use Rattle.hep_step.proofs.Operations.{operation_simulated}
-use Rattle.hep_step.proofs.Running.{Comes, coming, next_is, scope_running}
+use Rattle.hep_step.proofs.RunningActivations.{Comes, coming, next_is, scope_running}
 use Rattle.hep_state.specs.Words.{Changes, IsTopRunning, IsTurning, TurnOf, running_top, state_before, top_before, top_frame}
-use Rattle.hep_state.proofs.Moved.{unit-is}
-use Rattle.hep_state.proofs.Taken.{AreAlike, alike-by, before, full-there}
+use Rattle.hep_state.proofs.SilentTurns.{unit-is}
+use Rattle.hep_state.proofs.TakenTurns.{AreAlike, alike-by, before, full-there}
 
 module _ {t : TurnOf} (turning : IsTurning t) where
   abbrev old : State

@@ -2,22 +2,22 @@
 use Rattle.std.proofs.Common.{◌≡◌, ℕ, ◌+◌, ◌<◌, ◌^◌, false, List, IsSome, arith, sym, ap, ◌∙◌, subst}
 use Rattle.hep_machine.specs.Words.{Units, frame_cells, unit_at}
 use Rattle.hep_arena.specs.Holes.{first_fit}
-use Rattle.hep_step.specs.Calls.{is_creation}
+use Rattle.hep_step.specs.NextCalls.{is_creation}
 use Rattle.hep_state.specs.declared.core_state.CoreState.{CoreState}
-use Rattle.hep_state.specs.declared.upcoming.CallAhead.{CallAhead}
+use Rattle.hep_state.specs.declared.next_step.NextCall.{NextCall}
 use Rattle.hep_state.specs.Words.{CanBeginCall, HasCallAhead, HoldsInTurn, IsAfter, IsAtCallAhead, IsGivenBy, IsMachineAfter, IsMaking, KeepsRoomOf, Snapshot, StaysShown, StepsOn, snapshot_of}
-use Rattle.hep_state.proofs.Beside.{beside-again, beside-shown}
-use Rattle.hep_state.proofs.Tops.{turning}
-use Rattle.hep_state.proofs.Unchanged.{machine-of, machine-reserved}
+use Rattle.hep_state.proofs.OtherProcesses.{beside-again, beside-shown}
+use Rattle.hep_state.proofs.TopActivations.{turning}
+use Rattle.hep_state.proofs.UnchangedStates.{machine-of, machine-reserved}
 
 -- it is ahead after whatever turns
-pub ahead-after : {program : Units} {cells later : ℕ} {choices turns : List ℕ} {p : ℕ} {m : Snapshot} {call : CallAhead} → HasCallAhead program cells choices p m call → IsAfter program later turns m → HasCallAhead program later turns p m call
+pub ahead-after : {program : Units} {cells later : ℕ} {choices turns : List ℕ} {p : ℕ} {m : Snapshot} {call : NextCall} → HasCallAhead program cells choices p m call → IsAfter program later turns m → HasCallAhead program later turns p m call
 ahead-after {p = p} at after =
     let was = at.holds.step.turning in
     let turn = turning p after at.levels (was.after.shows.halted ∙ was.running) in
     record { levels = at.levels; top = turn.0; holds = record { step = record { turning = turn.1; behind = at.holds.step.behind; ahead = at.holds.step.ahead }; onward = at.holds.onward } }
 
-module _ {program : Units} {p : ℕ} {old new : CoreState} {call : CallAhead} (at : IsAtCallAhead program p old call) (others : new ≡ record old { passing = new.passing }) (rooms : KeepsRoomOf program old new) where
+module _ {program : Units} {p : ℕ} {old new : CoreState} {call : NextCall} (at : IsAtCallAhead program p old call) (others : new ≡ record old { passing = new.passing }) (rooms : KeepsRoomOf program old new) where
   shown : snapshot_of new ≡ snapshot_of old
   shown = ap snapshot_of others
 

@@ -14,9 +14,12 @@ use Rattle.hep_proc.specs.declared.process.Process.{Process}
 use Rattle.hep_proc.specs.Stacks.{Stack, no_stack, stack_of, stack_with}
 use Rattle.hep_proc.proofs.Levels.{has-levels, last-index, last-there, levels-are, some-levels}
 use Rattle.hep_state.specs.declared.core_state.CoreState.{CoreState}
-use Rattle.hep_state.specs.Words.{AreNumbered, HasLevels, HasRoom, IsPlaceOf, numbers_of, snapshot_of, stacks_of}
-use Rattle.hep_state.proofs.Numbered.{number-within, numbered-past, numbered-stack, numbered-there, numbers-set, one-place, set-stacks, stack-absent, stack-found}
+use Rattle.hep_state.specs.Words.{AreNumbered, HasLevels, HasRoom, IsPlaceOf, numbers_of, snapshot_of, stacks_of, with_contents, with_stack}
+use Rattle.hep_state.proofs.ProcessNumbers.{number-within, numbered-past, numbered-stack, numbered-there, numbers-set, one-place, set-stacks, stack-absent, stack-found}
 use Rattle.hep_source.proofs.Tests.{at-front}
+use Rattle.hep_proc.specs.Nodes.{nodes_of}
+use Rattle.hep_proc.specs.declared.frames.Frames.{Frames}
+use Rattle.std.specs.Vec.{with_item}
 
 -- ---- the process of a number
 
@@ -218,3 +221,19 @@ pub room-reserved : (program : Units) (q r : Process) → r.levels.items ≡ q.l
 room-reserved program q r levels more room i l e =
     let here = room i l (subst (λ (ls : List Local). slice_get ls i ≡ Some l) levels e) in
     omega (arith, here, more)
+
+-- what the machine shows, where a process has another stack and cells of the arena have changed
+pub shown-now : (m : CoreState) (p : ℕ) {at : ℕ} {before : Stack} {q : Process} (r : Process) (frames : Frames) (l : Local) (ls : List Local)
+    (left pending : List Value) (next : ℕ)
+    → AreNumbered m → IsAt m.processes.items p at before q → r.number ≡ q.number
+    → stack_of r ≡ stack_with (record l { index = next }) ls left pending → frames.arena.holes ≡ m.frames.arena.holes
+    → frames.nodes ≡ m.frames.nodes
+    → snapshot_of (record m { frames = frames; processes = with_item m.processes at r })
+    ≡ with_stack (with_contents (snapshot_of m) frames.arena.contents) p (record l { index = next } ∷ ls) left pending
+shown-now m p r frames l ls left pending next numbers it same stack holes nodes =
+    let stacks = stacks-set m p r (stack_with (record l { index = next }) ls left pending) numbers it same stack in
+    λ i. record (with_stack (with_contents (snapshot_of m) frames.arena.contents) p (record l { index = next } ∷ ls) left pending) {
+      arena = record { contents = frames.arena.contents; holes = holes i };
+      nodes = nodes_of (nodes i);
+      processes = stacks i;
+    }

@@ -14,21 +14,21 @@ use Rattle.hep_code.specs.Words.{passed_from}
 use Rattle.hep_layout.specs.Words.{address}
 use Rattle.hep_layout.proofs.Memory.{address-same}
 use Rattle.hep_image.specs.declared.array.Array.{Array}
-use Rattle.hep_image.specs.Finding.{cells_in}
-use Rattle.hep_accepted_laws.specs.Instructions.{variables_in}
-use Rattle.hep_accepted_laws.specs.Placed.{ArePlaced, code_in}
-use Rattle.hep_step.specs.declared.range.ClosedRange.{ClosedRange}
-use Rattle.hep_step.specs.Placed.{AreEntriesPlaced}
-use Rattle.hep_step.specs.Purged.{effect_of_purge, effect_of_ranges, have_cell, purged}
-use Rattle.hep_step.specs.Ranges.{ranges_of}
+use Rattle.hep_image.specs.Addressing.{cells_in}
+use Rattle.hep_binding.specs.AcceptedLawsInstructions.{variables_in}
+use Rattle.hep_binding.specs.AcceptedLawsPlacedCode.{ArePlaced, code_in}
+use Rattle.hep_step.specs.declared.closed_range.ClosedRange.{ClosedRange}
+use Rattle.hep_step.specs.PlacedTargets.{AreEntriesPlaced}
+use Rattle.hep_step.specs.PurgeEffects.{effect_of_purge, effect_of_ranges, have_cell, purged}
+use Rattle.hep_step.specs.PurgedRanges.{ranges_of}
 use Rattle.hep_step.specs.PurgeReady.{AreReached}
 use Rattle.hep_step.specs.Effects.{Effect, fails, moves}
 use Rattle.hep_step.specs.Simulation.{arrays_on_top, unit_arrays}
-use Rattle.hep_state.specs.declared.upcoming.PurgeAhead.{PurgeAhead}
+use Rattle.hep_state.specs.declared.next_step.NextPurge.{NextPurge}
 use Rattle.hep_state.specs.Words.{IsAtPurge, ranges_ahead, HasPurged, IsEffectOf, IsEnding, IsTurning, TurnOf, snapshot_moved, state_before, top_before, top_frame, HasGaps, HasMadeTurn}
-use Rattle.hep_state.proofs.Moved.{moved-shown, next-is, unit-is}
-use Rattle.hep_state.proofs.Taken.{inside}
-use Rattle.hep_state.proofs.Tops.{dropped-behind}
+use Rattle.hep_state.proofs.SilentTurns.{moved-shown, next-is, unit-is}
+use Rattle.hep_state.proofs.TakenTurns.{inside}
+use Rattle.hep_state.proofs.TopActivations.{dropped-behind}
 
 -- ---- cells
 
@@ -106,7 +106,7 @@ module _ {t : TurnOf} (turning : IsTurning t) where
 
 -- ---- the PURGE that is ahead
 
-module _ {t : TurnOf} (purge : PurgeAhead) (at : IsAtPurge t purge) where
+module _ {t : TurnOf} (purge : NextPurge) (at : IsAtPurge t purge) where
   -- what is so of the arrays of its unit
   pub of-arrays : (P : List Array → Type 0) → P (arrays_on_top t.program (top_before t)) → P (unit_arrays t.program t.level.unit)
   of-arrays P = subst (λ u. P (unit_arrays t.program u)) (unit-is at.turning)

@@ -5,12 +5,12 @@ use Rattle.std.proofs.lemmas.Option.{slice_get_past}
 use Rattle.std.specs.Option.{unwrap_or}
 use Rattle.hep_machine.specs.Words.{Units, dummies_of, unit_at}
 use Rattle.hep_image.specs.Dummies.{dummy_arguments}
-use Rattle.hep_binding.specs.Fitting.{longest_code}
+use Rattle.hep_binding.specs.DummyShapes.{longest_code}
 use Rattle.hep_step.specs.Simulation.{unit_code}
-use Rattle.hep_step.specs.Room.{most_of, most_targets}
-use Rattle.hep_step.proofs.Most.{targets-within, within-most}
+use Rattle.hep_step.specs.TargetCount.{most_of, most_targets}
+use Rattle.hep_step.proofs.TargetCounts.{targets-within, within-most}
 use Rattle.hep_state.specs.Words.{HasRoomToPass, IsRoomToPass}
-use Rattle.hep_state.specs.declared.core_state.Passing.{Passing}
+use Rattle.hep_state.specs.declared.core_state.ArgumentBuffers.{ArgumentBuffers}
 
 -- a unit that isn't there has no dummy arguments
 dummies-within : (program : Units) (u : ℕ) → length (dummies_of (unit_at program u)) ≤ most_of (λ u. length (dummies_of (unit_at program u))) (length program)
@@ -19,7 +19,7 @@ dummies-within program u = elim (cases_lt u (length program)) [
   | inr past ↦ let none = ap (λ o. length (dummies_of (unwrap_or o []))) (slice_get_past program u past) in omega (arith, none)
 ]
 
-pub room-enough : (program : Units) (r : Passing) → IsRoomToPass program r → HasRoomToPass program r
+pub room-enough : (program : Units) (r : ArgumentBuffers) → IsRoomToPass program r → HasRoomToPass program r
 room-enough program r room =
     let given = room.given in
     let shapes = room.shapes in

@@ -8,22 +8,20 @@ use Rattle.hep_machine.specs.Words.{Units, IsSameOrOneMore, Frame, Layout, Placi
 use Rattle.hep_machine.proofs.Others.{activations_after, other_numbered, processes_after}
 use Rattle.hep_arena.specs.Gaps.{frame_among}
 use Rattle.hep_layout.specs.Words.{frame_from, IsAtRest, is_stacked, FrameNode, Nodes}
-use Rattle.hep_layout.proofs.HeldFrames.{run-last}
-use Rattle.hep_proc.specs.Keeping.{frames_of, Keeps, frames_in}
+use Rattle.hep_layout.proofs.HeldFrames.{turned, layout-last}
+use Rattle.hep_proc.specs.FrameTable.{frames_of, Keeps, frames_in}
 use Rattle.hep_proc.specs.Stacks.{Stack}
-use Rattle.std.proofs.lemmas.Option.{same_Some, none-some, slice_get_within}
+use Rattle.std.proofs.lemmas.Option.{same_Some, none-some}
 use Rattle.hep_arena.specs.Space.{Space}
-use Rattle.hep_image.specs.Bound.{AreKept}
+use Rattle.hep_image.specs.BoundActivations.{AreKept}
 use Rattle.hep_layout.proofs.FrameTree.{rest-held}
 use Rattle.hep_state.specs.Words.{HasMadeTurn, HoldsInTurn, IsStack, IsTurning, Shows, Snapshot, TurnOf, state_before}
 use Rattle.hep_layout.proofs.Stacks.{top-numbered}
-use Rattle.hep_state.proofs.Standing.{AreOn, are-on, AreMade, AreStanding, stack-again, stack-standing, standing-still}
+use Rattle.hep_state.proofs.SettledPositions.{AreOn, are-on, AreMade, AreStanding, stack-again, stack-standing, standing-still}
 use Rattle.hep_binding.proofs.Calls.{set-numbered}
+use Rattle.hep_state.proofs.ProcessNumbers.{from-one, within-number}
 
 -- ---- the state
-
-pub turned : (program : Units) (choices : List ℕ) (p : ℕ) (t : State) → step program p (run program choices) ≡ Some t → run program (choices ++ p ∷ []) ≡ t
-turned program choices p t e = run-last program choices p ∙ ap (λ o. unwrap_or o (run program choices)) e
 
 -- ---- the layout
 
@@ -53,15 +51,6 @@ placing-last program cells x p = refl
 run-is : (program : Units) (choices : List ℕ) → run_from program (opening program) choices ≡ run program choices
 unfolding run
 run-is program choices = refl
-
-pub layout-last : (program : Units) (cells : ℕ) (choices : List ℕ) (p : ℕ) (layout : Layout) → layout_of program cells is_held choices ≡ Some layout
-    → layout_of program cells is_held (choices ++ p ∷ []) ≡ layout_after_step program cells is_held (run program choices) (state_after_turn program p (run program choices)) layout
-layout-last program cells choices p layout e =
-    let first : Placing = record { state = opening program; layout = opening_layout program cells } in
-    let x = placing_after program cells choices in
-    let state : x.state ≡ run program choices = placing-state program cells is_held first choices ∙ run-is program choices in
-    ap (λ (z : Placing). z.layout) (placing-append program cells is_held first choices (p ∷ []) ∙ placing-last program cells x p)
-    ∙ (λ i. (layout_after_turn program cells is_held (state i) (state_after_turn program p (state i)) (e i)).layout)
 
 -- where a frame had no gap, there is none from there on
 placing-none : (program : Units) (cells : ℕ) (x : Placing) (ps : List ℕ) → x.layout ≡ None → (placing_from program cells is_held x ps).layout ≡ None
@@ -110,7 +99,8 @@ layout-more program cells choices p layout t gap e made long is =
 
 -- ---- how many activations there are
 
-few-more : {A : Type 0} (xs ys : List A) → IsSameOrOneMore xs ys → length ys ≤ length xs + 1
+-- a list that is the same or has one element more is at most one longer
+pub few-more : {A : Type 0} (xs ys : List A) → IsSameOrOneMore xs ys → length ys ≤ length xs + 1
 few-more xs ys (inl same) = omega (arith, ap length same)
 few-more xs ys (inr (x, more)) = omega (arith, ap length more, length-append xs (x ∷ []))
 
@@ -171,10 +161,6 @@ set-again [] i x y = refl
 set-again (z ∷ zs) zero x y = refl
 set-again (z ∷ zs) (suc i) x y = ap (λ ws. z ∷ ws) (set-again zs i x y)
 
-pub from-one : {A : Type 0} (xs : List A) (p : ℕ) (x : A) → numbered xs p ≡ Some x → 1 ≤ p
-from-one xs zero x e = absurd (none-some x e)
-from-one xs (suc i) x e = omega arith
-
 -- ---- numbered elements, with one more
 
 last-or-before : {A : Type 0} (xs : List A) (y z : A) (j : ℕ) → slice_get (xs ++ y ∷ []) j ≡ Some z → (slice_get xs j ≡ Some z) ⊎ ((j ≡ length xs) × (y ≡ z))
@@ -186,10 +172,6 @@ last-or-before (x ∷ xs) y z (suc j) e = elim (last-or-before xs y z j e) [ inl
 numbered-last : {A : Type 0} (xs : List A) (y z : A) (j : ℕ) → numbered (xs ++ y ∷ []) j ≡ Some z → (numbered xs j ≡ Some z) ⊎ ((j ≡ suc (length xs)) × (y ≡ z))
 numbered-last xs y z zero e = absurd (none-some z e)
 numbered-last xs y z (suc j) e = elim (last-or-before xs y z j e) [ inl before ↦ inl before | inr last ↦ inr (omega (arith, last.0), last.1) ]
-
-numbered-within : {A : Type 0} (xs : List A) (j : ℕ) (z : A) → numbered xs j ≡ Some z → j ≤ length xs
-numbered-within xs zero z e = omega arith
-numbered-within xs (suc j) z e = omega (arith, slice_get_within xs j z e)
 
 -- ---- a turn
 
@@ -289,6 +271,6 @@ module _ {t : TurnOf} (h : IsTurning t) (later : State) (nodes : Nodes) (k : Sta
         by_places : (numbered (with_numbered stacks-before t.process k) n ≡ Some j) ⊎ ((n ≡ suc (length (with_numbered stacks-before t.process k))) × (last ≡ j)) → (numbered (with_numbered processes-before t.process q) n ≡ Some r) ⊎ ((n ≡ suc (length (with_numbered processes-before t.process q))) × (newest ≡ r))
             → AreStanding t.program later nodes j.operands j.pending j.levels r
         by_places (inl f) (inl g) = standing-changed n j r f g on
-        by_places (inl f) (inr g) = absurd (omega (arith, numbered-within (with_numbered stacks-before t.process k) n j f, g.0, count))
-        by_places (inr f) (inl g) = absurd (omega (arith, numbered-within (with_numbered processes-before t.process q) n r g, f.0, count))
+        by_places (inl f) (inr g) = absurd (omega (arith, within-number (with_numbered stacks-before t.process k) n j f, g.0, count))
+        by_places (inr f) (inl g) = absurd (omega (arith, within-number (with_numbered processes-before t.process q) n r g, f.0, count))
         by_places (inr f) (inr g) = subst (λ (z : Stack). AreStanding t.program later nodes z.operands z.pending z.levels r) f.1 (subst (λ z. AreStanding t.program later nodes last.operands last.pending last.levels z) g.1 (new (subst (AreOn later) (sym g.1) on)))

@@ -1,15 +1,16 @@
 -- RESUME stands in subroutines alone, which have no result: docs/LANGUAGE.md, 9 and 10.
 use Rattle.std.proofs.Common.{◌≡◌, ℕ, ◌<◌, Bool, true, false, ◌&&◌, List, [], ◌∷◌, ◌++◌, length, Option, Some, None, refl, sym, ap, ◌∙◌, subst, slice_get}
 use Rattle.std.specs.Option.{is_none, unwrap_or}
-use Rattle.hep_machine.specs.Words.{Form, Statement, Units, no_statement, function_by_header, function_name, statement_at, subroutine_name, unit_at, Value, Reference, Part, whole, first_redex, then_part, part_of, target_part, control_part, actuals_of, targets_part, items_part, Action, assigning, choosing, branching, testing_condition, entering_block, entering_loop, calling, creating}
-use Rattle.hep_machine.specs.Words.{purging, printing, jumping, continuing, leaving, resuming, stopping, does, next_by, next_of, next_of_form, Work, doing, ending}
+use Rattle.hep_machine.specs.Words.{Form, Statement, Units, no_statement, function_by_header, function_name, statement_at, subroutine_name, unit_at, Value, Reference, whole, then_part, part_of, target_part, control_part, actuals_of, targets_part, items_part, Action, assigning, choosing, branching, testing_condition, entering_block, entering_loop, calling, creating}
+use Rattle.hep_machine.specs.Words.{purging, printing, jumping, continuing, leaving, resuming, stopping, does, next_of, next_of_form, Work, doing, ending}
 use Rattle.hep_source.specs.Units.{subroutine_by_header}
 use Rattle.hep_source.specs.declared.statement.Form.TheVariants as form
 use Rattle.hep_conditions.specs.Words.{IsAccepted, argument_violations, common_violations, count_violations, data_violations, function_types, jump_violations, label_violations, name_violations, resume_violations, structure_violations, type_missing_violations, type_violations, unknown_name_violations, violations_in, is_resume}
-use Rattle.hep_accepted_laws.proofs.Parts.{none-append, none-each, none-when}
-use Rattle.hep_accepted_laws.specs.Filled.{IsFilledForm}
-use Rattle.hep_accepted_laws.specs.Works.{ComesFrom}
+use Rattle.hep_binding.proofs.AcceptedLawsParts.{none-append, none-each, none-when}
+use Rattle.hep_binding.specs.AcceptedLawsPartlyEvaluated.{IsFilledForm}
+use Rattle.hep_binding.specs.AcceptedLawsWorkOrigins.{ComesFrom}
 use Rattle.hep_image.proofs.Numbers.{unit-there}
+use Rattle.hep_code.proofs.ControlFlow.{holds_of}
 
 -- ---- what comes next is RESUME of RESUME alone
 
@@ -17,10 +18,6 @@ use Rattle.hep_image.proofs.Numbers.{unit-there}
 abbrev IsOf : Form → Action → Type 0
 IsOf f resuming = f ≡ form.Resume
 IsOf f _ = Unit {0}
-
-holds_of : {A : Type 0} (P : Action → Type 0) (g : A → Action) (p : Part A) (a : Action) → ((x : A) → P (g x)) → next_by g p ≡ does a → P a
-holds_of P g (whole x) a h e = let same : g x ≡ a = cc in subst P same (h x)
-holds_of P g (first_redex r) a h e = absurd cc
 
 action-of : (unit : List Statement) (f : Form) (a : Action) → next_of_form unit f ≡ does a → IsOf f a
 action-of unit (form.Assign x t) a e = holds_of (IsOf (form.Assign x t)) (λ (both : Value × Reference). assigning both.1 both.0) (then_part (λ v r. (v, r)) (part_of unit t) (target_part unit x)) a (λ b. tt) e
@@ -87,7 +84,8 @@ none-resumed program unit u accepted is =
     let v8 = none-append (unknown_name_violations program unit) _ v7.1 in
     (none-append (data_violations unit) (resume_violations unit) v8.1).1
 
-both-false : (a b : Bool) → (a && b) ≡ false → a ≡ true → b ≡ false
+-- where a conjunction is false and its first part is true, the second one is false
+pub both-false : (a b : Bool) → (a && b) ≡ false → a ≡ true → b ≡ false
 both-false true b e is = e
 both-false false b e is = absurd cc
 

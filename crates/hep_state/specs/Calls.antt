@@ -1,30 +1,30 @@
--- What a core keeps after a CALL, CREATE or reference: docs/MACHINE.md, "Steps" and "Layout".
+-- The machine after a CALL, CREATE or reference: docs/MACHINE.md, "Steps" and "Layout".
 use Rattle.std.specs.Prelude.{◌≡◌, ℕ, ◌+◌, ◌<◌, ◌≤◌, Bool, true, false, List, [], ◌∷◌, ◌++◌, length, take, Option, Some, None}
 use Rattle.hep_machine.specs.Words.{Name, Units, function_name, unit_at, Binding, Actual, common_cells, frame_of, lowest_gap, with_numbered, State, step, Bounds, frame_cells}
 use Rattle.hep_arena.specs.Space.{Space}
 use Rattle.hep_code.specs.Words.{entry_index}
-use Rattle.hep_image.specs.Bound.{AreKept}
+use Rattle.hep_image.specs.BoundActivations.{AreKept}
 use Rattle.hep_layout.specs.Words.{Nodes, new_node, with_node}
-use Rattle.hep_step.specs.declared.given.Given.{Given}
+use Rattle.hep_step.specs.declared.dummy_storage.DummyStorage.{DummyStorage}
 use Rattle.hep_step.specs.Shapes.{AreShapesOf}
-use Rattle.hep_step.specs.declared.way.Way.{Way}
-use Rattle.hep_step.specs.declared.way.Way.TheVariants.{Calls, Creates, Refers}
-use Rattle.hep_step.specs.Calls.{GoesOn, is_creation}
+use Rattle.hep_step.specs.declared.call_kind.CallKind.{CallKind}
+use Rattle.hep_step.specs.declared.call_kind.CallKind.TheVariants.{Calls, Creates, Refers}
+use Rattle.hep_step.specs.NextCalls.{GoesOn, is_creation}
 use Rattle.hep_step.specs.Simulation.{unit_addressed}
-use Rattle.hep_state.specs.declared.calling.Called.{Called}
+use Rattle.hep_state.specs.declared.calling.CalledUnit.{CalledUnit}
 use Rattle.hep_proc.specs.declared.process.Local.{Local}
 use Rattle.hep_proc.specs.Stacks.{Stack}
 use Rattle.hep_state.specs.declared.core_state.CoreState.{CoreState}
 use Rattle.hep_state.specs.Snapshots.{Snapshot, snapshot_of}
-use Rattle.hep_state.specs.Tops.{HoldsInTurn, IsTurning, TurnOf, frames_before, state_before}
+use Rattle.hep_state.specs.TurnEffects.{HoldsInTurn, IsTurning, TurnOf, frames_before, state_before}
 use Rattle.hep_binding.specs.Calling.{ArePassed, CallOf, IsAllWritten, IsPassing, layout_with, state_made_by}
 
 -- the level of a new activation of unit u, whose node is under a key, at its first executable statement
 abbrev pub entered_level : Units → ℕ → ℕ → Local
 entered_level program u key = record { key = key; unit = u; kept = 0; index = entry_index (unit_addressed program u) }
 
--- the stacks with a new level: above the top one of the process, which keeps its first operands, so many, or as a process of its own; that
--- one is at another index
+-- the stacks with a new level: above the top level of the process, which keeps its first operands, or in a process of
+-- its own; the level that makes it is at another index
 abbrev pub stacks_made_by : Bool → TurnOf → ℕ → Local → Local → List Stack
 stacks_made_by false t kept new behind =
     with_numbered t.machine.processes t.process (record { levels = new ∷ (record behind { kept = kept } ∷ t.below); operands = []; pending = t.pending ++ take kept t.operands })
@@ -32,7 +32,8 @@ stacks_made_by true t kept new behind =
     with_numbered t.machine.processes t.process (record { levels = behind ∷ t.below; operands = []; pending = t.pending })
     ++ record { levels = new ∷ []; operands = []; pending = [] } ∷ []
 
--- the process calls or refers to unit u, or makes a process of it, and its top activation keeps so many operands and is to go on at an index
+-- the machine after a call, reference or creation of unit u; the activation that makes it keeps its first operands
+-- and goes on at an index
 abbrev pub snapshot_made_by : Bool → TurnOf → ℕ → ℕ → ℕ → ℕ → Space → Nodes → Snapshot
 snapshot_made_by creates t u key kept index arena nodes =
     record t.machine {
@@ -42,8 +43,9 @@ snapshot_made_by creates t u key kept index arena nodes =
       activations = t.machine.activations + 1;
     }
 
--- the step leads to a state s, whose last activation runs unit u; its frame has entered the lowest gap, its cells are written, what its
--- dummy arguments stand for is in consecutive cells, and its node is under a key, a child of that of the top level
+-- the step leads to a state s, whose last activation runs unit u; its frame has entered the lowest gap, its cells are
+-- written, what its dummy arguments are associated with is in consecutive cells, and its node is under a key, a child
+-- of that of the top level
 pub record HasEntered (t : TurnOf) (turning : IsTurning t) (u key : ℕ) (s : State) (arena : Space) (nodes : Nodes) : Type 0 where
   pub made : step t.program t.process (state_before t) ≡ Some s
   pub inside : u < length t.program
@@ -56,20 +58,21 @@ pub record HasEntered (t : TurnOf) (turning : IsTurning t) (u key : ℕ) (s : St
   pub nodes_are : nodes ≡ with_node t.machine.nodes key (new_node (length s.activations) u first (frame_of t.program s (length s.activations)) t.level.key) t.level.key
 
 -- just a function that is referred to has a result
-abbrev pub HasResultBy : Way → Option Name → Type 0
+abbrev pub HasResultBy : CallKind → Option Name → Type 0
 HasResultBy Calls result = result ≡ None
 HasResultBy Creates result = result ≡ None
 HasResultBy Refers result = (x : Name) × (result ≡ Some x)
 
--- the top activation, which makes an activation of unit u, keeps so many of its first operands, and goes on at an index then
-pub record IsAfterCall (way : Way) (t : TurnOf) (u kept index : ℕ) : Type 0 where
+-- the top activation makes an activation of unit u, keeps its first operands, and goes on at an index
+pub record IsAfterCall (way : CallKind) (t : TurnOf) (u kept index : ℕ) : Type 0 where
   pub few : kept ≤ length t.operands
   pub onward : GoesOn way (unit_addressed t.program t.level.unit) t.top.0 (take kept t.operands) index
   pub result : HasResultBy way (function_name (unit_at t.program u))
 
 -- ---- a CALL, CREATE or reference of a unit
 
--- what is called: a unit's index, the cells of its frame, and the index of its first executable statement in its code
+-- a unit of the program by its index, with the cells of its frame, and the index of its first executable statement in
+-- its code
 pub record IsUnit (program : Units) (u cells entry : ℕ) : Type 0 where
   pub inside : u < length program
   pub cells_are : cells ≡ frame_cells (unit_at program u)
@@ -80,9 +83,10 @@ abbrev pub call_in : TurnOf → ℕ → List Actual → Binding → CallOf
 call_in t u actuals b =
     record { program = t.program; choices = t.choices; process = t.process; top = t.top; unit = u; actuals = actuals; binding = b }
 
--- the step makes an activation of unit u by CALL, by CREATE or by reference, and this is given to its dummy arguments, and these are the
--- shapes of the adjustable arrays among them; the one that makes it keeps so many operands and is to go on at an index
-pub record IsMaking (way : Way) (t : TurnOf) (u kept index : ℕ) (given : List Given) (shapes : List (Option Bounds)) : Type 0 where
+-- the step makes an activation of unit u by CALL, CREATE or reference; its dummy arguments are given this, and these
+-- are the shapes of its adjustable arrays; the activation that makes it keeps its first operands and goes on at an
+-- index
+pub record IsMaking (way : CallKind) (t : TurnOf) (u kept index : ℕ) (given : List DummyStorage) (shapes : List (Option Bounds)) : Type 0 where
   pub turning : IsTurning t
   pub actuals : List Actual
   pub binding : Binding
@@ -93,10 +97,10 @@ pub record IsMaking (way : Way) (t : TurnOf) (u kept index : ℕ) (given : List 
   pub after : IsAfterCall way t u kept index
 
 -- the state to which it leads
-abbrev pub state_made : {way : Way} {t : TurnOf} {u kept index : ℕ} {given : List Given} {shapes : List (Option Bounds)} → IsMaking way t u kept index given shapes → State
+abbrev pub state_made : {way : CallKind} {t : TurnOf} {u kept index : ℕ} {given : List DummyStorage} {shapes : List (Option Bounds)} → IsMaking way t u kept index given shapes → State
 state_made {way} {t} {u} h = state_made_by (is_creation way) (call_in t u h.actuals h.binding)
 
--- the step of process p does so in a machine where just this is given, and this is called
-pub record Makes (way : Way) (program : Units) (cells : ℕ) (choices : List ℕ) (p : ℕ) (m : CoreState) (called : Called) (kept index : ℕ) : Type 0 where
+-- the step of process p does so, in a machine whose buffers have just what is given, for this unit
+pub record Makes (way : CallKind) (program : Units) (cells : ℕ) (choices : List ℕ) (p : ℕ) (m : CoreState) (called : CalledUnit) (kept index : ℕ) : Type 0 where
   pub making : HoldsInTurn program cells choices p (snapshot_of m) (λ t. IsMaking way t called.unit kept index m.passing.given.items m.passing.shapes.items)
   pub unit : IsUnit program called.unit called.cells called.entry

@@ -1,4 +1,4 @@
--- What a core keeps before the first step: docs/MACHINE.md, "The opening and runs".
+-- The machine before the first step: docs/MACHINE.md, "The opening and runs".
 use Rattle.std.specs.Prelude.{◌≡◌, ◌≤◌, ℕ, false, List, [], ◌∷◌, length, nat_eq, slice_get, Some, IsSome, vec_capacity}
 use Rattle.std.specs.Option.{option_map}
 use Rattle.hep_machine.specs.Words.{Units, main_unit, unset_cell, Layout, opening_layout, cell_given, run, State}
@@ -10,12 +10,12 @@ use Rattle.hep_image.specs.Data.{value_in_rows}
 use Rattle.hep_image.specs.Image.{most_cells}
 use Rattle.hep_step.specs.Simulation.{unit_code}
 use Rattle.hep_proc.specs.declared.process.Process.{Process}
-use Rattle.hep_proc.specs.Keeping.{Keeps, frames_in}
+use Rattle.hep_proc.specs.FrameTable.{Keeps, frames_in}
 use Rattle.hep_state.specs.declared.core_state.CoreState.{CoreState}
 use Rattle.hep_state.specs.Snapshots.{Snapshot}
 
--- a machine of a program can be opened with an arena of so many cells: one at least, and no more than it may have, and COMMON and the
--- frame of the main program fit
+-- a machine of a program can be opened with an arena of this many cells: one at least, no more than it may have, and
+-- enough for COMMON and the frame of the main program
 abbrev pub CanOpen : Units → ℕ → Type 0
 CanOpen program cells = (1 ≤ cells) × (cells ≤ most_cells) × IsSome (opening_layout program cells)
 
@@ -39,7 +39,7 @@ pub record IsEntered (program : Units) (cells key : ℕ) (arena : Space) (nodes 
   pub there : nodes key ≡ Some node
   pub first : node.activation ≡ 1
 
--- process 1 stands at an index of the main program
+-- process 1 is at an index of the main program
 abbrev pub snapshot_opened : Units → ℕ → ℕ → Space → Nodes → Snapshot
 snapshot_opened program key entry arena nodes =
     record {
@@ -52,13 +52,13 @@ snapshot_opened program key entry arena nodes =
       halted = false;
     }
 
--- a machine keeps one process, with room for just as many operands as the main program has at once at most
+-- the machine keeps one process, with room for as many operands as the main program's deepest stack
 pub record HasOneProcess (program : Units) (m : CoreState) : Type 0 where
   pub process : Process
   pub alone : m.processes.items ≡ process ∷ []
   pub room : vec_capacity process.operands ≡ deepest (unit_code program (main_unit program))
 
--- a machine has written nothing, and nothing has stopped it
+-- the machine has written nothing, and no STOP was executed
 pub record IsQuiet (m : CoreState) : Type 0 where
   pub running : m.halted ≡ false
   pub records : m.records.items ≡ []

@@ -1,4 +1,4 @@
--- What a core keeps of a state, without where it lies in memory: docs/ARCHITECTURE.md, "Forms".
+-- The state that a core keeps, without its places in memory: docs/ARCHITECTURE.md, "Forms".
 use Rattle.std.specs.Prelude.{ℕ, Bool, List}
 use Rattle.hep_machine.specs.declared.event.Fault.{Fault}
 use Rattle.hep_machine.specs.declared.record.Item.{Item}
@@ -7,7 +7,7 @@ use Rattle.hep_blocked.specs.Numbers.{AreRising}
 use Rattle.hep_layout.specs.Words.{Nodes}
 use Rattle.hep_proc.specs.Nodes.{nodes_of}
 use Rattle.hep_proc.specs.Stacks.{Stack}
-use Rattle.hep_state.specs.Numbered.{numbers_of, stacks_of}
+use Rattle.hep_state.specs.ProcessNumbers.{numbers_of, stacks_of}
 use Rattle.hep_state.specs.declared.core_state.CoreState.{CoreState}
 
 pub record Snapshot : Type 0 where
@@ -20,7 +20,7 @@ pub record Snapshot : Type 0 where
   pub faults : List Fault
   pub halted : Bool
 
--- the processes that are kept rise by their numbers, the last of which is that of the last one that was made at most
+-- the numbers of the kept processes rise, and the greatest is that of the last process made at most
 abbrev pub AreNumbered : CoreState → Type 0
 AreNumbered m = AreRising 1 m.made (numbers_of m.processes.items)
 

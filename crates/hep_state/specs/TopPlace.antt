@@ -1,4 +1,4 @@
--- Where the top activation of a process is, and the operation ahead of it: docs/MACHINE.md, "Steps".
+-- The place of the top activation of a process, and its next operation: docs/MACHINE.md, "Steps".
 use Rattle.std.specs.Prelude.{◌≡◌, ◌<◌, ℕ, true, List, length, Some, None, IfOk, OnErr, Result, vec_capacity}
 use Rattle.std.specs.Option.{unwrap_or}
 use Rattle.hep_machine.specs.Words.{Frame, Units, Value}
@@ -10,8 +10,8 @@ use Rattle.hep_step.specs.declared.effect.Effect.{Effect}
 use Rattle.hep_step.specs.declared.frame.Frame.{Frame as CellFrame}
 use Rattle.hep_step.specs.Changes.{changed_at}
 use Rattle.hep_step.specs.Effects.{effect_at}
-use Rattle.hep_step.specs.Performed.{IsPerformed, snapshot}
-use Rattle.hep_step.specs.Ready.{IsReady, frame_in_arena}
+use Rattle.hep_step.specs.PerformedSteps.{IsPerformed, snapshot}
+use Rattle.hep_step.specs.StepReady.{IsReady, frame_in_arena}
 use Rattle.hep_step.specs.Simulation.{unit_arrays, unit_code}
 use Rattle.hep_proc.specs.declared.frames.Frames.{Frames}
 use Rattle.hep_proc.specs.declared.process.Local.{Local}
@@ -21,7 +21,7 @@ use Rattle.hep_proc.specs.Stacks.{HoldsOfTop, Stack, stack_of, stack_with}
 
 -- ---- nodes
 
--- the node under a key; where there is none, one of no activation
+-- the node under a key; one of no activation where there is none
 abbrev pub no_node : FrameNode
 no_node = record { activation = 0; unit = 0; first = 0; cells = 0; parent = None; children = 0; finished = true }
 
@@ -32,13 +32,13 @@ node_under nodes key = unwrap_or (nodes key) no_node
 abbrev pub frame_under : Nodes → ℕ → Frame
 frame_under nodes key = record { activation = (node_under nodes key).activation; first = (node_under nodes key).first; cells = (node_under nodes key).cells }
 
--- ---- where it is
+-- ---- the place of a process
 
 -- a level's node is under its key, and its unit is one of the program's
 abbrev pub IsThere : Units → Nodes → Local → Type 0
 IsThere program nodes l = (l.unit < length program) × (nodes l.key ≡ Some (node_under nodes l.key))
 
--- a process has a top level, whose unit and node are there
+-- a process has a top level, whose unit and node exist
 abbrev pub IsPlaced : Units → Frames → Process → Type 0
 IsPlaced program frames q =
     (l : Local) × (ls : List Local) × (operands : List Value) × (pending : List Value)
@@ -55,9 +55,9 @@ abbrev pub HasPlace : Units → Frames → Process → UnitCode → CellFrame �
 HasPlace program frames q unit frame index =
     HoldsOfTop q (λ l _ _ _. IsPlace program (nodes_of frames.nodes) l unit frame index)
 
--- ---- the operation ahead of it is performed
+-- ---- the next operation is performed
 
--- a process has a top level, whose unit and frame are there, and what is ahead of it can be done
+-- a process has a top level, whose unit and frame exist, and its next operation can be performed
 pub record CanAdvance (program : Units) (k : Stack) (capacity : ℕ) (arena : Space) (nodes : Nodes) : Type 0 where
   pub l : Local
   pub ls : List Local
@@ -68,7 +68,8 @@ pub record CanAdvance (program : Units) (k : Stack) (capacity : ℕ) (arena : Sp
   pub there : nodes l.key ≡ Some (node_under nodes l.key)
   pub ready : IsReady (unit_code program l.unit) (unit_arrays program l.unit) arena (frame_in_arena (frame_under nodes l.key)) operands capacity l.index
 
--- then the operation ahead was performed, which changed the cells and the stack; or memory was refused, which changed nothing more
+-- the next operation was performed, and changed the cells and the stack; or memory was refused, and nothing else has
+-- changed
 pub record IsAdvanced {E : Type 0} (program : Units) (nodes : Nodes) (l : Local) (ls : List Local) (operands pending : List Value) (before after : Space) (result : Result Effect E) (k : Stack) : Type 0 where
   pub next : ℕ
   pub left : List Value
@@ -76,7 +77,7 @@ pub record IsAdvanced {E : Type 0} (program : Units) (nodes : Nodes) (l : Local)
   pub performed : IfOk result (λ effect. IsPerformed (effect_at (unit_code program l.unit) (unit_arrays program l.unit) (node_under nodes l.key).first before.contents operands l.index) (changed_at (unit_code program l.unit) (unit_arrays program l.unit) (node_under nodes l.key).first before.contents operands l.index) (snapshot before.contents operands l.index) effect (snapshot after.contents left next))
   pub refused : OnErr result (snapshot after.contents left next ≡ snapshot before.contents operands l.index)
 
--- it can be, ahead of a process
+-- the next operation of a process can be performed
 abbrev pub CanAdvanceTop : Units → Process → Frames → Type 0
 CanAdvanceTop program q frames = CanAdvance program (stack_of q) (vec_capacity q.operands) frames.arena (nodes_of frames.nodes)
 

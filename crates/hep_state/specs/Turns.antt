@@ -1,18 +1,18 @@
--- What a turn of a process makes of what a core keeps: docs/MACHINE.md, "Steps" and "The opening and runs".
+-- The machine after turns of a process: docs/MACHINE.md, "Steps" and "The opening and runs".
 use Rattle.std.specs.Prelude.{◌≡◌, ◌≢◌, ◌⊎◌, ℕ, Bool, true, false, List, [], ◌∷◌, ◌++◌, length, Some, None}
 use Rattle.hep_machine.specs.Words.{Units, Layout, is_held, layout_of, living, run, Wanted, step, wanted_by}
 use Rattle.hep_layout.specs.Words.{address}
-use Rattle.hep_state.specs.Showing.{Shows}
+use Rattle.hep_state.specs.KeptStates.{Shows}
 use Rattle.hep_state.specs.Snapshots.{Snapshot}
 
--- what a core with an arena of so many cells keeps after turns of these processes, each frame of which had a gap
+-- the machine of a core after these turns, each frame of which had a gap
 pub record IsAfter (program : Units) (cells : ℕ) (choices : List ℕ) (m : Snapshot) : Type 0 where
   pub layout : Layout
   pub laid : layout_of program cells is_held choices ≡ Some layout
   pub size : length m.arena.contents ≡ cells
   pub shows : Shows program (run program choices) layout m
 
--- ---- what a turn of process p comes to, after those turns
+-- ---- the results of a turn of process p
 
 -- a step was made
 pub record HasStepped (program : Units) (cells : ℕ) (choices : List ℕ) (p : ℕ) (new : Snapshot) : Type 0 where
@@ -33,13 +33,13 @@ pub record IsAbsent (program : Units) (cells : ℕ) (choices : List ℕ) (p : �
   pub none : ((run program choices).halted ≡ true) ⊎ (living (run program choices) p ≡ None)
   pub after : IsAfter program cells choices new
 
--- ---- want of a gap
+-- ---- a frame without a gap
 
 -- the step of process p makes an activation for whose frame there is no gap
 pub record HasNoGap (program : Units) (cells : ℕ) (choices : List ℕ) (p : ℕ) : Type 0 where
   pub stepped : step program p (run program choices) ≢ None
   pub full : layout_of program cells is_held (choices ++ p ∷ []) ≡ None
 
--- each frame has its gap, that of an activation too which the next step of process p makes
+-- each frame has its gap, also that of an activation that the next step of process p makes
 abbrev pub HasGaps : Units → ℕ → List ℕ → ℕ → Type 0
 HasGaps program cells choices p = layout_of program cells is_held (choices ++ p ∷ []) ≢ None

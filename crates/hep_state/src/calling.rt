@@ -1,28 +1,28 @@
-//! CALL, CREATE and references: an activation that begins, with its frame (X3.9-1978, 15.5.2 and 15.6.2).
+//! CALL, CREATE and references begin an activation and its frame (X3.9-1978, 15.5.2 and 15.6.2).
 ghost use Rattle.std.specs.Prelude.{◌≡◌, ◌+◌};
 ghost use Rattle.hep_state.specs.Words.{Begins, CanBegin, CanCall, CanCreate, KeepsRoomAt, KeepsRoomWith, LeavesOthers, LivesOn, StepsByCall};
 ghost use Rattle.hep_state.specs.Words.{StepsByCreation, snapshot_of};
 
 use crate::core_state::{CoreState, append};
 use hep_binding::{begin, shape_all};
-use hep_proc::{Entrant, Local, Process};
+use hep_proc::{Local, NewFrame, Process};
 
-/// A unit that is called, created or referred to: its index in the program, how many cells its frame has, and where its first executable
-/// statement is in its code.
+/// A unit that is called, created or referred to: its index in the program, the number of cells of its frame, and the
+/// index of its first executable statement in its code.
 #[derive(Clone, Copy)]
-pub struct Called {
+pub struct CalledUnit {
     pub unit: u32,
     pub cells: u32,
     pub entry: usize,
 }
 
 impl CoreState {
-    // The activation of a unit that process p calls or refers to, or of which it makes a process, begins: its frame enters, with what is
-    // given to its dummy arguments and their shapes. Answers its level.
+    // Begins an activation of a unit that process p calls, refers to or creates. Its frame enters the arena, with
+    // what its dummy arguments are given and their shapes. Returns its level.
     //
     // There is a gap for the frame, and room for its node.
     #[inline(always)]
-    fn begin_activation(&mut self, p: u64, called: Called) -> Local
+    fn begin_activation(&mut self, p: u64, called: CalledUnit) -> Local
         requires { CanBegin p self.old called }
         ensures entered { Begins p called self.old result.key self.new }
         ensures level { result ≡ record { key = result.key; unit = called.unit; kept = 0; index = called.entry } }
@@ -35,8 +35,8 @@ impl CoreState {
         let activation = self.activations + 1;
         let at = self.place(p);
         let parent = self.processes[at].top().key;
-        let Called { unit, cells, entry } = called;
-        let entrant = Entrant {
+        let CalledUnit { unit, cells, entry } = called;
+        let entrant = NewFrame {
             activation,
             unit,
             cells,
@@ -53,12 +53,14 @@ impl CoreState {
         }
     }
 
-    // Process p calls or refers to a unit with what is given, and goes on at an index once this ends, with its first operands, so many: the
-    // unit's activation has its frame, with what is given to its dummy arguments and their shapes, and is on top.
+    // Makes process p call or refer to a unit. The new activation has its frame, with what its dummy arguments are
+    // given and their shapes, and is on top. When it ends, the one below goes on at `index` with its first `kept`
+    // operands.
     //
-    // There is a gap for the frame, and room for its node and for a level more, for the operands that are kept, and for the unit's own.
+    // There is a gap for the frame. There is room for its node, for one more level, for the operands that are kept,
+    // and for the unit's own operands.
     #[inline(always)]
-    pub(crate) fn call(&mut self, p: u64, called: Called, kept: u32, index: usize)
+    pub(crate) fn call(&mut self, p: u64, called: CalledUnit, kept: u32, index: usize)
         requires { CanCall p self.old called kept index }
         ensures stepped { StepsByCall p called kept index self.old self.new }
         ensures rooms { KeepsRoomAt p called.unit self.old self.new }
@@ -69,13 +71,12 @@ impl CoreState {
         self.processes[at].put_above(kept, index, level);
     }
 
-    // Process p makes a process of a unit with what is given, and goes on at an index: the unit's activation has its
-    // frame, with what is given to its dummy arguments and their shapes, and is the one level of the process, which was
-    // empty.
+    // Makes process p create a process of a unit, and go on at `index`. The new activation has its frame, with what
+    // its dummy arguments are given and their shapes, and is the only level of `process`, which was empty.
     //
-    // There is a gap for the frame, and room for its node, for the process and for its level, and for the unit's operands. The process has
-    // the next number.
-    pub(crate) fn create(&mut self, p: u64, called: Called, index: usize, mut process: Process)
+    // There is a gap for the frame. There is room for its node, for the process and its level, and for the unit's
+    // operands. The process has the next number.
+    pub(crate) fn create(&mut self, p: u64, called: CalledUnit, index: usize, mut process: Process)
         requires { CanCreate p self.old called index process }
         ensures stepped { StepsByCreation p called index self.old self.new }
         ensures rooms { KeepsRoomWith process called.unit self.old self.new }

@@ -1,10 +1,10 @@
-//! What a core keeps of a state.
+//! The state that a core keeps.
 ghost use Rattle.std.specs.Prelude.{◌≡◌, ◌<◌, ◌++◌, ◌∷◌, [], vec_len, vec_capacity};
 
 use hep_machine::{Fault, Record};
 use hep_proc::{Frames, Process};
 use hep_source::Value;
-use hep_step::{ClosedRange, Given, Shape};
+use hep_step::{ClosedRange, DummyStorage, Shape};
 
 // Appends an element, for which there is room.
 pub(crate) fn append<T: Drop>(items: &mut Vec<T>, added: T)
@@ -14,22 +14,22 @@ pub(crate) fn append<T: Drop>(items: &mut Vec<T>, added: T)
     let _ = items.push(added);
 }
 
-/// What the actual arguments of a CALL or a reference give, and the targets of a PURGE name, while it is made.
-pub struct Passing {
-    /// What each dummy argument stands for.
-    pub given: Vec<Given>,
-    /// The shape of each one that is an adjustable array.
+/// Buffers for one CALL, reference or PURGE: what the actual arguments give, and what the targets name.
+pub struct ArgumentBuffers {
+    /// What each dummy argument is given.
+    pub given: Vec<DummyStorage>,
+    /// The shape of each dummy argument that is an adjustable array.
     pub shapes: Vec<Option<Shape>>,
-    /// The values of bounds, while shapes are found.
+    /// The values of bounds, while shapes are computed.
     pub values: Vec<Value>,
     /// The cells that the last PURGE emptied.
     pub ranges: Vec<ClosedRange>,
 }
 
 // Written out, so that a caller's proof has one call of it at each exit.
-impl Drop for Passing {
+impl Drop for ArgumentBuffers {
     fn drop(self) {
-        let Passing {
+        let ArgumentBuffers {
             given,
             shapes,
             values,
@@ -38,20 +38,22 @@ impl Drop for Passing {
     }
 }
 
-/// A state: the frames, the processes that are kept, how many processes and activations were made, and what was written.
+/// A state: the frames, the processes that are kept, the number of processes and of activations that were made, and
+/// what was written.
 pub struct CoreState {
     pub frames: Frames,
-    /// By rising numbers. All that live are among them; one that has ended is until it gives its place to another one.
+    /// In the order of their numbers. All living processes are kept. A process that has ended is kept until its place
+    /// is needed.
     pub processes: Vec<Process>,
     pub made: u64,
     pub activations: u64,
     pub records: Vec<Record>,
     pub faults: Vec<Fault>,
-    /// All processes were ended by a STOP.
+    /// A STOP has ended all processes.
     pub halted: bool,
-    /// It has room for the dummy arguments of each unit and for their bounds, so that no CALL takes memory for them, and for the targets of
-    /// each PURGE.
-    pub passing: Passing,
+    /// It has room for the dummy arguments of each unit and for their bounds, and for the targets of each PURGE. So
+    /// these take no memory in a run.
+    pub passing: ArgumentBuffers,
 }
 
 // Written out, so that a caller's proof has one call of it at each exit.

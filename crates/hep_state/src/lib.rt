@@ -1,31 +1,29 @@
-//! One turn of one process, CALL, CREATE, RESUME and references among them.
+//! The machine of a core, and one turn of one process, with CALL, CREATE, RESUME and references. Begin with
+//! [`CoreState`] and [`CoreState::turn`].
 //!
-//! The top activation of a process: where it is, and what is ahead of it, performed.
-//!
-//! A machine's state as a core keeps it: the frames, where each process stands in the code, and what was written.
-//!
-//! That it is a state of the source machine is said in `specs/Showing`, and after each turn by the contracts of
-//! [`laws`] and of [`CoreState::turn`].
+//! A machine keeps a state: the frames, the place of each process in its code, and what was written. `specs/KeptStates`
+//! says that it is a state of the source machine. The contracts of [`CoreState::turn`] and of [`laws`] say that it is
+//! so after each turn.
 #![tactic(auto)]
 
-mod advancing;
-mod answering;
+mod actual_arguments;
 mod calling;
+mod calls_and_returns;
 mod core_state;
-mod emptying;
-mod ending;
+mod function_return;
 pub mod laws;
-mod onward;
+mod next_step;
 mod opening;
-mod passing;
-mod places;
-mod resuming;
+mod process_places;
+mod purge;
+mod resume;
+mod top_code;
 pub mod top_place;
 mod turn;
-mod upcoming;
+mod turn_end;
 
-pub use calling::Called;
-pub use core_state::{CoreState, Passing};
+pub use calling::CalledUnit;
+pub use core_state::{ArgumentBuffers, CoreState};
 pub use hep_binding::{
     activations_are_bound_in_runs, calls_agree_in_runs, calls_come_from_statements,
     programs_are_closed, references_come_from_statements, units_are_there,
@@ -34,14 +32,14 @@ pub use hep_binding::{
 pub use hep_blocked::Want;
 pub use hep_blocked::laws::lists_go_along_with_steps;
 pub use hep_proc::laws::{children_are_activations, openings_want_unset_cells};
-pub use hep_proc::{Entrant, Frames, Local, Process};
+pub use hep_proc::{Frames, Local, NewFrame, Process};
 pub use hep_step::laws::{calls_are_ahead, operations_do_what_the_machine_does, resumes_are_ahead};
 pub use hep_step::passing_laws::{all_actuals_are_passed, callers_can_pass};
 pub use hep_step::{
-    AllPassed, Array, ClosedRange, DataRow, Effect, Frame, Given, Image, Shape, UnitCode, Way,
-    address, give_actuals, in_front, openings_fit_by_numbers,
+    ArgumentList, Array, CallKind, ClosedRange, DataRow, DummyStorage, Effect, Frame, Image, Shape,
+    UnitCode, address, give_actuals, in_front, openings_fit_by_numbers,
 };
+pub use next_step::{NextCall, NextFunctionReturn, NextPurge, NextStep};
 pub use opening::fits;
 pub use top_place::{advance, place};
-pub use turn::{TurnFault, Turned};
-pub use upcoming::{AnswerAhead, CallAhead, PurgeAhead, StepAhead};
+pub use turn::{TurnFault, TurnOutcome};

@@ -1,5 +1,5 @@
-//! A machine before its first turn: process 1 at the main program, whose frame is just behind COMMON, with what DATA
-//! gives (X3.9-1978, section 9).
+//! The machine before its first turn: process 1 at the main program, whose frame follows COMMON, with the values of
+//! DATA (X3.9-1978, section 9).
 ghost use Rattle.std.specs.Prelude.{◌≡◌, ◌+◌, ◌<◌, ◌≤◌, ◌∷◌, [], false, Some, IfOk, IsSome, length, vec_capacity};
 ghost use Rattle.std.specs.Option.{is_some};
 ghost use Rattle.slab.specs.Slab.{HasRoomFor};
@@ -7,15 +7,15 @@ ghost use Rattle.hep_machine.specs.Words.{dummies_of, main_unit, unit_at, common
 ghost use Rattle.hep_arena.specs.Holes.{IsOut};
 ghost use Rattle.hep_image.specs.Dummies.{dummy_arguments};
 ghost use Rattle.hep_image.specs.Image.{IsUnitCode};
-ghost use Rattle.hep_proc.specs.Keeping.{IsUnused};
+ghost use Rattle.hep_proc.specs.FrameTable.{IsUnused};
 ghost use Rattle.hep_proc.specs.Nodes.{nodes_of};
-ghost use Rattle.hep_step.specs.Room as room;
-ghost use Rattle.hep_step.specs.Room.{most_of};
-ghost use Rattle.hep_binding.specs.Fitting as shaping;
+ghost use Rattle.hep_step.specs.TargetCount as room;
+ghost use Rattle.hep_step.specs.TargetCount.{most_of};
+ghost use Rattle.hep_binding.specs.DummyShapes as shaping;
 ghost use Rattle.hep_step.specs.Simulation.{unit_code};
 ghost use Rattle.hep_state.specs.Words.{AreOut, CanOpen, HasOneProcess, IsEntered, IsGiven, IsMachineAfter, IsQuiet, IsRoomToPass};
 
-use crate::core_state::{CoreState, Passing};
+use crate::core_state::{ArgumentBuffers, CoreState};
 use crate::laws;
 use hep_binding::longest_code;
 use hep_machine::Slot;
@@ -24,14 +24,15 @@ use hep_source::{Form, Statement, Unit, Value};
 use hep_step::{DataRow, Image, UnitCode, most_targets};
 use std::alloc::{AllocError, Global};
 
-// What a core runs of the main program.
+// The code of the main program.
 fn main_program(image: &Image) -> &UnitCode
     ensures { IsUnitCode image.now (main_unit image.now) result.now }
 {
     image.unit(image.main() as usize)
 }
 
-/// COMMON and the frame of the main program have no more cells than the arena, so that a machine can be opened.
+/// Whether COMMON and the frame of the main program have no more cells than the arena, so that a machine can be
+/// opened.
 pub fn fits(image: &Image, cells: u32) -> bool
     ensures { result ≡ is_some (opening_layout image.now cells) }
 {
@@ -39,7 +40,7 @@ pub fn fits(image: &Image, cells: u32) -> bool
     image.common() + main_program(image).cells <= cells
 }
 
-// The frame of the main program enters where no frame is out. Answers the key of its node.
+// Puts the frame of the main program into an arena without frames. Returns the key of its node.
 fn enter_main(frames: &mut Frames, image: &Image) -> usize
     requires unused { IsUnused (common_cells image.now) frames.old.arena (nodes_of frames.old.nodes) }
     requires room { HasRoomFor frames.old.nodes 1 }
@@ -53,7 +54,7 @@ fn enter_main(frames: &mut Frames, image: &Image) -> usize
     frames.open(image.main(), main_program(image).cells)
 }
 
-// Gives a cell a value. It is full or empty as before.
+// Gives a cell a value. Whether it is full doesn't change.
 fn give_value(frames: &mut Frames, at: u32, value: Value)
     requires inside { at < length frames.old.arena.contents }
     requires out { IsOut at frames.old.arena.holes }
@@ -65,7 +66,7 @@ fn give_value(frames: &mut Frames, at: u32, value: Value)
     frames.set(at, Slot { value, full });
 }
 
-// Gives the cells of a row its value.
+// Gives all cells of a row of DATA its value.
 fn give_row(frames: &mut Frames, row: DataRow)
     requires few { length frames.old.arena.contents ≤ 16777216 }
     requires out { AreOut (row ∷ []) frames.old.arena }
@@ -77,7 +78,7 @@ fn give_row(frames: &mut Frames, row: DataRow)
     }
 }
 
-// Gives the cells of rows their values: of two rows that have a cell the first one counts, and so comes last.
+// Gives the cells of rows their values. Where two rows have a cell, the first one counts, and so it is written last.
 fn give_rows(frames: &mut Frames, rows: &[DataRow])
     requires few { length frames.old.arena.contents ≤ 16777216 }
     requires out { AreOut rows.now frames.old.arena }
@@ -89,7 +90,7 @@ fn give_rows(frames: &mut Frames, rows: &[DataRow])
     }
 }
 
-// How many dummy arguments a unit has.
+// The number of dummy arguments of a unit.
 fn dummies(unit: &Unit) -> usize
     ensures { result ≡ length (dummies_of unit.now) }
 {
@@ -112,7 +113,7 @@ fn dummies(unit: &Unit) -> usize
     }
 }
 
-// The most dummy arguments that a unit has.
+// The greatest number of dummy arguments of a unit.
 fn most_dummies(program: &[Unit]) -> usize
     ensures { result ≡ most_of (λ u. length (dummies_of (unit_at program.now u))) (length program.now) }
 {
@@ -123,7 +124,7 @@ fn most_dummies(program: &[Unit]) -> usize
     most
 }
 
-// The most operations that the code of an adjustable array of a unit has.
+// The greatest number of operations in the code of an adjustable array's bounds.
 fn longest_code_of_all(image: &Image) -> usize
     ensures { result ≡ most_of (λ u. shaping.longest_code (dummy_arguments image.now (unit_at image.now u))) (length image.now) }
 {
@@ -134,7 +135,7 @@ fn longest_code_of_all(image: &Image) -> usize
     longest
 }
 
-// The most targets that a PURGE of a unit has.
+// The greatest number of targets of a PURGE.
 fn most_targets_of_all(image: &Image) -> usize
     ensures { result ≡ most_of (λ u. room.most_targets (unit_code image.now u)) (length image.now) }
 {
@@ -145,13 +146,13 @@ fn most_targets_of_all(image: &Image) -> usize
     most
 }
 
-// Room for what is given to the dummy arguments of each unit, for their shapes, and for the values of bounds, and for the targets of
-// each PURGE, and no more than that.
-fn room_to_pass(alloc: Global, image: &Image) -> Result<Passing, AllocError>
+// Buffers of just the size that is needed: for what the dummy arguments of any unit are given, for their shapes, for
+// the values of bounds, and for the targets of any PURGE.
+fn room_to_pass(alloc: Global, image: &Image) -> Result<ArgumentBuffers, AllocError>
     ensures { IfOk result (λ passing. IsRoomToPass image.now passing) }
 {
     let most = most_dummies(image.program().as_slice());
-    Ok(Passing {
+    Ok(ArgumentBuffers {
         given: Vec::with_capacity(alloc, most)?,
         shapes: Vec::with_capacity(alloc, most)?,
         values: Vec::with_capacity(alloc, longest_code_of_all(image))?,
@@ -159,7 +160,7 @@ fn room_to_pass(alloc: Global, image: &Image) -> Result<Passing, AllocError>
     })
 }
 
-// Process 1 with one activation, and room for so many operands.
+// Process 1 with one activation, and room for `operands` operands.
 fn begun(alloc: Global, level: Local, operands: u32) -> Result<Process, AllocError>
     ensures number { IfOk result (λ process. process.number ≡ 1) }
     ensures levels { IfOk result (λ process. process.levels.items ≡ level ∷ []) }
@@ -176,9 +177,9 @@ fn begun(alloc: Global, level: Local, operands: u32) -> Result<Process, AllocErr
 }
 
 impl CoreState {
-    /// The machine of a program before its first turn, with an arena of so many cells.
+    /// The machine of a program before its first turn, with an arena of `cells` cells.
     ///
-    /// There is one cell at least, and no more than 16,777,216, and the program [`fits`].
+    /// `cells` is 1 to 16,777,216, and the program [`fits`].
     ///
     /// # Errors
     ///

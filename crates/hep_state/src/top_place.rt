@@ -1,14 +1,15 @@
-//! Where the top activation of a process is in the arena and in the code, and the operation ahead of it (docs/MACHINE.md, "Steps").
+//! The place of the top activation of a process in the arena and in the code, and its next operation
+//! (docs/MACHINE.md, "Steps").
 ghost use Rattle.std.specs.Prelude.{◌≡◌, length};
 ghost use Rattle.hep_proc.specs.Stacks.{IsSameProcess};
 ghost use Rattle.hep_state.specs.TopPlace.{AdvancesTop, CanAdvanceTop, HasPlace, IsPlaced};
 
 use hep_proc::{Frames, Local, Process};
-use hep_step::{Effect, Frame, Image, Standing, Storage, UnitCode, perform};
+use hep_step::{ActivationState, Effect, Frame, Image, Storage, UnitCode, perform};
 use std::alloc::{AllocError, Global};
 use std::mem::replace;
 
-/// Where the top activation of a process is: its unit, its frame in the arena, and its index in the unit's code.
+/// The place of the top activation of a process: its unit, its frame in the arena, and its index in the unit's code.
 #[inline(always)]
 pub fn place<'a>(
     process: &Process,
@@ -31,7 +32,7 @@ pub fn place<'a>(
     (image.unit(unit as usize), frame, index)
 }
 
-/// Performs the operation ahead of a process, in front of which no value stands.
+/// Performs the next operation of a process, which has no leading constants.
 ///
 /// # Errors
 ///
@@ -55,9 +56,9 @@ pub fn advance(
     let arrays = unit.arrays.as_slice();
     let storage = Storage { arrays, frame };
     let operands = replace(&mut process.operands, Vec::new(alloc));
-    let mut standing = Standing { operands, index };
+    let mut standing = ActivationState { operands, index };
     let performed = perform(alloc, code, &storage, &mut frames.arena, &mut standing);
-    let Standing { operands, index } = standing;
+    let ActivationState { operands, index } = standing;
     process.operands = operands;
     process.stand_at(index);
     performed

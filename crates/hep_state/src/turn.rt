@@ -1,19 +1,19 @@
 //! One turn of a process.
 ghost use Rattle.std.specs.Prelude.{◌≡◌, ◌<◌, ◌≤◌, ◌+◌, IfOk, IfErr, OnErr, OnOk, vec_len, vec_capacity};
-ghost use Rattle.hep_step.specs.Performed.{changed_in};
-ghost use Rattle.hep_blocked.specs.Rolls.{KeepsRoll};
+ghost use Rattle.hep_step.specs.PerformedSteps.{changed_in};
+ghost use Rattle.hep_blocked.specs.Rosters.{KeepsRoll};
 ghost use Rattle.hep_state.specs.Words.{AreNumbered, CanBeMore, CanTakeCall, CanTakeOperation, CanTurn, ChangesNext, HasLevels};
 ghost use Rattle.hep_state.specs.Words.{HasRoomForCreation, HasRoomForEntry, HasRoomForLevel, HasRoomForProcess, IsAtOperation, IsEmptyProcess};
 ghost use Rattle.hep_state.specs.Words.{IsRefused, IsTurn, KeepsRollFor, KeepsWritten, LeavesAlone, LeavesOthers, LeavesRest, Performs, ShowsSame};
 ghost use Rattle.hep_state.specs.Words.{snapshot_of};
 
-use crate::calling::Called;
+use crate::calling::CalledUnit;
+use crate::calls_and_returns::creates;
 use crate::core_state::CoreState;
 use crate::laws;
-use crate::onward::creates;
-use crate::places::make_room;
+use crate::next_step::{NextCall, NextStep};
+use crate::process_places::make_room;
 use crate::top_place::advance;
-use crate::upcoming::{CallAhead, StepAhead};
 use hep_blocked::Roster;
 use hep_cells::Want;
 use hep_history::History;
@@ -22,10 +22,10 @@ use hep_step::{Effect, Image};
 use std::alloc::{AllocError, Global};
 use thiserror::Error;
 
-/// Why a turn was not taken. The same state is shown then.
+/// Why a turn was not taken. The machine shows the same state then.
 #[derive(Clone, Copy, Debug, PartialEq, Eq, Error)]
 pub enum TurnFault {
-    /// No gap of the arena is as long as the frame of the unit that is called.
+    /// The arena has no gap as long as the frame of the called unit.
     #[error("arena full")]
     ArenaFull,
     /// Memory was refused.
@@ -44,20 +44,21 @@ impl From<AllocError> for TurnFault {
     }
 }
 
-/// What a turn came to.
+/// The result of a turn.
 #[derive(Clone, Copy, PartialEq, Eq)]
-pub enum Turned {
-    /// A step was made. It filled or emptied no cell for which others may wait but this one, if there is one, which is so now.
+pub enum TurnOutcome {
+    /// A step was made. `changed` is the only cell that it filled or emptied for which others may wait, as it is now,
+    /// if there is one.
     Stepped { changed: Option<Want> },
-    /// A PURGE was made, which emptied the cells in the machine's `passing` and changed no others; or it ended in a fault,
-    /// and they are none.
+    /// A PURGE was made. It emptied the cells in the machine's `passing` and changed no others. Where it ended in a
+    /// fault, `passing` has no cells.
     Purged,
-    /// The process waits for a cell to be so. The same state is shown.
+    /// The process waits until a cell is full, or is empty. The machine shows the same state.
     Waits(Want),
 }
 
 impl CoreState {
-    // Room for what a turn may write: a record, a fault, and its entry of the history.
+    // Makes room for what a turn may write: a record, a fault, and its entry of the history.
     fn reserve(&mut self, history: &mut History) -> Result<(), AllocError>
         ensures records { OnOk result (vec_len self.new.records < vec_capacity self.new.records) }
         ensures faults { OnOk result (vec_len self.new.faults < vec_capacity self.new.faults) }
@@ -70,7 +71,8 @@ impl CoreState {
         history.reserve(1)
     }
 
-    // Room for an activation more of process p, with so many operands at once, and for so many of the one below it.
+    // Makes room for one more activation of process p, with `operands` operands, and for `kept` operands of the one
+    // below it.
     #[inline(always)]
     pub(crate) fn reserve_level(
         &mut self,
@@ -88,8 +90,9 @@ impl CoreState {
         self.processes[at].reserve(operands, kept)
     }
 
-    // Room for a process more, and for the entry of the turn that makes it; and that process, which is empty so far, with room for a level
-    // and for so many operands at once. It has the next number, which has room to be enrolled.
+    // Makes room for one more process, and for the entry of the turn that makes it. Returns that process, empty so
+    // far, with room for one level and for `operands` operands. It has the next number, and the roster has room to
+    // enrol it.
     pub(crate) fn reserve_process(
         &mut self,
         operands: u32,
@@ -135,7 +138,7 @@ impl CoreState {
         Ok(process)
     }
 
-    // Performs the operation ahead of process p, which is neither CALL, CREATE nor a reference, and neither PURGE nor RESUME.
+    // Performs the next operation of process p, which is no CALL, CREATE, reference, PURGE or RESUME.
     fn advance(&mut self, alloc: Global, image: &Image, p: u64) -> Result<Effect, AllocError>
         requires { IsAtOperation image.now p self.old }
         ensures performed { IfOk result (Performs image.now p self.old self.new) }
@@ -151,14 +154,14 @@ impl CoreState {
         advance(alloc, process, &mut self.frames, image)
     }
 
-    // A turn of process p, ahead of which neither CALL, CREATE nor a reference stands, and neither PURGE nor RESUME.
+    // A turn of process p, whose next operation is no CALL, CREATE, reference, PURGE or RESUME.
     fn take_operation(
         &mut self,
         alloc: Global,
         image: &Image,
         p: u64,
         history: &mut History,
-    ) -> Result<Turned, AllocError>
+    ) -> Result<TurnOutcome, AllocError>
         requires { CanTakeOperation image.now history.old.items p self.old }
         ensures turned { IfOk result (λ turned. IsTurn image.now history.old.items p self.old turned self.new) }
         ensures refused { OnErr result (LeavesAlone image.now history.old.items p self.old self.new) }
@@ -166,27 +169,27 @@ impl CoreState {
         ensures made { self.new.made ≡ self.old.made }
         ensures entry { HasRoomForEntry history.old result history.new }
     {
-        // What the turn may write has room before anything changes.
+        // Makes room for what the turn may write before anything changes.
         self.reserve(history)?;
         let effect = self.advance(alloc, image, p)?;
         let changed = effect.changed();
         match self.end_turn(p, effect) {
-            Some(want) => Ok(Turned::Waits(want)),
-            None => Ok(Turned::Stepped { changed }),
+            Some(want) => Ok(TurnOutcome::Waits(want)),
+            None => Ok(TurnOutcome::Stepped { changed }),
         }
     }
 
-    // A turn of process p, which is at a CALL, CREATE or reference: an activation more, or a fault.
+    // A turn of process p, which is at a CALL, CREATE or reference: one more activation, or a fault.
     //
     // Whether the frame has a gap is found before memory is asked for.
     fn take_call(
         &mut self,
         image: &Image,
         p: u64,
-        call: CallAhead,
+        call: NextCall,
         history: &mut History,
         roster: &mut Roster,
-    ) -> Result<Turned, TurnFault>
+    ) -> Result<TurnOutcome, TurnFault>
         requires { CanTakeCall image.now history.old.items p self.old call roster.old }
         ensures turned { IfOk result (λ turned. IsTurn image.now history.old.items p self.old turned self.new) }
         ensures unturned { IfErr result (IsRefused image.now history.old.items p self.old self.new) }
@@ -203,7 +206,7 @@ impl CoreState {
             Err(kind) => {
                 self.reserve(history)?;
                 self.fail(p, call.line, kind);
-                return Ok(Turned::Stepped { changed: None });
+                return Ok(TurnOutcome::Stepped { changed: None });
             }
         };
         let unit = image.unit(call.unit as usize);
@@ -211,7 +214,7 @@ impl CoreState {
             return Err(TurnFault::ArenaFull);
         }
         if creates(call.way) {
-            let called = Called {
+            let called = CalledUnit {
                 unit: call.unit,
                 cells: unit.cells,
                 entry: unit.entry as usize,
@@ -222,16 +225,17 @@ impl CoreState {
             history.reserve(1)?;
             self.begin_call(image, p, call, kept)?;
         }
-        Ok(Turned::Stepped { changed: None })
+        Ok(TurnOutcome::Stepped { changed: None })
     }
 
-    /// A turn of process p, which lives: the machine shows the state after the source machine's step, or the same state where the process
-    /// waits. The history gets room for the entry of the turn, and a process that is made has room to be enrolled; who is ready and who waits stays.
+    /// Makes a turn of process p, which lives. Then the machine shows the state after the source machine's step, or
+    /// the same state where the process waits. The history gets room for the entry of the turn, and the roster for a
+    /// process that is made; the lists of ready and waiting processes don't change.
     ///
     /// # Errors
     ///
-    /// `ArenaFull` where a CALL, CREATE or reference makes an activation for whose frame there is no gap, which is found before memory is
-    /// asked for; `NoMemory`. The same state is shown then.
+    /// `ArenaFull` where a CALL, CREATE or reference makes an activation for whose frame there is no gap, which is
+    /// found before memory is asked for; `NoMemory`. The machine shows the same state then.
     pub fn turn(
         &mut self,
         alloc: Global,
@@ -239,7 +243,7 @@ impl CoreState {
         p: u64,
         history: &mut History,
         roster: &mut Roster,
-    ) -> Result<Turned, TurnFault>
+    ) -> Result<TurnOutcome, TurnFault>
         requires { CanTurn image.now history.old.items p self.old roster.old }
         ensures turned { IfOk result (λ turned. IsTurn image.now history.old.items p self.old turned self.new) }
         ensures unturned { IfErr result (IsRefused image.now history.old.items p self.old self.new) }
@@ -253,28 +257,28 @@ impl CoreState {
         laws::resumes_are_shown();
         laws::tops_are_running();
         match self.step_ahead(image, p) {
-            StepAhead::Call(call) => self.take_call(image, p, call, history, roster),
-            StepAhead::Purge(purge) => {
+            NextStep::Call(call) => self.take_call(image, p, call, history, roster),
+            NextStep::Purge(purge) => {
                 self.reserve(history)?;
                 self.purge(image, p, purge);
-                Ok(Turned::Purged)
+                Ok(TurnOutcome::Purged)
             }
-            StepAhead::Resume { next } => {
+            NextStep::Resume { next } => {
                 self.take_resume(image, p, next, history, roster)?;
-                Ok(Turned::Stepped { changed: None })
+                Ok(TurnOutcome::Stepped { changed: None })
             }
-            // RETURN and END are the same as by `take_operation`, without a look at operands and other cells.
-            StepAhead::Return => {
+            // RETURN and END have the same result by `take_operation`, which also looks at operands and other cells.
+            NextStep::Return => {
                 history.reserve(1)?;
                 self.finish(p);
-                Ok(Turned::Stepped { changed: None })
+                Ok(TurnOutcome::Stepped { changed: None })
             }
-            StepAhead::Answer(answer) => {
+            NextStep::Answer(answer) => {
                 self.reserve(history)?;
                 self.take_answer(image, p, answer);
-                Ok(Turned::Stepped { changed: None })
+                Ok(TurnOutcome::Stepped { changed: None })
             }
-            StepAhead::Other => Ok(self.take_operation(alloc, image, p, history)?),
+            NextStep::Other => Ok(self.take_operation(alloc, image, p, history)?),
         }
     }
 }

@@ -1,8 +1,6 @@
 -- A variable in COMMON in the loop over those of a block.
-use Rattle.std.proofs.Common.{◌≡◌, ℕ, zero, suc, ◌+◌, ◌<◌, ◌≤◌, ◌^◌, ◌++◌, List, [], ◌∷◌, drop, length, take, if◌then◌else◌, sym, ap, ◌∙◌, subst, arith, slice_get, Some, Option, get_or}
-use Rattle.std.proofs.lemmas.Bool.{eqb-true, eqb-false}
-use Rattle.std.proofs.lemmas.List.{drop_more, map-append, take_more}
-use Rattle.std.proofs.lemmas.Grind.{flat_map-append}
+use Rattle.std.proofs.Common.{◌≡◌, ℕ, zero, suc, ◌+◌, ◌<◌, ◌≤◌, ◌^◌, List, [], ◌∷◌, drop, length, take, sym, ap, ◌∙◌, subst, arith, slice_get, Some, Option, get_or}
+use Rattle.std.proofs.lemmas.List.{drop_more, take_more}
 use Rattle.std.proofs.lemmas.Option.{slice_get-get_or}
 use Rattle.hep_arena.specs.Space.{Space}
 use Rattle.hep_layout.specs.Words.{address, common_row, first_in_common}
@@ -15,14 +13,15 @@ use Rattle.hep_machine.specs.declared.slot.Slot.{Slot}
 use Rattle.hep_state_text.specs.Contents.{variable_text}
 use Rattle.hep_state_text.specs.States as words
 use Rattle.hep_state_text.specs.States.{slots_at}
-use Rattle.hep_state_text.specs.declared.variable.Variable.{Variable}
+use Rattle.hep_state_text.specs.declared.variable.DisplayedVariable.{DisplayedVariable}
 use Rattle.hep_state_text.specs.Blocks.{IsBlockAt}
-use Rattle.hep_state_text.specs.Kept.{AreKeptFrom}
+use Rattle.hep_state_text.specs.StoredVariables.{AreKeptFrom}
 use Rattle.hep_state_text.specs.Variables.{IsOwn}
-use Rattle.hep_state_text.specs.declared.common.Block.{Block}
-use Rattle.hep_state_text.proofs.Doubles.{before-is, block-holds, block-once}
+use Rattle.hep_state_text.specs.declared.common_variables.NamedBlock.{NamedBlock}
+use Rattle.hep_state_text.proofs.EqualCells.{before-is, block-holds, block-once}
+use Rattle.hep_common.proofs.Entries.{all-append}
 
-module _ (program : Units) (s : State) (layout : Layout) (block : Block) (arena : Space) (h : IsBlockAt program s layout block arena) (i : ℕ) (d : Name) (less : i < length block.list.now) where
+module _ (program : Units) (s : State) (layout : Layout) (block : NamedBlock) (arena : Space) (h : IsBlockAt program s layout block arena) (i : ℕ) (d : Name) (less : i < length block.list.now) where
   abbrev unit : List Statement
   unit = block.names.symbols.now
 
@@ -55,20 +54,16 @@ module _ (program : Units) (s : State) (layout : Layout) (block : Block) (arena 
             ∙ ap (λ m. Some (m + n)) first;
       }
 
-  pub line-is : (var : Variable) (slots : List Slot) (cells : ℕ) → IsOwn unit x var → cells ≡ cells_of unit x → slots ≡ slots_at s.store start cells
+  pub line-is : (var : DisplayedVariable) (slots : List Slot) (cells : ℕ) → IsOwn unit x var → cells ≡ cells_of unit x → slots ≡ slots_at s.store start cells
       → variable_text var.name var.asynchronous var.bounds.items slots ≡ words.own_text program s (words.common_scope program s unit) x
   line-is var slots cells own counted e =
       λ j. variable_text (own.name j) (own.asynchronous j) (own.shape j) ((e ∙ ap (slots_at s.store start) counted) j)
 
 -- where the next one begins
-sum-append : (unit : List Statement) (xs ys : List Name) → cells_of_all unit (xs ++ ys) ≡ cells_of_all unit xs + cells_of_all unit ys
-sum-append unit [] ys = omega arith
-sum-append unit (x ∷ xs) ys = let rest = sum-append unit xs ys in omega (arith, rest)
-
 pub taken-next : (unit : List Statement) (first : ℕ) (list : List Name) (i : ℕ) (d : Name) → i < length list → (at cells : ℕ) → at ≡ first + cells_of_all unit (take i list) → cells ≡ cells_of unit (get_or list i d)
     → at + cells ≡ first + cells_of_all unit (take (i + 1) list)
 taken-next unit first list i d less at cells placed counted =
-    let more = ap (cells_of_all unit) (take_more list i d less) ∙ sum-append unit (take i list) (get_or list i d ∷ []) in
+    let more = ap (cells_of_all unit) (take_more list i d less) ∙ all-append unit (take i list) (get_or list i d ∷ []) in
     omega (arith, more, placed, counted)
 
 -- it does so within 32 bits
@@ -78,7 +73,7 @@ taken-few unit [] (suc i) = omega arith
 taken-few unit (x ∷ xs) zero = omega arith
 taken-few unit (x ∷ xs) (suc i) = let rest = taken-few unit xs i in omega (arith, rest)
 
-pub next-fits : (program : Units) (s : State) (layout : Layout) (block : Block) (arena : Space) (h : IsBlockAt program s layout block arena) (i : ℕ) (d : Name) → i < length block.list.now
+pub next-fits : (program : Units) (s : State) (layout : Layout) (block : NamedBlock) (arena : Space) (h : IsBlockAt program s layout block arena) (i : ℕ) (d : Name) → i < length block.list.now
     → (at cells : ℕ) → at ≡ block.first + cells_of_all block.names.symbols.now (take i block.list.now) → cells ≡ cells_of block.names.symbols.now (get_or block.list.now i d) → at + cells < 2 ^ 32
 next-fits program s layout block arena h i d less at cells placed counted =
     let unit = block.names.symbols.now in

@@ -1,23 +1,23 @@
 -- The keys of the nodes of what a machine holds.
-use Rattle.std.proofs.Common.{◌≡◌, inl, inr, ℕ, zero, suc, ◌+◌, ◌-◌, ◌<◌, ◌≤◌, List, [], ◌∷◌, length, reverse, Option, Some, None, refl, sym, ap, ◌∙◌, subst, arith, slice_get, get_or}
+use Rattle.std.proofs.Common.{◌≡◌, inl, inr, ℕ, zero, suc, ◌-◌, ◌<◌, List, [], ◌∷◌, length, reverse, Option, Some, None, refl, sym, ap, ◌∙◌, subst, arith, slice_get, get_or}
 use Rattle.std.specs.Option.{option_map}
 use Rattle.std.specs.List.{flat_map}
 use Rattle.std.proofs.lemmas.List.{get_or-reverse, length-reverse, reverse-reverse}
 use Rattle.std.proofs.lemmas.Option.{none-some, same_Some, slice_get_within, get_or_from_slice_get, slice_get-get_or}
-use Rattle.hep_machine.specs.Words.{Units, numbered, parent_of, run, Process as SourceProcess, State}
+use Rattle.hep_machine.specs.Words.{Units, parent_of, run, State}
 use Rattle.hep_machine.proofs.Ages.{run_older}
 use Rattle.hep_layout.specs.Words.{FrameNode, Nodes, activation_under}
-use Rattle.hep_layout.proofs.FrameTree.{under-parts}
 use Rattle.hep_proc.specs.declared.process.Local.{Local}
 use Rattle.hep_proc.specs.declared.process.Process.{Process}
 use Rattle.hep_proc.specs.Nodes.{nodes_of}
 use Rattle.hep_proc.specs.Stacks.{keys_of, Stack, stack_of}
 use Rattle.hep_state.specs.declared.core_state.CoreState.{CoreState}
 use Rattle.hep_state.specs.Words.{AreThere, IsAfter, IsMachineAfter, IsThere, node_under, snapshot_of, stack_numbered}
-use Rattle.hep_state.proofs.Numbered.{IsFrom, numbered-there, stack-from}
+use Rattle.hep_state.proofs.ProcessNumbers.{IsFrom, numbered-there as made-there, stack-from}
 use Rattle.hep_state.proofs.Processes.{numbered-at}
-use Rattle.hep_state_text.specs.Keys.{AreHeldKeys, AreKeys, AreNoted, HaveNodes, IsClosedAt, IsForest, IsNoted}
-use Rattle.hep_state_text.proofs.Keyed.{among-noted, noted-stacks}
+use Rattle.hep_state_text.specs.NodeKeys.{AreHeldKeys, AreKeys, AreNoted, HaveNodes, IsClosedAt, IsForest, IsNoted}
+use Rattle.hep_state_text.proofs.NodeKeys.{among-noted, noted-stacks}
+use Rattle.hep_state.proofs.TopActivations.{numbered-there}
 
 -- ---- levels that stand the other way round
 
@@ -32,16 +32,6 @@ there-at : (program : Units) (nodes : Nodes) (ls : List Local) (i : ℕ) (l : Lo
 there-at program nodes [] i l h e = absurd (none-some l e)
 there-at program nodes (k ∷ ls) zero l h e = subst (IsThere program nodes) (same_Some k l e) h.0
 there-at program nodes (k ∷ ls) (suc i) l h e = there-at program nodes ls i l h.1 e
-
-other-there : {A B : Type 0} (xs : List A) (ys : List B) (i : ℕ) (x : A) → length xs ≡ length ys → slice_get xs i ≡ Some x → (y : B) × (slice_get ys i ≡ Some y)
-other-there [] ys i x long e = absurd (none-some x e)
-other-there (z ∷ xs) [] i x long e = absurd (omega (arith, long))
-other-there (z ∷ xs) (y ∷ ys) zero x long e = (y, refl)
-other-there (z ∷ xs) (y ∷ ys) (suc i) x long e = other-there xs ys i x (omega (arith, long)) e
-
-other-numbered : {A B : Type 0} (xs : List A) (ys : List B) (p : ℕ) (x : A) → length xs ≡ length ys → numbered xs p ≡ Some x → (y : B) × (numbered ys p ≡ Some y)
-other-numbered xs ys zero x long e = absurd (none-some x e)
-other-numbered xs ys (suc i) x long e = other-there xs ys i x long e
 
 module _ (program : Units) (cells : ℕ) (choices : List ℕ) (m : CoreState) (kept : IsMachineAfter program cells choices m) where
   abbrev after : IsAfter program cells choices (snapshot_of m)
@@ -77,7 +67,7 @@ module _ (program : Units) (cells : ℕ) (choices : List ℕ) (m : CoreState) (k
   pub levels-there : (i : ℕ) (q : Process) → slice_get m.processes.items i ≡ Some q → HaveNodes nodes q.levels.items
   levels-there i q e j l f =
       let k = numbered-at m q.number i q kept.numbers e refl in
-      let source = other-numbered (snapshot_of m).processes s.processes q.number (stack_of q) after.shows.processes k in
+      let source = numbered-there (snapshot_of m).processes s.processes q.number (stack_of q) after.shows.processes k in
       let there = (after.shows.stacks q.number (stack_of q) source.0 k source.1).there in
       let back = turned (reverse q.levels.items) j l (ap (λ ls. slice_get ls j) (reverse-reverse q.levels.items) ∙ f) in
       let it = there-at program nodes (reverse q.levels.items) back.0 l there back.1 in
@@ -103,7 +93,7 @@ module _ (program : Units) (cells : ℕ) (choices : List ℕ) (m : CoreState) (k
       each : (i : ℕ) (k : Stack) → slice_get (snapshot_of m).processes i ≡ Some k → AreNoted nodes k.levels keys
       each i k e = by_kept (stack-from m.processes.items (suc i)) where
         is : stack_numbered m.processes.items (suc i) ≡ k
-        is = (numbered-there m.processes.items m.made (suc i) k e).2
+        is = (made-there m.processes.items m.made (suc i) k e).2
 
         by_kept : IsFrom m.processes.items (stack_numbered m.processes.items (suc i)) → AreNoted nodes k.levels keys
         by_kept (inl none) = subst (λ (z : Stack). AreNoted nodes z.levels keys) (sym none ∙ is) (λ j l n f g. absurd (none-some l f))

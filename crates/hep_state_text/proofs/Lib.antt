@@ -1,13 +1,13 @@
 mod Turns
 mod Worked
-mod ListedProcesses
+mod BlockNames
 pub mod FirstUnits
 mod Bounded
 mod Commons
-mod Doubles
+mod EqualCells
 mod Extents
 mod HeldKeys
-mod Keyed
+mod NodeKeys
 mod Locals
 mod Named
 mod Owned
@@ -15,4 +15,4 @@ mod Running
 mod Slots
 mod Stacks
 mod Valued
-pub mod Waited
+pub mod WaitTexts

@@ -12,14 +12,14 @@ use Rattle.hep_image.specs.declared.owners.FrameVariable.{FrameVariable}
 use Rattle.hep_state_text.specs.Contents.{variable_text}
 use Rattle.hep_state_text.specs.States as words
 use Rattle.hep_state_text.specs.States.{slots_at}
-use Rattle.hep_state_text.specs.declared.variable.Variable.{Variable}
+use Rattle.hep_state_text.specs.declared.variable.DisplayedVariable.{DisplayedVariable}
 use Rattle.hep_state_text.specs.Activations.{IsFrameAt}
-use Rattle.hep_state_text.specs.Kept.{AreKeptFrom}
+use Rattle.hep_state_text.specs.StoredVariables.{AreKeptFrom}
 use Rattle.hep_state_text.specs.Variables.{IsOwn}
-use Rattle.hep_state_text.specs.declared.activations.Unit.{Unit}
+use Rattle.hep_state_text.specs.declared.activations.NamedUnit.{NamedUnit}
 use Rattle.hep_state_text.proofs.Owned.{among-at, local-at, local-kept, own-is, part-few}
 
-module _ (program : Units) (s : State) (layout : Layout) (a : ℕ) (unit : Unit) (first : ℕ) (arena : Space) (h : IsFrameAt program s layout a unit first arena)
+module _ (program : Units) (s : State) (layout : Layout) (a : ℕ) (unit : NamedUnit) (first : ℕ) (arena : Space) (h : IsFrameAt program s layout a unit first arena)
     (xs : List Name) (xs-are : xs ≡ locals_of unit.names.symbols.now) (i : ℕ) (d : Name) (less : i < length xs) where
   abbrev own : List Statement
   own = unit_at program (unit_of s a)
@@ -56,7 +56,7 @@ module _ (program : Units) (s : State) (layout : Layout) (a : ℕ) (unit : Unit)
           runs = λ n small. k.runs n (subst (λ m. n < m) (counted ∙ ap (λ u. cells_of u x) h.symbols) small) ∙ ap (λ m. Some (first + m + n)) (sym first-is);
         }
 
-  pub line-is : (var : Variable) (slots : List Slot) (cells : ℕ) → IsOwn unit.names.symbols.now x var → cells ≡ cells_of unit.names.symbols.now x → slots ≡ slots_at s.store (local a x 1) cells
+  pub line-is : (var : DisplayedVariable) (slots : List Slot) (cells : ℕ) → IsOwn unit.names.symbols.now x var → cells ≡ cells_of unit.names.symbols.now x → slots ≡ slots_at s.store (local a x 1) cells
       → variable_text var.name var.asynchronous var.bounds.items slots ≡ words.own_text program s (scope_of program s a) x
   line-is var slots cells own-var counted e =
       own-is program s a x var slots (among-at (locals_of own) i x there) (subst (λ u. IsOwn u x var) h.symbols own-var)

@@ -1,8 +1,8 @@
 -- The names of units among those of a program.
 use Rattle.std.proofs.Common.{◌≡◌, ℕ, zero, suc, ◌<◌, List, [], ◌∷◌, ◌++◌, length, map, refl, arith, slice_get, Some}
 use Rattle.std.specs.List.{flat_map}
-use Rattle.hep_machine.specs.Words.{Units, unit_at, unit_name, blocks_of}
-use Rattle.hep_image.specs.Names.{block_spelling, names_in_order, spellings_of}
+use Rattle.hep_machine.specs.Words.{Units, unit_at, unit_name, blocks_of, block_spelling}
+use Rattle.hep_image.specs.Names.{names_in_order, spellings_of}
 
 named-in : (units : Units) (rest : List (List ℕ)) (u : ℕ) → u < length units → slice_get (map unit_name units ++ rest) u ≡ Some (unit_name (unit_at units u))
 named-in [] rest u less = absurd (omega (arith, less))

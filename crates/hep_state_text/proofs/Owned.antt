@@ -1,38 +1,33 @@
 -- The variables of an activation, in its frame.
-use Rattle.std.proofs.Common.{◌≡◌, ℕ, zero, suc, ◌+◌, ◌≤◌, Bool, true, false, not, ◌&&◌, List, [], ◌∷◌, ◌++◌, length, map, refl, sym, ap, ◌∙◌, subst, arith, slice_get, Option, Some, None, if◌then◌else◌, is_none, pos}
+use Rattle.std.proofs.Common.{◌≡◌, ℕ, zero, suc, ◌+◌, ◌≤◌, Bool, true, false, List, [], ◌∷◌, ◌++◌, length, map, refl, sym, ap, ◌∙◌, subst, arith, slice_get, Option, Some, None, if◌then◌else◌, is_none, pos}
 use Rattle.std.specs.Option.{option_map, unwrap_or}
 use Rattle.std.proofs.lemmas.List.{length-map}
-use Rattle.std.proofs.lemmas.Bool.{and_parts, not-true}
 use Rattle.std.proofs.lemmas.Option.{same_Some, none-some, slice_get-map}
-use Rattle.hep_machine.specs.Words.{Name, Statement, BlockName, Dummy, Units, Layout, State, activation_of, cells_of, common_block, dummies_of, dummy_at, frame_cells, index_among, is_among, is_common, is_constant_name, is_dummy, is_local, is_owned, local, locals_of, names_of, same_name, scope_of, spelling, start_by_block, storage_by_dummy, storage_of, unit_at, unit_of, unset_cell}
+use Rattle.hep_machine.specs.Words.{Name, Statement, BlockName, Dummy, Units, Layout, State, activation_of, cells_of, common_block, dummies_of, dummy_at, frame_cells, index_among, is_among, is_owned, local, locals_of, same_name, scope_of, spelling, start_by_block, storage_by_dummy, storage_of, unit_at, unit_of, unset_cell}
 use Rattle.hep_machine.specs.declared.slot.Slot.{Slot}
 use Rattle.hep_arena.specs.Space.{Space}
 use Rattle.hep_source.proofs.NameTests.{same_name-self}
-use Rattle.hep_source.proofs.Tests.{none-from-not}
+use Rattle.hep_source.proofs.Tests.{at-front}
 use Rattle.hep_layout.specs.Words.{FramePart, RunsFrom, argument, first_of_part, number, variable}
 use Rattle.hep_layout.specs.Rows.{frame_row, same_part}
 use Rattle.hep_layout.proofs.FrameRows.{first-size, frame_row-cells}
-use Rattle.hep_layout.proofs.Runs.{among-filter, runs-local, runs-value}
+use Rattle.hep_layout.proofs.Runs.{runs-local, runs-value}
 use Rattle.hep_layout.proofs.Telling.{tells-rest, tells-value}
-use Rattle.hep_image.specs.Finding.{cells_in}
+use Rattle.hep_image.specs.Addressing.{cells_in}
 use Rattle.hep_image.specs.Owners.{argument_at, frame_variables, variable_at}
 use Rattle.hep_state_text.specs.Contents.{variable_text}
 use Rattle.hep_state_text.specs.States as words
 use Rattle.hep_state_text.specs.States.{slots_at}
-use Rattle.hep_state_text.specs.declared.variable.Variable.{Variable}
-use Rattle.hep_state_text.specs.Kept.{AreKeptFrom, IsFrameOf}
+use Rattle.hep_state_text.specs.declared.variable.DisplayedVariable.{DisplayedVariable}
+use Rattle.hep_state_text.specs.StoredVariables.{AreKeptFrom, IsFrameOf}
 use Rattle.hep_state_text.specs.Variables.{IsOwn, value_line, value_seen}
+use Rattle.hep_layout.proofs.Storages.{local-block}
 
 -- ---- lists
 
 at-behind : {A : Type 0} (xs ys : List A) (i : ℕ) → slice_get (xs ++ ys) (length xs + i) ≡ slice_get ys i
 at-behind [] ys i = let same : 0 + i ≡ i = omega arith in ap (slice_get ys) same
 at-behind (x ∷ xs) ys i = let same : suc (length xs) + i ≡ suc (length xs + i) = omega arith in ap (slice_get (x ∷ (xs ++ ys))) same ∙ at-behind xs ys i
-
-at-before : {A : Type 0} (xs ys : List A) (i : ℕ) (x : A) → slice_get xs i ≡ Some x → slice_get (xs ++ ys) i ≡ Some x
-at-before [] ys i x e = absurd (none-some x e)
-at-before (y ∷ xs) ys zero x e = e
-at-before (y ∷ xs) ys (suc i) x e = at-before xs ys i x e
 
 pub among-at : (xs : List Name) (i : ℕ) (x : Name) → slice_get xs i ≡ Some x → is_among x xs ≡ true
 among-at [] i x e = absurd (none-some x e)
@@ -53,7 +48,7 @@ local-at unit i x e =
 
 pub argument-at : (unit : List Statement) (i : ℕ) (x : Name) → slice_get (dummies_of unit) i ≡ Some x → slice_get (frame_variables unit) i ≡ Some (argument_at unit x)
 argument-at unit i x e =
-    at-before (map (argument_at unit) (dummies_of unit)) (map (variable_at unit) (locals_of unit)) i (argument_at unit x) (slice_get-map (argument_at unit) (dummies_of unit) i ∙ ap (option_map (argument_at unit)) e)
+    at-front (map (argument_at unit) (dummies_of unit)) (map (variable_at unit) (locals_of unit)) i (argument_at unit x) (slice_get-map (argument_at unit) (dummies_of unit) i ∙ ap (option_map (argument_at unit)) e)
 
 -- ---- where it begins
 
@@ -64,22 +59,16 @@ part-few unit part =
 
 -- ---- local variables
 
-none-common : (unit : List Statement) (x : Name) → is_among x (locals_of unit) ≡ true → common_block unit x ≡ None
-none-common unit x h =
-    let local_is = among-filter x (is_local unit) (names_of unit) h in
-    let rest = and_parts (not (is_dummy unit x)) (not (is_common unit x) && not (is_constant_name unit x)) local_is in
-    none-from-not (common_block unit x) (not-true (is_common unit x) (and_parts (not (is_common unit x)) (not (is_constant_name unit x)) rest.1).0)
-
 module _ (program : Units) (s : State) (a : ℕ) where
   abbrev unit : List Statement
   unit = unit_at program (unit_of s a)
 
   -- the lines of a local variable
-  pub own-is : (x : Name) (v : Variable) (slots : List Slot) → is_among x (locals_of unit) ≡ true → IsOwn unit x v → slots ≡ slots_at s.store (local a x 1) (cells_of unit x)
+  pub own-is : (x : Name) (v : DisplayedVariable) (slots : List Slot) → is_among x (locals_of unit) ≡ true → IsOwn unit x v → slots ≡ slots_at s.store (local a x 1) (cells_of unit x)
       → variable_text v.name v.asynchronous v.bounds.items slots ≡ words.own_text program s (scope_of program s a) x
   own-is x v slots h own e =
       let at : slots ≡ slots_at s.store (start_by_block (scope_of program s a) x (common_block unit x)) (cells_of unit x)
-      = e ∙ ap (λ (o : Option BlockName). slots_at s.store (start_by_block (scope_of program s a) x o) (cells_of unit x)) (sym (none-common unit x h)) in
+      = e ∙ ap (λ (o : Option BlockName). slots_at s.store (start_by_block (scope_of program s a) x o) (cells_of unit x)) (sym (local-block unit x h)) in
       λ i. variable_text (own.name i) (own.asynchronous i) (own.shape i) (at i)
 
 -- ---- what is kept of an activation

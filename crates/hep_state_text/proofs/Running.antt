@@ -1,10 +1,9 @@
 -- The levels of a process, as a machine keeps them.
-use Rattle.std.proofs.Common.{◌≡◌, ℕ, zero, suc, ◌-◌, ◌≤◌, List, [], ◌∷◌, ◌++◌, codes, length, reverse, take, get_or, Some, sym, ap, ◌∙◌, append_assoc, arith, refl, slice_get}
+use Rattle.std.proofs.Common.{◌≡◌, ℕ, ◌-◌, ◌≤◌, List, [], ◌∷◌, ◌++◌, codes, length, reverse, take, get_or, sym, ap, ◌∙◌, append_assoc, arith}
 use Rattle.std.specs.Fmt.{decimal}
 use Rattle.std.proofs.lemmas.List.{length-append, reverse-reverse}
-use Rattle.std.proofs.lemmas.Option.{none-some}
 use Rattle.std.proofs.Math.Seq.{get_or-append_seam, take-append_seam}
-use Rattle.hep_machine.specs.Words.{Value, Units, numbered, run}
+use Rattle.hep_machine.specs.Words.{Value, Units, run}
 use Rattle.hep_proc.specs.Nodes.{nodes_of}
 use Rattle.hep_proc.specs.declared.process.Local.{Local}
 use Rattle.hep_state.specs.declared.core_state.CoreState.{CoreState}
@@ -14,6 +13,7 @@ use Rattle.hep_state.specs.Words.{AreThere, HasLevels, IsMachineAfter, snapshot_
 use Rattle.hep_proc.proofs.Levels.{levels-are}
 use Rattle.hep_state_text.specs.Lines as lines
 use Rattle.hep_state_text.specs.Lines.{LevelText}
+use Rattle.hep_state.proofs.TopActivations.{numbered-there}
 
 -- ---- the top one and those below it
 
@@ -38,16 +38,6 @@ module _ (q : Process) (l : Local) (ls : List Local) (operands pending : List Va
       ∙ reverse-reverse ls
 
 -- ---- they are there
-
-list-there : {A B : Type 0} (xs : List A) (ys : List B) (i : ℕ) (x : A) → length xs ≡ length ys → slice_get xs i ≡ Some x → (y : B) × (slice_get ys i ≡ Some y)
-list-there [] ys i x long e = absurd (none-some x e)
-list-there (z ∷ xs) [] i x long e = absurd (omega (arith, long))
-list-there (z ∷ xs) (y ∷ ys) zero x long e = (y, refl)
-list-there (z ∷ xs) (y ∷ ys) (suc i) x long e = list-there xs ys i x (omega (arith, long)) e
-
-numbered-there : {A B : Type 0} (xs : List A) (ys : List B) (p : ℕ) (x : A) → length xs ≡ length ys → numbered xs p ≡ Some x → (y : B) × (numbered ys p ≡ Some y)
-numbered-there xs ys zero x long e = absurd (none-some x e)
-numbered-there xs ys (suc i) x long e = list-there xs ys i x long e
 
 pub are-there : (program : Units) (cells : ℕ) (choices : List ℕ) (m : CoreState) (p : ℕ) (levels : HasLevels (snapshot_of m) p) → IsMachineAfter program cells choices m
     → AreThere program (nodes_of m.frames.nodes) (levels.level ∷ levels.below)

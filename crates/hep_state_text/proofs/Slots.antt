@@ -7,11 +7,8 @@ use Rattle.hep_arena.specs.Holes.{IsOut}
 use Rattle.hep_arena.specs.Space.{Space}
 use Rattle.hep_layout.proofs.Addresses.{address-out}
 use Rattle.hep_state_text.specs.States.{slots_at}
-use Rattle.hep_state_text.specs.Kept.{AreKeptFrom}
-
-further-none : (at : Location) → further at 0 ≡ at
-further-none (local a x i) = ap (local a x) (omega arith)
-further-none (common b i) = ap (common b) (omega arith)
+use Rattle.hep_state_text.specs.StoredVariables.{AreKeptFrom}
+use Rattle.hep_image.proofs.Variables.{further-none}
 
 further-next : (at : Location) (k : ℕ) → further (further at 1) k ≡ further at (suc k)
 further-next (local a x i) k = ap (local a x) (omega arith)

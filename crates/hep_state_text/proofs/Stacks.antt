@@ -6,17 +6,17 @@ use Rattle.hep_machine.specs.Words.{Name, Value, Truth, Units, function_name, li
 use Rattle.std.specs.Prelude.{true}
 use Rattle.hep_machine.specs.State.{Level as SourceLevel}
 use Rattle.hep_code.specs.Words.{Awaits, Stands, line_ahead}
-use Rattle.hep_code.proofs.Moves.{StandsAt, after_statement_keeps, after_statement_stands}
+use Rattle.hep_code.proofs.CodePositions.{StandsAt, after_statement_keeps, after_statement_stands}
 use Rattle.hep_layout.specs.Words.{FrameNode, Nodes}
 use Rattle.hep_step.specs.Simulation.{unit_addressed, unit_code}
 use Rattle.hep_proc.specs.declared.process.Local.{Local}
 use Rattle.hep_state.specs.Words.{node_under}
-use Rattle.hep_state.proofs.Standing.{AreStanding, AreStandingBelow, IsHere, StandsBelow, StandsOnTop}
-use Rattle.hep_views.proofs.Views.{line-is}
+use Rattle.hep_state.proofs.SettledPositions.{AreStanding, AreStandingBelow, IsHere, StandsBelow, StandsOnTop}
+use Rattle.hep_views.proofs.StateViews.{line-is}
 use Rattle.hep_state_text.specs.Lines as lines
 use Rattle.hep_state_text.specs.States as words
 use Rattle.hep_state_text.specs.States.{level_behind}
-use Rattle.hep_state_text.specs.Levels.{backs_seen, level_seen, stack_seen}
+use Rattle.hep_state_text.specs.ProcessLines.{backs_seen, level_seen, stack_seen}
 
 module _ (program : Units) (s : State) (nodes : Nodes) (shown : ℕ → List ℕ) where
   node-is : (l : Local) (n : FrameNode) → nodes l.key ≡ Some n → node_under nodes l.key ≡ n

@@ -14,14 +14,14 @@ use Rattle.hep_image.specs.Owners.{argument_at, frame_variables}
 use Rattle.hep_image.specs.declared.owners.FrameVariable.{FrameVariable}
 use Rattle.hep_state_text.specs.Contents.{variable_text}
 use Rattle.hep_state_text.specs.States as words
-use Rattle.hep_state_text.specs.declared.variable.Variable.{Variable}
+use Rattle.hep_state_text.specs.declared.variable.DisplayedVariable.{DisplayedVariable}
 use Rattle.hep_state_text.specs.Activations.{IsFrameAt}
-use Rattle.hep_state_text.specs.Kept.{AreOut}
+use Rattle.hep_state_text.specs.StoredVariables.{AreOut}
 use Rattle.hep_state_text.specs.Variables.{IsScalar, value_line, value_seen}
-use Rattle.hep_state_text.specs.declared.activations.Unit.{Unit}
+use Rattle.hep_state_text.specs.declared.activations.NamedUnit.{NamedUnit}
 use Rattle.hep_state_text.proofs.Owned.{argument-at, value-is}
 
-module _ (program : Units) (s : State) (layout : Layout) (a : ℕ) (unit : Unit) (first : ℕ) (arena : Space) (h : IsFrameAt program s layout a unit first arena)
+module _ (program : Units) (s : State) (layout : Layout) (a : ℕ) (unit : NamedUnit) (first : ℕ) (arena : Space) (h : IsFrameAt program s layout a unit first arena)
     (ds : List Occurrence) (ds-are : names_of_occurrences ds ≡ dummies_of unit.names.symbols.now) (i : ℕ) (d : Occurrence) (less : i < length ds) where
   abbrev own : List Statement
   own = unit_at program (unit_of s a)

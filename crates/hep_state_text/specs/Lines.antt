@@ -1,9 +1,9 @@
--- The lines of what everything holds, but those of variables: docs/RUNS.md, "What everything holds".
+-- The lines of a state, except those of variables: docs/RUNS.md, "What everything holds".
 use Rattle.std.specs.Prelude.{ℕ, Bool, List, ◌++◌, codes}
 use Rattle.std.specs.Fmt.{decimal}
 use Rattle.hep_state_text.specs.Values.{state_text}
 
--- how many entries were made
+-- the number of entries
 abbrev pub head_text : ℕ → List ℕ
 head_text entries = codes "AFTER " ++ decimal entries ++ codes " ENTRIES\n"
 
@@ -13,12 +13,12 @@ head_text entries = codes "AFTER " ++ decimal entries ++ codes " ENTRIES\n"
 abbrev pub place_text : List ℕ → ℕ → ℕ → List ℕ
 place_text unit line activation = unit ++ codes " LINE " ++ decimal line ++ codes " IN ACTIVATION " ++ decimal activation
 
--- where a level of a process is, and the line of the source on which its statement begins, as it is shown
+-- the place of a level, and the line of the source on which its statement begins
 pub record LevelText : Type 0 where
   pub place : List ℕ
   pub statement : List ℕ
 
--- by how lines are shown
+-- with a function for the lines of the source
 abbrev pub level_text : (ℕ → List ℕ) → List ℕ → ℕ → ℕ → LevelText
 level_text shown unit line activation = record { place = place_text unit line activation; statement = shown line }
 
@@ -26,7 +26,7 @@ level_text shown unit line activation = record { place = place_text unit line ac
 abbrev pub waiting_text : Bool → List ℕ → List ℕ
 waiting_text full place = codes " WAITING FOR" ++ state_text full ++ codes " " ++ place
 
--- an element, and a position of a common block, by their numbers, and whose variable it is
+-- an element or a position of a common block by its number, and the owner of a variable
 abbrev pub element_text : List ℕ → ℕ → List ℕ
 element_text name element = name ++ codes "#" ++ decimal element
 
@@ -36,21 +36,21 @@ owned_text name owner = name ++ codes " OF " ++ decimal owner
 abbrev pub block_name : List ℕ → List ℕ
 block_name name = codes "/" ++ name ++ codes "/"
 
--- a process at a level, with what it waits for, if it does
+-- a process at a level, with what it waits for, if it waits
 abbrev pub process_text : ℕ → LevelText → List ℕ → List ℕ
 process_text process level waiting = codes "PROCESS " ++ decimal process ++ codes " " ++ level.place ++ waiting ++ codes "\n" ++ level.statement
 
--- a level to which it comes back
+-- a level to which the process returns
 abbrev pub back_text : LevelText → List ℕ
 back_text level = codes "  BACK TO " ++ level.place ++ codes "\n" ++ level.statement
 
 -- ---- storage
 
--- a common block, whose variables are named as in a unit
+-- a common block, with the unit whose names its variables have
 abbrev pub block_text : List ℕ → List ℕ → List ℕ
 block_text name unit = codes "COMMON " ++ block_name name ++ codes " AS IN " ++ unit ++ codes "\n"
 
--- behind a number the name of a unit, with which the line ends
+-- after a number, the name of a unit, which ends the line
 abbrev pub name_text : List ℕ → List ℕ
 name_text unit = codes " " ++ unit ++ codes "\n"
 

@@ -1,10 +1,9 @@
--- What everything holds, as a text, by a program and its state: docs/RUNS.md, "What everything holds".
+-- The text of a state, by a program and its state: docs/RUNS.md, "What everything holds".
 use Rattle.std.specs.Prelude.{ℕ, suc, if◌then◌else◌, Bool, nat_eq, List, [], ◌∷◌, ◌++◌, map, Option, Some, None}
 use Rattle.std.specs.List.{flat_map}
-use Rattle.std.specs.Option.{option_map_or}
 use Rattle.hep_machine.specs.declared.event.Entry.{Entry}
 use Rattle.hep_machine.specs.declared.slot.Slot.{Slot}
-use Rattle.hep_machine.specs.Words.{Name, Statement, spelling, Units, unit_at, unit_name, function_name, line_at, dummies_of, locals_of, is_array, BlockName, blocks_of, block_cells, cells_of_all, names_in_block}
+use Rattle.hep_machine.specs.Words.{Name, Statement, block_spelling, spelling, Units, unit_at, unit_name, function_name, line_at, dummies_of, locals_of, is_array, BlockName, blocks_of, block_cells, cells_of_all, names_in_block}
 use Rattle.hep_machine.specs.Words.{Activation, Level, Process, State, Location, local, common, Store, unit_of, Wanted, wanted_by, level_after_statement, is_held, is_number_among}
 use Rattle.hep_machine.specs.Words.{Scope, StorageSequence, own_storage, storage_of, scope_of, CellView, cells_at, is_owned, progress_after, state_after}
 use Rattle.hep_state_text.specs.Lines as lines
@@ -15,20 +14,17 @@ use Rattle.hep_state_text.specs.Contents.{variable_text}
 abbrev pub slots_at : Store → Location → ℕ → List Slot
 slots_at store at n = map (λ (c : CellView). c.cell) (cells_at store at n)
 
--- blank COMMON has a name without characters
-abbrev pub block_spelling : BlockName → List ℕ
-block_spelling b = option_map_or spelling b []
-
 -- the first of these units in which a block has so many cells
 abbrev pub first_with : ℕ → BlockName → List (List Statement) → List Statement
 first_with n b [] = []
 first_with n b (unit ∷ units) = if nat_eq (cells_of_all unit (names_in_block unit b)) n then unit else first_with n b units
 
--- the first unit in which a block is as long as anywhere
+-- the first unit in which a block is longest
 abbrev pub unit_of_block : Units → BlockName → List Statement
 unit_of_block program b = first_with (block_cells program b) b program
 
--- where a level goes on once the one above it has ended, by that one's result: behind its CALL, or in the statement that refers to the function
+-- the level at which execution continues after the one above has ended, by that one's result: after its CALL, or in
+-- the statement that refers to the function
 abbrev pub level_behind : List Statement → Option Name → Level → Level
 level_behind unit None level = level_after_statement unit level
 level_behind unit (Some x) level = level
@@ -38,12 +34,12 @@ module _ (program : Units) (s : State) where
   abbrev pub unit_in : ℕ → List Statement
   unit_in a = unit_at program (unit_of s a)
 
-  -- ---- processes, where lines of the source are shown so
+  -- ---- processes, with a function for the lines of the source
 
   abbrev pub level_text : (ℕ → List ℕ) → Level → LevelText
   level_text shown level = lines.level_text shown (unit_name (unit_in level.activation)) (line_at (unit_in level.activation) level.statement) level.activation
 
-  -- below one of a unit
+  -- a level below one of a unit
   abbrev pub back_text : (ℕ → List ℕ) → List Statement → Level → List ℕ
   back_text shown above level = lines.back_text (level_text shown (level_behind (unit_in level.activation) (function_name above) level))
 
@@ -64,14 +60,14 @@ module _ (program : Units) (s : State) where
   stack_text shown p waiting [] = []
   stack_text shown p waiting (level ∷ levels) = lines.process_text p (level_text shown level) waiting ++ levels_text shown (unit_in level.activation) levels
 
-  -- what it waits for is told where it is listed
+  -- what it waits for is named where it is listed
   abbrev pub wait_text : ℕ → Bool → List ℕ
   wait_text p listed = if listed then waiting_text (wanted_by program p s) else []
 
   abbrev pub process_text : (ℕ → List ℕ) → ℕ → Bool → Process → List ℕ
   process_text shown p listed q = stack_text shown p (wait_text p listed) q
 
-  -- those of processes by their numbers, of which the first one has this number
+  -- the lines of processes from this number on
   abbrev pub processes_text : (ℕ → List ℕ) → List ℕ → ℕ → List Process → List ℕ
   processes_text shown listed p [] = []
   processes_text shown listed p (q ∷ qs) = process_text shown p (is_number_among p listed) q ++ processes_text shown listed (suc p) qs
@@ -85,7 +81,7 @@ module _ (program : Units) (s : State) where
   abbrev pub own_text : Scope → Name → List ℕ
   own_text scope x = storage_text x (own_storage scope x)
 
-  -- a dummy argument has a storage unit of its own where it stands for an expression
+  -- a dummy argument has a storage unit of its own if it is associated with an expression
   abbrev pub value_text : Scope → Name → List ℕ
   value_text scope x =
       if is_owned scope.number (storage_of scope x).start
@@ -97,12 +93,12 @@ module _ (program : Units) (s : State) where
       lines.activation_text a (unit_name (unit_in a))
       ++ flat_map (own_text (scope_of program s a)) (locals_of (unit_in a)) ++ flat_map (value_text (scope_of program s a)) (dummies_of (unit_in a))
 
-  -- those that are held, of so many, of which the first one has this number
+  -- the held ones of n activations from this number on
   abbrev pub activations_text : ℕ → List Activation → List ℕ
   activations_text a [] = []
   activations_text a (x ∷ xs) = (if is_held s a then activation_text a else []) ++ activations_text (suc a) xs
 
-  -- a unit as it names what is in COMMON
+  -- the scope of a unit's names for COMMON
   abbrev pub common_scope : List Statement → Scope
   common_scope unit = record { unit = unit; number = 0; dummies = [] }
 
@@ -117,7 +113,7 @@ module _ (program : Units) (s : State) where
   contents_text shown listed =
       processes_text shown listed 1 s.processes ++ flat_map block_text (blocks_of program) ++ activations_text 1 s.activations
 
--- what everything holds after a history, which was told in so many entries, where lines of the source are shown so
+-- the state after a history, with the number of entries, and a function for the lines of the source
 abbrev pub state_text : (ℕ → List ℕ) → Units → ℕ → List Entry → List ℕ
 state_text shown program entries history =
     lines.head_text entries ++ contents_text program (state_after program history) shown (progress_after program history).listed

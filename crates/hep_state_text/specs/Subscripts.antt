@@ -3,12 +3,12 @@ use Rattle.std.specs.Prelude.{ℕ, ◌/◌, ◌%◌, pos, ◌+ℤ◌, Bool, true
 use Rattle.std.specs.Fmt.{signed_decimal}
 use Rattle.hep_machine.specs.Words.{Bounds, extent}
 
--- of the element that has so many in front of it: how far its subscript in the first dimension, of this size, is above the lower bound
+-- the subscript in the first dimension, counted from 0, of the element that has n others before it
 abbrev pub index_in : Option ℕ → ℕ → ℕ
 index_in None n = n
 index_in (Some size) n = n % size
 
--- and how many steps of that dimension are in front of it
+-- and the number of whole passes through that dimension before it
 abbrev pub steps_behind : Option ℕ → ℕ → ℕ
 steps_behind None n = 0
 steps_behind (Some size) n = n / size
@@ -18,7 +18,7 @@ abbrev pub comma : Bool → List ℕ
 comma true = codes ","
 comma false = []
 
--- its subscripts; the first one goes fastest (5.2.4). The flag says that others stand before these
+-- its subscripts; the first one varies fastest (5.2.4). The flag says that others come before these
 abbrev pub subscripts_text : Bool → Bounds → ℕ → List ℕ
 subscripts_text follows [] n = []
 subscripts_text follows (b ∷ bs) n =

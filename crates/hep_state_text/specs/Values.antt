@@ -1,11 +1,11 @@
--- What a cell holds, as a person reads of it: docs/RUNS.md, "What everything holds".
+-- The words for a cell: docs/RUNS.md, "What everything holds".
 use Rattle.std.specs.Prelude.{ℕ, Bool, true, false, ◌&&◌, if◌then◌else◌, List, [], ◌++◌, codes, Option, Some, None}
 use Rattle.std.specs.Fmt.{signed_decimal}
 use Rattle.std.specs.Ordering.{int_eq}
 use Rattle.hep_machine.specs.Words.{Value, Int, Truth, same_logical}
 use Rattle.hep_machine.specs.declared.slot.Slot.{Slot}
 
--- the value as PRINT has it, and a word where there is none
+-- the value as PRINT writes it, and a word where there is none
 abbrev pub value_text : Option Value → List ℕ
 value_text None = codes "UNDEFINED"
 value_text (Some (Int z)) = signed_decimal z
@@ -20,7 +20,7 @@ state_text false = codes " EMPTY"
 abbrev pub slot_text : Bool → Slot → List ℕ
 slot_text asynchronous s = value_text s.value ++ (if asynchronous then state_text s.full else [])
 
--- ---- two cells that hold the same
+-- ---- equal cells
 
 abbrev pub same_value : Option Value → Option Value → Bool
 same_value None None = true
@@ -28,6 +28,6 @@ same_value (Some (Int a)) (Some (Int b)) = int_eq a b
 same_value (Some (Truth a)) (Some (Truth b)) = same_logical a b
 same_value _ _ = false
 
--- and are as full
+-- and both full or both empty
 abbrev pub same_slot : Slot → Slot → Bool
 same_slot a b = same_value a.value b.value && same_logical a.full b.full

@@ -2,14 +2,14 @@
 ghost use Rattle.std.specs.Prelude.{◌≡◌, ◌++◌, ◌<◌, ℕ, OnOk, length};
 ghost use Rattle.std.specs.List.{flat_map};
 ghost use Rattle.hep_state_text.specs.Activations.{IsFrameAt, IsFrameSomewhere};
-ghost use Rattle.hep_state_text.specs.Kept.{AreOut};
+ghost use Rattle.hep_state_text.specs.StoredVariables.{AreOut};
 ghost use Rattle.hep_state_text.specs.Variables.{value_line, value_seen};
 ghost use Rattle.hep_machine.specs.Words.{Layout, State, Units, dummies_of, locals_of, scope_of, spelling};
 ghost use Rattle.hep_machine.specs.Words as names;
 ghost use Rattle.hep_state_text.specs.States as words;
 
-use crate::cells::slots;
-use crate::names::Names;
+use crate::cell_slots::slots;
+use crate::names::UnitSymbols;
 use crate::variable::append_variable;
 use crate::variables::{own_variable, scalar_variable};
 use hep_image::{Image, UnitCode};
@@ -21,12 +21,12 @@ use std::alloc::{AllocError, Global};
 
 /// A unit: its names, and its code.
 #[derive(Clone, Copy)]
-pub struct Unit<'a> {
-    pub names: Names<'a>,
+pub struct NamedUnit<'a> {
+    pub names: UnitSymbols<'a>,
     pub code: &'a UnitCode,
 }
 
-/// Appends the lines of the local variables of an activation whose frame begins at a cell.
+/// Appends the lines of the local variables of an activation whose frame begins at `first`.
 ///
 /// # Errors
 ///
@@ -35,7 +35,7 @@ pub fn append_locals(
     alloc: Global,
     text: &mut Vec<u8>,
     frames: &Frames,
-    unit: &Unit,
+    unit: &NamedUnit,
     first: u32,
 ) -> Result<(), AllocError>
     requires { IsFrameSomewhere unit.now first frames.now.arena }
@@ -55,8 +55,8 @@ pub fn append_locals(
     Ok(())
 }
 
-// What a dummy argument has of its own, from the first of its two cells on: the value of an expression, for which it stands where the second
-// cell has none.
+// The value of an expression that a dummy argument is associated with, from the first of its two cells. `None` where
+// the second cell has a value, since the dummy argument is associated with other storage then.
 fn value_at(frames: &Frames, at: u32) -> Option<Slot>
     requires { AreOut at 2 frames.now.arena }
     ensures { result ≡ value_seen frames.now.arena.contents at }
@@ -67,7 +67,7 @@ fn value_at(frames: &Frames, at: u32) -> Option<Slot>
     Some(frames.get(at))
 }
 
-// The lines of a dummy argument that has this of its own.
+// The lines of a dummy argument with this value of its own.
 fn append_value(
     alloc: Global,
     text: &mut Vec<u8>,
@@ -83,7 +83,8 @@ fn append_value(
     append_variable(text, &variable, &[slot])
 }
 
-/// Appends the lines of the dummy arguments that stand for expressions, of an activation whose frame begins at a cell.
+/// Appends the lines of the dummy arguments that are associated with expressions, of an activation whose frame begins
+/// at `first`.
 ///
 /// # Errors
 ///
@@ -92,7 +93,7 @@ pub fn append_values(
     alloc: Global,
     text: &mut Vec<u8>,
     frames: &Frames,
-    unit: &Unit,
+    unit: &NamedUnit,
     first: u32,
 ) -> Result<(), AllocError>
     requires { IsFrameSomewhere unit.now first frames.now.arena }

@@ -1,44 +1,37 @@
-//! What everything holds after the first entries of a history: its text, and how it is read from a machine.
-//!
-//! What everything holds after the first entries of a history, as a person reads of it: where each process is, and the lines of scalars,
-//! and of arrays in runs of elements that are alike.
-//!
-//! The whole text is a definition, `state_text` of `specs/States`.
-//!
-//! The names of a common block in a unit, and the unit in which it is as long as anywhere.
-//!
-//! What everything holds, in parts: where processes are, what they wait for, and the variables of common blocks and of activations.
+//! The text of `state`: the place of each process, what it waits for, and the values of the variables of common
+//! blocks and of held activations (docs/RUNS.md, "What everything holds"). `state_text` of `specs/States` defines it;
+//! this crate has the lines in parts, read from a core's machine. Begin with `src/lines.rt` and `src/variable.rt`.
 #![tactic(auto)]
 
 pub mod activations;
-pub mod blocks;
-mod cells;
-pub mod common;
-pub mod held;
+pub mod block_names;
+mod cell_slots;
+pub mod common_variables;
+pub mod held_activations;
 pub mod laws;
-pub mod levels;
 pub mod lines;
 pub mod names;
+pub mod process_lines;
 pub mod storage;
 mod subscripts;
-mod values;
+pub mod values;
 pub mod variable;
 mod variables;
-pub mod waits;
+pub mod wait_text;
 
-pub use activations::{Unit, append_locals, append_values, unit_name};
-pub use blocks::{longest, names_in_block};
-pub use common::append_common;
-pub use held::held_keys;
+pub use activations::{NamedUnit, append_locals, append_values, unit_name};
+pub use block_names::{longest, names_in_block};
+pub use common_variables::append_common;
+pub use held_activations::held_keys;
 pub use hep_text::Listing;
 pub use hep_views::Place;
-pub use hep_views::finding::listed;
-pub use levels::{Source, append_process};
+pub use hep_views::lookup::listed;
 pub use lines::{
     append_activation, append_block, append_block_name, append_element, append_head, append_level,
     append_owner, append_waiting,
 };
-pub use names::Names;
-pub use storage::Storage;
-pub use variable::{Variable, append_variable};
-pub use waits::{place_listed, place_text, waiting_text};
+pub use names::UnitSymbols;
+pub use process_lines::{SourceImage, append_process};
+pub use storage::StateStorage;
+pub use variable::{DisplayedVariable, append_variable};
+pub use wait_text::{place_listed, place_text, waiting_text};

@@ -6,7 +6,7 @@ use crate::values::state_text;
 use hep_output::append_number;
 use std::alloc::AllocError;
 
-/// Appends the first line: how many entries were made.
+/// Appends the first line, with the number of entries.
 ///
 /// # Errors
 ///
@@ -20,7 +20,7 @@ pub fn append_head(text: &mut Vec<u8>, entries: u64) -> Result<(), AllocError>
     Ok(())
 }
 
-/// Appends where an activation of the unit of this name is: `unit LINE n IN ACTIVATION a`.
+/// Appends the place of an activation, in a unit of this name: `unit LINE n IN ACTIVATION a`.
 ///
 /// # Errors
 ///
@@ -41,7 +41,7 @@ pub fn append_level(
     Ok(())
 }
 
-/// Appends the first line of a common block of this name, whose variables are named as in a unit.
+/// Appends the first line of a common block of this name, with the unit whose names its variables have.
 ///
 /// # Errors
 ///
@@ -57,7 +57,7 @@ pub fn append_block(text: &mut Vec<u8>, name: &[u8], unit: &[u8]) -> Result<(), 
     Ok(())
 }
 
-// Behind a number the name of a unit, with which the line ends.
+// After a number, the name of a unit, which ends the line.
 fn append_name(text: &mut Vec<u8>, unit: &[u8]) -> Result<(), AllocError>
     ensures { OnOk result (text.new.items ≡ text.old.items ++ words.name_text unit.now) }
 {
@@ -95,7 +95,7 @@ pub fn append_block_name(text: &mut Vec<u8>, name: &[u8]) -> Result<(), AllocErr
     Ok(())
 }
 
-/// Appends to the name of a variable or of a common block an element or a position by its number.
+/// Appends the number of an element or a position to the name of a variable or of a common block.
 ///
 /// # Errors
 ///
@@ -108,7 +108,7 @@ pub fn append_element(name: &mut Vec<u8>, element: u32) -> Result<(), AllocError
     Ok(())
 }
 
-/// Appends to the name of a variable, or of an element, whose it is.
+/// Appends the owner to the name of a variable or of an element.
 ///
 /// # Errors
 ///
@@ -121,7 +121,7 @@ pub fn append_owner(name: &mut Vec<u8>, owner: u64) -> Result<(), AllocError>
     Ok(())
 }
 
-/// Appends that a process waits until what has this name is full, or is empty.
+/// Appends that a process waits until a place with these words is full, or is empty.
 ///
 /// # Errors
 ///

@@ -5,7 +5,7 @@ use hep_values::Constants;
 
 /// The names of a unit, and the values of its constants.
 #[derive(Clone, Copy)]
-pub struct Names<'a> {
+pub struct UnitSymbols<'a> {
     pub symbols: &'a Symbols<'a>,
     pub constants: &'a Constants,
 }

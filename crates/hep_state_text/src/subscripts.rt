@@ -1,23 +1,13 @@
 //! Subscripts, as Fortran writes them (X3.9-1978, 5.4).
-ghost use Rattle.std.specs.Prelude.{◌≡◌, ◌++◌, ◌+ℤ◌, ◌≤◌, ◌^◌, pos, true, false, [], IfOk, IfSome, OnOk};
+ghost use Rattle.std.specs.Prelude.{◌≡◌, ◌++◌, ◌+ℤ◌, ◌≤◌, pos, true, false, IfSome, OnOk};
 ghost use Rattle.std.specs.Fmt.{signed_decimal};
-ghost use Rattle.hep_machine.specs.Words.{are_dimensions, extent, is_between};
+ghost use Rattle.hep_machine.specs.Words.{are_dimensions, extent};
 ghost use Rattle.hep_state_text.specs.Subscripts as words;
 
 use hep_machine::Bound;
 use hep_output::append_number;
+use hep_shape::shape::extent;
 use std::alloc::AllocError;
-
-// The size of a dimension (5.2.2), none where it is open. It may be 2^64.
-fn extent(bound: Bound) -> Option<u128>
-    requires { is_between bound.lower bound.upper [] ≡ true }
-    ensures size { result ≡ extent bound }
-    ensures some { IfSome result (λ size. 1 ≤ size) }
-{
-    bound
-        .upper
-        .map(|upper| u128::from(upper.abs_diff(bound.lower)) + 1)
-}
 
 // The subscript in a dimension of the element that has so many in front of it, counted from 0.
 fn index_in(size: Option<u128>, number: u64) -> u64
@@ -30,7 +20,7 @@ fn index_in(size: Option<u128>, number: u64) -> u64
     }
 }
 
-// How many steps of the dimension are in front of it.
+// The number of whole passes through the dimension before that element.
 fn steps_behind(size: Option<u128>, number: u64) -> u64
     requires { IfSome size (λ n. 1 ≤ n) }
     ensures { result ≡ words.steps_behind size number }
@@ -55,7 +45,7 @@ fn append_subscript(
     append_number(text, i128::from(bound.lower) + i128::from(index))
 }
 
-/// Appends the subscripts of the element that has so many in front of it, with a comma between two.
+/// Appends the subscripts of the element that has `number` others before it, with commas between them.
 ///
 /// # Errors
 ///
@@ -71,7 +61,7 @@ pub(crate) fn append_subscripts(
     let mut follows = false;
     let mut rest = number;
     for bound in bounds {
-        let size = extent(*bound);
+        let size = extent(bound);
         append_subscript(text, follows, *bound, index_in(size, rest))?;
         rest = steps_behind(size, rest);
         follows = true;

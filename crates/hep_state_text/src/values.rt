@@ -1,4 +1,4 @@
-//! What a cell holds, and whether two hold the same.
+//! The words for a cell, and whether two cells are equal.
 ghost use Rattle.std.specs.Prelude.{◌≡◌, ◌++◌, OnOk};
 ghost use Rattle.hep_state_text.specs.Values as words;
 
@@ -7,7 +7,12 @@ use hep_output::append_number;
 use hep_source::Value;
 use std::alloc::AllocError;
 
-fn append_value(text: &mut Vec<u8>, value: Option<Value>) -> Result<(), AllocError>
+/// Appends the value of a cell, or that it has none.
+///
+/// # Errors
+///
+/// Only where memory was refused.
+pub fn append_value(text: &mut Vec<u8>, value: Option<Value>) -> Result<(), AllocError>
     ensures { OnOk result (text.new.items ≡ text.old.items ++ words.value_text value) }
 {
     match value {
@@ -19,13 +24,13 @@ fn append_value(text: &mut Vec<u8>, value: Option<Value>) -> Result<(), AllocErr
 }
 
 /// A word for whether a cell is full, behind a blank.
-pub(crate) fn state_text(full: bool) -> &'static [u8]
+pub fn state_text(full: bool) -> &'static [u8]
     ensures { result.now ≡ words.state_text full }
 {
     if full { b" FULL" } else { b" EMPTY" }
 }
 
-/// Appends the value of a cell, and of an asynchronous variable's cell whether it is full.
+/// Appends the value of a cell, and, for an asynchronous variable, whether it is full.
 ///
 /// # Errors
 ///
@@ -55,7 +60,7 @@ fn same_value(a: Option<Value>, b: Option<Value>) -> bool
     }
 }
 
-/// Two cells hold the same, and are as full.
+/// Whether two cells have the same value, and are both full or both empty.
 pub(crate) fn same_slot(a: Slot, b: Slot) -> bool
     ensures { result ≡ words.same_slot a b }
 {

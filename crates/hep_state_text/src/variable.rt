@@ -9,15 +9,16 @@ use hep_machine::{Bound, Slot};
 use hep_source::Text;
 use std::alloc::AllocError;
 
-/// A variable by what its lines need: its name, whether that begins with `$`, and the bounds of its dimensions, none for a scalar.
+/// A variable, as its lines need it: its name, whether that begins with `$`, and the bounds of its dimensions, none
+/// for a scalar.
 #[derive(Drop)]
-pub struct Variable {
+pub struct DisplayedVariable {
     pub name: Text,
     pub asynchronous: bool,
     pub bounds: Vec<Bound>,
 }
 
-// Behind the subscripts of the first element of a run those of the last one, where it is another one.
+// After the subscripts of the first element of a run, those of the last one, if it is another one.
 fn append_last(
     text: &mut Vec<u8>,
     bounds: &[Bound],
@@ -55,7 +56,7 @@ fn append_list(
 // The elements from one to another, both counted from 0; a scalar is its name.
 fn append_elements(
     text: &mut Vec<u8>,
-    variable: &Variable,
+    variable: &DisplayedVariable,
     first: u64,
     last: u64,
 ) -> Result<(), AllocError>
@@ -70,17 +71,17 @@ fn append_elements(
     Ok(())
 }
 
-// What stands between the first and the last element of a run, by the number of dimensions.
+// The text between the first and the last element of a run, by the number of dimensions.
 fn between(dimensions: usize) -> &'static [u8]
     ensures { result.now ≡ words.between dimensions }
 {
     if dimensions == 1 { b".." } else { b")..(" }
 }
 
-// The line of elements that hold the same, as this cell does.
+// The line of elements with equal cells, of which this is one.
 fn append_run(
     text: &mut Vec<u8>,
-    variable: &Variable,
+    variable: &DisplayedVariable,
     first: u64,
     last: u64,
     slot: Slot,
@@ -97,7 +98,7 @@ fn append_run(
     Ok(())
 }
 
-// No cell behind this index holds the same as the one at it in a row.
+// Whether the cell after this index differs from the one at it, or there is none.
 fn ends_run(slots: &[Slot], index: usize) -> bool
     requires { index < length slots.now }
     ensures { result ≡ words.ends_run (drop index slots.now) }
@@ -108,15 +109,15 @@ fn ends_run(slots: &[Slot], index: usize) -> bool
     }
 }
 
-/// Appends the lines of a variable whose cells hold these, in the order of its elements (X3.9-1978, 5.2.4): one for each run of cells that
-/// hold the same.
+/// Appends the lines of a variable with these cells, in the order of its elements (X3.9-1978, 5.2.4): one for each
+/// run of equal cells.
 ///
 /// # Errors
 ///
 /// Only where memory was refused.
 pub fn append_variable(
     text: &mut Vec<u8>,
-    variable: &Variable,
+    variable: &DisplayedVariable,
     slots: &[Slot],
 ) -> Result<(), AllocError>
     requires { are_dimensions variable.now.bounds.items ≡ true }

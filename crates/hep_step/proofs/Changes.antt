@@ -15,13 +15,13 @@ use Rattle.hep_code.specs.declared.instruction.Operation.{Operation}
 use Rattle.hep_code.specs.declared.instruction.Operation.TheVariants.{Evaluate, Store, Purge}
 use Rattle.hep_code.specs.Words.{Reply, result, accessed, arity, first_operand, reply_of, reply_to_store}
 use Rattle.hep_image.specs.declared.array.Array.{Array}
-use Rattle.hep_image.specs.Finding.{address_of, cells_in}
+use Rattle.hep_image.specs.Addressing.{address_of, cells_in}
 use Rattle.hep_step.specs.declared.effect.Effect.{Effect}
 use Rattle.hep_step.specs.Changes.{AreChanged, changed_by, changed_by_reply, may_change}
 use Rattle.hep_step.specs.Effects as effects
 use Rattle.hep_step.specs.Effects.{moves, prints, fails, waits, returns, answers, stops, left_out, effect_of, effect_of_reply, subscripts_in}
-use Rattle.hep_step.specs.Performed.{Snapshot, changed_in, performed}
-use Rattle.hep_step.specs.Ready.{last_operands}
+use Rattle.hep_step.specs.PerformedSteps.{Snapshot, changed_in, performed}
+use Rattle.hep_step.specs.StepReady.{last_operands}
 use Rattle.hep_step.specs.Simulation.{is_left_out}
 
 -- ---- a cell

@@ -1,24 +1,24 @@
 pub mod Changes
 pub mod Elements
 pub mod WorkedAddresses
-pub mod Running
+pub mod RunningActivations
 pub mod IterationCounts
-pub mod Actions
-pub mod Replied
+pub mod SilentOperations
+pub mod ReplySteps
 pub mod Frames
 pub mod Items
-pub mod Loops
+pub mod LoopSteps
 pub mod Operations
-pub mod Ready
+pub mod ReadySteps
 pub mod References
-pub mod Entries
+pub mod PassedEntries
 pub mod ReadyToPass
 mod WorkedPassing
 mod WorkedChanges
-pub mod Moved
-pub mod Cells
-pub mod Reached
-pub mod Targets
+pub mod PlainSteps
+pub mod EmptiedRanges
+pub mod PurgedCells
+pub mod PurgeTargets
 pub mod Purges
 mod WorkedPurges
-pub mod Most
+pub mod TargetCounts

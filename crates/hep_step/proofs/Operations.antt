@@ -4,12 +4,12 @@ use Rattle.hep_machine.specs.Words.{line_at}
 use Rattle.hep_code.specs.declared.instruction.Operation.{Operation}
 use Rattle.hep_code.specs.declared.instruction.Operation.TheVariants.{Evaluate, Store, Jump, Choose, BySign, Condition, Branch, EnterLoop, EndLoop, Print, Return, Answer, Stop}
 use Rattle.hep_code.specs.Words.{IsPastPushes}
-use Rattle.hep_code.proofs.Ahead.{step_is_ahead}
+use Rattle.hep_code.proofs.NextOperation.{step_is_ahead}
 use Rattle.hep_step.specs.Effects.{effect_ahead, effect_at}
 use Rattle.hep_step.specs.Simulation.{is_left_out, IsNotLeftOut, IsRunning, IsSimulated, RunningTop, Simulates, addressed_on_top, arrays_running, code_running, unit_running}
-use Rattle.hep_step.proofs.Replied.{evaluated, value_stored}
-use Rattle.hep_step.proofs.Actions.{activation_ends, function_ends, jump_is_made, record_is_printed, run_stops}
-use Rattle.hep_step.proofs.Loops.{loop_is_ended, loop_is_entered}
+use Rattle.hep_step.proofs.ReplySteps.{evaluated, value_stored}
+use Rattle.hep_step.proofs.SilentOperations.{activation_ends, function_ends, jump_is_made, record_is_printed, run_stops}
+use Rattle.hep_step.proofs.LoopSteps.{loop_is_ended, loop_is_entered}
 
 pub simulated : (o : Operation) → is_left_out o ≡ false → IsSimulated o
 simulated (Evaluate e) done r line behind running ahead = evaluated r running line e behind ahead

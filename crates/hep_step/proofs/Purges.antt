@@ -9,29 +9,29 @@ use Rattle.hep_code.specs.declared.instruction.Instruction.TheVariants.{Pass, St
 use Rattle.hep_code.specs.declared.instruction.Operation.TheVariants.{Purge}
 use Rattle.hep_code.specs.declared.variable.Variable.{Variable}
 use Rattle.hep_code.specs.Words.{referred_argument, passed_from, passed_reference, table_of}
-use Rattle.hep_code.proofs.Leads.{operation_leads}
-use Rattle.hep_code.proofs.Moves.{after_statement_keeps}
+use Rattle.hep_code.proofs.ControlFlow.{operation_leads}
+use Rattle.hep_code.proofs.CodePositions.{after_statement_keeps}
 use Rattle.hep_code.proofs.Entries.{references_passed}
 use Rattle.hep_layout.proofs.Addresses.{address-out}
 use Rattle.hep_layout.proofs.Memory.{memory-same}
 use Rattle.hep_image.specs.Arrays.{ArePlacedArrays}
-use Rattle.hep_image.proofs.Named.{absent-or}
-use Rattle.hep_image.specs.Finding.{cells_in}
+use Rattle.hep_image.proofs.NamedNumbers.{absent-or}
+use Rattle.hep_image.specs.Addressing.{cells_in}
 use Rattle.hep_image.specs.Places.{variable_of}
-use Rattle.hep_step.specs.Agreement.{IsPassedAs, IsTopCaller, caller_running, storage_passed}
-use Rattle.hep_step.specs.Passing.{passed_at}
+use Rattle.hep_step.specs.ArgumentAgreement.{IsPassedAs, IsTopCaller, caller_running, storage_passed}
+use Rattle.hep_step.specs.ArgumentPassing.{passed_at}
 use Rattle.hep_step.specs.ReadyToPass.{ArePassable}
 use Rattle.hep_step.proofs.ReadyToPass.{variable-passable}
 use Rattle.hep_step.proofs.References.{reference-passed}
-use Rattle.hep_step.specs.Ready.{frame_in_arena}
+use Rattle.hep_step.specs.StepReady.{frame_in_arena}
 use Rattle.hep_step.specs.Simulation.{IsRunning, RunningTop, Simulates, addressed_on_top, arrays_running, code_ahead, counts_in, unit_running}
-use Rattle.hep_step.proofs.Running.{Comes, action_made, coming, fault_is, is_at, next_is, no_end, reached, scope_running}
-use Rattle.hep_step.specs.declared.range.ClosedRange.{ClosedRange}
-use Rattle.hep_step.specs.Placed.{AreEntriesPlaced}
-use Rattle.hep_step.specs.Purged.{effect_of_purge, effect_of_ranges, purged}
-use Rattle.hep_step.specs.Ranges.{ranges_of}
+use Rattle.hep_step.proofs.RunningActivations.{Comes, action_made, coming, fault_is, is_at, next_is, no_end, reached, scope_running}
+use Rattle.hep_step.specs.declared.closed_range.ClosedRange.{ClosedRange}
+use Rattle.hep_step.specs.PlacedTargets.{AreEntriesPlaced}
+use Rattle.hep_step.specs.PurgeEffects.{effect_of_purge, effect_of_ranges, purged}
+use Rattle.hep_step.specs.PurgedRanges.{ranges_of}
 use Rattle.hep_step.specs.PurgeReady.{AreOut, AreUnitsOut}
-use Rattle.hep_step.proofs.Targets.{AreAllPurged, ArePlaced, targets-purged}
+use Rattle.hep_step.proofs.PurgeTargets.{AreAllPurged, ArePlaced, targets-purged}
 
 module _ (r : RunningTop) (line count next : ℕ) (behind : List Instruction) (running : IsRunning r) (ahead : code_ahead r ≡ Step line (Purge count next) ∷ behind) where
   abbrev variables : Name → Variable

@@ -10,19 +10,19 @@ use Rattle.hep_layout.specs.Words.{IsMemory}
 use Rattle.hep_layout.proofs.Addresses.{address-out}
 use Rattle.hep_image.specs.declared.array.Start.{Start}
 use Rattle.hep_image.specs.declared.array.Start.TheVariants as start
-use Rattle.hep_image.specs.Finding.{cells_in}
+use Rattle.hep_image.specs.Addressing.{cells_in}
 use Rattle.hep_image.specs.Image.{most_cells}
 use Rattle.hep_image.specs.Places.{array_of, arrays_of, scalar}
-use Rattle.hep_image.specs.Within.{LiesIn}
+use Rattle.hep_image.specs.FrameBounds.{LiesIn}
 use Rattle.hep_image.specs.Arrays.{ArePlacedArrays}
 use Rattle.hep_image.proofs.Activations.{dummy-shape}
 use Rattle.hep_machine.proofs.ConstantShapes.{constant-shape}
-use Rattle.hep_image.proofs.Named.{absent-or, array-listed, at-index, by-kind}
+use Rattle.hep_image.proofs.NamedNumbers.{absent-or, array-listed, at-index, by-kind}
 use Rattle.hep_image.proofs.Variables.{frame-reached}
-use Rattle.hep_image.proofs.Within.{variable-within}
-use Rattle.hep_step.specs.Ready.{frame_in_arena}
+use Rattle.hep_image.proofs.FrameBounds.{variable-within}
+use Rattle.hep_step.specs.StepReady.{frame_in_arena}
 use Rattle.hep_step.specs.Cells.{HasFrame}
-use Rattle.hep_step.specs.Agreement.{CallerOf, IsCaller, IsPassedAs, arrays_calling, scope_calling, storage_passed, unit_calling, variables_calling}
+use Rattle.hep_step.specs.ArgumentAgreement.{CallerOf, IsCaller, IsPassedAs, arrays_calling, scope_calling, storage_passed, unit_calling, variables_calling}
 use Rattle.hep_step.specs.ReadyToPass.{ArePassable, AreUnitsIn, HasShape, IsPassable, IsShaped}
 use Rattle.hep_step.proofs.References.{IsFoundBy, caller-found, reference-passed}
 

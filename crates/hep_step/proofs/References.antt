@@ -11,17 +11,17 @@ use Rattle.hep_layout.specs.Words.{RunsFrom}
 use Rattle.hep_layout.proofs.Storages.{dummy-runs, element-counted}
 use Rattle.hep_image.specs.declared.array.Start.{Start}
 use Rattle.hep_image.specs.declared.array.Start.TheVariants as start
-use Rattle.hep_image.specs.Finding.{base_at, bounds_at, cells_in, rest_at}
+use Rattle.hep_image.specs.Addressing.{base_at, bounds_at, cells_in, rest_at}
 use Rattle.hep_image.specs.Places.{array_of, arrays_of, extents_of, scalar}
 use Rattle.hep_image.specs.Constant.{HasConstantShape}
 use Rattle.hep_image.proofs.Activations.{scope-sized}
-use Rattle.hep_image.proofs.Found.{IsFound}
-use Rattle.hep_image.proofs.Named.{array-listed, at-index, by-kind}
+use Rattle.hep_image.proofs.AddressedVariables.{IsFound}
+use Rattle.hep_image.proofs.NamedNumbers.{array-listed, at-index, by-kind}
 use Rattle.hep_image.proofs.Variables.{any-found}
-use Rattle.hep_step.specs.Agreement.{CallerOf, IsCaller, IsPassedAs, AreGivenAs, ArePlaced, IsGiven, arrays_calling, given_passed, scope_calling, storage_passed, unit_calling, variables_calling}
-use Rattle.hep_step.specs.Passing.{count_of, passed_at, passed_from_element, passed_of_array, passed_of_scalar, given_for, given_units, made_before}
+use Rattle.hep_step.specs.ArgumentAgreement.{CallerOf, IsCaller, IsPassedAs, AreGivenAs, ArePlaced, IsGiven, arrays_calling, given_passed, scope_calling, storage_passed, unit_calling, variables_calling}
+use Rattle.hep_step.specs.ArgumentPassing.{count_of, passed_at, passed_from_element, passed_of_array, passed_of_scalar, given_for, given_units, made_before}
 use Rattle.hep_code.specs.Words.{passed_actual}
-use Rattle.hep_step.specs.declared.given.Given.{Given}
+use Rattle.hep_step.specs.declared.dummy_storage.DummyStorage.{DummyStorage}
 
 -- ---- elements by their numbers
 
@@ -159,7 +159,7 @@ module _ (c : CallerOf) (calls : IsCaller c) where
 
 module _ (program : Units) (s : State) (layout : Layout) (b : ℕ) where
   -- one dummy argument, or the same fault
-  abbrev IsGivenAs : Name → Actual → Result Given Kind → Result Dummy Kind → Type 0
+  abbrev IsGivenAs : Name → Actual → Result DummyStorage Kind → Result Dummy Kind → Type 0
   IsGivenAs x y (Ok g) (Ok d) = IsGiven program s layout b x y g d
   IsGivenAs x y (Err k) (Err l) = k ≡ l
   IsGivenAs x y _ _ = ⊥
@@ -169,7 +169,7 @@ module _ (program : Units) (s : State) (layout : Layout) (b : ℕ) where
   units-given x r (Err k) (Err l) h = h
   units-given x r _ _ h = absurd h
 
-  given-before : (x : Name) (y : Actual) (xs : List Name) (ys : List Actual) (g : Result Given Kind) (d : Result Dummy Kind) (gs : Result (List Given) Kind) (ds : Result (List Dummy) Kind)
+  given-before : (x : Name) (y : Actual) (xs : List Name) (ys : List Actual) (g : Result DummyStorage Kind) (d : Result Dummy Kind) (gs : Result (List DummyStorage) Kind) (ds : Result (List Dummy) Kind)
       → IsGivenAs x y g d → AreGivenAs program s layout b xs ys gs ds → AreGivenAs program s layout b (x ∷ xs) (y ∷ ys) (made_before g gs) (dummy_before d ds)
   given-before x y xs ys (Err k) (Err l) gs ds h hs = h
   given-before x y xs ys (Ok g) (Ok d) (Err k) (Err l) h hs = hs
@@ -178,10 +178,10 @@ module _ (program : Units) (s : State) (layout : Layout) (b : ℕ) where
   given-before x y xs ys _ _ gs ds h hs = absurd h
 
 module _ (c : CallerOf) (calls : IsCaller c) (b : ℕ) where
-  abbrev given : Actual → Result Given Kind
+  abbrev given : Actual → Result DummyStorage Kind
   given y = given_for (cells_in c.arena.contents) c.frame.first (arrays_calling c) (passed_actual (variables_calling c) y)
 
-  abbrev all_given : List Actual → Result (List Given) Kind
+  abbrev all_given : List Actual → Result (List DummyStorage) Kind
   all_given ys = given_passed c (map (passed_actual (variables_calling c)) ys)
 
   abbrev one : Name → Actual → Result Dummy Kind

@@ -9,7 +9,7 @@ use Rattle.hep_code.specs.declared.variable.Variable.TheVariants as variables
 use Rattle.hep_image.specs.declared.array.Array.{Array}
 use Rattle.hep_image.specs.declared.array.Extents.TheVariants.{Adjustable}
 use Rattle.hep_image.specs.declared.array.Start.TheVariants.{Dummy}
-use Rattle.hep_image.specs.Finding.{address_of, cells_in, counts_at}
+use Rattle.hep_image.specs.Addressing.{address_of, cells_in, counts_at}
 
 abbrev pub number : ℕ → Slot
 number n = record { value = Some (Int (pos n)); full = false }

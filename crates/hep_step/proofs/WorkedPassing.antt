@@ -9,11 +9,11 @@ use Rattle.hep_code.specs.declared.instruction.Instruction.TheVariants.{Pass}
 use Rattle.hep_code.specs.declared.variable.Variable.{Variable}
 use Rattle.hep_code.specs.declared.variable.Variable.TheVariants as variables
 use Rattle.hep_code.specs.Words.{passed_from}
-use Rattle.hep_image.specs.Finding.{cells_in}
+use Rattle.hep_image.specs.Addressing.{cells_in}
 use Rattle.hep_step.proofs.WorkedAddresses.{array, contents}
-use Rattle.hep_step.specs.declared.given.Given.{Given}
-use Rattle.hep_step.specs.declared.given.Given.TheVariants as giving
-use Rattle.hep_step.specs.Passing.{given_by, passed_at}
+use Rattle.hep_step.specs.declared.dummy_storage.DummyStorage.{DummyStorage}
+use Rattle.hep_step.specs.declared.dummy_storage.DummyStorage.TheVariants as giving
+use Rattle.hep_step.specs.ArgumentPassing.{given_by, passed_at}
 
 abbrev values : List ℕ → List Value
 values [] = []
@@ -54,7 +54,7 @@ third = refl
 
 -- ---- all of them
 
-abbrev given : List Instruction → List ℕ → Result (List Given) Kind
+abbrev given : List Instruction → List ℕ → Result (List DummyStorage) Kind
 given entries operands = given_by (cells_in contents) 2 (array ∷ []) (passed_from 3 entries (values operands))
 
 -- an expression, an element and a whole array; what stands behind is another's

@@ -12,7 +12,7 @@ use Rattle.hep_image.specs.declared.array.Array.{Array}
 use Rattle.hep_image.specs.declared.array.Extents.TheVariants.{Adjustable, Constant}
 use Rattle.hep_image.specs.declared.array.Start.TheVariants.{Dummy, Local}
 use Rattle.hep_step.specs.Effects.{Effect, fails, moves}
-use Rattle.hep_step.specs.Purged.{effect_of_purge}
+use Rattle.hep_step.specs.PurgeEffects.{effect_of_purge}
 
 abbrev full : ℕ → Slot
 full n = record { value = Some (Int (pos n)); full = true }

@@ -7,13 +7,13 @@ use Rattle.hep_code.specs.declared.instruction.Instruction.{Instruction}
 use Rattle.hep_code.specs.declared.instruction.Instruction.TheVariants.{Show}
 use Rattle.hep_code.specs.declared.instruction.Printed.TheVariants.{Operand, Characters}
 
--- the item of an entry, and the operands behind its own
+-- the item of an entry, and the operands after its own
 abbrev pub item_ahead : Instruction → List Value → Option (Item × List Value)
 item_ahead (Show Operand) (v ∷ vs) = Some (item_of v, vs)
 item_ahead (Show (Characters cs)) vs = Some (Text cs, vs)
 item_ahead _ vs = None
 
--- those of all entries, as far as each tells of one
+-- the items of all entries that have one
 abbrev pub items_in : List Instruction → List Value → List Item
 items_in [] vs = []
 items_in (Show Operand ∷ entries) (v ∷ vs) = item_of v ∷ items_in entries vs

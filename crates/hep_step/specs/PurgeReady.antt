@@ -1,14 +1,14 @@
--- What a PURGE needs, so that it can be done: docs/MACHINE.md, "Variables and frames".
+-- The conditions of a PURGE: docs/MACHINE.md, "Variables and frames".
 use Rattle.std.specs.Prelude.{ℕ, ◌+◌, ◌<◌, ◌≤◌, List, [], ◌∷◌, length, Result, Ok, Err}
 use Rattle.hep_machine.specs.declared.event.Kind.{Kind}
 use Rattle.hep_arena.specs.Holes.{Hole, IsOut}
 use Rattle.hep_arena.specs.Space.{Space}
-use Rattle.hep_code.specs.Words.{Passed, by_value, by_reference}
+use Rattle.hep_code.specs.Words.{PassedArgument, by_value, by_reference}
 use Rattle.hep_image.specs.declared.array.Array.{Array}
-use Rattle.hep_image.specs.Finding.{cells_in}
-use Rattle.hep_step.specs.Passing.{passed_at}
+use Rattle.hep_image.specs.Addressing.{cells_in}
+use Rattle.hep_step.specs.ArgumentPassing.{passed_at}
 use Rattle.hep_step.specs.declared.frame.Frame.{Frame}
-use Rattle.hep_step.specs.declared.range.ClosedRange.{ClosedRange}
+use Rattle.hep_step.specs.declared.closed_range.ClosedRange.{ClosedRange}
 
 -- ---- what is named
 
@@ -17,9 +17,9 @@ abbrev pub AreUnitsOut : List Hole → Result (ℕ × ℕ) Kind → Type 0
 AreUnitsOut holes (Err k) = Unit {0}
 AreUnitsOut holes (Ok units) = (p : ℕ) → units.0 ≤ p → p < units.0 + units.1 → IsOut p holes
 
--- those of all that is named
+-- the cells of all that is named
 module _ (space : Space) (arrays : List Array) (frame : Frame) where
-  abbrev pub AreOut : List Passed → Type 0
+  abbrev pub AreOut : List PassedArgument → Type 0
   AreOut [] = Unit {0}
   AreOut (by_value v ∷ ps) = AreOut ps
   AreOut (by_reference x subscripts ∷ ps) = AreUnitsOut space.holes (passed_at (cells_in space.contents) frame.first arrays x subscripts) × AreOut ps

@@ -1,4 +1,4 @@
--- What actual arguments need, so that they can be passed: docs/MACHINE.md, "Variables and frames".
+-- The conditions of passing actual arguments: docs/MACHINE.md, "Variables and frames".
 use Rattle.std.specs.Prelude.{◌≡◌, ℕ, ◌+◌, ◌≤◌, true, List, [], ◌∷◌, length, Option, Some, None, Result, Ok, Err, slice_get}
 use Rattle.hep_machine.specs.Words.{Value, is_shape}
 use Rattle.hep_machine.specs.declared.event.Kind.{Kind}
@@ -6,12 +6,12 @@ use Rattle.hep_machine.specs.declared.slot.Slot.{Slot}
 use Rattle.hep_arena.specs.Space.{Space}
 use Rattle.hep_code.specs.declared.variable.Variable.{Variable}
 use Rattle.hep_code.specs.declared.variable.Variable.TheVariants as variables
-use Rattle.hep_code.specs.Words.{Passed, by_value, by_reference}
+use Rattle.hep_code.specs.Words.{PassedArgument, by_value, by_reference}
 use Rattle.hep_image.specs.declared.array.Array.{Array}
-use Rattle.hep_image.specs.Finding.{bounds_at, cells_in}
-use Rattle.hep_image.specs.Within.{LiesIn}
+use Rattle.hep_image.specs.Addressing.{bounds_at, cells_in}
+use Rattle.hep_image.specs.FrameBounds.{LiesIn}
 use Rattle.hep_step.specs.declared.frame.Frame.{Frame}
-use Rattle.hep_step.specs.Passing.{passed_at}
+use Rattle.hep_step.specs.ArgumentPassing.{passed_at}
 
 -- the bounds of an array are a shape
 module _ (cells : ℕ → Slot) (first : ℕ) where
@@ -23,7 +23,7 @@ module _ (cells : ℕ → Slot) (first : ℕ) where
   HasShape arrays (variables.Array asynchronous i) = IsShaped (slice_get arrays i)
   HasShape arrays _ = Unit {0}
 
--- storage units that are passed lie in so many cells
+-- storage units that are passed lie below this number of cells
 abbrev pub AreUnitsIn : ℕ → Result (ℕ × ℕ) Kind → Type 0
 AreUnitsIn size (Ok units) = units.0 + units.1 ≤ size
 AreUnitsIn size (Err k) = Unit {0}
@@ -36,7 +36,7 @@ module _ (space : Space) (arrays : List Array) (frame : Frame) where
     pub reached : AreUnitsIn (length space.contents) (passed_at (cells_in space.contents) frame.first arrays x subscripts)
 
   -- each of them
-  abbrev pub ArePassable : List Passed → Type 0
+  abbrev pub ArePassable : List PassedArgument → Type 0
   ArePassable [] = Unit {0}
   ArePassable (by_value v ∷ ps) = ArePassable ps
   ArePassable (by_reference x subscripts ∷ ps) = IsPassable x subscripts × ArePassable ps

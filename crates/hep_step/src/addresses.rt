@@ -1,10 +1,10 @@
-//! Where the storage unit of a variable or an element is (X3.9-1978, 2.13 and 5.4).
+//! The storage unit of a variable or an element (X3.9-1978, 2.13 and 5.4).
 ghost use Rattle.std.specs.Prelude.{◌≡◌, ◌<◌, ◌≤◌, length, Some, IfSome, MatchOption};
 ghost use Rattle.std.specs.Option.{is_none};
 ghost use Rattle.hep_machine.specs.Words.{integers_of, counted_element, elements};
-ghost use Rattle.hep_image.specs.Finding as finding;
-ghost use Rattle.hep_image.specs.Finding.{address_of, base_at, bounds_at, cells_in};
-ghost use Rattle.hep_image.specs.Within.{AreExtentsIn, IsStartIn, LiesIn};
+ghost use Rattle.hep_image.specs.Addressing as finding;
+ghost use Rattle.hep_image.specs.Addressing.{address_of, base_at, bounds_at, cells_in};
+ghost use Rattle.hep_image.specs.FrameBounds.{AreExtentsIn, IsStartIn, LiesIn};
 ghost use Rattle.hep_step.specs.Cells.{HasFrame, IsReached};
 
 use crate::frame::{Frame, base, bounds, rest};
@@ -17,19 +17,20 @@ use hep_machine::{Bound, Kind};
 use hep_shape::{element_among, is_open};
 use hep_source::Value;
 
-// The most subscripts that an element has (X3.9-1978, 5.4.2).
+// The greatest number of subscripts of an element (X3.9-1978, 5.4.2).
 const MOST_SUBSCRIPTS: usize = 7;
 
-/// An element of an array by its number, counted from 1, if there is one, and whether the array's last bound is open.
+/// The number of an element in its array, counted from 1, if there is such an element; and whether the array's last
+/// bound is open.
 #[derive(Clone, Copy)]
-pub struct Numbered {
+pub struct ElementNumber {
     pub number: Option<u32>,
     pub is_open: bool,
 }
 
-/// The address of the cell of a variable, or of its element with these subscripts, in a unit with these arrays.
+/// The address of a variable's cell, or of its element with these subscripts, in a unit with these arrays.
 ///
-/// Where there is one, that cell has to be out.
+/// The cell, if there is one, has to be taken.
 ///
 /// # Errors
 ///
@@ -59,7 +60,7 @@ pub fn address(
     }
 }
 
-// That of a scalar, which has no subscripts.
+// The address of a scalar, which has no subscripts.
 #[inline(always)]
 fn of_scalar(arena: &Arena, frame: Frame, start: Start, subscripts: &[Value]) -> Result<u32, Kind>
     requires frame { HasFrame arena.now frame }
@@ -75,7 +76,7 @@ fn of_scalar(arena: &Arena, frame: Frame, start: Start, subscripts: &[Value]) ->
     }
 }
 
-// That of an element. Where the last bound is open, no element is past those that the call tells of.
+// The address of an element. Where the last bound is open, the call gives the number of elements.
 fn of_element(arena: &Arena, frame: Frame, array: &Array, subscripts: &[Value]) -> Result<u32, Kind>
     requires frame { HasFrame arena.now frame }
     requires start { IsStartIn frame.cells array.now.start }
@@ -95,8 +96,13 @@ fn of_element(arena: &Arena, frame: Frame, array: &Array, subscripts: &[Value]) 
     Ok((base(arena, frame, array.start) + (number - 1)) as u32)
 }
 
-/// The element that these subscripts name (X3.9-1978, 5.4), in an array with such bounds.
-pub fn number_in(arena: &Arena, frame: Frame, extents: &Extents, subscripts: &[Value]) -> Numbered
+/// The element with these subscripts (X3.9-1978, 5.4), in an array with these bounds.
+pub fn number_in(
+    arena: &Arena,
+    frame: Frame,
+    extents: &Extents,
+    subscripts: &[Value],
+) -> ElementNumber
     requires frame { HasFrame arena.now frame }
     requires extents { AreExtentsIn frame.cells extents.now }
     ensures number { result.number ≡ counted_element (bounds_at (cells_in arena.now.contents) frame.first extents.now)
@@ -105,13 +111,13 @@ pub fn number_in(arena: &Arena, frame: Frame, extents: &Extents, subscripts: &[V
     ensures is_open { result.is_open ≡ is_none (elements (bounds_at (cells_in arena.now.contents) frame.first extents.now)) }
 {
     match extents {
-        Extents::Constant(shape) => Numbered {
+        Extents::Constant(shape) => ElementNumber {
             number: number_among(shape.bounds(), subscripts),
             is_open: shape.cells().is_none(),
         },
         Extents::Adjustable { cells, dimensions } => {
             let bounds = bounds(arena, frame, *cells, *dimensions);
-            Numbered {
+            ElementNumber {
                 number: number_among(&bounds, subscripts),
                 is_open: is_open(&bounds),
             }
@@ -119,7 +125,7 @@ pub fn number_in(arena: &Arena, frame: Frame, extents: &Extents, subscripts: &[V
     }
 }
 
-// The number of the element with these subscripts among such dimensions.
+// The number of the element with these subscripts in an array with these bounds.
 #[tactic(auto, using(crate::proofs::Elements::too_many_subscripts))]
 fn number_among(bounds: &[Bound], subscripts: &[Value]) -> Option<u32>
     requires { length bounds.now ≤ 7 }
@@ -132,7 +138,7 @@ fn number_among(bounds: &[Bound], subscripts: &[Value]) -> Option<u32>
     element_among(bounds, &subscripts)
 }
 
-// The integers that values are; none where there are more than an element has subscripts.
+// The values as integers. `None` where there are more than seven, the most subscripts of an element.
 fn integers(values: &[Value]) -> Option<ArrayVec<i64, MOST_SUBSCRIPTS>>
     ensures { MatchOption result (7 < length values.now) (λ integers. integers.items ≡ integers_of values.now) }
 {

@@ -1,21 +1,21 @@
-//! What an operation comes to.
+//! The effect of an operation.
 ghost use Rattle.std.specs.Prelude.{◌≡◌};
-ghost use Rattle.hep_step.specs.Performed.{changed_in};
+ghost use Rattle.hep_step.specs.PerformedSteps.{changed_in};
 
 use hep_cells::Want;
 use hep_machine::{Kind, Record};
 use hep_source::Value;
 
-/// What the operation ahead of an activation came to.
+/// The effect of the next operation of an activation.
 #[derive(Drop)]
 pub enum Effect {
-    /// It is done, and the activation has gone on; this cell was filled or emptied, if one was.
+    /// The activation has gone on. `changed` is the cell that was filled or emptied, if one was.
     Moved { changed: Option<Want> },
-    /// PRINT is done, and the activation has gone on; this is its record (X3.9-1978, 12.8).
+    /// A PRINT has printed this record, and the activation has gone on (X3.9-1978, 12.8).
     Printed(Record),
     /// A fault in the statement with this initial line. Nothing has changed.
     Failed { line: u32, kind: Kind },
-    /// The process waits until a cell is so (`docs/LANGUAGE.md`). Nothing has changed.
+    /// The process waits until a cell is full, or is empty (`docs/LANGUAGE.md`). Nothing has changed.
     Waits(Want),
     /// The activation ends, by RETURN or END of its unit (15.8 and 11.14).
     Returned,
@@ -23,7 +23,8 @@ pub enum Effect {
     Answered(Value),
     /// All processes end, by STOP (11.12).
     Stopped,
-    /// A CALL, CREATE, reference, PURGE or RESUME stands ahead, which isn't done here, or no operation. Nothing has changed.
+    /// A CALL, CREATE, reference, PURGE or RESUME comes next, which isn't made here, or no operation. Nothing has
+    /// changed.
     LeftOut,
 }
 

@@ -1,36 +1,31 @@
-//! One operation: what it finds, does and passes, PURGE too; silent steps, which only move an activation.
+//! One operation of a process: its operands, its effect on the arena, and the index that it leads to. Nothing here
+//! takes memory, except the record of a PRINT.
 //!
-//! A step of a process: what the operation ahead finds in the cells of its frame, what it does to the arena and the operands, and
-//! where it leads; and what the actual arguments of a CALL, CREATE or reference give.
-//!
-//! The outcome of an operation that gives a value or stores one is said in `specs/Replies`, that of any operation in `specs/Effects`, and
-//! that the source machine does the same by the contracts of [`laws`] and [`passing_laws`].
-//!
-//! Many steps of one activation at once: those that only move it, and fill and empty no cell.
-//!
-//! Such a step is of a *plain* operation: one that reads no variable with `$` and assigns to none, tests no cell, prints nothing, and
-//! begins and ends no activation. [`move_on`] makes as many of them as stand in a row, without a look at who waits.
-//!
-//! PURGE: which cells of the arena it empties, by the entries behind it and its operands, and that the source machine's step
-//! is just that (`docs/LANGUAGE.md`, 9).
-//!
-//! Nothing here takes memory.
+//! - [`performing`] makes one operation. `specs/Replies` and `specs/Effects` say what each does; the contracts of
+//!   [`laws`] say that the source machine does the same.
+//! - [`by_reference`] and [`actual_arguments`] compute what the actual arguments of a CALL, CREATE or reference give; their laws are
+//!   in [`passing_laws`].
+//! - [`purging`] empties the cells of a PURGE (`docs/LANGUAGE.md`, 9).
+//! - [`move_on`] makes many steps of one activation in a row. They are *plain*: they read no variable with `$` and
+//!   assign to none, test no cell, print nothing, and begin and end no activation.
 #![tactic(auto)]
 
+mod activation_state;
+pub mod actual_arguments;
 pub mod addresses;
+pub mod argument_list;
+pub mod by_reference;
+pub mod call_kind;
+mod cell_access;
+pub mod closed_range;
+mod control_transfer;
+pub mod dummy_storage;
 pub mod effect;
-pub mod entry;
 pub mod frame;
-pub mod fronting;
-pub mod given;
-pub mod giving;
-mod granted;
-mod iterating;
 pub mod laws;
-mod leading_on;
-pub mod making;
-mod outcome;
-pub mod passing;
+mod loops;
+pub mod operands_in_front;
+pub mod passed_argument;
 pub mod passing_laws;
 pub mod performing;
 mod plain;
@@ -38,39 +33,38 @@ mod printing;
 pub mod purge_laws;
 pub mod purged_ranges;
 pub mod purging;
-pub mod range;
 pub mod reply;
-pub mod room;
-mod silent;
-mod standing;
+mod silent_steps;
 mod storage;
+pub mod target_count;
 mod values;
-pub mod way;
+mod variable_access;
 
+pub use activation_state::ActivationState;
+pub use actual_arguments::give_actuals;
 pub use addresses::address;
+pub use argument_list::{ArgumentList, FromArgument, make_from_entries};
+pub use by_reference::passed;
+pub use call_kind::CallKind;
+pub use closed_range::ClosedRange;
+pub use dummy_storage::DummyStorage;
 pub use effect::Effect;
-pub use entry::Passed;
 pub use frame::{Frame, counts};
-pub use fronting::in_front;
-pub use given::Given;
-pub use giving::give_actuals;
 pub use hep_arena::{Arena, Cell};
-pub use hep_cells::cells::purged;
+pub use hep_cells::access::purged;
 pub use hep_code::operands::settle;
 pub use hep_code::{Evaluation, Instruction, Operation};
 pub use hep_image::laws::openings_fit_by_numbers;
 pub use hep_image::{Array, DataRow, DummyArgument, Extents, Image, Start, UnitCode};
 pub use hep_shape::{Shape, element_among, is_open};
-pub use making::{AllPassed, FromPassed, make_from_entries};
-pub use passing::passed;
+pub use loops::parameters_among;
+pub use operands_in_front::in_front;
+pub use passed_argument::PassedArgument;
 pub use performing::perform;
 pub use plain::is_plain_operation;
 pub use purged_ranges::find_ranges;
 pub use purging::purge;
-pub use range::ClosedRange;
 pub use reply::{Reply, reply_of, reply_to_store};
-pub use room::most_targets;
-pub use silent::{Activation, move_on};
-pub use standing::Standing;
+pub use silent_steps::{Activation, move_on};
 pub use storage::Storage;
-pub use way::Way;
+pub use target_count::most_targets;

@@ -1,38 +1,38 @@
-//! What the operation ahead of an activation does.
+//! The next operation of an activation.
 ghost use Rattle.std.specs.Prelude.{◌≡◌, ◌<◌, ◌≤◌, ◌∷◌, IfOk, OnErr, MatchOption, drop, length, vec_capacity};
 ghost use Rattle.hep_code.specs.declared.instruction.Instruction.TheVariants.{Step};
 ghost use Rattle.hep_step.specs.Changes.{changed_at};
 ghost use Rattle.hep_step.specs.Effects.{effect_at};
-ghost use Rattle.hep_step.specs.Performed.{HasNoStep, HasPrint, IsPerformed, KeepsHoles, seen};
-ghost use Rattle.hep_step.specs.Ready.{IsReady};
+ghost use Rattle.hep_step.specs.PerformedSteps.{HasNoStep, HasPrint, IsPerformed, KeepsHoles, seen};
+ghost use Rattle.hep_step.specs.StepReady.{IsReady};
 
+use crate::activation_state::ActivationState;
+use crate::control_transfer::jump;
 use crate::effect::Effect;
-use crate::iterating::{Loop, end_loop, enter_loop};
-use crate::leading_on::jump;
+use crate::loops::{Loop, end_loop, enter_loop};
 use crate::printing::print;
-use crate::standing::Standing;
 use crate::storage::Storage;
-use crate::values::{Storing, evaluate, store, value_in};
+use crate::values::{StoreTarget, evaluate, store, value_in};
 use hep_arena::Arena;
 use hep_code::{Instruction, Operation};
 use std::alloc::{AllocError, Global};
 
-// An operation, with the initial line of its statement and what stands behind it.
+// An operation, with the initial line of its statement and the instructions after it.
 #[derive(Clone, Copy)]
-struct Ahead<'a> {
+struct CurrentOperation<'a> {
     line: u32,
     operation: Operation,
     entries: &'a [Instruction],
 }
 
-// The operation at an index, if one stands there.
-fn operation_at(code: &[Instruction], index: usize) -> Option<Ahead<'_>>
+// The operation at an index, if there is one.
+fn operation_at(code: &[Instruction], index: usize) -> Option<CurrentOperation<'_>>
     ensures ahead { MatchOption result (HasNoStep (drop index code.now)) (λ ahead. drop index code.now
         ≡ Step ahead.line ahead.operation ∷ ahead.entries.now) }
     ensures within { MatchOption result (index ≡ index) (λ _. index < length code.now) }
 {
     match code.get(index) {
-        Some(Instruction::Step { line, operation }) => Some(Ahead {
+        Some(Instruction::Step { line, operation }) => Some(CurrentOperation {
             line: *line,
             operation: *operation,
             entries: &code[index + 1..],
@@ -41,9 +41,9 @@ fn operation_at(code: &[Instruction], index: usize) -> Option<Ahead<'_>>
     }
 }
 
-/// Does the operation at an index of the code, with these operands: what it does to the arena and the operands,
-/// and where it leads, is what `specs/Effects` says, and which cell it fills or empties, what `specs/Changes` says. No memory is taken but
-/// for a record.
+/// Makes the operation at an index of the code, with these operands. `specs/Effects` says what it does to the arena
+/// and the operands and which index it leads to; `specs/Changes` says which cell it fills or empties. It takes memory
+/// only for a record.
 ///
 /// # Errors
 ///
@@ -54,9 +54,9 @@ pub fn perform(
     code: &[Instruction],
     storage: &Storage<'_>,
     arena: &mut Arena,
-    standing: &mut Standing,
+    standing: &mut ActivationState,
 ) -> Result<Effect, AllocError>
-    // Where an activation runs, the capacity can be its unit's deepest stack: `laws::activations_are_ready`.
+    // In a running activation the capacity can be its unit's deepest stack: `laws::activations_are_ready`.
     requires ready { IsReady code.now storage.now.arrays.now arena.old storage.now.frame standing.old.operands.items
         (vec_capacity standing.old.operands) standing.old.index }
     ensures performed { IfOk result (λ effect. IsPerformed
@@ -69,7 +69,7 @@ pub fn perform(
     ensures capacity { vec_capacity standing.old.operands ≤ vec_capacity standing.new.operands }
 {
     let Some(
-        Ahead {
+        CurrentOperation {
             line,
             operation,
             entries,
@@ -83,7 +83,7 @@ pub fn perform(
             Ok(evaluate(storage, arena, line, evaluation, standing))
         }
         Operation::Store { variable, next, .. } => {
-            let storing = Storing { variable, next };
+            let storing = StoreTarget { variable, next };
             Ok(store(storage, arena, line, storing, standing))
         }
         Operation::EnterLoop {

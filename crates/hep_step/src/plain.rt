@@ -1,4 +1,4 @@
-//! Plain operations: those that fill and empty no cell, and begin and end nothing.
+//! Plain operations: they fill and empty no cell, and begin and end no activation.
 ghost use Rattle.std.specs.Prelude.{◌≡◌, drop};
 ghost use Rattle.hep_step.specs.Plain as plain;
 
@@ -15,7 +15,8 @@ fn is_plain_evaluation(evaluation: Evaluation) -> bool
     }
 }
 
-/// An operation is plain: it reads no variable with `$` and assigns to none, tests no cell, prints nothing, and begins and ends no activation.
+/// Whether an operation is plain: it reads no variable with `$` and assigns to none, tests no cell, prints nothing,
+/// and begins and ends no activation.
 pub fn is_plain_operation(operation: Operation) -> bool
     ensures { result ≡ plain.is_plain_operation operation }
 {
@@ -41,7 +42,7 @@ pub fn is_plain_operation(operation: Operation) -> bool
     }
 }
 
-/// A plain operation stands at an index of the code.
+/// Whether a plain operation is at an index of the code.
 pub(crate) fn is_plain(code: &[Instruction], index: usize) -> bool
     ensures { result ≡ plain.is_plain (drop index code.now) }
 {

@@ -5,15 +5,15 @@ ghost use Rattle.hep_code.specs.Words.{items_from};
 ghost use Rattle.hep_step.specs.declared.effect.Effect.TheVariants.{Printed as PrintedEffect};
 ghost use Rattle.hep_step.specs.Items.{item_ahead as item_read, items_in};
 
+use crate::activation_state::ActivationState;
+use crate::control_transfer::go_on;
 use crate::effect::Effect;
-use crate::leading_on::go_on;
-use crate::standing::Standing;
 use hep_code::{Duplicate, Instruction, Printed};
 use hep_machine::{Item, Record};
 use hep_source::Value;
 use std::alloc::{AllocError, Global};
 
-// The item that a value is.
+// A value as an item.
 fn item_of(value: Value) -> Item
     ensures { result ≡ evaluation.item_of value }
 {
@@ -23,7 +23,7 @@ fn item_of(value: Value) -> Item
     }
 }
 
-// The item that an entry tells of, if it tells of one, and the operands behind its own.
+// The item of an entry, if it has one, and the operands after its own.
 fn item_ahead<'a>(
     alloc: Global,
     entry: &Instruction,
@@ -43,14 +43,14 @@ fn item_ahead<'a>(
     }
 }
 
-// The first so many entries.
+// The first `count` entries.
 fn first_of(entries: &[Instruction], count: u32) -> &[Instruction]
     ensures { result.now ≡ take count entries.now }
 {
     &entries[..entries.len().min(count as usize)]
 }
 
-// The items that these entries tell of.
+// The items of these entries.
 fn items_of(
     alloc: Global,
     entries: &[Instruction],
@@ -70,7 +70,7 @@ fn items_of(
     Ok(Record::from(items))
 }
 
-/// Does a PRINT, with so many entries behind it that tell of its items: the activation goes on at this index.
+/// Makes a PRINT, whose items the `count` entries after it give. The activation goes on at index `next`.
 ///
 /// # Errors
 ///
@@ -81,7 +81,7 @@ pub(crate) fn print(
     count: u32,
     next: u32,
     entries: &[Instruction],
-    standing: &mut Standing,
+    standing: &mut ActivationState,
 ) -> Result<Effect, AllocError>
     ensures record_is { IfOk result (λ effect. effect ≡ PrintedEffect (items_from count entries.now standing.old.operands.items)) }
     ensures operands { OnOk result (standing.new.operands.items ≡ []) }

@@ -1,4 +1,4 @@
-//! Laws of PURGE: what it does to the cells of the arena is what the source machine does to the storage units.
+//! Laws of PURGE: it does to the cells of the arena what the source machine does to the storage units.
 ghost use Rattle.std.specs.Prelude.{◌≡◌, ◌≤◌, ◌∷◌, ℕ, true, false, List, Some, length, slice_get};
 ghost use Rattle.hep_machine.specs.Words.{purged_cell};
 ghost use Rattle.hep_machine.specs.declared.slot.Slot.{Slot};
@@ -9,25 +9,26 @@ ghost use Rattle.hep_code.specs.Words.{passed_from};
 ghost use Rattle.hep_image.specs.Image.{most_cells};
 ghost use Rattle.hep_image.specs.Arrays.{ArePlacedArrays};
 ghost use Rattle.hep_step.specs.Cells.{HasFrame};
-ghost use Rattle.hep_step.specs.Agreement.{IsTopCaller};
+ghost use Rattle.hep_step.specs.ArgumentAgreement.{IsTopCaller};
 ghost use Rattle.hep_step.specs.ReadyToPass.{ArePassable};
-ghost use Rattle.hep_step.specs.Ready.{frame_in_arena};
+ghost use Rattle.hep_step.specs.StepReady.{frame_in_arena};
 ghost use Rattle.hep_step.specs.Simulation.{IsRunning, RunningTop, Simulates, arrays_running, code_ahead, unit_running};
-ghost use Rattle.hep_step.specs.declared.range.ClosedRange.{ClosedRange};
-ghost use Rattle.hep_step.specs.Placed.{AreEntriesPlaced};
-ghost use Rattle.hep_step.specs.Purged.{effect_of_purge, have_cell, purged};
+ghost use Rattle.hep_step.specs.declared.closed_range.ClosedRange.{ClosedRange};
+ghost use Rattle.hep_step.specs.PlacedTargets.{AreEntriesPlaced};
+ghost use Rattle.hep_step.specs.PurgeEffects.{effect_of_purge, have_cell, purged};
 ghost use Rattle.hep_step.specs.PurgeReady.{AreOut};
 
-/// Where a PURGE stands ahead whose targets have storage units, the source machine empties just what is kept in the cells of
-/// the ranges, and the activation goes on with no operands where the next statement stands; or a target that isn't there is
-/// the same fault, and nothing has changed.
+/// Where a PURGE comes next whose targets have storage units, the source machine empties just what is kept in the
+/// cells of the ranges, and the activation goes on at the next statement with no operands; or a target that doesn't
+/// exist is the same fault, and nothing has changed.
 pub fn purges_do_what_the_machine_does()
     ensures { (r : RunningTop) (line count next : ℕ) (behind : List Instruction) → IsRunning r → IsTopCaller r
         → AreEntriesPlaced count behind → code_ahead r ≡ Step line (Purge count next) ∷ behind
         → Simulates r (effect_of_purge (arrays_running r) r.frame.first line next (passed_from count behind r.operands) r.arena.contents) }
 {}
 
-/// An activation that runs can do the PURGE ahead: the entries behind it and its operands are what `find_ranges` asks for.
+/// A running activation can make its next PURGE: the entries after it and its operands satisfy the conditions of
+/// `find_ranges`.
 pub fn purges_are_ready()
     ensures frame { (r : RunningTop) → IsRunning r → IsTopCaller r → length r.arena.contents ≤ most_cells
         → HasFrame r.arena (frame_in_arena r.frame) }
@@ -39,7 +40,7 @@ pub fn purges_are_ready()
         → AreOut r.arena (arrays_running r) (frame_in_arena r.frame) (passed_from count behind r.operands) }
 {}
 
-/// The cells of the ranges are empty, with the values that they had, and all other cells are as they were.
+/// The cells of the ranges are empty, with the values that they had, and all other cells are unchanged.
 pub fn ranges_are_emptied()
     ensures within { (ranges : List ClosedRange) (contents : List Slot) (p : ℕ) (slot : Slot) → have_cell ranges p ≡ true
         → slice_get contents p ≡ Some slot → slice_get (purged ranges contents) p ≡ Some (purged_cell slot) }

@@ -1,17 +1,17 @@
-//! Which cells a PURGE empties (`docs/LANGUAGE.md`, 9).
+//! The cells that a PURGE empties (`docs/LANGUAGE.md`, 9).
 ghost use Rattle.std.specs.Prelude.{◌≡◌, ◌≤◌, Ok, Err, IfOk, IfErr, vec_capacity};
-ghost use Rattle.hep_step.specs.All.{AreAllPassable, all_passed, made_of_all};
+ghost use Rattle.hep_step.specs.ArgumentList.{AreAllPassable, all_passed, made_of_all};
 ghost use Rattle.hep_step.specs.Cells.{HasFrame};
-ghost use Rattle.hep_step.specs.Ranges as definitions;
-ghost use Rattle.hep_step.specs.Ranges.{range_for};
+ghost use Rattle.hep_step.specs.PurgedRanges as definitions;
+ghost use Rattle.hep_step.specs.PurgedRanges.{range_for};
 ghost use Rattle.hep_step.specs.PurgeReady.{AreOut, AreReached};
 
-use crate::entry::Passed;
+use crate::argument_list::{ArgumentList, FromArgument, make_from_entries};
+use crate::by_reference::passed;
+use crate::closed_range::ClosedRange;
+use crate::dummy_storage::DummyStorage;
 use crate::frame::Frame;
-use crate::given::Given;
-use crate::making::{AllPassed, FromPassed, make_from_entries};
-use crate::passing::passed;
-use crate::range::ClosedRange;
+use crate::passed_argument::PassedArgument;
 use hep_arena::Arena;
 use hep_code::Variable;
 use hep_image::Array;
@@ -21,23 +21,23 @@ use hep_source::Value;
 // No cells.
 const NONE: ClosedRange = ClosedRange { first: 0, cells: 0 };
 
-// An array without subscripts stands for all its elements.
+// Whether a target is an array without subscripts, which means all its elements.
 fn is_whole(variable: Variable, subscripts: &[Value]) -> bool
     ensures { result ≡ definitions.is_whole variable subscripts.now }
 {
     matches!(variable, Variable::Array { .. }) && subscripts.is_empty()
 }
 
-impl FromPassed for ClosedRange {
+impl FromArgument for ClosedRange {
     ghost made_for = { range_for };
 
     fn from_passed(
-        target: Passed<'_>,
+        target: PassedArgument<'_>,
         arrays: &[Array],
         arena: &Arena,
         frame: Frame,
     ) -> Result<ClosedRange, Kind> {
-        let Passed::ByReference {
+        let PassedArgument::ByReference {
             variable,
             subscripts,
         } = target
@@ -45,7 +45,7 @@ impl FromPassed for ClosedRange {
             return Ok(NONE);
         };
         match passed(arrays, arena, frame, variable, subscripts)? {
-            Given::Units { first, count } => {
+            DummyStorage::Units { first, count } => {
                 let cells = if is_whole(variable, subscripts) {
                     count
                 } else {
@@ -53,21 +53,21 @@ impl FromPassed for ClosedRange {
                 };
                 Ok(ClosedRange { first, cells })
             }
-            Given::Value(_) => Ok(NONE),
+            DummyStorage::Value(_) => Ok(NONE),
         }
     }
 }
 
-/// The cells that a PURGE empties, from left to right, by all that is passed. There is room for the ranges, so that no memory
-/// is taken. What was there before is gone.
+/// Finds the cells that a PURGE empties, from left to right, by all that is passed, and overwrites `ranges` with
+/// them. There is room for them, so that this takes no memory.
 ///
 /// # Errors
 ///
-/// `Range` where an element that is to be purged isn't there, and where a scalar has subscripts.
-#[tactic(auto, using(crate::proofs::Reached::ranges_reached))]
-pub fn find_ranges(all: &AllPassed<'_>, ranges: &mut Vec<ClosedRange>) -> Result<(), Kind>
+/// `Range` where an element doesn't exist, and where a scalar has subscripts.
+#[tactic(auto, using(crate::proofs::PurgedCells::ranges_reached))]
+pub fn find_ranges(all: &ArgumentList<'_>, ranges: &mut Vec<ClosedRange>) -> Result<(), Kind>
     requires frame { HasFrame all.now.arena.now all.now.frame }
-    // Where an activation purges, these two are so: `laws::purges_are_ready`.
+    // An activation that purges satisfies these two: `laws::purges_are_ready`.
     requires passable { AreAllPassable all.now }
     requires out { AreOut all.now.arena.now all.now.arrays.now all.now.frame (all_passed all.now) }
     requires room { all.now.count ≤ vec_capacity ranges.old }

@@ -2,14 +2,14 @@
 ghost use Rattle.std.specs.Prelude.{◌≡◌, ◌<◌, ◌≤◌, length, slice_set};
 ghost use Rattle.hep_machine.specs.Words.{purged_cell};
 ghost use Rattle.hep_arena.specs.Holes.{IsOut};
-ghost use Rattle.hep_image.specs.Finding.{cells_in};
+ghost use Rattle.hep_image.specs.Addressing.{cells_in};
 ghost use Rattle.hep_image.specs.Image.{most_cells};
-ghost use Rattle.hep_step.specs.Purged.{purged, purged_from};
+ghost use Rattle.hep_step.specs.PurgeEffects.{purged, purged_from};
 ghost use Rattle.hep_step.specs.PurgeReady.{AreReached, IsRangeReached};
 
-use crate::range::ClosedRange;
+use crate::closed_range::ClosedRange;
 use hep_arena::Arena;
-use hep_cells::cells::purged;
+use hep_cells::access::purged;
 
 // Empties a cell.
 fn purge_cell(arena: &mut Arena, at: u32)
@@ -36,7 +36,7 @@ fn purge_range(arena: &mut Arena, range: ClosedRange)
     }
 }
 
-/// Empties the cells of all ranges; what was stored in them stays.
+/// Empties the cells of all ranges. Their values don't change.
 pub fn purge(arena: &mut Arena, ranges: &[ClosedRange])
     requires reached { AreReached arena.old ranges.now }
     requires few { length arena.old.contents ≤ most_cells }

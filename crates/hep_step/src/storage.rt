@@ -1,9 +1,9 @@
-//! Where an activation's variables are.
+//! The variables of an activation.
 
 use crate::frame::Frame;
 use hep_image::Array;
 
-/// By what the code of an activation finds its variables, beside the cells themselves.
+/// What the code of an activation needs to find its variables, besides the cells themselves.
 #[derive(Clone, Copy)]
 pub struct Storage<'a> {
     pub arrays: &'a [Array],

@@ -4,23 +4,23 @@ ghost use Rattle.hep_code.specs.declared.instruction.Operation.TheVariants.{Stor
 ghost use Rattle.hep_code.specs.Words.{first_operand};
 ghost use Rattle.hep_step.specs.Cells.{HasFrame};
 ghost use Rattle.hep_step.specs.Changes.{changed_by, changed_by_evaluation};
-ghost use Rattle.hep_image.specs.Finding.{address_of, cells_in};
+ghost use Rattle.hep_image.specs.Addressing.{address_of, cells_in};
 ghost use Rattle.hep_step.specs.Effects.{effect_of, effect_of_evaluation, subscripts_in, value_found};
-ghost use Rattle.hep_step.specs.Performed.{IsPerformed, KeepsHoles, seen};
-ghost use Rattle.hep_step.specs.Ready.{IsEvaluationReady, IsVariableReady};
+ghost use Rattle.hep_step.specs.PerformedSteps.{IsPerformed, KeepsHoles, seen};
+ghost use Rattle.hep_step.specs.StepReady.{IsEvaluationReady, IsVariableReady};
 
+use crate::activation_state::ActivationState;
 use crate::addresses::address;
+use crate::cell_access::granted;
 use crate::effect::Effect;
-use crate::granted::granted;
 use crate::reply::{reply_of, reply_to_store};
-use crate::standing::Standing;
 use crate::storage::Storage;
 use hep_arena::Arena;
 use hep_code::{Evaluation, Variable};
 use hep_machine::Kind;
 use hep_source::Value;
 
-// Puts a value in the place of all operands but so many, for which there is room.
+// Keeps the first `kept` operands and pushes a value after them, for which there is room.
 fn replace(operands: &mut Vec<Value>, kept: usize, value: Value)
     requires kept { kept ≤ vec_len operands.old }
     requires room { kept < vec_capacity operands.old }
@@ -31,20 +31,20 @@ fn replace(operands: &mut Vec<Value>, kept: usize, value: Value)
     let _ = operands.push(value);
 }
 
-/// Does an operation that gives a value: the value is in the place of its operands then.
+/// Makes an operation that gives a value. The value replaces its operands.
 #[inline(always)]
 pub(crate) fn evaluate(
     storage: &Storage<'_>,
     arena: &mut Arena,
     line: u32,
     evaluation: Evaluation,
-    standing: &mut Standing,
+    standing: &mut ActivationState,
 ) -> Effect
     requires frame { HasFrame arena.old storage.now.frame }
     requires ready { IsEvaluationReady arena.old storage.now.arrays.now storage.now.frame
         (vec_capacity standing.old.operands) standing.old.operands.items evaluation }
     requires index { standing.old.index + 1 < 2 ^ 64 }
-    // What stands elsewhere in the code doesn't count.
+    // The rest of the code doesn't matter.
     ensures performed { IsPerformed (effect_of_evaluation [] storage.now.arrays.now storage.now.frame.first line evaluation
         arena.old.contents standing.old.operands.items standing.old.index)
         (changed_by_evaluation storage.now.arrays.now storage.now.frame.first evaluation arena.old.contents standing.old.operands.items)
@@ -79,21 +79,21 @@ fn value_and_subscripts(operands: &[Value]) -> (Value, &[Value])
     }
 }
 
-/// Which variable an assignment stores in, and the index at which the activation goes on.
+/// The variable of an assignment, and the index at which the activation goes on.
 #[derive(Clone, Copy)]
-pub(crate) struct Storing {
+pub(crate) struct StoreTarget {
     pub(crate) variable: Variable,
     pub(crate) next: u32,
 }
 
-/// Does an assignment: its value is in the cell, and the activation goes on at this index (10.1 and 10.2).
+/// Makes an assignment: its value is in the cell, and the activation goes on at the index given (10.1 and 10.2).
 #[inline(always)]
 pub(crate) fn store(
     storage: &Storage<'_>,
     arena: &mut Arena,
     line: u32,
-    storing: Storing,
-    standing: &mut Standing,
+    storing: StoreTarget,
+    standing: &mut ActivationState,
 ) -> Effect
     requires frame { HasFrame arena.old storage.now.frame }
     requires ready { IsVariableReady arena.old storage.now.arrays.now storage.now.frame
@@ -118,7 +118,7 @@ pub(crate) fn store(
     }
 }
 
-/// The value of a variable, with which a function ends (15.5.3).
+/// The value of a variable, which is that of a function when it ends (15.5.3).
 #[inline(always)]
 pub(crate) fn value_in(
     storage: &Storage<'_>,

@@ -5,8 +5,8 @@ use Rattle.std.proofs.lemmas.Grind.{flat_map-append}
 use Rattle.std.proofs.lemmas.List.{take_more, take_all}
 use Rattle.hep_machine.specs.Words.{CommonBlock, Declarator, Name, Statement, BlockName, same_block, block_of, blocks_in, blocks_of_unit, names_in_block, entries_under, names_declared}
 use Rattle.hep_conditions.specs.Common as conditions
-use Rattle.hep_storage.specs.Blocks.{AreNoted, Holds, Has, HasContents, block, block_in, names_into, names_under, later_line}
-use Rattle.hep_storage.specs.declared.contents.Contents.{Contents}
+use Rattle.hep_storage.specs.BlockContents.{AreNoted, Holds, Has, HasContents, block, block_in, names_into, names_under, later_line}
+use Rattle.hep_storage.specs.declared.block_contents.BlockContents.{BlockContents}
 use Rattle.hep_machine.proofs.Locations.{equal_blocks, block-self}
 use Rattle.hep_names.proofs.News.{declared-append}
 
@@ -27,7 +27,7 @@ later-append b before line [] ds = refl
 later-append b before line (c ∷ cs) ds = grind (arith, later-append b before line cs ds)
 
 -- one list more
-pub list-turn : (unit : List Statement) (noted : Name → Bool) (b : BlockName) (lists : List CommonBlock) (i : ℕ) (d c : CommonBlock) (xs : List Name) (before : Option ℕ) (line : ℕ) (new : Option Contents) → i < length lists → c ≡ get_or lists i d
+pub list-turn : (unit : List Statement) (noted : Name → Bool) (b : BlockName) (lists : List CommonBlock) (i : ℕ) (d c : CommonBlock) (xs : List Name) (before : Option ℕ) (line : ℕ) (new : Option BlockContents) → i < length lists → c ≡ get_or lists i d
     → Has unit noted b ((xs ++ names_under b (take i lists)) ++ names_under b (c ∷ [])) (later_line b (later_line b before line (take i lists)) line (c ∷ [])) new
     → Has unit noted b (xs ++ names_under b (take (i + 1) lists)) (later_line b before line (take (i + 1) lists)) new
 list-turn unit noted b lists i d c xs before line new lt is h =
@@ -44,7 +44,7 @@ last-next b [] s = refl
 last-next b (u ∷ us) s = grind (arith, last-next b us s)
 
 -- one statement more
-pub statement-turn : (whole : List Statement) (noted : Name → Bool) (b : BlockName) (items unit : List Statement) (i : ℕ) (d s : Statement) (lists : List CommonBlock) (new : Option Contents)
+pub statement-turn : (whole : List Statement) (noted : Name → Bool) (b : BlockName) (items unit : List Statement) (i : ℕ) (d s : Statement) (lists : List CommonBlock) (new : Option BlockContents)
     → items ≡ unit → i < length items → s ≡ get_or items i d → lists ≡ blocks_in s.form
     → Has whole noted b (names_in_block (take i unit) b ++ names_under b lists) (later_line b (conditions.last_line b (take i unit)) s.line lists) new
     → Has whole noted b (names_in_block (take (i + 1) unit) b) (conditions.last_line b (take (i + 1) unit)) new
@@ -55,11 +55,11 @@ statement-turn whole noted b items unit i d s lists new same lt is q h =
     rw (e, blocks-append before (s ∷ []), append-nil (blocks_in s.form), names_under-append b (blocks_of_unit before) (blocks_in s.form), last-next b before s, sym q) h
 
 -- what a table has at the end
-table-whole : (unit : List Statement) (b : BlockName) (o : Option Contents) → HasContents unit b (names_in_block unit b) (conditions.last_line b unit) o → option_map block o ≡ block_in unit b
+table-whole : (unit : List Statement) (b : BlockName) (o : Option BlockContents) → HasContents unit b (names_in_block unit b) (conditions.last_line b unit) o → option_map block o ≡ block_in unit b
 table-whole unit b None h = rw h.1 refl
 table-whole unit b (Some c) h = rw (h.1, h.0) refl
 
-pub unit-whole : (unit : List Statement) (noted : Name → Bool) (b : BlockName) (i : ℕ) (o : Option Contents) → length unit ≤ i
+pub unit-whole : (unit : List Statement) (noted : Name → Bool) (b : BlockName) (i : ℕ) (o : Option BlockContents) → length unit ≤ i
     → Has unit noted b (names_in_block (take i unit) b) (conditions.last_line b (take i unit)) o → option_map block o ≡ block_in unit b
 unit-whole unit noted b i o k h = table-whole unit b o (rw (take_all i unit k) at h).0
 
@@ -83,7 +83,7 @@ noted-here unit b xs ys noted h = subst (λ t. AreNoted unit b (xs ++ (if t then
 -- ---- one list of COMMON
 
 -- a list of COMMON, whichever block it names
-pub list-noted : (unit : List Statement) (list : CommonBlock) (k : BlockName) (names : List Declarator) (line : ℕ) (old new : BlockName → Option Contents) (taken c : Contents) (was noted : Name → Bool)
+pub list-noted : (unit : List Statement) (list : CommonBlock) (k : BlockName) (names : List Declarator) (line : ℕ) (old new : BlockName → Option BlockContents) (taken c : BlockContents) (was noted : Name → Bool)
     → k ≡ block_of list → names ≡ list.entries
     → ((xs : List Name) (before : Option ℕ) → HasContents unit k xs before (old k) → Holds unit k xs taken)
     → ((xs : List Name) → AreNoted unit k xs was → Holds unit k xs taken → Holds unit k (xs ++ names_declared names) c)

@@ -9,11 +9,11 @@ use Rattle.hep_conditions.specs.declared.violation.Violation.{Violation}
 use Rattle.hep_machine.specs.Words.{trees_of, DataGroup, DataValue, Target, Statement, Constants, value_among, given_by, values_of, constant_shape, Stretch, groups_in, elements_named, repeat_of, value_of_constant, values_given, is_nonempty, is_array, constants_in}
 use Rattle.hep_conditions.specs.Words.{name_repeated, known_targets, known_values, has_type, is_forbidden, is_outside, is_target_outside, is_value, is_wrong_group, is_misplaced, wrong_groups_from, share_element, elements_in, is_given_twice, given_twice_from, data_violations, known_before, same_length, holds_at_each_place, reported, least_line, line_when, first_of, at_line, when}
 use Rattle.hep_conditions.proofs.Lines.{reported-when, reported-append, least_line-none, least_line-assoc, least_line-swap, least_line-or}
-use Rattle.hep_values.proofs.GivenInTurn.{given-same}
-use Rattle.hep_storage.specs.Given.{given_after, IsGiven, Gives}
-use Rattle.hep_storage.specs.Groups.{is_wrong, wrong_line, twice_line, data_line, data_lines}
-use Rattle.hep_source.proofs.Tests.{and-false, or-assoc, or-false, or-turned}
-use Rattle.hep_storage.specs.declared.given.Given.{Given}
+use Rattle.hep_values.proofs.ConstantsInOrder.{given-same}
+use Rattle.hep_storage.specs.InitializedElements.{given_after, IsGiven, Gives}
+use Rattle.hep_storage.specs.DataGroups.{is_wrong, wrong_line, twice_line, data_line, data_lines}
+use Rattle.hep_source.proofs.Tests.{or-assoc, or-false, or-turned, or-swapped, and-split}
+use Rattle.hep_storage.specs.declared.initialized_elements.InitializedElements.{InitializedElements}
 
 -- ---- what is reported
 
@@ -126,7 +126,7 @@ twice-reordered unit (s ∷ ss) known given others h =
 
 -- ---- elements that are given values
 
-gives-more : (unit : List Statement) (a b c : Given) (es fs : List Stretch) (p q r : Bool) → Gives unit a b es p → Gives unit b c fs q → r ≡ (p || q) → Gives unit a c (es ++ fs) r
+gives-more : (unit : List Statement) (a b c : InitializedElements) (es fs : List Stretch) (p q r : Bool) → Gives unit a b es p → Gives unit b c fs q → r ≡ (p || q) → Gives unit a c (es ++ fs) r
 gives-more unit a b c es fs p q r h k e given is =
     let one = h given is in
     let two = k (given_after given es) one.1 in (
@@ -134,7 +134,7 @@ gives-more unit a b c es fs p q r h k e given is =
       subst (λ gs. IsGiven unit gs c) (sym (after-append given es fs)) two.1,
     )
 
-pub gives-turn : {A : Type 0} (unit : List Statement) (f : A → List Stretch) (xs : List A) (i : ℕ) (x : A) (a b c : Given) (p q r : Bool) → i < length xs → x ≡ get_or xs i x
+pub gives-turn : {A : Type 0} (unit : List Statement) (f : A → List Stretch) (xs : List A) (i : ℕ) (x : A) (a b c : InitializedElements) (p q r : Bool) → i < length xs → x ≡ get_or xs i x
     → Gives unit a b (flat_map f (take i xs)) p → Gives unit b c (f x) q → r ≡ (p || q) → Gives unit a c (flat_map f (take (i + 1) xs)) r
 gives-turn unit f xs i x a b c p q r lt at h k e =
     let all = ap (flat_map f) (take_more xs i x lt ∙ ap (λ y. take i xs ++ y ∷ []) (sym at))
@@ -213,17 +213,6 @@ pub lines-end : (unit : List Statement) (known : Constants) (given : List Stretc
     → found ++ data_lines unit known given (drop i ss) ≡ whole → found ≡ whole
 lines-end unit known given ss i found whole le so_far =
     sym (append-nil found) ∙ (ap (λ us. found ++ data_lines unit known given us) (sym (drop_all i ss le)) ∙ so_far)
-
-or-swapped : (a b c d : Bool) → ((a || b) || (c || d)) ≡ ((a || c) || (b || d))
-or-swapped true b c d = refl
-or-swapped false true true d = refl
-or-swapped false true false d = refl
-or-swapped false false c d = refl
-
-and-split : (a b t : Bool) → ((a && t) || (b && t)) ≡ ((a || b) && t)
-and-split true b true = refl
-and-split true b false = and-false b
-and-split false b t = refl
 
 -- these lines and the violations of 311, as each test of a line sees them
 module _ (test : ℕ → Bool) where

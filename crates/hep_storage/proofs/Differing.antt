@@ -8,15 +8,15 @@ use Rattle.hep_conditions.specs.Known.{Known as Items}
 use Rattle.hep_conditions.specs.Words.{count_of_items, holds_at_each_place, least_line, line_when, least_line_of, reported, first_of}
 use Rattle.hep_conditions.proofs.Lines.{least_line-or, least_line_of-same, least_line_of-both, least_line_of-turned, reported-append, reported-of, reported-when, least_line_of-nones, least_line-assoc, least_line-comm}
 use Rattle.hep_storage.specs.Agreement.{Summed, nothing_summed, with_list, with_block, with_length, is_other_length, place_count, differs_from, line_after, least_after, least_of_blocks}
-use Rattle.hep_storage.specs.Blocks.{KnownPlaces, Block, run_of, known_places, block_in}
+use Rattle.hep_storage.specs.BlockContents.{KnownPlaces, Block, run_of, known_places, block_in}
 use Rattle.hep_storage.specs.Runs.{alike, positions_in}
-use Rattle.hep_storage.specs.Shared.{departs}
-use Rattle.hep_storage.specs.Spread.{repeat_before, spread, agree_as_far}
-use Rattle.hep_storage.specs.declared.summary.Lengths.{Lengths}
+use Rattle.hep_storage.specs.SharedPrefix.{departs}
+use Rattle.hep_storage.specs.RunItems.{repeat_before, spread, agree_as_far}
+use Rattle.hep_storage.specs.declared.block_summary.BlockLengths.{BlockLengths}
 use Rattle.hep_storage.specs.declared.runs.Position.{Position}
-use Rattle.hep_storage.proofs.Meetings.{length-repeat, map-repeat}
+use Rattle.hep_storage.proofs.CommonPrefixes.{length-repeat, map-repeat}
 use Rattle.hep_storage.proofs.Places.{at_each_place}
-use Rattle.hep_storage.proofs.Sharing.{one-more}
+use Rattle.hep_storage.proofs.SharedRuns.{one-more}
 
 -- ---- two lists of a block
 
@@ -53,7 +53,7 @@ contents-differ (Some x) ps qs = rw (agree-places ps.items qs.items, count-place
 -- ---- a list against several
 
 -- one list of another length, or one of those before
-length-more : (k l : KnownPlaces) (s : Lengths)
+length-more : (k l : KnownPlaces) (s : BlockLengths)
     → ((k.is_whole && (l.is_whole && not (nat_eq (place_count k) (place_count l)))) || is_other_length l s) ≡ is_other_length l (with_length k s)
 length-more k l s = grind (arith, nat_tests)
 

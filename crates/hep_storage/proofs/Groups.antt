@@ -5,18 +5,18 @@ use Rattle.std.specs.Option.{option_map}
 use Rattle.std.specs.List.{list_any}
 use Rattle.hep_machine.specs.Words.{DataValue, Name, Statement, Value, Constants, value_among, Repeated, values_given, Stretch, elements_named, Target, DataGroup}
 use Rattle.hep_conditions.specs.Words.{has_type, known_values, name_repeated, known_targets, is_target_outside, is_forbidden, is_value, is_wrong_group, known_before, Known, count_of_items, same_length, holds_at_each_place}
-use Rattle.hep_storage.specs.Spread.{repeat_before, spread, agree_as_far}
+use Rattle.hep_storage.specs.RunItems.{repeat_before, spread, agree_as_far}
 use Rattle.hep_storage.specs.Runs.{alike, positions_in}
-use Rattle.hep_storage.specs.Groups.{position_of_name, position_of_value, run_of_values, run_given}
-use Rattle.hep_storage.specs.Named.{places_before, places_of, are_known, NamedAll, is_outside_named, run_named}
+use Rattle.hep_storage.specs.DataGroups.{position_of_name, position_of_value, run_of_values, run_given}
+use Rattle.hep_storage.specs.DataNames.{places_before, places_of, are_known, NamedAll, is_outside_named, run_named}
 use Rattle.hep_storage.specs.declared.runs.Position.{Position}
-use Rattle.hep_storage.specs.declared.runs.Run.{Run}
-use Rattle.hep_storage.proofs.Meetings.{length-repeat, map-repeat, repeat-append, positions-append}
+use Rattle.hep_storage.specs.declared.runs.PositionRun.{PositionRun}
+use Rattle.hep_storage.proofs.CommonPrefixes.{length-repeat, map-repeat, repeat-append, positions-append}
 use Rattle.hep_storage.proofs.Places.{at_each_place}
-use Rattle.hep_storage.specs.Shapes.{Names}
-use Rattle.hep_storage.specs.declared.given.Stretch.TheVariants.{One, All}
-use Rattle.hep_storage.specs.declared.shapes.Named.{Named}
-use Rattle.hep_storage.specs.declared.shapes.Named.TheVariants.{Open, Outside, Elements}
+use Rattle.hep_storage.specs.ArrayShapes.{Names}
+use Rattle.hep_storage.specs.declared.initialized_elements.DataElements.TheVariants.{One, All}
+use Rattle.hep_storage.specs.declared.array_shapes.DataName.{DataName}
+use Rattle.hep_storage.specs.declared.array_shapes.DataName.TheVariants.{Open, Outside, Elements}
 use Rattle.hep_source.proofs.Tests.{any-or}
 
 count-spread : {A : Type 0} (xs : List (Repeated A)) → count_of_items xs ≡ length (spread xs)
@@ -46,7 +46,7 @@ lengths-agree unit xs vs ps qs p q h k e f i =
 -- ---- runs up to the first that isn't known
 
 -- one run more
-pub known-turn : (os more : List (Option Run)) (o : Option Run) (rs qs : List Run) (r : Run) (all : List Position) (whole : Bool) → os ≡ o ∷ more
+pub known-turn : (os more : List (Option PositionRun)) (o : Option PositionRun) (rs qs : List PositionRun) (r : PositionRun) (all : List Position) (whole : Bool) → os ≡ o ∷ more
     → (positions_in rs ++ places_of os ≡ all) × (are_known os ≡ whole) → o ≡ Some r → qs ≡ rs ++ r ∷ []
     → (positions_in qs ++ places_of more ≡ all) × (are_known more ≡ whole)
 known-turn os more o rs qs r all whole next h f g = (
@@ -71,20 +71,20 @@ values-known known (v ∷ vs) = by (values_given (value_among known) v) (values-
     by (Some x) h = (ap (repeat_before x.count (position_of_value x.item)) h.0 ∙ sym (map-repeat position_of_value x.count x.item (spread (known_values known vs).items)), h.1)
 
 module _ (unit : List Statement) (known : Constants) where
-  named-last : (ts : List Target) (ns : List Named) (t : Target) (n : Named) → NamedAll unit known ts ns → Names unit known t n → NamedAll unit known (ts ++ t ∷ []) (ns ++ n ∷ [])
+  named-last : (ts : List Target) (ns : List DataName) (t : Target) (n : DataName) → NamedAll unit known ts ns → Names unit known t n → NamedAll unit known (ts ++ t ∷ []) (ns ++ n ∷ [])
   named-last [] [] t n h k = (k, tt)
   named-last [] (m ∷ ms) t n h k = absurd h
   named-last (u ∷ us) [] t n h k = absurd h
   named-last (u ∷ us) (m ∷ ms) t n h k = (h.0, named-last us ms t n h.1 k)
 
-  pub named-turn : (ts : List Target) (i : ℕ) (t : Target) (ns ms : List Named) (n : Named) → i < length ts → t ≡ get_or ts i t → NamedAll unit known (take i ts) ns → Names unit known t n
+  pub named-turn : (ts : List Target) (i : ℕ) (t : Target) (ns ms : List DataName) (n : DataName) → i < length ts → t ≡ get_or ts i t → NamedAll unit known (take i ts) ns → Names unit known t n
       → ms ≡ ns ++ n ∷ [] → NamedAll unit known (take (i + 1) ts) ms
   named-turn ts i t ns ms n lt at h k e =
       subst (λ us. NamedAll unit known us ms) (sym (take_more ts i t lt ∙ ap (λ u. take i ts ++ u ∷ []) (sym at)))
       (subst (λ os. NamedAll unit known (take i ts ++ t ∷ []) os) (sym e) (named-last (take i ts) ns t n h k))
 
   -- the run of what a name stands for
-  Ahead : Option Run → Option (Repeated Name) → Type 0
+  Ahead : Option PositionRun → Option (Repeated Name) → Type 0
   Ahead r o = (ps : List Position) (after : Known Name) → ps ≡ map (position_of_name unit) (spread after.items)
       → (places_before r ps ≡ map (position_of_name unit) (spread (known_before o after).items)) × ((is_some r && after.whole) ≡ (known_before o after).whole)
 
@@ -102,7 +102,7 @@ module _ (unit : List Statement) (known : Constants) where
     refl,
   )
 
-  named-run : (t : Target) (n : Named) → Names unit known t n → Ahead (run_named unit n) (option_map name_repeated (elements_named unit (value_among known) t))
+  named-run : (t : Target) (n : DataName) → Names unit known t n → Ahead (run_named unit n) (option_map name_repeated (elements_named unit (value_among known) t))
   named-run t Open h = subst (λ o. Ahead None (option_map name_repeated o)) (sym h.1) no-run
   named-run t Outside h = subst (λ o. Ahead None (option_map name_repeated o)) (sym h.1) no-run
   named-run t (Elements (One f)) h =
@@ -113,7 +113,7 @@ module _ (unit : List Statement) (known : Constants) where
       subst (λ o. Ahead (Some (record { position = position_of_name unit x; count = c })) (option_map name_repeated o)) (sym h.1.1) (one-run x c e h.1.2.0 h.1.2.1)
 
   -- what is known of the names is what is known of what they stand for
-  pub places-known : (ts : List Target) (ns : List Named) → NamedAll unit known ts ns
+  pub places-known : (ts : List Target) (ns : List DataName) → NamedAll unit known ts ns
       → (places_of (map (run_named unit) ns) ≡ map (position_of_name unit) (spread (known_targets unit known ts).items)) × (are_known (map (run_named unit) ns) ≡ (known_targets unit known ts).whole)
   unfolding Ahead
   places-known [] [] h = (refl, refl)
@@ -125,12 +125,12 @@ module _ (unit : List Statement) (known : Constants) where
       (here.0, ap (λ b. is_some (run_named unit n) && b) more.1 ∙ here.1)
 
   -- an element is outside its bounds
-  outside-one : (t : Target) (n : Named) → Names unit known t n → is_outside_named n ≡ is_target_outside unit known t
+  outside-one : (t : Target) (n : DataName) → Names unit known t n → is_outside_named n ≡ is_target_outside unit known t
   outside-one t Open h = sym h.0
   outside-one t Outside h = sym h.0
   outside-one t (Elements s) h = sym h.0
 
-  pub outside-all : (ts : List Target) (ns : List Named) → NamedAll unit known ts ns → list_any is_outside_named ns ≡ list_any (is_target_outside unit known) ts
+  pub outside-all : (ts : List Target) (ns : List DataName) → NamedAll unit known ts ns → list_any is_outside_named ns ≡ list_any (is_target_outside unit known) ts
   outside-all [] [] h = refl
   outside-all [] (n ∷ ns) h = absurd h
   outside-all (t ∷ ts) [] h = absurd h
@@ -138,7 +138,7 @@ module _ (unit : List Statement) (known : Constants) where
 
 -- ---- a group
 
-pub wrong-group : (unit : List Statement) (known : Constants) (g : DataGroup) (ts : List Target) (vs : List DataValue) (ns : List Named) (ps qs : List Position) (p q refused none fits all : Bool)
+pub wrong-group : (unit : List Statement) (known : Constants) (g : DataGroup) (ts : List Target) (vs : List DataValue) (ns : List DataName) (ps qs : List Position) (p q refused none fits all : Bool)
     → ts ≡ g.targets → vs ≡ g.values → NamedAll unit known ts ns → ps ≡ places_of (map (run_named unit) ns) → p ≡ are_known (map (run_named unit) ns)
     → qs ≡ places_of (map (run_given known) vs) → q ≡ are_known (map (run_given known) vs)
     → refused ≡ (list_any (λ (t : Target). is_forbidden unit t.occurrence.name) ts || list_any is_outside_named ns) → none ≡ list_any (λ (v : DataValue). not (is_value known v)) vs

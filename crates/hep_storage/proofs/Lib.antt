@@ -1,14 +1,14 @@
-pub mod Meetings
+pub mod CommonPrefixes
 pub mod Places
-pub mod Sharing
+pub mod SharedRuns
 pub mod Differing
 pub mod Tables
-pub mod Turns
+pub mod RunLists
 pub mod Listings
 pub mod BlockTables
-mod Told
+mod WrongGroups
 pub mod Groups
-pub mod Naming
-pub mod ArrayShapes
-pub mod Giving
+pub mod DataNames
+pub mod ShapeBounds
+pub mod GivenElements
 pub mod DataLines

@@ -5,11 +5,11 @@ use Rattle.hep_machine.specs.Words.{Name, Statement, same_name, name_eq, is_amon
 use Rattle.hep_source.proofs.NameTests.{equal_names, name_eq-is, same_name-turned}
 use Rattle.hep_conditions.specs.Common as conditions
 use Rattle.hep_conditions.specs.Words.{known_before, nothing_more}
-use Rattle.hep_storage.specs.Blocks.{AreNoted, KnownPlaces, is_first_block, names_into, no_run, places_of, run_of, run_of_name, with_noted, with_run, with_known_run, known_places, places_of_names}
+use Rattle.hep_storage.specs.BlockContents.{AreNoted, KnownPlaces, is_first_block, names_into, no_run, places_of, run_of, run_of_name, with_noted, with_run, with_known_run, known_places, places_of_names}
 use Rattle.hep_storage.specs.Runs.{alike, positions_in}
-use Rattle.hep_storage.specs.Spread.{repeat_before}
-use Rattle.hep_storage.specs.declared.runs.Run.{Run}
-use Rattle.hep_storage.proofs.Meetings.{alike-equal, positions-append, repeat-append, repeat-parts}
+use Rattle.hep_storage.specs.RunItems.{repeat_before}
+use Rattle.hep_storage.specs.declared.runs.PositionRun.{PositionRun}
+use Rattle.hep_storage.proofs.CommonPrefixes.{alike-equal, positions-append, repeat-append, repeat-parts}
 use Rattle.hep_machine.proofs.Locations.{equal_blocks, block-self}
 
 -- ---- names
@@ -32,27 +32,27 @@ name-added name x old = rw (name_eq-is name x, same_name-turned name x) (grind a
 -- ---- runs
 
 -- two runs as one
-pub joined-places : (r q : Run) (n : ℕ) → alike r.position q.position ≡ true → n ≡ r.count + q.count → repeat_before n r.position [] ≡ places_of r ++ places_of q
+pub joined-places : (r q : PositionRun) (n : ℕ) → alike r.position q.position ≡ true → n ≡ r.count + q.count → repeat_before n r.position [] ≡ places_of r ++ places_of q
 joined-places r q n h e =
     ap (λ k. repeat_before k r.position []) e
     ∙ (repeat-parts r.count q.count r.position []
     ∙ (repeat-append r.count r.position (repeat_before q.count r.position [])
     ∙ ap (λ p. places_of r ++ repeat_before q.count p []) (alike-equal r.position q.position h)))
 
-pub pushed : (rs new : List Run) (r : Run) → new ≡ rs ++ r ∷ [] → positions_in new ≡ positions_in rs ++ places_of r
+pub pushed : (rs new : List PositionRun) (r : PositionRun) → new ≡ rs ++ r ∷ [] → positions_in new ≡ positions_in rs ++ places_of r
 pushed rs new r e = ap positions_in e ∙ positions-append rs (r ∷ [])
 
 -- after the last one was taken
-pub last-put : (old rs : List Run) (r q : Run) (new : List Run) → old ≡ rs ++ r ∷ [] → positions_in new ≡ (positions_in rs ++ places_of r) ++ places_of q → positions_in new ≡ positions_in old ++ places_of q
+pub last-put : (old rs : List PositionRun) (r q : PositionRun) (new : List PositionRun) → old ≡ rs ++ r ∷ [] → positions_in new ≡ (positions_in rs ++ places_of r) ++ places_of q → positions_in new ≡ positions_in old ++ places_of q
 last-put old rs r q new e h = h ∙ ap (λ ps. ps ++ places_of q) (sym (pushed rs old r e))
 
-abbrev before_places : Run → KnownPlaces → KnownPlaces
+abbrev before_places : PositionRun → KnownPlaces → KnownPlaces
 before_places r k = record { positions = repeat_before r.count r.position k.positions; is_whole = k.is_whole }
 
-put : (r : Run) (k : KnownPlaces) (o : Option Run) → before_places r (with_run k o) ≡ with_run (before_places r k) o
+put : (r : PositionRun) (k : KnownPlaces) (o : Option PositionRun) → before_places r (with_run k o) ≡ with_run (before_places r k) o
 put r k o = by k.is_whole o
   where
-    by : (w : Bool) (o : Option Run)
+    by : (w : Bool) (o : Option PositionRun)
         → before_places r (if w then with_known_run k.positions o else k) ≡ (if w then with_known_run (repeat_before r.count r.position k.positions) o else before_places r k)
     by true None = refl
     by true (Some q) =
@@ -94,7 +94,7 @@ module _ (unit : List Statement) (b : BlockName) (xs : List Name) (x : Name) (ol
   at-first : first ≡ (is_first_block unit b x && not (is_among x xs))
   at-first = grind (arith, marked x)
 
-  pub holds-first : (new : KnownPlaces) (run : Option Run) → first ≡ true → run ≡ run_of_name unit x → new ≡ with_run old run → new ≡ places_of_names unit b (xs ++ x ∷ [])
+  pub holds-first : (new : KnownPlaces) (run : Option PositionRun) → first ≡ true → run ≡ run_of_name unit x → new ≡ with_run old run → new ≡ places_of_names unit b (xs ++ x ∷ [])
   holds-first new run f r e = e ∙ (ap (λ k. with_run k run) h ∙ (ap (with_run (places_of_names unit b xs)) r ∙ sym (first-listed unit b xs x first at-first f)))
 
   pub holds-other : (new : KnownPlaces) → first ≡ false → new ≡ old → new ≡ places_of_names unit b (xs ++ x ∷ [])

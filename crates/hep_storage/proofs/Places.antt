@@ -3,7 +3,7 @@ use Rattle.std.proofs.Common.{◌≡◌, ◌≤◌, ℕ, zero, suc, ◌+◌, Boo
 use Rattle.std.proofs.lemmas.Bool.Decides.{nat_tests}
 use Rattle.hep_machine.specs.Words.{Repeated}
 use Rattle.hep_conditions.specs.Words.{meet, holds_within, holds_from, holds_at_each_place}
-use Rattle.hep_storage.specs.Spread.{repeat_before, spread, agree_as_far}
+use Rattle.hep_storage.specs.RunItems.{repeat_before, spread, agree_as_far}
 use Rattle.hep_source.proofs.Tests.{and-assoc, and-true}
 
 -- ---- places in common

@@ -5,14 +5,14 @@ use Rattle.std.proofs.lemmas.List.Folds.{list_any-append}
 use Rattle.hep_machine.specs.Words.{name_eq, Name, Statement, BlockName, same_block}
 use Rattle.hep_values.proofs.BlockNames.{changed}
 use Rattle.hep_storage.specs.Agreement.{AreAmong, with_block, summed}
-use Rattle.hep_storage.specs.Blocks.{block, HasContents, Has}
-use Rattle.hep_storage.specs.declared.contents.Contents.{Contents}
-use Rattle.hep_storage.specs.Table.{contents_in, block_at, summed_in, AreRead}
-use Rattle.hep_storage.specs.declared.table.Entry.{Entry}
+use Rattle.hep_storage.specs.BlockContents.{block, HasContents, Has}
+use Rattle.hep_storage.specs.declared.block_contents.BlockContents.{BlockContents}
+use Rattle.hep_storage.specs.BlockTable.{contents_in, block_at, summed_in, AreRead}
+use Rattle.hep_storage.specs.declared.block_table.BlockEntry.{BlockEntry}
 use Rattle.hep_machine.proofs.Locations.{equal_blocks, block-self}
 
 -- what is seen of an entry, where one was put
-pub seen-put : {X : Type 0} (see : Option Entry → X) (k b : BlockName) (e : Entry) (new old : Option Entry) → new ≡ cond (option_eq name_eq k b) (Some e) old → see new ≡ (if same_block k b then see (Some e) else see old)
+pub seen-put : {X : Type 0} (see : Option BlockEntry → X) (k b : BlockName) (e : BlockEntry) (new old : Option BlockEntry) → new ≡ cond (option_eq name_eq k b) (Some e) old → see new ≡ (if same_block k b then see (Some e) else see old)
 seen-put see k b e new old h = rw (h, changed k b (Some e) old) (grind arith)
 
 same-or : {X : Type 0} (see : BlockName → X) (k b : BlockName) → (if same_block k b then see k else see b) ≡ see b
@@ -20,8 +20,8 @@ same-or see k b = grind (arith, equal_blocks k b)
 
 -- ---- a block that is settled
 
-module _ (k : BlockName) (old new : BlockName → Option Entry) where
-  module _ (e f : Entry) (is : old k ≡ Some e) (put : (b : BlockName) → new b ≡ cond (option_eq name_eq k b) (Some f) (old b)) where
+module _ (k : BlockName) (old new : BlockName → Option BlockEntry) where
+  module _ (e f : BlockEntry) (is : old k ≡ Some e) (put : (b : BlockName) → new b ≡ cond (option_eq name_eq k b) (Some f) (old b)) where
     pub settled-added : summed f.summary ≡ with_block (block_at (Some e)) (summed e.summary) → (b : BlockName)
         → summed_in (new b) ≡ (if same_block k b then with_block (block_at (old k)) (summed_in (old k)) else summed_in (old b))
     settled-added h b = rw (seen-put summed_in k b f (new b) (old b) (put b), h, is) refl
@@ -39,7 +39,7 @@ module _ (k : BlockName) (old new : BlockName → Option Entry) where
 
 -- ---- a list of COMMON, of which the block is in the table now
 
-module _ (k : BlockName) (old new : BlockName → Option Entry) (f : Entry) (put : (b : BlockName) → new b ≡ cond (option_eq name_eq k b) (Some f) (old b)) where
+module _ (k : BlockName) (old new : BlockName → Option BlockEntry) (f : BlockEntry) (put : (b : BlockName) → new b ≡ cond (option_eq name_eq k b) (Some f) (old b)) where
   pub put-contents : f.is_named ≡ true → (b : BlockName) → contents_in (new b) ≡ (if same_block k b then Some f.contents else contents_in (old b))
   put-contents named b = rw (seen-put contents_in k b f (new b) (old b) (put b), named) refl
 
@@ -57,20 +57,20 @@ module _ (k : BlockName) (old new : BlockName → Option Entry) (f : Entry) (put
 
 -- ---- one list after the other
 
-pub read-start : {old : BlockName → Option Entry} {bs : List BlockName} → AreRead old old bs bs
+pub read-start : {old : BlockName → Option BlockEntry} {bs : List BlockName} → AreRead old old bs bs
 read-start = record { summaries = λ b. refl; named = λ h. h }
 
-pub read-next : {old mid new : BlockName → Option Entry} {bs cs ds : List BlockName} → AreRead old mid bs cs → AreRead mid new cs ds → AreRead old new bs ds
+pub read-next : {old mid new : BlockName → Option BlockEntry} {bs cs ds : List BlockName} → AreRead old mid bs cs → AreRead mid new cs ds → AreRead old new bs ds
 read-next h g = record { summaries = λ b. g.summaries b ∙ h.summaries b; named = λ a. g.named (h.named a) }
 
 -- ---- before a unit is read
 
-none-contents : (o : Option Contents) → option_map block o ≡ None → o ≡ None
+none-contents : (o : Option BlockContents) → option_map block o ≡ None → o ≡ None
 none-contents None h = refl
 none-contents (Some c) h = cc
 
-pub none-has : (unit : List Statement) (noted : Name → Bool) (b : BlockName) (o : Option Entry) → block_at o ≡ None → ((x : Name) → noted x ≡ false) → Has unit noted b [] None (contents_in o)
+pub none-has : (unit : List Statement) (noted : Name → Bool) (b : BlockName) (o : Option BlockEntry) → block_at o ≡ None → ((x : Name) → noted x ≡ false) → Has unit noted b [] None (contents_in o)
 none-has unit noted b o h n = (subst (HasContents unit b [] None) (sym (none-contents (contents_in o) h)) (refl, refl), λ x f. n x)
 
-pub none-named : (table : BlockName → Option Entry) (bs : List BlockName) → ((b : BlockName) → block_at (table b) ≡ None) → AreAmong bs (λ b. block_at (table b))
+pub none-named : (table : BlockName → Option BlockEntry) (bs : List BlockName) → ((b : BlockName) → block_at (table b) ≡ None) → AreAmong bs (λ b. block_at (table b))
 none-named table bs h b s = grind (arith, h b)

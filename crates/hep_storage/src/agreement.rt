@@ -1,31 +1,31 @@
 //! Condition 305: units have a common block otherwise (X3.9-1978, 8.3.3 to 8.3.5).
-ghost use Rattle.std.specs.Prelude.{◌≡◌, ◌||◌, ◌++◌, ℕ, Bool, List, None, option_to_list, IfOk, OnOk};
+ghost use Rattle.std.specs.Prelude.{◌≡◌, ◌||◌, ℕ, Bool, List, None, IfOk, OnOk};
 ghost use Rattle.std.specs.List.{list_any};
 ghost use Rattle.hep_machine.specs.Words.{BlockName, blocks_of};
 ghost use Rattle.hep_conditions.specs.Common as conditions;
 ghost use Rattle.hep_conditions.specs.Words.{first_of};
 ghost use Rattle.hep_conditions.specs.declared.violation.Violation.{Violation as PureViolation};
 ghost use Rattle.hep_storage.specs.Agreement as agreement;
-ghost use Rattle.hep_storage.specs.Table.{block_at, summed_in, entry_at};
+ghost use Rattle.hep_storage.specs.BlockTable.{block_at, summed_in, entry_at};
 
+use crate::block_contents::NamesInBlocks;
+use crate::block_table::{BlockTable, settle};
 use crate::blocks::read_blocks;
-use crate::contents::Noted;
-use crate::table::{Table, settle};
 use hep_conditions::Violation;
-use hep_conditions::reported::{lesser, reported};
+use hep_conditions::reported::{add_line, lesser, reported};
 use hep_names::ProgramSymbols;
 use hep_source::Name;
 use indexmap::{IndexMap, IndexSet};
 use std::alloc::{AllocError, Global};
 
-// What is met while units are read: the blocks of all so far, the names of those that the unit has, and the names in its blocks.
+// The state while units are read: the blocks of all units so far, the names of the current unit's blocks, and the names in these blocks.
 struct MetBlocks {
-    table: Table,
+    table: BlockTable,
     named: Vec<Option<Name>>,
-    noted: Noted,
+    noted: NamesInBlocks,
 }
 
-// Written out, so that a caller's proof has one call of it at each exit.
+// This is written out so that the proof of a caller has one call of it at each exit.
 impl Drop for MetBlocks {
     fn drop(self) {
         let MetBlocks {
@@ -36,8 +36,8 @@ impl Drop for MetBlocks {
     }
 }
 
-// The least line of the blocks of a unit, which all have their names here, that differ.
-fn least_in_unit(table: &mut Table, named: &[Option<Name>]) -> Option<u32>
+// The least line of a differing block of a unit, by the names of all its blocks.
+fn least_in_unit(table: &mut BlockTable, named: &[Option<Name>]) -> Option<u32>
     requires { agreement.AreAmong named.now (λ b. block_at (entry_at table.old b)) }
     ensures line { (all : List BlockName) → agreement.AreAmong all (λ b. block_at (entry_at table.old b))
         → result ≡ agreement.least_of_left all (λ b. summed_in (entry_at table.old b)) (λ b. block_at (entry_at table.old b)) }
@@ -52,7 +52,7 @@ fn least_in_unit(table: &mut Table, named: &[Option<Name>]) -> Option<u32>
     least
 }
 
-// The least line of a unit that has a block otherwise than one before.
+// The least line of a block that differs from the same block of an earlier unit.
 fn least_differing(alloc: Global, program: &ProgramSymbols) -> Result<Option<u32>, AllocError>
     ensures { IfOk result (λ line. line ≡ agreement.least_of_blocks (blocks_of program.now) (λ b. agreement.nothing_summed) program.now) }
 {
@@ -77,8 +77,8 @@ fn least_differing(alloc: Global, program: &ProgramSymbols) -> Result<Option<u32
     Ok(least)
 }
 
-/// The first violation of 305 in a program: two units have a common block otherwise, so that a place differs in its type or
-/// in being asynchronous, or that a named block is of another length.
+/// The first violation of 305 in a program: a common block differs between two units. A position differs in its type or
+/// in being asynchronous, or a named block has different lengths.
 ///
 /// # Errors
 ///
@@ -92,20 +92,10 @@ pub fn common_violation(
     Ok(reported(305, least_differing(alloc, program)?))
 }
 
-// Adds a line, where there is one.
-fn add_line(lines: &mut Vec<u32>, line: Option<u32>) -> Result<(), AllocError>
-    ensures { OnOk result (lines.new.items ≡ lines.old.items ++ option_to_list line) }
-{
-    if let Some(line) = line {
-        lines.push(line)?;
-    }
-    Ok(())
-}
-
 // Adds the lines of the blocks of a unit, which all have their names here, that differ.
 fn add_in_unit(
     lines: &mut Vec<u32>,
-    table: &mut Table,
+    table: &mut BlockTable,
     named: &[Option<Name>],
 ) -> Result<(), AllocError>
     requires { agreement.AreAmong named.now (λ b. block_at (entry_at table.old b)) }
@@ -123,7 +113,7 @@ fn add_in_unit(
     Ok(())
 }
 
-/// The lines of all violations of 305 in a program, in whatever order.
+/// The lines of all violations of 305 in a program, in any order.
 ///
 /// # Errors
 ///

@@ -5,25 +5,25 @@ ghost use Rattle.hep_machine.specs.Words.{name_eq, BlockName};
 ghost use Rattle.hep_source.specs.declared.name.Name.{Name as PureName};
 ghost use Rattle.hep_machine.specs.Declarations as declarations;
 ghost use Rattle.hep_storage.specs.Agreement.{AreAmong};
-ghost use Rattle.hep_storage.specs.Blocks as blocks;
-ghost use Rattle.hep_storage.specs.Table.{block_at, summed_in, AreRead, AreListed, entry_at};
+ghost use Rattle.hep_storage.specs.BlockContents as blocks;
+ghost use Rattle.hep_storage.specs.BlockTable.{block_at, summed_in, AreRead, AreListed, entry_at};
 
-use crate::contents::Noted;
-use crate::table::{Entry, Table};
+use crate::block_contents::NamesInBlocks;
+use crate::block_table::{BlockEntry, BlockTable};
 use hep_names::Symbols;
 use hep_names::declarators::{block_of, blocks_in};
 use hep_source::{CommonBlock, Name};
 use hep_types::Shapes;
 use std::alloc::{AllocError, Global};
 
-// The names that a list of COMMON at a line adds to a block.
+// Adds the names of a list of COMMON at a line to its block.
 fn note_block(
     alloc: Global,
     symbols: &Symbols,
     shapes: &Shapes,
-    table: &mut Table,
+    table: &mut BlockTable,
     named: &mut Vec<Option<Name>>,
-    noted: &mut Noted,
+    noted: &mut NamesInBlocks,
     line: u32,
     list: &CommonBlock,
 ) -> Result<(), AllocError>
@@ -43,7 +43,7 @@ fn note_block(
                 .add_names(noted, symbols, shapes, block, entries)?;
         }
         None => {
-            let mut entry = Entry::new(alloc, line);
+            let mut entry = BlockEntry::new(alloc, line);
             entry
                 .contents
                 .add_names(noted, symbols, shapes, block, entries)?;
@@ -57,9 +57,9 @@ fn note_blocks(
     alloc: Global,
     symbols: &Symbols,
     shapes: &Shapes,
-    table: &mut Table,
+    table: &mut BlockTable,
     named: &mut Vec<Option<Name>>,
-    noted: &mut Noted,
+    noted: &mut NamesInBlocks,
     line: u32,
     lists: &[CommonBlock],
 ) -> Result<(), AllocError>
@@ -74,7 +74,7 @@ fn note_blocks(
     Ok(())
 }
 
-/// Reads what a unit has in each of its blocks, of which `named` gets the names.
+/// Reads the contents of the blocks of a unit. `named` gets the names of the blocks.
 ///
 /// # Errors
 ///
@@ -82,9 +82,9 @@ fn note_blocks(
 pub(crate) fn read_blocks(
     alloc: Global,
     symbols: &Symbols,
-    table: &mut Table,
+    table: &mut BlockTable,
     named: &mut Vec<Option<Name>>,
-    noted: &mut Noted,
+    noted: &mut NamesInBlocks,
 ) -> Result<(), AllocError>
     requires none { (b : BlockName) → block_at (entry_at table.old b) ≡ None }
     requires unread { (x : PureName) → contains name_eq noted.old x ≡ false }

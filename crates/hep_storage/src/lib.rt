@@ -1,25 +1,23 @@
-//! 305 and 311: common blocks of several units, and DATA.
+//! The conditions 305, on common blocks of several units (X3.9-1978, 8.3), and 311, on DATA (section 9).
 //!
-//! Lists in runs: what stands several times in a list, one after the other, is written once with its number. So long
-//! lists of COMMON (X3.9-1978, 8.3) and of DATA (section 9) are compared as fast as they are read.
-//!
-//! What the units of a program have in common blocks, and whether they have the same (X3.9-1978, 8.3): the condition 305.
-//!
-//! What DATA gives values, and whether it may (X3.9-1978, section 9): the condition 311.
+//! Begin with [`common_violation`] and [`data_violation`]. The lists of COMMON and of DATA are run-length encoded: a [`PositionRun`] is an item and
+//! the number of its repetitions. So long lists are compared as fast as they are read.
 #![tactic(auto)]
 
 mod agreement;
+mod array_shapes;
+mod block_contents;
+mod block_summary;
+mod block_table;
 mod blocks;
-mod common;
-mod contents;
-mod data;
-mod given;
+mod data_groups;
+mod initialized_elements;
 mod runs;
-mod shapes;
-mod summary;
-mod table;
+mod shared_prefix;
 mod violation;
 
 pub use agreement::{common_lines, common_violation};
-pub use runs::{Known, Meeting, Place, Position, Run, agree, meet, place_count};
+pub use runs::{
+    KnownRuns, MatchedPrefix, Position, PositionRun, RunPlace, agree, meet, place_count,
+};
 pub use violation::{data_lines, data_violation};

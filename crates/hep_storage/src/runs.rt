@@ -1,50 +1,50 @@
-//! Lists in runs: what stands several times, one after the other.
+//! Run-length encoded lists.
 ghost use Rattle.std.specs.Prelude.{◌≡◌, ◌+◌, ◌<◌, ◌≤◌, ◌||◌, ◌&&◌, not, true, nat_lt, nat_eq, length};
-ghost use Rattle.hep_storage.specs.Spread.{agree_as_far};
+ghost use Rattle.hep_storage.specs.RunItems.{agree_as_far};
 ghost use Rattle.hep_storage.specs.Runs as places;
 ghost use Rattle.hep_storage.specs.Runs.{positions_in, alike};
 
 use hep_conditions::types::same_declared;
 use hep_source::ValueType;
 
-/// What a place of a list has: whether its name is asynchronous, and its type; none where it is real.
+/// A position of a list: whether its name is asynchronous, and its type (none for real).
 #[derive(Clone, Copy, PartialEq, Eq)]
 pub struct Position {
     pub asynchronous: bool,
     pub value_type: Option<ValueType>,
 }
 
-/// What so many places of a list have, one after the other.
+/// A run: a number of consecutive equal positions of a list.
 #[derive(Clone, Copy, PartialEq, Eq)]
-pub struct Run {
+pub struct PositionRun {
     pub position: Position,
     pub count: u64,
 }
 
-/// A list in runs, as far as it is known.
+/// A run-length encoded list, as far as it is known.
 #[derive(Drop)]
-pub struct Known {
-    pub runs: Vec<Run>,
-    /// Nothing after these is left open.
+pub struct KnownRuns {
+    pub runs: Vec<PositionRun>,
+    /// Whether these runs are the whole list.
     pub is_whole: bool,
 }
 
-/// A place in a list in runs: the index of its run, and how many places of that run are before it.
+/// A place in a run-length encoded list: the index of its run, and the number of positions of that run before it.
 #[derive(Clone, Copy, PartialEq, Eq)]
-pub struct Place {
+pub struct RunPlace {
     pub run: usize,
     pub before: u64,
 }
 
-/// How far two lists are the same: up to these places.
+/// The places up to which two lists are the same.
 #[derive(Clone, Copy, PartialEq, Eq)]
-pub struct Meeting {
-    pub first: Place,
-    pub second: Place,
+pub struct MatchedPrefix {
+    pub first: RunPlace,
+    pub second: RunPlace,
 }
 
 impl Position {
-    /// Both are of one type, and both or neither asynchronous.
+    /// Whether two positions have the same type, and both or neither are asynchronous.
     pub fn is_same(self, other: Position) -> bool
         ensures { result ≡ alike self other }
     {
@@ -52,20 +52,20 @@ impl Position {
     }
 }
 
-impl Place {
-    // So many places further in a run of so many.
-    fn after(self, step: u64, count: u64) -> Place
+impl RunPlace {
+    // The place `step` positions further, in a run of `count` positions.
+    fn after(self, step: u64, count: u64) -> RunPlace
         requires within { self.before + step ≤ count }
         requires room { self.run < 18446744073709551615 }
         ensures { result ≡ places.after self step count }
     {
         if self.before + step == count {
-            Place {
+            RunPlace {
                 run: self.run + 1,
                 before: 0,
             }
         } else {
-            Place {
+            RunPlace {
                 run: self.run,
                 before: self.before + step,
             }
@@ -73,29 +73,29 @@ impl Place {
     }
 }
 
-// Two runs differ at the next so many places.
-fn differ(first: Run, second: Run, step: u64) -> bool
+// Whether two runs differ in the next `step` positions.
+fn differ(first: PositionRun, second: PositionRun, step: u64) -> bool
     ensures { result ≡ nat_lt 0 step && not (alike first.position second.position) }
 {
     0 < step && !first.position.is_same(second.position)
 }
 
-/// How far two lists are the same: both runs of the places found, if there are two, differ there.
-pub fn meet(first: &[Run], second: &[Run]) -> Meeting
+/// Finds the places up to which two lists are the same. If both lists continue there, they differ there.
+pub fn meet(first: &[PositionRun], second: &[PositionRun]) -> MatchedPrefix
     ensures first_place { places.IsPlace result.first first.now }
     ensures second_place { places.IsPlace result.second second.now }
     ensures same { places.front result.first first.now ≡ places.front result.second second.now }
     ensures parted { result.first.run < length first.now → result.second.run < length second.now
         → places.heads_differ (places.rest result.first first.now) (places.rest result.second second.now) ≡ true }
 {
-    let mut at = Place { run: 0, before: 0 };
-    let mut to = Place { run: 0, before: 0 };
+    let mut at = RunPlace { run: 0, before: 0 };
+    let mut to = RunPlace { run: 0, before: 0 };
     while at.run < first.len() && to.run < second.len() {
         let one = first[at.run];
         let other = second[to.run];
         let step = (one.count - at.before).min(other.count - to.before);
         if differ(one, other, step) {
-            return Meeting {
+            return MatchedPrefix {
                 first: at,
                 second: to,
             };
@@ -103,22 +103,22 @@ pub fn meet(first: &[Run], second: &[Run]) -> Meeting
         at = at.after(step, one.count);
         to = to.after(step, other.count);
     }
-    Meeting {
+    MatchedPrefix {
         first: at,
         second: to,
     }
 }
 
-/// Two lists have the same at each place that both have.
-pub fn agree(first: &[Run], second: &[Run]) -> bool
+/// Whether two lists are the same at each index that both have.
+pub fn agree(first: &[PositionRun], second: &[PositionRun]) -> bool
     ensures { result ≡ agree_as_far alike (positions_in first.now) (positions_in second.now) }
 {
     let meeting = meet(first, second);
     meeting.first.run == first.len() || meeting.second.run == second.len()
 }
 
-/// How many places a list has.
-pub fn place_count(runs: &[Run]) -> u128
+/// The number of positions of a list.
+pub fn place_count(runs: &[PositionRun]) -> u128
     ensures { result ≡ length (positions_in runs.now) }
 {
     let mut count = 0;
@@ -128,9 +128,9 @@ pub fn place_count(runs: &[Run]) -> u128
     count
 }
 
-impl Known {
-    /// Two lists that are known as a whole are of one length.
-    pub fn is_same_length(&self, other: &Known) -> bool
+impl KnownRuns {
+    /// Whether two lists have the same length, where both are known as a whole.
+    pub fn is_same_length(&self, other: &KnownRuns) -> bool
         ensures { result ≡ not (self.now.is_whole && other.now.is_whole)
             || nat_eq (length (positions_in self.now.runs.items)) (length (positions_in other.now.runs.items)) }
     {

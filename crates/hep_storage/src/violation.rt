@@ -1,5 +1,5 @@
 //! 311: where DATA stands, and what it gives values (X3.9-1978, section 9).
-ghost use Rattle.std.specs.Prelude.{◌≡◌, ◌&&◌, ◌||◌, ◌++◌, [], ℕ, Bool, not, option_to_list, IfOk, OnOk};
+ghost use Rattle.std.specs.Prelude.{◌≡◌, ◌&&◌, ◌||◌, [], ℕ, Bool, not, IfOk, OnOk};
 ghost use Rattle.std.specs.List.{list_any};
 ghost use Rattle.indexmap.specs.IndexMap.{get};
 ghost use Rattle.hep_machine.specs.Words.{name_eq, is_nonempty};
@@ -7,19 +7,19 @@ ghost use Rattle.hep_source.specs.Units as units;
 ghost use Rattle.hep_conditions.specs.Data as conditions;
 ghost use Rattle.hep_conditions.specs.Words.{first_of};
 ghost use Rattle.hep_conditions.specs.declared.violation.Violation.{Violation as PureViolation};
-ghost use Rattle.hep_storage.specs.Given.{Gives};
-ghost use Rattle.hep_storage.specs.Groups as passes;
-ghost use Rattle.hep_storage.specs.Shapes.{IsTable};
+ghost use Rattle.hep_storage.specs.InitializedElements.{Gives};
+ghost use Rattle.hep_storage.specs.DataGroups as passes;
+ghost use Rattle.hep_storage.specs.ArrayShapes.{IsTable};
 
-use crate::data::is_wrong_group;
-use crate::given::Given;
-use crate::shapes::{Named, ShapeTable};
+use crate::array_shapes::{DataName, ShapeTable};
+use crate::data_groups::is_wrong_group;
+use crate::initialized_elements::InitializedElements;
 use hep_conditions::Violation;
-use hep_conditions::reported::{lesser, line_when, reported};
+use hep_conditions::reported::{add_line, lesser, line_when, reported};
 use hep_names::Symbols;
 use hep_source::{DataGroup, Form, Statement, Target};
 use hep_values::Constants;
-use hep_values::given::give;
+use hep_values::named_constants::give;
 use hep_values::statements::{constants_in, groups_in};
 use std::alloc::{AllocError, Global};
 
@@ -37,7 +37,7 @@ fn is_main(symbols: &Symbols) -> bool
     }
 }
 
-// DATA stands in the main program alone.
+// Whether DATA is outside the main program.
 fn is_misplaced(symbols: &Symbols, groups: &[DataGroup]) -> bool
     ensures { result ≡ (is_nonempty groups.now && not (units.is_main (units.procedure_name symbols.now))) }
 {
@@ -69,13 +69,13 @@ fn is_either(first: bool, second: bool) -> bool
     first || second
 }
 
-// Gives what a name stands for values: whether an element had one.
+// Records that the elements of a name get values. The result is whether one of them had a value.
 fn give_target(
     alloc: Global,
     symbols: &Symbols,
     shapes: &mut ShapeTable,
     constants: &Constants,
-    given: &mut Given,
+    given: &mut InitializedElements,
     target: &Target,
 ) -> Result<bool, AllocError>
     requires { IsTable symbols.now shapes.old.constants (get name_eq shapes.old.shapes) }
@@ -83,8 +83,8 @@ fn give_target(
     ensures given { IfOk result (Gives symbols.now given.old given.new (passes.elements_of_target symbols.now constants.now target.now)) }
 {
     match shapes.named(alloc, symbols, constants, target)? {
-        Named::Elements(stretch) => given.give(stretch),
-        Named::Open | Named::Outside => Ok(false),
+        DataName::Elements(stretch) => given.give(stretch),
+        DataName::Open | DataName::Outside => Ok(false),
     }
 }
 
@@ -93,7 +93,7 @@ fn give_targets(
     symbols: &Symbols,
     shapes: &mut ShapeTable,
     constants: &Constants,
-    given: &mut Given,
+    given: &mut InitializedElements,
     targets: &[Target],
 ) -> Result<bool, AllocError>
     requires { IsTable symbols.now shapes.old.constants (get name_eq shapes.old.shapes) }
@@ -113,7 +113,7 @@ fn give_groups(
     symbols: &Symbols,
     shapes: &mut ShapeTable,
     constants: &Constants,
-    given: &mut Given,
+    given: &mut InitializedElements,
     groups: &[DataGroup],
 ) -> Result<bool, AllocError>
     requires { IsTable symbols.now shapes.old.constants (get name_eq shapes.old.shapes) }
@@ -129,13 +129,13 @@ fn give_groups(
     Ok(is_twice)
 }
 
-// Gives what a statement names values, by the constants given before it: whether it violates 311.
+// Records that the elements of a statement get values, by the constants given before it. The result is whether the statement violates 311.
 fn give_values(
     alloc: Global,
     symbols: &Symbols,
     shapes: &mut ShapeTable,
     constants: &Constants,
-    given: &mut Given,
+    given: &mut InitializedElements,
     statement: &Statement,
 ) -> Result<bool, AllocError>
     requires { IsTable symbols.now shapes.old.constants (get name_eq shapes.old.shapes) }
@@ -155,7 +155,7 @@ fn least_wrong(alloc: Global, symbols: &Symbols) -> Result<Option<u32>, AllocErr
 {
     let mut constants = Constants::new(alloc);
     let mut shapes = ShapeTable::new(alloc, symbols)?;
-    let mut given = Given::new(alloc);
+    let mut given = InitializedElements::new(alloc);
     let mut least = None;
     for statement in symbols.statements() {
         let is_wrong = give_values(
@@ -173,8 +173,8 @@ fn least_wrong(alloc: Global, symbols: &Symbols) -> Result<Option<u32>, AllocErr
     Ok(least)
 }
 
-/// The first violation of 311 in a unit: DATA stands outside the main program, gives a value to what
-/// can have none or to an element that has one, or has values that don't fit their elements in type or
+/// The first violation of 311 in a unit: a DATA statement is outside the main program, gives a value to a name that may
+/// have none or to an element that has one, or has values that don't fit their elements in type or
 /// number (section 9).
 ///
 /// # Errors
@@ -184,16 +184,6 @@ pub fn data_violation(alloc: Global, symbols: &Symbols) -> Result<Option<Violati
     ensures { IfOk result (λ violation. violation ≡ first_of (conditions.data_violations symbols.now)) }
 {
     Ok(reported(311, least_wrong(alloc, symbols)?))
-}
-
-// Adds a line, where there is one.
-fn add_line(lines: &mut Vec<u32>, line: Option<u32>) -> Result<(), AllocError>
-    ensures { OnOk result (lines.new.items ≡ lines.old.items ++ option_to_list line) }
-{
-    if let Some(line) = line {
-        lines.push(line)?;
-    }
-    Ok(())
 }
 
 /// The lines of all violations of 311 in a unit, in its order.
@@ -207,7 +197,7 @@ pub fn data_lines(alloc: Global, symbols: &Symbols) -> Result<Vec<u32>, AllocErr
 {
     let mut constants = Constants::new(alloc);
     let mut shapes = ShapeTable::new(alloc, symbols)?;
-    let mut given = Given::new(alloc);
+    let mut given = InitializedElements::new(alloc);
     let mut lines = Vec::new(alloc);
     for statement in symbols.statements() {
         let is_wrong = give_values(

@@ -12,9 +12,9 @@ line_feed = 10
 abbrev pub carriage_return : ℕ
 carriage_return = 13
 
--- ---- the printable characters, which ASCII has in a row
+-- ---- the printable characters, which have consecutive codes in ASCII
 
--- the first of them
+-- ` `
 abbrev pub blank : ℕ
 blank = 32
 
@@ -54,7 +54,7 @@ first_lower_case = 97
 abbrev pub last_lower_case : ℕ
 last_lower_case = 122
 
--- how far a lower-case letter stands after its upper-case one
+-- the code of a lower-case letter less the code of its upper-case letter
 abbrev pub case_distance : ℕ
 case_distance = 32
 
@@ -64,15 +64,15 @@ case_distance = 32
 abbrev pub last_column : ℕ
 last_column = 72
 
--- columns 1 to 5, which have the label
+-- the number of columns of the label: columns 1 to 5
 abbrev pub label_columns : ℕ
 label_columns = 5
 
--- those and column 6, which marks a continuation line
+-- the number of columns of the label and of the mark of a continuation line: columns 1 to 6
 abbrev pub columns_before_text : ℕ
 columns_before_text = 6
 
--- columns 7 to 72, which have a statement's text
+-- the text of a statement is in columns 7 to 72
 abbrev pub first_text_column : ℕ
 first_text_column = 7
 

@@ -6,7 +6,7 @@ pub mod Progress
 pub mod Grammar
 pub mod WellFormed
 pub mod Worked
-pub mod Shown
+pub mod LineDisplay
 pub mod Places
 pub mod Reasons
 pub mod Refusals

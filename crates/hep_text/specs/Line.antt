@@ -5,12 +5,12 @@ use Rattle.hep_text.specs.Characters.{tab, line_feed, carriage_return, blank, la
 use Rattle.hep_text.specs.declared.line.LineKind as code
 use Rattle.hep_text.specs.declared.line.LineKind.TheVariants as variants
 
--- whether a carriage return stands at an index, and a line feed after it
+-- whether the byte at an index is a carriage return, and the byte after it is a line feed
 abbrev pub is_return_before_feed : List ℕ → ℕ → Bool
 is_return_before_feed s i = nat_eq (get_or s i 0) carriage_return && nat_eq (get_or s (i + 1) blank) line_feed
 
 -- The lines of a text: each ends at a line feed, and the last one may lack it. A carriage return
--- that stands before a line feed belongs to no line (docs/LANGUAGE.md, 1).
+-- directly before a line feed belongs to no line (docs/LANGUAGE.md, 1).
 abbrev pub lines : List ℕ → List (List ℕ)
 lines [] = []
 lines (c ∷ s) =
@@ -49,17 +49,16 @@ is_continuation_mark c = not (is_blank c || nat_eq c first_digit)
 abbrev pub is_comment : List ℕ → Bool
 is_comment l = is_comment_mark (get_or l 0 blank) || list_all is_blank (take last_column l)
 
--- the number that digits write, from the left
+-- the number that decimal digits form
 abbrev pub number_of_digits : List ℕ → ℕ
 number_of_digits digits = fold (λ n d. 10 * n + (d - first_digit)) 0 digits
 
--- the label that some digits write
+-- the label that digits form; none where there is no digit
 abbrev pub label_of : List ℕ → Option ℕ
 label_of [] = None
 label_of (d ∷ ds) = Some (number_of_digits (d ∷ ds))
 
--- The label in columns 1 to 5 (X3.9-1978, 3.4): blanks among its digits and zeros in front of them
--- don't matter.
+-- The label in columns 1 to 5 (X3.9-1978, 3.4). Blanks among its digits and leading zeros don't matter.
 abbrev pub label : List ℕ → Option ℕ
 label field = label_of (filter is_digit field)
 
@@ -70,20 +69,20 @@ pub data KindOfLine : Type 0 where
   continuation : (body : List ℕ) → KindOfLine
   refused : (number : ℕ) → KindOfLine
 
--- a line with a label field of digits and blanks, by its label and its column 6
+-- the kind of a line with a label field of digits and blanks, by its label and its column 6
 abbrev pub numbered : Option ℕ → Bool → List ℕ → KindOfLine
 numbered None true body = continuation body
 numbered None false body = initial None body
 numbered (Some n) true body = refused 103
 numbered (Some n) false body = if nat_eq n 0 then refused 103 else initial (Some n) body
 
--- a line that is no comment and has printable characters alone (X3.9-1978, 3.2.2 and 3.2.3), by its
--- columns 1 to 5, its column 6 and what follows
+-- the kind of a line that is no comment and has only printable characters (X3.9-1978, 3.2.2 and 3.2.3), by its
+-- columns 1 to 5, its column 6 and its columns from 7 on
 unfoldable pub labelled : List ℕ → ℕ → List ℕ → KindOfLine
 labelled field mark body =
     if list_all is_blank_or_digit field then numbered (label field) (is_continuation_mark mark) body else refused 103
 
--- The kind of a line, by its columns 1 to 72. A comment may have any bytes; else 101 is a tab, 102
+-- The kind of a line, by its columns 1 to 72. A comment may have any bytes. In other lines 101 is a tab, 102
 -- another character that isn't printable, and 103 a fault of columns 1 to 5.
 unfoldable pub kind : List ℕ → KindOfLine
 kind l =
@@ -92,7 +91,7 @@ kind l =
     else (if list_all is_printable (take last_column l) then labelled (take label_columns l) (get_or l label_columns blank) (drop columns_before_text l)
     else refused 102))
 
--- the kind of a line as the program has it
+-- the kind that a value of the type `LineKind` represents
 abbrev pub kind_view : code.LineKind → KindOfLine
 kind_view variants.Comment = comment
 kind_view (variants.Initial label body) = initial label body.now

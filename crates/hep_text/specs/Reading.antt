@@ -13,11 +13,11 @@ pub record Refusal : Type 0 where
   pub number : ℕ
   pub line : ℕ
 
--- refused with a number, at a line
+-- a refusal with a number, at a line
 abbrev pub refusal : {A : Type 0} → ℕ → ℕ → Result A Refusal
 refusal k n = Err (record { number = k; line = n })
 
--- goes on with what was read, unless that is refused
+-- continues with the result, unless it is a refusal
 infixl 10 ◌>>=◌
 abbrev pub ◌>>=◌ : {A B : Type 0} → Result A Refusal → (A → Result B Refusal) → Result B Refusal
 (Ok x) >>= f = f x
@@ -27,57 +27,57 @@ abbrev pub ◌>>=◌ : {A B : Type 0} → Result A Refusal → (A → Result B R
 abbrev pub character : ℕ → ℕ → ℕ → Character
 character c n k = record { byte = c; span = record { line = n; column = k } }
 
--- So many columns of line n, from column k on (X3.9-1978, 3.2). A line that is shorter counts as
+-- The characters of m columns of line n, from column k on (X3.9-1978, 3.2). A shorter line counts as
 -- padded with blanks (docs/LANGUAGE.md, 1).
 unfoldable pub columns : ℕ → ℕ → ℕ → List ℕ → List Character
 columns zero n k l = []
 columns (suc m) n k l = character (get_or l 0 blank) n k ∷ columns m n (k + 1) (drop 1 l)
 
--- A statement as its lines have it (X3.9-1978, 3.3): the line that it begins on, its label, and the
--- columns 7 to 72 of its lines.
+-- A statement before its text is scanned (X3.9-1978, 3.3): the line that it begins on, its label, and the
+-- characters of columns 7 to 72 of its lines.
 pub record Lined : Type 0 where
   pub line : ℕ
   pub label : Option ℕ
   pub characters : List Character
 
--- the characters that go on with the statement in front of some lines, and the statements after
+-- The meaning of a list of lines: the characters that continue the statement before them, and the statements that begin in them.
 abbrev pub Joined : Type 0
 Joined = Result (List Character × List Lined) Refusal
 
--- the statement that an initial line begins, and those after it
+-- an initial line, and the lines after it
 abbrev pub begun : ℕ → Option ℕ → List Character → Joined → Joined
 begun n label body rest_after =
     rest_after >>= λ r. Ok ([], record { line = n; label = label; characters = body ++ r.0 } ∷ r.1)
 
--- the characters of a continuation line, and those that go on with the statement after it
+-- a continuation line, and the lines after it
 abbrev pub continued : List Character → Joined → Joined
 continued body rest_after = rest_after >>= λ r. Ok (body ++ r.0, r.1)
 
--- the most continuation lines of a statement (X3.9-1978, 3.3)
+-- the greatest number of continuation lines of a statement (X3.9-1978, 3.3)
 abbrev pub most_continuation_lines : ℕ
 most_continuation_lines = 19
 
--- A continuation line, where so many stand before it in its statement, or no statement has begun
+-- Line n as a continuation line, by the number of continuation lines before it in its statement; none where no statement has begun
 -- (X3.9-1978, 3.2.3).
 abbrev pub continuing : ℕ → Option ℕ → List Character → (Option ℕ → Joined) → Joined
 continuing n None body rest_after = refusal 105 n
 continuing n (Some k) body rest_after = if nat_lt k most_continuation_lines then continued body (rest_after (Some (k + 1))) else refusal 104 n
 
--- A line of each kind, and what the lines after it give by the count of continuation lines. A
--- comment line may stand anywhere and isn't counted (X3.9-1978, 3.2.1).
+-- Line n, which is of this kind, and the lines after it. Their meaning depends on the number of continuation lines so far. A
+-- comment line may be anywhere and isn't counted (X3.9-1978, 3.2.1).
 abbrev pub by_kind : ℕ → Option ℕ → KindOfLine → (Option ℕ → Joined) → Joined
 by_kind n count comment rest_after = rest_after count
 by_kind n count (initial label body) rest_after = begun n label (columns text_columns n first_text_column body) (rest_after (Some 0))
 by_kind n count (continuation body) rest_after = continuing n count (columns text_columns n first_text_column body) rest_after
 by_kind n count (refused number) rest_after = refusal number n
 
--- the lines from line n on, where so many continuation lines of the statement stand before them
+-- the lines from line n on, by the number of continuation lines of the statement before them
 unfoldable pub joined : ℕ → Option ℕ → List (List ℕ) → Joined
 joined n count [] = Ok ([], [])
 joined n count (l ∷ ls) = by_kind n count (kind l) (λ (c : Option ℕ). joined (n + 1) c ls)
 
--- A statement as the lines have it, with the text that matters. 106 is a character constant that is
--- open at its end, or an empty one (X3.9-1978, 4.8.1).
+-- A statement with its text. 106 is a character constant that is open at the end of the statement, or an empty one
+-- (X3.9-1978, 4.8.1).
 abbrev pub statement : Lined → Result Stmt Refusal
 statement s =
     if is_over (scanner_after Outside s.characters) then Ok (record {
@@ -88,19 +88,19 @@ statement s =
     })
     else refusal 106 s.line
 
--- all of them, or the first fault
+-- all statements with their texts, or the first fault
 abbrev pub each_statement : List Lined → Result (List Stmt) Refusal
 each_statement [] = Ok []
 each_statement (s ∷ ss) = statement s >>= λ t. each_statement ss >>= λ ts. Ok (t ∷ ts)
 
--- the most bytes and lines of a text (docs/LANGUAGE.md, 1)
+-- the greatest numbers of bytes and lines of a text (docs/LANGUAGE.md, 1)
 abbrev pub most_bytes : ℕ
 most_bytes = 4194304
 
 abbrev pub most_lines : ℕ
 most_lines = 65535
 
--- a text with more bytes or more lines
+-- whether a text has more bytes or more lines
 abbrev pub is_too_large : List ℕ → Bool
 is_too_large s = nat_lt most_bytes (length s) || nat_lt most_lines (length (lines s))
 
@@ -110,7 +110,7 @@ unfoldable pub statements_of : List ℕ → Result (List Stmt) Refusal
 statements_of s =
     if is_too_large s then refusal 107 0 else (joined 1 None (lines s) >>= λ r. each_statement r.1)
 
--- The fault that a text has, as the program reports it. Want of memory says nothing of the text.
+-- The program reports the fault that a text has. A refusal of memory says nothing about the text.
 abbrev pub Reports : TextFault → Result (List Stmt) Refusal → Type 0
 Reports faults.NoMemory read = Unit {0}
 Reports (faults.Refused number line name) read = (read ≡ refusal number line) × (name ≡ [])

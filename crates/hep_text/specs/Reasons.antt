@@ -1,4 +1,4 @@
--- What a refusal of a source is about, in a few words: docs/REFUSALS.md.
+-- The rules in a few words: docs/REFUSALS.md.
 use Rattle.std.specs.Prelude.{ℕ, List, [], codes, if◌then◌else◌, nat_eq}
 
 -- the rule with this number

@@ -1,4 +1,4 @@
--- Worked examples of the definitions: each has a whole text and what it comes to.
+-- Worked examples of the definitions: whole texts with their statements or their refusal.
 use Rattle.std.specs.Prelude.{◌≡◌, ℕ, zero, suc, List, [], ◌∷◌, ◌++◌, Option, Some, None, Result, Ok, Err, refl, codes, map}
 use Rattle.hep_text.specs.declared.statement.Stmt.{Stmt}
 use Rattle.hep_text.specs.declared.statement.Span.{Span}
@@ -29,7 +29,7 @@ spans (Err e) = Err e
 abbrev at : ℕ → ℕ → Span
 at n k = record { line = n; column = k }
 
--- some characters so many times
+-- a list repeated n times
 abbrev times : ℕ → List ℕ → List ℕ
 times zero l = []
 times (suc n) l = l ++ times n l
@@ -38,7 +38,7 @@ times (suc n) l = l ++ times n l
 abbrev nineteen : List ℕ
 nineteen = times 19 (codes "\n     +B")
 
--- a statement of one letter and of them
+-- the statement `A` with these nineteen continuation lines
 abbrev twenty : Row
 twenty = row 1 None (codes "A" ++ times 19 (codes "B"))
 
@@ -105,13 +105,13 @@ refused =
     -- twentieth continuation lines, where comment lines are none
     ∷ (codes "      A" ++ nineteen ++ codes "\n     +C", 104, 21)
     ∷ (codes "      A" ++ times 19 (codes "\nC\n     +B") ++ codes "\nC\n     +C", 104, 41)
-    -- continuation lines of no statement, whatever the lines after them are
+    -- continuation lines of no statement, before any other lines
     ∷ (codes "     +A\n      B", 105, 1) ∷ (codes "C\n\n     +A", 105, 3) ∷ (codes "     +A\n1A    B", 105, 1) ∷ (codes "     +A\n\t", 105, 1)
     -- constants left open or empty
     ∷ (codes "      '''", 106, 1) ∷ (codes "      A = ''", 106, 1) ∷ (codes "      '' 'A'", 106, 1) ∷ (codes "      A\n      B = 'C", 106, 2)
     ∷ (codes "      '\n      '", 106, 1) ∷ (codes "      A\n      B\n     +'C\n     +D", 106, 2)
     ∷ (codes "      '" ++ times 65 (codes "B") ++ codes "'", 106, 1) ∷ (codes "      " ++ times 65 (codes "B") ++ codes "'\n     +'", 106, 1)
-    -- they are reported after each fault of a line
+    -- a fault of a line is reported before these, also where the line is a later one
     ∷ (codes "      A = 'B\n      END\nX     END", 103, 3) ∷ (codes "      A = 'B\n      END" ++ times 20 (codes "\n     +C") ++ codes "\n", 104, 22)
     ∷ []
 
@@ -119,7 +119,7 @@ all_refused : map (λ r. rows (statements_of r.0)) refused ≡ map (λ r. refusa
 unfolding statements_of joined columns kind labelled
 all_refused = refl
 
--- where each character of a statement stands
+-- the line and column of each character of a statement
 spans_read : map (λ s. spans (statements_of s)) (codes "C\n 1    A (i)" ∷ codes "      A = I\nC\n     ++ 1" ∷ [])
     ≡ Ok ((at 2 7 ∷ at 2 9 ∷ at 2 10 ∷ at 2 11 ∷ []) ∷ []) ∷ Ok ((at 1 7 ∷ at 1 9 ∷ at 1 11 ∷ at 3 7 ∷ at 3 9 ∷ []) ∷ []) ∷ []
 unfolding statements_of joined columns kind labelled

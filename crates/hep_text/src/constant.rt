@@ -1,31 +1,31 @@
-//! Blanks, letter case and character constants: which characters of a statement are its text.
+//! Which characters of a statement are part of its text: blanks, letter case and character constants.
 ghost use Rattle.std.specs.Prelude.{◌≡◌};
 ghost use Rattle.hep_text.specs.Constant as constant;
 
-/// How far a lower-case letter stands after its upper-case one.
+/// The code of a lower-case letter less the code of its upper-case letter.
 const CASE_DISTANCE: u8 = 32;
 
-/// Whether a character of a statement is in a character constant, and how far, by those before it.
+/// The state of the scanner before a character of a statement: whether that character is in a character constant, and where in it.
 #[derive(Clone, Copy, Debug, PartialEq, Eq)]
 pub enum Scanner {
     /// Outside character constants.
     Outside,
     /// After the apostrophe that opens a constant.
     Opened,
-    /// In a constant that has something in it.
+    /// In a constant that has at least one character.
     Filled,
-    /// After an apostrophe in a constant that has something in it: the constant is over, unless
-    /// another apostrophe follows.
+    /// After an apostrophe in a constant that has at least one character. The constant ends here,
+    /// unless another apostrophe follows.
     Closing,
-    /// After an apostrophe that follows the opening one: the constant is empty, unless another
+    /// After an apostrophe that follows the opening one. The constant is empty, unless another
     /// apostrophe follows.
     Empty,
-    /// After an empty constant, which no statement may have.
+    /// After an empty constant, which is not allowed.
     Faulty,
 }
 
 impl Scanner {
-    /// The same of the character after `byte`.
+    /// The state of the scanner after `byte`.
     pub fn next(self, byte: u8) -> Scanner
         ensures { result ≡ constant.next self byte }
     {
@@ -45,8 +45,8 @@ impl Scanner {
         }
     }
 
-    /// What the text has of `byte`: nothing of a blank outside constants, the upper-case letter of
-    /// a lower-case one there, and else the byte.
+    /// The character of the text that `byte` gives. Outside constants a blank gives none, and a lower-case
+    /// letter gives its upper-case letter. Any other byte gives itself.
     pub fn kept_character(self, byte: u8) -> Option<u8>
         ensures { result ≡ constant.kept_character self byte }
     {
@@ -56,7 +56,7 @@ impl Scanner {
         }
     }
 
-    /// Whether a statement may end here: its constants are over, and none of them is empty.
+    /// Whether a statement may end here: each of its constants is closed, and none of them is empty.
     pub fn is_over(self) -> bool
         ensures { result ≡ constant.is_over self }
     {
@@ -64,7 +64,7 @@ impl Scanner {
     }
 }
 
-/// What the text has of a byte outside constants.
+/// The character of the text that a byte outside constants gives; none for a blank.
 fn kept_outside(byte: u8) -> Option<u8>
     ensures { result ≡ constant.kept_outside byte }
 {

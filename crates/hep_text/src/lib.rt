@@ -1,34 +1,31 @@
-//! Fixed form: lines, labels, character constants, statements; and the lines that `--long` adds.
+//! Source texts in fixed form, and the notes that `--long` adds to a refusal.
 //!
-//! The statements of a HEP FORTRAN source text in fixed form.
+//! A text is a sequence of lines of 72 columns (X3.9-1978, 3.2). [`statements`] divides it into its statements. Each statement has its
+//! first line, its label, its characters without the blanks that don't matter, and the line and column of each character. Where the text
+//! breaks a rule of fixed form, [`statements`] answers with the first fault.
 //!
-//! A text is a sequence of lines of 72 columns (X3.9-1978, 3.2). [`statements`] cuts it into its
-//! statements: each with the line that it begins on, its label, its characters without the blanks
-//! that don't matter, and where in the source each character stands. Of a text that breaks a rule of
-//! fixed form it gives the first fault instead.
-//!
-//! What is said behind the lines that are fixed, where more is asked for: the line of the source with a caret under what is at
-//! fault, and the rule in a few words.
+//! [`line_notes`], [`statement_notes`] and [`append_also`] write the notes: the line of the source, a caret under the fault, and the rule
+//! in a few words. [`Listing`] finds a line by its number.
 #![tactic(auto)]
 
 pub mod constant;
 pub mod line;
+pub mod line_display;
 pub mod listing;
 pub mod place;
 pub mod reading;
 pub mod reason;
 pub mod refusal;
-pub mod shown;
 pub mod statement;
 
 pub use reading::statements;
 pub use statement::{Span, Stmt};
-/// Why a text has no statements to give: refusals 101 to 107, none of which is about a name.
+/// The reason why a text is refused: one of the refusals 101 to 107, which name nothing.
 pub use hep_base::Refusal as TextFault;
-/// Why a text has no statements to give: refusals 101 to 107, none of which is about a name.
+/// A sequence of items, such as the spans of a statement.
 pub use hep_base::Sequence;
-/// Why a text has no statements to give: refusals 101 to 107, none of which is about a name.
+/// A text, one byte a character.
 pub use hep_base::Text;
+pub use line_display::append_words;
 pub use listing::Listing;
 pub use refusal::{Subject, append_also, line_notes, statement_notes};
-pub use shown::append_words;

@@ -4,28 +4,28 @@ ghost use Rattle.std.specs.List.{list_all};
 ghost use Rattle.hep_text.specs.Characters.{blank, label_columns};
 ghost use Rattle.hep_text.specs.Line as lines;
 
-/// The columns of a line that count (X3.9-1978, 3.2).
+/// The number of columns of a line that count (X3.9-1978, 3.2).
 const COLUMNS: usize = 72;
 
-/// The columns of the label (X3.9-1978, 3.2.2).
+/// The number of columns of the label (X3.9-1978, 3.2.2).
 const LABEL_COLUMNS: usize = 5;
 
-/// The columns of the label, and column 6, which marks a continuation line (X3.9-1978, 3.2.3).
+/// The number of columns before the text: those of the label, and column 6, which marks a continuation line (X3.9-1978, 3.2.3).
 const COLUMNS_BEFORE_TEXT: usize = 6;
 
-/// What a line is, by its columns 1 to 72.
+/// The kind of a line, by its columns 1 to 72.
 pub enum LineKind<'a> {
     /// A comment line (X3.9-1978, 3.2.1).
     Comment,
-    /// An initial line (X3.9-1978, 3.2.2): its label, and what stands from column 7 on.
+    /// An initial line (X3.9-1978, 3.2.2): its label, and its bytes from column 7 on.
     Initial(Option<u32>, &'a [u8]),
-    /// A continuation line (X3.9-1978, 3.2.3): what stands from column 7 on.
+    /// A continuation line (X3.9-1978, 3.2.3): its bytes from column 7 on.
     Continuation(&'a [u8]),
-    /// A line that is refused, with the number of the refusal.
+    /// A line that breaks a rule, with the number of the refusal.
     Refused(u16),
 }
 
-/// The first line of a text that isn't empty, and the text after it.
+/// The first line of a text that isn't empty, and the text after that line.
 #[tactic(auto, using(crate::proofs::Cut::goes_on, crate::proofs::Cut::ends, crate::proofs::Cut::ends_at_return, crate::proofs::Cut::is_last))]
 pub fn next_line(text: &[u8]) -> (&[u8], &[u8])
     requires { 0 < length text.now }
@@ -43,7 +43,7 @@ pub fn next_line(text: &[u8]) -> (&[u8], &[u8])
     (text, &text[text.len()..])
 }
 
-/// Whether a carriage return stands at an index, and a line feed after it.
+/// Whether the byte at an index is a carriage return, and the byte after it is a line feed.
 fn is_return_before_feed(text: &[u8], index: usize) -> bool
     requires { index < length text.now }
     ensures value { result ≡ lines.is_return_before_feed text.now index }
@@ -74,8 +74,8 @@ pub fn kind(line: &[u8]) -> LineKind<'_>
     )
 }
 
-/// The kind of a line of printable characters that is no comment, by its columns 1 to 5, its
-/// column 6 and what stands after.
+/// The kind of a line that is no comment and has only printable characters: `field` is its columns
+/// 1 to 5, `mark` its column 6, and `rest` its bytes from column 7 on.
 #[tactic(auto, unfolding(crate::specs::Line::labelled))]
 fn labelled<'a>(field: &[u8], mark: u8, rest: &'a [u8]) -> LineKind<'a>
     requires { length field.now ≤ label_columns }
@@ -91,7 +91,7 @@ fn labelled<'a>(field: &[u8], mark: u8, rest: &'a [u8]) -> LineKind<'a>
     }
 }
 
-/// The number that the digits of a label field write, or none where it has no digit.
+/// The number that the digits of a label field form; none where the field has no digit.
 #[tactic(auto, using(crate::proofs::Labels::label_more, crate::proofs::Labels::limit_five))]
 fn label(field: &[u8]) -> Option<u32>
     requires { length field.now ≤ label_columns }
@@ -106,7 +106,7 @@ fn label(field: &[u8]) -> Option<u32>
     number
 }
 
-/// Whether it is a comment line.
+/// Whether a line is a comment line (X3.9-1978, 3.2.1).
 fn is_comment(line: &[u8]) -> bool
     ensures { result ≡ lines.is_comment line.now }
 {
@@ -161,7 +161,7 @@ fn is_blank_or_digit(byte: u8) -> bool
     byte == b' ' || is_digit(byte)
 }
 
-/// At most so many bytes at the front.
+/// The first `count` bytes, or all of them where there are fewer.
 fn front(count: usize, bytes: &[u8]) -> &[u8]
     ensures { result.now ≡ take count bytes.now }
 {
@@ -172,7 +172,7 @@ fn front(count: usize, bytes: &[u8]) -> &[u8]
     }
 }
 
-/// What stands after so many bytes.
+/// The bytes after the first `count`; none where there are no more.
 fn rest_after(count: usize, bytes: &[u8]) -> &[u8]
     ensures { result.now ≡ drop count bytes.now }
 {
@@ -183,7 +183,7 @@ fn rest_after(count: usize, bytes: &[u8]) -> &[u8]
     }
 }
 
-/// The byte at an index, or a blank after the end: shorter lines count as padded with blanks.
+/// The byte at an index, or a blank past the end: a short line counts as padded with blanks.
 pub fn column(line: &[u8], index: usize) -> u8
     ensures { result ≡ get_or line.now index blank }
 {

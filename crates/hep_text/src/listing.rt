@@ -1,15 +1,15 @@
-//! The lines of a source, each found at once by its number.
+//! The lines of a source, each found by its number in constant time.
 ghost use Rattle.std.specs.Prelude.{◌≡◌, ◌++◌, IfOk, OnOk, option_map};
 ghost use Rattle.hep_text.specs.Line.{lines};
 ghost use Rattle.hep_text.specs.Places.{line_in};
-ghost use Rattle.hep_text.specs.Shown.{line_shown};
+ghost use Rattle.hep_text.specs.LineDisplay.{line_shown};
 
 use crate::line::next_line;
-use crate::shown::append_line;
+use crate::line_display::append_line;
 use std::alloc::{AllocError, Global};
 use std::marker::Model;
 
-/// The lines of a source. Contracts see them.
+/// The lines of a source. Contracts see the list of the lines.
 #[derive(Drop)]
 pub struct Listing<'a> {
     lines: Vec<&'a [u8]>,
@@ -27,7 +27,7 @@ impl<'a> Model for Listing<'a> {
 }
 
 impl<'a> Listing<'a> {
-    /// The lines of a source.
+    /// Finds the lines of a source.
     ///
     /// # Errors
     ///
@@ -45,7 +45,7 @@ impl<'a> Listing<'a> {
         Ok(Listing { lines: found })
     }
 
-    // The line with this number, counted from 1.
+    // The line with this number, counted from 1; none where there is no such line.
     fn line(&self, number: u32) -> Option<&[u8]>
         ensures { option_map (λ line. line.now) result ≡ line_in self.now number }
     {
@@ -55,7 +55,7 @@ impl<'a> Listing<'a> {
         self.lines.get(number as usize - 1).copied()
     }
 
-    /// Appends the line with this number as it is shown, or nothing where there is none.
+    /// Appends the line with this number as it is shown, or nothing where there is no such line.
     ///
     /// # Errors
     ///

@@ -18,46 +18,46 @@ use crate::statement::{Span, Stmt};
 use hep_base::{Refusal as TextFault, Sequence, Text};
 use std::alloc::Global;
 
-/// The most bytes of a source text.
+/// The greatest number of bytes of a source text.
 const MOST_BYTES: usize = 4_194_304;
 
-/// The most lines of a source text.
+/// The greatest number of lines of a source text.
 const MOST_LINES: usize = 65_535;
 
 /// The first column of a statement's text on a line (X3.9-1978, 3.3).
 const FIRST_TEXT_COLUMN: u32 = 7;
 
-/// The columns of a statement's text on a line, 7 to 72.
+/// The number of columns of a statement's text on a line: columns 7 to 72.
 const TEXT_COLUMNS: usize = 66;
 
-/// The most continuation lines of a statement (X3.9-1978, 3.3).
+/// The greatest number of continuation lines of a statement (X3.9-1978, 3.3).
 const MOST_CONTINUATION_LINES: u32 = 19;
 
 /// A statement whose lines are being read.
 #[derive(Drop)]
-struct Pending {
-    /// The line that it begins on.
+struct PendingStatement {
+    /// The line on which the statement begins.
     line: u32,
     /// Its label.
     label: Option<u32>,
-    /// How many continuation lines it has so far.
+    /// The number of its continuation lines so far.
     continued: u32,
     /// Its text so far.
     text: Vec<u8>,
-    /// Where each character of the text stands.
+    /// The line and column of each character of the text.
     spans: Vec<Span>,
-    /// Whether its next character is in a character constant, by those before it.
+    /// The state of the scanner before its next character.
     scanner: Scanner,
 }
 
-/// What was read so far.
+/// The part of the text that was read so far.
 #[derive(Drop)]
-struct Reading {
-    /// The statements that are over and at no fault.
+struct ReadingState {
+    /// The complete statements without a fault.
     done: Vec<Stmt>,
-    /// The one that isn't over.
-    pending: Option<Pending>,
-    /// The line of the first statement with a character constant that is open or empty.
+    /// The statement that isn't complete yet, if there is one.
+    pending: Option<PendingStatement>,
+    /// The line of the first complete statement with a character constant that is open or empty.
     open: Option<u32>,
 }
 
@@ -65,13 +65,14 @@ struct Reading {
 ///
 /// # Errors
 ///
-/// [`TextFault::Refused`] with the first line at fault: a tab (101), another character that isn't
-/// printable (102), and a fault of columns 1 to 5 (103), in columns 1 to 72 of a line that is no
-/// comment; the twentieth continuation line of a statement (104); a continuation line before any
-/// initial line (105); and where no line has one of these, the first statement with a character
-/// constant that is open or empty (106). A text of more than 65,535 lines or 4,194,304 bytes is
-/// refused before all of these, at line 0 (107). [`TextFault::NoMemory`] where memory was refused, which is asked for
-/// only where the text isn't that large.
+/// [`TextFault::Refused`] with the first of these faults:
+/// - 107 at line 0: the text has more than 65,535 lines or 4,194,304 bytes.
+/// - Else the first line at fault. In columns 1 to 72 of a line that is no comment, 101 is a tab, 102 another character that isn't
+///   printable, and 103 a fault of columns 1 to 5. 104 is the twentieth continuation line of a statement. 105 is a continuation line
+///   before any initial line.
+/// - Else 106 at the first statement that has a character constant without an end or without characters.
+///
+/// [`TextFault::NoMemory`] where memory was refused. A text with fault 107 asks for no memory.
 #[tactic(auto, using(crate::proofs::Grammar::agrees))]
 pub fn statements(alloc: Global, source: &[u8]) -> Result<Vec<Stmt>, TextFault>
     ensures ok { IfOk result (λ v. statements_of source.now ≡ Ok v.items) }
@@ -83,7 +84,7 @@ pub fn statements(alloc: Global, source: &[u8]) -> Result<Vec<Stmt>, TextFault>
     if is_too_large(source) {
         return Err(TextFault::refused(alloc, 107, 0));
     }
-    let mut reading = Reading {
+    let mut reading = ReadingState {
         done: Vec::new(alloc),
         pending: None,
         open: None,
@@ -107,7 +108,7 @@ fn is_too_large(text: &[u8]) -> bool
     text.len() > MOST_BYTES || line_count(text) > MOST_LINES
 }
 
-/// How many lines a text has.
+/// The number of lines of a text.
 fn line_count(text: &[u8]) -> usize
     ensures { result ≡ length (lines.lines text.now) }
 {
@@ -121,10 +122,10 @@ fn line_count(text: &[u8]) -> usize
     count
 }
 
-/// Reads one more line.
+/// Reads the line with this number.
 fn take_line(
     alloc: Global,
-    reading: &mut Reading,
+    reading: &mut ReadingState,
     number: u32,
     line: &[u8],
 ) -> Result<(), TextFault>
@@ -139,10 +140,10 @@ fn take_line(
     }
 }
 
-/// Reads an initial line: the statement before it is over, and its own begins.
+/// Reads an initial line: the statement before it is complete, and another one begins.
 fn take_initial(
     alloc: Global,
-    reading: &mut Reading,
+    reading: &mut ReadingState,
     number: u32,
     label: Option<u32>,
     body: &[u8],
@@ -151,7 +152,7 @@ fn take_initial(
     ensures err { IfErr result (λ e. e ≡ NoMemory) }
 {
     end_pending(reading)?;
-    let mut pending = Pending {
+    let mut pending = PendingStatement {
         line: number,
         label,
         continued: 0,
@@ -164,10 +165,10 @@ fn take_initial(
     Ok(())
 }
 
-/// Reads a continuation line, which goes on with the statement that isn't over.
+/// Reads a continuation line, which continues the statement that isn't complete.
 fn take_continuation(
     alloc: Global,
-    reading: &mut Reading,
+    reading: &mut ReadingState,
     number: u32,
     body: &[u8],
 ) -> Result<(), TextFault>
@@ -186,9 +187,9 @@ fn take_continuation(
     Ok(())
 }
 
-/// Reads the columns 7 to 72 of a line, which are given from column 7 on.
+/// Reads columns 7 to 72 of a line, where `body` is the line from column 7 on.
 #[tactic(auto, using(crate::proofs::Text::one_column, crate::proofs::Text::all_columns))]
-fn take_text(pending: &mut Pending, number: u32, body: &[u8]) -> Result<(), TextFault>
+fn take_text(pending: &mut PendingStatement, number: u32, body: &[u8]) -> Result<(), TextFault>
     ensures ok { OnOk result (started pending.new ≡ longer (started pending.old) (columns text_columns number first_text_column body.now)) }
     ensures err { IfErr result (λ e. e ≡ NoMemory) }
 {
@@ -202,8 +203,8 @@ fn take_text(pending: &mut Pending, number: u32, body: &[u8]) -> Result<(), Text
     Ok(())
 }
 
-/// Reads one more character.
-fn take_character(pending: &mut Pending, byte: u8, span: Span) -> Result<(), TextFault>
+/// Reads the next character of a statement.
+fn take_character(pending: &mut PendingStatement, byte: u8, span: Span) -> Result<(), TextFault>
     ensures ok { OnOk result (started pending.new ≡ longer (started pending.old) (record { byte = byte; span = span } ∷ [])) }
     ensures err { IfErr result (λ e. e ≡ NoMemory) }
 {
@@ -215,8 +216,8 @@ fn take_character(pending: &mut Pending, byte: u8, span: Span) -> Result<(), Tex
     Ok(())
 }
 
-/// Ends the statement that isn't over.
-fn end_pending(reading: &mut Reading) -> Result<(), TextFault>
+/// Completes the statement that was being read, if there is one.
+fn end_pending(reading: &mut ReadingState) -> Result<(), TextFault>
     ensures done { OnOk result (done_of reading.new ≡ with_last (done_of reading.old) (pending_of reading.old.pending)) }
     ensures pending { OnOk result (reading.new.pending ≡ None) }
     ensures err { IfErr result (λ e. e ≡ NoMemory) }
@@ -231,14 +232,14 @@ fn end_pending(reading: &mut Reading) -> Result<(), TextFault>
     Ok(())
 }
 
-/// The statement that was read.
-fn ended(pending: Pending) -> Stmt
+/// The complete statement.
+fn ended(pending: PendingStatement) -> Stmt
     ensures line { result.line ≡ pending.line }
     ensures label { result.label ≡ pending.label }
     ensures text { result.text ≡ pending.text.items }
     ensures spans { result.spans ≡ pending.spans.items }
 {
-    let Pending {
+    let PendingStatement {
         line,
         label,
         text,
@@ -253,14 +254,14 @@ fn ended(pending: Pending) -> Stmt
     }
 }
 
-/// The statements that were read, once every line was.
-fn all_read(alloc: Global, reading: Reading) -> Result<Vec<Stmt>, TextFault>
+/// The statements of a text after its last line was read, or the first fault 106.
+fn all_read(alloc: Global, reading: ReadingState) -> Result<Vec<Stmt>, TextFault>
     ensures ok { IfOk result (λ v. with_last (done_of reading) (pending_of reading.pending) ≡ Ok v.items) }
     ensures refused { IfErr result (λ e. Reports e (with_last (done_of reading) (pending_of reading.pending))) }
 {
     let mut reading = reading;
     end_pending(&mut reading)?;
-    let Reading { done, open, .. } = reading;
+    let ReadingState { done, open, .. } = reading;
     match open {
         None => Ok(done),
         Some(line) => Err(TextFault::refused(alloc, 106, line)),

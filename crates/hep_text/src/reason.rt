@@ -1,8 +1,8 @@
-//! Rules in a few words.
+//! The rules in a few words.
 ghost use Rattle.std.specs.Prelude.{◌≡◌};
 ghost use Rattle.hep_text.specs.Reasons as reasons;
 
-/// What a refusal of a source with this number is about.
+/// The rule that a refusal with this number reports, in a few words.
 pub fn reason(number: u16) -> &'static [u8]
     ensures { result.now ≡ reasons.reason number }
 {

@@ -1,30 +1,32 @@
-//! What is said behind the line of a refusal of a source.
+//! The notes that follow the line of a refusal of a source.
 ghost use Rattle.std.specs.Prelude.{◌≡◌, ◌++◌, IfOk, OnOk};
 ghost use Rattle.hep_text.specs.Refusals as refusals;
 
+use crate::line_display::{append_caret, append_line, append_words};
 use crate::place::{line_at, place_in, place_of_line};
 use crate::reason::reason;
-use crate::shown::{append_caret, append_line, append_number, append_words};
 use crate::statement::{Span, Stmt};
-use hep_base::Text;
+use hep_base::{Text, append_number};
 use std::alloc::{AllocError, Global};
 
-/// What a refusal is about: the rule, the initial line of the statement, its name, and what in it, if it is known.
+/// The subject of a refusal: the rule, the initial line of the statement, the reported name, and the part of the statement at fault, if it
+/// is known.
 #[derive(Clone, Copy)]
 pub struct Subject<'a> {
     /// The number of the rule.
     pub number: u16,
     /// The line, counted from 1; 0 where the whole source is refused.
     pub line: u32,
-    /// The name that stands in the line of the refusal, empty where none does.
+    /// The name in the line of the refusal; empty where that line has none.
     pub name: &'a [u8],
-    /// What the rule is about, as it is written, empty where it is nothing by itself. Several words stand in the place of the rule's.
+    /// The part of the statement that the rule is about, as it is written; empty where there is no such part. Where it has several words,
+    /// they replace the rule's words.
     pub about: &'a [u8],
-    /// How many characters of the statement stand before it.
+    /// The number of characters of the statement before that part.
     pub position: usize,
 }
 
-// Appends what the rule is about, if it is anything by itself.
+// Appends the part that the rule is about and a colon, or nothing where that part is empty.
 fn append_about(text: &mut Vec<u8>, about: &[u8]) -> Result<(), AllocError>
     ensures { OnOk result (text.new.items ≡ text.old.items ++ refusals.about_text about.now) }
 {
@@ -36,14 +38,14 @@ fn append_about(text: &mut Vec<u8>, about: &[u8]) -> Result<(), AllocError>
     Ok(())
 }
 
-// It has several words.
+// Whether the part that the rule is about has several words, which replace the rule's words.
 fn says_all(about: &[u8]) -> bool
     ensures { result ≡ refusals.says_all about.now }
 {
     about.contains(&b' ')
 }
 
-// The rule in a few words, behind what it is about, unless that has several words, which say all.
+// The words of a note: the part that the rule is about and then the rule, or that part alone where it has several words.
 fn words_of(alloc: Global, number: u16, about: &[u8]) -> Result<Vec<u8>, AllocError>
     ensures { IfOk result (λ words. words.items ≡ refusals.words_of number about.now) }
 {
@@ -68,7 +70,7 @@ fn append_at(text: &mut Vec<u8>, source: &[u8], words: &[u8], place: Span) -> Re
     Ok(())
 }
 
-// These words, under the place in the source that they are about, if there is one.
+// These words under the line of the source and a caret, where the place is known, and else the words alone.
 fn notes_at(
     alloc: Global,
     source: &[u8],
@@ -85,7 +87,7 @@ fn notes_at(
     Ok(Text::from(text))
 }
 
-/// What is said behind the line of a refusal, by its number, its line and its name alone.
+/// The notes of a refusal, by its number, its line and its name alone.
 ///
 /// # Errors
 ///
@@ -103,7 +105,7 @@ pub fn line_notes(
     notes_at(alloc, source, &words, place_of_line(source, number, line))
 }
 
-/// What is said behind the line of a refusal that is about a character of a statement.
+/// The notes of a refusal that is about a character of a statement.
 ///
 /// # Errors
 ///
@@ -123,7 +125,7 @@ pub fn statement_notes(
     notes_at(alloc, source, &words, place)
 }
 
-// Appends a name behind a line, if there is one.
+// Appends ` NAME ` and the name, or nothing where the name is empty.
 fn append_name_behind(text: &mut Vec<u8>, name: &[u8]) -> Result<(), AllocError>
     ensures { OnOk result (text.new.items ≡ text.old.items ++ refusals.name_behind name.now) }
 {
@@ -135,7 +137,7 @@ fn append_name_behind(text: &mut Vec<u8>, name: &[u8]) -> Result<(), AllocError>
     Ok(())
 }
 
-// Appends the line of a violation behind the first one.
+// Appends the line of a violation after the first one.
 fn append_also_line(text: &mut Vec<u8>, subject: &Subject<'_>) -> Result<(), AllocError>
     ensures { OnOk result (text.new.items
         ≡ text.old.items ++ refusals.also_line subject.now.number subject.now.line subject.now.name.now) }
@@ -149,7 +151,7 @@ fn append_also_line(text: &mut Vec<u8>, subject: &Subject<'_>) -> Result<(), All
     Ok(())
 }
 
-/// Appends the line of a violation behind the first one, and what is said of any violation.
+/// Appends the line of a violation after the first one, and its notes.
 ///
 /// # Errors
 ///

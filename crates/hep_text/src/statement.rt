@@ -1,7 +1,7 @@
-//! Statements, and where their characters stand.
+//! Statements, and the line and column of each of their characters.
 use hep_base::{Sequence, Text};
 
-/// Where a character stands in the source.
+/// The place of a character in the source.
 #[derive(Clone, Copy, Debug, PartialEq, Eq)]
 pub struct Span {
     /// The line, counted from 1. Comment lines count too.
@@ -10,15 +10,15 @@ pub struct Span {
     pub column: u32,
 }
 
-/// A statement of the source (X3.9-1978, 3.3) as a text; its form isn't read yet.
+/// A statement of the source (X3.9-1978, 3.3) as a text. `hep_parse` reads its form.
 #[derive(Debug, Drop)]
 pub struct Stmt {
-    /// The line that it begins on, counted from 1.
+    /// The line on which the statement begins, counted from 1.
     pub line: u32,
     /// Its label (X3.9-1978, 3.4): 1 to 99999, or none.
     pub label: Option<u32>,
-    /// Its characters: no blanks and no lower-case letters outside character constants.
+    /// Its characters. Outside character constants there are no blanks and no lower-case letters.
     pub text: Text,
-    /// Where each of its characters stands.
+    /// The line and column of each of its characters.
     pub spans: Sequence<Span>,
 }

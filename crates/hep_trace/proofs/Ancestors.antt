@@ -5,7 +5,7 @@ use Rattle.std.specs.List.{filter}
 use Rattle.std.specs.Option.{option_map_or}
 use Rattle.std.proofs.lemmas.Bool.{cases_Bool, eqb-false, eqb-true, or_right}
 use Rattle.std.proofs.lemmas.Bool.Decides.{eqb_tells}
-use Rattle.std.proofs.lemmas.Option.{none-some, same_Some, slice_get_within}
+use Rattle.std.proofs.lemmas.Option.{none-some, same_Some}
 use Rattle.hep_binding.proofs.Calls.{set-numbered}
 use Rattle.hep_layout.proofs.HeldFrames.{held-made}
 use Rattle.hep_layout.proofs.Stacks.{news, top-numbered}
@@ -16,10 +16,11 @@ use Rattle.hep_machine.proofs.Held.{among-cases, among-head, held_is}
 use Rattle.hep_machine.proofs.Others.{front_numbered, others_stay}
 use Rattle.hep_event.specs.Traces.{freed, numbers_from}
 use Rattle.hep_trace.specs.Ancestry.{activation_on, ancestry}
-use Rattle.hep_trace.specs.Freed.{AreHeldUpwards}
+use Rattle.hep_trace.specs.FreedFrames.{AreHeldUpwards}
 use Rattle.hep_trace.proofs.Parents.{AreAbove, lines, lines-numbered, parent-more, parent_in}
-use Rattle.hep_trace.proofs.Lists.{AreFalling, falling-are, filter-none, filter-reverse, none-above}
+use Rattle.hep_trace.proofs.FallingNumbers.{AreFalling, falling-are, filter-none, filter-reverse, none-above}
 use Rattle.hep_trace.proofs.Numbers.{filter-both-of-two}
+use Rattle.hep_state.proofs.ProcessNumbers.{within-number}
 
 -- just those of an ancestry are freed from one state to another that aren't held any more, which are the first ones of it, and none where process p has
 -- the first one of them on top, or one that was made later
@@ -184,10 +185,6 @@ all-upwards program qs s parents (suc n) a (suc i) b there held = by (parent_of 
   by None e rest = absurd (none-some b e)
   by (Some d) e rest = rest d e
 
-numbered-within : {A : Type 0} (xs : List A) (p : ℕ) (x : A) → numbered xs p ≡ Some x → p ≤ length xs
-numbered-within xs zero x e = absurd (none-some x e)
-numbered-within xs (suc i) x e = let inside = slice_get_within xs i x e in omega (arith, inside)
-
 -- ---- a step of p
 
 module _ (program : Units) (ps qs : List ℕ) (p : ℕ) (top : Level × Process) (lives : living (run program ps) p ≡ Some top) where
@@ -278,7 +275,7 @@ module _ (program : Units) (ps qs : List ℕ) (p : ℕ) (top : Level × Process)
           let on_own : is_number_among b (activations_on (top.0 ∷ top.1)) ≡ true = subst (λ (q : Process). is_number_among b (activations_on q) ≡ true) stack_is on.3 in
           absurd (true≢false (sym (stacked-among s (aged program ps) a a (activations_on top.1) made.0 (omega arith) line b on_own) ∙ out))
       | inr other ↦
-          let still = others_stay program p on.0 s t stepped other.1 (numbered-within s.processes on.0 on.1 on.2) in
+          let still = others_stay program p on.0 s t stepped other.1 (within-number s.processes on.0 on.1 on.2) in
           (held_is program qs b).1 (inl (on.0, on.1, still ∙ on.2, on.3))
     ]
 
@@ -308,7 +305,7 @@ module _ (program : Units) (ps qs : List ℕ) (p : ℕ) (top : Level × Process)
 
     own-of-more : (q r : Process) → t.processes ≡ with_numbered s.processes p q ++ r ∷ [] → numbered t.processes p ≡ Some q
     own-of-more q r k =
-        let few : p ≤ length s.processes = numbered-within s.processes p (top.0 ∷ top.1) there in
+        let few : p ≤ length s.processes = within-number s.processes p (top.0 ∷ top.1) there in
         let within : p ≤ length (with_numbered s.processes p q) = rw length-set few in
         ap (λ (xs : List Process). numbered xs p) k
         ∙ front_numbered (with_numbered s.processes p q) (r ∷ []) p within

@@ -4,7 +4,7 @@ use Rattle.std.specs.List.{flat_map}
 use Rattle.std.proofs.lemmas.Option.{none-some, same_Some}
 use Rattle.hep_machine.specs.Words.{Reference, Value, spelling}
 use Rattle.hep_trace.proofs.PurgedAhead.{left, taken}
-use Rattle.hep_event.specs.Lines.{reference_text, references_text}
+use Rattle.hep_event.specs.LineTexts.{reference_text, references_text}
 
 -- a target at an index, before those behind it
 pub target-ahead : (targets : List Reference) (i : ℕ) (r : Reference) → slice_get targets i ≡ Some r → drop i targets ≡ r ∷ drop (i + 1) targets

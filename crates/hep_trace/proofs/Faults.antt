@@ -2,7 +2,7 @@
 use Rattle.std.proofs.Common.{◌≡◌, ℕ, List, [], ◌∷◌, length, refl, sym, ap, ◌∙◌, slice_get}
 use Rattle.std.specs.Option.{option_map}
 use Rattle.hep_machine.specs.declared.event.Fault.{Fault}
-use Rattle.hep_event.specs.Deeds.{fault_added}
+use Rattle.hep_event.specs.StepTexts.{fault_added}
 
 pub added-is : (before faults : List Fault) (n : ℕ) → n ≡ length before → fault_added before faults ≡ option_map (λ (f : Fault). f.kind) (slice_get faults n)
 added-is before faults n is = at before faults ∙ ap (λ k. option_map (λ (f : Fault). f.kind) (slice_get faults k)) (sym is) where

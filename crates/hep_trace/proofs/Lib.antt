@@ -1,32 +1,32 @@
 pub mod Numbers
-pub mod Own
-pub mod Loops
-pub mod Referred
-pub mod Replied
+pub mod OwnNames
+pub mod LoopEnds
+pub mod PlaceWords
+pub mod ReplyValues
 pub mod PurgedAhead
-pub mod Declares
+pub mod DeclaredNames
 pub mod Parents
-pub mod Lists
-pub mod Kept
+pub mod FallingNumbers
+pub mod KeptUnits
 pub mod Ancestors
 pub mod Climbs
-pub mod Listed
+pub mod ListedWaits
 pub mod Entries
-pub mod Alone
-pub mod Topped
+pub mod StackHeights
+pub mod TopLevels
 pub mod Faults
-pub mod Waits
-pub mod Freeing
-pub mod Written
-mod Next
-mod Told
-mod Made
+pub mod WaitLines
+pub mod FreedFrames
+pub mod TargetTexts
+mod NextOperations
+mod SeenBefore
+mod MadeTurns
 mod Lines
-mod Loop
-mod Sought
-mod Looked
-mod Deed
-mod Along
-mod Left
-mod Lined
-mod Silent
+mod LoopVariables
+mod TargetNames
+mod ObservedProcesses
+mod ObservedSteps
+mod TracedTurns
+mod EntriesLeft
+mod EqualEntries
+mod UnwatchedTurns

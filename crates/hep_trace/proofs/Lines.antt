@@ -1,26 +1,26 @@
 -- The line of a turn, by what was seen of the process before it.
 use Rattle.std.proofs.Common.{◌≡◌, ℕ, Bool, true, false, List, [], ◌++◌, codes, Option, Some, None, refl, sym, ap, ◌∙◌, subst, append_assoc, if◌then◌else◌}
 use Rattle.std.proofs.lemmas.Option.{none-some, same_Some}
-use Rattle.hep_core.specs.Value.{CoreValue, state_of}
+use Rattle.hep_core.specs.CoreValues.{CoreValue, state_of}
 use Rattle.hep_core.proofs.Histories.{progress-state}
 use Rattle.hep_machine.specs.Words.{Level, Process, Progress, State, Top, Units, line_at, living, progress_after, step_result_of, unit_name, unit_on_top}
-use Rattle.hep_trace.specs.Freed.{top_in}
-use Rattle.hep_event.specs.Deeds.{deed_text}
-use Rattle.hep_event.specs.Lines as lines
+use Rattle.hep_trace.specs.FreedFrames.{top_in}
+use Rattle.hep_event.specs.StepTexts.{deed_text}
+use Rattle.hep_event.specs.LineTexts as lines
 use Rattle.hep_event.specs.Traces.{freed, is_accessed, line_by, line_text, turn_text, woken}
-use Rattle.hep_trace.specs.declared.observation.Before.{Before}
+use Rattle.hep_trace.specs.declared.observation.BeforeTurn.{BeforeTurn}
 use Rattle.hep_trace.specs.declared.observation.Observation.{Observation}
-use Rattle.hep_trace.specs.Sights.{IsBefore, IsShownBy, IsObservation, IsObservationOf}
+use Rattle.hep_trace.specs.Observations.{IsBefore, IsShownBy, IsObservation, IsObservationOf}
 
 -- ---- sights
 
 -- something was seen: the process lives, and its turn is shown
-pub record IsSeenOn (core : CoreValue) (p : ℕ) (cell : Option (List ℕ)) (b : Before) (top : Level × Process) : Type 0 where
+pub record IsSeenOn (core : CoreValue) (p : ℕ) (cell : Option (List ℕ)) (b : BeforeTurn) (top : Level × Process) : Type 0 where
   pub lives : living (state_of core) p ≡ Some top
   pub accessed : is_accessed core.program cell (top_in core p top) ≡ true
   pub before : IsBefore core (top_in core p top) b
 
-shown-so : (core : CoreValue) (p : ℕ) (cell : Option (List ℕ)) (b : Before) (top : Level × Process) (shown : Bool) → living (state_of core) p ≡ Some top
+shown-so : (core : CoreValue) (p : ℕ) (cell : Option (List ℕ)) (b : BeforeTurn) (top : Level × Process) (shown : Bool) → living (state_of core) p ≡ Some top
     → is_accessed core.program cell (top_in core p top) ≡ shown → IsShownBy core (top_in core p top) (Some b) shown → IsSeenOn core p cell b top
 shown-so core p cell b top false lives e h = absurd (none-some b (sym h))
 shown-so core p cell b top true lives e h = record {
@@ -29,7 +29,7 @@ shown-so core p cell b top true lives e h = record {
   before = subst (IsBefore core (top_in core p top)) (same_Some h.0 b (sym h.1)) h.2;
 }
 
-pub seen-on : (core : CoreValue) (p : ℕ) (cell : Option (List ℕ)) (s : Observation) (b : Before) → IsObservation core p cell s → s.before ≡ Some b
+pub seen-on : (core : CoreValue) (p : ℕ) (cell : Option (List ℕ)) (s : Observation) (b : BeforeTurn) → IsObservation core p cell s → s.before ≡ Some b
     → (top : Level × Process) × IsSeenOn core p cell b top
 seen-on core p cell s b h is = by (living (state_of core) p) refl (subst (λ o. IsObservationOf core p cell o (living (state_of core) p)) is h.1) where
   by : (o : Option (Level × Process)) → living (state_of core) p ≡ o → IsObservationOf core p cell (Some b) o → (top : Level × Process) × IsSeenOn core p cell b top

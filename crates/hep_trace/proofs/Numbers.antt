@@ -1,10 +1,10 @@
 -- Processes that wait, by their numbers, one after the other.
 use Rattle.std.proofs.Common.{◌≡◌, ℕ, suc, ◌+◌, ◌-◌, ◌<◌, Bool, true, false, List, [], ◌∷◌, ◌++◌, length, refl, sym, ap, ◌∙◌, arith, append_assoc, if◌then◌else◌, nat_eq, not, ◌&&◌}
 use Rattle.std.specs.List.{filter}
-use Rattle.hep_core.specs.Value.{CoreValue}
+use Rattle.hep_core.specs.CoreValues.{CoreValue}
 use Rattle.hep_machine.specs.Words.{is_number_among, progress_after}
 use Rattle.hep_event.specs.Traces.{numbers_from, woken}
-use Rattle.hep_trace.specs.Woken.{listed_from, listed_numbers}
+use Rattle.hep_trace.specs.WokenProcesses.{listed_from, listed_numbers}
 
 -- ---- what a test leaves of a list
 

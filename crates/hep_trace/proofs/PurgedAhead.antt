@@ -5,7 +5,7 @@ use Rattle.std.specs.Option.{option_map}
 use Rattle.std.proofs.Math.Seq.{take-append_seam, drop-append_seam}
 use Rattle.std.proofs.lemmas.Option.{slice_get-map}
 use Rattle.hep_accepted_laws.specs.Instructions.{variables_in}
-use Rattle.hep_accepted_laws.specs.Placed.{ArePlaced, code_in}
+use Rattle.hep_accepted_laws.specs.PlacedCode.{ArePlaced, code_in}
 use Rattle.hep_code.specs.declared.instruction.Instruction.{Instruction}
 use Rattle.hep_code.specs.declared.instruction.Instruction.TheVariants.{Pass, Step}
 use Rattle.hep_code.specs.declared.variable.Variable.TheVariants.{Absent}
@@ -13,18 +13,21 @@ use Rattle.hep_code.specs.Actions.{referred_argument}
 use Rattle.hep_conditions.specs.Words.{IsAccepted}
 use Rattle.hep_image.specs.Places.{variable_of}
 use Rattle.hep_machine.specs.Words.{Level, Process, Reference, State, Statement, Units, does, main_among, next_of, purging, run, unit_at, unit_of}
-use Rattle.hep_step.proofs.Running.{coming}
-use Rattle.hep_step.proofs.Running as running
+use Rattle.hep_step.proofs.RunningActivations.{coming}
+use Rattle.hep_step.proofs.RunningActivations as running
 use Rattle.hep_state.specs.Words.{HasLevels, IsTopRunning, IsTurning, TurnOf, snapshot_of}
-use Rattle.hep_state.proofs.Tops.{dropped-behind}
+use Rattle.hep_state.proofs.TopActivations.{dropped-behind}
 use Rattle.hep_event.proofs.Answered as answered
-use Rattle.hep_event.proofs.Standing.{settled-there, settled-turn, turn, unit-inside}
+use Rattle.hep_event.proofs.TopPositions.{settled-there, settled-turn, turn, unit-inside}
 use Rattle.hep_source.proofs.Tests.{at-front}
-use Rattle.hep_event.proofs.Placed.{levels-of, same-top}
-use Rattle.hep_trace.specs.declared.reference.Ahead.{Ahead}
+use Rattle.hep_event.proofs.FoundVariables.{levels-of, same-top}
+use Rattle.hep_trace.specs.declared.reference.LiveProcess.{LiveProcess}
 use Rattle.hep_trace.specs.References.{IsAhead}
+use Rattle.hep_code.specs.declared.instruction.Argument.{Argument}
+use Rattle.hep_code.specs.declared.instruction.Argument.TheVariants.{Referred}
+use Rattle.hep_code.specs.declared.variable.Variable.{Variable}
 
-module _ (cells : ℕ) (choices : List ℕ) (ahead : Ahead) (top : Level × Process) (h : IsAhead cells choices ahead top) (targets : List Reference) where
+module _ (cells : ℕ) (choices : List ℕ) (ahead : LiveProcess) (top : Level × Process) (h : IsAhead cells choices ahead top) (targets : List Reference) where
   abbrev program : Units
   program = ahead.image.now
 
@@ -77,3 +80,10 @@ taken r rest = take-append_seam r.1 (flat_map (λ (q : Reference). q.1) rest)
 
 pub left : (r : Reference) (rest : List Reference) → drop (length r.1) (flat_map (λ (q : Reference). q.1) (r ∷ rest)) ≡ flat_map (λ (q : Reference). q.1) rest
 left r rest = drop-append_seam r.1 (flat_map (λ (q : Reference). q.1) rest)
+
+-- an instruction passes one argument, and so one variable and one number of subscripts
+pub passed : (entry : Instruction) (a : Argument) (v w : Variable) (m n : ℕ) → entry ≡ Pass a → a ≡ Referred v m → entry ≡ Pass (Referred w n) → (w ≡ v) × (m ≡ n)
+passed entry a v w m n e f g =
+    let variable : w ≡ v = cc in
+    let count : m ≡ n = cc in
+    (variable, count)

@@ -1,9 +1,9 @@
--- An activation with those that it can't do without: docs/MACHINE.md, "Layout".
+-- An activation and its ancestors: docs/MACHINE.md, "Layout".
 use Rattle.std.specs.Prelude.{◌≡◌, ℕ, zero, suc, Bool, false, List, [], ◌∷◌, Option, Some, None}
 use Rattle.std.specs.Option.{option_map_or}
 use Rattle.hep_machine.specs.Words.{Level, Process, State, Top, is_number_among, parent_of}
 
--- an activation, its parent, the parent's parent and so on, so many of them at most
+-- an activation, its parent, the parent's parent and so on, a number of them at most
 abbrev pub ancestry : State → ℕ → ℕ → List ℕ
 ancestry s zero a = []
 ancestry s (suc n) a = a ∷ option_map_or (λ b. ancestry s n b) (parent_of s a) []

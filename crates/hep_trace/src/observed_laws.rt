@@ -2,9 +2,10 @@
 ghost use Rattle.std.specs.Prelude.{◌≡◌, ℕ, [], None, Some};
 ghost use Rattle.hep_machine.specs.Words.{Level, Name, State, Top, Units, does, ending_loop, living, location_of_name, next_of, scope_of, step_result_of, stepped, unit_on_top};
 ghost use Rattle.hep_event.specs.Sites.{stored_at};
-ghost use Rattle.hep_event.specs.Deeds.{fault_added, value_in};
+ghost use Rattle.hep_event.specs.StepTexts.{fault_added, value_in};
 
-/// Where an iteration of a DO ends and that is no fault, the process goes on in the same activation, whose variables are where they were.
+/// Where the end of an iteration of a DO is no fault, the process goes on in the same activation, whose variables
+/// keep their places.
 pub fn iterations_end_in_place()
     ensures { (program : Units) (t : Top) (after : State) (d : ℕ) → living t.state t.process ≡ Some (t.level, t.below)
         → step_result_of program t.process t.state ≡ stepped after → fault_added t.state.faults after.faults ≡ None

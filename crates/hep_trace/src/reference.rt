@@ -1,22 +1,22 @@
-//! What the operation that comes next of a process names, as the line of its turn has it.
+//! The variable that the next operation of a process names, in the words of its turn's line.
 ghost use Rattle.std.specs.Prelude.{◌≡◌, ◌&&◌, ℕ, List, IfOk, Some, nat_eq, option_map};
 ghost use Rattle.hep_image.specs.Names.{names_in_order, variable_number};
 ghost use Rattle.hep_machine.specs.Words.{Level, Name as SourceName, Process as SourceProcess, run, unit_of, unit_on_top};
 ghost use Rattle.hep_event.specs.Sites.{IsVariableOf};
 ghost use Rattle.hep_trace.specs.References.{IsAhead, IsReferenceAhead, shown_by, top_after};
 
-use crate::tops::top_level;
 use hep_code::Variable;
 use hep_event::site_laws::operations_name_variables;
 use hep_event::{NextOperation, Site, Variables, named, site_of};
 use hep_image::Image;
 use hep_state::CoreState;
 use hep_state_text::{Place, place_text};
+use hep_views::lookup::top_level;
 use std::alloc::{AllocError, Global};
 
-/// A process that lives, of a machine, with what comes next of it, and the variables of the program that it runs.
+/// A living process of a machine, with its next operation, and the variables of its program.
 #[derive(Clone, Copy)]
-pub struct Ahead<'a> {
+pub struct LiveProcess<'a> {
     pub machine: &'a CoreState,
     pub image: &'a Image,
     pub variables: &'a Variables,
@@ -24,8 +24,8 @@ pub struct Ahead<'a> {
     pub coming: &'a NextOperation<'a>,
 }
 
-/// A variable or an element: the number of the name that its unit has for it, by which `Image::name` tells it; where it is kept; and
-/// words for whose it is, unless it is the activation's own.
+/// A variable or an element: the number of its name in the unit, for `Image::name`; its site; and words for its
+/// owner, unless that is the activation itself.
 #[derive(Drop)]
 pub struct Reference {
     pub name: u32,
@@ -33,14 +33,14 @@ pub struct Reference {
     pub place: Option<Vec<u8>>,
 }
 
-// A place is that of a name of an activation itself.
+// Whether a place is that of a name of the activation itself.
 fn is_own(place: Place, activation: u64, name: u32) -> bool
     ensures { result ≡ (nat_eq place.owner activation && nat_eq place.name name) }
 {
     place.owner == activation && place.name == name
 }
 
-// Words for whose a storage unit is, unless it is that of a name of an activation itself.
+// Words for the owner of a storage unit, unless it is that of a name of the activation itself.
 fn place_shown(
     alloc: Global,
     image: &Image,
@@ -60,8 +60,9 @@ fn place_shown(
     Ok(Some(place_text(alloc, image, site.place)?))
 }
 
-/// The number of the name that the unit of the top activation of a process has for a variable. None where it has no name for it.
-pub fn number_of(ahead: &Ahead<'_>, variable: Variable) -> Option<u32>
+/// The number of the name that the unit of a process's top activation has for a variable. `None` where it has no name
+/// for it.
+pub fn number_of(ahead: &LiveProcess<'_>, variable: Variable) -> Option<u32>
     requires { (cells : ℕ) × (choices : List ℕ) × (top : Level × SourceProcess) × IsAhead cells choices ahead.now top }
     ensures { (cells : ℕ) (choices : List ℕ) (top : Level × SourceProcess) (x : SourceName) → IsAhead cells choices ahead.now top
         → IsVariableOf ahead.now.image.now (unit_on_top ahead.now.image.now (top_after ahead.now.image.now choices ahead.now.process top)) x variable
@@ -73,10 +74,10 @@ pub fn number_of(ahead: &Ahead<'_>, variable: Variable) -> Option<u32>
         .number_of(ahead.image, level.unit as usize, variable)
 }
 
-// Words for whose a storage unit is, unless it is that of this name of the top activation of a process.
+// Words for the owner of a storage unit, unless it is that of this name of the process's top activation.
 fn place_ahead(
     alloc: Global,
-    ahead: &Ahead<'_>,
+    ahead: &LiveProcess<'_>,
     site: Option<Site>,
     name: u32,
 ) -> Result<Option<Vec<u8>>, AllocError>
@@ -89,12 +90,15 @@ fn place_ahead(
     place_shown(alloc, ahead.image, site, activation, name)
 }
 
-/// What the operation that comes next of a process names. None where it names nothing.
+/// The variable that the next operation of a process names. `None` where it names none.
 ///
 /// # Errors
 ///
 /// Only where memory was refused.
-pub fn reference_ahead(alloc: Global, ahead: &Ahead<'_>) -> Result<Option<Reference>, AllocError>
+pub fn reference_ahead(
+    alloc: Global,
+    ahead: &LiveProcess<'_>,
+) -> Result<Option<Reference>, AllocError>
     requires { (cells : ℕ) × (choices : List ℕ) × (top : Level × SourceProcess) × IsAhead cells choices ahead.now top }
     ensures { IfOk result (λ found. (cells : ℕ) (choices : List ℕ) (top : Level × SourceProcess) → IsAhead cells choices ahead.now top
         → IsReferenceAhead cells choices ahead.now (top_after ahead.now.image.now choices ahead.now.process top) found) }

@@ -1,25 +1,25 @@
-//! Turns that are told of once they were made.
+//! The lines of turns that were made.
 ghost use Rattle.std.specs.Prelude.{◌≡◌, ◌++◌, ℕ, IfOk, List, OnOk, Option, option_map};
-ghost use Rattle.hep_core.specs.Value.{CoreValue, state_of};
+ghost use Rattle.hep_core.specs.CoreValues.{CoreValue, state_of};
 ghost use Rattle.hep_machine.specs.Words.{Top, progress_after, step_result_of};
-ghost use Rattle.hep_event.specs.Deeds.{deed_text};
+ghost use Rattle.hep_event.specs.StepTexts.{deed_text};
 ghost use Rattle.hep_event.specs.Traces.{line_text};
-ghost use Rattle.hep_trace.specs.Sights.{IsListSeen, IsObservation, IsStepSeen, IsTurnMade, IsTurnSeen, IsValueSeen, name_referred, place_referred};
+ghost use Rattle.hep_trace.specs.Observations.{IsListSeen, IsObservation, IsStepSeen, IsTurnMade, IsTurnSeen, IsValueSeen, name_referred, place_referred};
 
-use crate::after::{append_wait, fault_since, line_of, printed};
-use crate::before::{called, unit_name};
-use crate::freed::append_freed_of;
-use crate::observation::{Before, Observation};
+use crate::after_turn::{append_wait, fault_since, line_of, printed};
+use crate::before_turn::{called, unit_name};
+use crate::freed_frames::append_freed_of;
+use crate::observation::{BeforeTurn, Observation};
 use crate::reference::Reference;
-use crate::woken::append_woken_of;
+use crate::woken_processes::append_woken_of;
 use hep_code::Operation;
 use hep_event::line_laws::prints_are_last_records;
-use hep_event::{Core, Seen, append_fault, append_head, append_told, site_of, value_at};
+use hep_event::{Core, StepObservation, append_fault, append_head, append_told, site_of, value_at};
 use hep_image::Image;
 use hep_source::Value;
 use std::alloc::{AllocError, Global};
 
-// The name that the unit has for what came next.
+// The unit's name for the variable that was named.
 fn variable_name<'a>(image: &'a Image, reference: &Option<Reference>) -> &'a [u8]
     ensures { result.now ≡ name_referred image.now reference.now }
 {
@@ -29,7 +29,7 @@ fn variable_name<'a>(image: &'a Image, reference: &Option<Reference>) -> &'a [u8
     }
 }
 
-// Words for whose it is.
+// Words for its owner.
 fn place_of(reference: &Option<Reference>) -> Option<&[u8]>
     ensures { option_map (λ place. place.now) result ≡ place_referred reference.now }
 {
@@ -42,8 +42,8 @@ fn place_of(reference: &Option<Reference>) -> Option<&[u8]>
     }
 }
 
-// The value that a step of process p came to, or that the variable of a DO has then.
-fn value_after(core: &Core, p: u64, before: &Before) -> Option<Value>
+// The result of a step of process p, or the value of a DO's variable after it.
+fn value_after(core: &Core, p: u64, before: &BeforeTurn) -> Option<Value>
     requires { (old : CoreValue) × (t : Top) × (t.process ≡ p) × IsStepSeen old t before.now core.now.core }
     ensures { (old : CoreValue) (t : Top) → t.process ≡ p → IsStepSeen old t before.now core.now.core
         → IsValueSeen old.program t before.now (state_of core.now.core) result before.now.operation }
@@ -57,8 +57,8 @@ fn value_after(core: &Core, p: u64, before: &Before) -> Option<Value>
     }
 }
 
-// What a step printed, or the targets that it emptied, as they are written.
-fn list_after(alloc: Global, core: &Core, before: &Before) -> Result<Vec<u8>, AllocError>
+// What a step printed, or the targets that it emptied, in words.
+fn list_after(alloc: Global, core: &Core, before: &BeforeTurn) -> Result<Vec<u8>, AllocError>
     ensures { IfOk result (λ list. (old : CoreValue) (t : Top) → IsStepSeen old t before.now core.now.core
         → IsListSeen old.program t before.now list.items before.now.operation) }
 {
@@ -69,13 +69,13 @@ fn list_after(alloc: Global, core: &Core, before: &Before) -> Result<Vec<u8>, Al
     }
 }
 
-// Appends what a step did that was no fault.
+// Appends the words for a step that was no fault.
 fn append_step(
     alloc: Global,
     text: &mut Vec<u8>,
     core: &Core,
     p: u64,
-    before: &Before,
+    before: &BeforeTurn,
 ) -> Result<(), AllocError>
     requires { (old : CoreValue) × (t : Top) × (t.process ≡ p) × IsStepSeen old t before.now core.now.core }
     ensures { OnOk result ((old : CoreValue) (t : Top) → t.process ≡ p → IsStepSeen old t before.now core.now.core
@@ -83,7 +83,7 @@ fn append_step(
 {
     let list = list_after(alloc, core, before)?;
     let image = core.image();
-    let seen = Seen {
+    let seen = StepObservation {
         unit: unit_name(image, before.unit),
         called: called(image, before.operation),
         variable: variable_name(image, &before.reference),
@@ -96,13 +96,13 @@ fn append_step(
     append_told(text, &seen, before.operation, &before.operands)
 }
 
-// Appends what a turn did.
+// Appends the words for a turn.
 fn append_deed(
     alloc: Global,
     text: &mut Vec<u8>,
     core: &Core,
     p: u64,
-    before: &Before,
+    before: &BeforeTurn,
 ) -> Result<(), AllocError>
     requires { (old : CoreValue) × (t : Top) × (t.process ≡ p) × IsTurnSeen old t before.now core.now.core }
     ensures { OnOk result ((old : CoreValue) (t : Top) → t.process ≡ p → IsTurnSeen old t before.now core.now.core
@@ -117,8 +117,8 @@ fn append_deed(
     }
 }
 
-/// Appends the line of a turn that was made since process p was looked at, which is told by the entry with this number; nothing where
-/// that isn't shown.
+/// Appends the line of a turn that was made after process p was observed, with the number of its entry; nothing where
+/// the line isn't shown.
 ///
 /// # Errors
 ///

@@ -1,8 +1,8 @@
 -- 304, as one pass over a unit tells it.
 use Rattle.std.proofs.Common.{◌≡◌, ◌<◌, get_or, drop, min, arith, ℕ, zero, suc, Bool, true, false, ◌&&◌, Option, Some, None, List, [], ◌∷◌, length, refl, ap, sym, ◌∙◌, if◌then◌else◌}
 use Rattle.std.specs.Option.{option_map}
-use Rattle.hep_machine.specs.Words.{Tree, Trees, trees_of, with_list, Units, unit_at, dummies_of, names_of_occurrences, spelling, PureFunction, StateFunction, Occurrence, Statement, is_array, element, by_pure_function, word_in, pure_functions, state_functions}
-use Rattle.hep_conditions.specs.Words.{FunctionTypes, KnownType, list_of, ActualClass, given_with_list, actual_class, all_given, fits_dummy, fit_dummies, fits_subroutine, is_asynchronous_scalar, type_of_tree}
+use Rattle.hep_machine.specs.Words.{Tree, Trees, with_list, Units, unit_at, dummies_of, names_of_occurrences, spelling, PureFunction, StateFunction, Occurrence, Statement, is_array, element, by_pure_function, word_in, pure_functions, state_functions}
+use Rattle.hep_conditions.specs.Words.{FunctionTypes, KnownType, ActualClass, given_with_list, actual_class, all_given, fits_dummy, fit_dummies, fits_subroutine, is_asynchronous_scalar, type_of_tree}
 use Rattle.hep_types.specs.CallPasses.{fits_unit}
 
 pub fits_called : (functions : FunctionTypes) (program : Units) (unit : List Statement) (o : Option ℕ) (ts : List Tree)
@@ -32,11 +32,6 @@ element_given functions unit p ts =
     by false None None true (Some t) = refl
     by false None None false None = refl
     by false None None false (Some t) = refl
-
--- the list of a reference, as it lies in memory
-pub list_is : (ts : List Tree) → list_of (trees_of ts) ≡ ts
-list_is [] = refl
-list_is (t ∷ ts) = ap (λ us. t ∷ us) (list_is ts)
 
 -- ---- a loop over dummy and actual arguments
 

@@ -1,23 +1,11 @@
 -- Bounds of arrays, dimension by dimension.
-use Rattle.std.proofs.Common.{◌≡◌, suc, Bool, true, false, ◌&&◌, ◌||◌, if◌then◌else◌, Option, Some, is_some, List, [], ◌∷◌, length, refl, ap, sym, ◌∙◌}
+use Rattle.std.proofs.Common.{◌≡◌, Bool, true, false, ◌&&◌, ◌||◌, if◌then◌else◌, Option, List, [], ◌∷◌, length, refl, ap, sym, ◌∙◌}
 use Rattle.std.specs.Bool.{◌==◌}
 use Rattle.std.specs.List.{list_all, list_any, flat_map}
-use Rattle.std.specs.Option.{option_map}
 use Rattle.std.proofs.lemmas.List.Folds.{list_any-append}
-use Rattle.hep_machine.specs.Words.{Name, same_name, is_among, index_among, Declarator, Dimension, Statement, Constants, bounds_of, value_among, is_nonempty, is_dummy, Bounds}
+use Rattle.hep_machine.specs.Words.{Declarator, Dimension, Statement, Constants, bounds_of, value_among, is_nonempty, is_dummy, Bounds}
 use Rattle.hep_conditions.specs.Words.{Parameters, is_dimension, are_bounds_open, is_shape_if_known, has_bounds}
 use Rattle.hep_names.proofs.Notes.{not-empty}
-use Rattle.hep_source.proofs.Tests.{some-mapped}
-
--- a name that has a position among others is one of them
-pub dummy_is : (x : Name) (xs : List Name) → is_some (index_among x xs) ≡ is_among x xs
-dummy_is x [] = refl
-dummy_is x (y ∷ xs) = by (same_name x y) (some-mapped suc (index_among x xs) ∙ dummy_is x xs)
-  where
-    by : (b : Bool) → is_some (option_map suc (index_among x xs)) ≡ is_among x xs
-        → is_some (if b then Some 0 else option_map suc (index_among x xs)) ≡ (if b then true else is_among x xs)
-    by true h = refl
-    by false h = h
 
 -- a test of what elements hold, element by element
 pub any-within : {A B : Type 0} (test : B → Bool) (f : A → List B) (xs : List A) → list_any (λ x. list_any test (f x)) xs ≡ list_any test (flat_map f xs)

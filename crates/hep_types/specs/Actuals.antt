@@ -1,4 +1,4 @@
--- What an actual argument is, as contracts see it.
+-- The class of an actual argument, as contracts see it.
 use Rattle.hep_conditions.specs.Arguments as arguments
 use Rattle.hep_types.specs.declared.actuals.ActualClass.{ActualClass}
 use Rattle.hep_types.specs.declared.actuals.ActualClass.TheVariants.{Value, Variable, WholeArray, UnknownList}

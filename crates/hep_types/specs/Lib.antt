@@ -1,7 +1,7 @@
 pub mod Types
 pub mod Bounds
 pub mod Shapes
-pub mod Known
+pub mod KnownShapes
 pub mod Passes
 pub mod Actuals
 pub mod CallPasses

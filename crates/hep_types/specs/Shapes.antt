@@ -6,19 +6,19 @@ use Rattle.hep_conditions.specs.Words.{Parameters}
 use Rattle.hep_names.specs.Tables.{by_declarator}
 use Rattle.hep_types.specs.Bounds.{shape_given}
 
--- what a table has for a name, else this
+-- the entry of a table, or else this shape
 abbrev pub shape_or : Option (Option Bounds) → Option Bounds → Option Bounds
 shape_or None later = later
 shape_or (Some o) later = o
 
--- a scalar has no dimension
+-- the entry of a table, or else the shape of a scalar, which has no dimension
 abbrev pub shape_by : Option (Option Bounds) → Option Bounds
 shape_by o = shape_or o (Some [])
 
--- the shape that a declarator gives a name, where it gives this one dimensions
+-- the shape that a declarator gives a name; none where it gives this name no dimensions
 abbrev pub shape_by_declarator : List Statement → Parameters → Declarator → Name → Option (Option Bounds)
 shape_by_declarator unit ps d x = option_map (shape_given unit ps) (by_declarator d x)
 
--- the shape that the first of these declarators gives a name that gives it dimensions
+-- the shape that the first of these declarators with dimensions of a name gives the name
 abbrev pub shape_among : List Statement → Parameters → Name → List Declarator → Option (Option Bounds)
 shape_among unit ps x ds = option_map (shape_given unit ps) (declarator_among x ds)

@@ -9,10 +9,10 @@ use crate::types::{KnownType, type_of_tree};
 use hep_names::{Meaning, ProgramSymbols, Symbols, function_type, is_function_in};
 use hep_source::{Expr, Name, Node, ValueType};
 
-/// What an actual argument is (15.9.2).
+/// The class of an actual argument (15.9.2).
 #[derive(Clone, Copy)]
 pub enum ActualClass {
-    /// An expression; the name of a constant is one. Its type is open where it is the name of a function (309).
+    /// An expression, or the name of a constant. The type is open for the name of a function (309).
     Value(KnownType),
     /// A variable or an element of an array.
     Variable {
@@ -24,7 +24,7 @@ pub enum ActualClass {
         asynchronous: bool,
         value_type: Option<ValueType>,
     },
-    /// A name with a list that is no array's and no function's, so that it is open what it is.
+    /// A name with a list that is no array and no function, so that its class isn't known.
     UnknownList,
 }
 
@@ -50,7 +50,7 @@ fn class_of_name(program: &ProgramSymbols, symbols: &Symbols, name: &Name) -> Ac
     }
 }
 
-// A reference of a function of the program is an expression; what a name that no function has is, is open.
+// The class of a name with a list: an expression for a function of the program, and unknown for a name that is no function.
 fn class_of_reference(program: &ProgramSymbols, symbols: &Symbols, name: &Name) -> ActualClass
     ensures { class result ≡ conditions.given_with_list (function_types program.now) symbols.now external name.now (function_types program.now name.now) }
 {
@@ -60,7 +60,7 @@ fn class_of_reference(program: &ProgramSymbols, symbols: &Symbols, name: &Name) 
     }
 }
 
-/// What an actual argument of a unit of a program is.
+/// The class of an actual argument in a unit of a program.
 pub fn actual_class(program: &ProgramSymbols, symbols: &Symbols, actual: &Expr) -> ActualClass
     ensures { class result ≡ conditions.actual_class (function_types program.now) symbols.now actual.now }
 {

@@ -21,14 +21,14 @@ use hep_source::{Declarator, Dimension, Expr, Name, Occurrence, UpperBound, Valu
 use hep_values::{Constants, bounds_of};
 use std::alloc::{AllocError, Global};
 
-// A scalar by which a bound may be adjusted: a plain integer that is a dummy argument or in COMMON.
+// Whether a bound may use this scalar: an integer without `$` that is a dummy argument or in COMMON.
 fn is_adjusting(symbols: &Symbols, name: &Name) -> bool
     ensures { result ≡ conditions.is_adjusting symbols.now name.now }
 {
     is_plain_integer_scalar(symbols, name) && (is_dummy(symbols, name) || symbols.is_common(name))
 }
 
-// A constant, or such a scalar.
+// Whether a name is a constant or such a scalar.
 fn is_constant_or_adjusting(symbols: &Symbols, constants: &Constants, name: &Name) -> bool
     ensures { result ≡ (is_some (value_among constants.now name.now) || conditions.is_adjusting symbols.now name.now) }
 {
@@ -58,7 +58,7 @@ fn is_any_adjusted(constants: &Constants, occurrences: &[Occurrence]) -> bool
     false
 }
 
-// A bound that such scalars adjust, with constants alone beside them and without a reference of a function.
+// Whether a bound has such scalars, and else only constants and no reference of a function.
 fn is_adjusted(scope: &Scope, expression: &Expr) -> Result<bool, AllocError>
     ensures { IfOk result (λ is_adjusted. is_adjusted
         ≡ (conditions.is_adjusted scope.now.symbols.now scope.now.parameters.now.known expression.now
@@ -185,7 +185,7 @@ fn is_any_open(scope: &Scope, dimensions: &[Dimension]) -> Result<bool, AllocErr
     Ok(false)
 }
 
-/// A violation leaves some bound of a declarator open.
+/// Whether a violation leaves some bound of a declarator open.
 ///
 /// # Errors
 ///
@@ -206,15 +206,15 @@ fn is_shape_if_known(bounds: &Option<Vec<Bound>>) -> bool
     }
 }
 
-// Right dimensions make a shape, unless a bound is open.
+// Whether dimensions are right: they make a shape, unless a bound is open.
 fn are_right(are_dimensions: bool, are_open: bool, is_shape: bool) -> bool
     ensures { result ≡ (are_dimensions && (are_open || is_shape)) }
 {
     are_dimensions && (are_open || is_shape)
 }
 
-/// The bounds of a declarator are right: constant, or adjustable in a dummy argument, and where all are constant
-/// they make a shape.
+/// Whether the bounds of a declarator are right: each is constant, or adjustable in a dummy argument, and they make a shape
+/// where all are constant.
 ///
 /// # Errors
 ///

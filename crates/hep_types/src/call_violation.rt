@@ -1,4 +1,4 @@
-//! 304: kinds of arguments, and of what is purged (X3.9-1978, 15.6.2.3 and 15.9.3, and docs/LANGUAGE.md, 9).
+//! 304: the kinds of arguments and of the targets of PURGE (X3.9-1978, 15.6.2.3 and 15.9.3, and docs/LANGUAGE.md, 9).
 ghost use Rattle.std.specs.Prelude.{◌≡◌, IfOk};
 ghost use Rattle.hep_conditions.specs.Arguments as conditions;
 ghost use Rattle.hep_conditions.specs.Reported as reported;
@@ -6,8 +6,8 @@ ghost use Rattle.hep_conditions.specs.Words.{first_of, function_types};
 ghost use Rattle.hep_names.specs.Passes.{line_of};
 ghost use Rattle.hep_types.specs.CallPasses as passes;
 
-use crate::fitting::{are_calls_fitting, are_references_fitting};
-use crate::state::{are_references_given, are_targets_purgeable};
+use crate::argument_association::{are_calls_fitting, are_references_fitting};
+use crate::full_empty_arguments::{are_references_given, are_targets_purgeable};
 use hep_conditions::Violation;
 use hep_conditions::reported::{lesser, line_when, reported};
 use hep_names::{ProgramSymbols, Symbols, names_with_lists};
@@ -45,8 +45,8 @@ fn least_mismatched(
     Ok(least)
 }
 
-/// The first violation of 304 in a unit of a program: a dummy argument is given what it can't be
-/// associated with, or a state function or PURGE what isn't asynchronous.
+/// The first violation of 304 in a unit of a program: an actual argument can't be associated with the dummy argument, or
+/// an argument of a state function or a target of PURGE isn't asynchronous.
 ///
 /// # Errors
 ///

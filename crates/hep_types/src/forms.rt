@@ -13,7 +13,7 @@ use crate::types::{
 use hep_names::{Meaning, ProgramSymbols, Symbols, function_type};
 use hep_source::{Declarator, DoControl, Expr, Form, Name, PrintItem, Target, ValueType};
 
-/// The subscripts of what is assigned, given a value by DATA or purged.
+/// Whether the subscripts of a target have the right types.
 pub fn is_target_typed(
     functions: Option<&ProgramSymbols>,
     symbols: &Symbols,
@@ -49,7 +49,8 @@ fn are_targets_typed(
     true
 }
 
-fn is_scalar_target(symbols: &Symbols, target: &Target) -> bool
+/// A target is a scalar: a variable that is no array, or an element of one.
+pub fn is_scalar_target(symbols: &Symbols, target: &Target) -> bool
     ensures { result ≡ types.is_scalar_target symbols.now target.now }
 {
     !target.subscripts.as_slice().is_empty() || !symbols.is_array(&target.occurrence.name)
@@ -72,7 +73,7 @@ fn type_of_target(
     }
 }
 
-// An assignment is of one type on both sides (10.1 and 10.2).
+// Whether an assignment has the same type on both sides (10.1 and 10.2).
 fn is_assignment_typed(
     functions: Option<&ProgramSymbols>,
     symbols: &Symbols,
@@ -116,7 +117,7 @@ fn is_control_typed(
         && is_some_integer(functions, symbols, &control.increment)
 }
 
-// A printed expression is an integer or logical (12.8.2).
+// Whether a printed expression is an integer or logical (12.8.2).
 fn is_item_typed(functions: Option<&ProgramSymbols>, symbols: &Symbols, item: &PrintItem) -> bool
     ensures { result ≡ types.is_item_typed (functions_of functions.entry) symbols.now item.now }
 {
@@ -145,7 +146,7 @@ fn are_items_typed(
     true
 }
 
-// A type statement gives a function that the unit refers to the type that it has (15.5.1).
+// Whether a type statement gives a function that the unit references its own type (15.5.1).
 fn is_type_of(
     functions: Option<&ProgramSymbols>,
     symbols: &Symbols,
@@ -173,7 +174,7 @@ fn are_types_of(
     true
 }
 
-/// The operands of an executable statement have the right types, and a type statement gives functions theirs.
+/// Whether the operands of an executable statement have the right types, and a type statement gives functions their own types.
 pub fn is_form_typed(functions: Option<&ProgramSymbols>, symbols: &Symbols, form: &Form) -> bool
     ensures { result ≡ types.is_form_typed (functions_of functions.entry) symbols.now form.now }
 {

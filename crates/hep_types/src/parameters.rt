@@ -12,12 +12,12 @@ use crate::scope::Scope;
 use crate::types::{agree, is_typed, is_typed_as, type_of_tree};
 use hep_names::{Meaning, NameWithList, Symbols, lists, occurrences};
 use hep_source::{Expr, Name, NamedConstant, Occurrence, Value, ValueType};
-use hep_values::evaluation::{Evaluation, evaluate};
+use hep_values::evaluation::{ExpressionValue, evaluate};
 use hep_values::{Constants, NameSet};
 use std::alloc::{AllocError, Global};
 use std::marker::Model;
 
-/// The constants that PARAMETER gave before a statement: those that are known, and the names of those that a
+/// The constants that PARAMETER gave before a statement: the known ones, and the names of those whose value a
 /// violation leaves open.
 pub struct Parameters {
     known: Constants,
@@ -40,7 +40,7 @@ impl Model for Parameters {
 }
 
 impl Parameters {
-    /// No constants.
+    /// Makes an empty list of constants.
     pub fn new(alloc: Global) -> Parameters
         ensures { result ≡ conditions.no_parameters }
     {
@@ -57,14 +57,14 @@ impl Parameters {
         &self.known
     }
 
-    /// A name that was given a value before, which holds.
+    /// Whether a name was given a value before, known or open.
     pub fn is_given(&self, name: &Name) -> bool
         ensures { result ≡ conditions.is_given self.now name.now }
     {
         self.doubtful.contains(name) || self.known.get(name).is_some()
     }
 
-    /// What one walk over an expression of a unit tells of its value.
+    /// Evaluates an expression of a unit in one walk.
     ///
     /// # Errors
     ///
@@ -74,7 +74,7 @@ impl Parameters {
         alloc: Global,
         symbols: &Symbols,
         expression: &Expr,
-    ) -> Result<Evaluation, AllocError>
+    ) -> Result<ExpressionValue, AllocError>
         ensures value { IfOk result (λ e. e.value ≡ conditions.value_by symbols.now self.now expression.now) }
         ensures is_open { IfOk result (λ e. e.is_open ≡ conditions.is_open symbols.now self.now expression.now) }
         ensures are_parts_known { IfOk result (λ e. e.are_parts_known ≡ walks.are_parts_known symbols.now self.now expression.now) }
@@ -115,7 +115,7 @@ fn are_pure(symbols: &Symbols, names: &[NameWithList]) -> bool
     true
 }
 
-/// Constants, names that were given a value before, and references of pure functions alone: docs/LANGUAGE.md,
+/// Whether an expression has only constants, names that were given a value before, and references of pure functions: docs/LANGUAGE.md,
 /// 7.
 ///
 /// # Errors
@@ -132,7 +132,7 @@ pub fn is_constant_expression(scope: &Scope, expression: &Expr) -> Result<bool, 
     Ok(are_given(scope.parameters, &found) && are_pure(scope.symbols, &names))
 }
 
-/// A constant expression each part of which has a value, unless a violation leaves that part open.
+/// Whether each part of a constant expression has a value, or a violation leaves that part open.
 ///
 /// # Errors
 ///
@@ -147,7 +147,7 @@ pub fn has_value(scope: &Scope, expression: &Expr) -> Result<bool, AllocError>
     Ok(is_constant && evaluation.are_parts_known)
 }
 
-/// An expression of this type that has a value by the constants given before.
+/// Whether an expression has this type and a value, by the constants given before.
 ///
 /// # Errors
 ///
@@ -164,7 +164,7 @@ pub fn is_constant_of(
     Ok(is_typed_as(None, scope.symbols, value_type, expression) && has_value)
 }
 
-/// A constant expression of the type of its name (6.1.3, 6.4.4 and 8.6).
+/// Whether the expression of a named constant is constant and has the type of the name (6.1.3, 6.4.4 and 8.6).
 ///
 /// # Errors
 ///
@@ -183,7 +183,7 @@ pub fn is_constant_given(scope: &Scope, constant: &NamedConstant) -> Result<bool
 }
 
 impl Parameters {
-    // A value for a name that has none yet.
+    // Gives a name a value, known or open, unless it has one.
     fn note(&mut self, name: Name, value: Option<Value>) -> Result<(), AllocError>
         ensures { OnOk result (self.new ≡ record self.old {
           known = if is_some (value_among self.old.known name) then self.old.known
@@ -196,7 +196,7 @@ impl Parameters {
         }
     }
 
-    /// Takes a constant of PARAMETER in, and tells whether it is a constant expression of the type of its name.
+    /// Adds a constant of PARAMETER. The result is whether it is a constant expression of the type of its name.
     ///
     /// # Errors
     ///
@@ -228,7 +228,7 @@ impl Parameters {
         Ok(is_given)
     }
 
-    /// Takes the constants of a PARAMETER statement in, each by those before it, and tells whether all are
+    /// Adds the constants of a PARAMETER statement, each by those before it. The result is whether all are
     /// constant expressions of the types of their names.
     ///
     /// # Errors

@@ -1,12 +1,12 @@
-//! What the conditions of a statement are asked by.
+//! The context in which a statement is checked.
 use crate::parameters::Parameters;
 use hep_names::Symbols;
 use std::alloc::Global;
 
-/// What is known of the names of a unit at a statement: its table, and the constants given before.
+/// The context of a statement: the symbol table of its unit, and the constants given before.
 #[derive(Clone, Copy)]
 pub struct Scope<'a> {
-    /// Where lists of what is found lie.
+    /// The allocator of temporary lists.
     pub alloc: Global,
     /// The table of the unit.
     pub symbols: &'a Symbols<'a>,

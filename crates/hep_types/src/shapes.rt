@@ -7,7 +7,7 @@ ghost use Rattle.hep_conditions.specs.Constants as conditions;
 ghost use Rattle.hep_names.specs.Statements.{rest_after};
 ghost use Rattle.hep_machine.specs.Words.{name_eq};
 ghost use Rattle.hep_types.specs.Shapes as tables;
-ghost use Rattle.hep_types.specs.Known.{known};
+ghost use Rattle.hep_types.specs.KnownShapes.{known};
 
 use crate::bounds::shape_given;
 use crate::parameters::Parameters;
@@ -30,7 +30,7 @@ pub enum KnownShape<'a> {
     Unknown,
 }
 
-/// The shapes of the names of a unit, by the first bounds that each is given. Contracts see the statements of
+/// The known shapes of the names of a unit, by the first bounds of each name. Contracts see the statements of
 /// the unit.
 pub struct Shapes<'a> {
     statements: &'a [Statement],
@@ -71,14 +71,14 @@ struct Table {
     map: Map,
 }
 
-// Written out, so that a caller's proof has one call of it at each exit.
+// This is written out so that the proof of a caller has one call of it at each exit.
 impl Drop for Table {
     fn drop(self) {
         let Table { map } = self;
     }
 }
 
-// The shape that a declarator gives its name, where it gives dimensions and is the first that does.
+// Records the shape that a declarator gives its name, where it is the first declarator with dimensions of that name.
 fn note_shape(scope: &Scope, declarator: &Declarator, shapes: &mut Map) -> Result<(), AllocError>
     ensures { OnOk result ((x : PureName) → get name_eq shapes.new x
         ≡ option_or (get name_eq shapes.old x)
@@ -127,7 +127,7 @@ fn shapes_of(alloc: Global, symbols: &Symbols) -> Result<Table, AllocError>
 }
 
 impl<'a> Shapes<'a> {
-    /// The shapes of the names of a unit.
+    /// Finds the shapes of the names of a unit.
     ///
     /// # Errors
     ///

@@ -1,5 +1,5 @@
-//! Types of expressions (X3.9-1978, 6.1.4, 6.3.3, 6.4.2, 15.5 and 15.10). Where only constants stand, no
-//! functions are handed over.
+//! Types of expressions (X3.9-1978, 6.1.4, 6.3.3, 6.4.2, 15.5 and 15.10). The functions of the program are an optional argument: for
+//! constant expressions there are none.
 ghost use Rattle.std.specs.Prelude.{◌≡◌};
 ghost use Rattle.hep_machine.specs.Words.{trees_of};
 ghost use Rattle.hep_conditions.specs.Types as types;
@@ -11,16 +11,16 @@ use hep_conditions::types::same_declared;
 use hep_names::{Meaning, ProgramSymbols, Symbols, function_type, is_function_in};
 use hep_source::{Expr, Name, Node, Operator, StateFunction, Value, ValueType};
 
-/// The type of an expression, as far as it is known: integer, logical, or none where it is real, which no
-/// value is here; nothing where another violation leaves it open.
+/// The type of an expression, as far as it is known: integer, logical, or `Some(None)` for real, which the language
+/// leaves out. None where another violation leaves the type open.
 pub type KnownType = Option<Option<ValueType>>;
 
-// An expression as an operand.
+// The result of the walk over an expression.
 #[derive(Clone, Copy)]
 struct Operand {
-    // Its own type.
+    // The type of the expression.
     known_type: KnownType,
-    // Each operand in it has the right type, and no array stands where a scalar must.
+    // Whether each operand in it has the right type and no array is used as a scalar.
     is_typed: bool,
 }
 
@@ -32,7 +32,7 @@ impl Operand {
     }
 }
 
-/// Two types are one, as far as they are known: what is open agrees with everything.
+/// Whether two types agree. An open type agrees with every type.
 pub fn agree(first: KnownType, second: KnownType) -> bool
     ensures { result ≡ types.agree first second }
 {
@@ -42,7 +42,7 @@ pub fn agree(first: KnownType, second: KnownType) -> bool
     }
 }
 
-/// A type is this one, or open.
+/// Whether a type is this one, or open.
 pub fn is_of(value_type: ValueType, known_type: KnownType) -> bool
     ensures { result ≡ types.is_of value_type known_type }
 {
@@ -68,7 +68,8 @@ fn type_of_operation(operator: Operator) -> ValueType
     }
 }
 
-fn type_of_operands(operator: Operator) -> ValueType
+/// The type that an operator wants of its operands (X3.9-1978, 6.1 to 6.4).
+pub fn type_of_operands(operator: Operator) -> ValueType
     ensures { result ≡ types.type_of_operands operator }
 {
     match operator {
@@ -77,7 +78,7 @@ fn type_of_operands(operator: Operator) -> ValueType
     }
 }
 
-/// The type of a name by itself. The name of a function is no operand, and its type is open.
+/// The type of a name by itself. That of a function is open, because the name is no operand.
 pub fn type_of_name(functions: Option<&ProgramSymbols>, symbols: &Symbols, name: &Name) -> KnownType
     ensures { result ≡ types.type_of_name (functions_of functions.entry) symbols.now name.now }
 {
@@ -88,7 +89,7 @@ pub fn type_of_name(functions: Option<&ProgramSymbols>, symbols: &Symbols, name:
     }
 }
 
-// The type of what FULL, EMPTY, VALUE, SETE and WAITF are given.
+// The type of the argument of FULL, EMPTY, VALUE, SETE or WAITF.
 fn type_of_tested(
     functions: Option<&ProgramSymbols>,
     symbols: &Symbols,
@@ -108,7 +109,7 @@ fn type_of_tested(
     }
 }
 
-// FULL and EMPTY are logical, and VALUE, SETE and WAITF of the type of their first argument.
+// The type of a state function: FULL and EMPTY are logical, and VALUE, SETE and WAITF have the type of their first argument.
 fn type_of_test(
     functions: Option<&ProgramSymbols>,
     symbols: &Symbols,
@@ -141,7 +142,7 @@ fn type_of_listed(
     }
 }
 
-// The subscripts of an array are as many as its dimensions (5.4.1).
+// Whether an array has as many subscripts as dimensions (5.4.1).
 #[tactic(auto, using(hep_names::proofs::Passes::count_is_length))]
 fn has_dimensions(symbols: &Symbols, name: &Name, subscripts: &[Expr]) -> bool
     ensures { result ≡ types.has_dimensions symbols.now name.now (trees_of subscripts.now) }
@@ -149,8 +150,8 @@ fn has_dimensions(symbols: &Symbols, name: &Name, subscripts: &[Expr]) -> bool
     subscripts.len() == symbols.dimensions(name).len()
 }
 
-/// The list of a name is right: subscripts, as many as the dimensions, and arguments of pure functions are
-/// integers, and what FULL, EMPTY, VALUE, SETE, WAITF and any other name are given may be a name by itself.
+/// Whether the list of a name has the right types. Subscripts are as many as the dimensions. They and the arguments of pure functions
+/// are integers. Arguments of FULL, EMPTY, VALUE, SETE, WAITF and of any other name may be names by themselves.
 #[cycle(typing)]
 pub fn is_list_typed(
     functions: Option<&ProgramSymbols>,
@@ -212,7 +213,7 @@ fn typing(functions: Option<&ProgramSymbols>, symbols: &Symbols, expression: &Ex
     }
 }
 
-/// Subscripts, or arguments of a function of integers.
+/// Whether expressions are right as subscripts or as arguments of a function of integers.
 #[cycle(typing)]
 pub fn are_integers(functions: Option<&ProgramSymbols>, symbols: &Symbols, list: &[Expr]) -> bool
     ensures { result ≡ types.are_integers (functions_of functions.entry) symbols.now (trees_of list.now) }
@@ -226,7 +227,7 @@ pub fn are_integers(functions: Option<&ProgramSymbols>, symbols: &Symbols, list:
     }
 }
 
-/// Actual arguments: a name by itself is no operand.
+/// Whether expressions are right as actual arguments. A name by itself is no operand there.
 #[cycle(typing)]
 pub fn are_actuals(functions: Option<&ProgramSymbols>, symbols: &Symbols, list: &[Expr]) -> bool
     ensures { result ≡ types.are_actuals (functions_of functions.entry) symbols.now (trees_of list.now) }
@@ -271,14 +272,14 @@ pub fn type_of_tree(
     }
 }
 
-/// Each operand in an expression has the right type, and no array stands where a scalar must.
+/// Whether each operand in an expression has the right type and no array is used as a scalar.
 pub fn is_typed(functions: Option<&ProgramSymbols>, symbols: &Symbols, expression: &Expr) -> bool
     ensures { result ≡ types.is_typed (functions_of functions.entry) symbols.now expression.now }
 {
     typing(functions, symbols, expression).is_typed
 }
 
-/// An expression of this type.
+/// Whether an expression has this type and its operands have the right types.
 pub fn is_typed_as(
     functions: Option<&ProgramSymbols>,
     symbols: &Symbols,

@@ -55,7 +55,7 @@ fn are_constant(scope: &Scope, subscripts: &[Expr]) -> Result<bool, AllocError>
     Ok(true)
 }
 
-// A subscript in DATA is a constant expression (9.2).
+// Whether the subscripts of a target in DATA are constant expressions (9.2).
 fn has_constant_subscripts(scope: &Scope, target: &Target) -> Result<bool, AllocError>
     ensures { IfOk result (λ has_them. has_them
         ≡ conditions.has_constant_subscripts scope.now.symbols.now scope.now.parameters.now target.now) }
@@ -88,7 +88,7 @@ fn are_groups_typed(scope: &Scope, groups: &[DataGroup]) -> Result<bool, AllocEr
     Ok(true)
 }
 
-/// Whether a statement is typed, by the constants given before it; those that it gives join them.
+/// Whether a statement doesn't violate 302, by the constants given before it. The constants that it gives are added to them.
 ///
 /// # Errors
 ///
@@ -135,7 +135,7 @@ fn least_untyped(
     Ok(least)
 }
 
-/// The first violation of 302 in a unit of a program: an expression, a constant or the bounds of an array are not right.
+/// The first violation of 302 in a unit of a program: in an expression, a constant or the bounds of an array.
 ///
 /// # Errors
 ///

@@ -4,7 +4,7 @@ use Rattle.std.specs.List.{list_any}
 use Rattle.std.proofs.lemmas.Bool.Decides.{nat_tests}
 use Rattle.hep_machine.specs.Words.{LetterRange}
 use Rattle.hep_conditions.specs.Words.{overlap, least_line, line_when}
-use Rattle.hep_uses.specs.Ambiguous.{reaches, meets, later_letter, least_repeated}
+use Rattle.hep_uses.specs.AmbiguityLines.{reaches, meets, later_letter, least_repeated}
 use Rattle.hep_uses.proofs.Ways.{repeated-turn}
 use Rattle.hep_source.proofs.Tests.{or-assoc, or-turned}
 

@@ -6,14 +6,14 @@ use Rattle.std.proofs.lemmas.List.{drop_more}
 use Rattle.std.proofs.lemmas.List.Folds.{list_any-append}
 use Rattle.hep_machine.specs.Words.{LetterRange, Name, Statement, Units, function_named, is_external, same_name}
 use Rattle.hep_source.proofs.NameTests.{same_name-turned}
-use Rattle.hep_source.proofs.Tests.{and-false, any-flat, any-or, or-false}
+use Rattle.hep_source.proofs.Tests.{any-flat, any-or, or-false, any-same, any-and, any-turned}
 use Rattle.hep_conditions.specs.declared.violation.Violation.{Violation}
 use Rattle.hep_conditions.specs.Words.{FunctionTypes, Use, Violations, assigned_names, at_line, block_names, both_ways, bounded_names, called_names, common_names, constant_names, data_names, dummy_names, function_names, function_names_alone, function_types, given_twice, least_line, letter_ranges_of, letters_repeated, line_when, misnamed, misused_constants, misused_results, name_violations, overlap, repeated, repeated_after, result_names, typed_names, unit_uses, used_both_ways, uses_by, variable_names, when}
 use Rattle.hep_conditions.specs.Names as conditions
-use Rattle.hep_uses.specs.declared.ambiguity.Ambiguity.{Ambiguity}
-use Rattle.hep_uses.specs.declared.uses.Way.TheVariants.{Dummy, Common, Constant, Called, Variable, Result, Function, Alone}
+use Rattle.hep_uses.specs.declared.all_ambiguities.Ambiguity.{Ambiguity}
+use Rattle.hep_uses.specs.declared.uses.UseKind.TheVariants.{Dummy, Common, Constant, Called, Variable, Result, Function, Alone}
 use Rattle.hep_uses.specs.Ambiguities.{ambiguities, ambiguous_in, ambiguous_units, ambiguous_when, is_by, its_name, met_at, met_both_ways, met_from, misnamed_by, misnamed_in, misused_names, no_name, repeated_from, repeated_letters, repeated_names, twice_in, two_ways_in}
-use Rattle.hep_uses.specs.Ambiguous.{given_once, least_named, meets, later_letter, no_constants, no_results, with_seen}
+use Rattle.hep_uses.specs.AmbiguityLines.{given_once, least_named, meets, later_letter, no_constants, no_results, with_seen}
 use Rattle.hep_uses.specs.Uses.{uses_of}
 use Rattle.hep_uses.proofs.Overlaps.{meets-noted}
 
@@ -68,33 +68,6 @@ pub met_from-same : (p q : Name → Option ℕ) → ((x : Name) → p x ≡ q x)
 met_from-same p q h ws = λ i. met_from (λ x. h x i) ws
 
 -- ---- tests
-
-or-swapped : (a b c d : Bool) → ((a || b) || (c || d)) ≡ ((a || c) || (b || d))
-or-swapped true b c d = refl
-or-swapped false true true d = refl
-or-swapped false true false d = refl
-or-swapped false false c d = refl
-
-and-split : (a b t : Bool) → ((a && t) || (b && t)) ≡ ((a || b) && t)
-and-split true b true = refl
-and-split true b false = and-false b
-and-split false b t = refl
-
-any-alike : {A : Type 0} (p q : A → Bool) → ((x : A) → p x ≡ q x) → (xs : List A) → list_any p xs ≡ list_any q xs
-any-alike p q h xs = λ i. list_any (λ x. h x i) xs
-
-any-with : {A : Type 0} (p : A → Bool) (t : Bool) (xs : List A) → list_any (λ x. p x && t) xs ≡ (list_any p xs && t)
-any-with p t [] = refl
-any-with p t (x ∷ xs) = ap (λ b. (p x && t) || b) (any-with p t xs) ∙ and-split (p x) (list_any p xs) t
-
-any-nothing : {A : Type 0} (xs : List A) → list_any (λ x. false) xs ≡ false
-any-nothing [] = refl
-any-nothing (x ∷ xs) = any-nothing xs
-
-any-columns : {A B : Type 0} (c : A → B → Bool) (xs : List A) (ys : List B) → list_any (λ x. list_any (c x) ys) xs ≡ list_any (λ y. list_any (λ x. c x y) xs) ys
-any-columns c [] ys = sym (any-nothing ys)
-any-columns c (x ∷ xs) ys =
-    ap (λ b. list_any (c x) ys || b) (any-columns c xs ys) ∙ sym (any-or (c x) (λ y. list_any (λ z. c z y) xs) ys)
 
 module _ (test : ℕ → Bool) where
   abbrev at : Ambiguity → Bool
@@ -159,8 +132,8 @@ module _ (test : ℕ → Bool) where
   met-any : (us ws : List Use) → list_any at (met_from (least_named us) ws) ≡ list_any (λ w. list_any (λ u. is_before w u && test w.1) us) ws
   met-any us ws =
       any-flat at (met_at (least_named us)) ws
-      ∙ any-alike (λ w. list_any at (met_at (least_named us) w)) (λ w. list_any (λ u. is_before w u && test w.1) us)
-      (λ w. any-here (is_by (least_named us w.0) w.1) (Some w.0) w.1 ∙ (ap (λ b. b && test w.1) (named-by w us) ∙ sym (any-with (is_before w) (test w.1) us))) ws
+      ∙ any-same (λ w. list_any at (met_at (least_named us) w)) (λ w. list_any (λ u. is_before w u && test w.1) us)
+      (λ w. any-here (is_by (least_named us w.0) w.1) (Some w.0) w.1 ∙ (ap (λ b. b && test w.1) (named-by w us) ∙ sym (any-and (is_before w) (test w.1) us))) ws
 
   -- the later of two lines is that of one use or of the other
   later-one : (same : Bool) (k l : ℕ) → (((same && nat_le k l) && test l) || ((same && nat_le l k) && test k)) ≡ (same && test (max k l))
@@ -191,18 +164,18 @@ module _ (test : ℕ → Bool) where
       let one = λ (u : Use) (w : Use). is_before w u && test w.1 in
       let other = λ (u : Use) (w : Use). is_before u w && test u.1 in
       list_any-append at (met_from (least_named us) ws) (met_from (least_named ws) us)
-      ∙ ((λ i. (met-any us ws ∙ sym (any-columns one us ws)) i || met-any ws us i)
+      ∙ ((λ i. (met-any us ws ∙ sym (any-turned one us ws)) i || met-any ws us i)
       ∙ (sym (any-or (λ u. list_any (one u) ws) (λ u. list_any (other u) ws) us)
-      ∙ (any-alike (λ u. list_any (one u) ws || list_any (other u) ws) (λ u. list_any (λ w. same_name u.0 w.0 && test (max u.1 w.1)) ws)
+      ∙ (any-same (λ u. list_any (one u) ws || list_any (other u) ws) (λ u. list_any (λ w. same_name u.0 w.0 && test (max u.1 w.1)) ws)
       (λ u. sym (any-or (one u) (other u) ws)
-      ∙ any-alike (λ w. one u w || other u w) (λ w. same_name u.0 w.0 && test (max u.1 w.1))
+      ∙ any-same (λ w. one u w || other u w) (λ w. same_name u.0 w.0 && test (max u.1 w.1))
       (λ w. ap (λ b. one u w || ((b && nat_le w.1 u.1) && test u.1)) (same_name-turned w.0 u.0) ∙ later-one (same_name u.0 w.0) u.1 w.1) ws) us
       ∙ sym
       (any-flat by (λ (u : Use). flat_map (λ (w : Use). when (same_name u.0 w.0) (at_line 309 (max u.1 w.1))) ws) us
-      ∙ any-alike (λ (u : Use). list_any by (flat_map (λ (w : Use). when (same_name u.0 w.0) (at_line 309 (max u.1 w.1))) ws))
+      ∙ any-same (λ (u : Use). list_any by (flat_map (λ (w : Use). when (same_name u.0 w.0) (at_line 309 (max u.1 w.1))) ws))
       (λ (u : Use). list_any (λ (w : Use). same_name u.0 w.0 && test (max u.1 w.1)) ws)
       (λ (u : Use). any-flat by (λ (w : Use). when (same_name u.0 w.0) (at_line 309 (max u.1 w.1))) ws
-      ∙ any-alike (λ (w : Use). list_any by (when (same_name u.0 w.0) (at_line 309 (max u.1 w.1)))) (λ (w : Use). same_name u.0 w.0 && test (max u.1 w.1))
+      ∙ any-same (λ (w : Use). list_any by (when (same_name u.0 w.0) (at_line 309 (max u.1 w.1)))) (λ (w : Use). same_name u.0 w.0 && test (max u.1 w.1))
       (λ (w : Use). any-when (max u.1 w.1) (same_name u.0 w.0)) ws) us))))
 
   -- ---- a unit, and a program

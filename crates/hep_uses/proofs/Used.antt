@@ -5,7 +5,7 @@ use Rattle.std.proofs.lemmas.List.{map-append}
 use Rattle.std.proofs.lemmas.List.Elements.{filter-append}
 use Rattle.hep_machine.specs.Words.{Declarator, LetterRange, Target, names_declared, is_nonempty}
 use Rattle.hep_conditions.specs.Words.{names_of_targets}
-use Rattle.hep_uses.specs.Ambiguous.{ranges_at}
+use Rattle.hep_uses.specs.AmbiguityLines.{ranges_at}
 use Rattle.hep_uses.specs.Uses.{names_bounded}
 
 pub ranges_append : (line : ℕ) (xs ys : List LetterRange) → ranges_at line (xs ++ ys) ≡ ranges_at line xs ++ ranges_at line ys

@@ -10,11 +10,11 @@ use Rattle.hep_source.proofs.NameTests.{equal_names, name_eq-is, same_name-turne
 use Rattle.hep_names.proofs.News.{declared-append}
 use Rattle.hep_conditions.specs.Words.{Use, overlap, letter_ranges_of, letters_repeated, uses_by, repeated, both_ways, given_twice, used_both_ways, FunctionTypes, misused_constants, misused_results, misnamed, result_names, function_names, function_names_alone, dummy_names, typed_names, bounded_names, common_names, constant_names, data_names, assigned_names, called_names, variable_names, ambiguous_in, unit_uses, block_names, ambiguous_units, reported, least_line, line_when, least_line_of, first_of, when, at_line, repeated_after}
 use Rattle.hep_conditions.proofs.Lines.{reported-append, reported-of, reported-when, least_line-assoc, least_line-none, least_line_of-same, least_line_of-turned}
-use Rattle.hep_uses.specs.declared.uses.Way.{Way}
-use Rattle.hep_uses.specs.declared.uses.Way.TheVariants.{Dummy, Common, Constant, Called, Variable, Result, Function, Alone}
+use Rattle.hep_uses.specs.declared.uses.UseKind.{UseKind}
+use Rattle.hep_uses.specs.declared.uses.UseKind.TheVariants.{Dummy, Common, Constant, Called, Variable, Result, Function, Alone}
 use Rattle.hep_names.specs.Tables.{are_new, names_in_common}
 use Rattle.hep_uses.specs.Uses.{uses_of, used_at}
-use Rattle.hep_uses.specs.Ambiguous.{none_seen, with_seen, least_repeated, least_repeated_name, least_given_twice, least_named, later_line, least_met, least_both_ways, least_of_two_ways, least_misused, least_misused_name, least_misnamed, misnamed_line, least_overlapping, given_once, no_constants, no_results, least_ambiguous, least_ambiguous_unit}
+use Rattle.hep_uses.specs.AmbiguityLines.{none_seen, with_seen, least_repeated, least_repeated_name, least_given_twice, least_named, later_line, least_met, least_both_ways, least_of_two_ways, least_misused, least_misused_name, least_misnamed, misnamed_line, least_overlapping, given_once, no_constants, no_results, least_ambiguous, least_ambiguous_unit}
 
 -- ---- what is given twice
 
@@ -202,7 +202,7 @@ met-none (w ∷ ws) = met-none ws
 pub both-none : (us ws : List Use) → us ≡ [] → least_both_ways us ws ≡ None
 both-none us ws e = ap (λ vs. least_both_ways vs ws) e ∙ met-none ws
 
-pub misused-none : (functions : FunctionTypes) (unit : List Statement) (one : Way) (ways : List Way) → uses_of functions one unit ≡ [] → least_misused functions unit one ways ≡ None
+pub misused-none : (functions : FunctionTypes) (unit : List Statement) (one : UseKind) (ways : List UseKind) → uses_of functions one unit ≡ [] → least_misused functions unit one ways ≡ None
 misused-none functions unit one [] e = refl
 misused-none functions unit one (way ∷ ways) e = ap (λ l. least_line l (least_misused functions unit one ways)) (both-none (uses_of functions one unit) (uses_of functions way unit) e) ∙ misused-none functions unit one ways e
 

@@ -1,3 +1,3 @@
 pub mod Uses
-pub mod Ambiguous
+pub mod AmbiguityLines
 pub mod Ambiguities

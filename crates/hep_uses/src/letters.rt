@@ -4,9 +4,9 @@ ghost use Rattle.std.specs.List.{flat_map, list_any};
 ghost use Rattle.hep_source.specs.declared.declaration.ImplicitGroup.{ImplicitGroup as PureGroup};
 ghost use Rattle.hep_conditions.specs.Names as conditions;
 ghost use Rattle.hep_uses.specs.Ambiguities as spec;
-ghost use Rattle.hep_uses.specs.Ambiguous as passes;
+ghost use Rattle.hep_uses.specs.AmbiguityLines as passes;
 
-use crate::ambiguity::{Ambiguity, add_when};
+use crate::all_ambiguities::{Ambiguity, add_when};
 use hep_conditions::reported::{lesser, line_when};
 use hep_source::{Form, ImplicitGroup, LetterRange, Statement};
 use std::alloc::{AllocError, Global};
@@ -43,7 +43,7 @@ fn add_in(found: &mut Ranges, statement: &Statement) -> Result<(), AllocError>
     }
 }
 
-/// The letters that the IMPLICIT statements of a unit name, in order, with their lines.
+/// The ranges of letters of the IMPLICIT statements of a unit, in order, with their lines.
 pub(crate) fn letter_ranges(alloc: Global, unit: &[Statement]) -> Result<Ranges, AllocError>
     ensures { IfOk result (λ found. found.items ≡ conditions.letter_ranges_of unit.now) }
 {
@@ -54,7 +54,7 @@ pub(crate) fn letter_ranges(alloc: Global, unit: &[Statement]) -> Result<Ranges,
     Ok(found)
 }
 
-// By the first letter of ranges, the greatest last letter.
+// The greatest last letter of the ranges with each first letter.
 type LastLetters = [Option<u8>; 256];
 
 fn reaches(letter: u8, last: Option<u8>) -> bool
@@ -77,7 +77,7 @@ fn is_any_reaching(letter: u8, lasts: &[Option<u8>]) -> bool
     false
 }
 
-// A letter of the range is in one of the others.
+// Whether a letter of the range is in one of the other ranges.
 fn meets(lasts: &LastLetters, range: &LetterRange) -> bool
     ensures { result ≡ passes.meets lasts.now range.now }
 {
@@ -102,7 +102,7 @@ fn note(lasts: &mut LastLetters, range: &LetterRange)
     lasts[first] = later_letter(lasts[first], range.last);
 }
 
-/// The least line of a range with a letter of a range before it.
+/// The least line of a range that has a letter of an earlier range.
 pub(crate) fn least_overlapping(ranges: &[(LetterRange, u32)]) -> Option<u32>
     ensures { result ≡ passes.least_overlapping ranges.now }
 {
@@ -115,7 +115,7 @@ pub(crate) fn least_overlapping(ranges: &[(LetterRange, u32)]) -> Option<u32>
     least
 }
 
-/// Adds each range with a letter of a range before it.
+/// Adds each range that has a letter of an earlier range.
 pub(crate) fn add_overlapping(
     found: &mut Vec<Ambiguity>,
     ranges: &[(LetterRange, u32)],

@@ -1,12 +1,13 @@
-//! How the names of a unit are used: 309, a name stands for two things, or is given something twice
-//! (X3.9-1978, 18.1 and 18.2). The first violation is found, and all that is ambiguous.
+//! Condition 309: a name denotes two things, or is declared twice (X3.9-1978, 18.1 and 18.2).
+//!
+//! [`ambiguous_violation`] and [`ambiguous_unit_violation`] find the first violation, and [`ambiguities`] finds all of them.
 #![tactic(auto)]
 
-pub mod ambiguity;
-pub mod ambiguous;
+pub mod all_ambiguities;
+pub mod ambiguous_names;
 mod letters;
-mod repeated;
+mod repeated_names;
 mod uses;
 
-pub use ambiguity::{Ambiguity, ambiguities};
-pub use ambiguous::{ambiguous_unit_violation, ambiguous_violation};
+pub use all_ambiguities::{Ambiguity, ambiguities};
+pub use ambiguous_names::{ambiguous_unit_violation, ambiguous_violation};

@@ -1,4 +1,4 @@
-//! The names that statements use, by what they use them for (X3.9-1978, 18.1 and 18.2).
+//! The names that statements use, by the way of use (X3.9-1978, 18.1 and 18.2).
 ghost use Rattle.std.specs.Prelude.{◌≡◌, [], ◌++◌, map, option_to_list, IfOk, OnOk};
 ghost use Rattle.std.specs.List.{filter, flat_map};
 ghost use Rattle.hep_source.specs.declared.declaration.CommonBlock.{CommonBlock as PureBlock};
@@ -6,13 +6,13 @@ ghost use Rattle.hep_source.specs.Units as units;
 ghost use Rattle.hep_machine.specs.Declarations as declarations;
 ghost use Rattle.hep_conditions.specs.Names as conditions;
 ghost use Rattle.hep_conditions.specs.Statements as statements;
-ghost use Rattle.hep_conditions.specs.Words.{function_types};
+ghost use Rattle.hep_conditions.specs.Words.{function_types, names_of_lists};
 ghost use Rattle.hep_machine.specs.Words.{is_referenced, names_listed_by};
 ghost use Rattle.hep_names.specs.Lists.{listed};
 ghost use Rattle.hep_uses.specs.Uses as rows;
 ghost use Rattle.hep_uses.specs.Uses.{used_at};
 
-use hep_names::declarators::{block_of, blocks_in};
+use hep_names::declarators::{add_declared, block_of, blocks_in};
 use hep_names::occurrences::{occurrences, occurrences_in_groups};
 use hep_names::{NameWithList, ProgramSymbols, Symbols, is_function_in, names_with_lists};
 use hep_source::{
@@ -24,10 +24,10 @@ use std::alloc::{AllocError, Global};
 /// A name, and the line of the statement that uses it.
 pub(crate) type Use = (Name, u32);
 
-/// What a statement uses a name for.
+/// The way in which a statement uses a name.
 #[derive(Clone, Copy)]
-pub(crate) enum Way {
-    /// The unit that begins with the statement.
+pub(crate) enum UseKind {
+    /// As the name of the unit that begins with the statement.
     Header,
     /// A common block.
     Block,
@@ -41,19 +41,19 @@ pub(crate) enum Way {
     Common,
     /// A named constant.
     Constant,
-    /// What gets a value by DATA.
+    /// A name to which DATA gives a value.
     Data,
-    /// What is assigned.
+    /// A name that is assigned.
     Assigned,
-    /// What is called or created.
+    /// A subroutine that is called or created.
     Called,
-    /// A variable, wherever it stands but for the values of DATA.
+    /// A variable, anywhere except in the values of DATA.
     Variable,
     /// A function, in its own header.
     Result,
-    /// A function of the program that is referred to.
+    /// A function of the program that is referenced.
     Function,
-    /// A function of the program without a list.
+    /// A function of the program that is named without a list.
     Alone,
 }
 
@@ -67,15 +67,6 @@ fn names_of(alloc: Global, occurrences: &[Occurrence]) -> Names
         names.push(occurrence.name)?;
     }
     Ok(names)
-}
-
-fn add_declared(names: &mut Vec<Name>, declarators: &[Declarator]) -> Result<(), AllocError>
-    ensures { OnOk result (names.new.items ≡ names.old.items ++ declarations.names_declared declarators.now) }
-{
-    for declarator in declarators {
-        names.push(declarator.occurrence.name)?;
-    }
-    Ok(())
 }
 
 fn declared(alloc: Global, declarators: &[Declarator]) -> Names
@@ -112,7 +103,7 @@ fn bounded(alloc: Global, declarators: &[Declarator]) -> Names
     Ok(names)
 }
 
-// Most blocks have one entry, for which no vector is made.
+// Most blocks have one entry. For these no vector is made.
 #[tactic(auto, using(crate::proofs::Used::bounded_append))]
 fn bounded_in_blocks(alloc: Global, blocks: &[CommonBlock]) -> Names
     ensures { IfOk result (λ names. names.items ≡ rows.names_bounded (declarations.entries_of_blocks blocks.now)) }
@@ -145,7 +136,7 @@ fn add_if_any(names: &mut Vec<Name>, name: Option<Name>) -> Result<(), AllocErro
     Ok(())
 }
 
-// Blank COMMON has no name.
+// The names of these blocks. Blank COMMON has none.
 fn names_of_blocks(alloc: Global, blocks: &[CommonBlock]) -> Names
     ensures { IfOk result (λ names. names.items
         ≡ flat_map (λ (b : PureBlock). option_to_list (declarations.block_of b)) blocks.now) }
@@ -193,7 +184,7 @@ fn is_variable(program: &ProgramSymbols, symbols: &Symbols, name: &Name) -> bool
     !symbols.is_constant_name(name) && !is_function_in(Some(program), symbols, name)
 }
 
-// Those of these names that are variables'.
+// Those of these names that are variables.
 fn variables_among(
     alloc: Global,
     program: &ProgramSymbols,
@@ -211,7 +202,7 @@ fn variables_among(
     Ok(found)
 }
 
-// Those of these names that the unit refers to as functions, if the program has them.
+// Those of these names that the unit references as functions, if the program has them.
 fn referenced_among(alloc: Global, symbols: &Symbols, names: &[Name]) -> Names
     ensures { IfOk result (λ found. found.items ≡ filter (is_referenced symbols.now) names.now) }
 {
@@ -224,7 +215,7 @@ fn referenced_among(alloc: Global, symbols: &Symbols, names: &[Name]) -> Names
     Ok(found)
 }
 
-// Those of these names that are functions' of the program, and which the unit refers to.
+// Those of these names that are functions of the program which the unit references.
 fn functions_among(
     alloc: Global,
     program: &ProgramSymbols,
@@ -243,7 +234,7 @@ fn functions_among(
 }
 
 fn names_of_lists(alloc: Global, lists: &[NameWithList]) -> Names
-    ensures { IfOk result (λ names. names.items ≡ rows.names_of_lists (map listed lists.now)) }
+    ensures { IfOk result (λ names. names.items ≡ names_of_lists (map listed lists.now)) }
 {
     let mut names = Vec::new(alloc);
     for list in lists {
@@ -266,7 +257,7 @@ fn is_given(groups: &[DataGroup]) -> bool
     !groups.is_empty()
 }
 
-// Where a statement names variables and constants, but for the values of DATA.
+// The occurrences of variables and constants in a statement, without the values of DATA.
 fn occurrences_of_variables(
     alloc: Global,
     symbols: &Symbols,
@@ -282,7 +273,7 @@ fn occurrences_of_variables(
     }
 }
 
-// What a statement names, and what it gives a type where the unit refers to it.
+// The names in a statement, and the names that it gives a type and the unit references as functions.
 fn names_in(alloc: Global, symbols: &Symbols, statement: &Statement) -> Names
     ensures { IfOk result (λ names. names.items ≡ rows.names_in symbols.now statement.now) }
 {
@@ -321,7 +312,7 @@ fn dummies(form: &Form) -> &[Occurrence]
     }
 }
 
-// The header of a function with a type is as a type statement of its name.
+// The names that a statement gives a type. The header of a function with a type counts as a type statement.
 fn typed(alloc: Global, form: &Form) -> Names
     ensures { IfOk result (λ names. names.items ≡ conditions.names_typed form.now) }
 {
@@ -332,7 +323,7 @@ fn typed(alloc: Global, form: &Form) -> Names
     }
 }
 
-/// The name of a function, where its header stands.
+/// The name of a function in its header.
 pub(crate) fn result_name(form: &Form) -> Option<Name>
     ensures { option_to_list result ≡ conditions.names_of_result form.now }
 {
@@ -371,38 +362,38 @@ fn called(form: &Form) -> Option<Name>
     }
 }
 
-// The names that a statement uses so.
+// The names that a statement uses in this way.
 fn names_by(
     alloc: Global,
     program: &ProgramSymbols,
     symbols: &Symbols,
-    way: Way,
+    way: UseKind,
     statement: &Statement,
 ) -> Names
     ensures { IfOk result (λ names. names.items ≡ rows.names_by (function_types program.now) symbols.now way statement.now) }
 {
     let form = &statement.form;
     match way {
-        Way::Header => at_most_one(alloc, header_name(form)),
-        Way::Block => names_of_blocks(alloc, blocks_in(form)),
-        Way::Dummy => names_of(alloc, dummies(form)),
-        Way::Typed => typed(alloc, form),
-        Way::Bounded => all_bounded(alloc, form),
-        Way::Common => entries(alloc, blocks_in(form)),
-        Way::Constant => constants(alloc, constants_in(form)),
-        Way::Data => targets_of_groups(alloc, groups_in(form)),
-        Way::Assigned => at_most_one(alloc, assigned(form)),
-        Way::Called => at_most_one(alloc, called(form)),
-        Way::Variable => {
+        UseKind::Header => at_most_one(alloc, header_name(form)),
+        UseKind::Block => names_of_blocks(alloc, blocks_in(form)),
+        UseKind::Dummy => names_of(alloc, dummies(form)),
+        UseKind::Typed => typed(alloc, form),
+        UseKind::Bounded => all_bounded(alloc, form),
+        UseKind::Common => entries(alloc, blocks_in(form)),
+        UseKind::Constant => constants(alloc, constants_in(form)),
+        UseKind::Data => targets_of_groups(alloc, groups_in(form)),
+        UseKind::Assigned => at_most_one(alloc, assigned(form)),
+        UseKind::Called => at_most_one(alloc, called(form)),
+        UseKind::Variable => {
             let names = names_in(alloc, symbols, statement)?;
             variables_among(alloc, program, symbols, &names)
         }
-        Way::Result => at_most_one(alloc, result_name(form)),
-        Way::Function => {
+        UseKind::Result => at_most_one(alloc, result_name(form)),
+        UseKind::Function => {
             let names = names_listed(alloc, statement)?;
             functions_among(alloc, program, symbols, &names)
         }
-        Way::Alone => {
+        UseKind::Alone => {
             let names = names_of(alloc, &occurrences(alloc, symbols, statement)?)?;
             functions_among(alloc, program, symbols, &names)
         }
@@ -423,7 +414,7 @@ fn add_uses(
     program: &ProgramSymbols,
     uses: &mut Vec<Use>,
     symbols: &Symbols,
-    way: Way,
+    way: UseKind,
 ) -> Result<(), AllocError>
     ensures { OnOk result (uses.new.items ≡ uses.old.items ++ rows.uses_of (function_types program.now) way symbols.now) }
 {
@@ -434,12 +425,12 @@ fn add_uses(
     Ok(())
 }
 
-/// The names that a unit uses so, in the order of its text.
+/// The names that a unit uses in this way, in the order of its text.
 pub(crate) fn uses_of(
     alloc: Global,
     program: &ProgramSymbols,
     symbols: &Symbols,
-    way: Way,
+    way: UseKind,
 ) -> Result<Vec<Use>, AllocError>
     ensures { IfOk result (λ uses. uses.items ≡ rows.uses_of (function_types program.now) way symbols.now) }
 {
@@ -448,11 +439,11 @@ pub(crate) fn uses_of(
     Ok(uses)
 }
 
-/// The names that the units of a program use so.
+/// The names that the units of a program use in this way.
 pub(crate) fn uses_in_program(
     alloc: Global,
     program: &ProgramSymbols,
-    way: Way,
+    way: UseKind,
 ) -> Result<Vec<Use>, AllocError>
     ensures { IfOk result (λ uses. uses.items ≡ flat_map (rows.uses_of (function_types program.now) way) program.now) }
 {

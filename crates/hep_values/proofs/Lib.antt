@@ -1,6 +1,6 @@
 mod Tables
 mod Evaluations
-pub mod GivenInTurn
+pub mod ConstantsInOrder
 mod BoundValues
 pub mod CellCounts
 pub mod Elements

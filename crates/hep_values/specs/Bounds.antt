@@ -3,6 +3,6 @@ use Rattle.std.specs.Prelude.{List, Option}
 use Rattle.hep_machine.specs.Words.{Dimension, Statement, Values, bound_of, lower_value, upper_value}
 use Rattle.hep_machine.specs.declared.shape.Bound.{Bound}
 
--- the bound of one dimension, where it has a value
+-- the bounds of one dimension; none where one has no value
 abbrev pub bound_by : List Statement → Values → Dimension → Option Bound
 bound_by unit values d = bound_of (lower_value unit values d.lower) (upper_value unit values d.upper)

@@ -15,7 +15,7 @@ use hep_names::Symbols;
 use hep_source::{Dimension, Expr, UpperBound, Value};
 use std::alloc::{AllocError, Global};
 
-/// The integers of expressions in a row, by these constants; none where one has no value.
+/// The integer values of a list of expressions, by these constants; none where one has no value.
 ///
 /// # Errors
 ///
@@ -48,7 +48,7 @@ fn as_integer(value: Option<Value>) -> Option<i64>
     }
 }
 
-// A lower bound is 1 where there is none.
+// The value of a lower bound; 1 where none is written.
 fn lower_value(
     alloc: Global,
     symbols: &Symbols,

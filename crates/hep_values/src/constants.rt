@@ -1,4 +1,4 @@
-//! Named constants (X3.9-1978, 8.6): names that were given a value, and names that are doubtful.
+//! Named constants (X3.9-1978, 8.6): names with their values, and sets of names.
 ghost use Rattle.std.specs.Prelude.{◌≡◌, [], ◌∷◌, if◌then◌else◌, is_some, OnOk, Some};
 ghost use Rattle.hep_machine.specs.Words.{is_among, value_among, with_constant};
 
@@ -7,7 +7,7 @@ use indexmap::{IndexMap, IndexSet};
 use std::alloc::{AllocError, Global};
 use std::marker::Model;
 
-/// Names with their values. Contracts see their list, in the order in which they were given.
+/// Constants: names with their values. Contracts see the list of them, in the order in which they were added.
 pub struct Constants {
     values: IndexMap<Name, Value>,
 }
@@ -27,7 +27,7 @@ impl Model for Constants {
 }
 
 impl Constants {
-    /// No constants.
+    /// Makes an empty table of constants.
     pub fn new(alloc: Global) -> Constants
         ensures { result ≡ [] }
     {
@@ -36,7 +36,7 @@ impl Constants {
         }
     }
 
-    /// The value of a name.
+    /// The value of a name, if it is a constant.
     pub fn get(&self, name: &Name) -> Option<Value>
         ensures { result ≡ value_among self.now name.now }
     {
@@ -59,7 +59,7 @@ impl Constants {
     }
 }
 
-/// Names. Contracts see their list, the one that was added last first.
+/// A set of names. Contracts see the list of them, the last one added first.
 pub struct NameSet {
     names: IndexSet<Name>,
 }
@@ -80,7 +80,7 @@ impl Model for NameSet {
 }
 
 impl NameSet {
-    /// No names.
+    /// Makes an empty set.
     pub fn new(alloc: Global) -> NameSet
         ensures { result ≡ [] }
     {
@@ -89,14 +89,14 @@ impl NameSet {
         }
     }
 
-    /// The name is one of them.
+    /// Whether the set has the name.
     pub fn contains(&self, name: &Name) -> bool
         ensures { result ≡ is_among name.now self.now }
     {
         self.names.contains(name)
     }
 
-    /// Adds a name, unless it is one of them.
+    /// Adds a name, unless the set has it.
     ///
     /// # Errors
     ///

@@ -1,4 +1,4 @@
-//! Values of DATA and how often they are given (X3.9-1978, 9.1).
+//! Values of DATA and their repeat counts (X3.9-1978, 9.1).
 ghost use Rattle.std.specs.Prelude.{◌≡◌};
 ghost use Rattle.hep_machine.specs.Words.{value_among};
 ghost use Rattle.hep_machine.specs.Data as machine;
@@ -15,8 +15,8 @@ fn count_by(value: Option<Value>) -> Option<u64>
     }
 }
 
-/// How often a value of DATA is given, by these constants: once without a repeat count (9.1). None where a name has no
-/// value, or one that isn't an integer from 1.
+/// The repeat count of a value of DATA, by these constants: 1 where none is written (9.1). None where a name has no
+/// value, or a value that isn't an integer of at least 1.
 pub fn repeat_of(constants: &Constants, repeat: Option<Repeat>) -> Option<u64>
     ensures { result ≡ machine.repeat_of (value_among constants.now) repeat }
 {

@@ -13,7 +13,7 @@ use Rattle.hep_layout.proofs.Frames.{among, apart-frames}
 use Rattle.hep_layout.proofs.Rows.{owned-by}
 use Rattle.hep_state.specs.Words.{Snapshot, IsAfter}
 use Rattle.hep_views.specs.Nodes.{node_of}
-use Rattle.hep_views.specs.Waited.{unit_among, unit_in_common, unit_in_frame, unit_kept_at, unit_of_block, unit_of_part, unit_under}
+use Rattle.hep_views.specs.SeenWaits.{unit_among, unit_in_common, unit_in_frame, unit_kept_at, unit_of_block, unit_of_part, unit_under}
 use Rattle.hep_views.proofs.Nodes.{framed-at, unheld, unit-at}
 
 -- ---- COMMON

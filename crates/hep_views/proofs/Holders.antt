@@ -9,8 +9,8 @@ use Rattle.hep_arena.specs.Gaps.{frame_among}
 use Rattle.hep_layout.specs.Words.{IsAbove, AreFramed, IsFrameTree, FrameNode, Nodes, activation_under}
 use Rattle.hep_layout.proofs.Frames.{apart-frames}
 use Rattle.hep_views.specs.Nodes.{parent_in}
-use Rattle.hep_views.specs.Sought.{has_among, has_cell, holder_above}
-use Rattle.hep_views.proofs.Above.{above-parent}
+use Rattle.hep_views.specs.CellOwners.{has_among, has_cell, holder_above}
+use Rattle.hep_views.proofs.UpwardOwners.{above-parent}
 
 -- ---- cells of a node
 

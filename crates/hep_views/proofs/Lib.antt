@@ -1,11 +1,11 @@
-pub mod Read
+pub mod ReadContents
 pub mod Nodes
 pub mod Cells
 pub mod Wants
-mod Stopped
+mod StoppedRuns
 mod Waits
-pub mod Views
-pub mod Above
+pub mod StateViews
+pub mod UpwardOwners
 pub mod Holders
 pub mod Places
-pub mod Waiting
+pub mod WaitingPlaces

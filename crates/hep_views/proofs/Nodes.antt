@@ -12,7 +12,7 @@ use Rattle.hep_layout.proofs.FrameTree.{under-parts}
 use Rattle.hep_proc.specs.declared.process.Local.{Local}
 use Rattle.hep_proc.specs.Stacks.{keys_of, Stack}
 use Rattle.hep_state.specs.Words.{Snapshot, IsAfter}
-use Rattle.hep_state.proofs.Standing.{AreStanding, AreStandingBelow, IsHere, stack-standing}
+use Rattle.hep_state.proofs.SettledPositions.{AreStanding, AreStandingBelow, IsHere, stack-standing}
 use Rattle.hep_views.specs.Nodes.{is_of, node_above, node_among, parent_in, node_of}
 use Rattle.hep_arena.specs.Gaps.{frame_among}
 

@@ -5,23 +5,24 @@ use Rattle.slab.specs.Slab.{get}
 use Rattle.hep_machine.specs.Words.{Name, Statement, Units, dummies_of, main_among, unit_at, BlockName, Layout, common_cells, frame_of, is_held, parent_of, unit_of, run, Location, State, common, local}
 use Rattle.hep_machine.proofs.Ages.{run_older}
 use Rattle.hep_conditions.specs.Words.{IsAccepted}
-use Rattle.hep_accepted_laws.proofs.Meant.{dummies_once}
+use Rattle.hep_accepted_laws.proofs.NameMeanings.{dummies_once}
 use Rattle.hep_layout.specs.Words.{IsLaid, address, IsOwnedAbove, FramePart, argument, common_row, frame_row, owner_in, variable, FrameNode, is_stacked}
 use Rattle.hep_layout.proofs.Frames.{among}
 use Rattle.hep_image.specs.Image.{most_cells}
-use Rattle.hep_image.specs.Owners.{AreGivenOnce, IsBlockTold, IsTold}
+use Rattle.hep_image.specs.Owners.{IsBlockTold, IsTold}
 use Rattle.hep_image.proofs.BlockOwners.{tells_block}
 use Rattle.hep_image.proofs.FrameOwners.{tells_argument, tells_variable}
 use Rattle.hep_proc.specs.Nodes.{nodes_of}
 use Rattle.hep_proc.proofs.Slabs.{some-value}
 use Rattle.hep_accepted_laws.proofs.Closed.{units-there}
 use Rattle.hep_state.specs.declared.core_state.CoreState.{CoreState}
-use Rattle.hep_views.specs.Waited.{unit_in_frame, unit_of_block, unit_of_part}
+use Rattle.hep_views.specs.SeenWaits.{unit_in_frame, unit_of_block, unit_of_part}
 use Rattle.hep_views.proofs.Cells.{common-told, frame-told}
 use Rattle.hep_views.specs.declared.place.Place.{Place}
-use Rattle.hep_views.specs.Listed.{block_place, place_of, variable_place}
-use Rattle.hep_views.specs.Sought.{IsSought, holder_above}
+use Rattle.hep_views.specs.ListedProcesses.{block_place, place_of, variable_place}
+use Rattle.hep_views.specs.CellOwners.{IsSought, holder_above}
 use Rattle.hep_views.proofs.Holders.{IsHolder, framed-so, holder-found}
+use Rattle.hep_code.specs.Sources.{IsNamedOnce}
 
 -- ---- COMMON
 
@@ -51,7 +52,7 @@ part-unit a (Some (argument y, zero)) x i e =
 part-unit a _ x i e = absurd (none-some (local a x i) e)
 
 -- the variable that is found by a cell of a frame
-pub variable-told : (a : ℕ) (unit : List Statement) (n : ℕ) (x : Name) (i : ℕ) → AreGivenOnce (dummies_of unit)
+pub variable-told : (a : ℕ) (unit : List Statement) (n : ℕ) (x : Name) (i : ℕ) → IsNamedOnce (dummies_of unit)
     → unit_in_frame a unit n ≡ Some (local a x i) → (j : ℕ) × (i ≡ suc j) × IsTold unit n x j
 variable-told a unit n x i once e =
     let p = part-unit a (owner_in (frame_row unit) n) x i e in

@@ -10,8 +10,8 @@ use Rattle.hep_image.specs.declared.array.Array.{Array}
 use Rattle.hep_step.specs.Effects.{effect_ahead, effect_at, Effect, effect_of, fails, moves, prints, answers, returns, stops, left_out, waits}
 use Rattle.hep_step.specs.Simulation.{unit_addressed, unit_code, IsNotLeftOut, IsRunning, RunningTop, Simulates, arrays_running, code_running, is_left_out, unit_arrays}
 use Rattle.hep_state.specs.Words.{HasLevels, IsEffectOf, IsSettled, IsTopRunning, Shows, Snapshot, IsTurning, TurnOf, state_before, top_frame, turn_settled, turn_with, IsAbsent, IsAfter, running_top}
-use Rattle.hep_code.proofs.Ahead.{drop_one_more, pushed}
-use Rattle.hep_views.specs.Waited.{effect_behind, wanted_by_levels, wanted_by_stack, wanted_for, wanted_on, wanted_seen}
+use Rattle.hep_code.proofs.NextOperation.{drop_one_more, pushed}
+use Rattle.hep_views.specs.SeenWaits.{effect_behind, wanted_by_levels, wanted_by_stack, wanted_for, wanted_on, wanted_seen}
 use Rattle.std.specs.Option.{option_map}
 use Rattle.hep_machine.specs.State.{Level as SourceLevel}
 use Rattle.hep_machine.specs.Step.{wanted_of}
@@ -20,9 +20,9 @@ use Rattle.hep_code.specs.declared.instruction.Operation.TheVariants.{Call, Crea
 use Rattle.hep_layout.specs.Words.{address}
 use Rattle.hep_proc.specs.declared.process.Local.{Local}
 use Rattle.hep_proc.specs.Stacks.{Stack}
-use Rattle.hep_state.proofs.Moved.{unit-is}
+use Rattle.hep_state.proofs.SilentTurns.{unit-is}
 use Rattle.hep_views.proofs.Cells.{kept-told}
-use Rattle.hep_views.proofs.Stopped.{going_again, seen-halted, shown-going, stop-of}
+use Rattle.hep_views.proofs.StoppedRuns.{going_again, seen-halted, shown-going, stop-of}
 use Rattle.hep_views.proofs.Wants.{absent-waits-not, left-out-waits-not, wanted-halted}
 
 first-there : {A : Type 0} (xs : List A) (n : ℕ) (x : A) → slice_get xs n ≡ Some x → (rest : List A) × (drop n xs ≡ x ∷ rest)

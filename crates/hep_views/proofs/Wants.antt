@@ -10,7 +10,7 @@ use Rattle.hep_code.specs.declared.instruction.Instruction.TheVariants.{Step}
 use Rattle.hep_code.specs.declared.instruction.Operation.{Operation}
 use Rattle.hep_code.specs.Words.{IsNext, AddressedUnit}
 use Rattle.hep_step.specs.Simulation.{IsRunning, RunningTop, addressed_on_top, code_ahead, is_left_out, step_result_running}
-use Rattle.hep_step.proofs.Running.{coming, next_is, scope_running, step_is}
+use Rattle.hep_step.proofs.RunningActivations.{coming, next_is, scope_running, step_is}
 use Rattle.hep_machine.proofs.Changes.{Makes, by_step, next_on, top_in}
 
 -- ---- what is waited for, by the parts

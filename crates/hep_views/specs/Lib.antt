@@ -1,7 +1,7 @@
-pub mod Reading
+pub mod StoredContents
 pub mod Nodes
-pub mod Waited
-pub mod Seen
-pub mod Sought
-pub mod Listed
-pub mod Standing
+pub mod SeenWaits
+pub mod MachineViews
+pub mod CellOwners
+pub mod ListedProcesses
+pub mod ProcessPositions

@@ -14,7 +14,7 @@ abbrev pub parent_in : Option FrameNode → Option ℕ
 parent_in None = None
 parent_in (Some n) = n.parent
 
--- the node of activation a, if it is among that under a key, its parent's, and so on, so many at most
+-- the node of activation a, if it is among that under a key, its parent's, and so on, a number of nodes at most
 abbrev pub node_above : Nodes → ℕ → ℕ → ℕ → Option FrameNode
 node_above nodes a zero key = None
 node_above nodes a (suc n) key = if is_of a (nodes key) then nodes key else option_map_or (node_above nodes a n) (parent_in (nodes key)) None

@@ -1,4 +1,4 @@
-//! Laws of what is seen: it is what is seen of the source machine's state.
+//! Laws of views: the view of a machine is that of the source machine's state.
 ghost use Rattle.std.specs.Prelude.{◌≡◌, ◌≤◌, ◌<◌, ◌+◌, ◌-◌, ℕ, true, List, Some, is_some};
 ghost use Rattle.hep_machine.specs.Words.{Name, Units, main_among, unit_at, BlockName, Frame, Layout, common_cells, frame_of, is_held};
 ghost use Rattle.hep_machine.specs.Words.{unit_of, run, Location, State, common, local, wanted_by, view_of};
@@ -6,15 +6,15 @@ ghost use Rattle.hep_arena.specs.Gaps.{frame_among};
 ghost use Rattle.hep_conditions.specs.Words.{IsAccepted};
 ghost use Rattle.hep_layout.specs.Words.{address};
 ghost use Rattle.hep_state.specs.Words.{Snapshot, IsAfter};
-ghost use Rattle.hep_views.specs.Seen.{machine_view};
-ghost use Rattle.hep_views.specs.Waited.{unit_in_common, unit_in_frame, unit_kept_at, wanted_seen};
+ghost use Rattle.hep_views.specs.MachineViews.{machine_view};
+ghost use Rattle.hep_views.specs.SeenWaits.{unit_in_common, unit_in_frame, unit_kept_at, wanted_seen};
 
 use hep_state::{
     activations_are_bound_in_runs, calls_agree_in_runs, laws, operations_do_what_the_machine_does,
     programs_are_closed, units_are_there,
 };
 
-/// From the cell in which a storage unit is kept the unit is found again.
+/// The cell of a storage unit determines the unit.
 pub fn cells_tell_their_units()
     ensures common { (program : Units) (s : State) (layout : Layout) (b : BlockName) (i c : ℕ)
         → address program s layout (common b i) ≡ Some c → (c < common_cells program) × (unit_in_common program c ≡ Some (common b i)) }
@@ -26,7 +26,8 @@ pub fn cells_tell_their_units()
         → unit_kept_at program m c ≡ Some at }
 {}
 
-/// What each process is seen to wait for is what the source machine's process waits for, whether the processes were stopped or not.
+/// What the view says each process waits for is what the source machine's process waits for, whether a STOP was
+/// executed or not.
 pub fn waits_are_seen()
     ensures { (program : Units) (cells : ℕ) (choices : List ℕ) (m : Snapshot) (p : ℕ) → IsAccepted program
         → is_some (main_among program) ≡ true → IsAfter program cells choices m
@@ -38,7 +39,7 @@ pub fn waits_are_seen()
     operations_do_what_the_machine_does();
 }
 
-/// What is seen of a machine is what is seen of the state that it keeps, however many activations were made, in a run of an
+/// The view of a machine is that of the state that it keeps, however many activations were made, in a run of an
 /// accepted program with a main program.
 pub fn views_are_of_states()
     ensures { (program : Units) (cells : ℕ) (choices : List ℕ) (m : Snapshot) → IsAccepted program → is_some (main_among program) ≡ true

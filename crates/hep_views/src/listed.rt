@@ -1,14 +1,15 @@
 //! Processes that wait.
 
-/// A process that waits, where, and for what. `Image::name` of hep_image tells the names of these numbers.
+/// A waiting process: where it is, and what it waits for. `Image::name` of hep_image gives the names of these
+/// numbers.
 #[derive(Clone, Copy, PartialEq, Eq)]
 pub struct Listed {
     pub process: u64,
-    /// The number of the unit, which is that of its name: its index in the source, counted from 0.
+    /// The number of the unit's name, which is its index in the source, counted from 0.
     pub unit: u32,
     /// The initial line of the statement, counted from 1.
     pub line: u32,
-    /// Whether it waits until the place is full, or else until it is empty.
+    /// True where it waits until the place is full, false where it waits until it is empty.
     pub full: bool,
     /// The activation whose variable it waits for, counted from 1; 0 where it waits for a position of a common block.
     pub owner: u64,

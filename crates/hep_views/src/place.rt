@@ -1,4 +1,4 @@
-//! Where storage units are, as a person names them.
+//! The names of storage units.
 
 /// A variable of an activation or its element, or a position of a common block.
 #[derive(Clone, Copy, PartialEq, Eq)]

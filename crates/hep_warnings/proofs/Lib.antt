@@ -1,7 +1,7 @@
-pub mod Taken
+pub mod TakenWarnings
 pub mod Sets
 pub mod Merging
 pub mod Appending
-pub mod Noted
+pub mod NamesByLine
 pub mod Between
 pub mod Ordered

@@ -3,21 +3,21 @@ use Rattle.std.proofs.Common.{ℕ, ◌+◌, ◌≤◌, Bool, true, false, nat_eq
 use Rattle.hep_text.specs.Line.{lines}
 use Rattle.hep_machine.specs.Words.{Form, Name, Statement, Tree, Units, occurrence, with_names}
 use Rattle.hep_source.specs.declared.statement.Form.TheVariants as form
-use Rattle.hep_warnings.specs.declared.creates.Loop.{Loop}
-use Rattle.hep_warnings.specs.declared.standing.Standing.{Standing}
-use Rattle.hep_warnings.specs.declared.warning.Kind.{Kind}
-use Rattle.hep_warnings.specs.Behind.{behind_warnings, line_warnings, warnings_from}
-use Rattle.hep_warnings.specs.Creates.{actual_warnings, create_warnings_by, create_warnings_from, create_warnings_in, loops_behind}
-use Rattle.hep_warnings.specs.Labels.{label_warning, unused_at, unused_in}
+use Rattle.hep_warnings.specs.declared.created_with_loop_variable.EnclosingLoop.{EnclosingLoop}
+use Rattle.hep_warnings.specs.declared.occurrences.FirstOccurrence.{FirstOccurrence}
+use Rattle.hep_warnings.specs.declared.warning.WarningKind.{WarningKind}
+use Rattle.hep_warnings.specs.PastColumn72.{behind_warnings, line_warnings, warnings_from}
+use Rattle.hep_warnings.specs.CreatedWithLoopVariable.{actual_warnings, create_warnings_by, create_warnings_from, create_warnings_in, loops_behind}
+use Rattle.hep_warnings.specs.UnusedLabels.{label_warning, unused_at, unused_in}
 use Rattle.hep_warnings.specs.Lines.{Warnings, when}
-use Rattle.hep_warnings.specs.Names.{kind_of, name_warning, name_warnings_by, name_warnings_in, said, warning_at}
-use Rattle.hep_warnings.specs.Once.{names_in, standing}
+use Rattle.hep_warnings.specs.UnusedNames.{kind_of, name_warning, name_warnings_by, name_warnings_in, said, warning_at}
+use Rattle.hep_warnings.specs.SingleOccurrences.{names_in, standing}
 use Rattle.hep_warnings.specs.Order.{lines_in, lines_of_program, lines_of_warnings, Rise}
-use Rattle.hep_warnings.specs.Units.{header_warning, names_used, unit_warning}
+use Rattle.hep_warnings.specs.UnusedUnits.{header_warning, names_used, unit_warning}
 use Rattle.hep_warnings.specs.Warnings.{warnings}
 use Rattle.hep_warnings.proofs.Between.{AreOf, at_line, Between, both, from_below, merging, of_all, of_statements, of_units, rising, RiseTo, spans_lines, units_rise, units_to, UnitsRise}
 
-of_when : (b : Bool) (n : ℕ) (k : Kind) → AreOf n (when b n k)
+of_when : (b : Bool) (n : ℕ) (k : WarningKind) → AreOf n (when b n k)
 of_when true n k = (refl, tt)
 of_when false n k = tt
 
@@ -32,19 +32,19 @@ of_header used n (form.Subroutine p ds) = of_when _ n _
 of_header used n (form.Function t p ds) = of_when _ n _
 of_header used n _ = tt
 
-of_actual : (around : List Loop) (n : ℕ) (x : Name) (t : Tree) → AreOf n (actual_warnings around n x t)
+of_actual : (around : List EnclosingLoop) (n : ℕ) (x : Name) (t : Tree) → AreOf n (actual_warnings around n x t)
 of_actual around n x (occurrence p) = of_when _ n _
 of_actual around n x _ = tt
 
-of_create : (around : List Loop) (n : ℕ) (f : Form) → AreOf n (create_warnings_by around n f)
+of_create : (around : List EnclosingLoop) (n : ℕ) (f : Form) → AreOf n (create_warnings_by around n f)
 of_create around n (form.Create p ts) = of_all n (actual_warnings around n p.name) (of_actual around n p.name) ts
 of_create around n _ = tt
 
-of_said : (n : ℕ) (k : Option Kind) → AreOf n (said n k)
+of_said : (n : ℕ) (k : Option WarningKind) → AreOf n (said n k)
 of_said n None = tt
 of_said n (Some k) = (refl, tt)
 
-of_name : (unit : List Statement) (n : ℕ) (x : Name) (s : Option Standing) → AreOf n (warning_at unit n x s)
+of_name : (unit : List Statement) (n : ℕ) (x : Name) (s : Option FirstOccurrence) → AreOf n (warning_at unit n x s)
 of_name unit n x None = tt
 of_name unit n x (Some s) = by (nat_eq s.line n)
   where
@@ -62,7 +62,7 @@ unit_between used m e (s ∷ ss) r = wider m s.line e (header_warning used s.lin
     wider m n e [] b h = omega (arith, b, h)
     wider m n e (w ∷ ws) b h = (h.0, wider w.line n e ws b h.1)
 
-creates_between : (around : List Loop) (m e : ℕ) (ss : List Statement) → RiseTo m e (lines_in ss) → Between m e (create_warnings_from around ss)
+creates_between : (around : List EnclosingLoop) (m e : ℕ) (ss : List Statement) → RiseTo m e (lines_in ss) → Between m e (create_warnings_from around ss)
 creates_between around m e [] r = r
 creates_between around m e (s ∷ ss) r =
     both m s.line e (create_warnings_by around s.line s.form) (create_warnings_from (loops_behind around s) ss)

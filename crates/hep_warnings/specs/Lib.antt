@@ -1,11 +1,11 @@
 pub mod Lines
 pub mod Merge
 pub mod Order
-pub mod Behind
-pub mod Labels
-pub mod Units
-pub mod Creates
-pub mod Once
+pub mod PastColumn72
+pub mod UnusedLabels
+pub mod UnusedUnits
+pub mod CreatedWithLoopVariable
+pub mod SingleOccurrences
 pub mod Asynchronous
-pub mod Names
+pub mod UnusedNames
 pub mod Warnings

@@ -3,19 +3,19 @@ use Rattle.std.specs.Prelude.{ℕ, Bool, if◌then◌else◌, List, [], ◌∷�
 use Rattle.std.specs.Fmt.{decimal}
 use Rattle.std.specs.List.{flat_map}
 use Rattle.hep_machine.specs.Words.{spelling}
-use Rattle.hep_warnings.specs.declared.warning.Kind.{Kind}
-use Rattle.hep_warnings.specs.declared.warning.Kind.TheVariants as kind
+use Rattle.hep_warnings.specs.declared.warning.WarningKind.{WarningKind}
+use Rattle.hep_warnings.specs.declared.warning.WarningKind.TheVariants as kind
 use Rattle.hep_warnings.specs.declared.warning.Warning.{Warning}
 
 abbrev pub Warnings : Type 0
 Warnings = List Warning
 
--- a warning of this line, where the test is true
-abbrev pub when : Bool → ℕ → Kind → Warnings
+-- a warning at this line where the test is true, and else none
+abbrev pub when : Bool → ℕ → WarningKind → Warnings
 when b line k = if b then record { line = line; kind = k } ∷ [] else []
 
--- what is said of a line
-abbrev pub kind_text : Kind → List ℕ
+-- the text of a kind of warning
+abbrev pub kind_text : WarningKind → List ℕ
 kind_text kind.Behind = codes "BEHIND COLUMN 72"
 kind_text (kind.Label l) = codes "LABEL " ++ decimal l ++ codes " UNUSED"
 kind_text (kind.Unit x) = codes "UNIT " ++ spelling x ++ codes " UNUSED"

@@ -1,11 +1,11 @@
--- Lines that stand in their order.
+-- Lists of lines in rising order.
 use Rattle.std.specs.Prelude.{ℕ, ◌≤◌, List, [], ◌∷◌, map}
 use Rattle.std.specs.List.{flat_map}
 use Rattle.hep_machine.specs.Words.{Statement, Units}
 use Rattle.hep_warnings.specs.declared.warning.Warning.{Warning}
 use Rattle.hep_warnings.specs.Lines.{Warnings}
 
--- none of these is below one before it, or below the first number
+-- The numbers don't decrease, and none is below m.
 abbrev pub Rise : ℕ → List ℕ → Type 0
 Rise m [] = Unit {0}
 Rise m (n ∷ ns) = (m ≤ n) × Rise n ns

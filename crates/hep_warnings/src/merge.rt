@@ -1,4 +1,4 @@
-//! Warnings of several kinds, by their lines.
+//! Merging of lists of warnings by their lines.
 ghost use Rattle.std.specs.Prelude.{◌≡◌, ◌<◌, ◌≤◌, ◌++◌, ◌∷◌, [], drop, length, take, IfOk, IfSome, OnOk};
 ghost use Rattle.std.specs.List.{position};
 ghost use Rattle.hep_warnings.specs.Merge as merge;
@@ -6,7 +6,7 @@ ghost use Rattle.hep_warnings.specs.Merge as merge;
 use crate::warning::Warning;
 use std::alloc::{AllocError, Global};
 
-// The index of the first warning that is of this line or one behind it.
+// The index of the first warning at this line or a later one.
 fn first_from(warnings: &[Warning], line: u32) -> Option<usize>
     ensures first { result ≡ position (merge.is_from line) warnings.now }
     ensures within { IfSome result (λ index. index < length warnings.now) }
@@ -14,7 +14,7 @@ fn first_from(warnings: &[Warning], line: u32) -> Option<usize>
     warnings.iter().position(|warning| line <= warning.line)
 }
 
-// How many of these warnings stand before it.
+// The number of warnings before the first one at this line or a later one.
 fn count_before(warnings: &[Warning], line: u32) -> usize
     ensures count { result ≡ merge.count_before line warnings.now }
     ensures within { result ≤ length warnings.now }
@@ -22,7 +22,7 @@ fn count_before(warnings: &[Warning], line: u32) -> usize
     first_from(warnings, line).unwrap_or(warnings.len())
 }
 
-// Adds those of other warnings that are of lines before a warning, and then it; gives the others that are left.
+// Adds the other warnings at lines before that of a warning, and then the warning. The result is the rest of the other warnings.
 fn add_after<'a>(
     all: &mut Vec<Warning>,
     others: &'a [Warning],
@@ -38,7 +38,7 @@ fn add_after<'a>(
     Ok(&others[count..])
 }
 
-/// The warnings of two lists, each of them in the order of its lines; of one line those of the first list come first.
+/// Merges two lists of warnings, each in the order of its lines. At the same line the warnings of the first list come first.
 ///
 /// # Errors
 ///

@@ -1,4 +1,4 @@
-//! A warning and its line of text.
+//! Warnings and their lines of text.
 ghost use Rattle.std.specs.Prelude.{◌≡◌, ◌++◌, codes, IfOk, OnOk};
 ghost use Rattle.std.specs.Fmt.{decimal};
 ghost use Rattle.std.specs.List.{flat_map};
@@ -10,30 +10,30 @@ use hep_source::Name;
 use itoa::Buffer;
 use std::alloc::{AllocError, Global};
 
-/// What a warning says of its line.
+/// The kind of a warning.
 #[derive(Clone, Copy)]
-pub enum Kind {
-    /// Something stands behind column 72, which doesn't count.
+pub enum WarningKind {
+    /// The line has a character after column 72, which doesn't count.
     Behind,
     /// No statement of the unit uses this label.
     Label(u32),
-    /// No statement of the program calls, creates or refers to this subroutine or function.
+    /// No statement of another unit calls, creates or references this subroutine or function.
     Unit(Name),
-    /// This subroutine is created, and gets the variable of a DO that the statement is in.
+    /// This subroutine is created within the range of a DO, and gets the variable of that DO.
     Create(Name, Name),
-    /// The unit has this name once: it may be misspelled.
+    /// This name occurs once in the unit: it may be misspelled.
     Once(Name),
-    /// Nothing of the unit fills this variable, and it is passed to nothing that might.
+    /// No statement of the unit fills this variable or passes it to a unit that may fill it.
     NeverFilled(Name),
-    /// The unit fills this variable, and nothing reads it or looks at its state.
+    /// The unit fills this variable, but no statement reads it or tests its state.
     NeverRead(Name),
 }
 
-/// A warning: a line of the source, counted from 1, and what is said of it.
+/// A warning: a line of the source, counted from 1, and the kind of warning.
 #[derive(Clone, Copy)]
 pub struct Warning {
     pub line: u32,
-    pub kind: Kind,
+    pub kind: WarningKind,
 }
 
 // Appends a number.
@@ -67,7 +67,7 @@ fn append_name(text: &mut Vec<u8>, name: &Name) -> Result<(), AllocError>
     append_letters(text, &name.letters)
 }
 
-// Appends a name with what stands before it and behind it.
+// Appends a name with a text before it and a text after it.
 fn append_about(
     text: &mut Vec<u8>,
     before: &[u8],
@@ -82,7 +82,7 @@ fn append_about(
     Ok(())
 }
 
-// Appends what is said of a label.
+// Appends the text of an unused label.
 fn append_label(text: &mut Vec<u8>, label: u32) -> Result<(), AllocError>
     ensures { OnOk result (text.new.items ≡ text.old.items ++ (codes "LABEL " ++ decimal label ++ codes " UNUSED")) }
 {
@@ -92,24 +92,24 @@ fn append_label(text: &mut Vec<u8>, label: u32) -> Result<(), AllocError>
     Ok(())
 }
 
-// Appends what is said.
-fn append_kind(text: &mut Vec<u8>, kind: &Kind) -> Result<(), AllocError>
+// Appends the text of a kind of warning.
+fn append_kind(text: &mut Vec<u8>, kind: &WarningKind) -> Result<(), AllocError>
     ensures { OnOk result (text.new.items ≡ text.old.items ++ lines.kind_text kind.now) }
 {
     match kind {
-        Kind::Behind => {
+        WarningKind::Behind => {
             text.extend_from_slice(b"BEHIND COLUMN 72")?;
             Ok(())
         }
-        Kind::Label(label) => append_label(text, *label),
-        Kind::Unit(name) => append_about(text, b"UNIT ", name, b" UNUSED"),
-        Kind::Create(subroutine, variable) => {
+        WarningKind::Label(label) => append_label(text, *label),
+        WarningKind::Unit(name) => append_about(text, b"UNIT ", name, b" UNUSED"),
+        WarningKind::Create(subroutine, variable) => {
             append_about(text, b"CREATE ", subroutine, b" PASSES ")?;
             append_about(text, b"", variable, b" OF A DO")
         }
-        Kind::Once(name) => append_about(text, b"NAME ", name, b" USED ONCE"),
-        Kind::NeverFilled(name) => append_about(text, b"NAME ", name, b" NEVER FILLED"),
-        Kind::NeverRead(name) => append_about(text, b"NAME ", name, b" NEVER READ"),
+        WarningKind::Once(name) => append_about(text, b"NAME ", name, b" USED ONCE"),
+        WarningKind::NeverFilled(name) => append_about(text, b"NAME ", name, b" NEVER FILLED"),
+        WarningKind::NeverRead(name) => append_about(text, b"NAME ", name, b" NEVER READ"),
     }
 }
 

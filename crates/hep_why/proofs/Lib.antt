@@ -1,20 +1,20 @@
-mod Leading
-mod Listing
+mod CycleLinks
+mod CycleLists
 pub mod WaitNames
-mod Processes
-mod Rising
-mod Telling
-mod Rotating
-mod Walking
-mod Kept
-pub mod Along
-mod Looks
-mod Watched
-pub mod Found
-pub mod Beginning
-mod Quiet
-mod Moved
-pub mod Turning
-mod Remade
-mod Begun
-mod Naming
+mod ProcessCycles
+mod OrderedReasons
+mod ReasonLines
+mod RotatedCycles
+mod CycleWalks
+mod KeptUnits
+pub mod WatchedTurns
+mod WatchUpdates
+mod ListedWatches
+pub mod FoundReasons
+pub mod OpenedCores
+mod SilentTurns
+mod TurnRows
+pub mod MachineTurns
+mod RemadeTurns
+mod OpenedMachines
+mod NextNames

@@ -1,27 +1,20 @@
 -- What a process waits for has a name in its unit.
-use Rattle.std.proofs.Common.{◌≡◌, ℕ, Bool, true, false, [], ◌∷◌, Option, Some, None, Result, Ok, Err, refl, sym, ap, ◌∙◌, append-nil, if◌then◌else◌}
+use Rattle.std.proofs.Common.{◌≡◌, ℕ, Bool, true, false, [], ◌∷◌, Option, Some, None, Result, Ok, Err, refl, sym, ap, ◌∙◌, append-nil}
 use Rattle.std.specs.List.{flat_map}
 use Rattle.std.proofs.lemmas.Option.{none-some, same_Some}
-use Rattle.hep_blocked.specs.Needs.{if_so, is_met, named_location, need_of, need_of_next, need_of_test, on_top, unmet, wanted_at}
+use Rattle.hep_blocked.specs.Needs.{if_so, named_location, need_of, need_of_next, need_of_test, on_top, wanted_at}
 use Rattle.hep_blocked.proofs.Waiting.{waits-unmet}
 use Rattle.hep_machine.specs.declared.event.Kind.{Kind}
 use Rattle.hep_machine.specs.Evaluation.{reading}
-use Rattle.hep_machine.specs.Words.{Level, Location, Next, Process, Redex, Reference, State, StateFunction, Store, Top, Units, Wanted, assigning, does, evaluating, living, location_of_name, next_of, scope_of, spelling, testing, unit_at, unit_of, wanted_by, wants}
+use Rattle.hep_machine.specs.Words.{Level, Location, Next, Process, Redex, Reference, State, StateFunction, Top, Units, Wanted, assigning, does, evaluating, living, location_of_name, next_of, scope_of, spelling, testing, unit_at, unit_of, wanted_by, wants}
 use Rattle.hep_source.specs.declared.function.StateFunction.TheVariants.{IsFull, IsEmpty, ValueOf, SetEmpty, WaitFull}
-use Rattle.hep_event.specs.Cells.{references_of}
-use Rattle.hep_event.specs.Deeds.{own_reference}
-use Rattle.hep_event.specs.Lines.{reference_text}
-use Rattle.hep_why.specs.Called.{IsNameOf, called_by, called_with}
+use Rattle.hep_event.specs.AccessedNames.{references_of}
+use Rattle.hep_event.specs.StepTexts.{own_reference}
+use Rattle.hep_event.specs.LineTexts.{reference_text}
+use Rattle.hep_why.specs.WaitNames.{IsNameOf, called_by, called_with}
+use Rattle.hep_blocked.proofs.NeededCells.{unmet-needed}
 
 -- ---- what is needed has a location
-
-unmet-needed : (o : Option Wanted) (store : Store) (w : Wanted) → unmet o store ≡ Some w → o ≡ Some w
-unmet-needed None store w e = absurd (none-some w e)
-unmet-needed (Some v) store w e = by (is_met v store) e
-  where
-    by : (b : Bool) → (if b then None else Some v) ≡ Some w → ◌≡◌ {A = Option Wanted} (Some v) (Some w)
-    by true e = absurd (none-some w e)
-    by false e = e
 
 at-location : (full : Bool) (r : Result Location Kind) (w : Wanted) → wanted_at full (named_location r) ≡ Some w → r ≡ Ok w.at
 at-location full (Err k) w e = absurd (none-some w e)

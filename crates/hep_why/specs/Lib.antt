@@ -1,11 +1,12 @@
+pub use Rattle.hep_event.specs.Traces as EventTraces
 pub use Rattle.hep_replay.specs.Replays
 pub use Rattle.hep_replay.specs.Progress
-pub mod Called
-pub mod Changes
-pub mod Circles
+pub mod WaitNames
+pub mod LatestChanges
+pub mod WaitCycles
 pub mod Lines
-pub mod Notes
+pub mod CycleMarks
 pub mod Reasons
-pub mod Rounds
+pub mod CycleLaws
 pub mod Watches
-pub mod Making
+pub mod WatchedReplay

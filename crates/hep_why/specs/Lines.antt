@@ -1,13 +1,13 @@
--- The lines of processes that wait and why: docs/RUNS.md, "Why processes wait".
+-- The lines of waiting processes, with the reasons: docs/RUNS.md, "Why processes wait".
 use Rattle.std.specs.Prelude.{ℕ, Bool, true, false, List, [], ◌∷◌, ◌++◌, codes, is_some, Option, Some, None, slice_get}
 use Rattle.std.specs.Fmt.{decimal}
 use Rattle.std.specs.List.{flat_map}
 use Rattle.hep_machine.specs.Words.{Units}
 use Rattle.hep_image.specs.Names.{names_in_order}
-use Rattle.hep_text.specs.Shown.{words_text}
+use Rattle.hep_text.specs.LineDisplay.{words_text}
 use Rattle.hep_event.specs.Names.{name_found}
 use Rattle.hep_event.specs.Waiting.{listed_text}
-use Rattle.hep_why.specs.Circles.{circles_among, next_of}
+use Rattle.hep_why.specs.WaitCycles.{circles_among, next_of}
 use Rattle.hep_why.specs.declared.reason.Change.{Change}
 use Rattle.hep_why.specs.declared.reason.Reason.{Reason}
 
@@ -17,36 +17,36 @@ use Rattle.hep_why.specs.declared.reason.Reason.{Reason}
 abbrev pub maker_waits : List Reason → Reason → Bool
 maker_waits reasons r = is_some (next_of reasons r)
 
--- what has come of a process: it waits, or lives, or has ended
+-- what has become of a process: it waits, or lives, or has ended
 abbrev pub fate_text : Bool → Bool → List ℕ
 fate_text true lives = codes "waits"
 fate_text false true = codes "lives"
 fate_text false false = codes "has ended"
 
--- what is waited for to be full was emptied last, and else filled
+-- what a process waits for to be full was emptied last; otherwise it was filled
 abbrev pub deed_text : Bool → List ℕ
 deed_text true = codes "emptied"
 deed_text false = codes "filled"
 
--- what was changed, where its process was, in a unit of this name, and by which entry it is told
+-- what was changed, the place of its process, in a unit of this name, and the number of the entry
 abbrev pub step_words : List ℕ → List ℕ → ℕ → ℕ → List ℕ
 step_words called unit line entry = codes " " ++ called ++ codes " at " ++ unit ++ codes " LINE " ++ decimal line ++ codes " in entry " ++ decimal entry
 
--- who did it, of whom this has come; it is waited for what was changed to be full, or to be empty
+-- the process that made the change, what has become of it, and whether its storage unit is waited for to be full
 abbrev pub maker_words : ℕ → List ℕ → Bool → List ℕ
 maker_words process fate full = codes "process " ++ decimal process ++ codes ", which " ++ fate ++ codes ", " ++ deed_text full
 
--- units have these names by number
+-- these are the names by their numbers
 abbrev pub change_words : List (List ℕ) → Bool → List ℕ → List ℕ → Change → List ℕ
 change_words names full called fate c =
     maker_words c.place.process fate full ++ step_words called (name_found (slice_get names c.place.unit)) c.place.line c.entry
 
--- of whom this has come, if it was somebody
+-- the words for the latest change, if there was one
 abbrev pub latest_words : List (List ℕ) → Bool → List ℕ → List ℕ → Option Change → List ℕ
 latest_words names full called fate None = codes "nobody has filled or emptied " ++ called
 latest_words names full called fate (Some c) = change_words names full called fate c
 
--- the lines of one of those that wait, where the process that made the change waits or doesn't
+-- the lines of a waiting process; the process that made the change waits itself, or doesn't
 abbrev pub reason_lines : Units → Reason → Bool → List ℕ
 reason_lines program r waits =
     listed_text (names_in_order program) r.listed
@@ -55,7 +55,7 @@ reason_lines program r waits =
 abbrev pub reason_text : Units → List Reason → Reason → List ℕ
 reason_text program reasons r = reason_lines program r (maker_waits reasons r)
 
--- ---- circles
+-- ---- cycles
 
 abbrev pub member_text : ℕ → List ℕ
 member_text p = codes " " ++ decimal p ++ codes ","
@@ -66,7 +66,7 @@ front_text p = codes "CIRCLE " ++ decimal p ++ codes " WAITS FOR WHAT WAS CHANGE
 abbrev pub end_text : ℕ → List ℕ
 end_text p = codes " " ++ decimal p ++ codes "\n"
 
--- the first process, those behind it, and the first one again
+-- the first process, those after it, and the first one again
 abbrev pub circle_text : List ℕ → List ℕ
 circle_text [] = []
 circle_text (p ∷ ps) = front_text p ++ flat_map member_text ps ++ end_text p

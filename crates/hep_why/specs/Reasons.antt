@@ -3,11 +3,11 @@ use Rattle.std.specs.Prelude.{ℕ, zero, suc, Bool, false, List, [], ◌∷◌, 
 use Rattle.std.specs.Option.{option_map_or}
 use Rattle.hep_machine.specs.declared.event.Entry.{Entry}
 use Rattle.hep_machine.specs.Words.{State, Units, Wanted, living, state_after, wanted_by}
-use Rattle.hep_event.specs.Value.{listed_after}
-use Rattle.hep_state_text.specs.Lines.{head_text}
+use Rattle.hep_event.specs.CoreValues.{listed_after}
+use Rattle.hep_event.specs.StateTextLines.{head_text}
 use Rattle.hep_views.specs.declared.listed.Listed.{Listed}
-use Rattle.hep_why.specs.Called.{called_by}
-use Rattle.hep_why.specs.Changes.{latest_change}
+use Rattle.hep_why.specs.WaitNames.{called_by}
+use Rattle.hep_why.specs.LatestChanges.{latest_change}
 use Rattle.hep_why.specs.Lines.{reasons_text}
 use Rattle.hep_why.specs.declared.reason.Change.{Change}
 use Rattle.hep_why.specs.declared.reason.Reason.{Reason}
@@ -16,7 +16,7 @@ use Rattle.hep_why.specs.declared.reason.Reason.{Reason}
 abbrev pub maker_lives : State → Option Change → Bool
 maker_lives s latest = option_map_or (λ (c : Change). is_some (living s c.place.process)) latest false
 
--- a process that is listed, after a state, with what its unit calls what it waits for, and the latest change of that
+-- a listed process, after a state, with its unit's name for what it waits for, and the latest change of that
 abbrev pub reason_with : Units → State → Listed → Option Change → Reason
 reason_with program s l latest = record { listed = l; called = called_by program s l.process; latest = latest; lives = maker_lives s latest }
 
@@ -28,7 +28,7 @@ reason_by program history _ _ = []
 abbrev pub reason_of : Units → List Entry → ℕ → List Reason
 reason_of program history p = reason_by program history (listed_after program history p) (wanted_by program p (state_after program history))
 
--- of so many processes, of which the first one has this number, those that are listed
+-- the listed ones of n processes from this number on
 abbrev pub reasons_from : Units → List Entry → ℕ → ℕ → List Reason
 reasons_from program history p zero = []
 reasons_from program history p (suc n) = reason_of program history p ++ reasons_from program history (suc p) n
@@ -36,6 +36,6 @@ reasons_from program history p (suc n) = reason_of program history p ++ reasons_
 abbrev pub reasons_of : Units → List Entry → List Reason
 reasons_of program history = reasons_from program history 1 (length (state_after program history).processes)
 
--- how many entries there are, and why each process waits that is listed
+-- the number of entries, and why each listed process waits
 abbrev pub why_text : Units → List Entry → List ℕ
 why_text program history = head_text (length history) ++ reasons_text program (reasons_of program history)

@@ -1,21 +1,19 @@
-//! The command `why`: the graph of processes that wait for each other, and the last writer of each cell.
-//!
-//! Why processes wait: who changed last what they wait for, and circles of those that wait for each other.
-//!
-//! Why processes wait, read from a history that is made again.
+//! The command `why`: why processes wait (docs/RUNS.md, "Why processes wait"). For each waiting process it shows who
+//! changed last what the process waits for, and then the cycles of the wait-for graph: processes each of which waits
+//! for what the next one changed last. Begin with [`why_text`](reading::why_text), which makes the history again.
 #![tactic(auto)]
 
-mod again;
-mod calling;
-mod circles;
 pub mod laws;
-pub mod lines;
-mod looking;
-pub mod making;
-mod nexts;
-pub mod reading;
 pub mod reason;
+pub mod reason_text;
+pub mod replay_machine;
+mod wait_cycles;
+mod wait_graph;
+mod wait_names;
 mod watch;
+mod watch_updates;
+pub mod watched_replay;
+pub mod why;
 
 pub use hep_event::site_laws::operations_name_variables;
 pub use hep_event::{
@@ -23,10 +21,11 @@ pub use hep_event::{
     whereabouts,
 };
 pub use hep_replay::{
-    Breakpoints, Choices, ChooseFault, Core, First, HistFault, History, ReplayFault, make_run,
-    read_text, replay, replay_first, stands_watched,
+    Breakpoints, Choices, ChooseFault, Core, HistFault, History, HistoryPrefix, ReplayFault,
+    make_run, read_text, replay, replay_first, stands_watched,
 };
-pub use lines::append_reasons;
-pub use making::step;
-pub use reading::{begin_again, why_text};
 pub use reason::{Change, Reason};
+pub use reason_text::append_reasons;
+pub use replay_machine::ReplayMachine;
+pub use watched_replay::step;
+pub use why::{begin_again, why_text};

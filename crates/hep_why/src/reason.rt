@@ -3,15 +3,16 @@
 use hep_base::Text;
 use hep_event::{Listed, Whereabouts};
 
-/// A step that filled or emptied a storage unit: the entry that tells it, counted from 1, and where its process was before it.
+/// A step that filled or emptied a storage unit: the number of its entry, counted from 1, and the place of its
+/// process before it.
 #[derive(Clone, Copy)]
 pub struct Change {
     pub entry: u64,
     pub place: Whereabouts,
 }
 
-/// A process that waits, with what its unit calls what it waits for, the latest change of that, if there was one, and whether the process
-/// lives that made it.
+/// A waiting process, with its unit's name for what it waits for, the latest change of that, if there was one, and
+/// whether the process that made the change lives.
 #[derive(Drop)]
 pub struct Reason {
     pub listed: Listed,

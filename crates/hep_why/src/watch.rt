@@ -1,9 +1,9 @@
-//! Processes for whose waits reasons are looked for.
+//! Watches: waiting processes, for which the latest changes are looked for.
 
 use crate::reason::Change;
 use hep_event::Listed;
 
-/// A process that waits: the cell that keeps what it waits for, whether that was full when it was looked at last, and its latest change so
+/// A waiting process: the cell of what it waits for, whether that was full at the last look, and its latest change so
 /// far.
 #[derive(Clone, Copy)]
 pub(crate) struct Watch {

@@ -1,5 +1,6 @@
 pub mod Sources
 pub mod SerialRuns
+mod Seen
 mod SerialRules
 pub mod Reported
 mod WorkedConditions

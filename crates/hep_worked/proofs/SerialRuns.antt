@@ -14,6 +14,10 @@ use Rattle.hep_worked.proofs.Sources.{units_of}
 
 -- ---- entries
 
+-- an entry of so many steps of process p
+abbrev pub steps : ℕ → ℕ → Entry
+steps p n = record { process = p; steps = n }
+
 -- how a run ends
 pub data Ending : Type 0 where
   -- no process lives

@@ -8,11 +8,9 @@ use Rattle.hep_parse.specs.ReadingProgram.{Refusal}
 use Rattle.hep_worked.proofs.Sources.{text_of, units_of}
 use Rattle.hep_cover.specs.Coverage.{counted_along}
 use Rattle.hep_cover.specs.Lines.{cover_text}
+use Rattle.hep_worked.proofs.SerialRuns.{steps}
 
 -- ---- from the lines of a source to the same lines with counts
-
-abbrev steps : ℕ → ℕ → Entry
-steps p n = record { process = p; steps = n }
 
 cover_of : List ℕ → Result Units Refusal → List (List Entry) → List ℕ
 unfolding counted_along opening run run_from schedule_of state_after step_result_of

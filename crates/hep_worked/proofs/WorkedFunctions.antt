@@ -1,34 +1,11 @@
 -- Worked sources with functions: what is reported of each, and what is seen of its runs.
-use Rattle.std.specs.Prelude.{◌≡◌, ℕ, true, false, codes, List, [], ◌∷◌, reverse, Option, Some, None, Result, Ok, Err, refl}
-use Prim.Native.String.{String}
-use Rattle.hep_machine.specs.declared.event.Entry.{Entry}
-use Rattle.hep_machine.specs.declared.event.Fault.{Fault}
+use Rattle.std.specs.Prelude.{◌≡◌, true, false, codes, [], ◌∷◌, refl}
 use Rattle.hep_machine.specs.declared.event.Kind.TheVariants.{Divide, Range, Shape, Undefined}
-use Rattle.hep_machine.specs.declared.record.Item.{Item}
 use Rattle.hep_machine.specs.declared.record.Item.TheVariants.{Truth, Text}
-use Rattle.hep_machine.specs.Words.{is_held, Units, used_cells, opening, step_result_of}
-use Rattle.hep_parse.specs.ReadingProgram.{Refusal}
 use Rattle.hep_worked.proofs.Sources.{units_of}
 use Rattle.hep_worked.proofs.Reported.{spelled, reported_of, reported_by, reported, accepts, refuses, names}
-use Rattle.hep_worked.proofs.SerialRuns.{course_from, course, frames, done, all_wait, halted, arena_full, step_limit, no_such_process, refused, Ending, int, minus, fault, entries_of}
-
-abbrev pub Seen : Type 0
-Seen = List (List Item) × List Fault × Ending × List Entry × ℕ
-
-abbrev pub seen_of : Result Units Refusal → ℕ → ℕ → List ℕ → Seen
-unfolding course course_from opening step_result_of
-seen_of (Err e) cells limit choices = ([], [], refused e, [], 0)
-seen_of (Ok program) cells limit choices =
-    let x = course program cells is_held limit choices in
-    (x.0.progress.state.records, x.0.progress.state.faults, x.1, reverse x.0.history, used_cells program is_held x.0.progress.state)
-
-unfoldable pub seen : List String → ℕ → ℕ → List ℕ → Seen
-unfolding units_of course course_from opening step_result_of
-seen lines cells limit choices = seen_of (units_of lines) cells limit choices
-
-unfoldable pub rejects : ℕ → ℕ → List String → Type 0
-unfolding units_of
-rejects number line lines = units_of lines ≡ Err (number, line, [])
+use Rattle.hep_worked.proofs.SerialRuns.{frames, done, all_wait, halted, arena_full, step_limit, int, minus, fault, entries_of}
+use Rattle.hep_worked.proofs.Seen.{rejects, seen}
 
 recursion_is_accepted : accepts ("      PROGRAM P" ∷ "      INTEGER F" ∷ "      PRINT *,F(5)+F(0)" ∷ "      END" ∷ "      INTEGER FUNCTION F(N)" ∷ "      IF(N.EQ.0)THEN" ∷ "      F=1" ∷ "      ELSE" ∷ "      F=N*F(N-1)" ∷ "      END IF" ∷ "      END" ∷ [])
 unfolding reported reported_by reported_of spelled accepts refuses names rejects units_of

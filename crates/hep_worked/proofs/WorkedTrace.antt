@@ -1,27 +1,25 @@
 -- Worked traces of sources.
-use Rattle.std.specs.Prelude.{◌≡◌, ℕ, List, [], ◌∷◌, ◌++◌, codes, None, Some, Result, Ok, Err, refl}
+use Rattle.std.specs.Prelude.{◌≡◌, ℕ, List, [], ◌∷◌, codes, None, Some, Result, Ok, Err, refl}
 use Rattle.std.specs.Fmt.{digits}
 use Prim.Native.String.{String}
 use Rattle.hep_machine.specs.declared.event.Entry.{Entry}
 use Rattle.hep_machine.specs.Words.{Units, opening, step_result_of}
 use Rattle.hep_parse.specs.ReadingProgram.{Refusal}
-use Rattle.hep_event.specs.Traces.{Shown, trace_from, trace_text}
+use Rattle.hep_why.specs.EventTraces.{LineSelection, trace_from, trace_text}
 use Rattle.hep_worked.proofs.Sources.{text_of, units_of}
+use Rattle.hep_worked.proofs.SerialRuns.{steps}
 
 -- ---- from the lines of a source to the lines of its steps
 
-all : Shown
+all : LineSelection
 all = record { first = 1; last = 1000; process = None; cell = None }
 
-abbrev steps : ℕ → ℕ → Entry
-steps p n = record { process = p; steps = n }
-
-trace_of : Shown → Result Units Refusal → List Entry → List ℕ
+trace_of : LineSelection → Result Units Refusal → List Entry → List ℕ
 unfolding trace_from opening step_result_of
 trace_of shown (Err e) history = []
 trace_of shown (Ok program) history = trace_text program shown history
 
-unfoldable trace : Shown → List String → List Entry → List ℕ
+unfoldable trace : LineSelection → List String → List Entry → List ℕ
 unfolding units_of trace_of digits
 trace shown lines history = trace_of shown (units_of lines) history
 

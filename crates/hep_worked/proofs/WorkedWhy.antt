@@ -5,11 +5,12 @@ use Prim.Native.String.{String}
 use Rattle.hep_machine.specs.declared.event.Entry.{Entry}
 use Rattle.hep_machine.specs.Words.{Units, opening, progress_from, run, run_from, schedule_of, state_after, step_result_of}
 use Rattle.hep_parse.specs.ReadingProgram.{Refusal}
-use Rattle.hep_why.specs.Changes.{latest_along}
-use Rattle.hep_why.specs.Circles.{circle_from, circles_of}
+use Rattle.hep_why.specs.LatestChanges.{latest_along}
+use Rattle.hep_why.specs.WaitCycles.{circle_from, circles_of}
 use Rattle.hep_why.specs.Lines.{circles_text}
 use Rattle.hep_why.specs.Reasons.{why_text}
 use Rattle.hep_worked.proofs.Sources.{text_of, units_of}
+use Rattle.hep_worked.proofs.SerialRuns.{steps}
 
 -- ---- circles, by indexes
 
@@ -43,9 +44,6 @@ unfolding circle_from
 alone = refl
 
 -- ---- from the lines of a source to why its processes wait
-
-abbrev steps : ℕ → ℕ → Entry
-steps p n = record { process = p; steps = n }
 
 why_of : Result Units Refusal → List Entry → List ℕ
 unfolding latest_along circle_from circles_text opening progress_from run run_from schedule_of state_after step_result_of

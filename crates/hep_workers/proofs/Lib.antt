@@ -1,10 +1,11 @@
 pub mod Committed
-pub mod Shared
+pub mod SharedCores
 mod Marks
-mod Passing
+mod SpanLooking
+mod Splitting
 mod SharedCalls
 mod Reasons
-mod Growing
-mod Noting
-mod Lists
-mod Many
+mod GrowingHistories
+mod AddedEntries
+mod EntrySpans
+mod SeveralEntries

@@ -8,9 +8,10 @@ use Rattle.std.proofs.lemmas.List.{length-replicate, length-set}
 use Rattle.std.proofs.lemmas.Option.{slice_get_within}
 use Rattle.hep_machine.specs.declared.event.Entry.{Entry}
 use Rattle.hep_workers.specs.declared.receipt.Receipt.{Receipt}
-use Rattle.hep_workers.specs.Marks.{is_named_by, is_unset, mark, marked}
+use Rattle.hep_workers.specs.ReceiptMarks.{is_named_by, is_unset, mark, marked}
 use Rattle.hep_workers.specs.Receipts.{AllName, AreEntries, Names, one_where, receipts_of, times_named}
 use Rattle.hep_workers.specs.Turns.{entry_of}
+use Rattle.hep_state.proofs.Subroutines.{both-false}
 
 -- ---- marks
 
@@ -76,10 +77,6 @@ set-is None is some = absurd (some refl)
 set-is (Some true) is some = refl
 set-is (Some false) is some = cc
 
-other-fails : (a b : Bool) → (a && b) ≡ false → a ≡ true → b ≡ false
-other-fails true b is on = is
-other-fails false b is on = cc
-
 there : (marks : List Bool) (k : ℕ) → k < length marks → slice_get marks k ≢ None
 there [] k lt none = absurd (omega arith)
 there (b ∷ bs) zero lt none = cc
@@ -126,7 +123,7 @@ module _ (history : List Entry) where
     unmarked-first false is failed others =
         let name : is_named_by r (slice_get history r.index) ≡ true = ap (is_named_by r) named ∙ is-named r in
         let within : r.index < length marks = let lt = slice_get_within history r.index (entry_of r) named in omega arith in
-        let set = set-is (slice_get marks r.index) (other-fails (is_named_by r (slice_get history r.index)) (is_unset (slice_get marks r.index)) is name) (there marks r.index within) in
+        let set = set-is (slice_get marks r.index) (both-false (is_named_by r (slice_get history r.index)) (is_unset (slice_get marks r.index)) is name) (there marks r.index within) in
         let one = set-mark marks r.index set in
         let f = few r.index in
         let here = one-here r.index in

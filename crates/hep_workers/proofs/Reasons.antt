@@ -5,9 +5,9 @@ use Rattle.std.proofs.Math.Logic.{∥∥₁_elim}
 use Rattle.std.specs.Global.{Vec}
 use Rattle.hep_machine.specs.Words.{opening_layout, Units}
 use Rattle.hep_machine.specs.declared.event.Entry.{Entry}
-use Rattle.hep_core.specs.Value.{CoreValue, opening_of, verdict_of}
+use Rattle.hep_core.specs.CoreValues.{CoreValue, opening_of, verdict_of}
 use Rattle.hep_core.specs.declared.stop.Verdict.TheVariants.{Running}
-use Rattle.hep_workers.specs.Shared.{IsOfOneRun}
+use Rattle.hep_workers.specs.SharedCores.{IsOfOneRun}
 use Rattle.hep_workers.specs.declared.receipt.Receipt.{Receipt}
 use Rattle.hep_workers.specs.Receipts.{are_of_workers}
 use Rattle.hep_workers.specs.Reports.{IsOfRun, IsUnclosed}
@@ -15,10 +15,10 @@ use Rattle.hep_workers.specs.declared.close_fault.CloseFault.{CloseFault}
 use Rattle.hep_workers.specs.declared.close_fault.CloseFault.TheVariants as close
 use Rattle.hep_workers.specs.declared.options.WorkOptions.{WorkOptions}
 use Rattle.hep_workers.specs.Faults.{IsWorkFault, of_crew}
-use Rattle.hep_workers.specs.Lists.{AreLogsOf, lists_of, logs_of}
-use Rattle.hep_workers.specs.declared.spans.Span.{Span}
-use Rattle.hep_workers.specs.declared.fault.CrewFault.{CrewFault}
-use Rattle.hep_workers.specs.declared.fault.CrewFault.TheVariants.{NoMemory, NoThread}
+use Rattle.hep_workers.specs.EntrySpans.{AreLogsOf, lists_of, logs_of}
+use Rattle.hep_workers.specs.declared.spans.EntrySpan.{EntrySpan}
+use Rattle.hep_workers.specs.declared.work_fault.CrewFault.{CrewFault}
+use Rattle.hep_workers.specs.declared.work_fault.CrewFault.TheVariants.{NoMemory, NoThread}
 
 abbrev pub opening_for : Units → WorkOptions → CoreValue
 opening_for program options = opening_of program options.arena options.steps
@@ -35,11 +35,11 @@ of-run opening core program options is one =
 -- ---- what workers leave
 
 -- logs that are made by where the entries are
-pub logs-made : (workers : ℕ) (h es : List Entry) (lists ls : List (Vec Span)) (logs : List (List Receipt)) → logs ≡ logs_of es 1 (lists_of ls) → es ≡ h → ls ≡ lists
+pub logs-made : (workers : ℕ) (h es : List Entry) (lists ls : List (Vec EntrySpan)) (logs : List (List Receipt)) → logs ≡ logs_of es 1 (lists_of ls) → es ≡ h → ls ≡ lists
     → ∥ AreLogsOf workers h (logs_of h 1 (lists_of lists)) ∥₁ → ∥ AreLogsOf workers h logs ∥₁
 logs-made workers h es lists ls logs is same all logged =
     subst (λ (rs : List (List Receipt)). ∥ AreLogsOf workers h rs ∥₁)
-    (sym (is ∙ ap (λ (xs : List Entry). logs_of xs 1 (lists_of ls)) same ∙ ap (λ (vs : List (Vec Span)). logs_of h 1 (lists_of vs)) all)) logged
+    (sym (is ∙ ap (λ (xs : List Entry). logs_of xs 1 (lists_of ls)) same ∙ ap (λ (vs : List (Vec EntrySpan)). logs_of h 1 (lists_of vs)) all)) logged
 
 -- logs under the lock are of their workers
 pub of-workers : (core : CoreValue) (options : WorkOptions) (logs : List (List Receipt)) → ∥ AreLogsOf options.workers core.history logs ∥₁ → are_of_workers options.workers logs ≡ true

@@ -2,18 +2,18 @@
 use Rattle.std.specs.Prelude.{◌≡◌, ℕ, if◌then◌else◌, List, Option, Some, None, IsSome, Result, Ok, Err, is_ok}
 use Rattle.std.specs.List.{list_all}
 use Rattle.hep_machine.specs.Words.{opening_layout, Units}
-use Rattle.hep_core.specs.declared.fault.NewFault.{NewFault}
-use Rattle.hep_core.specs.declared.fault.NewFault.TheVariants as new
-use Rattle.hep_core.specs.Places.{Place, Placed}
-use Rattle.hep_core.specs.Value.{CoreValue, opening_of}
+use Rattle.hep_core.specs.declared.core_fault.NewFault.{NewFault}
+use Rattle.hep_core.specs.declared.core_fault.NewFault.TheVariants as new
+use Rattle.hep_core.specs.ProcessPlaces.{PlacedCore, ProcessPlace}
+use Rattle.hep_core.specs.CoreValues.{CoreValue, opening_of}
 use Rattle.hep_workers.specs.declared.close_fault.CloseFault.{CloseFault}
 use Rattle.hep_workers.specs.declared.close_fault.CloseFault.TheVariants as close
 use Rattle.hep_workers.specs.declared.options.WorkOptions.{WorkOptions}
-use Rattle.hep_workers.specs.Shared.{IsSharedFrom}
-use Rattle.hep_workers.specs.declared.fault.CrewFault.{CrewFault}
-use Rattle.hep_workers.specs.declared.fault.CrewFault.TheVariants as crew
-use Rattle.hep_workers.specs.declared.fault.WorkFault.{WorkFault}
-use Rattle.hep_workers.specs.declared.fault.WorkFault.TheVariants.{NoMemory, ArenaFull, NoTicket, NoThread, Close}
+use Rattle.hep_workers.specs.SharedCores.{IsSharedFrom}
+use Rattle.hep_workers.specs.declared.work_fault.CrewFault.{CrewFault}
+use Rattle.hep_workers.specs.declared.work_fault.CrewFault.TheVariants as crew
+use Rattle.hep_workers.specs.declared.work_fault.WorkFault.{WorkFault}
+use Rattle.hep_workers.specs.declared.work_fault.WorkFault.TheVariants.{NoMemory, ArenaFull, NoTicket, NoThread, Close}
 
 abbrev pub of_new : NewFault → WorkFault
 of_new new.NoMemory = NoMemory
@@ -23,7 +23,7 @@ abbrev pub of_crew : CrewFault → WorkFault
 of_crew crew.NoMemory = NoMemory
 of_crew crew.NoThread = NoThread
 
--- the number of the line that tells it; want of memory and a full arena have lines of their own
+-- the number in the line that reports it; a refusal of memory and a full arena have lines of their own
 abbrev pub number_of : WorkFault → Option ℕ
 number_of NoMemory = None
 number_of ArenaFull = None
@@ -35,19 +35,20 @@ number_of (Close close.NotRising) = Some 702
 number_of (Close close.NotTheRun) = Some 703
 number_of (Close close.StillRunning) = Some 705
 
--- how workers ended: all were started, and memory was refused to none; or why not
+-- the result of the workers: all were started, and memory was refused to none; or why not
 abbrev pub end_of : {E : Type 0} → Result (Unit {0}) CrewFault → List (Result (Unit {0}) E) → Result (Unit {0}) CrewFault
 end_of (Err fault) outcomes = Err fault
 end_of (Ok all) outcomes = if list_all is_ok outcomes then Ok all else Err crew.NoMemory
 
--- workers have made this core of the opening
+-- workers have made this core from the opening
 abbrev pub IsSharedBy : Units → WorkOptions → CoreValue → Type 0
 IsSharedBy program options core =
-    (places : List (Option Place)) × ∥ IsSharedFrom (opening_of program options.arena options.steps) (record { core = core; places = places }) ∥₁
+    (places : List (Option ProcessPlace)) × ∥ IsSharedFrom (opening_of program options.arena options.steps) (record { core = core; places = places }) ∥₁
 
--- why a run by workers leaves no report: the arena is full just where the main program's frame has no gap in it, and anything else, want of
--- memory too, comes only where it has. Tickets are never used up, and of what workers leave nothing is refused but memory: the receipts are the entries of the
--- history, each once, rise, and are of their workers; the core is of the run; and its run is over
+-- why a run by workers leaves no report: the arena is full just where the main program's frame has no gap in it;
+-- anything else, a refusal of memory too, happens only where it has one. Tickets are never used up, and a report is
+-- refused only for want of memory: the receipts are the entries of the history, each once, rise, and are of their
+-- workers; the core is of the run; and its run is over
 abbrev pub IsWorkFault : WorkFault → Units → WorkOptions → Type 0
 IsWorkFault ArenaFull program options = opening_layout program options.arena ≡ None
 IsWorkFault NoMemory program options = IsSome (opening_layout program options.arena)

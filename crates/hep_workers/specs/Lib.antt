@@ -1,11 +1,11 @@
 pub use Rattle.hep_core.specs.Offers as CoreOffers
 pub mod Turns
-pub mod Shared
+pub mod SharedCores
 pub mod Receipts
-pub mod Marks
+pub mod ReceiptMarks
 pub mod Reports
-pub mod Calls
+pub mod LockedCalls
 pub mod Faults
-pub mod Hands
+pub mod WorkBuffers
 pub mod Spans
-pub mod Lists
+pub mod EntrySpans

@@ -2,7 +2,8 @@
 
 use thiserror::Error;
 
-/// Why a core and the logs of its workers make no report: the first by number, and want of memory before all.
+/// Why a core and the logs of its workers make no report. `NoMemory` comes first; of the others the first by number
+/// is reported.
 #[derive(Clone, Copy, Debug, PartialEq, Eq, Error)]
 pub enum CloseFault {
     /// Memory was refused.

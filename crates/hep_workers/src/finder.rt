@@ -5,11 +5,12 @@ use hep_history::{Entries, History};
 use hep_machine::Entry;
 use std::marker::Model;
 
-/// A history whose entries are looked up by indexes: where these rise, its runs are passed once. Contracts see the list of all entries.
+/// A history whose entries are looked up by index. Look-ups at rising indexes go over its runs once. Contracts see
+/// the list of all entries.
 #[derive(Drop)]
 pub struct Finder<'a> {
     history: &'a History,
-    // The entries that are left behind so many of them.
+    // The entries after the first `passed` ones.
     left: Entries<'a>,
     passed: u64,
 }
@@ -37,7 +38,7 @@ impl<'a> Finder<'a> {
         }
     }
 
-    /// How many entries there are.
+    /// The number of entries.
     pub fn len(&self) -> u64
         ensures count { result ≡ length self.now }
         ensures few { result ≤ 2 ^ 63 }
@@ -45,8 +46,8 @@ impl<'a> Finder<'a> {
         self.history.len()
     }
 
-    /// The entry at an index. It takes a step for each run between the one that was looked up last and this one, or from the first run on where the index is
-    /// no greater.
+    /// The entry at an index. It takes a step for each run between the one looked up last and this one. Where the
+    /// index isn't greater than the last one, it counts from the first run.
     pub fn entry_at(&mut self, index: u64) -> Option<Entry>
         ensures entry { result ≡ slice_get self.old index }
         ensures same { self.new ≡ self.old }

@@ -1,25 +1,27 @@
-//! Where private steps are made.
+//! Gates: who makes the private steps of the workers.
 ghost use Rattle.std.specs.Prelude.{◌≡◌, true};
 ghost use Rattle.hep_private.specs.Segments.{IsComputed};
 ghost use Rattle.hep_private.specs.Batches.{IsMadeBehind, IsBatchedFrom};
 
 use hep_image::Image;
-use hep_private::{Ahead, Batch, Segment, Ticket, compute, compute_into, make_batch, make_behind};
+use hep_private::{
+    Batch, PrivateImage, Segment, Ticket, compute, compute_into, make_batch, make_behind,
+};
 
-/// Makes the segments of workers, without the lock. Both numbers count from 1: the worker's, and that of its turn.
+/// Makes the segments of workers, without the lock. The numbers of workers and of their turns count from 1.
 ///
 /// A gate that holds a worker for a while brings about schedules that are rare otherwise.
 pub trait Gate {
     fn segment(&self, worker: u32, turn: u64, image: &Image, ticket: &Ticket) -> Segment
         ensures { IsComputed image.now ticket.now result };
 
-    /// Whether it is to be asked for the segment of each turn. Where not, a worker may make turns before which no private step comes, of whichever process
-    /// comes next, one behind the other under the lock, and needs no segment for them.
+    /// Whether the gate has to be asked for the segment of each turn. If not, a worker may make turns with no private
+    /// steps in a row under the lock, without a segment.
     fn is_asked(&self) -> bool {
         true
     }
 
-    /// The same, in the place of an older segment, which is what workers ask for. A gate need not say how: it makes one, and puts it there.
+    /// The same, which overwrites an older segment. Workers call this one. By default it calls `segment`.
     fn segment_into(
         &self,
         worker: u32,
@@ -33,13 +35,13 @@ pub trait Gate {
         *segment = self.segment(worker, turn, image, ticket);
     }
 
-    /// The same steps without a record of each, which is what workers ask for first. A gate need not make any: where it answers false its
-    /// segment is asked for.
+    /// The same steps as a batch, without a record of each. Workers ask for it first. Where a gate returns false,
+    /// which is the default, they ask for a segment.
     fn batch_into(
         &self,
         worker: u32,
         turn: u64,
-        ahead: &Ahead<'_>,
+        ahead: &PrivateImage<'_>,
         ticket: &Ticket,
         batch: &mut Batch,
     ) -> bool
@@ -48,13 +50,14 @@ pub trait Gate {
         false
     }
 
-    /// The batch that follows one that this worker has made for the same process, and not committed yet. It is asked for where that one has as many
-    /// steps as it may have, so that several are committed at once. A gate need not make any.
+    /// The batch that follows one that this worker has made of the same process and not committed yet. Workers ask
+    /// for it where that one is full, so that several are committed at once. Where a gate returns false, there is no
+    /// such batch.
     fn batch_behind(
         &self,
         worker: u32,
         turn: u64,
-        ahead: &Ahead<'_>,
+        ahead: &PrivateImage<'_>,
         before: &Batch,
         batch: &mut Batch,
     ) -> bool
@@ -64,7 +67,7 @@ pub trait Gate {
     }
 }
 
-/// Makes the steps and holds nobody.
+/// The gate that makes the steps and holds no worker.
 #[derive(Clone, Copy, Debug)]
 pub struct NoGate;
 
@@ -96,7 +99,7 @@ impl Gate for NoGate {
         &self,
         _worker: u32,
         _turn: u64,
-        ahead: &Ahead<'_>,
+        ahead: &PrivateImage<'_>,
         ticket: &Ticket,
         batch: &mut Batch,
     ) -> bool {
@@ -108,7 +111,7 @@ impl Gate for NoGate {
         &self,
         _worker: u32,
         _turn: u64,
-        ahead: &Ahead<'_>,
+        ahead: &PrivateImage<'_>,
         before: &Batch,
         batch: &mut Batch,
     ) -> bool {

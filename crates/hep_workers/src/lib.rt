@@ -1,38 +1,36 @@
-//! Threads on a shared core: their turns, their receipts and the closed report.
+//! Workers: threads that run one program together on a shared core (docs/MACHINE.md, "Workers"). Begin with
+//! `run_workers` in `src/threads.rt`.
 //!
-//! The turn of a worker, under the lock of the core that it shares with others, and what it notes of it.
-//!
-//! What workers say they did, and whether it is the history of the core that they shared.
-//!
-//! Workers: threads that take turns on a shared core, and the comparison of what each says it did with the core's history.
+//! Each worker commits its turns under the core's lock and notes them in a log of receipts (`src/turn.rt`). At the
+//! end a [`report::Report`] says that the receipts of all logs are the entries of the core's history, each once.
 #![tactic(auto)]
 
 mod close_fault;
-mod crossing;
-mod fault;
 mod finder;
-mod floor;
 mod gate;
-mod numbering;
+mod log_numbers;
 mod options;
 mod receipt;
 mod report;
+mod shared_core;
 mod spans;
-mod tied;
+mod thread_safety;
+mod threads;
 mod turn;
+mod work_fault;
 
 pub use close_fault::CloseFault;
-pub use fault::WorkFault;
 pub use finder::Finder;
-pub use floor::{run_unlogged, run_workers};
 pub use gate::{Gate, NoGate};
 pub use hep_core::{
     ChoiceStop, ChooseFault, CommitFault, Core, CoreState, Entry, Fault, NewFault, Offer, OwnCells,
-    Saved, Segment, Ticket, Turn, Verdict, compute,
+    Segment, Ticket, Turn, UndoLog, Verdict, compute,
 };
-pub use hep_private::{Ahead, Batch};
-pub use numbering::are_of_workers;
+pub use hep_private::{Batch, PrivateImage};
+pub use log_numbers::are_of_workers;
 pub use options::WorkOptions;
 pub use receipt::{Log, Receipt};
 pub use report::{Report, close};
+pub use threads::{run_unlogged, run_workers};
 pub use turn::{offer_turn, turn_at_once, turns_at_once, worker_turn};
+pub use work_fault::WorkFault;

@@ -1,17 +1,17 @@
-//! What a worker notes of its turns.
+//! Receipts of a worker's turns, and its log.
 ghost use Rattle.std.specs.Prelude.{◌≡◌, ◌++◌, ◌∷◌, [], OnErr, OnOk};
 ghost use Rattle.hep_workers.specs.Turns.{are_of};
 
 use std::alloc::{AllocError, Global};
 use std::marker::Model;
 
-/// A turn of a worker, by the entry of the history that it added.
+/// A turn of a worker, with the entry of the history that it added.
 #[derive(Clone, Copy, Debug, PartialEq, Eq)]
 pub struct Receipt {
     /// The index of the entry, counted from 0.
     pub index: u64,
     pub process: u64,
-    /// Counted from 1.
+    /// The number of the worker, counted from 1.
     pub worker: u32,
     pub steps: u32,
 }
@@ -32,7 +32,7 @@ impl Model for Log {
 }
 
 impl Log {
-    /// No receipts yet. This takes no memory.
+    /// An empty log. This takes no memory.
     pub fn new(alloc: Global) -> Log
         ensures { result ≡ [] }
     {
@@ -41,14 +41,14 @@ impl Log {
         }
     }
 
-    /// These receipts, in their order.
+    /// The log of these receipts.
     pub fn of(receipts: Vec<Receipt>) -> Log
         ensures { result ≡ receipts.items }
     {
         Log { receipts }
     }
 
-    /// Room for one receipt more.
+    /// Makes room for one more receipt.
     ///
     /// # Errors
     ///
@@ -59,7 +59,7 @@ impl Log {
         self.receipts.reserve(1)
     }
 
-    /// One receipt more.
+    /// Appends a receipt.
     ///
     /// # Errors
     ///
@@ -72,7 +72,7 @@ impl Log {
         Ok(())
     }
 
-    /// All receipts are of this worker.
+    /// Whether all receipts are of this worker.
     pub fn is_of(&self, worker: u32) -> bool
         ensures { result ≡ are_of worker self.now }
     {

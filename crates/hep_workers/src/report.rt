@@ -1,7 +1,7 @@
-//! The comparison of the workers' logs with the core, once all have ended.
+//! The comparison of the workers' logs with the core, after all workers have ended.
 ghost use Rattle.std.specs.Prelude.{◌≡◌, IfErr, IfOk, MatchBool, None, Some, if◌then◌else◌};
 ghost use Rattle.std.specs.List.{list_all};
-ghost use Rattle.hep_workers.specs.Marks.{mark_at, marked};
+ghost use Rattle.hep_workers.specs.ReceiptMarks.{mark_at, marked};
 ghost use Rattle.hep_workers.specs.Receipts.{AreEntries, all_rise, receipts_of, rises};
 ghost use Rattle.hep_workers.specs.Reports.{IsClosed, IsOfRun, IsReport, IsUnclosed};
 
@@ -16,8 +16,8 @@ use hep_machine::Entry;
 use std::alloc::{AllocError, Global};
 use std::marker::Model;
 
-/// A run by workers that is over, with a log for each worker: the receipts are the entries of the core's history, each once, and those of
-/// each log stand in their order. Contracts see the core and the logs.
+/// A run by workers that is over, with a log for each worker. The receipts are the entries of the core's history,
+/// each once, and their indexes rise in each log. Contracts see the core and the logs.
 #[derive(Drop)]
 pub struct Report {
     core: Core,
@@ -70,14 +70,15 @@ impl Report {
     }
 }
 
-/// A report of a core and the logs of its workers: the receipts are the history's entries, each once, those of each log in their order; the
-/// core is of this image and these options; and the run is over.
+/// Makes a report of a core and the logs of its workers. It checks that the receipts are the history's entries, each
+/// once, that the indexes of each log rise, that the core is of this image and these options, and that the run is
+/// over.
 ///
 /// This costs a step for each receipt, each entry, and each part of the program.
 ///
 /// # Errors
 ///
-/// The first fault by number of those that there are, and `NoMemory`, which is asked for before.
+/// `NoMemory`, since memory is asked for first; and then, of the other faults that there are, the first by number.
 pub fn close(
     alloc: Global,
     core: Core,
@@ -107,7 +108,7 @@ pub fn close(
     Ok(Report { core, logs })
 }
 
-// The core is of this image and these options.
+// Whether the core is of this image and these options.
 fn is_of_run(core: &Core, image: &Image, options: &WorkOptions) -> bool
     ensures { MatchBool result (IsOfRun core.now.core image.now options.now) (IsOfRun core.now.core image.now options.now → ⊥) }
 {
@@ -116,7 +117,7 @@ fn is_of_run(core: &Core, image: &Image, options: &WorkOptions) -> bool
         && core.image().has_same_program(image)
 }
 
-// The receipts of all logs are the history's entries, each once.
+// Whether the receipts of all logs are the history's entries, each once.
 fn are_entries(alloc: Global, history: &History, logs: &[Log]) -> Result<bool, AllocError>
     ensures { IfOk result (λ are. MatchBool are (AreEntries history.now.items (receipts_of logs.now))
         (AreEntries history.now.items (receipts_of logs.now) → ⊥)) }
@@ -128,7 +129,8 @@ fn are_entries(alloc: Global, history: &History, logs: &[Log]) -> Result<bool, A
     Ok(all_named(&named))
 }
 
-// Marks the entries that the receipts of all logs name. False where a receipt names none, or one that is marked.
+// Marks the entries that the receipts of all logs name. False where a receipt names no entry or one that is marked
+// already.
 fn mark_logs(history: &History, named: &mut Vec<bool>, logs: &[Log]) -> bool
     ensures { marked history.now.items named.old.items (receipts_of logs.now) ≡ (if result then Some named.new.items else None) }
 {
@@ -154,7 +156,7 @@ fn mark_log(history: &History, named: &mut Vec<bool>, receipts: &[Receipt]) -> b
     true
 }
 
-// Marks the entry that a receipt names, which is this one, if there is one.
+// Marks the entry that a receipt names, if `entry` is that one and isn't marked yet. Returns whether it did.
 fn mark(entry: Option<Entry>, named: &mut Vec<bool>, receipt: Receipt) -> bool
     ensures { mark_at entry named.old.items receipt ≡ (if result then Some named.new.items else None) }
 {
@@ -178,7 +180,7 @@ fn all_named(named: &[bool]) -> bool
     named.iter().all(|is_named| *is_named)
 }
 
-// Each index of a log is above the one before.
+// Whether each index of a log is above the one before.
 fn rises(receipts: &[Receipt]) -> bool
     ensures { result ≡ rises receipts.now }
 {

@@ -1,4 +1,4 @@
-//! Where the entries of a worker are in the history.
+//! The places of a worker's entries in the history.
 ghost use Rattle.std.specs.Prelude.{◌≡◌, ◌≤◌, ◌<◌, ◌^◌, ◌++◌, IfOk, OnOk, length, true, vec_capacity};
 ghost use Rattle.hep_workers.specs.Spans.{are_inside, log_of, receipts_in, with_entries, with_entry};
 
@@ -7,18 +7,18 @@ use crate::receipt::{Log, Receipt};
 use hep_history::History;
 use std::alloc::{AllocError, Global};
 
-/// Entries of one worker that stand one behind the other in the history.
+/// Entries of one worker that follow one another in the history.
 #[derive(Clone, Copy)]
-pub(crate) struct Span {
+pub(crate) struct EntrySpan {
     /// The index of the first one, counted from 0.
     pub(crate) first: u64,
-    /// How many there are.
+    /// The number of entries.
     pub(crate) count: u64,
 }
 
-/// An entry more behind those of the spans, at an index. There has to be room for a span more.
+/// Adds the entry at an index after those of the spans. There has to be room for one more span.
 #[inline(always)]
-pub(crate) fn add_entry(spans: &mut Vec<Span>, index: u64)
+pub(crate) fn add_entry(spans: &mut Vec<EntrySpan>, index: u64)
     requires room { length spans.old.items < vec_capacity spans.old }
     requires inside { are_inside index spans.old.items ≡ true }
     requires few { index ≤ 2 ^ 63 }
@@ -32,14 +32,14 @@ pub(crate) fn add_entry(spans: &mut Vec<Span>, index: u64)
             return;
         }
     }
-    spans.push_reserved(Span {
+    spans.push_reserved(EntrySpan {
         first: index,
         count: 1,
     });
 }
 
-/// So many entries more behind those of the spans, at indexes one behind the other from this one on. There has to be room for a span more.
-pub(crate) fn add_entries(spans: &mut Vec<Span>, index: u64, count: u32)
+/// Adds `count` entries after those of the spans, at indexes from `index` on. There has to be room for one more span.
+pub(crate) fn add_entries(spans: &mut Vec<EntrySpan>, index: u64, count: u32)
     requires room { length spans.old.items < vec_capacity spans.old }
     requires inside { are_inside index spans.old.items ≡ true }
     requires some { 0 < count }
@@ -51,7 +51,7 @@ pub(crate) fn add_entries(spans: &mut Vec<Span>, index: u64, count: u32)
     spans[last].count += count as u64 - 1;
 }
 
-/// The receipts of a worker, by where its entries are in the history.
+/// The receipts of a worker, from the spans of its entries in the history.
 ///
 /// # Errors
 ///
@@ -60,7 +60,7 @@ pub(crate) fn log_of(
     alloc: Global,
     history: &History,
     worker: u32,
-    spans: &[Span],
+    spans: &[EntrySpan],
 ) -> Result<Log, AllocError>
     ensures { IfOk result (λ log. log ≡ log_of history.now.items worker spans.now) }
 {
@@ -73,8 +73,8 @@ pub(crate) fn log_of(
     Ok(Log::of(receipts))
 }
 
-// How many entries they have.
-fn count_of(spans: &[Span]) -> u64 {
+// The number of entries of these spans.
+fn count_of(spans: &[EntrySpan]) -> u64 {
     let mut count: u64 = 0;
     for span in spans {
         count = count.saturating_add(span.count);
@@ -82,12 +82,12 @@ fn count_of(spans: &[Span]) -> u64 {
     count
 }
 
-// The receipts of a span more.
+// Appends the receipts of a span.
 fn add_receipts(
     receipts: &mut Vec<Receipt>,
     finder: &mut Finder<'_>,
     worker: u32,
-    span: Span,
+    span: EntrySpan,
 ) -> Result<(), AllocError>
     ensures items { OnOk result (receipts.new.items ≡ receipts.old.items ++ receipts_in finder.old worker span.first span.count) }
     ensures same { finder.new ≡ finder.old }

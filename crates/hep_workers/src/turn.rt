@@ -6,9 +6,9 @@ ghost use Rattle.hep_private.specs.Segments.{most_records};
 ghost use Rattle.hep_workers.specs.Turns.{HasCommitted, IsReceipt};
 
 use crate::receipt::Receipt;
-use hep_core::{Ahead, CommitFault, Core, Offer, Segment};
+use hep_core::{CommitFault, Core, Offer, PrivateImage, Segment};
 
-/// Commits a worker's segment. The receipt names the one entry that the history has more.
+/// Commits a worker's segment. The receipt names the entry that this adds to the history.
 ///
 /// # Errors
 ///
@@ -26,7 +26,7 @@ pub fn worker_turn(core: &mut Core, worker: u32, segment: &Segment) -> Result<Re
     offer_turn(core, worker, &offer)
 }
 
-/// The same of what a worker offers, by `Core::commit_offer`.
+/// The same for an offer of a worker, by `Core::commit_offer`.
 ///
 /// # Errors
 ///
@@ -49,8 +49,14 @@ pub fn offer_turn(core: &mut Core, worker: u32, offer: &Offer<'_>) -> Result<Rec
     })
 }
 
-/// A turn of the process that comes next, in one, by `Core::turn_at_once`. None where no turn was made, and nothing has changed then.
-pub fn turn_at_once(core: &mut Core, worker: u32, ahead: &Ahead<'_>, most: u32) -> Option<Receipt>
+/// A turn of the process that comes next, without a ticket, by `Core::turn_at_once`. `None` where no turn was made;
+/// nothing has changed then.
+pub fn turn_at_once(
+    core: &mut Core,
+    worker: u32,
+    ahead: &PrivateImage<'_>,
+    most: u32,
+) -> Option<Receipt>
     requires program { ahead.now ≡ core.old.core.program }
     requires few { most ≤ most_records }
     ensures named { IfSome result (λ receipt. IsReceipt core.old.core.history worker receipt core.new.core.history) }
@@ -68,9 +74,9 @@ pub fn turn_at_once(core: &mut Core, worker: u32, ahead: &Ahead<'_>, most: u32) 
     })
 }
 
-/// So many turns of the process that comes next, each of 1,023 steps, by `Core::turns_at_once`, and which process that was. None where no turn was
-/// made, and nothing has changed then.
-pub fn turns_at_once(core: &mut Core, ahead: &Ahead<'_>, turns: u32) -> Option<u64>
+/// `turns` turns of the process that comes next, each of 1,023 steps, by `Core::turns_at_once`. Returns the process.
+/// `None` where no turn was made; nothing has changed then.
+pub fn turns_at_once(core: &mut Core, ahead: &PrivateImage<'_>, turns: u32) -> Option<u64>
     requires program { ahead.now ≡ core.old.core.program }
     requires some { 0 < turns }
     requires few { turns ≤ 1024 }

@@ -1,20 +1,20 @@
 //! `hepf`: checks, lists, runs, replays and explains HEP FORTRAN.
 //!
-//! What stands here opens files, says which one can't be opened, and joins calls that do the rest: `hep_command` reads the words, and
-//! `hep_run` and `hep_inspection` do the work and say what else went wrong.
+//! The program opens files, reports one that can't be opened, and calls the crates that do the rest: `hep_command`
+//! reads the command line; `hep_run` and `hep_inspection` do the work and report all other errors.
 #![tactic(auto)]
 
 ghost use Rattle.std.specs.Prelude.{◌≤◌};
-ghost use Rattle.hep_command.specs.Jobs.{IsInRange};
+ghost use Rattle.hep_command.specs.Jobs.{IsInRange, IsSeed, IsViewInRange};
 
-use hep_command::{Job, Request, SAME_FILE, explain, read_request};
+use hep_command::{Job, Request, SAME_FILE, ViewedRun, explain, read_request};
 use hep_inspection::{
-    AskedCover, AskedDiff, AskedLots, AskedReplay, AskedRun, AskedSample, AskedState, AskedWork,
-    Choices, HistFault, LotOptions, NoGate, Options, Page, ReadFault, Run, SampleOptions, Telling,
-    WorkOptions, answer, check_noted, choices_of, cover_noted, diff_noted, followed_of,
-    history_text, list_noted, lots_history, lots_noted, put_text, read_text, read_text_file,
-    replay_noted, run_noted, sample_bytes, say_unread, say_unwritten, state_noted, warn_noted,
-    work_noted,
+    Choices, CoverRequest, DiffRequest, HistFault, Inspection, InspectionRequest, LineFilter,
+    LotOptions, LotsRequest, NoGate, Options, Origin, ReadFault, ReplayRequest, Run, RunRequest,
+    SampleOptions, SampleRequest, WorkOptions, WorkRequest, answer, check_noted, choices_of,
+    cover_noted, diff_noted, followed_of, history_text, list_noted, lots_history, lots_noted,
+    nth_options, put_text, read_text, read_text_file, replay_noted, run_noted, sample_bytes,
+    say_unread, say_unwritten, state_noted, warn_noted, work_noted,
 };
 use std::fs::File;
 use std::io::{ErrorKind, Read, Stdin};
@@ -24,10 +24,10 @@ use std::sync::Wait;
 use std::thread::Threads;
 use std::{env, fs, io};
 
-// What is said where a kept history would be written to the source.
+// The message where a history would be written to the source.
 const KEPT_OVER: &str = "error: --keep names a file that is read\n";
 
-// The name of standard input, where a source is named.
+// The name that means standard input as the source.
 const STANDARD_INPUT: &str = "-";
 
 /// A source that is to be read.
@@ -46,6 +46,14 @@ impl Read for Source {
     }
 }
 
+/// What was read of a run that is looked at: the text of its history, or how it is made.
+#[derive(Drop)]
+enum Viewed {
+    History(Vec<u8>),
+    Choices(Options),
+    Lots(LotOptions),
+}
+
 /// A file that is to get a history, and whether it was made for that.
 #[derive(Drop)]
 struct Kept {
@@ -53,8 +61,8 @@ struct Kept {
     is_new: bool,
 }
 
-// Each function here gives the exit status, or what it is named after or else the exit status. Where `long` is true, more is said
-// than the lines that are fixed.
+// Each function here returns the exit status; or the value in its name, with the exit status as its error. Where
+// `long` is true, notes are written besides the lines of the standard form.
 
 // Why a file can't be opened, in words.
 fn reason_of(fault: &io::Error) -> &'static str {
@@ -67,7 +75,7 @@ fn reason_of(fault: &io::Error) -> &'static str {
     }
 }
 
-// Says that a file can't be read, and where more is to be said, which file and why.
+// Reports that a file can't be read; with `long`, which file and why.
 fn say_unopened(rt: &HostRuntime, path: &str, reason: &str, long: bool) -> u8 {
     let mut messages = rt.stderr();
     if long {
@@ -78,7 +86,7 @@ fn say_unopened(rt: &HostRuntime, path: &str, reason: &str, long: bool) -> u8 {
     say_unread(&mut messages, ReadFault::Failed)
 }
 
-// Says that a file can't be written, and where more is to be said, which file and why.
+// Reports that a file can't be written; with `long`, which file and why.
 fn say_uncreated(rt: &HostRuntime, path: &str, fault: &io::Error, long: bool) -> u8 {
     let mut messages = rt.stderr();
     let reason = match fault.kind() {
@@ -93,7 +101,7 @@ fn say_uncreated(rt: &HostRuntime, path: &str, fault: &io::Error, long: bool) ->
     say_unwritten(&mut messages)
 }
 
-// A file to be read. A folder can be opened and not read, so where more is to be said it is looked at before.
+// Opens a file for reading. A folder can be opened but not read, so with `long` it is tested before.
 fn opened(rt: &HostRuntime, path: &str, long: bool) -> Result<File, u8> {
     if long {
         if let Ok(found) = fs::metadata(rt, path) {
@@ -137,7 +145,7 @@ fn first_choices(
     }
 }
 
-// Both paths are of one regular file, whatever their spellings. A device may be read and written.
+// Whether both paths name one regular file, whatever their spellings. A device may be read and written.
 fn is_one_file(rt: &HostRuntime, path: &str, other: &str) -> bool {
     match (fs::metadata(rt, path), fs::metadata(rt, other)) {
         (Ok(one), Ok(other)) => {
@@ -147,7 +155,7 @@ fn is_one_file(rt: &HostRuntime, path: &str, other: &str) -> bool {
     }
 }
 
-// The history would take the place of a file that is read. `read_words` has compared the names.
+// Whether the history would overwrite a file that is read. `read_words` has compared the names only.
 fn is_over_read(rt: &HostRuntime, history: Option<&str>, file: &str, first: Option<&str>) -> bool {
     let Some(history) = history else {
         return false;
@@ -155,8 +163,8 @@ fn is_over_read(rt: &HostRuntime, history: Option<&str>, file: &str, first: Opti
     is_one_file(rt, history, file) || first.is_some_and(|path| is_one_file(rt, history, path))
 }
 
-// A file that can be written, with what it has; where there was none, it is made. Where a standard stream is closed, its clone doesn't
-// get the number of that.
+// Opens a file for writing, with its contents; where there is none, makes it. Where a standard stream is closed, the
+// file isn't given its number.
 fn writable(rt: &HostRuntime, path: &str) -> io::Result<Kept> {
     let made = File::create_new(rt, path);
     let is_new = made.is_ok();
@@ -172,7 +180,7 @@ fn writable(rt: &HostRuntime, path: &str) -> io::Result<Kept> {
     })
 }
 
-// The file that is to get a history. It is opened before the run, so that no run is made in vain.
+// Opens the file for a history. It is opened before the run, so that no run is lost for want of the file.
 fn kept_file(rt: &HostRuntime, path: &str, long: bool) -> Result<Kept, u8> {
     match writable(rt, path) {
         Ok(kept) => Ok(kept),
@@ -180,7 +188,7 @@ fn kept_file(rt: &HostRuntime, path: &str, long: bool) -> Result<Kept, u8> {
     }
 }
 
-// Takes out what a file has, which a device doesn't have.
+// Removes the contents of a file. A device has none.
 fn empty(file: &File) -> io::Result<()> {
     if file.metadata()?.is_file() {
         file.set_len(0)?;
@@ -188,7 +196,7 @@ fn empty(file: &File) -> io::Result<()> {
     Ok(())
 }
 
-// Writes the text of a history in the place of what the file has.
+// Replaces the contents of the file by the text of a history.
 fn put_history(
     rt: &HostRuntime,
     path: &str,
@@ -203,7 +211,7 @@ fn put_history(
     }
 }
 
-// Leaves no file that was made for a history that there isn't.
+// Removes a file that was made for a history, where there is no history.
 fn let_go(rt: &HostRuntime, path: &str, kept: &Kept) {
     if kept.is_new {
         let _ = fs::remove_file(rt, path);
@@ -223,7 +231,7 @@ fn write_history(rt: &HostRuntime, run: &Run, path: &str, kept: &mut Kept, long:
 fn run_standard(rt: &HostRuntime, long: bool) -> u8 {
     let alloc = rt.alloc();
     let options = Options::defaults(alloc);
-    let asked = AskedRun {
+    let asked = RunRequest {
         options: &options,
         long,
     };
@@ -272,7 +280,7 @@ fn list_file(rt: &HostRuntime, file: &str, long: bool) -> Result<u8, u8> {
 }
 
 fn run_choices(rt: &HostRuntime, source: &mut Source, options: &Options, long: bool) -> Run {
-    let asked = AskedRun { options, long };
+    let asked = RunRequest { options, long };
     run_noted(
         rt.alloc(),
         source,
@@ -283,7 +291,7 @@ fn run_choices(rt: &HostRuntime, source: &mut Source, options: &Options, long: b
 }
 
 fn run_lots(rt: &HostRuntime, source: &mut Source, options: &LotOptions, long: bool) -> Run {
-    let asked = AskedLots { options, long };
+    let asked = LotsRequest { options, long };
     lots_noted(
         rt.alloc(),
         source,
@@ -293,7 +301,7 @@ fn run_lots(rt: &HostRuntime, source: &mut Source, options: &LotOptions, long: b
     )
 }
 
-// `threads` is the runtime itself, which may start threads where it is handed on as such.
+// `threads` is the runtime itself, which may start threads where it is passed as such.
 fn run_workers<H: Threads + Wait + Sync>(
     rt: &HostRuntime,
     threads: &H,
@@ -301,7 +309,7 @@ fn run_workers<H: Threads + Wait + Sync>(
     options: &WorkOptions,
     long: bool,
 ) -> Run {
-    let asked = AskedWork {
+    let asked = WorkRequest {
         threads,
         options,
         gate: &NoGate,
@@ -316,7 +324,7 @@ fn run_workers<H: Threads + Wait + Sync>(
     )
 }
 
-// The path of a history that is kept by its prefix and its seed, unless it is that of the source.
+// The path of a kept history, by its prefix and its seed, unless it is that of the source.
 fn kept_path(rt: &HostRuntime, file: &str, prefix: &str, seed: u64) -> Result<String, u8> {
     let Ok(path) = format!(in rt.alloc(); "{prefix}.{seed}") else {
         return Err(answer(7, b"", &mut rt.stdout(), &mut rt.stderr()));
@@ -346,7 +354,8 @@ fn keep_history(
     }
 }
 
-// Looks whether the histories of a sample can be kept: the first run is the first one of its outcome, so its history is.
+// Checks that the histories of a sample can be kept. The first run is the first one of its outcome, so its history is
+// always kept.
 fn look_at_first(
     rt: &HostRuntime,
     file: &str,
@@ -360,7 +369,7 @@ fn look_at_first(
     Ok(())
 }
 
-// Samples a source, and where all was written and histories are to be kept, writes those of the first runs.
+// Samples a source. If all was written and histories have to be kept, writes those of the first runs.
 fn sample_file(
     rt: &HostRuntime,
     file: &str,
@@ -376,7 +385,7 @@ fn sample_file(
     if let Some(prefix) = keep {
         look_at_first(rt, file, prefix, options.seed, long)?;
     }
-    let asked = AskedSample { options, long };
+    let asked = SampleRequest { options, long };
     let sample = sample_bytes(
         rt.alloc(),
         &source,
@@ -416,7 +425,7 @@ fn replay_file(
     requires few { arena ≤ 16777216 }
 {
     let mut source = source_of(rt, file, long)?;
-    let asked = AskedReplay {
+    let asked = ReplayRequest {
         history,
         arena,
         long,
@@ -438,8 +447,8 @@ fn bytes_of(word: Option<&str>) -> Option<&[u8]> {
     }
 }
 
-// Says what is asked of the first entries of a history.
-fn state_file(rt: &HostRuntime, file: &str, asked: &AskedState<'_>) -> Result<u8, u8> {
+// Says what is asked of the first entries of a run.
+fn state_file(rt: &HostRuntime, file: &str, asked: &InspectionRequest<'_>) -> Result<u8, u8> {
     let mut source = source_of(rt, file, asked.long)?;
     Ok(state_noted(
         rt.alloc(),
@@ -450,20 +459,125 @@ fn state_file(rt: &HostRuntime, file: &str, asked: &AskedState<'_>) -> Result<u8
     ))
 }
 
-// The bytes of files of histories, in order.
-fn all_bytes(rt: &HostRuntime, paths: &[&str], long: bool) -> Result<Vec<Vec<u8>>, u8> {
-    let mut texts = Vec::new(rt.alloc());
+// Says that memory was refused.
+fn say_no_memory(rt: &HostRuntime) -> u8 {
+    answer(7, b"", &mut rt.stdout(), &mut rt.stderr())
+}
+
+// The run that is looked at, with what its file has.
+fn viewed_run(rt: &HostRuntime, run: &ViewedRun<'_>, long: bool) -> Result<Viewed, u8>
+    requires { IsViewInRange run.now }
+{
+    let (arena, steps) = (run.arena, run.steps);
+    if let Some(path) = run.history {
+        return Ok(Viewed::History(file_bytes(rt, path, long)?));
+    }
+    if let Some(seed) = run.seed {
+        return Ok(Viewed::Lots(LotOptions { arena, steps, seed }));
+    }
+    let choices = first_choices(rt, run.choices, None, long)?;
+    Ok(Viewed::Choices(Options {
+        arena,
+        steps,
+        choices,
+    }))
+}
+
+// Where its history comes from.
+fn origin_of(viewed: &Viewed) -> Origin<'_> {
+    match viewed {
+        Viewed::History(text) => Origin::Text(text),
+        Viewed::Choices(options) => Origin::Choices(options),
+        Viewed::Lots(options) => Origin::Lots(*options),
+    }
+}
+
+// The runs of files of histories, in order.
+fn viewed_files(rt: &HostRuntime, paths: &[&str], long: bool) -> Result<Vec<Viewed>, u8> {
+    let mut all = Vec::new(rt.alloc());
     for path in paths {
         let text = file_bytes(rt, *path, long)?;
-        if texts.push(text).is_err() {
-            return Err(answer(7, b"", &mut rt.stdout(), &mut rt.stderr()));
+        if all.push(Viewed::History(text)).is_err() {
+            return Err(say_no_memory(rt));
         }
     }
-    Ok(texts)
+    Ok(all)
+}
+
+// Runs by lots, in the order of a sample's.
+fn viewed_lots(rt: &HostRuntime, options: &SampleOptions) -> Result<Vec<Viewed>, u8> {
+    let mut all = Vec::new(rt.alloc());
+    for index in 0..options.runs {
+        if all.push(Viewed::Lots(nth_options(options, index))).is_err() {
+            return Err(say_no_memory(rt));
+        }
+    }
+    Ok(all)
+}
+
+// The one run that is looked at.
+fn viewed_one(rt: &HostRuntime, run: &ViewedRun<'_>, long: bool) -> Result<Vec<Viewed>, u8>
+    requires { IsViewInRange run.now }
+{
+    let mut all = Vec::new(rt.alloc());
+    match all.push(viewed_run(rt, run, long)?) {
+        Ok(()) => Ok(all),
+        Err(_) => Err(say_no_memory(rt)),
+    }
+}
+
+// The seed of the first run by lots, where there are several.
+fn first_seed(run: &ViewedRun<'_>) -> u64
+    requires { IsViewInRange run.now }
+    ensures { IsSeed result }
+{
+    match run.seed {
+        Some(seed) => seed,
+        None => 1,
+    }
+}
+
+// The runs that `cover` looks at.
+fn covered(
+    rt: &HostRuntime,
+    run: &ViewedRun<'_>,
+    runs: Option<u32>,
+    histories: &[&str],
+    long: bool,
+) -> Result<Vec<Viewed>, u8>
+    requires { IsViewInRange run.now }
+{
+    if !histories.is_empty() {
+        return viewed_files(rt, histories, long);
+    }
+    if run.seed.is_none() && runs.is_none() {
+        return viewed_one(rt, run, long);
+    }
+    let options = SampleOptions {
+        arena: run.arena,
+        steps: run.steps,
+        seed: first_seed(run),
+        runs: runs.unwrap_or(1),
+    };
+    viewed_lots(rt, &options)
+}
+
+// Where their histories come from.
+fn origins_of<'a>(rt: &HostRuntime, all: &'a [Viewed]) -> Result<Vec<Origin<'a>>, u8> {
+    let mut origins = Vec::new(rt.alloc());
+    for viewed in all {
+        if origins.push(origin_of(viewed)).is_err() {
+            return Err(say_no_memory(rt));
+        }
+    }
+    Ok(origins)
 }
 
 // Says which of several files has no history, where it is refused.
-fn say_refused(rt: &HostRuntime, path: &str, text: &[u8]) -> Option<u8> {
+fn say_refused(rt: &HostRuntime, path: &str, viewed: &Viewed) -> Option<u8> {
+    let Viewed::History(text) = viewed else {
+        return None;
+    };
     let Err(HistFault::Refused { line, .. }) = read_text(rt.alloc(), text) else {
         return None;
     };
@@ -473,8 +587,8 @@ fn say_refused(rt: &HostRuntime, path: &str, text: &[u8]) -> Option<u8> {
     }
 }
 
-// Says how often the statement of each line began in histories.
-fn cover_file(rt: &HostRuntime, file: &str, asked: &AskedCover<'_>) -> Result<u8, u8> {
+// Says how often the statement of each line began in runs.
+fn cover_file(rt: &HostRuntime, file: &str, asked: &CoverRequest<'_>) -> Result<u8, u8> {
     let mut source = source_of(rt, file, asked.long)?;
     Ok(cover_noted(
         rt.alloc(),
@@ -485,8 +599,8 @@ fn cover_file(rt: &HostRuntime, file: &str, asked: &AskedCover<'_>) -> Result<u8
     ))
 }
 
-// Says what differs between the runs of two histories.
-fn diff_file(rt: &HostRuntime, file: &str, asked: &AskedDiff<'_>) -> Result<u8, u8> {
+// Says what differs between two runs.
+fn diff_file(rt: &HostRuntime, file: &str, asked: &DiffRequest<'_>) -> Result<u8, u8> {
     let mut source = source_of(rt, file, asked.long)?;
     Ok(diff_noted(
         rt.alloc(),
@@ -581,74 +695,65 @@ fn done<H: Threads + Wait + Sync>(
             history,
             arena,
         } => replay_file(rt, file, &file_bytes(rt, history, long)?, arena, long),
-        Job::State {
-            file,
-            history,
-            at,
-            arena,
-        } => {
-            let history = file_bytes(rt, history, long)?;
-            let asked = AskedState {
-                telling: Telling::State,
-                history: &history,
+        Job::State { file, run, at } => {
+            let viewed = viewed_run(rt, &run, long)?;
+            let asked = InspectionRequest {
+                telling: Inspection::State,
+                origin: origin_of(&viewed),
                 entries: at.unwrap_or(u64::MAX),
-                arena,
+                arena: run.arena,
                 long,
             };
             state_file(rt, file, &asked)
         }
         Job::Trace {
             file,
-            history,
+            run,
             first,
             last,
             process,
             cell,
-            arena,
         } => {
-            let history = file_bytes(rt, history, long)?;
+            let viewed = viewed_run(rt, &run, long)?;
             let last = last.unwrap_or(u64::MAX);
-            let page = Page {
+            let page = LineFilter {
                 first: first.unwrap_or(1),
                 last,
                 process,
                 cell: bytes_of(cell),
             };
-            let asked = AskedState {
-                telling: Telling::Trace(page),
-                history: &history,
+            let asked = InspectionRequest {
+                telling: Inspection::Trace(page),
+                origin: origin_of(&viewed),
                 entries: last,
-                arena,
+                arena: run.arena,
                 long,
             };
             state_file(rt, file, &asked)
         }
-        Job::Why {
-            file,
-            history,
-            arena,
-        } => {
-            let history = file_bytes(rt, history, long)?;
-            let asked = AskedState {
-                telling: Telling::Why,
-                history: &history,
+        Job::Why { file, run } => {
+            let viewed = viewed_run(rt, &run, long)?;
+            let asked = InspectionRequest {
+                telling: Inspection::Why,
+                origin: origin_of(&viewed),
                 entries: u64::MAX,
-                arena,
+                arena: run.arena,
                 long,
             };
             state_file(rt, file, &asked)
         }
-        Job::Cover { file, arena } => {
-            let texts = all_bytes(rt, &histories, long)?;
-            let asked = AskedCover {
-                histories: &texts,
-                arena,
+        Job::Cover { file, run, runs } => {
+            let all = covered(rt, &run, runs, &histories, long)?;
+            let origins = origins_of(rt, &all)?;
+            let asked = CoverRequest {
+                origins: &origins,
+                arena: run.arena,
                 long,
             };
             let status = cover_file(rt, file, &asked)?;
             if long && status == 2 {
-                for (path, text) in histories.iter().zip(texts.iter()) {
-                    if let Some(status) = say_refused(rt, *path, text) {
+                for (path, viewed) in histories.iter().zip(all.iter()) {
+                    if let Some(status) = say_refused(rt, *path, viewed) {
                         return Err(status);
                     }
                 }
@@ -657,25 +762,33 @@ fn done<H: Threads + Wait + Sync>(
         }
         Job::Diff {
             file,
-            history,
+            run,
             other,
-            arena,
+            other_seed,
         } => {
-            let first = file_bytes(rt, history, long)?;
-            let second = file_bytes(rt, other, long)?;
-            let asked = AskedDiff {
-                first: &first,
-                second: &second,
-                arena,
+            let other_run = ViewedRun {
+                history: other,
+                choices: None,
+                seed: other_seed,
+                arena: run.arena,
+                steps: run.steps,
+            };
+            let first = viewed_run(rt, &run, long)?;
+            let second = viewed_run(rt, &other_run, long)?;
+            let asked = DiffRequest {
+                first: origin_of(&first),
+                second: origin_of(&second),
+                arena: run.arena,
                 long,
             };
             let status = diff_file(rt, file, &asked)?;
             if long && status == 2 {
-                if let Some(status) = say_refused(rt, history, &first) {
-                    return Err(status);
-                }
-                if let Some(status) = say_refused(rt, other, &second) {
-                    return Err(status);
+                for (path, viewed) in [(run.history, &first), (other, &second)] {
+                    if let Some(path) = path {
+                        if let Some(status) = say_refused(rt, path, viewed) {
+                            return Err(status);
+                        }
+                    }
                 }
             }
             Ok(status)

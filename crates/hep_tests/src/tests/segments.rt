@@ -2,7 +2,7 @@
 
 use super::image_from;
 use hep_image::Image;
-use hep_private::{Copied, Record, Segment, Ticket, TicketId, compute, compute_into};
+use hep_private::{CellCopy, Record, Segment, Ticket, TicketId, compute, compute_into};
 use hep_source::Value;
 use std::alloc::Global;
 use std::process::Abort;
@@ -28,7 +28,7 @@ fn ticket_of(
     alloc: Global,
     image: &Image,
     number: u64,
-    copies: &[Copied],
+    copies: &[CellCopy],
 ) -> Ticket {
     let id = TicketId { number, process: 1 };
     let index = if image.program().as_slice().is_empty() {
@@ -41,7 +41,7 @@ fn ticket_of(
     Ticket::new(id, 0, index, Vec::new(alloc), kept)
 }
 
-fn segment_of(rt: &impl Abort, alloc: Global, source: &[u8], copies: &[Copied]) -> Segment {
+fn segment_of(rt: &impl Abort, alloc: Global, source: &[u8], copies: &[CellCopy]) -> Segment {
     let image = image_from(rt, alloc, source);
     let ticket = ticket_of(rt, alloc, &image, 1, copies);
     compute(&image, &ticket)
@@ -74,7 +74,7 @@ pub fn steps_of_a_loop(rt: &impl Abort, alloc: Global) {
 pub fn first_reads(rt: &impl Abort, alloc: Global) {
     let none = segment_of(rt, alloc, RAISE, &[]);
     assert!(rt; none.records().is_empty());
-    let copy = Copied {
+    let copy = CellCopy {
         cell: 1,
         value: Some(Value::Int(5)),
     };

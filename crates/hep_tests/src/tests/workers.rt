@@ -4,7 +4,7 @@ ghost use Rattle.std.specs.Prelude.{◌≤◌};
 use super::{checked_out, chosen, committed, computed, core_of, image_from, source_of};
 use hep_image::Image;
 use hep_run::{
-    Ahead, Batch, ChoiceStop, ChooseFault, CloseFault, CommitFault, Core, Gate, Log, NoGate,
+    Batch, ChoiceStop, ChooseFault, CloseFault, CommitFault, Core, Gate, Log, NoGate, PrivateImage,
     Receipt, Segment, Ticket, Verdict, WorkOptions, close, compute, run_workers, worker_turn,
 };
 use hep_source::Value;
@@ -630,7 +630,7 @@ impl<R: Clock> Gate for Beside<'_, R> {
         &self,
         worker: u32,
         turn: u64,
-        ahead: &Ahead<'_>,
+        ahead: &PrivateImage<'_>,
         ticket: &Ticket,
         batch: &mut Batch,
     ) -> bool {
@@ -704,7 +704,7 @@ impl<R: Clock> Gate for Late<'_, R> {
         &self,
         worker: u32,
         turn: u64,
-        ahead: &Ahead<'_>,
+        ahead: &PrivateImage<'_>,
         ticket: &Ticket,
         batch: &mut Batch,
     ) -> bool {

@@ -1,5 +1,5 @@
 use Rattle.hep_accepted_laws.proofs.Arrays.{array_in_code, array_of_unit}
-use Rattle.hep_accepted_laws.proofs.Facts.{facts_of}
+use Rattle.hep_accepted_laws.proofs.AcceptedFacts.{facts_of}
 use Rattle.hep_accepted_laws.proofs.code.arrays_are_there.Goals as goal
 
 pub returns : goal.returns

@@ -1,5 +1,5 @@
 use Rattle.hep_accepted_laws.proofs.CodedCalls.{call_agrees, create_agrees, reference_agrees}
-use Rattle.hep_accepted_laws.proofs.Facts.{facts_of}
+use Rattle.hep_accepted_laws.proofs.AcceptedFacts.{facts_of}
 use Rattle.hep_accepted_laws.proofs.code.calls_agree.Goals as goal
 
 pub returns : goal.returns

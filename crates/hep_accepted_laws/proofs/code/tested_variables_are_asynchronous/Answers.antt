@@ -1,4 +1,4 @@
-use Rattle.hep_accepted_laws.proofs.Facts.{facts_of}
+use Rattle.hep_accepted_laws.proofs.AcceptedFacts.{facts_of}
 use Rattle.hep_accepted_laws.proofs.Placed.{tested_variables}
 use Rattle.hep_accepted_laws.proofs.code.tested_variables_are_asynchronous.Goals as goal
 

@@ -1,4 +1,4 @@
-use Rattle.hep_accepted_laws.proofs.Facts.{facts_of}
+use Rattle.hep_accepted_laws.proofs.AcceptedFacts.{facts_of}
 use Rattle.hep_accepted_laws.proofs.Placed.{variables_of_all, variables_of_operations}
 use Rattle.hep_accepted_laws.proofs.Starts.{placed_begins}
 use Rattle.hep_accepted_laws.proofs.code.variables_of_the_code_are_placed.Goals as goal

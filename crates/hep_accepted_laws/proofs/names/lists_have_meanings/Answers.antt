@@ -1,4 +1,4 @@
-use Rattle.hep_accepted_laws.proofs.Meant.{reference_known, assigned_known, data_known, purged_known}
+use Rattle.hep_accepted_laws.proofs.NameMeanings.{reference_known, assigned_known, data_known, purged_known}
 use Rattle.hep_accepted_laws.proofs.names.lists_have_meanings.Goals as goal
 
 pub returns : goal.returns

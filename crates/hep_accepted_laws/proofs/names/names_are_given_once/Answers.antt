@@ -1,6 +1,6 @@
 use Rattle.std.proofs.Common.{refl}
 use Rattle.hep_conditions.specs.Words.{bounded_names, common_names, typed_names}
-use Rattle.hep_accepted_laws.proofs.Meant.{constants_once, dummies_once, name_once}
+use Rattle.hep_accepted_laws.proofs.NameMeanings.{constants_once, dummies_once, name_once}
 use Rattle.hep_accepted_laws.proofs.names.names_are_given_once.Goals as goal
 
 pub returns : goal.returns

@@ -1,4 +1,4 @@
-use Rattle.hep_accepted_laws.proofs.Referred.{comes-reference}
+use Rattle.hep_accepted_laws.proofs.References.{comes-reference}
 use Rattle.hep_accepted_laws.proofs.runs.references_come_from_statements.Goals as goal
 
 pub returns : goal.returns

@@ -1,4 +1,4 @@
-use Rattle.hep_accepted_laws.proofs.Formed.{names_have_types}
+use Rattle.hep_accepted_laws.proofs.StatementForms.{names_have_types}
 use Rattle.hep_accepted_laws.proofs.types.names_have_types.Goals as goal
 
 pub returns : goal.returns

@@ -1,10 +1,10 @@
 use Rattle.std.proofs.Common.{◌≡◌, suc, ◌+◌, ◌*◌, refl, subst, arith}
-use Rattle.hep_proc.specs.Keeping.{Keeps}
-use Rattle.hep_binding.specs.Giving.{with_one_given}
-use Rattle.hep_binding.specs.Shapes.{cells_to_bounds_of}
-use Rattle.hep_binding.specs.Writing.{stored_in, unit_framed, written_up_to}
+use Rattle.hep_proc.specs.FrameTable.{Keeps}
+use Rattle.hep_binding.specs.ActualArguments.{with_one_given}
+use Rattle.hep_binding.specs.AdjustableBounds.{cells_to_bounds_of}
+use Rattle.hep_binding.specs.FrameWriting.{stored_in, unit_framed, written_up_to}
 use Rattle.hep_binding.proofs.Dummies.{keeps-unset, keeps-put}
-use Rattle.hep_binding.proofs.Shaped.{keeps-bound}
+use Rattle.hep_binding.proofs.ShapedDummies.{keeps-bound}
 use Rattle.hep_binding.proofs.laws.cells_are_written_in_order.Goals as goal
 
 pub returns-clause-none : goal.returns-clause-none

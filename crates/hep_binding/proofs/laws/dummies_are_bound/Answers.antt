@@ -1,4 +1,4 @@
-use Rattle.hep_binding.proofs.Begun.{begins, binding, stored}
+use Rattle.hep_binding.proofs.BegunActivations.{begins, binding, stored}
 use Rattle.hep_binding.proofs.laws.dummies_are_bound.Goals as goal
 
 pub returns : goal.returns

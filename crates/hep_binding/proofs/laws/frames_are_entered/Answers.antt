@@ -1,4 +1,4 @@
-use Rattle.hep_binding.proofs.Entered.{made-keeps}
+use Rattle.hep_binding.proofs.EnteredFrames.{made-keeps}
 use Rattle.hep_binding.proofs.laws.frames_are_entered.Goals as goal
 
 pub returns : goal.returns

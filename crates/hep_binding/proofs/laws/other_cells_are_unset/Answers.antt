@@ -1,5 +1,5 @@
 use Rattle.std.proofs.Common.{◌≡◌, suc, ◌+◌, ap, ◌∙◌, arith}
-use Rattle.hep_binding.specs.Shapes.{cells_to_bounds_of}
+use Rattle.hep_binding.specs.AdjustableBounds.{cells_to_bounds_of}
 use Rattle.hep_binding.proofs.Cells.{to-end, to-next, to-plain}
 use Rattle.hep_binding.proofs.Calls.{rest-unset}
 use Rattle.hep_binding.proofs.laws.other_cells_are_unset.Goals as goal

@@ -1,7 +1,7 @@
 use Rattle.std.proofs.Common.{sym, ◌∙◌}
 use Rattle.hep_machine.specs.Words.{dummies_of, unit_at}
 use Rattle.hep_binding.specs.Calling.{state_made_by}
-use Rattle.hep_binding.proofs.Begun.{activation-is, given-before, kept-entered}
+use Rattle.hep_binding.proofs.BegunActivations.{activation-is, given-before, kept-entered}
 use Rattle.hep_binding.proofs.Calls.{made-begun, made-stacks}
 use Rattle.hep_binding.proofs.laws.references_are_kept.Goals as goal
 

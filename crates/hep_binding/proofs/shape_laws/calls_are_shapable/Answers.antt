@@ -1,6 +1,6 @@
 use Rattle.hep_machine.specs.Words.{unit_at}
 use Rattle.hep_binding.proofs.CommonCells.{common_some}
-use Rattle.hep_binding.proofs.Shapable.{call_shapable}
+use Rattle.hep_binding.proofs.ShapableCalls.{call_shapable}
 use Rattle.hep_binding.proofs.shape_laws.calls_are_shapable.Goals as goal
 use Rattle.hep_image.proofs.Numbers.{unit-there}
 

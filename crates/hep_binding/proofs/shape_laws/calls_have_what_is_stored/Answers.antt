@@ -1,4 +1,4 @@
-use Rattle.hep_binding.proofs.Stored.{are_stored, call_readable}
+use Rattle.hep_binding.proofs.StoredDummies.{are_stored, call_readable}
 use Rattle.hep_binding.proofs.shape_laws.calls_have_what_is_stored.Goals as goal
 
 pub returns : goal.returns

@@ -1,4 +1,4 @@
-use Rattle.hep_binding.proofs.Readable.{bound_readable, dimensions_readable}
+use Rattle.hep_binding.proofs.ReadableBounds.{bound_readable, dimensions_readable}
 use Rattle.hep_binding.proofs.shape_laws.code_is_readable.Goals as goal
 
 pub returns : goal.returns

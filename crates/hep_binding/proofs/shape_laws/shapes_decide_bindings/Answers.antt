@@ -1,5 +1,5 @@
 use Rattle.hep_machine.specs.Words.{unit_at}
-use Rattle.hep_binding.proofs.Bound.{fit_bound, unfit_faults}
+use Rattle.hep_binding.proofs.BoundDummies.{fit_bound, unfit_faults}
 use Rattle.hep_binding.proofs.CommonCells.{common_some}
 use Rattle.hep_binding.proofs.shape_laws.shapes_decide_bindings.Goals as goal
 use Rattle.hep_image.proofs.Numbers.{unit-there}

@@ -1,7 +1,7 @@
 use Rattle.std.proofs.Common.{◌≡◌, length, Option, Some, None, refl, sym, ap, ◌∙◌, true≢false, ◌&&◌, is_some, not}
 use Rattle.hep_machine.specs.Words.{is_number_among, living, run, living_from, ready_in, State}
 use Rattle.hep_cells.specs.declared.want.Want.{Want}
-use Rattle.hep_blocked.proofs.Living.{waits-live}
+use Rattle.hep_blocked.proofs.LivingProcesses.{waits-live}
 use Rattle.hep_blocked.proofs.Members.{among-living, among-ready, none-among, rising-same, ready-rise}
 use Rattle.hep_blocked.proofs.laws.lists_are_those_of_definitions.Goals as goal
 

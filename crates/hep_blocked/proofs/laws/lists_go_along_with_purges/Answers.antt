@@ -1,9 +1,9 @@
 use Rattle.std.proofs.Common.{◌≡◌, ◌≢◌, ℕ, Bool, [], ◌∷◌, ◌++◌, not}
 use Rattle.hep_machine.specs.Words.{run, is_waiting}
 use Rattle.hep_cells.specs.declared.want.Want.{Want}
-use Rattle.hep_blocked.specs.Awaiting.{NeedsCell}
-use Rattle.hep_blocked.specs.Listing.{IsBlocked}
-use Rattle.hep_blocked.proofs.Keeping.{GoesAlongBy, along-emptied, step-kept}
+use Rattle.hep_blocked.specs.NeededCells.{NeedsCell}
+use Rattle.hep_blocked.specs.RosterUpdates.{IsBlocked}
+use Rattle.hep_blocked.proofs.KeptNeeds.{GoesAlongBy, along-emptied, step-kept}
 use Rattle.hep_blocked.proofs.Waking.{goes-on-emptying, is_emptied}
 use Rattle.hep_blocked.proofs.laws.lists_go_along_with_purges.Goals as goal
 

@@ -1,4 +1,4 @@
-use Rattle.hep_blocked.proofs.Keeping.{entry-kept}
+use Rattle.hep_blocked.proofs.KeptNeeds.{entry-kept}
 use Rattle.hep_blocked.proofs.laws.waiting_processes_are_listed.Goals as goal
 
 pub returns : goal.returns

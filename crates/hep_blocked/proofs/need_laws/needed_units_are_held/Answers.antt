@@ -1,5 +1,5 @@
 use Rattle.hep_machine.specs.Words.{run}
-use Rattle.hep_blocked.proofs.Holding.{need-held}
+use Rattle.hep_blocked.proofs.HeldUnits.{need-held}
 use Rattle.hep_blocked.proofs.need_laws.needed_units_are_held.Goals as goal
 
 pub returns : goal.returns

@@ -1,6 +1,6 @@
 use Rattle.std.proofs.Common.{true, ◌∙◌, sym}
 use Rattle.hep_machine.proofs.Others.{activations_after, others_stay}
-use Rattle.hep_blocked.proofs.Staying.{need-stays}
+use Rattle.hep_blocked.proofs.UnchangedNeeds.{need-stays}
 use Rattle.hep_blocked.proofs.Waiting.{waits-unmet}
 use Rattle.hep_blocked.proofs.need_laws.needs_stay.Goals as goal
 

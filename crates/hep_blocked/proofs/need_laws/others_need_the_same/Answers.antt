@@ -1,6 +1,6 @@
 use Rattle.std.proofs.Common.{◌≡◌, ℕ, true, [], ◌∷◌, ◌++◌}
 use Rattle.hep_machine.specs.Words.{is_owned}
-use Rattle.hep_blocked.proofs.Awaiting.{need-after}
+use Rattle.hep_blocked.proofs.NeededCells.{need-after}
 use Rattle.hep_blocked.proofs.need_laws.others_need_the_same.Goals as goal
 
 pub returns : goal.returns

@@ -1,6 +1,6 @@
 use Rattle.std.proofs.Common.{ℕ, [], ◌∷◌, ◌++◌}
 use Rattle.hep_machine.specs.Words.{run, Activation}
-use Rattle.hep_blocked.proofs.Placing.{cell-stays}
+use Rattle.hep_blocked.proofs.RankPlaces.{cell-stays}
 use Rattle.hep_blocked.proofs.need_laws.units_stay_in_their_cells.Goals as goal
 
 pub returns : goal.returns

@@ -2,7 +2,7 @@ use Rattle.std.proofs.Common.{sym, ◌∙◌, not}
 use Rattle.std.proofs.lemmas.Option.{same_Some}
 use mathlib.Core.Bool.{beq}
 use Rattle.hep_machine.specs.Words.{run}
-use Rattle.hep_blocked.proofs.Awaiting.{waits-by-state}
+use Rattle.hep_blocked.proofs.NeededCells.{waits-by-state}
 use Rattle.hep_blocked.proofs.need_laws.waiting_is_read_from_cells.Goals as goal
 
 pub returns : goal.returns

@@ -1,7 +1,7 @@
 use Rattle.std.proofs.Common.{◌&&◌, ◌||◌, ◌∙◌, ap, nat_eq, sym}
 use Rattle.hep_machine.specs.Words.{is_number_among}
 use Rattle.hep_source.proofs.Tests.{and-true}
-use Rattle.hep_blocked.proofs.Adding.{among-one}
+use Rattle.hep_blocked.proofs.QueueAdding.{among-one}
 use Rattle.hep_blocked.proofs.roster.mark.Goals as goal
 
 pub returns-then-is_ready-clause-ready : goal.returns-then-is_ready-clause-ready

@@ -1,6 +1,6 @@
 use Rattle.std.proofs.Common.{◌≡◌, ◌<◌, ◌+◌, ◌&&◌, ◌||◌, suc, None, ap, ◌∙◌, arith, get_or, if◌then◌else◌, length, nat_eq, nat_lt}
 use Rattle.hep_machine.specs.Words.{is_number_among}
-use Rattle.hep_blocked.specs.Rolls.{number_at, place_of, want_of}
+use Rattle.hep_blocked.specs.Rosters.{number_at, place_of, want_of}
 use Rattle.hep_blocked.specs.Waiting.{waiting_at}
 use Rattle.hep_blocked.proofs.Ranks.{less-at, number-some, rise-to}
 use Rattle.hep_blocked.proofs.Rosters.{taken-all, taken-next, taken-none, wanted-all, wanted-next, wanted-none}

@@ -1,7 +1,7 @@
 use Rattle.std.proofs.Common.{◌≡◌, ◌<◌, ◌≤◌, ◌&&◌, ℕ, suc, None, length, nat_lt, if◌then◌else◌}
 use Rattle.hep_machine.specs.Words.{is_number_among}
 use Rattle.hep_blocked.specs.Numbers.{AreRising}
-use Rattle.hep_blocked.specs.Rolls.{number_at, place_of, want_of}
+use Rattle.hep_blocked.specs.Rosters.{number_at, place_of, want_of}
 use Rattle.hep_blocked.specs.Waiting.{waiting_at}
 use Rattle.hep_blocked.proofs.roster.moved.Given as goal
 

@@ -1,6 +1,6 @@
 use Rattle.hep_conditions.specs.Words.{violations}
 use Rattle.hep_conditions.proofs.First.{none_reported}
-use Rattle.hep_check.proofs.Judged.{told-kept, told-violation}
+use Rattle.hep_check.proofs.Rejected.{told-kept, told-violation}
 use Rattle.hep_check.proofs.refusal_laws.rejected_are_violations.Goals as goal
 
 pub returns : goal.returns

@@ -1,4 +1,4 @@
-use Rattle.hep_code.proofs.Coded.{none_comes, some_comes, value_comes}
+use Rattle.hep_code.proofs.BoundValues.{none_comes, some_comes, value_comes}
 use Rattle.hep_code.proofs.bound_laws.bounds_are_coded.Goals as goal
 
 pub returns : goal.returns

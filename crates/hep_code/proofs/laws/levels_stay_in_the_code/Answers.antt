@@ -1,4 +1,4 @@
-use Rattle.hep_code.proofs.Stacks.{moved_levels, filled_levels, still_levels, returned, answered, called, created, resumed}
+use Rattle.hep_code.proofs.ProcessesInCode.{moved_levels, filled_levels, still_levels, returned, answered, called, created, resumed}
 use Rattle.hep_code.proofs.laws.levels_stay_in_the_code.Goals as goal
 
 pub returns : goal.returns

@@ -1,4 +1,4 @@
-use Rattle.hep_code.proofs.Leads.{entered_is_do, ended_is_do}
+use Rattle.hep_code.proofs.ControlFlow.{entered_is_do, ended_is_do}
 use Rattle.hep_code.proofs.laws.loops_are_there.Goals as goal
 
 pub returns : goal.returns

@@ -1,5 +1,5 @@
 use Rattle.std.proofs.Common.{arith}
-use Rattle.hep_code.proofs.Depths.{room_for}
+use Rattle.hep_code.proofs.OperandCounts.{room_for}
 use Rattle.hep_code.proofs.laws.operands_have_room.Goals as goal
 
 pub returns : goal.returns

@@ -1,6 +1,6 @@
 use Rattle.std.proofs.Common.{◌≡◌, ◌⊎◌, ◌∙◌, ℕ, Bool, List, [], Option, Some, Result, Ok, Err, IfOk, IfErr, map, inl, inr, sym}
 use Rattle.clap.specs.Words.{Text, subcommand_rows_of}
-use Rattle.hep_command.specs.Asked.{Asked, asked_by, is_long_in, job_in, words_found, histories_in}
+use Rattle.hep_command.specs.Asked.{RequestedJob, asked_by, is_long_in, job_in, words_found, histories_in}
 use Rattle.hep_command.specs.Jobs.{IsWant}
 use Rattle.hep_command.specs.Program.{IsAskedBy, IsMistaken, IsStatusFor, asked, is_long, histories}
 use Rattle.hep_command.specs.declared.job.Request.{Request}
@@ -9,12 +9,12 @@ use Rattle.hep_command.proofs.ProgramLemmas.{histories_in-histories, is_long_in-
 use Rattle.hep_command.proofs.words.read_request.Goals as goal
 
 -- a request has the job and the length that the words ask for
-asked_by_words : (r : Result Request Usage) (words : List Text) (job : Option Asked) (long : Bool) (kept : List Text) → job ≡ asked words → long ≡ is_long words → kept ≡ histories words
+asked_by_words : (r : Result Request Usage) (words : List Text) (job : Option RequestedJob) (long : Bool) (kept : List Text) → job ≡ asked words → long ≡ is_long words → kept ≡ histories words
     → IfOk r (λ q. job ≡ Some (asked_by q.job)) → IfOk r (λ q. q.long ≡ long) → IfOk r (λ q. map (λ h. h.now) q.histories.items ≡ kept) → IfOk r (IsAskedBy words)
 asked_by_words (Ok q) words job long kept job_is long_is kept_are by_job by_long by_kept = (sym job_is ∙ by_job, by_long ∙ long_is, by_kept ∙ kept_are)
 asked_by_words (Err e) words job long kept job_is long_is kept_are by_job by_long by_kept = tt
 
-status_of_mistake : (r : Result Request Usage) (found : Option Asked) (P : ℕ → Type 0) → ((n : ℕ) → (n ≡ 7) ⊎ ((n ≡ 2) × IsMistaken found) → P n)
+status_of_mistake : (r : Result Request Usage) (found : Option RequestedJob) (P : ℕ → Type 0) → ((n : ℕ) → (n ≡ 7) ⊎ ((n ≡ 2) × IsMistaken found) → P n)
     → IfErr r (λ usage. IsWant usage ⊎ ((usage.status ≡ 2) × IsMistaken found)) → IfErr r (λ usage. P usage.status)
 status_of_mistake (Ok q) found P by h = tt
 status_of_mistake (Err usage) found P by (inl want) = by usage.status (inl want.0)

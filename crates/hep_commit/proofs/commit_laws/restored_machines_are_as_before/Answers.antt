@@ -1,9 +1,9 @@
 use Rattle.std.proofs.Common.{length, subst}
-use Rattle.hep_private.specs.Own.{begun}
-use Rattle.hep_commit.specs.PutBack.{AreOf}
-use Rattle.hep_commit.specs.Levels.{start_in}
+use Rattle.hep_private.specs.OwnState.{begun}
+use Rattle.hep_commit.specs.UndoneStores.{AreOf}
+use Rattle.hep_commit.specs.SegmentStarts.{start_in}
 use Rattle.hep_commit.specs.OwnCells.{own_cells_of}
-use Rattle.hep_commit.proofs.OwnRead.{stored-by}
+use Rattle.hep_commit.proofs.OwnReads.{stored-by}
 use Rattle.hep_commit.proofs.Restored.{restored-moved}
 use Rattle.hep_commit.proofs.commit_laws.restored_machines_are_as_before.Goals as goal
 

@@ -1,8 +1,8 @@
 use Rattle.hep_machine.specs.Words.{unit_at}
 use Rattle.hep_image.specs.Private.{private_cells}
 use Rattle.hep_step.specs.Simulation.{unit_code}
-use Rattle.hep_commit.specs.Gone.{own_of}
-use Rattle.hep_commit.proofs.Beside.{read-still}
+use Rattle.hep_commit.specs.PrivateTurns.{own_of}
+use Rattle.hep_commit.proofs.OtherTurns.{read-still}
 use Rattle.hep_commit.proofs.noninterference.others_leave_what_is_read.Goals as goal
 
 pub returns : goal.returns

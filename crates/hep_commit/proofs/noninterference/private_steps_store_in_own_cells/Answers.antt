@@ -1,4 +1,4 @@
-use Rattle.hep_commit.proofs.Stored.{of-steps}
+use Rattle.hep_commit.proofs.BatchStores.{of-steps}
 use Rattle.hep_commit.proofs.noninterference.private_steps_store_in_own_cells.Goals as goal
 
 pub returns : goal.returns

@@ -1,6 +1,6 @@
 use Rattle.std.proofs.Common.{◌≡◌, ◌++◌, drop}
-use Rattle.hep_private.specs.Own.{values_at}
-use Rattle.hep_commit.specs.Levels.{copies_of}
+use Rattle.hep_private.specs.OwnState.{values_at}
+use Rattle.hep_commit.specs.SegmentStarts.{copies_of}
 use Rattle.hep_commit.proofs.slots.copy_cells.Given as goal
 
 abbrev pub invariant-loop-cell : goal.invariant-loop-cell

@@ -1,5 +1,5 @@
 use Rattle.std.proofs.Common.{◌≡◌, ◌++◌, drop}
-use Rattle.hep_commit.specs.Saved.{slots_of}
+use Rattle.hep_commit.specs.UndoLogs.{slots_of}
 use Rattle.hep_commit.proofs.slots.copy_slots.Given as goal
 
 abbrev pub invariant-loop-cell : goal.invariant-loop-cell

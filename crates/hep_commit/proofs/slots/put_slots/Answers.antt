@@ -1,5 +1,5 @@
 use Rattle.std.proofs.Common.{◌∙◌, drop, sym}
-use Rattle.hep_commit.proofs.Putting.{with-none}
+use Rattle.hep_commit.proofs.PutBackCells.{with-none}
 use Rattle.hep_commit.proofs.slots.put_slots.Goals as goal
 
 pub returns-in_default : goal.returns-in_default

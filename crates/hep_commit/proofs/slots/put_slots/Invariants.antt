@@ -1,5 +1,5 @@
 use Rattle.std.proofs.Common.{◌≡◌, drop}
-use Rattle.hep_commit.specs.Saved.{with_slots}
+use Rattle.hep_commit.specs.UndoLogs.{with_slots}
 use Rattle.hep_commit.proofs.slots.put_slots.Given as goal
 
 abbrev pub invariant-loop-cell : goal.invariant-loop-cell

@@ -1,7 +1,7 @@
 use Rattle.std.proofs.Common.{◌≡◌, drop}
-use Rattle.hep_private.specs.Own.{values_at}
-use Rattle.hep_commit.specs.Fitting.{slots_with}
-use Rattle.hep_commit.specs.Saved.{with_slots}
+use Rattle.hep_private.specs.OwnState.{values_at}
+use Rattle.hep_commit.specs.BatchStarts.{slots_with}
+use Rattle.hep_commit.specs.UndoLogs.{with_slots}
 use Rattle.hep_commit.proofs.slots.put_values.Given as goal
 
 abbrev pub invariant-loop-cell : goal.invariant-loop-cell

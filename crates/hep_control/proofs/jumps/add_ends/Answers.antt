@@ -1,6 +1,6 @@
 use Rattle.std.proofs.Common.{◌+◌, [], ◌∷◌, ◌++◌, ap, drop, ◌∙◌}
 use Rattle.hep_control.specs.Jumps.{value_by_end}
-use Rattle.hep_control.proofs.Pushed.{pushed}
+use Rattle.hep_control.proofs.AddedLines.{pushed}
 use Rattle.hep_control.proofs.jumps.add_ends.Goals as goal
 use Rattle.hep_source.proofs.Tests.{drop_at}
 

@@ -1,6 +1,6 @@
 use Rattle.std.proofs.Common.{◌+◌, [], ◌∷◌, ◌++◌, ap, drop, ◌∙◌}
 use Rattle.hep_control.specs.Jumps.{question_by_end}
-use Rattle.hep_control.proofs.Pushed.{pushed}
+use Rattle.hep_control.proofs.AddedLines.{pushed}
 use Rattle.hep_control.proofs.jumps.events_by_end.Goals as goal
 use Rattle.hep_source.proofs.Tests.{drop_at}
 

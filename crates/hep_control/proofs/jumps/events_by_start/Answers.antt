@@ -1,7 +1,7 @@
 use Rattle.std.proofs.Common.{◌+◌, [], ◌∷◌, ◌++◌, add-one, ap, drop, ◌∙◌}
 use Rattle.hep_control.specs.Jumps.{question_by_start}
 use Rattle.hep_control.specs.declared.sweep.Event.TheVariants.{Question}
-use Rattle.hep_control.proofs.Pushed.{pushed}
+use Rattle.hep_control.proofs.AddedLines.{pushed}
 use Rattle.hep_control.proofs.jumps.events_by_start.Goals as goal
 use Rattle.hep_source.proofs.Tests.{drop_at}
 

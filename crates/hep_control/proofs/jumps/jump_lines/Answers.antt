@@ -3,7 +3,7 @@ use Rattle.std.specs.List.{flat_map, list_any}
 use Rattle.hep_control.specs.declared.region.Jump.{Jump}
 use Rattle.hep_control.specs.Jumps.{line_to_division, value_by_start, question_by_start, value_by_end, question_by_end}
 use Rattle.hep_control.specs.Sweep.{lines_asked}
-use Rattle.hep_control.proofs.Leaps.{jumps-told}
+use Rattle.hep_control.proofs.JumpSweeps.{jumps-told}
 use Rattle.hep_control.proofs.jumps.jump_lines.Goals as goal
 
 pub returns : goal.returns

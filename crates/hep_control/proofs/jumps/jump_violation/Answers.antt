@@ -2,7 +2,7 @@ use Rattle.std.proofs.Common.{◌≡◌, ◌++◌, map, ◌∙◌, sym, ap}
 use Rattle.hep_conditions.specs.Words.{reported, least_line, least_line_of}
 use Rattle.hep_control.specs.Sweep.{least_met}
 use Rattle.hep_control.specs.Jumps.{value_by_start, question_by_start, value_by_end, question_by_end, line_to_division}
-use Rattle.hep_control.proofs.Leaps.{reported-parts}
+use Rattle.hep_control.proofs.JumpSweeps.{reported-parts}
 use Rattle.hep_control.proofs.jumps.jump_violation.Goals as goal
 
 pub returns : goal.returns

@@ -1,6 +1,6 @@
 use Rattle.std.proofs.Common.{◌≡◌, ◌∙◌, ◌+◌, ◌<◌, get_or, length, ap, sym, subst, arith}
 use Rattle.hep_control.specs.Loops.{terminal_at, with_loop, loop_met}
-use Rattle.hep_control.proofs.Looped.{Passed, one-passed}
+use Rattle.hep_control.proofs.InnermostLoops.{Passed, one-passed}
 use Rattle.hep_control.proofs.loops.loops_of.Goals as goal
 
 pub loop-index-preserved : goal.loop-index-preserved

@@ -1,4 +1,4 @@
-use Rattle.hep_control.proofs.Looped.{Passed}
+use Rattle.hep_control.proofs.InnermostLoops.{Passed}
 use Rattle.hep_control.proofs.loops.loops_of.Given as goal
 
 abbrev pub invariant-loop-index : goal.invariant-loop-index

@@ -1,7 +1,7 @@
 use Rattle.std.proofs.Common.{map, arith}
 use Rattle.std.proofs.lemmas.Grind.{common_steps}
 use Rattle.hep_control.specs.Ranges.{do_range}
-use Rattle.hep_control.proofs.Leaps.{regions-any}
+use Rattle.hep_control.proofs.JumpSweeps.{regions-any}
 use Rattle.hep_control.proofs.regions.regions_of.Goals as goal
 
 pub returns : goal.returns

@@ -1,5 +1,5 @@
 use Rattle.std.proofs.Common.{◌∙◌, ap}
-use Rattle.hep_control.proofs.Alone.{unmatched-told}
+use Rattle.hep_control.proofs.SingleLines.{unmatched-told}
 use Rattle.hep_control.proofs.structure.add_unmatched.Goals as goal
 
 pub returns : goal.returns

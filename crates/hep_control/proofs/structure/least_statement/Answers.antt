@@ -1,7 +1,7 @@
 use Rattle.std.proofs.Common.{◌≡◌, ◌+◌, drop, arith}
 use Rattle.std.proofs.lemmas.Grind.{common_steps}
 use Rattle.hep_control.specs.Structure.{variable_at}
-use Rattle.hep_control.proofs.Alone.{statement-next}
+use Rattle.hep_control.proofs.SingleLines.{statement-next}
 use Rattle.hep_control.proofs.structure.least_statement.Goals as goal
 
 pub loop-index-preserved : goal.loop-index-preserved

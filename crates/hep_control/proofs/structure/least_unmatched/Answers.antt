@@ -1,7 +1,7 @@
 use Rattle.std.proofs.Common.{◌≡◌, ◌∙◌, ap}
 use Rattle.hep_conditions.specs.Words.{reported, least_line, least_line_of}
 use Rattle.hep_control.specs.Structure.{line_of_stray, line_of_unclosed}
-use Rattle.hep_control.proofs.Alone.{least-unmatched}
+use Rattle.hep_control.proofs.SingleLines.{least-unmatched}
 use Rattle.hep_control.proofs.structure.least_unmatched.Goals as goal
 
 pub returns : goal.returns

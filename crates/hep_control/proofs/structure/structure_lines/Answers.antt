@@ -2,7 +2,7 @@ use Rattle.std.proofs.Common.{◌≡◌, ◌||◌, ◌++◌, ◌∙◌, ap, []}
 use Rattle.std.specs.List.{list_any}
 use Rattle.hep_conditions.specs.Words.{block_violations, indexed_statements, nesting_violations}
 use Rattle.hep_control.specs.Structure.{lines_alone}
-use Rattle.hep_control.proofs.Alone.{structure-told}
+use Rattle.hep_control.proofs.SingleLines.{structure-told}
 use Rattle.hep_control.proofs.Sets.{line_passes}
 use Rattle.hep_control.proofs.structure.structure_lines.Goals as goal
 

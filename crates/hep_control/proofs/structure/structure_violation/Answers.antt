@@ -1,7 +1,7 @@
 use Rattle.std.proofs.Common.{◌≡◌, ◌∙◌, ap}
-use Rattle.hep_conditions.specs.Words.{indexed_statements, block_violations, nesting_violations, first_of, reported, least_line}
-use Rattle.hep_control.specs.Structure.{least_statement, loop_variables}
-use Rattle.hep_control.proofs.Alone.{reported-structure}
+use Rattle.hep_conditions.specs.Words.{indexed_statements, block_violations, nesting_violations, first_of, reported, least_line, loop_variables}
+use Rattle.hep_control.specs.Structure.{least_statement}
+use Rattle.hep_control.proofs.SingleLines.{reported-structure}
 use Rattle.hep_control.proofs.structure.structure_violation.Goals as goal
 
 pub returns : goal.returns

@@ -1,5 +1,5 @@
 use Rattle.std.proofs.Common.{◌≡◌, ◌-◌, ◌+◌, ◌<◌, suc, length, refl, sym, subst, arith}
-use Rattle.hep_control.proofs.Ahead.{Read, one-read}
+use Rattle.hep_control.proofs.Continuations.{Read, one-read}
 use Rattle.hep_control.proofs.successors.successors_of.Goals as goal
 
 pub loop-read-preserved : goal.loop-read-preserved

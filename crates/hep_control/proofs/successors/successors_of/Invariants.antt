@@ -1,5 +1,5 @@
 use Rattle.std.proofs.Common.{◌-◌}
-use Rattle.hep_control.proofs.Ahead.{Read}
+use Rattle.hep_control.proofs.Continuations.{Read}
 use Rattle.hep_control.proofs.successors.successors_of.Given as goal
 
 abbrev pub invariant-loop-read : goal.invariant-loop-read

@@ -1,6 +1,6 @@
 use Rattle.std.proofs.Common.{◌≡◌, ◌∙◌, subst, arith}
-use Rattle.hep_core.specs.Going.{entries_along}
-use Rattle.hep_core.proofs.Going.{entries-many}
+use Rattle.hep_core.specs.SilentChoices.{entries_along}
+use Rattle.hep_core.proofs.SilentChoices.{entries-many}
 use Rattle.hep_core.proofs.run_core.note_all.Goals as goal
 
 pub returns-then-count-eq1 : goal.returns-then-count-eq1

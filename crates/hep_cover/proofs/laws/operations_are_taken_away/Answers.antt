@@ -1,5 +1,5 @@
 use Rattle.std.proofs.Common.{arith}
-use Rattle.hep_cover.proofs.Taken.{taken}
+use Rattle.hep_cover.proofs.TakenOperations.{taken}
 use Rattle.hep_cover.proofs.laws.operations_are_taken_away.Goals as goal
 
 pub returns-clause-filled : goal.returns-clause-filled

@@ -1,14 +1,10 @@
-use Rattle.std.proofs.Common.{◌≡◌, suc, ◌++◌, ◌+◌, ◌-◌, List, ℕ, Option, Some, None, refl, length, sym, ap, ◌∙◌, append_assoc, append-nil, arith}
+use Rattle.std.proofs.Common.{◌≡◌, suc, ◌++◌, ◌+◌, ◌-◌, List, ℕ, length, sym, ap, ◌∙◌, append_assoc, append-nil, arith}
 use Rattle.hep_machine.specs.Words.{Units}
-use Rattle.hep_core.specs.Listed.{Listed}
-use Rattle.hep_core.specs.Value.{state_of}
+use Rattle.hep_core.specs.CoreValues.{state_of}
 use Rattle.hep_dump.specs.Waiting as words
 use Rattle.hep_dump.proofs.Counting.{first-of, no-lines}
 use Rattle.hep_dump.proofs.waiting.append_all_waiting.Goals as goal
-
-nobody : (o : Option Listed) → ((l : Listed) → o ≡ Some l → ⊥) → o ≡ None
-nobody None not = refl
-nobody (Some l) not = absurd (not l refl)
+use Rattle.hep_source.proofs.Tests.{none-if_not}
 
 pub loop-listed-smaller : goal.loop-listed-smaller
 loop-listed-smaller c =
@@ -43,7 +39,7 @@ returns c =
     let told = words.told_text c.args.long core.program in
     let n = length (state_of core).processes in
     let last = c.loop-listed.last in
-    let none = no-lines told core.program core.history (suc last) (n - last) (sym c.waiting_after.ensures ∙ nobody c.waiting_after.result c.in_default.not-Some) in
+    let none = no-lines told core.program core.history (suc last) (n - last) (sym c.waiting_after.ensures ∙ none-if_not c.waiting_after.result c.in_default.not-Some) in
     sym (append-nil c.loop-listed.text.items)
     ∙ ap (λ (ys : List ℕ). c.loop-listed.text.items ++ ys) (sym none)
     ∙ c.loop-listed.invariant

@@ -1,5 +1,5 @@
 use Rattle.std.proofs.Common.{◌≡◌, suc, ◌++◌, ◌-◌, length}
-use Rattle.hep_core.specs.Value.{state_of}
+use Rattle.hep_core.specs.CoreValues.{state_of}
 use Rattle.hep_dump.specs.Waiting as words
 use Rattle.hep_dump.proofs.waiting.append_all_waiting.Given as goal
 

@@ -7,8 +7,8 @@ use Rattle.hep_code.specs.Words.{actuals_code_in, argument_of, count, evaluating
 use Rattle.hep_emit.specs.ArgumentLimits.{IsTooLong, subscripts_of_all}
 use Rattle.hep_emit.specs.Names.{names_in}
 use Rattle.hep_emit.specs.Uses.{evaluation_listed, operands_listed, reference_code}
-use Rattle.hep_emit.proofs.Given.{given_long}
-use Rattle.hep_emit.proofs.ListLengths.{count_length}
+use Rattle.hep_emit.proofs.ActualCode.{given_long}
+use Rattle.hep_code.proofs.ListLengths.{count_length}
 use Rattle.hep_emit.proofs.CodeLengths.{passes_count}
 use Rattle.hep_emit.proofs.ExpressionRefusals.{long, of_list, weaker}
 use Rattle.hep_emit.proofs.Uses.{listed_evaluated, listed_long, listed_referred, whole}

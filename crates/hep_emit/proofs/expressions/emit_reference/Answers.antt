@@ -1,7 +1,7 @@
 use Rattle.std.proofs.Common.{arith}
 use Rattle.std.proofs.lemmas.Grind.{common_steps}
 use Rattle.hep_emit.specs.Names.{names_in}
-use Rattle.hep_emit.proofs.ListLengths.{count_length}
+use Rattle.hep_code.proofs.ListLengths.{count_length}
 use Rattle.hep_emit.proofs.CodeLengths.{passes_map}
 use Rattle.hep_emit.proofs.expressions.emit_reference.Goals as goal
 

@@ -1,15 +1,15 @@
 use Rattle.std.proofs.Common.{◌≡◌, ◌<◌, ℕ, Bool, true, false, true≢false, List, Option, Some, None, drop, length, slice_get, refl, sym, ap, ◌∙◌, subst, arith}
 use Rattle.std.specs.Option.{unwrap_or}
 use Rattle.std.proofs.lemmas.Option.{same_Some, slice_get_within}
-use Rattle.hep_code.proofs.Ahead.{next_is_ahead}
+use Rattle.hep_code.proofs.NextOperation.{next_is_ahead}
 use Rattle.hep_code.specs.Words.{Stands}
 use Rattle.hep_machine.specs.Words.{Level, Process, Top, next_of, unit_at, unit_of}
-use Rattle.hep_advance.specs.Watches.{is_watched, row_in, watched_at}
+use Rattle.hep_advance.specs.BreakpointRows.{is_watched, row_in, watched_at}
 use Rattle.hep_advance.specs.declared.breakpoints.Breakpoints.{Breakpoints}
-use Rattle.hep_state.proofs.Tops.{dropped-first}
 use Rattle.hep_step.specs.Simulation.{unit_addressed, unit_code}
-use Rattle.hep_event.proofs.Silent.{settled, silent}
+use Rattle.hep_event.proofs.UnwatchedSteps.{settled, silent}
 use Rattle.hep_event.proofs.breakpoint_laws.unwatched_turns_access_nothing.Goals as goal
+use Rattle.hep_source.proofs.Tests.{dropped-first}
 
 -- a watch tells of each index that isn't watched
 told-in : (row : List Bool) (index : ℕ) → watched_at row index ≡ false → slice_get row index ≡ Some false

@@ -4,9 +4,9 @@ use Rattle.hep_code.specs.Words.{is_asynchronous}
 use Rattle.hep_image.specs.Places.{variable_of}
 use Rattle.hep_layout.specs.Words.{address}
 use Rattle.hep_machine.specs.Words.{Layout, Level, Process, location_of_name, next_of, run, scope_of, unit_at, unit_of}
-use Rattle.hep_event.specs.Access.{IsAccessed, IsOfLocation}
+use Rattle.hep_event.specs.NextAccesses.{IsAccessed, IsOfLocation}
 use Rattle.hep_event.proofs.AccessedVariables.{found-so}
-use Rattle.hep_event.proofs.Standing.{settled-there, settled-turn, turn}
+use Rattle.hep_event.proofs.TopPositions.{settled-there, settled-turn, turn}
 use Rattle.hep_step.specs.Simulation.{variable_in}
 use Rattle.hep_event.proofs.next_laws.accesses_are_found.Goals as goal
 

@@ -4,7 +4,7 @@ use Rattle.hep_code.specs.Words.{Answers}
 use Rattle.hep_layout.specs.Words.{address}
 use Rattle.hep_machine.specs.Words.{Layout, Level, Process, answer_of, evaluating, next_of, run, scope_of, unit_at, unit_of, wants}
 use Rattle.hep_event.proofs.Answered.{answered, own-reply, replied-so}
-use Rattle.hep_event.proofs.Standing.{settled-there, settled-turn, turn}
+use Rattle.hep_event.proofs.TopPositions.{settled-there, settled-turn, turn}
 use Rattle.hep_event.proofs.next_laws.replies_are_answers.Goals as goal
 
 pub returns : goal.returns

@@ -9,8 +9,8 @@ use Rattle.hep_proc.proofs.Levels.{operands-are}
 use Rattle.hep_step.specs.Simulation.{unit_addressed, unit_code}
 use Rattle.hep_state.specs.Words.{HasLevels, snapshot_of}
 use Rattle.hep_state.proofs.Processes.{process-at, some-levels-at}
-use Rattle.hep_state.proofs.Unchanged.{carry}
-use Rattle.hep_event.proofs.Standing.{on-top, room-there, unit-inside}
+use Rattle.hep_state.proofs.UnchangedStates.{carry}
+use Rattle.hep_event.proofs.TopPositions.{on-top, room-there, unit-inside}
 use Rattle.hep_event.proofs.next_operation.coming_of.Goals.{After-settle}
 use Rattle.hep_event.proofs.next_operation.coming_of.Goals as goal
 

@@ -2,17 +2,17 @@ use Rattle.std.proofs.Common.{◌≡◌, ◌≢◌, ℕ, Some, refl, sym, ◌∙
 use Rattle.std.proofs.lemmas.Option.{same_Some}
 use Rattle.hep_code.specs.declared.variable.Variable.TheVariants.{Absent}
 use Rattle.hep_code.specs.Words.{Stands}
-use Rattle.hep_code.proofs.Ahead.{next_is_ahead}
-use Rattle.hep_event.specs.Access.{IsAccessed}
-use Rattle.hep_event.proofs.Standing.{on-top}
+use Rattle.hep_code.proofs.NextOperation.{next_is_ahead}
+use Rattle.hep_event.specs.NextAccesses.{IsAccessed}
+use Rattle.hep_event.proofs.TopPositions.{on-top}
 use Rattle.hep_image.specs.Places.{variable_of}
 use Rattle.hep_machine.specs.Words.{Level, Process, next_of, run, unit_at, unit_of}
-use Rattle.hep_state.proofs.Tops.{dropped-first}
 use Rattle.hep_step.specs.Simulation.{unit_addressed, unit_code}
-use Rattle.hep_views.proofs.Waiting.{living-top}
-use Rattle.hep_event.specs.Named.{named_by}
+use Rattle.hep_views.proofs.WaitingPlaces.{living-top}
+use Rattle.hep_event.specs.NamedVariables.{named_by}
 use Rattle.hep_event.proofs.AccessedAhead.{named-placed, names-accessed}
 use Rattle.hep_event.proofs.site_laws.accesses_name_variables.Goals as goal
+use Rattle.hep_source.proofs.Tests.{dropped-first}
 
 pub returns : goal.returns
 returns c program cells choices m p top coming x accepted after lives is accessed =

@@ -3,10 +3,10 @@ use Rattle.hep_code.specs.declared.variable.Variable.TheVariants.{Absent}
 use Rattle.hep_code.specs.Words.{is_asynchronous}
 use Rattle.hep_image.specs.Places.{variable_of}
 use Rattle.hep_machine.specs.Words.{Level, Process, Reference, next_of, run, unit_at, unit_of}
-use Rattle.hep_event.proofs.Standing.{settled-there, settled-turn, turn}
-use Rattle.hep_event.specs.Named.{IsNamed, named_by}
+use Rattle.hep_event.proofs.TopPositions.{settled-there, settled-turn, turn}
+use Rattle.hep_event.specs.NamedVariables.{IsNamed, named_by}
 use Rattle.hep_event.proofs.NamedAhead.{named-so, naming}
-use Rattle.hep_event.proofs.Placed.{levels-of, same-top}
+use Rattle.hep_event.proofs.FoundVariables.{levels-of, same-top}
 use Rattle.hep_event.proofs.site_laws.operations_name_variables.Goals as goal
 
 pub returns-clause-variables : goal.returns-clause-variables

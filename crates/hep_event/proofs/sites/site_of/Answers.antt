@@ -1,13 +1,13 @@
 use Rattle.std.proofs.Common.{◌∙◌, sym, subst}
-use Rattle.hep_image.specs.Finding.{address_of, cells_in}
-use Rattle.hep_image.specs.Within.{LiesIn}
+use Rattle.hep_image.specs.Addressing.{address_of, cells_in}
+use Rattle.hep_image.specs.FrameBounds.{LiesIn}
 use Rattle.hep_proc.specs.declared.process.Local.{Local}
 use Rattle.hep_state.proofs.Processes.{process-at, some-levels-at}
-use Rattle.hep_state.proofs.Unchanged.{carry}
+use Rattle.hep_state.proofs.UnchangedStates.{carry}
 use Rattle.hep_step.specs.Cells.{HasFrame, IsReached}
-use Rattle.hep_views.specs.Sought.{IsPlaceSought, IsSought}
-use Rattle.hep_event.proofs.Standing.{level-there}
-use Rattle.hep_event.proofs.Placed.{frame-there, levels-of, lies-there, none-is, reached-there, site-is, sought-there}
+use Rattle.hep_views.specs.CellOwners.{IsPlaceSought, IsSought}
+use Rattle.hep_event.proofs.TopPositions.{level-there}
+use Rattle.hep_event.proofs.FoundVariables.{frame-there, levels-of, lies-there, none-is, reached-there, site-is, sought-there}
 use Rattle.hep_event.proofs.sites.site_of.Goals as goal
 
 pub place-requires-clause-living : goal.place-requires-clause-living

@@ -1,5 +1,5 @@
 use Rattle.std.proofs.Common.{◌≡◌, ◌++◌, drop, map}
-use Rattle.hep_code.specs.Places.{variable_in}
+use Rattle.hep_code.specs.Placements.{variable_in}
 use Rattle.hep_event.proofs.variables.variables_of.Given as goal
 
 abbrev pub invariant-loop-name : goal.invariant-loop-name

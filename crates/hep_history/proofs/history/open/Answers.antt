@@ -1,8 +1,9 @@
 use Rattle.std.proofs.Common.{◌≡◌, ◌≤◌, [], ap, arith, subst, sym, ◌∙◌, ◌++◌, ◌∷◌}
 use Rattle.hep_history.specs.Runs.{AreFilled, AreRising, end_of_shorts, run_of_short, runs_in}
-use Rattle.hep_history.proofs.InRuns.{AreFilled-left, AreRising-left, nothing_in, open_short}
+use Rattle.hep_history.proofs.InRuns.{AreFilled-left, AreRising-left, open_short}
 use Rattle.hep_history.proofs.history.open.Goals as goal
 use Rattle.hep_history.proofs.history.open.Goals.{After-end_of}
+use Rattle.std.proofs.lemmas.List.{nil_from_length}
 
 pub returns-in-Some-clause-runs : goal.returns-in-Some-clause-runs
 returns-in-Some-clause-runs c = (AreFilled-left c.pop.new.self.items c.in-Some.run' (subst AreFilled c.in-Some.ensures.items c.requires.filled)).1
@@ -33,8 +34,8 @@ returns-clause-runs c =
 pub returns-clause-taken : goal.returns-clause-taken
 returns-clause-taken c =
     let at = (goal.at.returns-clause-taken c).After-end_of in
-    let none = nothing_in c.args.longs.now.items (sym c.args.longs.now.ok.0 ∙ c.in_default.ensures.cases.0) in
-    let left = nothing_in c.pop.new.self.items (sym c.pop.new.self.ok.0 ∙ c.in_default.ensures.cases.1) in
+    let none = nil_from_length c.args.longs.now.items (sym c.args.longs.now.ok.0 ∙ c.in_default.ensures.cases.0) in
+    let left = nil_from_length c.pop.new.self.items (sym c.pop.new.self.ok.0 ∙ c.in_default.ensures.cases.1) in
     open_short c.args.shorts.now.items c.pop-2.new.self.items c.args.longs.now.items c.in_ok-short.short c.in_ok-short.ensures.items none
     ∙ (λ i. runs_in c.pop-2.new.self.items ((none ∙ sym left) i) ++ (ap (λ n. run_of_short n c.in_ok-short.short) (sym (ends at)) ∙ sym c.run.ensures) i ∷ [])
 

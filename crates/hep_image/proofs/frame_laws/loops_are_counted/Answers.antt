@@ -1,4 +1,4 @@
-use Rattle.hep_image.proofs.Counted.{counted, loop-at}
+use Rattle.hep_image.proofs.CountedLoops.{counted, loop-at}
 use Rattle.hep_image.proofs.frame_laws.loops_are_counted.Goals as goal
 
 pub returns : goal.returns

@@ -1,4 +1,4 @@
-use Rattle.hep_image.specs.Finding.{cells_in}
+use Rattle.hep_image.specs.Addressing.{cells_in}
 use Rattle.hep_image.proofs.Variables.{dummy-addressed, own-addressed, any-addressed}
 use Rattle.hep_image.proofs.frame_laws.variables_are_addressed.Goals as goal
 

@@ -1,4 +1,4 @@
-use Rattle.hep_image.proofs.Within.{arrays-within, common-within, few-dimensions, local-within, loop-within, variable-within}
+use Rattle.hep_image.proofs.FrameBounds.{arrays-within, common-within, few-dimensions, local-within, loop-within, variable-within}
 use Rattle.hep_image.proofs.frame_laws.variables_lie_in_frames.Goals as goal
 
 pub returns : goal.returns

@@ -1,9 +1,9 @@
-use Rattle.std.proofs.Common.{ℕ, List, refl, inl, map}
+use Rattle.std.proofs.Common.{refl, inl}
 use Rattle.std.proofs.KnownBytes.{Keeps-refl}
 use Rattle.hep_run.specs.Sources.{IsRefusedProgram, IsRunnable}
-use Rattle.hep_run.proofs.Large.{large-left, large-source, large-status}
+use Rattle.hep_run.proofs.LargeSources.{large-left, large-source, large-status}
 use Rattle.hep_inspection.specs.Covers.{IsCovered}
-use Rattle.hep_inspection.proofs.Covered.{cover-left}
+use Rattle.hep_inspection.proofs.CountedHistories.{cover-left}
 use Rattle.hep_inspection.proofs.cover.cover_noted.Goals as goal
 
 pub returns-in-Ok-clause-left : goal.returns-in-Ok-clause-left
@@ -15,10 +15,9 @@ returns-in-Err-clause-left g c = inl (Keeps-refl _, refl, (c.in-Err.ensures.lost
 
 pub returns-in-Ok-clause-large : goal.returns-in-Ok-clause-large
 returns-in-Ok-clause-large g c =
-    let texts : List (List ℕ) = map (λ text. text.items) c.args.asked.now.histories.now in
     large-source c.args.asked.now.long _ _ c.in-Ok.bytes.items c.deref.result.now _ _ _ _ _ c.deref.ensures.value c.in-Ok.ensures.first c.in-Ok.ensures.all (
     large-status c.args.asked.now.long c.deref.result.now c.deliver_made.result _ _ _ _ (
-    large-left c.args.asked.now.long IsRefusedProgram IsRunnable (IsCovered c.args.asked.now.long c.args.asked.now.arena texts c.deref.result.now) c.deref.result.now c.cover_transcript-made.result _ _ _ _ _ c.cover_transcript-made.ensures.made c.cover_transcript-made.ensures.unmade c.deliver_made.ensures))
+    large-left c.args.asked.now.long IsRefusedProgram IsRunnable (IsCovered c.args.asked.now.long c.args.asked.now.arena c.args.asked.now.origins.now c.deref.result.now) c.deref.result.now c.cover_transcript-made.result _ _ _ _ _ c.cover_transcript-made.ensures.made c.cover_transcript-made.ensures.unmade c.deliver_made.ensures))
 
 pub returns-in-Err-clause-large : goal.returns-in-Err-clause-large
 returns-in-Err-clause-large g c = λ short large. inl (Keeps-refl _, (c.in-Err.ensures.lost, _, c.say_unread.ensures))

@@ -1,11 +1,11 @@
 use Rattle.std.proofs.Common.{subst}
-use Rattle.hep_inspection.specs.Remade.{IsMadeOrRefused}
-use Rattle.hep_inspection.proofs.Compared.{both-made}
+use Rattle.hep_inspection.specs.ReplayResults.{IsMadeOrRefused}
+use Rattle.hep_inspection.proofs.ComparedRuns.{both-made}
 use Rattle.hep_inspection.proofs.diff.second_diff.Goals as goal
 
 pub returns-in_ok-text-in-Made : goal.returns-in_ok-text-in-Made
 returns-in_ok-text-in-Made c =
     let asked = c.args.asked.now in
-    let made = subst (IsMadeOrRefused asked.long asked.arena c.args.image.now asked.second.now) c.in-Made.is c.in_ok-core.ensures in
-    both-made asked.long asked.arena asked.first.now asked.second.now c.args.image.now c.args.first.core c.args.entries.now.items c.in-Made.others.items c.text_transcript.result c.in_ok-text-in-Made.text.items
+    let made = subst (IsMadeOrRefused asked.long asked.arena c.args.image.now asked.second) c.in-Made.is c.in_ok-core.ensures in
+    both-made asked.long asked.arena asked.first asked.second c.args.image.now c.args.first.core c.args.entries.now.items c.in-Made.others.items c.text_transcript.result c.in_ok-text-in-Made.text.items
     c.requires.program c.requires.cells made.0 c.text_transcript.ensures c.in_ok-text-in-Made.ensures

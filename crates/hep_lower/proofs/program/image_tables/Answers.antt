@@ -1,15 +1,15 @@
 use Rattle.std.proofs.Common.{◌∙◌, ap, arith, subst, sym}
 use Rattle.hep_machine.specs.Words.{is_main, procedure_name, blocks_of}
-use Rattle.hep_image.proofs.Mains.{index-inside}
 use Rattle.hep_image.specs.Data.{AreInitial, AreOfUnits}
 use Rattle.hep_image.specs.Names.{AreNames}
 use Rattle.hep_lower.proofs.BlocksBegun.{begun-are}
-use Rattle.hep_lower.proofs.Told.{image-is}
+use Rattle.hep_lower.proofs.RefusalReasons.{image-is}
 use Rattle.hep_lower.proofs.program.image_tables.Goals as goal
+use Rattle.hep_source.proofs.Tests.{index-below}
 
 pub overflow_cast-result : goal.overflow_cast-result
 overflow_cast-result c =
-    omega (arith, index-inside (λ unit. is_main (procedure_name unit)) c.args.checked.now c.args.main c.requires.main, c.requires.few)
+    omega (arith, index-below (λ unit. is_main (procedure_name unit)) c.args.checked.now c.args.main c.requires.main, c.requires.few)
 
 pub names_in_order-requires-clause-blocks : goal.names_in_order-requires-clause-blocks
 names_in_order-requires-clause-blocks c =

@@ -2,15 +2,14 @@ use Rattle.std.proofs.Common.{◌≡◌, ◌∙◌, ◌<◌, inl, inr, ap, arith
 use Rattle.std.specs.Option.{unwrap_or}
 use Rattle.hep_machine.specs.Words.{no_unit, Units, is_main, main_unit, procedure_name}
 use Rattle.hep_common.specs.Starts.{AreBlocks, AreStarts}
-use Rattle.hep_image.proofs.Mains.{index-inside}
 use Rattle.hep_code.specs.Words.{most_instructions}
 use Rattle.hep_lower.specs.Refusals.{IsFirstDeep, RefusesCode}
-use Rattle.hep_lower.specs.Units.{AreUnits}
+use Rattle.hep_lower.specs.LoweredUnits.{AreUnits}
 use Rattle.hep_lower.proofs.Counts.{one-each}
-use Rattle.hep_lower.proofs.Placing.{none-there}
-use Rattle.hep_lower.proofs.Told.{blocks-are, lowered-is, some-main, told-beyond, told-code, told-deep, within-limits}
+use Rattle.hep_lower.proofs.RefusalReasons.{blocks-are, lowered-is, some-main, told-beyond, told-code, told-deep, within-limits}
 use Rattle.hep_lower.proofs.program.lower_program.Goals as goal
 use Rattle.hep_lower.proofs.program.lower_program.Goals.{In_ok-program, In_ok-common, In_ok-lowered}
+use Rattle.hep_source.proofs.Tests.{index-below, none-if_not}
 
 same : (c : In_ok-program) → c.in_ok-program.program ≡ c.args.checked.now
 same c = c.in_ok-program.ensures ∙ (c.as_slice-source.ensures ∙ c.program.ensures)
@@ -45,7 +44,7 @@ lower_units-requires-clause-main c =
 
 pub lower_units-requires-clause-inside : goal.lower_units-requires-clause-inside
 lower_units-requires-clause-inside c =
-    subst (λ (p : Units). c.args.main < length p) (sym (same (goal.at.lower_units-requires-clause-inside c).In_ok-program)) (index-inside (λ unit. is_main (procedure_name unit)) c.args.checked.now c.args.main c.requires)
+    subst (λ (p : Units). c.args.main < length p) (sym (same (goal.at.lower_units-requires-clause-inside c).In_ok-program)) (index-below (λ unit. is_main (procedure_name unit)) c.args.checked.now c.args.main c.requires)
 
 pub image_tables-requires-clause-blocks : goal.image_tables-requires-clause-blocks
 image_tables-requires-clause-blocks c = are-blocks (goal.at.image_tables-requires-clause-blocks c).In_ok-common
@@ -83,4 +82,4 @@ returns-clause-lowered c =
     let program = c.args.checked.now in
     let lowered = c.in_ok-lowered.lowered.units in
     let known = are-units (goal.at.returns-clause-lowered c).In_ok-lowered in
-    lowered-is program lowered known (c.exceeds_cells.ensures.common c.if-exceeds_cells.false) (c.exceeds_cells.ensures.frames c.if-exceeds_cells.false) c.in_ok-lowered.ensures.few (some-main program c.args.main c.requires) (none-there lowered.too_deep c.in_default.not-Some)
+    lowered-is program lowered known (c.exceeds_cells.ensures.common c.if-exceeds_cells.false) (c.exceeds_cells.ensures.frames c.if-exceeds_cells.false) c.in_ok-lowered.ensures.few (some-main program c.args.main c.requires) (none-if_not lowered.too_deep c.in_default.not-Some)

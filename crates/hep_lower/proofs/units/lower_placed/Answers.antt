@@ -3,8 +3,9 @@ use Rattle.hep_code.specs.Words.{deepest, line_too_deep, most_instructions, entr
 use Rattle.hep_image.specs.Image.{most_cells}
 use Rattle.hep_image.specs.Owners.{AreInOrder}
 use Rattle.hep_lower.specs.Refusals.{RefusesCode}
-use Rattle.hep_lower.proofs.Placing.{addressed-is, code-there, none-there, refused-code}
+use Rattle.hep_lower.proofs.PlacedUnits.{addressed-is, code-there, refused-code}
 use Rattle.hep_lower.proofs.units.lower_placed.Goals as goal
+use Rattle.hep_source.proofs.Tests.{none-if_not}
 
 pub returns-in-Err-clause-refused : goal.returns-in-Err-clause-refused
 returns-in-Err-clause-refused c =
@@ -20,7 +21,7 @@ returns-clause-lowered c =
     let u = c.args.index in
     let places = c.requires.places in
     let made = c.in-Ok.ensures.code ∙ code-there program u c.args.symbols.now c.args.places.places c.requires.unit places.variables places.loops in
-    let shallow = none-there c.in-Ok.lowered.depth.too_deep c.in_default.not-Some in (
+    let shallow = none-if_not c.in-Ok.lowered.depth.too_deep c.in_default.not-Some in (
       record {
         code = c.from.ensures ∙ made;
         entry = c.in-Ok.ensures.entry ∙ ap entry_index (addressed-is program u c.args.symbols.now c.args.places.places c.requires.unit places.variables places.loops);

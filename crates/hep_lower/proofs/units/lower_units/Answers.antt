@@ -1,12 +1,12 @@
 use Rattle.std.proofs.Common.{◌≡◌, ℕ, ◌+◌, ◌<◌, ◌≤◌, ◌∙◌, Vec, Global, ap, arith, length, refl, subst, sym}
 use Rattle.hep_machine.specs.Words.{Units, main_unit, unit_at, frame_cells}
 use Rattle.hep_image.specs.declared.data.DataRow.{DataRow}
-use Rattle.hep_places.specs.Unit.{ArePlaces}
+use Rattle.hep_places.specs.UnitPlaces.{ArePlaces}
 use Rattle.hep_lower.specs.Refusals.{RefusesCode}
 use Rattle.hep_lower.proofs.Counts.{rising}
-use Rattle.hep_lower.proofs.Placing.{unit-item}
+use Rattle.hep_lower.proofs.PlacedUnits.{unit-item}
 use Rattle.hep_image.specs.Image.{most_cells}
-use Rattle.hep_lower.specs.Units.{AreRows}
+use Rattle.hep_lower.specs.LoweredUnits.{AreRows}
 use Rattle.hep_lower.proofs.units.lower_units.Goals as goal
 use Rattle.hep_lower.proofs.units.lower_units.Goals.{In_ok-places, then-index-main+in_ok-rows, else-index-main}
 

@@ -1,6 +1,6 @@
 use Rattle.std.proofs.Common.{◌<◌, ◌≤◌}
 use Rattle.hep_code.specs.Words.{most_instructions}
-use Rattle.hep_lower.specs.Units.{AreRows, AreUnits}
+use Rattle.hep_lower.specs.LoweredUnits.{AreRows, AreUnits}
 use Rattle.hep_lower.proofs.units.lower_units.Given as goal
 
 abbrev pub invariant-loop-index : goal.invariant-loop-index

@@ -1,6 +1,6 @@
 use Rattle.std.proofs.Common.{refl}
 use Rattle.hep_machine.specs.Words.{main_unit}
-use Rattle.hep_lower.proofs.Placing.{both-then, main-frame}
+use Rattle.hep_lower.proofs.PlacedUnits.{both-then, main-frame}
 use Rattle.hep_lower.proofs.units.main_rows.Goals as goal
 
 pub returns : goal.returns

@@ -1,5 +1,5 @@
 use Rattle.std.proofs.Common.{arith}
-use Rattle.hep_outcome.proofs.Made.{some-made}
+use Rattle.hep_outcome.proofs.MadeTranscripts.{some-made}
 use Rattle.hep_outcome.proofs.random.drawn_anew.Goals as goal
 
 pub nonzero_rem-start : goal.nonzero_rem-start

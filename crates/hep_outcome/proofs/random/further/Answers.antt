@@ -1,6 +1,6 @@
 use Rattle.std.proofs.Common.{◌≡◌, ◌+◌, ◌-◌, ◌∙◌, suc, sym, arith}
-use Rattle.hep_core.specs.Value.{free_of}
-use Rattle.hep_outcome.proofs.Draws.{further-end, further-step, further-stop}
+use Rattle.hep_core.specs.CoreValues.{free_of}
+use Rattle.hep_outcome.proofs.RunsByLots.{further-end, further-step, further-stop}
 use Rattle.hep_outcome.proofs.random.further.Goals as goal
 
 pub loop-preserved : goal.loop-preserved

@@ -1,6 +1,6 @@
 use Rattle.std.proofs.Common.{◌≡◌, ◌-◌, ◌≤◌}
-use Rattle.hep_core.specs.Value.{free_of}
-use Rattle.hep_outcome.specs.Drawing.{further}
+use Rattle.hep_core.specs.CoreValues.{free_of}
+use Rattle.hep_outcome.specs.LotDraws.{further}
 use Rattle.hep_outcome.proofs.random.further.Given as goal
 
 abbrev pub invariant-loop : goal.invariant-loop

@@ -1,7 +1,7 @@
 use Rattle.std.proofs.Common.{◌≡◌, true, ap, ◌∙◌, sym}
 use Rattle.std.specs.Option.{option_map}
 use Rattle.hep_machine.specs.Words.{trees_of, integers_of, value_among, values_of, is_nonempty}
-use Rattle.hep_places.specs.Given as given
+use Rattle.hep_places.specs.InitialValues as given
 use Rattle.hep_places.proofs.Naming.{by_subscripts}
 use Rattle.hep_places.proofs.data_cells.cells_of_array.Goals as goal
 

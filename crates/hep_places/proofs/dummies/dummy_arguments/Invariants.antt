@@ -1,6 +1,6 @@
 use Rattle.std.proofs.Common.{◌≡◌, ◌++◌, map, drop}
 use Rattle.hep_machine.specs.Words.{names_of_occurrences}
-use Rattle.hep_places.specs.Dummies.{dummy_found, source_in}
+use Rattle.hep_places.specs.DummyArguments.{dummy_found, source_in}
 use Rattle.hep_places.proofs.dummies.dummy_arguments.Given as goal
 
 abbrev pub invariant-loop-occurrence : goal.invariant-loop-occurrence

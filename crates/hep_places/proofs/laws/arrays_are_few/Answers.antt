@@ -1,7 +1,7 @@
 use Rattle.std.proofs.Common.{arith}
 use Rattle.hep_machine.specs.Words.{unit_at}
 use Rattle.hep_places.proofs.Accepted.{sized-by}
-use Rattle.hep_places.proofs.Few.{arrays-few}
+use Rattle.hep_places.proofs.FewCells.{arrays-few}
 use Rattle.hep_places.proofs.laws.arrays_are_few.Goals as goal
 use Rattle.hep_image.proofs.Numbers.{unit-there}
 

@@ -5,12 +5,12 @@ use Rattle.indexmap.specs.IndexMap.{get}
 use Rattle.hep_machine.specs.Words.{Name, Statement, name_eq, dummies_of, unit_at, Values, is_array, names_of}
 use Rattle.hep_image.specs.Private.{is_private}
 use Rattle.hep_places.specs.declared.unit.UnitPlaces.{UnitPlaces}
-use Rattle.hep_places.specs.Dummies.{dummy_found, source_found, source_in}
-use Rattle.hep_places.specs.Found.{array_found, variable_among}
-use Rattle.hep_places.specs.Owners.{variables_found}
+use Rattle.hep_places.specs.DummyArguments.{dummy_found, source_found, source_in}
+use Rattle.hep_places.specs.StorageStarts.{array_found, variable_among}
+use Rattle.hep_places.specs.FrameOwners.{variables_found}
 use Rattle.hep_places.proofs.Accepted.{no-dummy}
-use Rattle.hep_places.proofs.Final.{IsFound, found_start, places-right}
-use Rattle.hep_places.proofs.Right.{constant-is-fixed}
+use Rattle.hep_places.proofs.FinalStarts.{IsFound, found_start, places-right}
+use Rattle.hep_places.proofs.RightPlaces.{constant-is-fixed}
 use Rattle.hep_places.proofs.unit.unit_places.Goals as goal
 use Rattle.hep_image.proofs.Numbers.{unit-there}
 

@@ -4,7 +4,7 @@ use Rattle.std.specs.Option.{option_or}
 use Rattle.indexmap.specs.IndexMap.{get}
 use Rattle.hep_machine.specs.Words.{name_eq}
 use Rattle.hep_names.proofs.Notes.{or-none}
-use Rattle.hep_places.specs.Found.{start_found, variable_among}
+use Rattle.hep_places.specs.StorageStarts.{start_found, variable_among}
 use Rattle.hep_places.proofs.variables.variables_among.Goals as goal
 
 pub returns : goal.returns

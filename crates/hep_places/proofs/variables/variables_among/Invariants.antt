@@ -2,7 +2,7 @@ use Rattle.std.proofs.Common.{◌≡◌, drop}
 use Rattle.std.specs.Option.{option_or}
 use Rattle.indexmap.specs.IndexMap.{get}
 use Rattle.hep_machine.specs.Words.{Name, name_eq}
-use Rattle.hep_places.specs.Found.{start_found, variable_among}
+use Rattle.hep_places.specs.StorageStarts.{start_found, variable_among}
 use Rattle.hep_places.proofs.variables.variables_among.Given as goal
 
 abbrev pub invariant-loop-name : goal.invariant-loop-name

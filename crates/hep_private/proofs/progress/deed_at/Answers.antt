@@ -1,7 +1,7 @@
 use Rattle.std.proofs.Common.{◌∙◌, ◌++◌, [], ap, arith, drop, sym}
 use Rattle.std.proofs.lemmas.List.{append-nil}
-use Rattle.hep_private.specs.Bases.{values_of}
-use Rattle.hep_private.specs.Progress.{own_behind}
+use Rattle.hep_private.specs.BaseValues.{values_of}
+use Rattle.hep_private.specs.StepProgress.{own_behind}
 use Rattle.hep_private.proofs.Constants.{none-ahead}
 use Rattle.hep_private.proofs.Steps.{found-by}
 use Rattle.hep_private.proofs.progress.deed_at.Goals as goal

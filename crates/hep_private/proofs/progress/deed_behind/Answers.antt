@@ -1,11 +1,11 @@
 use Rattle.std.proofs.Common.{◌≡◌, ◌≤◌, drop, length, subst}
 use Rattle.std.specs.Option.{option_map}
 use Rattle.hep_code.specs.Words.{most_operands}
-use Rattle.hep_private.specs.Recorded.{made_ahead}
-use Rattle.hep_private.specs.Bases.{values_of}
+use Rattle.hep_private.specs.StepRecords.{made_ahead}
+use Rattle.hep_private.specs.BaseValues.{values_of}
 use Rattle.hep_private.specs.Stores.{records_among}
-use Rattle.hep_private.specs.Deeds.{HasSettled, made_of_deed}
-use Rattle.hep_private.specs.Progress.{own_behind}
+use Rattle.hep_private.specs.PrivateSteps.{HasSettled, made_of_deed}
+use Rattle.hep_private.specs.StepProgress.{own_behind}
 use Rattle.hep_private.proofs.Steps.{found-by, unsettled}
 use Rattle.hep_private.proofs.progress.deed_behind.Goals as goal
 

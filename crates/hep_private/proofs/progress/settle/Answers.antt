@@ -1,5 +1,5 @@
 use Rattle.std.proofs.Common.{◌≡◌, ◌+◌, [], ◌∷◌, ◌++◌, drop, length, take, sym, ap, ◌∙◌, append_assoc, arith, if◌then◌else◌}
-use Rattle.hep_private.specs.Own.{pushed_ahead}
+use Rattle.hep_private.specs.OwnState.{pushed_ahead}
 use Rattle.hep_private.proofs.Constants.{constant-front, take-kept}
 use Rattle.hep_private.proofs.progress.settle.Goals as goal
 

@@ -1,6 +1,6 @@
 use Rattle.std.proofs.Common.{◌≡◌, ◌+◌, ◌-◌, ◌++◌, drop, length, take}
 use Rattle.hep_code.specs.Words.{values_ahead}
-use Rattle.hep_private.specs.Own.{pushed_ahead}
+use Rattle.hep_private.specs.OwnState.{pushed_ahead}
 use Rattle.hep_private.proofs.progress.settle.Given as goal
 
 abbrev pub invariant-loop-value : goal.invariant-loop-value

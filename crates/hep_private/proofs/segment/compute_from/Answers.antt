@@ -1,13 +1,13 @@
 use Rattle.std.proofs.Common.{refl}
-use Rattle.hep_private.specs.Bases.{values_of}
-use Rattle.hep_private.specs.declared.progress.Progress.{Progress}
-use Rattle.hep_private.specs.Places.{start_at}
-use Rattle.hep_private.proofs.Finished.{computed-from, is-segment-from}
+use Rattle.hep_private.specs.BaseValues.{values_of}
+use Rattle.hep_private.specs.declared.progress.StepProgress.{StepProgress}
+use Rattle.hep_private.specs.ActivationPlaces.{start_at}
+use Rattle.hep_private.proofs.FinishedSegments.{computed-from, is-segment-from}
 use Rattle.hep_private.proofs.segment.compute_from.Goals as goal
 use Rattle.hep_private.proofs.segment.compute_from.Goals.{After-take_steps}
 
 -- before the first step
-abbrev begun : After-take_steps → Progress
+abbrev begun : After-take_steps → StepProgress
 begun c = record { records = c.clear.new.self; operands = c.assign-2.new.operands; index = c.args.place.now.index }
 
 pub invariant_of-segment : goal.invariant_of-segment

@@ -1,11 +1,11 @@
 use Rattle.std.proofs.Common.{◌∙◌}
-use Rattle.hep_private.specs.declared.progress.Progress.{Progress}
-use Rattle.hep_private.proofs.Finished.{computed, is-segment}
+use Rattle.hep_private.specs.declared.progress.StepProgress.{StepProgress}
+use Rattle.hep_private.proofs.FinishedSegments.{computed, is-segment}
 use Rattle.hep_private.proofs.segment.compute_into.Goals as goal
 use Rattle.hep_private.proofs.segment.compute_into.Goals.{After-take_steps}
 
 -- before the first step
-abbrev begun : After-take_steps → Progress
+abbrev begun : After-take_steps → StepProgress
 begun c = record { records = c.clear.new.self; operands = c.assign-2.new.operands; index = c.index-segment-inside-2.result }
 
 pub invariant_of-segment : goal.invariant_of-segment

@@ -1,4 +1,4 @@
-use Rattle.hep_private.proofs.Kept.{HaveLaws, kept-made, made-kept}
+use Rattle.hep_private.proofs.KeptSegments.{HaveLaws, kept-made, made-kept}
 use Rattle.hep_private.proofs.segment_laws.segments_depend_on_reads.Goals as goal
 use Rattle.hep_private.proofs.segment_laws.segments_depend_on_reads.Goals.{After-private_steps_depend_on_reads}
 

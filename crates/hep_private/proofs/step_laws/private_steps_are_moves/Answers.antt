@@ -1,8 +1,8 @@
 use Rattle.std.proofs.Common.{◌≡◌, drop, Some, subst, sym}
 use Rattle.hep_step.specs.Effects.{effect_at, moves}
-use Rattle.hep_private.specs.Own.{Values, contents_after}
-use Rattle.hep_private.specs.Recorded.{made_ahead}
-use Rattle.hep_private.proofs.Moves.{moved-ahead}
+use Rattle.hep_private.specs.OwnState.{Values, contents_after}
+use Rattle.hep_private.specs.StepRecords.{made_ahead}
+use Rattle.hep_private.proofs.StepEffects.{moved-ahead}
 use Rattle.hep_private.proofs.step_laws.private_steps_are_moves.Goals as goal
 
 pub returns : goal.returns

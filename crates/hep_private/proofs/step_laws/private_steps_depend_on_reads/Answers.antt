@@ -1,5 +1,5 @@
 use Rattle.std.proofs.Common.{refl, true≢false, sym}
-use Rattle.hep_private.specs.Own.{begun}
+use Rattle.hep_private.specs.OwnState.{begun}
 use Rattle.hep_private.proofs.Dependence.{have-read, same-steps}
 use Rattle.hep_private.proofs.step_laws.private_steps_depend_on_reads.Goals as goal
 

@@ -8,7 +8,7 @@ use Rattle.hep_run.specs.Sources.{IsRefusedProgram, IsRunnable}
 use Rattle.hep_run.specs.Samples.{IsSampleOutcome, IsSampled}
 use Rattle.hep_outcome.specs.Transcripts.{outcome_of}
 use Rattle.hep_run.proofs.Accepted.{left_alone}
-use Rattle.hep_run.proofs.Large.{large-delivered, large-status, wanted-small}
+use Rattle.hep_run.proofs.LargeSources.{large-delivered, large-status, wanted-small}
 use Rattle.hep_run.proofs.sample.sample_bytes.Goals as goal
 
 -- a sample has no history of its own

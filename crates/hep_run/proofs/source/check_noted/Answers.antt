@@ -3,7 +3,7 @@ use Rattle.std.proofs.KnownBytes.{Keeps-refl}
 use Rattle.hep_run.specs.Sources.{IsRefusedProgram, IsRunnable}
 use Rattle.hep_run.specs.Checks.{outcome_of_text}
 use Rattle.hep_run.proofs.Accepted.{checked_left}
-use Rattle.hep_run.proofs.Large.{large-left, large-source, large-status}
+use Rattle.hep_run.proofs.LargeSources.{large-left, large-source, large-status}
 use Rattle.hep_run.proofs.source.check_noted.Goals as goal
 
 pub returns-in-Ok-clause-left : goal.returns-in-Ok-clause-left

@@ -5,7 +5,7 @@ use Rattle.hep_check.specs.Listing.{listing}
 use Rattle.hep_run.specs.Sources.{IsViolatingProgram}
 use Rattle.hep_run.specs.Checks.{outcome_of_text}
 use Rattle.hep_run.proofs.Accepted.{checked_left}
-use Rattle.hep_run.proofs.Large.{large-left, large-source, large-status}
+use Rattle.hep_run.proofs.LargeSources.{large-left, large-source, large-status}
 use Rattle.hep_run.proofs.source.list_noted.Goals as goal
 
 pub returns-in-Ok-clause-left : goal.returns-in-Ok-clause-left

@@ -3,7 +3,7 @@ use Rattle.std.proofs.KnownBytes.{Keeps-refl}
 use Rattle.hep_outcome.specs.Replay.{IsTextOutcome}
 use Rattle.hep_run.specs.Sources.{IsRefusedProgram, IsRunnable}
 use Rattle.hep_run.proofs.Fronts.{source_left}
-use Rattle.hep_run.proofs.Large.{large-source}
+use Rattle.hep_run.proofs.LargeSources.{large-source}
 use Rattle.hep_run.proofs.source.replay_noted.Goals as goal
 
 pub returns-in-Ok-clause-left : goal.returns-in-Ok-clause-left

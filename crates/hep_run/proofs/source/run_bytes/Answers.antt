@@ -1,7 +1,7 @@
 use Rattle.hep_outcome.specs.Outcome.{IsProgramOutcome}
 use Rattle.hep_run.specs.Outcome.{IsOutcome}
 use Rattle.hep_run.specs.Sources.{IsRefusedProgram, IsRunnable}
-use Rattle.hep_run.proofs.Large.{large-left}
+use Rattle.hep_run.proofs.LargeSources.{large-left}
 use Rattle.hep_run.proofs.Outcomes.{made_left}
 use Rattle.hep_run.proofs.source.run_bytes.Goals as goal
 

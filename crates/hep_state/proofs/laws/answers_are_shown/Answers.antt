@@ -1,4 +1,4 @@
-use Rattle.hep_state.proofs.Moved.{answered-shown}
+use Rattle.hep_state.proofs.SilentTurns.{answered-shown}
 use Rattle.hep_state.proofs.laws.answers_are_shown.Goals as goal
 
 pub returns : goal.returns

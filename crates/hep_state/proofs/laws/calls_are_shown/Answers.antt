@@ -1,4 +1,4 @@
-use Rattle.hep_state.proofs.Begun.{made-shown}
+use Rattle.hep_state.proofs.BegunActivations.{made-shown}
 use Rattle.hep_state.proofs.laws.calls_are_shown.Goals as goal
 
 pub returns : goal.returns

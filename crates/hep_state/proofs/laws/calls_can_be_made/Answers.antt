@@ -2,10 +2,10 @@ use Rattle.std.proofs.Common.{sym, subst, ◌∙◌}
 use Rattle.hep_machine.specs.Words.{unit_at}
 use Rattle.hep_image.specs.Arrays.{ArePlacedArrays}
 use Rattle.hep_step.specs.ReadyToPass.{ArePassable}
-use Rattle.hep_step.specs.Ready.{frame_in_arena}
+use Rattle.hep_step.specs.StepReady.{frame_in_arena}
 use Rattle.hep_state.specs.Words.{top_frame}
-use Rattle.hep_state.proofs.Callers.{as-many, called-inside, caller_at, calls, calls-so, operands-few, passed-by}
-use Rattle.hep_state.proofs.Moved.{unit-is}
+use Rattle.hep_state.proofs.CallerRoom.{as-many, called-inside, caller_at, calls, calls-so, operands-few, passed-by}
+use Rattle.hep_state.proofs.SilentTurns.{unit-is}
 use Rattle.hep_state.proofs.laws.calls_can_be_made.Goals as goal
 
 pub returns-clause-inside : goal.returns-clause-inside

@@ -4,18 +4,18 @@ use Rattle.hep_machine.specs.declared.event.Kind.TheVariants.{Shape}
 use Rattle.hep_state.specs.Words.{state_before}
 use Rattle.hep_conditions.specs.Words.{IsAccepted}
 use Rattle.hep_image.specs.Dummies.{dummy_arguments}
-use Rattle.hep_binding.specs.Fitting.{shapes_of}
-use Rattle.hep_step.specs.declared.way.Way.{Way}
-use Rattle.hep_step.specs.declared.way.Way.TheVariants.{Calls, Creates, Refers}
-use Rattle.hep_step.specs.Calls.{comes_by, unit_by}
-use Rattle.hep_accepted_laws.specs.Actuals.{FitsDummy}
-use Rattle.hep_accepted_laws.specs.Works.{ComesFrom}
-use Rattle.hep_state.proofs.Callers.{IsKnownToBind, actuals, called-so, dummies-given, fault-ends, frameless, range-bound, called-inside}
+use Rattle.hep_binding.specs.DummyShapes.{shapes_of}
+use Rattle.hep_step.specs.declared.call_kind.CallKind.{CallKind}
+use Rattle.hep_step.specs.declared.call_kind.CallKind.TheVariants.{Calls, Creates, Refers}
+use Rattle.hep_step.specs.NextCalls.{comes_by, unit_by}
+use Rattle.hep_binding.specs.AcceptedLawsActuals.{FitsDummy}
+use Rattle.hep_binding.specs.AcceptedLawsWorkOrigins.{ComesFrom}
+use Rattle.hep_state.proofs.CallerRoom.{IsKnownToBind, actuals, called-so, dummies-given, fault-ends, frameless, range-bound, called-inside}
 use Rattle.hep_image.proofs.Numbers.{unit-there}
 use Rattle.hep_state.proofs.laws.calls_give_what_is_bound.Goals as goal
 
 -- the actual arguments of a CALL, of a CREATE, and of a reference, fit
-fit-so : goal.After-programs_are_known → (program : Units) → IsAccepted program → (way : Way) (u k j : ℕ) (work : Work) (x y : Name) (actuals : List Actual) (a : Actual) → ComesFrom (unit_at program u) k work → next_of (unit_at program u) work ≡ comes_by way x actuals
+fit-so : goal.After-programs_are_known → (program : Units) → IsAccepted program → (way : CallKind) (u k j : ℕ) (work : Work) (x y : Name) (actuals : List Actual) (a : Actual) → ComesFrom (unit_at program u) k work → next_of (unit_at program u) work ≡ comes_by way x actuals
     → slice_get (dummies_of (unit_at program (unit_by way program x))) j ≡ Some y → slice_get actuals j ≡ Some a → FitsDummy (unit_at program u) (unit_at program (unit_by way program x)) y a
 fit-so c program accepted Calls u k j work x y actuals a from is = c.actual_arguments_fit.ensures.called program u k j x y actuals a accepted (c.calls_come_from_statements.ensures.called (unit_at program u) k work x actuals from is)
 fit-so c program accepted Creates u k j work x y actuals a from is = c.actual_arguments_fit.ensures.called program u k j x y actuals a accepted (c.calls_come_from_statements.ensures.created (unit_at program u) k work x actuals from is)

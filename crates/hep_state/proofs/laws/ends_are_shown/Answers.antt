@@ -1,4 +1,4 @@
-use Rattle.hep_state.proofs.Moved.{returned-shown}
+use Rattle.hep_state.proofs.SilentTurns.{returned-shown}
 use Rattle.hep_state.proofs.laws.ends_are_shown.Goals as goal
 
 pub returns : goal.returns

@@ -1,4 +1,4 @@
-use Rattle.hep_state.proofs.Moved.{failed-shown}
+use Rattle.hep_state.proofs.SilentTurns.{failed-shown}
 use Rattle.hep_state.proofs.laws.faults_are_shown.Goals as goal
 
 pub returns : goal.returns

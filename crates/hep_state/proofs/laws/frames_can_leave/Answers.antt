@@ -1,6 +1,6 @@
 use Rattle.std.proofs.Common.{refl}
 use Rattle.hep_state.specs.Words.{state_answered, state_failed, state_returned}
-use Rattle.hep_state.proofs.Moved.{answered-ended, can-all-leave, can-leave, failed-ended, kept-now, lead-upwards, returned-ended, top-node}
+use Rattle.hep_state.proofs.SilentTurns.{answered-ended, can-all-leave, can-leave, failed-ended, kept-now, lead-upwards, returned-ended, top-node}
 use Rattle.hep_state.proofs.laws.frames_can_leave.Goals as goal
 
 pub returns-clause-kept : goal.returns-clause-kept

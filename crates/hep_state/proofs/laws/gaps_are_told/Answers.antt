@@ -1,4 +1,4 @@
-use Rattle.hep_state.proofs.Begun.{called-gap, called-no-gap, fault-gap}
+use Rattle.hep_state.proofs.BegunActivations.{called-gap, called-no-gap, fault-gap}
 use Rattle.hep_state.proofs.laws.gaps_are_told.Goals as goal
 
 pub returns-clause-none : goal.returns-clause-none

@@ -1,4 +1,4 @@
-use Rattle.hep_state.proofs.Moved.{moved-shown}
+use Rattle.hep_state.proofs.SilentTurns.{moved-shown}
 use Rattle.hep_state.proofs.laws.moves_are_shown.Goals as goal
 
 pub returns : goal.returns

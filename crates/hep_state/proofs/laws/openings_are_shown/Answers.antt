@@ -1,4 +1,4 @@
-use Rattle.hep_state.proofs.Opened.{is-entered, opened-shown, unset-opens}
+use Rattle.hep_state.proofs.OpenedStates.{is-entered, opened-shown, unset-opens}
 use Rattle.hep_state.proofs.laws.openings_are_shown.Goals as goal
 
 pub returns-clause-opening : goal.returns-clause-opening

@@ -1,6 +1,6 @@
 use Rattle.hep_state.specs.Words.{turn_with}
-use Rattle.hep_state.proofs.Taken.{gap-kept}
-use Rattle.hep_state.proofs.Tops.{turning}
+use Rattle.hep_state.proofs.TakenTurns.{gap-kept}
+use Rattle.hep_state.proofs.TopActivations.{turning}
 use Rattle.hep_state.proofs.laws.other_steps_find_gaps.Goals as goal
 
 pub returns : goal.returns

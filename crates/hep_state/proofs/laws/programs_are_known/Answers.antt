@@ -1,10 +1,10 @@
 use Rattle.std.proofs.Common.{◌≡◌, ℕ, List, true, is_some, subst, sym}
 use Rattle.hep_machine.specs.Words.{Name, Actual, Units, main_among, next_of, unit_at, Work}
 use Rattle.hep_conditions.specs.Words.{IsAccepted}
-use Rattle.hep_step.specs.declared.way.Way.{Way}
-use Rattle.hep_step.specs.declared.way.Way.TheVariants.{Calls, Creates, Refers}
-use Rattle.hep_step.specs.Calls.{comes_by}
-use Rattle.hep_accepted_laws.specs.Works.{ComesFrom, IsCalledBy}
+use Rattle.hep_step.specs.declared.call_kind.CallKind.{CallKind}
+use Rattle.hep_step.specs.declared.call_kind.CallKind.TheVariants.{Calls, Creates, Refers}
+use Rattle.hep_step.specs.NextCalls.{comes_by}
+use Rattle.hep_binding.specs.AcceptedLawsWorkOrigins.{ComesFrom, IsCalledBy}
 use Rattle.hep_state.specs.Words.{IsMadeOf}
 use Rattle.hep_state.proofs.laws.programs_are_known.Goals as goal
 
@@ -15,7 +15,7 @@ called c program accepted u k x actuals by =
     record { inside = law.there program u k x actuals accepted by; as_many = law.arguments program u k x actuals accepted by; result = law.result program u k x actuals accepted by }
 
 -- the unit that is called, created or referred to
-made : goal.After-tops_are_running → (program : Units) → IsAccepted program → (way : Way) (u k : ℕ) (work : Work) (x : Name) (actuals : List Actual) → ComesFrom (unit_at program u) k work → next_of (unit_at program u) work ≡ comes_by way x actuals → IsMadeOf way program x actuals
+made : goal.After-tops_are_running → (program : Units) → IsAccepted program → (way : CallKind) (u k : ℕ) (work : Work) (x : Name) (actuals : List Actual) → ComesFrom (unit_at program u) k work → next_of (unit_at program u) work ≡ comes_by way x actuals → IsMadeOf way program x actuals
 made c program accepted Calls u k work x actuals from is = called c program accepted u k x actuals (c.calls_come_from_statements.ensures.called (unit_at program u) k work x actuals from is)
 made c program accepted Creates u k work x actuals from is =
     let it = called c program accepted u k x actuals (c.calls_come_from_statements.ensures.created (unit_at program u) k work x actuals from is) in

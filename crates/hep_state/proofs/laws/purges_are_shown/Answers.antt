@@ -2,15 +2,15 @@ use Rattle.std.proofs.Common.{◌≡◌, true, Ok, Err, is_some}
 use Rattle.hep_machine.specs.Words.{main_among}
 use Rattle.hep_conditions.specs.Words.{IsAccepted}
 use Rattle.hep_code.specs.Words.{passed_from}
-use Rattle.hep_step.specs.Purged.{effect_of_purge}
+use Rattle.hep_step.specs.PurgeEffects.{effect_of_purge}
 use Rattle.hep_step.specs.Simulation.{arrays_on_top}
-use Rattle.hep_state.specs.declared.upcoming.PurgeAhead.{PurgeAhead}
+use Rattle.hep_state.specs.declared.next_step.NextPurge.{NextPurge}
 use Rattle.hep_state.specs.Words.{IsAtPurge, IsEffectOf, TurnOf, top_before, top_frame, running_top}
-use Rattle.hep_state.proofs.Callers.{ahead-on-top, calls-so, runs}
+use Rattle.hep_state.proofs.CallerRoom.{ahead-on-top, calls-so, runs}
 use Rattle.hep_state.proofs.Purging.{does-so, entries-placed, fault-ends, gaps-there, nothing-purged, ranges-purged, ranges-stepped}
 use Rattle.hep_state.proofs.laws.purges_are_shown.Goals as goal
 
-simulated : goal.After-programs_are_known → (t : TurnOf) (purge : PurgeAhead) → IsAccepted t.program → is_some (main_among t.program) ≡ true → (at : IsAtPurge t purge)
+simulated : goal.After-programs_are_known → (t : TurnOf) (purge : NextPurge) → IsAccepted t.program → is_some (main_among t.program) ≡ true → (at : IsAtPurge t purge)
     → IsEffectOf t at.turning (effect_of_purge (arrays_on_top t.program (top_before t)) (top_frame t).first purge.line purge.next (passed_from purge.count at.behind t.operands) t.machine.arena.contents)
 simulated c t purge accepted main at =
     let k = (c.programs_are_known.ensures t.program accepted main).running in

@@ -4,10 +4,10 @@ use Rattle.hep_code.specs.Words.{passed_from}
 use Rattle.hep_image.specs.Arrays.{ArePlacedArrays}
 use Rattle.hep_step.specs.ReadyToPass.{ArePassable}
 use Rattle.hep_step.specs.PurgeReady.{AreOut}
-use Rattle.hep_step.specs.Ready.{frame_in_arena}
+use Rattle.hep_step.specs.StepReady.{frame_in_arena}
 use Rattle.hep_state.specs.Words.{top_frame, running_top}
-use Rattle.hep_state.proofs.Callers.{ahead-on-top, calls-so, runs}
-use Rattle.hep_state.proofs.Moved.{unit-is}
+use Rattle.hep_state.proofs.CallerRoom.{ahead-on-top, calls-so, runs}
+use Rattle.hep_state.proofs.SilentTurns.{unit-is}
 use Rattle.hep_state.proofs.Purging.{of-arrays}
 use Rattle.hep_state.proofs.laws.purges_can_be_made.Goals as goal
 

@@ -1,4 +1,4 @@
-use Rattle.hep_state.proofs.Moved.{printed-shown}
+use Rattle.hep_state.proofs.SilentTurns.{printed-shown}
 use Rattle.hep_state.proofs.laws.records_are_shown.Goals as goal
 
 pub returns : goal.returns

@@ -2,12 +2,12 @@ use Rattle.std.proofs.Common.{◌<◌, List, [], None, length, refl, sym, subst}
 use Rattle.hep_machine.specs.Words.{Value, unit_of}
 use Rattle.hep_code.specs.declared.instruction.Operation.TheVariants.{Resume}
 use Rattle.hep_state.specs.Words.{HasMadeTurn, running_top, snapshot_moved, state_before}
-use Rattle.hep_state.proofs.Callers.{ahead-on-top}
+use Rattle.hep_state.proofs.CallerRoom.{ahead-on-top}
 use Rattle.hep_state.proofs.Changes.{none-ahead}
-use Rattle.hep_state.proofs.Moved.{moved-shown, result-is, unit-is}
+use Rattle.hep_state.proofs.SilentTurns.{moved-shown, result-is, unit-is}
 use Rattle.hep_state.proofs.Subroutines.{resumes-without-result}
-use Rattle.hep_state.proofs.Taken.{inside}
-use Rattle.hep_state.proofs.Resumed.{caller-there, none-below, resumed-gap, resumed-shown}
+use Rattle.hep_state.proofs.TakenTurns.{inside}
+use Rattle.hep_state.proofs.ResumeTurns.{caller-there, none-below, resumed-gap, resumed-shown}
 use Rattle.hep_state.proofs.laws.resumes_are_shown.Goals as goal
 
 pub returns-clause-apart : goal.returns-clause-apart

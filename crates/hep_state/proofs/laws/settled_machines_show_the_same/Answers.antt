@@ -1,4 +1,4 @@
-use Rattle.hep_state.proofs.Tops.{settled}
+use Rattle.hep_state.proofs.TopActivations.{settled}
 use Rattle.hep_state.proofs.laws.settled_machines_show_the_same.Goals as goal
 
 pub returns : goal.returns

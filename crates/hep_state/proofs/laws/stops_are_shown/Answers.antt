@@ -1,4 +1,4 @@
-use Rattle.hep_state.proofs.Moved.{stopped-shown}
+use Rattle.hep_state.proofs.SilentTurns.{stopped-shown}
 use Rattle.hep_state.proofs.laws.stops_are_shown.Goals as goal
 
 pub returns : goal.returns

@@ -1,7 +1,7 @@
 use Rattle.std.proofs.Common.{◌≡◌, true, is_some}
 use Rattle.hep_machine.specs.Words.{Units, main_among}
 use Rattle.hep_conditions.specs.Words.{IsAccepted}
-use Rattle.hep_state.proofs.Tops.{IsKnown, arrays-placed, top-runs}
+use Rattle.hep_state.proofs.TopActivations.{IsKnown, arrays-placed, top-runs}
 use Rattle.hep_state.proofs.laws.tops_are_running.Goals as goal
 
 -- what the laws called say of a program

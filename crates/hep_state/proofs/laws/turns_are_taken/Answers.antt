@@ -1,4 +1,4 @@
-use Rattle.hep_state.proofs.Tops.{absent-ended, absent-halted, absent-none, turning}
+use Rattle.hep_state.proofs.TopActivations.{absent-ended, absent-halted, absent-none, turning}
 use Rattle.hep_state.proofs.laws.turns_are_taken.Goals as goal
 
 pub returns-clause-turning : goal.returns-clause-turning

@@ -1,4 +1,4 @@
-use Rattle.hep_state.proofs.Moved.{waited-shown}
+use Rattle.hep_state.proofs.SilentTurns.{waited-shown}
 use Rattle.hep_state.proofs.laws.waiting_is_shown.Goals as goal
 
 pub returns : goal.returns

@@ -6,8 +6,9 @@ use Rattle.hep_layout.specs.Words.{descriptor_slots, Nodes}
 use Rattle.hep_image.specs.Data.{first_frames}
 use Rattle.hep_proc.specs.Nodes.{nodes_of}
 use Rattle.hep_state.specs.Words.{unset_opening}
-use Rattle.hep_state.proofs.Opened.{first-fit, first_node, node-there}
+use Rattle.hep_state.proofs.OpenedStates.{first-fit, node-there}
 use Rattle.hep_state.proofs.opening.enter_main.Goals as goal
+use Rattle.hep_layout.proofs.Beginning.{main_node}
 
 pub returns : goal.returns
 returns c =
@@ -26,6 +27,6 @@ returns c =
     λ part v. c.openings_want_unset_cells.ensures program s (first_frames program) part v starts plain) in
     let fit : first_fit cells old.arena.holes ≡ Some common =
     subst (λ n. first_fit n old.arena.holes ≡ Some common) (sym own) (first-fit program old.arena (nodes_of old.nodes) c.requires.unused (c.openings_fit_by_numbers.ensures.layout program) c.requires.fits) in
-    let there : nodes_of new.nodes c.open.result ≡ Some (first_node c.main.result common cells) =
+    let there : nodes_of new.nodes c.open.result ≡ Some (main_node c.main.result common cells) =
     ap (λ (nodes : Nodes). nodes c.open.result) (c.open.ensures.nodes common fit c.requires.unused.none) ∙ node-there c.open.result c.main.result common cells in
-    c.openings_are_shown.ensures.entered program (length old.arena.contents) c.open.result opened.0 new.arena (nodes_of new.nodes) (first_node c.main.result common cells) opened.1 (c.open.ensures.taken common fit).size opened.2 there refl
+    c.openings_are_shown.ensures.entered program (length old.arena.contents) c.open.result opened.0 new.arena (nodes_of new.nodes) (main_node c.main.result common cells) opened.1 (c.open.ensures.taken common fit).size opened.2 there refl

@@ -1,7 +1,7 @@
 use Rattle.std.proofs.Common.{◌≡◌, ◌+◌, ◌-◌, ◌<◌, ◌≤◌, ◌∷◌, [], inl, inr, refl, sym, ◌∙◌, subst, arith}
 use Rattle.hep_arena.specs.Holes.{IsOut}
 use Rattle.hep_state.specs.Words.{IsGiven}
-use Rattle.hep_state.proofs.Opened.{cell-out, given-empty, given-next, row-inside}
+use Rattle.hep_state.proofs.OpenedStates.{cell-out, given-empty, given-next, row-inside}
 use Rattle.hep_state.proofs.opening.give_row.Goals as goal
 
 pub overflow_add-at-end : goal.overflow_add-at-end

@@ -4,7 +4,7 @@ use Rattle.std.proofs.lemmas.Iterator.Consumers.{YieldsList-end, YieldsList-turn
 use Rattle.std.proofs.lemmas.List.{drop_all, length_push, length-reverse}
 use Rattle.hep_image.specs.declared.data.DataRow.{DataRow}
 use Rattle.hep_state.specs.Words.{IsGiven}
-use Rattle.hep_state.proofs.Opened.{from-last, given-turn, nothing-given, out-given, row-out}
+use Rattle.hep_state.proofs.OpenedStates.{from-last, given-turn, nothing-given, out-given, row-out}
 use Rattle.hep_state.proofs.opening.give_rows.Goals as goal
 
 pub loop-row-init : goal.loop-row-init

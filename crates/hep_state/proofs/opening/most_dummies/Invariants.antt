@@ -1,6 +1,6 @@
 use Rattle.std.proofs.Common.{◌≡◌, length}
 use Rattle.hep_machine.specs.Words.{dummies_of, unit_at}
-use Rattle.hep_step.specs.Room.{most_of}
+use Rattle.hep_step.specs.TargetCount.{most_of}
 use Rattle.hep_state.proofs.opening.most_dummies.Given as goal
 
 abbrev pub invariant-loop-unit : goal.invariant-loop-unit

@@ -1,5 +1,5 @@
 use Rattle.std.proofs.Common.{◌≡◌}
-use Rattle.hep_step.specs.Room.{most_of, most_targets}
+use Rattle.hep_step.specs.TargetCount.{most_of, most_targets}
 use Rattle.hep_step.specs.Simulation.{unit_code}
 use Rattle.hep_state.proofs.opening.most_targets_of_all.Given as goal
 

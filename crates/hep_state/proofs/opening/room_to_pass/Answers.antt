@@ -1,6 +1,6 @@
 use Rattle.std.proofs.Common.{◌≡◌, ◌∙◌, length, ap}
 use Rattle.hep_machine.specs.Words.{Units, dummies_of, unit_at}
-use Rattle.hep_step.specs.Room.{most_of}
+use Rattle.hep_step.specs.TargetCount.{most_of}
 use Rattle.hep_state.proofs.opening.room_to_pass.Goals as goal
 
 pub returns : goal.returns

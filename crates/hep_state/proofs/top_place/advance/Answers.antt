@@ -5,15 +5,15 @@ use Rattle.hep_image.specs.declared.array.Array.{Array}
 use Rattle.hep_proc.specs.Nodes.{nodes_of}
 use Rattle.hep_step.specs.Changes.{changed_at}
 use Rattle.hep_step.specs.Effects.{effect_at}
-use Rattle.hep_step.specs.Performed as performed
-use Rattle.hep_step.specs.Performed.{IsPerformed, snapshot}
-use Rattle.hep_step.specs.Ready.{IsReady}
+use Rattle.hep_step.specs.PerformedSteps as performed
+use Rattle.hep_step.specs.PerformedSteps.{IsPerformed, snapshot}
+use Rattle.hep_step.specs.StepReady.{IsReady}
 use Rattle.hep_step.specs.Simulation.{unit_arrays, unit_code}
 use Rattle.hep_proc.specs.declared.process.Local.{Local}
 use Rattle.hep_proc.specs.Stacks.{stack_of, stack_with}
 use Rattle.hep_proc.proofs.Levels.{operands-are, some-levels}
 use Rattle.hep_state.specs.TopPlace.{node_under}
-use Rattle.hep_state.proofs.Carried.{carry}
+use Rattle.hep_state.proofs.CarriedOperands.{carry}
 use Rattle.hep_state.proofs.top_place.advance.Goals.{After-stand_at}
 use Rattle.hep_state.proofs.top_place.advance.Goals as goal
 

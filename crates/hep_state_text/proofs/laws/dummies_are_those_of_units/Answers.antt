@@ -1,4 +1,4 @@
-use Rattle.hep_views.proofs.Views.{has-dummies}
+use Rattle.hep_views.proofs.StateViews.{has-dummies}
 use Rattle.hep_state_text.proofs.laws.dummies_are_those_of_units.Goals as goal
 
 pub returns : goal.returns

@@ -1,6 +1,6 @@
 use Rattle.std.proofs.Common.{◌≡◌, ◌+◌, ◌-◌, Some, Ok, sym, ◌∙◌, subst, arith}
 use Rattle.hep_machine.specs.Words.{integers_of, counted_element}
-use Rattle.hep_image.specs.Finding.{address_in_array, base_at, bounds_at, cells_in, rest_at}
+use Rattle.hep_image.specs.Addressing.{address_in_array, base_at, bounds_at, cells_in, rest_at}
 use Rattle.hep_step.specs.Cells.{IsReached}
 use Rattle.hep_step.proofs.Elements.{element_is_left, element_is_there}
 use Rattle.hep_step.proofs.addresses.of_element.Goals as goal

@@ -1,7 +1,7 @@
 use Rattle.std.proofs.Common.{◌≡◌, ◌+◌, ◌*◌, [], ◌∷◌, ◌++◌, length, suc, ap, ◌∙◌, arith}
 use Rattle.hep_machine.specs.declared.shape.Bound.{Bound}
 use Rattle.hep_machine.specs.Words.{Bounds}
-use Rattle.hep_image.specs.Finding.{bounds_from, cells_in}
+use Rattle.hep_image.specs.Addressing.{bounds_from, cells_in}
 use Rattle.hep_step.specs.Cells.{bound_in}
 use Rattle.hep_step.proofs.Elements.{bounds_more, length_bounds}
 use Rattle.hep_step.proofs.frame.bounds.Goals as goal

@@ -1,5 +1,5 @@
 use Rattle.std.proofs.Common.{◌≡◌}
-use Rattle.hep_image.specs.Finding.{bounds_from, cells_in}
+use Rattle.hep_image.specs.Addressing.{bounds_from, cells_in}
 use Rattle.hep_step.proofs.frame.bounds.Given as goal
 
 abbrev pub invariant-loop-dimension : goal.invariant-loop-dimension

@@ -1,4 +1,4 @@
-use Rattle.hep_step.proofs.Ready.{is_ready}
+use Rattle.hep_step.proofs.ReadySteps.{is_ready}
 use Rattle.hep_step.proofs.laws.activations_are_ready.Goals as goal
 
 pub returns : goal.returns

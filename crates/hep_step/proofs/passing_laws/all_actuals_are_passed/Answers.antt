@@ -1,7 +1,7 @@
 use Rattle.std.proofs.Common.{sym, subst}
 use Rattle.hep_machine.specs.Words.{dummies_for}
 use Rattle.hep_code.proofs.Entries.{actuals_passed}
-use Rattle.hep_step.specs.Agreement.{AreGivenAs, given_passed, scope_calling, variables_calling}
+use Rattle.hep_step.specs.ArgumentAgreement.{AreGivenAs, given_passed, scope_calling, variables_calling}
 use Rattle.hep_step.proofs.References.{all-given}
 use Rattle.hep_step.proofs.passing_laws.all_actuals_are_passed.Goals as goal
 

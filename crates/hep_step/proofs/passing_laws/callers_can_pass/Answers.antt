@@ -1,9 +1,9 @@
 use Rattle.std.proofs.Common.{sym, subst}
 use Rattle.hep_code.proofs.Entries.{actuals_passed}
-use Rattle.hep_step.specs.Agreement.{arrays_calling, variables_calling}
+use Rattle.hep_step.specs.ArgumentAgreement.{arrays_calling, variables_calling}
 use Rattle.hep_step.specs.ReadyToPass.{ArePassable}
 use Rattle.hep_step.proofs.ReadyToPass.{actuals-passable, caller-framed, variable-passable}
-use Rattle.hep_step.specs.Ready.{frame_in_arena}
+use Rattle.hep_step.specs.StepReady.{frame_in_arena}
 use Rattle.hep_step.proofs.passing_laws.callers_can_pass.Goals as goal
 
 pub returns-clause-frame : goal.returns-clause-frame

@@ -1,4 +1,4 @@
-use Rattle.hep_step.specs.Agreement.{caller_running}
+use Rattle.hep_step.specs.ArgumentAgreement.{caller_running}
 use Rattle.hep_step.proofs.ReadyToPass.{caller-framed}
 use Rattle.hep_step.proofs.Purges.{targets-out, targets-passable}
 use Rattle.hep_step.proofs.purge_laws.purges_are_ready.Goals as goal

@@ -1,4 +1,4 @@
-use Rattle.hep_step.proofs.Cells.{emptied-elsewhere, emptied-within, length-purged}
+use Rattle.hep_step.proofs.EmptiedRanges.{emptied-elsewhere, emptied-within, length-purged}
 use Rattle.hep_step.proofs.purge_laws.ranges_are_emptied.Goals as goal
 
 pub returns : goal.returns

@@ -1,7 +1,7 @@
 use Rattle.std.proofs.Common.{sym, subst, arith}
 use Rattle.std.proofs.lemmas.List.{drop_more}
 use Rattle.hep_arena.specs.Holes.{IsOut}
-use Rattle.hep_step.specs.declared.range.ClosedRange.{ClosedRange}
+use Rattle.hep_step.specs.declared.closed_range.ClosedRange.{ClosedRange}
 use Rattle.hep_step.specs.PurgeReady.{AreReached}
 use Rattle.hep_step.proofs.purging.purge.Goals as goal
 

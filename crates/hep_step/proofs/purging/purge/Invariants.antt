@@ -1,5 +1,5 @@
 use Rattle.std.proofs.Common.{◌≡◌, drop, length}
-use Rattle.hep_step.specs.Purged.{purged}
+use Rattle.hep_step.specs.PurgeEffects.{purged}
 use Rattle.hep_step.specs.PurgeReady.{AreReached}
 use Rattle.hep_step.proofs.purging.purge.Given as goal
 

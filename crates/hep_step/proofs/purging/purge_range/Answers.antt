@@ -1,7 +1,7 @@
 use Rattle.std.proofs.Common.{◌≡◌, suc, ◌+◌, ◌-◌, sym, ◌∙◌, subst, arith}
 use Rattle.hep_arena.specs.Holes.{IsOut}
-use Rattle.hep_step.specs.Purged.{purged_from}
-use Rattle.hep_step.proofs.Cells.{purged_from-first}
+use Rattle.hep_step.specs.PurgeEffects.{purged_from}
+use Rattle.hep_step.proofs.EmptiedRanges.{purged_from-first}
 use Rattle.hep_step.proofs.purging.purge_range.Goals as goal
 
 pub purge_cell-requires-clause-out : goal.purge_cell-requires-clause-out

@@ -1,5 +1,5 @@
 use Rattle.std.proofs.Common.{◌≡◌, ◌+◌, ◌-◌, length}
-use Rattle.hep_step.specs.Purged.{purged_from}
+use Rattle.hep_step.specs.PurgeEffects.{purged_from}
 use Rattle.hep_step.proofs.purging.purge_range.Given as goal
 
 abbrev pub invariant-loop-cell : goal.invariant-loop-cell

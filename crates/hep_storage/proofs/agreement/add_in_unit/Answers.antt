@@ -1,9 +1,9 @@
 use Rattle.std.proofs.Common.{◌≤◌, ◌+◌, subst, length, drop, arith}
 use Rattle.std.proofs.lemmas.List.{drop_more}
 use Rattle.hep_storage.specs.Agreement.{AreAmong}
-use Rattle.hep_storage.specs.Table.{block_at, entry_at}
-use Rattle.hep_storage.proofs.Told.{gathered-start, gathered-next, gathered-end}
-use Rattle.hep_storage.proofs.Turns.{among-next, all-settled}
+use Rattle.hep_storage.specs.BlockTable.{block_at, entry_at}
+use Rattle.hep_storage.proofs.WrongGroups.{gathered-start, gathered-next, gathered-end}
+use Rattle.hep_storage.proofs.RunLists.{among-next, all-settled}
 use Rattle.hep_storage.proofs.agreement.add_in_unit.Goals as goal
 
 pub loop-block-init : goal.loop-block-init

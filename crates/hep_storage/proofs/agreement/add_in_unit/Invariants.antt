@@ -1,7 +1,7 @@
 use Rattle.std.proofs.Common.{drop}
 use Rattle.hep_storage.specs.Agreement.{AreAmong}
-use Rattle.hep_storage.specs.Table.{block_at, summed_in, entry_at}
-use Rattle.hep_storage.proofs.Told.{Gathered}
+use Rattle.hep_storage.specs.BlockTable.{block_at, summed_in, entry_at}
+use Rattle.hep_storage.proofs.WrongGroups.{Gathered}
 use Rattle.hep_storage.proofs.agreement.add_in_unit.Given as goal
 
 abbrev pub invariant-loop-block : goal.invariant-loop-block

@@ -2,8 +2,8 @@ use Rattle.std.proofs.Common.{◌≤◌, ◌||◌, ◌∙◌, ap, length, arith}
 use Rattle.std.specs.List.{list_any}
 use Rattle.hep_machine.specs.Words.{name_eq, blocks_of}
 use Rattle.hep_storage.specs.Agreement.{with_block}
-use Rattle.hep_storage.specs.Table.{block_at, summed_in, entry_at}
-use Rattle.hep_storage.proofs.Told.{blocks-more, passes-same, told-common, units-done}
+use Rattle.hep_storage.specs.BlockTable.{block_at, summed_in, entry_at}
+use Rattle.hep_storage.proofs.WrongGroups.{blocks-more, passes-same, told-common, units-done}
 use Rattle.hep_storage.proofs.agreement.common_lines.Goals as goal
 
 pub loop-symbols-preserved : goal.loop-symbols-preserved

@@ -3,7 +3,7 @@ use Rattle.std.specs.List.{list_any}
 use Rattle.indexmap.specs.IndexSet.{contains}
 use Rattle.hep_machine.specs.Words.{Name, name_eq, BlockName, blocks_of}
 use Rattle.hep_storage.specs.Agreement.{passes_of_blocks, nothing_summed}
-use Rattle.hep_storage.specs.Table.{block_at, summed_in, entry_at}
+use Rattle.hep_storage.specs.BlockTable.{block_at, summed_in, entry_at}
 use Rattle.hep_storage.proofs.agreement.common_lines.Given as goal
 
 abbrev pub invariant-loop-symbols : goal.invariant-loop-symbols

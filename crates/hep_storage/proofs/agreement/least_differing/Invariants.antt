@@ -3,7 +3,7 @@ use Rattle.indexmap.specs.IndexSet.{contains}
 use Rattle.hep_machine.specs.Words.{Name, name_eq, BlockName, blocks_of}
 use Rattle.hep_conditions.specs.Words.{least_line}
 use Rattle.hep_storage.specs.Agreement.{least_of_blocks, nothing_summed}
-use Rattle.hep_storage.specs.Table.{block_at, summed_in, entry_at}
+use Rattle.hep_storage.specs.BlockTable.{block_at, summed_in, entry_at}
 use Rattle.hep_storage.proofs.agreement.least_differing.Given as goal
 
 abbrev pub invariant-loop-symbols : goal.invariant-loop-symbols

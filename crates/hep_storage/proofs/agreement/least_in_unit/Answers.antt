@@ -1,8 +1,8 @@
 use Rattle.std.proofs.Common.{◌≤◌, ◌+◌, subst, length, drop, arith}
 use Rattle.std.proofs.lemmas.List.{drop_more}
 use Rattle.hep_storage.specs.Agreement.{AreAmong}
-use Rattle.hep_storage.specs.Table.{block_at, entry_at}
-use Rattle.hep_storage.proofs.Turns.{turned-start, turned-next, turned-end, among-next, all-settled}
+use Rattle.hep_storage.specs.BlockTable.{block_at, entry_at}
+use Rattle.hep_storage.proofs.RunLists.{turned-start, turned-next, turned-end, among-next, all-settled}
 use Rattle.hep_storage.proofs.agreement.least_in_unit.Goals as goal
 
 pub loop-block-init : goal.loop-block-init

@@ -3,9 +3,9 @@ use Rattle.std.specs.Option.{option_eq}
 use Rattle.indexmap.specs.IndexSet.{contains}
 use Rattle.hep_machine.specs.Words.{name_eq, BlockName}
 use Rattle.hep_storage.specs.Agreement.{summed}
-use Rattle.hep_storage.specs.Blocks.{HasContents, Holds}
-use Rattle.hep_storage.specs.Table.{contents_in, summed_in, AreRead, entry_at}
-use Rattle.hep_storage.specs.declared.table.Entry.{Entry}
+use Rattle.hep_storage.specs.BlockContents.{HasContents, Holds}
+use Rattle.hep_storage.specs.BlockTable.{contents_in, summed_in, AreRead, entry_at}
+use Rattle.hep_storage.specs.declared.block_table.BlockEntry.{BlockEntry}
 use Rattle.hep_storage.proofs.BlockTables.{list-noted}
 use Rattle.hep_storage.proofs.Tables.{put-contents, put-read}
 use Rattle.hep_storage.proofs.blocks.note_block.Goals as goal
@@ -16,7 +16,7 @@ returns-in_ok-add_names-in-Some c =
     let k = c.block_of-block.result in
     let unit = c.args.symbols.now in
     let old = entry_at c.args.table.now in
-    let written : Entry = record { summary = c.name.new.self.summary; contents = c.add_names.new.self; is_named = c.name.new.self.is_named } in
+    let written : BlockEntry = record { summary = c.name.new.self.summary; contents = c.add_names.new.self; is_named = c.name.new.self.is_named } in
     let new = entry_at (c.get_mut.follows.lender written) in
     let is = sym c.in-Some.ensures.value in
     let put = ((c.get_mut.follows.holds written).3 (some-there (old k) c.in-Some.entry.now is)).0 in
@@ -35,7 +35,7 @@ returns-in_ok-insert-in-None c =
     let k = c.block_of-block.result in
     let unit = c.args.symbols.now in
     let old = entry_at c.args.table.now in
-    let made : Entry = record { summary = c.new-entry.result.summary; contents = c.add_names-in-None.new.self; is_named = c.new-entry.result.is_named } in
+    let made : BlockEntry = record { summary = c.new-entry.result.summary; contents = c.add_names-in-None.new.self; is_named = c.new-entry.result.is_named } in
     let new = entry_at c.insert.new.self in
     let none = sym c.in-None.ensures.value in
     let put = λ (b : BlockName). c.in_ok-insert-in-None.ensures.updates.0 b ∙ ap (λ t. cond (option_eq name_eq k b) (Some made) (entry_at t b)) c.get_mut.follows.holds-at-none in

@@ -1,7 +1,7 @@
 use Rattle.std.proofs.Common.{◌++◌, take, append-nil, arith, take_all}
 use Rattle.indexmap.specs.IndexSet.{contains}
 use Rattle.hep_machine.specs.Words.{name_eq}
-use Rattle.hep_storage.specs.Blocks.{names_under, later_line}
+use Rattle.hep_storage.specs.BlockContents.{names_under, later_line}
 use Rattle.hep_storage.proofs.BlockTables.{list-turn}
 use Rattle.hep_storage.proofs.Tables.{read-start, read-next}
 use Rattle.hep_storage.proofs.blocks.note_blocks.Goals as goal

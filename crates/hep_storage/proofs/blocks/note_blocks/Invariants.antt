@@ -1,8 +1,8 @@
 use Rattle.std.proofs.Common.{ℕ, ◌++◌, List, Option, take}
 use Rattle.indexmap.specs.IndexSet.{contains}
 use Rattle.hep_machine.specs.Words.{Name, name_eq, BlockName}
-use Rattle.hep_storage.specs.Blocks.{Has, names_under, later_line}
-use Rattle.hep_storage.specs.Table.{contents_in, AreRead, entry_at}
+use Rattle.hep_storage.specs.BlockContents.{Has, names_under, later_line}
+use Rattle.hep_storage.specs.BlockTable.{contents_in, AreRead, entry_at}
 use Rattle.hep_storage.proofs.blocks.note_blocks.Given as goal
 
 abbrev pub invariant-loop-list : goal.invariant-loop-list

@@ -4,7 +4,7 @@ use Rattle.hep_machine.specs.Words.{name_eq, names_in_block}
 use Rattle.hep_conditions.specs.Words.{last_line}
 use Rattle.hep_storage.proofs.BlockTables.{statement-turn, unit-whole}
 use Rattle.hep_storage.proofs.Tables.{none-has, none-named, read-start, read-next}
-use Rattle.hep_storage.specs.Table.{entry_at}
+use Rattle.hep_storage.specs.BlockTable.{entry_at}
 use Rattle.hep_storage.proofs.blocks.read_blocks.Goals as goal
 
 pub loop-statement-init : goal.loop-statement-init

@@ -2,8 +2,8 @@ use Rattle.std.proofs.Common.{take}
 use Rattle.indexmap.specs.IndexSet.{contains}
 use Rattle.hep_machine.specs.Words.{name_eq, BlockName, names_in_block}
 use Rattle.hep_conditions.specs.Words.{last_line}
-use Rattle.hep_storage.specs.Blocks.{Has}
-use Rattle.hep_storage.specs.Table.{contents_in, AreRead, entry_at}
+use Rattle.hep_storage.specs.BlockContents.{Has}
+use Rattle.hep_storage.specs.BlockTable.{contents_in, AreRead, entry_at}
 use Rattle.hep_storage.proofs.blocks.read_blocks.Given as goal
 
 abbrev pub invariant-loop-statement : goal.invariant-loop-statement

@@ -1,6 +1,6 @@
 use Rattle.std.proofs.Common.{◌≡◌, ◌∙◌, true, false, nat_eq, length, arith}
 use Rattle.std.proofs.lemmas.Bool.Decides.{nat_tests}
-use Rattle.hep_storage.proofs.Meetings.{agreed}
+use Rattle.hep_storage.proofs.CommonPrefixes.{agreed}
 use Rattle.hep_storage.proofs.runs.agree.Goals as goal
 
 pub returns-then-meeting-first : goal.returns-then-meeting-first

@@ -1,4 +1,4 @@
-use Rattle.hep_storage.proofs.Meetings.{meet-turn, parted-here}
+use Rattle.hep_storage.proofs.CommonPrefixes.{meet-turn, parted-here}
 use Rattle.hep_storage.proofs.runs.meet.Goals as goal
 
 pub returns-then-differ-clause-parted : goal.returns-then-differ-clause-parted

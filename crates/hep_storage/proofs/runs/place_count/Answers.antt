@@ -1,5 +1,5 @@
 use Rattle.std.proofs.Common.{arith}
-use Rattle.hep_storage.proofs.Meetings.{count-turn}
+use Rattle.hep_storage.proofs.CommonPrefixes.{count-turn}
 use Rattle.hep_storage.proofs.runs.place_count.Goals as goal
 
 pub loop-run-preserved : goal.loop-run-preserved

@@ -2,8 +2,8 @@ use Rattle.std.proofs.Common.{◌≤◌, ◌+◌, ◌++◌, ◌∙◌, [], ap, d
 use Rattle.std.specs.List.{list_any}
 use Rattle.hep_machine.specs.Words.{value_among, given_by}
 use Rattle.hep_conditions.specs.Words.{elements_in}
-use Rattle.hep_storage.specs.Given.{given_after}
-use Rattle.hep_storage.specs.Groups.{data_lines}
+use Rattle.hep_storage.specs.InitializedElements.{given_after}
+use Rattle.hep_storage.specs.DataGroups.{data_lines}
 use Rattle.hep_storage.proofs.DataLines.{lines-end, lines-told, lines-turn}
 use Rattle.hep_storage.proofs.violation.data_lines.Goals as goal
 use Rattle.hep_source.proofs.Tests.{drop_at}

@@ -1,7 +1,7 @@
 use Rattle.std.proofs.Common.{subst}
 use Rattle.hep_machine.specs.Words.{DataGroup}
-use Rattle.hep_storage.specs.Given.{Gives}
-use Rattle.hep_storage.specs.Groups.{elements_of_targets}
+use Rattle.hep_storage.specs.InitializedElements.{Gives}
+use Rattle.hep_storage.specs.DataGroups.{elements_of_targets}
 use Rattle.hep_storage.proofs.DataLines.{gives-turn}
 use Rattle.hep_storage.proofs.violation.give_groups.Goals as goal
 

@@ -1,4 +1,4 @@
-use Rattle.hep_storage.specs.Groups.{elements_of_target}
+use Rattle.hep_storage.specs.DataGroups.{elements_of_target}
 use Rattle.hep_storage.proofs.DataLines.{gives-turn}
 use Rattle.hep_storage.proofs.violation.give_targets.Goals as goal
 

@@ -1,9 +1,9 @@
 use Rattle.std.proofs.Common.{take}
 use Rattle.indexmap.specs.IndexMap.{get}
 use Rattle.hep_machine.specs.Words.{name_eq}
-use Rattle.hep_storage.specs.Given.{Gives}
-use Rattle.hep_storage.specs.Groups.{elements_of_targets}
-use Rattle.hep_storage.specs.Shapes.{IsTable}
+use Rattle.hep_storage.specs.InitializedElements.{Gives}
+use Rattle.hep_storage.specs.DataGroups.{elements_of_targets}
+use Rattle.hep_storage.specs.ArrayShapes.{IsTable}
 use Rattle.hep_storage.proofs.violation.give_targets.Given as goal
 
 abbrev pub invariant-loop-target : goal.invariant-loop-target

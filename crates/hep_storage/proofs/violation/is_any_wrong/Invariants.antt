@@ -3,7 +3,7 @@ use Rattle.std.specs.List.{list_any}
 use Rattle.indexmap.specs.IndexMap.{get}
 use Rattle.hep_machine.specs.Words.{name_eq}
 use Rattle.hep_conditions.specs.Words.{is_wrong_group}
-use Rattle.hep_storage.specs.Shapes.{IsTable}
+use Rattle.hep_storage.specs.ArrayShapes.{IsTable}
 use Rattle.hep_storage.proofs.violation.is_any_wrong.Given as goal
 
 abbrev pub invariant-loop-group : goal.invariant-loop-group

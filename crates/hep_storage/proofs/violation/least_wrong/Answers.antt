@@ -1,8 +1,8 @@
 use Rattle.std.proofs.Common.{◌≤◌, ◌+◌, ◌∙◌, [], ap, drop, length, arith}
 use Rattle.hep_machine.specs.Words.{value_among, given_by}
 use Rattle.hep_conditions.specs.Words.{elements_in}
-use Rattle.hep_storage.specs.Given.{given_after}
-use Rattle.hep_storage.specs.Groups.{data_line}
+use Rattle.hep_storage.specs.InitializedElements.{given_after}
+use Rattle.hep_storage.specs.DataGroups.{data_line}
 use Rattle.hep_storage.proofs.DataLines.{data-turn, data-end}
 use Rattle.hep_storage.proofs.violation.least_wrong.Goals as goal
 use Rattle.hep_source.proofs.Tests.{drop_at}

@@ -2,9 +2,9 @@ use Rattle.std.proofs.Common.{◌≡◌, List, [], drop}
 use Rattle.indexmap.specs.IndexMap.{get}
 use Rattle.hep_machine.specs.Words.{name_eq, Stretch}
 use Rattle.hep_conditions.specs.Words.{least_line}
-use Rattle.hep_storage.specs.Given.{IsGiven}
-use Rattle.hep_storage.specs.Groups.{data_line}
-use Rattle.hep_storage.specs.Shapes.{IsTable}
+use Rattle.hep_storage.specs.InitializedElements.{IsGiven}
+use Rattle.hep_storage.specs.DataGroups.{data_line}
+use Rattle.hep_storage.specs.ArrayShapes.{IsTable}
 use Rattle.hep_storage.proofs.violation.least_wrong.Given as goal
 
 abbrev pub invariant-loop-statement : goal.invariant-loop-statement

@@ -1,4 +1,4 @@
-use Rattle.hep_trace.proofs.Loops.{loop-stays, value-stays}
+use Rattle.hep_trace.proofs.LoopEnds.{loop-stays, value-stays}
 use Rattle.hep_trace.proofs.observed_laws.iterations_end_in_place.Goals as goal
 
 pub returns : goal.returns

@@ -2,8 +2,8 @@ use Rattle.std.proofs.Common.{Some, sym, ap, ◌∙◌}
 use Rattle.hep_image.specs.Names.{variable_number}
 use Rattle.hep_image.specs.Places.{variable_of}
 use Rattle.hep_machine.specs.Words.{unit_at}
-use Rattle.hep_event.proofs.Placed.{levels-of}
-use Rattle.hep_trace.proofs.Topped.{inside, unit}
+use Rattle.hep_event.proofs.FoundVariables.{levels-of}
+use Rattle.hep_trace.proofs.TopLevels.{inside, unit}
 use Rattle.hep_trace.proofs.reference.number_of.Goals as goal
 
 pub top_level-level-requires-clause-living : goal.top_level-level-requires-clause-living

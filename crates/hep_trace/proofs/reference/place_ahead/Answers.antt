@@ -2,9 +2,9 @@ use Rattle.std.proofs.Common.{sym, ap, ◌∙◌}
 use Rattle.std.proofs.lemmas.Result.{IfOk-weaker}
 use Rattle.hep_image.specs.Names.{names_in_order}
 use Rattle.hep_proc.proofs.Slabs.{some-value}
-use Rattle.hep_event.proofs.Placed.{levels-of}
+use Rattle.hep_event.proofs.FoundVariables.{levels-of}
 use Rattle.hep_trace.specs.References.{shown_by}
-use Rattle.hep_trace.proofs.Topped.{there}
+use Rattle.hep_trace.proofs.TopLevels.{there}
 use Rattle.hep_trace.proofs.reference.place_ahead.Goals as goal
 
 pub top_level-level-requires-clause-living : goal.top_level-level-requires-clause-living

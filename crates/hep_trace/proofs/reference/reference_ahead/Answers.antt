@@ -3,10 +3,10 @@ use Rattle.std.proofs.lemmas.Option.{none-some, same_Some}
 use Rattle.hep_image.specs.Names.{variable_number}
 use Rattle.hep_layout.specs.Words.{address}
 use Rattle.hep_machine.specs.Words.{Value, location_of_name, run, scope_of, unit_at, unit_of}
-use Rattle.hep_event.specs.Named.{named_by}
+use Rattle.hep_event.specs.NamedVariables.{named_by}
 use Rattle.hep_event.proofs.AccessedAhead.{is-named}
 use Rattle.hep_event.specs.Sites.{IsSite}
-use Rattle.hep_trace.proofs.Referred.{name-so, place-so}
+use Rattle.hep_trace.proofs.PlaceWords.{name-so, place-so}
 use Rattle.hep_trace.proofs.reference.reference_ahead.Goals as goal
 
 pub returns-in_default : goal.returns-in_default

@@ -3,8 +3,8 @@ use Rattle.hep_code.specs.Words.{IsNext}
 use Rattle.hep_machine.specs.Words.{Level, Process, next_of, run, unit_at, unit_of}
 use Rattle.hep_step.specs.Simulation.{unit_addressed}
 use Rattle.hep_event.proofs.Answered as answered
-use Rattle.hep_event.proofs.Standing.{settled-there, settled-turn, turn}
-use Rattle.hep_event.proofs.Placed.{levels-of, same-top}
+use Rattle.hep_event.proofs.TopPositions.{settled-there, settled-turn, turn}
+use Rattle.hep_event.proofs.FoundVariables.{levels-of, same-top}
 use Rattle.hep_trace.proofs.turn_laws.operations_come_next.Goals as goal
 
 pub returns : goal.returns

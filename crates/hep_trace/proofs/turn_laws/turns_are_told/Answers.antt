@@ -2,13 +2,13 @@ use Rattle.std.proofs.Common.{◌≡◌, ◌∙◌, ap, refl, subst, sym}
 use Rattle.hep_image.specs.Places.{addresses_of}
 use Rattle.hep_machine.specs.Words.{Reference, Top, next_of, spelling, unit_on_top}
 use Rattle.hep_trace.specs.References.{top_after}
-use Rattle.hep_event.specs.Named.{IsNamed}
-use Rattle.hep_state_text.specs.Waits.{name_seen}
-use Rattle.hep_event.specs.Deeds.{place_of}
-use Rattle.hep_event.specs.Told.{told_text}
-use Rattle.hep_trace.specs.Sights.{IsLoopAhead, name_referred, place_referred}
-use Rattle.hep_trace.proofs.Next.{loops}
-use Rattle.hep_trace.proofs.Told.{is-seen}
+use Rattle.hep_event.specs.NamedVariables.{IsNamed}
+use Rattle.hep_state_text.specs.WaitTexts.{name_seen}
+use Rattle.hep_event.specs.StepTexts.{place_of}
+use Rattle.hep_event.specs.OperationTexts.{told_text}
+use Rattle.hep_trace.specs.Observations.{IsLoopAhead, name_referred, place_referred}
+use Rattle.hep_trace.proofs.NextOperations.{loops}
+use Rattle.hep_trace.proofs.SeenBefore.{is-seen}
 use Rattle.hep_trace.proofs.turn_laws.turns_are_told.Goals as goal
 
 pub returns : goal.returns

@@ -1,6 +1,6 @@
 use Rattle.std.proofs.Common.{◌∙◌, ◌++◌, List, ℕ, ap, sym}
 use Rattle.std.proofs.lemmas.Result.{on_ok_weaker}
-use Rattle.hep_trace.proofs.Deed.{faulted, step-seen, wants-so}
+use Rattle.hep_trace.proofs.ObservedSteps.{faulted, step-seen, wants-so}
 use Rattle.hep_trace.proofs.turn_line.append_deed.Goals as goal
 
 pub returns-then-is_some : goal.returns-then-is_some

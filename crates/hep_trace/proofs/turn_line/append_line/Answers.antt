@@ -1,15 +1,15 @@
 use Rattle.std.proofs.Common.{◌≡◌, ◌∙◌, ◌++◌, List, ℕ, ap, append-nil, codes, refl, subst, sym}
-use Rattle.hep_core.specs.Value.{state_of}
+use Rattle.hep_core.specs.CoreValues.{state_of}
 use Rattle.hep_core.proofs.Histories.{progress-state}
 use Rattle.hep_machine.specs.Words.{Top, line_at, living, progress_after, step_result_of, unit_at, unit_name, unit_on_top}
-use Rattle.hep_trace.specs.Freed.{IsFreeing, top_in}
-use Rattle.hep_trace.specs.Turns.{IsTurnMade}
-use Rattle.hep_event.specs.Deeds.{deed_text}
-use Rattle.hep_event.specs.Lines as lines
+use Rattle.hep_trace.specs.FreedFrames.{IsFreeing, top_in}
+use Rattle.hep_trace.specs.MadeTurns.{IsTurnMade}
+use Rattle.hep_event.specs.StepTexts.{deed_text}
+use Rattle.hep_event.specs.LineTexts as lines
 use Rattle.hep_event.specs.Traces.{freed, woken}
-use Rattle.hep_trace.specs.Sights.{IsTurnSeen}
+use Rattle.hep_trace.specs.Observations.{IsTurnSeen}
 use Rattle.hep_trace.proofs.Lines.{appended, line-is, seen-on, unseen}
-use Rattle.hep_trace.proofs.Made.{program-same}
+use Rattle.hep_trace.proofs.MadeTurns.{program-same}
 use Rattle.hep_trace.proofs.turn_line.append_line.Goals as goal
 
 pub returns-in_default : goal.returns-in_default

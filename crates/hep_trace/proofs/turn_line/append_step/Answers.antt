@@ -1,13 +1,13 @@
 use Rattle.std.proofs.Common.{◌≡◌, ◌∙◌, ◌++◌, List, ℕ, ap, refl, subst, sym}
 use Rattle.std.proofs.lemmas.Result.{on_ok_weaker}
-use Rattle.hep_core.specs.Value.{state_of}
+use Rattle.hep_core.specs.CoreValues.{state_of}
 use Rattle.hep_machine.specs.Words.{Units, living, unit_at, unit_name}
-use Rattle.hep_event.specs.Deeds.{line_by}
-use Rattle.hep_event.specs.declared.told.Seen.{Seen}
-use Rattle.hep_event.specs.Plain.{IsNameOfCalled}
-use Rattle.hep_event.specs.Told.{told_text}
-use Rattle.hep_trace.specs.Sights.{IsListSeen, IsSeenWith, name_referred}
-use Rattle.hep_trace.proofs.Made.{program-same}
+use Rattle.hep_event.specs.StepTexts.{line_by}
+use Rattle.hep_event.specs.declared.operation_text.StepObservation.{StepObservation}
+use Rattle.hep_event.specs.PlainTexts.{IsNameOfCalled}
+use Rattle.hep_event.specs.OperationTexts.{told_text}
+use Rattle.hep_trace.specs.Observations.{IsListSeen, IsSeenWith, name_referred}
+use Rattle.hep_trace.proofs.MadeTurns.{program-same}
 use Rattle.hep_trace.proofs.turn_line.append_step.Goals as goal
 
 pub returns : goal.returns
@@ -17,7 +17,7 @@ returns c =
     let core = c.args.core.now.core in
     let same : core.program ≡ old.program = program-same old t.process core h.turn.made in
     let image = c.image-image.ensures ∙ same in
-    let seen : Seen = record {
+    let seen : StepObservation = record {
       unit = c.unit_name.result;
       called = c.called.result;
       variable = c.variable_name.result;

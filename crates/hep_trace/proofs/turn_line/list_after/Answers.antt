@@ -1,7 +1,7 @@
 use Rattle.std.proofs.Common.{subst, sym}
 use Rattle.std.proofs.lemmas.Result.{IfOk-weaker}
-use Rattle.hep_core.specs.Value.{state_of}
-use Rattle.hep_trace.specs.Sights.{IsListSeen}
+use Rattle.hep_core.specs.CoreValues.{state_of}
+use Rattle.hep_trace.specs.Observations.{IsListSeen}
 use Rattle.hep_trace.proofs.turn_line.list_after.Goals as goal
 
 pub returns-in-Print : goal.returns-in-Print

@@ -1,4 +1,4 @@
-use Rattle.hep_trace.proofs.Loop.{looked-for, some-site, value-after}
+use Rattle.hep_trace.proofs.LoopVariables.{looked-for, some-site, value-after}
 use Rattle.hep_trace.proofs.turn_line.value_after.Goals as goal
 
 pub site_of-requires : goal.site_of-requires

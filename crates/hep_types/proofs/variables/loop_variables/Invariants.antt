@@ -1,7 +1,6 @@
 use Rattle.std.proofs.Common.{◌≡◌, ◌++◌, drop, map}
 use Rattle.hep_machine.specs.Words.{Statement}
-use Rattle.hep_conditions.specs.Words.{function_types}
-use Rattle.hep_types.specs.Types.{has_loop_variable}
+use Rattle.hep_conditions.specs.Words.{function_types, has_loop_variable}
 use Rattle.hep_types.proofs.variables.loop_variables.Given as goal
 
 abbrev pub invariant-loop-statement : goal.invariant-loop-statement

@@ -1,7 +1,7 @@
 use Rattle.std.proofs.Common.{◌≡◌, ◌++◌, drop}
 use Rattle.std.specs.List.{flat_map}
 use Rattle.hep_machine.specs.Words.{ImplicitGroup}
-use Rattle.hep_uses.specs.Ambiguous.{ranges_at}
+use Rattle.hep_uses.specs.AmbiguityLines.{ranges_at}
 use Rattle.hep_uses.proofs.letters.add_groups.Given as goal
 
 abbrev pub invariant-loop-group : goal.invariant-loop-group

@@ -1,7 +1,7 @@
 use Rattle.std.proofs.Common.{◌++◌, ap}
 use Rattle.hep_conditions.specs.Words.{overlap}
 use Rattle.hep_uses.specs.Ambiguities.{no_name}
-use Rattle.hep_uses.specs.Ambiguous.{none_seen}
+use Rattle.hep_uses.specs.AmbiguityLines.{none_seen}
 use Rattle.hep_uses.proofs.Overlaps.{none-met}
 use Rattle.hep_uses.proofs.Reported.{letters-more, repeated_from-same}
 use Rattle.hep_uses.proofs.letters.add_overlapping.Goals as goal

@@ -1,7 +1,7 @@
 use Rattle.std.proofs.Common.{◌≡◌, ◌++◌, drop}
 use Rattle.hep_conditions.specs.Words.{overlap}
 use Rattle.hep_uses.specs.Ambiguities.{no_name, repeated_from, repeated_letters}
-use Rattle.hep_uses.specs.Ambiguous.{meets}
+use Rattle.hep_uses.specs.AmbiguityLines.{meets}
 use Rattle.hep_uses.proofs.letters.add_overlapping.Given as goal
 
 abbrev pub invariant-loop-range : goal.invariant-loop-range

@@ -1,5 +1,5 @@
 use Rattle.std.proofs.Common.{◌≡◌, ◌++◌, drop}
-use Rattle.hep_uses.specs.Ambiguous as passes
+use Rattle.hep_uses.specs.AmbiguityLines as passes
 use Rattle.hep_uses.proofs.letters.add_ranges.Given as goal
 
 abbrev pub invariant-loop-range : goal.invariant-loop-range

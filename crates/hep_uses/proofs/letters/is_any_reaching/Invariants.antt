@@ -1,6 +1,6 @@
 use Rattle.std.proofs.Common.{◌≡◌, drop}
 use Rattle.std.specs.List.{list_any}
-use Rattle.hep_uses.specs.Ambiguous.{reaches}
+use Rattle.hep_uses.specs.AmbiguityLines.{reaches}
 use Rattle.hep_uses.proofs.letters.is_any_reaching.Given as goal
 
 abbrev pub invariant-loop-last : goal.invariant-loop-last

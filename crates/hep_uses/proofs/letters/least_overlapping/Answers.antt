@@ -1,5 +1,5 @@
 use Rattle.hep_conditions.specs.Words.{overlap}
-use Rattle.hep_uses.specs.Ambiguous.{none_seen}
+use Rattle.hep_uses.specs.AmbiguityLines.{none_seen}
 use Rattle.hep_uses.proofs.Overlaps.{none-met, overlapping-turn}
 use Rattle.hep_uses.proofs.Ways.{least_repeated-same}
 use Rattle.hep_uses.proofs.letters.least_overlapping.Goals as goal

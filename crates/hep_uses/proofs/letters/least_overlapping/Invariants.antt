@@ -1,6 +1,6 @@
 use Rattle.std.proofs.Common.{◌≡◌, drop}
 use Rattle.hep_conditions.specs.Words.{overlap, least_line}
-use Rattle.hep_uses.specs.Ambiguous as passes
+use Rattle.hep_uses.specs.AmbiguityLines as passes
 use Rattle.hep_uses.proofs.letters.least_overlapping.Given as goal
 
 abbrev pub invariant-loop-range : goal.invariant-loop-range

@@ -1,7 +1,7 @@
 use Rattle.std.proofs.Common.{◌+◌, drop}
 use Rattle.hep_machine.specs.Words.{Statement}
 use Rattle.hep_conditions.specs.Words.{letter_ranges_in}
-use Rattle.hep_uses.specs.Ambiguous.{ranges_at}
+use Rattle.hep_uses.specs.AmbiguityLines.{ranges_at}
 use Rattle.hep_names.proofs.Firsts.{grow}
 use Rattle.hep_uses.proofs.letters.letter_ranges.Goals as goal
 use Rattle.hep_source.proofs.Tests.{drop_at}

@@ -1,6 +1,6 @@
 use Rattle.std.proofs.Common.{◌≡◌, ◌∙◌, ap}
 use Rattle.hep_machine.specs.Words.{node_tree, binary}
-use Rattle.hep_values.specs.declared.evaluation.Evaluation.{Evaluation}
+use Rattle.hep_values.specs.declared.evaluation.ExpressionValue.{ExpressionValue}
 use Rattle.hep_values.specs.Evaluation.{parameters, are_parts_known}
 use Rattle.hep_values.proofs.Evaluations.{two-known}
 use Rattle.hep_values.proofs.evaluation.+evaluate.Goals as goal
@@ -13,7 +13,7 @@ evaluate-returns-in_ok-right-in-Binary-clause-are_parts_known t c =
     let b = c.deref-in-Binary-2.result.now in
     let n : node_tree c.expression.inside.node ≡ binary c.in-Binary.operator c.in-Binary.left.value c.in-Binary.right.value = ap node_tree c.in-Binary.is in
     let tree : binary c.in-Binary.operator a b ≡ c.args.expression.now = cc (n) in
-    ap (λ (e : Evaluation). e.are_parts_known) c.of_two.ensures
+    ap (λ (e : ExpressionValue). e.are_parts_known) c.of_two.ensures
     ∙ (two-known c.args.symbols.now c.args.constants.now c.args.doubtful.now c.in-Binary.operator a b _ _ _ _ _ _ _
     c.combined-value.ensures left.ensures.value right.ensures.value left.ensures.is_open right.ensures.is_open left.ensures.are_parts_known right.ensures.are_parts_known
     ∙ ap (are_parts_known c.args.symbols.now (parameters c.args.constants.now c.args.doubtful.now)) tree)

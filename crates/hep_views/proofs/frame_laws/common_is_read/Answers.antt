@@ -1,4 +1,4 @@
-use Rattle.hep_views.proofs.Read.{common-is-read}
+use Rattle.hep_views.proofs.ReadContents.{common-is-read}
 use Rattle.hep_views.proofs.frame_laws.common_is_read.Goals as goal
 
 pub returns : goal.returns

@@ -1,6 +1,6 @@
 use Rattle.std.proofs.Common.{refl}
 use Rattle.hep_machine.specs.Words.{is_held}
-use Rattle.hep_views.proofs.Read.{frame-is-read, frames-are-read}
+use Rattle.hep_views.proofs.ReadContents.{frame-is-read, frames-are-read}
 use Rattle.hep_views.proofs.frame_laws.frames_are_read.Goals as goal
 
 pub returns : goal.returns

@@ -1,4 +1,4 @@
-use Rattle.hep_views.proofs.Views.{has-dummies, view-of-many}
+use Rattle.hep_views.proofs.StateViews.{has-dummies, view-of-many}
 use Rattle.hep_views.proofs.laws.views_are_of_states.Goals as goal
 
 pub returns : goal.returns

@@ -1,6 +1,6 @@
 use Rattle.hep_why.specs.Reasons.{reasons_of}
-use Rattle.hep_why.proofs.Processes.{circle-told}
-use Rattle.hep_why.proofs.Rising.{reasons-rise}
+use Rattle.hep_why.proofs.ProcessCycles.{circle-told}
+use Rattle.hep_why.proofs.OrderedReasons.{reasons-rise}
 use Rattle.hep_why.proofs.laws.circles_are_told.Goals as goal
 
 pub returns : goal.returns

@@ -1,4 +1,4 @@
-use Rattle.hep_why.proofs.Leading.{lead}
+use Rattle.hep_why.proofs.CycleLinks.{lead}
 use Rattle.hep_why.proofs.laws.circles_lead_back.Goals as goal
 
 pub returns : goal.returns

@@ -1,4 +1,4 @@
-use Rattle.hep_why.proofs.Leading.{next-changed}
+use Rattle.hep_why.proofs.CycleLinks.{next-changed}
 use Rattle.hep_why.proofs.laws.next_ones_changed_it.Goals as goal
 
 pub returns : goal.returns

@@ -1,6 +1,6 @@
 use Rattle.hep_why.specs.Reasons.{reasons_of}
-use Rattle.hep_why.proofs.Processes.{told-circle, told-least}
-use Rattle.hep_why.proofs.Rising.{reasons-rise}
+use Rattle.hep_why.proofs.ProcessCycles.{told-circle, told-least}
+use Rattle.hep_why.proofs.OrderedReasons.{reasons-rise}
 use Rattle.hep_why.proofs.laws.told_circles_are_circles.Goals as goal
 
 pub returns-clause-circle : goal.returns-clause-circle

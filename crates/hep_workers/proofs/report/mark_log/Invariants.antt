@@ -1,5 +1,5 @@
 use Rattle.std.proofs.Common.{◌≡◌, drop}
-use Rattle.hep_workers.specs.Marks.{marked}
+use Rattle.hep_workers.specs.ReceiptMarks.{marked}
 use Rattle.hep_workers.proofs.report.mark_log.Given as goal
 
 abbrev pub invariant-loop-receipt : goal.invariant-loop-receipt

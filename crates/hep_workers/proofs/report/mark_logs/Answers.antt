@@ -1,5 +1,5 @@
 use Rattle.std.proofs.Common.{◌≡◌, ◌+◌, None, Some, drop, ap, sym, ◌∙◌, rules, option_and_then}
-use Rattle.hep_workers.specs.Marks.{marked}
+use Rattle.hep_workers.specs.ReceiptMarks.{marked}
 use Rattle.hep_workers.specs.Receipts.{receipts_of}
 use Rattle.hep_workers.proofs.Marks.{next-log}
 use Rattle.hep_workers.proofs.report.mark_logs.Goals as goal

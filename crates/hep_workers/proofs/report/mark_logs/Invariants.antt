@@ -1,5 +1,5 @@
 use Rattle.std.proofs.Common.{◌≡◌, drop}
-use Rattle.hep_workers.specs.Marks.{marked}
+use Rattle.hep_workers.specs.ReceiptMarks.{marked}
 use Rattle.hep_workers.specs.Receipts.{receipts_of}
 use Rattle.hep_workers.proofs.report.mark_logs.Given as goal
 

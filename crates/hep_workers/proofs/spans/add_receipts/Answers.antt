@@ -1,5 +1,5 @@
 use Rattle.std.proofs.Common.{◌≡◌, ◌-◌, ◌++◌, length, min, ap, ◌∙◌, arith}
-use Rattle.hep_workers.proofs.Growing.{receipts_in-cut}
+use Rattle.hep_workers.proofs.GrowingHistories.{receipts_in-cut}
 use Rattle.hep_workers.proofs.spans.add_receipts.Goals as goal
 
 pub returns-clause-items : goal.returns-clause-items

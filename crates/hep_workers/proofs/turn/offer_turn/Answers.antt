@@ -1,8 +1,9 @@
-use Rattle.std.proofs.Common.{◌≡◌, ◌++◌, ◌∷◌, [], Err, ap, length, refl, sym, ◌∙◌}
+use Rattle.std.proofs.Common.{◌++◌, ◌∷◌, [], Err, ap, length, refl, sym, ◌∙◌}
 use Rattle.hep_core.specs.Commits.{IsCommitted}
 use Rattle.hep_core.specs.Offers.{offered}
-use Rattle.hep_workers.proofs.Committed.{err-so, fault-so, no-entry, one-entry}
+use Rattle.hep_workers.proofs.Committed.{fault-so, no-entry, one-entry}
 use Rattle.hep_workers.proofs.turn.offer_turn.Goals as goal
+use Rattle.hep_state.proofs.UnchangedStates.{on-err}
 
 pub returns-clause-named : goal.returns-clause-named
 returns-clause-named c =
@@ -24,4 +25,4 @@ returns-in_err-turn-clause-unmade c =
 
 pub returns-in_err-turn-clause-kept : goal.returns-in_err-turn-clause-kept
 returns-in_err-turn-clause-kept c =
-    err-so c.from_residual.result c.from_residual.ensures.0 (no-entry c.args.core.now c.commit_offer.new.self (offered c.args.core.now.core.program c.args.offer.now) c.in_err-turn.field-0.0 c.in_err-turn.ensures.committed)
+    on-err c.from_residual.result c.from_residual.ensures.0 (no-entry c.args.core.now c.commit_offer.new.self (offered c.args.core.now.core.program c.args.offer.now) c.in_err-turn.field-0.0 c.in_err-turn.ensures.committed)

@@ -1,7 +1,7 @@
 use Rattle.std.proofs.Common.{◌≡◌, ◌≤◌, true, map, sym, ap, ◌∙◌, subst, arith}
 use Rattle.hep_machine.specs.Words.{is_number_among, without}
-use Rattle.hep_blocked.specs.Listing.{WaitsNow}
-use Rattle.hep_blocked.specs.Rolls.{Roll, is_enrolled, number_at, place_of}
+use Rattle.hep_blocked.specs.RosterUpdates.{WaitsNow}
+use Rattle.hep_blocked.specs.Rosters.{RosterValue, is_enrolled, number_at, place_of}
 use Rattle.hep_blocked.specs.Waiting.{waiting_at}
 use Rattle.hep_blocked.proofs.Ranks.{ArePlaces, place-within}
 use Rattle.hep_blocked.proofs.Rosters.{has-place, places-without, ready-no-more, waits-mapped}
@@ -17,7 +17,7 @@ has c =
     let k = c.self.invariant in
     let ns = i.numbers.items in
     let xs = i.ready.ready in
-    has-place i.last ns xs i.waits k.rising k.ready c.args.p (subst (λ (r : Roll). is_enrolled r c.args.p ≡ true) (sym c.self.view_is) c.requires.enrolled)
+    has-place i.last ns xs i.waits k.rising k.ready c.args.p (subst (λ (r : RosterValue). is_enrolled r c.args.p ≡ true) (sym c.self.view_is) c.requires.enrolled)
 
 left : (c : After-remove) → c.remove.new.self.ready ≡ without (place_of c.self.inside.numbers.items c.args.p) c.self.inside.ready.ready
 left c = c.remove.ensures.ready ∙ ap (λ m. without m c.self.inside.ready.ready) (c.place_of-place.ensures.place ∙ ap (λ ns. place_of ns c.args.p) c.deref.ensures.value)

@@ -1,7 +1,7 @@
 use Rattle.std.proofs.Common.{◌≡◌, ◌<◌, suc, [], ◌∷◌, ◌++◌, length, length-append, map, sym, ap, ◌∙◌, subst, arith}
 use Rattle.hep_machine.specs.Words.{is_number_among}
 use Rattle.hep_blocked.specs.Numbers.{AreRising, with_number}
-use Rattle.hep_blocked.specs.Rolls.{Roll, number_at, waiting_in, want_of}
+use Rattle.hep_blocked.specs.Rosters.{RosterValue, number_at, waiting_in, want_of}
 use Rattle.hep_blocked.proofs.Ranks.{ArePlaces, rise-more}
 use Rattle.hep_blocked.proofs.Rosters.{places-more, ready-more, waiting-more}
 use Rattle.hep_blocked.proofs.roster.Roster.enroll.Goals.{After-add}
@@ -9,7 +9,7 @@ use Rattle.hep_blocked.proofs.roster.Roster.enroll.Goals as goal
 
 module _ (c : After-add) where
   later : c.self.inside.last < c.args.p
-  later = omega (arith, c.requires.later, ap (λ (r : Roll). r.last) c.self.view_is)
+  later = omega (arith, c.requires.later, ap (λ (r : RosterValue). r.last) c.self.view_is)
 
   long : length c.append.new.numbers.items ≡ suc (length c.self.inside.numbers.items)
   long = ap length c.append.ensures.added ∙ (length-append c.self.inside.numbers.items (c.args.p ∷ []) ∙ omega arith)
@@ -31,7 +31,7 @@ invariant_of-self c =
     let xs = i.ready.ready in
     let p = c.args.p in
     let added = c.append.ensures.added in
-    let room = ap (λ (r : Roll). r.room) c.self.view_is in
+    let room = ap (λ (r : RosterValue). r.room) c.self.view_is in
     let places : ArePlaces (ns ++ p ∷ []) (with_number (suc (length ns)) xs) = places-more p i.last ns xs i.waits k.rising (later at) (further at) k.ready k.waiting in
     record {
       rising = subst (AreRising 1 p) (sym added) (further at);

@@ -1,6 +1,6 @@
 use Rattle.std.proofs.Common.{◌≡◌, None, Some, length, sym, ap, ◌∙◌, arith}
 use Rattle.hep_machine.specs.Words.{first_above}
-use Rattle.hep_blocked.specs.Rolls.{number_at, places_to}
+use Rattle.hep_blocked.specs.Rosters.{number_at, places_to}
 use Rattle.hep_blocked.proofs.Ranks.{first-mapped, numbered, rise-mapped}
 use Rattle.hep_blocked.proofs.Rosters.{found-place}
 use Rattle.hep_blocked.proofs.roster.Roster.first_above.Goals.{After-first_above}

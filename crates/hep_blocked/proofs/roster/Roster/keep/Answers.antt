@@ -2,7 +2,7 @@ use Rattle.std.proofs.Common.{◌≡◌, ◌<◌, ◌+◌, ◌&&◌, ◌||◌, �
 use Rattle.std.proofs.lemmas.Result.{on_ok_weaker}
 use Rattle.hep_machine.specs.Words.{is_number_among}
 use Rattle.hep_blocked.specs.Numbers.{AreRising}
-use Rattle.hep_blocked.specs.Rolls.{Roll, number_at, waiting_in, want_of}
+use Rattle.hep_blocked.specs.Rosters.{RosterValue, number_at, waiting_in, want_of}
 use Rattle.hep_blocked.specs.Waiting.{waiting_at}
 use Rattle.hep_blocked.proofs.Ranks.{ArePlaces, past-at, rise-more}
 use Rattle.hep_blocked.proofs.Rosters.{on-ok, places-marked, ready-marked, waiting-marked, waiting-not}
@@ -11,7 +11,7 @@ use Rattle.hep_blocked.proofs.roster.Roster.keep.Goals as goal
 
 module _ (c : After-len) where
   later : c.self.inside.last < c.args.number
-  later = omega (arith, c.requires.later, ap (λ (r : Roll). r.last) c.self.view_is)
+  later = omega (arith, c.requires.later, ap (λ (r : RosterValue). r.last) c.self.view_is)
 
   further : AreRising 1 c.args.number (c.self.inside.numbers.items ++ c.args.number ∷ [])
   further = rise-more 1 c.self.inside.last c.args.number c.self.inside.numbers.items c.self.invariant.rising (omega (arith, later)) later

@@ -1,6 +1,6 @@
 use Rattle.std.proofs.Common.{length, sym, ap, subst, arith}
 use Rattle.hep_blocked.specs.Numbers.{AreRising}
-use Rattle.hep_blocked.specs.Rolls.{Roll}
+use Rattle.hep_blocked.specs.Rosters.{RosterValue}
 use Rattle.hep_blocked.proofs.Ranks.{ArePlaces, rise-further}
 use Rattle.hep_blocked.proofs.roster.Roster.make_room.Goals as goal
 
@@ -11,7 +11,7 @@ invariant_of-self-2 c =
     let ns = i.numbers.items in
     let xs = i.ready.ready in
     let same = c.reserve.ensures.items in
-    let last = ap (λ (r : Roll). r.last) c.self.view_is in
+    let last = ap (λ (r : RosterValue). r.last) c.self.view_is in
     let rising = rise-further 1 i.last c.args.last ns k.rising (omega (arith, last, c.requires.enrolled)) in
     record {
       rising = subst (AreRising 1 c.args.last) (sym same) rising;

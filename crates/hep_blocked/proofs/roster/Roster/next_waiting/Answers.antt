@@ -1,5 +1,5 @@
 use Rattle.std.proofs.Common.{◌≡◌, ◌≢◌, ◌<◌, ℕ, None, length, sym, ap, ◌∙◌, subst, arith}
-use Rattle.hep_blocked.specs.Rolls.{number_at, places_to, waiting_in, want_of}
+use Rattle.hep_blocked.specs.Rosters.{number_at, places_to, waiting_in, want_of}
 use Rattle.hep_blocked.proofs.Rosters.{found-above, none-above, waits-within}
 use Rattle.hep_blocked.proofs.roster.Roster.next_waiting.Goals.{After-next_after}
 use Rattle.hep_blocked.proofs.roster.Roster.next_waiting.Goals as goal

@@ -1,5 +1,5 @@
 use Rattle.std.proofs.Common.{sym, ◌∙◌}
-use Rattle.hep_blocked.specs.Rolls.{number_at, place_of}
+use Rattle.hep_blocked.specs.Rosters.{number_at, place_of}
 use Rattle.hep_blocked.proofs.Ranks.{want-mapped}
 use Rattle.hep_blocked.proofs.Rosters.{waits-within, want-at}
 use Rattle.hep_blocked.proofs.roster.Roster.none_waits.Goals as goal

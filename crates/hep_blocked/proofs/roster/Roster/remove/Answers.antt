@@ -1,6 +1,6 @@
 use Rattle.std.proofs.Common.{◌≡◌, map, sym, ap, ◌∙◌, subst, arith}
 use Rattle.hep_machine.specs.Words.{is_number_among, without}
-use Rattle.hep_blocked.specs.Rolls.{number_at, place_of}
+use Rattle.hep_blocked.specs.Rosters.{number_at, place_of}
 use Rattle.hep_blocked.proofs.Ranks.{ArePlaces}
 use Rattle.hep_blocked.proofs.Rosters.{places-without, ready-no-more}
 use Rattle.hep_blocked.proofs.roster.Roster.remove.Goals.{After-remove}

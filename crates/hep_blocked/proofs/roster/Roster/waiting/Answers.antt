@@ -1,5 +1,5 @@
 use Rattle.std.proofs.Common.{sym, ap, ◌∙◌}
-use Rattle.hep_blocked.specs.Rolls.{place_of}
+use Rattle.hep_blocked.specs.Rosters.{place_of}
 use Rattle.hep_blocked.specs.Waiting.{waiting_at}
 use Rattle.hep_blocked.proofs.Ranks.{want-mapped}
 use Rattle.hep_blocked.proofs.roster.Roster.waiting.Goals as goal

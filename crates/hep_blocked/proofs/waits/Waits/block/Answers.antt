@@ -1,10 +1,10 @@
 use Rattle.std.proofs.Common.{◌≡◌, ◌-◌, ◌≤◌, List, Option, Some, None, set, ap, ◌∙◌, arith}
 use Rattle.hep_blocked.specs.Numbers.{with_number}
 use Rattle.hep_cells.specs.declared.want.Want.{Want}
-use Rattle.hep_blocked.specs.Queues.{list_of}
+use Rattle.hep_blocked.specs.WaitQueues.{list_of}
 use Rattle.hep_blocked.specs.Waiting.{waiting_at}
 use Rattle.hep_blocked.proofs.Numbering.{numbers-blocked}
-use Rattle.hep_blocked.proofs.Tying.{blocked-items, tied-blocked, waiting-blocked}
+use Rattle.hep_blocked.proofs.QueueInvariants.{blocked-items, tied-blocked, waiting-blocked}
 use Rattle.hep_blocked.proofs.waits.Waits.block.Goals as goal
 
 pub invariant_of-self-2 : goal.invariant_of-self-2

@@ -1,6 +1,6 @@
 use Rattle.std.proofs.Common.{◌∙◌, refl, sym}
 use Rattle.hep_blocked.specs.Waiting.{next_waiting}
-use Rattle.hep_blocked.proofs.Above.{nobody-waits, none-told, somebody-waits}
+use Rattle.hep_blocked.proofs.RanksAbove.{nobody-waits, none-told, somebody-waits}
 use Rattle.hep_blocked.proofs.waits.Waits.is_empty.Goals as goal
 
 pub returns-clause-empty : goal.returns-clause-empty

@@ -1,7 +1,7 @@
 use Rattle.std.proofs.Common.{refl}
-use Rattle.hep_blocked.specs.Queues.{list_of}
+use Rattle.hep_blocked.specs.WaitQueues.{list_of}
 use Rattle.hep_blocked.proofs.Numbering.{numbers-none}
-use Rattle.hep_blocked.proofs.Tying.{tied-none}
+use Rattle.hep_blocked.proofs.QueueInvariants.{tied-none}
 use Rattle.hep_blocked.proofs.waits.Waits.new.Goals as goal
 
 pub invariant_of-result : goal.invariant_of-result

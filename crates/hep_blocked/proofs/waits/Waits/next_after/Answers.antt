@@ -1,5 +1,5 @@
 use Rattle.std.proofs.Common.{◌∙◌}
-use Rattle.hep_blocked.proofs.Above.{next-found, next-none, next-told}
+use Rattle.hep_blocked.proofs.RanksAbove.{next-found, next-none, next-told}
 use Rattle.hep_blocked.proofs.waits.Waits.next_after.Goals as goal
 
 pub returns-clause-next : goal.returns-clause-next

@@ -1,8 +1,8 @@
 use Rattle.std.proofs.Common.{◌≡◌, ◌-◌, None, Some, Option, List, set, sym, ap, ◌∙◌}
 use Rattle.hep_cells.specs.declared.want.Want.{Want}
-use Rattle.hep_blocked.specs.Queues.{list_of}
+use Rattle.hep_blocked.specs.WaitQueues.{list_of}
 use Rattle.hep_blocked.specs.Waiting.{waiting_at}
-use Rattle.hep_blocked.proofs.Removing.{numbers-removed, removed-items, tied-removed, waiting-placed}
+use Rattle.hep_blocked.proofs.QueueRemoving.{numbers-removed, removed-items, tied-removed, waiting-placed}
 use Rattle.hep_blocked.proofs.waits.Waits.remove.Goals as goal
 
 pub invariant_of-self : goal.invariant_of-self

@@ -1,10 +1,10 @@
 use Rattle.std.proofs.Common.{List, [], Option, sym, ap, ◌∙◌}
 use Rattle.hep_machine.specs.Words.{is_number_among}
 use Rattle.hep_cells.specs.declared.want.Want.{Want}
-use Rattle.hep_blocked.specs.Queues.{list_of}
+use Rattle.hep_blocked.specs.WaitQueues.{list_of}
 use Rattle.hep_blocked.specs.Waiting.{waiting_at}
 use Rattle.hep_blocked.proofs.Numbering.{numbers-woken}
-use Rattle.hep_blocked.proofs.Tying.{cleared-awake, cleared-waiting, tied-woken, woken-among, woken-known, woken-ready}
+use Rattle.hep_blocked.proofs.QueueInvariants.{cleared-awake, cleared-waiting, tied-woken, woken-among, woken-known, woken-ready}
 use Rattle.hep_blocked.proofs.waits.Waits.wake.Goals as goal
 
 pub wake_each-requires-clause-known : goal.wake_each-requires-clause-known

@@ -1,7 +1,7 @@
 use Rattle.std.proofs.Common.{◌≡◌, length, subst, sym, ◌∙◌}
 use Rattle.hep_commit.specs.declared.offer.Offer.{Offer}
 use Rattle.hep_commit.specs.Offers.{IsKnownOffer, offered}
-use Rattle.hep_commit.proofs.Batched.{count}
+use Rattle.hep_commit.proofs.BatchStarts.{count}
 use Rattle.hep_commit.proofs.offer.Offer.steps.Goals as goal
 
 pub returns-in-Made-clause-count : goal.returns-in-Made-clause-count

@@ -1,6 +1,6 @@
 use Rattle.std.proofs.Common.{◌≡◌, map, length, subst, arith}
 use Rattle.hep_control.specs.Successors.{successors_seen, successors_from}
-use Rattle.hep_control.proofs.Ahead.{successors-of, successors-length}
+use Rattle.hep_control.proofs.Continuations.{successors-of, successors-length}
 use Rattle.hep_control.proofs.control.Control.successors_at.Goals as goal
 
 pub index-requires : goal.index-requires

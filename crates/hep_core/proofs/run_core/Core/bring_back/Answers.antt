@@ -1,5 +1,5 @@
 use Rattle.std.proofs.Common.{◌≡◌, true, subst}
-use Rattle.hep_core.proofs.Outs.{out-still}
+use Rattle.hep_core.proofs.ProcessesOut.{out-still}
 use Rattle.hep_core.specs.Tickets.{is_out}
 use Rattle.hep_core.proofs.run_core.Core.bring_back.Goals as goal
 

@@ -1,9 +1,9 @@
 use Rattle.std.proofs.Common.{◌≡◌, ◌∙◌, false, ap, arith, refl, subst, sym}
-use Rattle.hep_core.specs.Places.{Placed}
+use Rattle.hep_core.specs.ProcessPlaces.{PlacedCore}
 use Rattle.hep_core.specs.Tickets.{is_out}
-use Rattle.hep_core.specs.Value.{IsChoice}
-use Rattle.hep_core.proofs.Beside.{chosen-good, chosen-through, good-itself}
-use Rattle.hep_core.proofs.Going.{chosen-once, unmoved}
+use Rattle.hep_core.specs.CoreValues.{IsChoice}
+use Rattle.hep_core.proofs.OtherTickets.{chosen-good, chosen-through, good-itself}
+use Rattle.hep_core.proofs.SilentChoices.{chosen-once, unmoved}
 use Rattle.hep_core.proofs.run_core.Core.choose.Goals.{After-is_out}
 use Rattle.hep_core.proofs.run_core.Core.choose.Goals as goal
 
@@ -41,4 +41,4 @@ returns-in-Ok-clause-kept c = chosen-good c.args.p c.args.self.now c.move_alone.
 pub returns-in-Err-clause-kept : goal.returns-in-Err-clause-kept
 returns-in-Err-clause-kept c =
     let same = c.in-Err.ensures.refused in
-    chosen-through c.args.p c.args.self.now c.move_alone.new.self c.turn-in-Err.new.self (home (goal.at.returns-in-Err-clause-kept c).After-is_out c.if-is_out.false) (ap (λ (v : Placed). v.core) same) (c.move_alone.ensures.others) c.turn-in-Err.ensures.others
+    chosen-through c.args.p c.args.self.now c.move_alone.new.self c.turn-in-Err.new.self (home (goal.at.returns-in-Err-clause-kept c).After-is_out c.if-is_out.false) (ap (λ (v : PlacedCore). v.core) same) (c.move_alone.ensures.others) c.turn-in-Err.ensures.others

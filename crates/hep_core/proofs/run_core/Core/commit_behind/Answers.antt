@@ -1,45 +1,45 @@
-use Rattle.std.proofs.Common.{◌≡◌, ◌≢◌, ◌<◌, ◌≤◌, ◌++◌, ◌∷◌, ◌-◌, ◌∙◌, ◌⊎◌, ℕ, suc, [], Bool, List, None, Ok, Some, true, false, inl, inr, is_some, ◌+◌, length, length-append, refl, sym, ap, subst, arith}
+use Rattle.std.proofs.Common.{◌≡◌, ◌<◌, ◌≤◌, ◌++◌, ◌∷◌, ◌-◌, ◌∙◌, ℕ, suc, [], Bool, List, Some, true, false, inl, inr, is_some, ◌+◌, length, length-append, refl, sym, ap, subst, arith}
 use Rattle.hep_machine.specs.declared.event.Entry.{Entry}
 use Rattle.hep_machine.specs.Histories.{most_steps}
 use Rattle.hep_machine.specs.Words.{is_waiting, run, schedule_of, state_after}
 use Rattle.hep_state.specs.declared.core_state.CoreState.{CoreState}
 use Rattle.hep_commit.specs.TicketId.{TicketId}
-use Rattle.hep_commit.specs.Segments.{SegmentValue}
 use Rattle.hep_state.specs.Words.{CanTurn, HasNoGap, HasTurned, IsItsTurn, IsMachineAfter, IsSameButTop, IsUnturned, LeavesAlone, LeavesOthers, LeavesRest, snapshot_of}
-use Rattle.hep_state.proofs.Beside.{beside-again, beside-top}
-use Rattle.hep_commit.specs.Levels.{start_in}
+use Rattle.hep_state.proofs.OtherProcesses.{beside-again, beside-top}
+use Rattle.hep_commit.specs.SegmentStarts.{start_in}
 use Rattle.hep_commit.specs.OwnCells.{AreOwnCells}
-use Rattle.hep_commit.specs.Saved.{saved_in}
-use Rattle.hep_commit.specs.Taking.{CanTake, HasRestored, HasTakenIn, IsNextPrivateIn}
-use Rattle.hep_commit.proofs.Taken.{AreTurnsIn}
+use Rattle.hep_commit.specs.UndoLogs.{saved_in}
+use Rattle.hep_commit.specs.Application.{HasRestored, HasTakenIn, IsNextPrivateIn}
+use Rattle.hep_commit.proofs.AppliedSegments.{AreTurnsIn}
 use Rattle.hep_commit.specs.Offers.{offered}
-use Rattle.hep_core.specs.Commits.{HasMore, IsCommitted, IsOutBy, LeavesNext, are_private}
-use Rattle.hep_core.specs.Places.{places_of}
-use Rattle.hep_core.specs.Value.{CoreValue}
+use Rattle.hep_core.specs.Commits.{HasMore, IsOutBy, LeavesNext, are_private}
+use Rattle.hep_core.specs.ProcessPlaces.{places_of}
+use Rattle.hep_core.specs.CoreValues.{CoreValue}
 use Rattle.hep_core.specs.Tickets.{without_process}
 use Rattle.hep_core.specs.Invariant.{core_value, placed_value}
 use Rattle.hep_core.specs.declared.stop.ChoiceStop.TheVariants.{StepLimit}
-use Rattle.hep_core.proofs.Answered.{answer-full, answer-refused, whether-private}
-use Rattle.hep_core.proofs.Behind.{HasTakenSteps, can-turn, left-kept, one-less, roll-same, settled-room, taken-steps, turn-behind}
-use Rattle.hep_core.proofs.Beside.{AreReadStill, entry-next, ok-not, rest-others}
+use Rattle.hep_core.proofs.CallAnswers.{answer-full, answer-refused, whether-private}
+use Rattle.hep_core.proofs.AfterPrivate.{HasTakenSteps, can-turn, left-kept, one-less, roll-same, settled-room, taken-steps, turn-behind}
+use Rattle.hep_core.proofs.OtherTickets.{AreReadStill, entry-next, ok-not, rest-others}
 use Rattle.hep_core.proofs.Histories.{schedule-several}
 use Rattle.hep_core.proofs.Private.{further-after}
-use Rattle.hep_core.proofs.Committing.{AreTopsRunning, DependOnReads, IsSettledIn, tops-of, turns-of, whether-next}
+use Rattle.hep_core.proofs.Committing.{DependOnReads, IsSettledIn, tops-of, turns-of, whether-next}
 use Rattle.hep_core.proofs.Exits.{left-answer, left-invariant, left-room, made-answer, made-invariant, more-is, noted-after, popped, restored-after, restored-places, room-there, turn-there}
 use Rattle.hep_state.proofs.Histories.{still-after, turned-at, unturned-at}
 use Rattle.hep_core.specs.Waking.{GoAlongTurn}
-use Rattle.hep_core.proofs.Kept.{AreSeen, in-arena, made-step, risen}
+use Rattle.hep_core.proofs.GoodTickets.{AreSeen, in-arena, made-step, risen}
 use Rattle.hep_core.proofs.Returning.{not-good}
-use Rattle.hep_core.proofs.Underway.{IsUnderway, can-restore, known-in, left-placed, lives-offered, out-offered, refused-so, saved-for, settled-by, some-offered, turn-in, underway}
+use Rattle.hep_core.proofs.OutStates.{IsUnderway, can-restore, known-in, left-placed, lives-offered, out-offered, refused-so, saved-for, settled-by, some-offered, turn-in, underway}
 use Rattle.hep_core.proofs.run_core.Core.commit_behind.Goals.{After-keep, After-is_next_private-arg-1, After-len-arg-1}
 use Rattle.hep_core.proofs.run_core.Core.commit_behind.Goals as goal
+use Rattle.hep_state.proofs.ReturnTurns.{IsRunningAlways}
 
 -- ---- what is known from the beginning on
 
 own : (c : After-len-arg-1) → c.ticket-p.result.process ≡ (offered c.self.inside.image c.args.offer.now).id.process
 own c = ap (λ id. id.process) (c.ticket-p.ensures c.self.inside.image)
 
-tops : (c : After-len-arg-1) → AreTopsRunning c.self.inside.image
+tops : (c : After-len-arg-1) → IsRunningAlways c.self.inside.image
 tops c = tops-of c.self.inside.image _ c.tops_are_running.ensures.running c.is_runnable.ensures.accepted c.is_runnable.ensures.main
 
 laws : (c : After-len-arg-1) → AreTurnsIn c.self.inside.image
@@ -206,7 +206,7 @@ many-noted c = c.steps-steps.ensures.count c.self.inside.image (known-in c.self.
 out-then : (c : After-is_next_private-arg-1) → IsOutBy (core_value c.self.inside) (offered c.self.inside.image c.args.offer.now)
 out-then c = out-offered c.self.inside c.args.self.now c.self.view_is c.args.offer.now c.requires.out
 
-tops-then : (c : After-is_next_private-arg-1) → AreTopsRunning c.self.inside.image
+tops-then : (c : After-is_next_private-arg-1) → IsRunningAlways c.self.inside.image
 tops-then c = tops-of c.self.inside.image _ c.tops_are_running.ensures.running c.is_runnable.ensures.accepted c.is_runnable.ensures.main
 
 reads-then : (c : After-is_next_private-arg-1) → DependOnReads

@@ -1,7 +1,7 @@
 use Rattle.std.proofs.Common.{◌≡◌, ◌∙◌, true≢false, refl, sym, ap}
 use Rattle.hep_commit.specs.Offers.{offered}
 use Rattle.hep_core.specs.Tickets.{has_ticket}
-use Rattle.hep_core.proofs.Beside.{committed-good}
+use Rattle.hep_core.proofs.OtherTickets.{committed-good}
 use Rattle.hep_core.proofs.run_core.Core.commit_offer.Goals as goal
 
 pub returns-then-not-has_ticket-clause-committed : goal.returns-then-not-has_ticket-clause-committed

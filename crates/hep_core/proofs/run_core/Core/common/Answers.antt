@@ -5,7 +5,7 @@ use Rattle.hep_machine.specs.declared.slot.Slot.{Slot}
 use Rattle.hep_arena.specs.Holes.{IsOut}
 use Rattle.hep_arena.proofs.Gaps.{apart-end, front-out}
 use Rattle.hep_core.proofs.Commons.{cell_of, common-at}
-use Rattle.hep_views.specs.Reading.{common_read}
+use Rattle.hep_views.specs.StoredContents.{common_read}
 use Rattle.hep_core.proofs.run_core.Core.common.Goals as goal
 
 pub get-requires-clause-inside : goal.get-requires-clause-inside

@@ -1,5 +1,5 @@
 use Rattle.std.proofs.Common.{◌+◌}
-use Rattle.hep_core.proofs.Underway.{out-kept}
+use Rattle.hep_core.proofs.OutStates.{out-kept}
 use Rattle.hep_core.proofs.run_core.Core.count_ticket.Goals as goal
 
 pub invariant_of-self : goal.invariant_of-self

@@ -1,6 +1,6 @@
 use Rattle.std.proofs.Common.{◌∙◌}
 use Rattle.hep_state.specs.Words.{snapshot_of}
-use Rattle.hep_core.proofs.Kept.{faults-are}
+use Rattle.hep_core.proofs.GoodTickets.{faults-are}
 use Rattle.hep_core.proofs.run_core.Core.faults.Goals as goal
 
 pub returns : goal.returns

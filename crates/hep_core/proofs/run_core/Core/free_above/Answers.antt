@@ -1,9 +1,9 @@
 use Rattle.std.proofs.Common.{◌≡◌, ◌∙◌, ◌<◌, ◌≤◌, ℕ, false, true, None, Some, length, sym, ap, arith, rules, if◌then◌else◌, not}
 use Rattle.hep_blocked.proofs.Members.{ready-rise}
 use Rattle.hep_machine.specs.Words.{Progress, first_above, progress_after}
-use Rattle.hep_core.specs.Value.{CoreValue, free_of, ready_of}
+use Rattle.hep_core.specs.CoreValues.{CoreValue, free_of, ready_of}
 use Rattle.hep_core.specs.Tickets.{is_out}
-use Rattle.hep_core.proofs.Free.{first-passing, is-above, none-passing}
+use Rattle.hep_core.proofs.FreeProcesses.{first-passing, is-above, none-passing}
 use Rattle.hep_core.proofs.run_core.Core.free_above.Goals as goal
 
 module _ (core : CoreValue) where

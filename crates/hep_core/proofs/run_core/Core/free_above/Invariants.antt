@@ -1,6 +1,6 @@
 use Rattle.std.proofs.Common.{◌≡◌, ◌-◌, ◌≤◌, None, Some, length, if◌then◌else◌, not}
 use Rattle.hep_machine.specs.Words.{first_above, progress_after}
-use Rattle.hep_core.specs.Value.{free_of}
+use Rattle.hep_core.specs.CoreValues.{free_of}
 use Rattle.hep_core.specs.Tickets.{is_out}
 use Rattle.hep_core.proofs.run_core.Core.free_above.Given as goal
 

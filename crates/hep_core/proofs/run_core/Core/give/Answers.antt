@@ -6,16 +6,16 @@ use Rattle.hep_state.specs.declared.core_state.CoreState.{CoreState}
 use Rattle.hep_commit.specs.OwnCells.{AreOwnCells}
 use Rattle.hep_core.specs.Commits.{IsGivenTo, core_after_ticket}
 use Rattle.hep_core.specs.Invariant.{AreLiving, CoreInvariant, core_value, placed_value}
-use Rattle.hep_core.specs.Places.{Placed}
+use Rattle.hep_core.specs.ProcessPlaces.{PlacedCore}
 use Rattle.hep_core.specs.Tickets.{is_out}
-use Rattle.hep_core.proofs.Behind.{left-kept, left-value, roll-same, settled-room}
+use Rattle.hep_core.proofs.AfterPrivate.{left-kept, left-value, roll-same, settled-room}
 use Rattle.hep_core.proofs.Committing.{IsSettledIn, tops-of, where-now}
-use Rattle.hep_core.proofs.Kept.{AreSeen}
-use Rattle.hep_core.proofs.Outs.{out-more}
-use Rattle.hep_state.proofs.Unchanged.{on-err}
-use Rattle.hep_commit.specs.Levels.{start_in}
-use Rattle.hep_core.specs.Value.{state_of}
-use Rattle.hep_core.proofs.Underway.{out-kept, settled-by, turn-in}
+use Rattle.hep_core.proofs.GoodTickets.{AreSeen}
+use Rattle.hep_core.proofs.ProcessesOut.{out-more}
+use Rattle.hep_state.proofs.UnchangedStates.{on-err}
+use Rattle.hep_commit.specs.SegmentStarts.{start_in}
+use Rattle.hep_core.specs.CoreValues.{state_of}
+use Rattle.hep_core.proofs.OutStates.{out-kept, settled-by, turn-in}
 use Rattle.hep_core.proofs.run_core.Core.give.Goals as goal
 
 -- those that are out live, with one more that lives
@@ -60,7 +60,7 @@ invariant_of-self-2 c =
     let k = c.self.invariant in
     let first = settled-by i k c.args.self.now c.self.view_is c.requires.going c.args.p c.requires.lives c.args.p refl c.settle.new.self c.settle.ensures.after c.settle.ensures.top c.settle.ensures.made in
     let is = subst (IsSettledIn i c.args.p) (sym c.start.ensures.same) first in
-    let lives = subst (λ (v : Placed). living (state_of v.core) c.args.p ≢ None) (sym c.self.view_is) c.requires.lives in
+    let lives = subst (λ (v : PlacedCore). living (state_of v.core) c.args.p ≢ None) (sym c.self.view_is) c.requires.lives in
     let out = c.push_reserved.ensures.items ∙ ap (λ ts. ts ++ record { number = i.given + 1; process = c.args.p } ∷ []) c.reserve.ensures.items in
     out-kept _ (left-kept i k i.history refl c.start.new.machine is.after i.roster (roll-same i.roster) (settled-room i k c.args.p c.start.new.machine is) i.saved i.stop k.named) c.push_reserved.new.self (i.given + 1) (
     subst (AreLiving i.image i.history.items) (sym out) (more-live i.image i.history.items c.args.p (record { number = i.given + 1; process = c.args.p }) i.out.items refl lives k.living))

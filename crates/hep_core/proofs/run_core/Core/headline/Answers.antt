@@ -1,10 +1,10 @@
 use Rattle.std.proofs.Common.{refl, subst}
 use Rattle.hep_machine.specs.Words.{living_from, progress_after, ready_in, state_after}
-use Rattle.hep_blocked.specs.Rolls.{want_of}
+use Rattle.hep_blocked.specs.Rosters.{want_of}
 use Rattle.hep_state.specs.Words.{snapshot_of}
-use Rattle.hep_core.specs.Places.{ArePlaces}
-use Rattle.hep_core.proofs.Idle.{idle, no-more-ready}
-use Rattle.hep_core.proofs.Kept.{AreSeen, view-is}
+use Rattle.hep_core.specs.ProcessPlaces.{ArePlaces}
+use Rattle.hep_core.proofs.IdleCores.{idle, no-more-ready}
+use Rattle.hep_core.proofs.GoodTickets.{AreSeen, view-is}
 use Rattle.hep_core.proofs.run_core.Core.headline.Goals as goal
 
 pub returns-clause-view : goal.returns-clause-view

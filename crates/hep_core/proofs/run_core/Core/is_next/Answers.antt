@@ -1,10 +1,10 @@
 use Rattle.std.proofs.Common.{◌≡◌, refl, sym, ap, ◌∙◌, subst}
 use Rattle.hep_commit.specs.Offers.{offered}
 use Rattle.hep_core.specs.Commits.{IsWhetherNext}
-use Rattle.hep_core.specs.Places.{Placed}
-use Rattle.hep_core.proofs.Behind.{left-kept, roll-same, settled-room}
+use Rattle.hep_core.specs.ProcessPlaces.{PlacedCore}
+use Rattle.hep_core.proofs.AfterPrivate.{left-kept, roll-same, settled-room}
 use Rattle.hep_core.proofs.Committing.{IsSettledIn, tops-of, whether-next}
-use Rattle.hep_core.proofs.Underway.{known-in, left-placed, made-offered, offered-in, settled-by, turn-in}
+use Rattle.hep_core.proofs.OutStates.{known-in, left-placed, made-offered, offered-in, settled-by, turn-in}
 use Rattle.hep_commit.specs.Segments.{SegmentValue}
 use Rattle.hep_state.specs.Words.{IsItsTurn}
 use Rattle.hep_commit.specs.OwnCells.{AreOwnCells}
@@ -38,7 +38,7 @@ returns-clause-next c =
     let first =
     settled-by i c.self.invariant c.args.self.now c.self.view_is c.requires.going s.id.process c.requires.lives c.ticket.result.process (ap (λ id. id.process) (c.ticket.ensures c.args.self.now.core.program)) c.settle.new.self c.settle.ensures.after c.settle.ensures.top c.settle.ensures.made in
     let tops = tops-of i.image _ c.tops_are_running.ensures.running c.is_runnable.ensures.accepted c.is_runnable.ensures.main in
-    subst (λ (v : Placed). IsWhetherNext c.comes_next.result v s) c.self.view_is (
+    subst (λ (v : PlacedCore). IsWhetherNext c.comes_next.result v s) c.self.view_is (
     whether-next i s.id.process c.settle.new.self first tops (record { kept = c.segments_depend_on_reads.ensures.kept; made = c.segments_depend_on_reads.ensures.made }) s refl c.comes_next.result (made-offered c.self.inside c.args.self.now c.self.view_is c.args.offer.now c.comes_next.result c.settle.new.self c.comes_next.ensures.made))
 
 pub returns-clause-same : goal.returns-clause-same

@@ -1,7 +1,7 @@
 use Rattle.std.proofs.Common.{length, sym, ap, ◌∙◌}
 use Rattle.hep_machine.specs.Words.{State, schedule_of}
 use Rattle.hep_core.proofs.Histories.{state-is}
-use Rattle.hep_core.proofs.Kept.{as-many}
+use Rattle.hep_core.proofs.GoodTickets.{as-many}
 use Rattle.hep_core.proofs.run_core.Core.made.Goals as goal
 
 pub returns : goal.returns

@@ -1,6 +1,6 @@
 use Rattle.std.proofs.Common.{◌≡◌, ◌<◌, ℕ, false, IfOk, Result, Ok, Err, refl}
-use Rattle.hep_core.specs.Going.{IsAtRest}
-use Rattle.hep_core.specs.Value.{CoreValue}
+use Rattle.hep_core.specs.SilentChoices.{IsAtRest}
+use Rattle.hep_core.specs.CoreValues.{CoreValue}
 use Rattle.hep_core.proofs.run_core.Core.move_alone.Goals as goal
 
 -- where it isn't in rounds

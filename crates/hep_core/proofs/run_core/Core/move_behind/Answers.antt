@@ -1,34 +1,35 @@
-use Rattle.std.proofs.Common.{◌≡◌, ◌≢◌, ◌<◌, ◌≤◌, ◌+◌, ◌-◌, ◌⊎◌, ℕ, suc, List, ◌++◌, ◌∷◌, [], false, length, refl, sym, ap, ◌∙◌, subst, arith}
+use Rattle.std.proofs.Common.{◌≡◌, ◌≢◌, ◌<◌, ◌≤◌, ◌+◌, ◌-◌, ℕ, suc, List, ◌++◌, ◌∷◌, [], false, length, refl, sym, ap, ◌∙◌, subst, arith}
 use Rattle.hep_machine.specs.Histories.{most_steps}
 use Rattle.hep_machine.specs.Words.{schedule_of}
-use Rattle.hep_history.specs.Entries.{Kept}
-use Rattle.hep_commit.specs.UnitTables.{AreTables}
+use Rattle.hep_history.specs.Entries.{EntriesLeft}
+use Rattle.hep_commit.specs.DecodedImages.{AreTables}
 use Rattle.hep_commit.specs.Going.{HasGone, MakesMoves}
 use Rattle.hep_commit.specs.TicketId.{TicketId}
-use Rattle.hep_commit.specs.Levels.{start_in}
+use Rattle.hep_commit.specs.SegmentStarts.{start_in}
 use Rattle.hep_commit.specs.OwnCells.{AreOwnCells}
-use Rattle.hep_commit.specs.Turning.{IsAsBefore}
+use Rattle.hep_commit.specs.TurnsInPlace.{IsAsBefore}
 use Rattle.hep_state.specs.declared.core_state.CoreState.{CoreState}
 use Rattle.hep_state.specs.Words.{IsMachineAfter, LivesOn, snapshot_of}
-use Rattle.hep_state.proofs.Beside.{beside-again}
+use Rattle.hep_state.proofs.OtherProcesses.{beside-again}
 use Rattle.hep_core.specs.Commits.{HasMovedBehind, HasSteps, LeavesNext, core_after_return}
 use Rattle.hep_core.specs.Invariant.{CoreInvariant, core_value, placed_value}
 use Rattle.hep_core.specs.declared.run_core.Core.TheInside.{Inside}
 use Rattle.hep_core.specs.Tickets.{is_out, without_process}
-use Rattle.hep_core.specs.Places.{Placed, places_of}
-use Rattle.hep_core.specs.Value.{HasNoStop, state_of}
+use Rattle.hep_core.specs.ProcessPlaces.{PlacedCore, places_of}
+use Rattle.hep_core.specs.CoreValues.{HasNoStop, state_of}
 use Rattle.hep_core.specs.Waking.{HasRoomLeft}
-use Rattle.hep_core.proofs.Beside.{AreReadStill, entry-next, next-between}
-use Rattle.hep_core.proofs.Behind.{left-kept, roll-same}
-use Rattle.hep_core.proofs.Committing.{AreTopsRunning, DependOnReads, IsSettledIn, next-of, tops-of, where-now}
+use Rattle.hep_core.proofs.OtherTickets.{AreReadStill, entry-next, next-between}
+use Rattle.hep_core.proofs.AfterPrivate.{left-kept, roll-same}
+use Rattle.hep_core.proofs.Committing.{DependOnReads, IsSettledIn, tops-of, where-now}
 use Rattle.hep_core.proofs.Histories.{schedule-several}
 use Rattle.hep_core.proofs.InPlace.{activations-same, moved-behind}
-use Rattle.hep_core.proofs.Kept.{AreSeen, activations-are}
-use Rattle.hep_core.proofs.Outs.{without-home}
+use Rattle.hep_core.proofs.GoodTickets.{AreSeen, activations-are}
+use Rattle.hep_core.proofs.ProcessesOut.{without-home}
 use Rattle.hep_core.proofs.Private.{kept-after, private-kept, private-value, steps}
-use Rattle.hep_core.proofs.Underway.{going-in, left-placed, settled-by, turn-in}
+use Rattle.hep_core.proofs.OutStates.{going-in, left-placed, settled-by, turn-in}
 use Rattle.hep_core.proofs.run_core.Core.move_behind.Goals.{After-turn_in_place-steps}
 use Rattle.hep_core.proofs.run_core.Core.move_behind.Goals as goal
+use Rattle.hep_state.proofs.ReturnTurns.{IsRunningAlways}
 
 -- where no more than room was made for an entry, nothing has changed
 pub returns-then-is_err-clause-none : goal.returns-then-is_err-clause-none
@@ -45,7 +46,7 @@ turn_in_place-steps-requires-clause-prepared c =
     record {
       tables = subst (AreTables c.self.inside.image) (sym c.deref.ensures.value) c.self.invariant.tabled;
       own = subst (AreOwnCells c.self.inside.image) (sym c.deref-2.ensures.value) c.self.invariant.owned;
-      ahead = c.requires.program ∙ ap (λ (v : Placed). v.core.program) (sym c.self.view_is);
+      ahead = c.requires.program ∙ ap (λ (v : PlacedCore). v.core.program) (sym c.self.view_is);
     }
 
 pub turn_in_place-steps-requires-clause-turn : goal.turn_in_place-steps-requires-clause-turn
@@ -63,7 +64,7 @@ module _ (c : After-turn_in_place-steps) where
   going = going-in i c.self.invariant c.args.self.now c.self.view_is c.requires.going
 
   home : is_out c.args.p i.out.items ≡ false
-  home = subst (λ (v : Placed). is_out c.args.p v.core.out ≡ false) (sym c.self.view_is) c.requires.home
+  home = subst (λ (v : PlacedCore). is_out c.args.p v.core.out ≡ false) (sym c.self.view_is) c.requires.home
 
   is : IsSettledIn i c.args.p c.settle.new.self
   is = settled-by i c.self.invariant c.args.self.now c.self.view_is c.requires.going c.args.p c.requires.lives c.args.p refl c.settle.new.self c.settle.ensures.after c.settle.ensures.top c.settle.ensures.made
@@ -95,7 +96,7 @@ module _ (c : After-turn_in_place-steps) where
 
   -- ---- some were
 
-  module _ (some : c.turn_in_place-steps.result ≢ 0) (history : Kept) (noted : history.items ≡ c.reserve.new.self.items ++ record { process = c.args.p; steps = c.turn_in_place-steps.result } ∷ []) (room : length i.history.items < i.limit) where
+  module _ (some : c.turn_in_place-steps.result ≢ 0) (history : EntriesLeft) (noted : history.items ≡ c.reserve.new.self.items ++ record { process = c.args.p; steps = c.turn_in_place-steps.result } ∷ []) (room : length i.history.items < i.limit) where
     abbrev less : ℕ
     less = c.turn_in_place-steps.result - 1
 
@@ -154,7 +155,7 @@ module _ (c : After-turn_in_place-steps) where
     moved : HasMovedBehind (placed_value i) c.args.p c.turn_in_place-steps.result (placed_value (record i { history = history; machine = m; saved = c.turn_in_place-steps.new.saved }))
     moved =
         let p = c.args.p in
-        let tops : AreTopsRunning i.image = tops-of i.image _ c.tops_are_running.ensures.running c.is_runnable.ensures.accepted c.is_runnable.ensures.main in
+        let tops : IsRunningAlways i.image = tops-of i.image _ c.tops_are_running.ensures.running c.is_runnable.ensures.accepted c.is_runnable.ensures.main in
         let law : DependOnReads = record { kept = c.segments_depend_on_reads.ensures.kept; made = c.segments_depend_on_reads.ensures.made } in (
           start_in is.turn.living,
           where-now i p c.settle.new.self is tops,
@@ -172,8 +173,8 @@ module _ (c : After-turn_in_place-steps) where
         let turns = ap schedule_of entries ∙ schedule-several i.history.items p (suc less) in
         let stay = beside-again p (snapshot_of i.machine) (snapshot_of c.settle.new.self) (snapshot_of m) is.others lives.others in
         let rest = entry-next law depend i c.self.invariant going p (suc less) history.items turns m after-it stay (core_value now) refl in
-        next-between p c.args.self.now (placed_value i) (placed_value now) (placed_value now) (ap (λ (v : Placed). v.places) c.self.view_is) (ap (λ (v : Placed). v.core.program) c.self.view_is)
-        (ap (λ (v : Placed). state_of v.core) c.self.view_is) rest refl refl refl refl
+        next-between p c.args.self.now (placed_value i) (placed_value now) (placed_value now) (ap (λ (v : PlacedCore). v.places) c.self.view_is) (ap (λ (v : PlacedCore). v.core.program) c.self.view_is)
+        (ap (λ (v : PlacedCore). state_of v.core) c.self.view_is) rest refl refl refl refl
 
 pub invariant_of-self-then-steps-eq0 : goal.invariant_of-self-then-steps-eq0
 invariant_of-self-then-steps-eq0 c = kept-still (goal.at.invariant_of-self-then-steps-eq0 c).After-turn_in_place-steps c.if-steps-eq0.true
@@ -188,7 +189,7 @@ pub returns-clause-made : goal.returns-clause-made
 returns-clause-made c some =
     let room : length c.self.inside.history.items < c.self.inside.limit = omega (arith, c.if-self-len.false, c.len.ensures.count) in
     let made = moved (goal.at.returns-clause-made c).After-turn_in_place-steps c.if-steps-eq0.false c.note.new.history c.note.ensures room in
-    subst (λ (v : Placed). (length v.core.history < v.core.limit) × HasMovedBehind v c.args.p c.turn_in_place-steps.result (placed_value (record c.self.inside { history = c.note.new.history; machine = c.turn_in_place-steps.new.machine; saved = c.turn_in_place-steps.new.saved }))) c.self.view_is (room, made)
+    subst (λ (v : PlacedCore). (length v.core.history < v.core.limit) × HasMovedBehind v c.args.p c.turn_in_place-steps.result (placed_value (record c.self.inside { history = c.note.new.history; machine = c.turn_in_place-steps.new.machine; saved = c.turn_in_place-steps.new.saved }))) c.self.view_is (room, made)
 
 pub returns-clause-others : goal.returns-clause-others
 returns-clause-others c some = leaves (goal.at.returns-clause-others c).After-turn_in_place-steps c.if-steps-eq0.false c.note.new.history c.note.ensures (omega (arith, c.if-self-len.false, c.len.ensures.count))

@@ -2,24 +2,24 @@ use Rattle.std.proofs.Common.{◌≡◌, ◌≤◌, ◌<◌, ◌+◌, None, fals
 use Rattle.std.proofs.lemmas.Bool.{cases_Bool, cases_lt}
 use Rattle.hep_source.proofs.Tests.{none-from-not}
 use Rattle.hep_machine.specs.Words.{last_process, living, progress_after, schedule_of, State, state_after}
-use Rattle.hep_blocked.specs.Rolls.{want_of}
-use Rattle.hep_history.specs.Entries.{Kept}
-use Rattle.hep_commit.specs.UnitTables.{AreTables}
+use Rattle.hep_blocked.specs.Rosters.{want_of}
+use Rattle.hep_history.specs.Entries.{EntriesLeft}
+use Rattle.hep_commit.specs.DecodedImages.{AreTables}
 use Rattle.hep_commit.specs.Going.{HasNoMoveAhead, none}
 use Rattle.hep_state.specs.Words.{LeavesOthers, snapshot_of}
-use Rattle.hep_state.proofs.Unchanged.{on-err}
+use Rattle.hep_state.proofs.UnchangedStates.{on-err}
 use Rattle.hep_core.specs.Invariant.{CoreInvariant, core_value, placed_value}
 use Rattle.hep_core.specs.declared.run_core.Core.TheInside.{Inside}
-use Rattle.hep_core.specs.Going.{AreMoves, IsAtRest, entries_along}
+use Rattle.hep_core.specs.SilentChoices.{AreMoves, IsAtRest, entries_along}
 use Rattle.hep_core.specs.Tickets.{is_out}
-use Rattle.hep_core.specs.Places.{Placed, places_of}
-use Rattle.hep_core.specs.Value.{CoreValue, HasNoStop, IsStop, state_of}
-use Rattle.hep_core.proofs.Beside.{AreReadStill, entry-next, next-between, next-itself, next-same}
-use Rattle.hep_core.proofs.Coming.{next-levels}
-use Rattle.hep_core.proofs.Going.{IsNext, chosen-so, core-goes-on, core_along, entries-more, home-so, last-along, moves-begun, moves-on, next-alone, next-begun, next-round, next-so, nobody-out, unmoved}
+use Rattle.hep_core.specs.ProcessPlaces.{PlacedCore, places_of}
+use Rattle.hep_core.specs.CoreValues.{CoreValue, HasNoStop, IsStop, state_of}
+use Rattle.hep_core.proofs.OtherTickets.{AreReadStill, entry-next, next-between, next-itself, next-same}
+use Rattle.hep_core.proofs.NextProcesses.{next-levels}
+use Rattle.hep_core.proofs.SilentChoices.{IsNext, chosen-so, core-goes-on, core_along, entries-more, home-so, last-along, moves-begun, moves-on, next-alone, next-begun, next-round, next-so, nobody-out, unmoved}
 use Rattle.hep_core.proofs.Committing.{DependOnReads}
 use Rattle.hep_core.proofs.Histories.{schedule-along, state-is}
-use Rattle.hep_core.proofs.Kept.{AreSeen, activations-are, halted-is, some-of}
+use Rattle.hep_core.proofs.GoodTickets.{AreSeen, activations-are, halted-is, some-of}
 use Rattle.hep_core.proofs.run_core.Core.move_on.Goals.{After-lives, After-note_all, After-other_next, After-reserve}
 use Rattle.hep_core.proofs.run_core.Core.move_on.Goals as goal
 
@@ -66,23 +66,23 @@ loop-done-init c =
     let history = c.reserve.new.self in
     let items = c.reserve.ensures.items in
     let lives : c.lives.result ≡ true = search rules in
-    let home = subst (λ (v : Placed). is_out c.args.p v.core.out ≡ false) (sym c.self.view_is) (home-so c.args.rounds c.args.p c.args.p c.args.self.now.core c.args.self.now.core can (next-begun c.args.rounds c.args.p c.args.self.now.core can)) in
-    let same : c.args.self.now.core ≡ core_value (core_along i history i.machine) = ap (λ (v : Placed). v.core) (sym c.self.view_is) ∙ (λ j. record (core_value i) { history = sym items j }) in
+    let home = subst (λ (v : PlacedCore). is_out c.args.p v.core.out ≡ false) (sym c.self.view_is) (home-so c.args.rounds c.args.p c.args.p c.args.self.now.core c.args.self.now.core can (next-begun c.args.rounds c.args.p c.args.self.now.core can)) in
+    let same : c.args.self.now.core ≡ core_value (core_along i history i.machine) = ap (λ (v : PlacedCore). v.core) (sym c.self.view_is) ∙ (λ j. record (core_value i) { history = sym items j }) in
     record {
       kept = core-goes-on c.lists_go_along_with_steps.ensures i c.args.p k none-stops home 0 (schedule_of i.history.items) i.machine history (none (schedule_of i.history.items)) k.after (goes i k none-stops) refl (omega (arith, k.legal.within)) items;
       going = none-stops;
-      program = ap (λ (v : Placed). v.core.program) c.self.view_is;
-      limit = ap (λ (v : Placed). v.core.limit) c.self.view_is;
-      out = ap (λ (v : Placed). v.core.out) c.self.view_is;
+      program = ap (λ (v : PlacedCore). v.core.program) c.self.view_is;
+      limit = ap (λ (v : PlacedCore). v.core.limit) c.self.view_is;
+      out = ap (λ (v : PlacedCore). v.core.out) c.self.view_is;
       moves = subst (AreMoves c.args.rounds c.args.p c.args.self.now.core 0) same (moves-begun c.args.rounds c.args.p c.args.self.now.core);
       next = subst (IsNext c.args.rounds c.args.p c.args.p) same (next-begun c.args.rounds c.args.p c.args.self.now.core can);
       living = c.lives.ensures.levels lives;
-      entries = omega (arith, ap length items, ap (λ (v : Placed). length v.core.history) c.self.view_is);
+      entries = omega (arith, ap length items, ap (λ (v : PlacedCore). length v.core.history) c.self.view_is);
       few = omega arith;
       alone = λ once. refl;
       free = is.room;
       short = omega (arith, is.few, ap length items);
-      still = λ alone. ap (λ (v : Placed). v.places) c.self.view_is;
+      still = λ alone. ap (λ (v : PlacedCore). v.places) c.self.view_is;
     }
 
 pub go_on-made-requires-clause-turn : goal.go_on-made-requires-clause-turn
@@ -112,14 +112,14 @@ few-made c = elim (cases_Bool c.args.rounds) [
 within : (c : After-note_all) → length c.loop-done.self-inside.history.items + c.go_on-made.result ≤ c.loop-done.self-inside.limit
 within c =
     let inv = c.loop-done.invariant in
-    omega (arith, few-made c, inv.entries, inv.limit, ap (λ (v : Placed). length v.core.history) c.self.view_is, ap (λ (v : Placed). v.core.limit) c.self.view_is, c.min-room.ensures, c.len.ensures.count, c.self.invariant.legal.within)
+    omega (arith, few-made c, inv.entries, inv.limit, ap (λ (v : PlacedCore). length v.core.history) c.self.view_is, ap (λ (v : PlacedCore). v.core.limit) c.self.view_is, c.min-room.ensures, c.len.ensures.count, c.self.invariant.legal.within)
 
 home : (c : After-note_all) → is_out c.loop-done.next c.loop-done.self-inside.out.items ≡ false
 home c =
     let inv = c.loop-done.invariant in
     subst (λ out. is_out c.loop-done.next out ≡ false) (sym inv.out) (home-so c.args.rounds c.args.p c.loop-done.next c.args.self.now.core (core_value c.loop-done.self-inside) c.requires.0 inv.next)
 
-kept : (c : After-note_all) → (history : Kept) → history.items ≡ entries_along c.loop-done.self-inside.history.items c.loop-done.next c.go_on-made.result
+kept : (c : After-note_all) → (history : EntriesLeft) → history.items ≡ entries_along c.loop-done.self-inside.history.items c.loop-done.next c.go_on-made.result
     → CoreInvariant (core_along c.loop-done.self-inside history c.go_on-made.new.machine)
 kept c history is =
     let i = c.loop-done.self-inside in
@@ -131,10 +131,10 @@ kept c history is =
 are-seen : (c : After-note_all) → AreSeen c.loop-done.self-inside.image c.loop-done.self-inside.cells
 are-seen c =
     let cells = c.loop-done.self-inside.cells in
-    let same = ap (λ (v : Placed). v.core.program) c.self.view_is ∙ sym c.loop-done.invariant.program in
+    let same = ap (λ (v : PlacedCore). v.core.program) c.self.view_is ∙ sym c.loop-done.invariant.program in
     subst (λ program. AreSeen program cells) same (λ choices n. c.views_are_of_states.ensures c.self.inside.image cells choices n c.is_runnable.ensures.accepted c.is_runnable.ensures.main)
 
-moved : (c : After-note_all) → (history : Kept) → history.items ≡ entries_along c.loop-done.self-inside.history.items c.loop-done.next c.go_on-made.result
+moved : (c : After-note_all) → (history : EntriesLeft) → history.items ≡ entries_along c.loop-done.self-inside.history.items c.loop-done.next c.go_on-made.result
     → AreMoves c.args.rounds c.args.p c.args.self.now.core (c.loop-done.done + c.go_on-made.result) (core_value (core_along c.loop-done.self-inside history c.go_on-made.new.machine))
 moved c history is =
     let i = c.loop-done.self-inside in
@@ -165,8 +165,8 @@ at-rest c alone fewer =
       inv.alone alone,
       inv.entries,
       inv.limit,
-      ap (λ (v : Placed). length v.core.history) c.self.view_is,
-      ap (λ (v : Placed). v.core.limit) c.self.view_is,
+      ap (λ (v : PlacedCore). length v.core.history) c.self.view_is,
+      ap (λ (v : PlacedCore). v.core.limit) c.self.view_is,
       c.min-room.ensures,
       c.len.ensures.count,
       c.self.invariant.legal.within,

@@ -1,9 +1,9 @@
 use Rattle.std.proofs.Common.{◌≡◌, ◌+◌, ◌-◌, ◌^◌, ◌<◌, ◌≤◌, None, false, length}
 use Rattle.hep_state.specs.Words.{HasLevels, snapshot_of}
-use Rattle.hep_core.specs.Going.{AreMoves}
+use Rattle.hep_core.specs.SilentChoices.{AreMoves}
 use Rattle.hep_core.specs.Invariant.{CoreInvariant, core_value}
-use Rattle.hep_core.specs.Places.{places_of}
-use Rattle.hep_core.proofs.Going.{IsNext}
+use Rattle.hep_core.specs.ProcessPlaces.{places_of}
+use Rattle.hep_core.proofs.SilentChoices.{IsNext}
 use Rattle.hep_core.proofs.run_core.Core.move_on.Given as goal
 
 abbrev pub invariant-loop-done : goal.invariant-loop-done

@@ -1,30 +1,30 @@
 use Rattle.std.proofs.Common.{◌≡◌, ◌≢◌, ◌≤◌, ◌<◌, ◌+◌, ℕ, List, ◌++◌, ◌∷◌, [], false, length, refl, sym, ap, ◌∙◌, subst, arith, replicate}
 use Rattle.std.proofs.lemmas.List.{append-nil}
 use Rattle.hep_machine.specs.Words.{schedule_of}
-use Rattle.hep_commit.specs.UnitTables.{AreTables}
+use Rattle.hep_commit.specs.DecodedImages.{AreTables}
 use Rattle.hep_commit.specs.Going.{HasGone, MakesMoves}
-use Rattle.hep_commit.proofs.Runs.{turns-are}
-use Rattle.hep_history.specs.Entries.{Kept}
+use Rattle.hep_history.specs.Entries.{EntriesLeft}
 use Rattle.hep_state.specs.declared.core_state.CoreState.{CoreState}
 use Rattle.hep_state.specs.Words.{HasLevels, IsMachineAfter, snapshot_of}
 use Rattle.hep_core.specs.Commits.{LeavesNext}
-use Rattle.hep_core.specs.Going.{AreChoices, entries_along}
+use Rattle.hep_core.specs.SilentChoices.{AreChoices, entries_along}
 use Rattle.hep_core.specs.Invariant.{CoreInvariant, core_value, placed_value}
 use Rattle.hep_core.specs.declared.run_core.Core.TheInside.{Inside}
 use Rattle.hep_core.specs.Tickets.{is_out}
-use Rattle.hep_core.specs.Places.{Placed, places_of}
-use Rattle.hep_core.specs.Value.{HasNoStop, state_of}
+use Rattle.hep_core.specs.ProcessPlaces.{PlacedCore, places_of}
+use Rattle.hep_core.specs.CoreValues.{HasNoStop, state_of}
 use Rattle.hep_core.specs.Waking.{HasRoomLeft}
-use Rattle.hep_core.proofs.Beside.{AreReadStill, entry-next, next-between}
-use Rattle.hep_core.proofs.Behind.{left-kept, roll-same}
-use Rattle.hep_core.proofs.Going.{chosen-so, core-goes-on, core_along}
+use Rattle.hep_core.proofs.OtherTickets.{AreReadStill, entry-next, next-between}
+use Rattle.hep_core.proofs.AfterPrivate.{left-kept, roll-same}
+use Rattle.hep_core.proofs.SilentChoices.{chosen-so, core-goes-on, core_along}
 use Rattle.hep_core.proofs.Committing.{DependOnReads, turn-of}
 use Rattle.hep_core.proofs.Histories.{schedule-along}
-use Rattle.hep_core.proofs.Kept.{AreSeen}
-use Rattle.hep_core.proofs.Settled.{places-same}
-use Rattle.hep_core.proofs.Underway.{going-in, left-placed, levels-in}
+use Rattle.hep_core.proofs.GoodTickets.{AreSeen}
+use Rattle.hep_core.proofs.SettledMachines.{places-same}
+use Rattle.hep_core.proofs.OutStates.{going-in, left-placed, levels-in}
 use Rattle.hep_core.proofs.run_core.Core.move_once.Goals.{After-turn_by_table}
 use Rattle.hep_core.proofs.run_core.Core.move_once.Goals as goal
+use Rattle.hep_commit.proofs.AdvanceRunsToBreakpoint.{turns-are}
 
 -- where no more than room was made for an entry, nothing has changed
 pub returns-then-is_err-clause-none : goal.returns-then-is_err-clause-none
@@ -60,7 +60,7 @@ module _ (c : After-turn_by_table) where
   levels = levels-in i c.self.invariant c.args.self.now c.self.view_is c.requires.going c.args.p c.requires.lives
 
   home : is_out c.args.p i.out.items ≡ false
-  home = subst (λ (v : Placed). is_out c.args.p v.core.out ≡ false) (sym c.self.view_is) c.requires.home
+  home = subst (λ (v : PlacedCore). is_out c.args.p v.core.out ≡ false) (sym c.self.view_is) c.requires.home
 
   seen : AreSeen i.image i.cells
   seen choices n = c.views_are_of_states.ensures i.image i.cells choices n c.is_runnable.ensures.accepted c.is_runnable.ensures.main
@@ -86,7 +86,7 @@ module _ (c : After-turn_by_table) where
 
   -- ---- one is
 
-  module _ (some : c.turn_by_table.result ≢ 0) (history : Kept) (noted : history.items ≡ c.reserve.new.self.items ++ record { process = c.args.p; steps = 1 } ∷ []) (lt : length i.history.items < i.limit) where
+  module _ (some : c.turn_by_table.result ≢ 0) (history : EntriesLeft) (noted : history.items ≡ c.reserve.new.self.items ++ record { process = c.args.p; steps = 1 } ∷ []) (lt : length i.history.items < i.limit) where
     once : c.turn_by_table.result ≡ 1
     once = omega (arith, c.turn_by_table.ensures.few, some)
 
@@ -117,8 +117,8 @@ module _ (c : After-turn_by_table) where
         let depend : DependOnReads = record { kept = c.segments_depend_on_reads.ensures.kept; made = c.segments_depend_on_reads.ensures.made } in
         let turns = ap schedule_of entries ∙ schedule-along i.history.items c.args.p 1 in
         let rest = entry-next law depend i c.self.invariant going c.args.p 1 history.items turns machine kept.after c.turn_by_table.ensures.lives.others (core_value now) refl in
-        next-between c.args.p c.args.self.now (placed_value i) (placed_value now) (placed_value now) (ap (λ (v : Placed). v.places) c.self.view_is) (ap (λ (v : Placed). v.core.program) c.self.view_is)
-        (ap (λ (v : Placed). state_of v.core) c.self.view_is) rest refl refl refl refl
+        next-between c.args.p c.args.self.now (placed_value i) (placed_value now) (placed_value now) (ap (λ (v : PlacedCore). v.places) c.self.view_is) (ap (λ (v : PlacedCore). v.core.program) c.self.view_is)
+        (ap (λ (v : PlacedCore). state_of v.core) c.self.view_is) rest refl refl refl refl
 
 pub invariant_of-self-then-turn_by_table-eq0 : goal.invariant_of-self-then-turn_by_table-eq0
 invariant_of-self-then-turn_by_table-eq0 c = kept-still (goal.at.invariant_of-self-then-turn_by_table-eq0 c).After-turn_by_table c.if-turn_by_table-eq0.true

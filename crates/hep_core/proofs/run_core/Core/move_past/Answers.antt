@@ -1,20 +1,20 @@
 use Rattle.std.proofs.Common.{◌≡◌, ◌≤◌, ◌+◌, None, false, true, length, rules, refl, sym, ap, ◌∙◌, subst, arith}
 use Rattle.hep_machine.specs.Words.{schedule_of}
-use Rattle.hep_advance.specs.Watches.{PassesFrom}
-use Rattle.hep_commit.specs.UnitTables.{AreTables}
+use Rattle.hep_commit.specs.AdvanceBreakpointRows.{PassesFrom}
+use Rattle.hep_commit.specs.DecodedImages.{AreTables}
 use Rattle.hep_state.specs.Words.{snapshot_of}
-use Rattle.hep_state.proofs.Unchanged.{on-err}
-use Rattle.hep_core.specs.Going.{begun, entries_along}
+use Rattle.hep_state.proofs.UnchangedStates.{on-err}
+use Rattle.hep_core.specs.SilentChoices.{begun, entries_along}
 use Rattle.hep_core.specs.Invariant.{CoreInvariant, core_value, placed_value}
 use Rattle.hep_core.specs.declared.run_core.Core.TheInside.{Inside}
 use Rattle.hep_core.specs.Tickets.{is_out}
-use Rattle.hep_core.specs.Places.{Placed, places_of}
-use Rattle.hep_core.specs.Value.{HasNoStop, IsStop, state_of}
-use Rattle.hep_core.proofs.Beside.{AreReadStill, entry-next, next-between, next-itself}
-use Rattle.hep_core.proofs.Going.{chosen-so, core-goes-on, core_along}
+use Rattle.hep_core.specs.ProcessPlaces.{PlacedCore, places_of}
+use Rattle.hep_core.specs.CoreValues.{HasNoStop, IsStop, state_of}
+use Rattle.hep_core.proofs.OtherTickets.{AreReadStill, entry-next, next-between, next-itself}
+use Rattle.hep_core.proofs.SilentChoices.{chosen-so, core-goes-on, core_along}
 use Rattle.hep_core.proofs.Committing.{DependOnReads}
 use Rattle.hep_core.proofs.Histories.{schedule-along, state-is}
-use Rattle.hep_core.proofs.Kept.{AreSeen, activations-are, halted-is}
+use Rattle.hep_core.proofs.GoodTickets.{AreSeen, activations-are, halted-is}
 use Rattle.hep_core.proofs.run_core.Core.move_past.Goals.{After-lives, After-note_all, After-reserve}
 use Rattle.hep_core.proofs.run_core.Core.move_past.Goals as goal
 
@@ -83,7 +83,7 @@ module _ (c : After-note_all) where
   running = no-stop (goal.at.After-note_all c).After-lives
 
   home : is_out c.args.p i.out.items ≡ false
-  home = subst (λ (v : Placed). is_out c.args.p v.core.out ≡ false) (sym c.self.view_is) c.requires.0
+  home = subst (λ (v : PlacedCore). is_out c.args.p v.core.out ≡ false) (sym c.self.view_is) c.requires.0
 
   entries : c.note_all.new.history.items ≡ entries_along i.history.items c.args.p c.pass_on-made.result
   entries = c.note_all.ensures ∙ ap (λ es. entries_along es c.args.p c.pass_on-made.result) c.reserve.ensures.items
@@ -115,7 +115,7 @@ pub returns-clause-unwatched : goal.returns-clause-unwatched
 returns-clause-unwatched c =
     let i = c.self.inside in
     let passed = c.pass_on-made.ensures.unwatched i.cells (schedule_of i.history.items) c.self.invariant.after in
-    subst (λ (v : Placed). PassesFrom v.core.program c.args.watches.now c.args.p (state_of v.core) c.pass_on-made.result) c.self.view_is (
+    subst (λ (v : PlacedCore). PassesFrom v.core.program c.args.watches.now c.args.p (state_of v.core) c.pass_on-made.result) c.self.view_is (
     subst (λ s. PassesFrom i.image c.args.watches.now c.args.p s c.pass_on-made.result) (sym (state-is i.image i.history.items)) passed)
 
 pub returns-clause-few : goal.returns-clause-few
@@ -137,5 +137,5 @@ returns-clause-others c =
     let going : HasNoStop (core_value i) = (running at, subst (IsStop i.image i.cells i.limit i.history.items) (running at) c.self.invariant.named) in
     let turns = ap schedule_of (entries at) ∙ schedule-along i.history.items p n in
     let leaves = entry-next law depend i c.self.invariant going p n es turns m (kept at).after c.pass_on-made.ensures.lives.others (core_value now) refl in
-    next-between p c.args.self.now (placed_value i) (placed_value now) (placed_value now) (ap (λ (v : Placed). v.places) c.self.view_is) (ap (λ (v : Placed). v.core.program) c.self.view_is)
-    (ap (λ (v : Placed). state_of v.core) c.self.view_is) leaves refl refl refl refl
+    next-between p c.args.self.now (placed_value i) (placed_value now) (placed_value now) (ap (λ (v : PlacedCore). v.places) c.self.view_is) (ap (λ (v : PlacedCore). v.core.program) c.self.view_is)
+    (ap (λ (v : PlacedCore). state_of v.core) c.self.view_is) leaves refl refl refl refl

@@ -1,15 +1,15 @@
 use Rattle.std.proofs.Common.{◌≡◌, ◌||◌, ℕ, nat_eq, ◌≤◌, ◌∙◌, ◌∷◌, ap, arith, sym, subst, [], true≢false}
 use Rattle.hep_machine.specs.Words.{IsLegal, is_held, is_number_among, schedule_of, state_after, progress_after, view_of}
-use Rattle.hep_blocked.specs.Listing.{AreListed}
-use Rattle.hep_blocked.specs.Rolls.{want_of}
-use Rattle.hep_blocked.proofs.Keeping.{listed-alike}
+use Rattle.hep_blocked.specs.RosterUpdates.{AreListed}
+use Rattle.hep_blocked.specs.Rosters.{want_of}
+use Rattle.hep_blocked.proofs.KeptNeeds.{listed-alike}
 use Rattle.hep_state.specs.Words.{IsMachineAfter, snapshot_of}
-use Rattle.hep_views.specs.Seen.{machine_view}
+use Rattle.hep_views.specs.MachineViews.{machine_view}
 use Rattle.hep_core.specs.Tickets.{is_out}
 use Rattle.hep_core.specs.Invariant.{AreFew}
-use Rattle.hep_core.specs.Value.{opening_of}
+use Rattle.hep_core.specs.CoreValues.{opening_of}
 use Rattle.hep_core.proofs.Histories.{few-none, legal-none, progress-none, schedule-none}
-use Rattle.hep_core.proofs.Kept.{AreSeen, laid-out, opening-goes, view-is}
+use Rattle.hep_core.proofs.GoodTickets.{AreSeen, laid-out, opening-goes, view-is}
 use Rattle.hep_core.proofs.run_core.Core.new.Goals as goal
 
 pub invariant_of-result : goal.invariant_of-result

@@ -1,6 +1,6 @@
 use Rattle.std.proofs.Common.{ap, ◌∙◌, None}
 use Rattle.hep_machine.specs.Words.{schedule_of, first_above, progress_after}
-use Rattle.hep_blocked.specs.Rolls.{want_of}
+use Rattle.hep_blocked.specs.Rosters.{want_of}
 use Rattle.hep_core.proofs.run_core.Core.ready_above.Goals as goal
 
 pub returns : goal.returns

@@ -5,9 +5,9 @@ use Rattle.hep_blocked.proofs.Listed.{first-least, first-other, first-some}
 use Rattle.hep_blocked.proofs.Members.{ready-rise, rising-filter}
 use Rattle.hep_machine.specs.Words.{first_above, next_of_ready, progress_after}
 use Rattle.hep_core.specs.Tickets.{is_out}
-use Rattle.hep_core.specs.Places.{Placed}
-use Rattle.hep_core.specs.Value.{CoreValue, free_of, ready_of}
-use Rattle.hep_core.proofs.Outs.{all_free}
+use Rattle.hep_core.specs.ProcessPlaces.{PlacedCore}
+use Rattle.hep_core.specs.CoreValues.{CoreValue, free_of, ready_of}
+use Rattle.hep_core.proofs.ProcessesOut.{all_free}
 use Rattle.hep_core.proofs.run_core.Core.ready_after.Goals as goal
 
 -- of those that aren't out the least of all is the first one above 0
@@ -32,5 +32,5 @@ pub returns-then-is_empty : goal.returns-then-is_empty
 returns-then-is_empty c =
     let core = c.args.self.now.core in
     let nobody : c.self.inside.out.items ≡ [] = nil_from_length c.self.inside.out.items (grind (arith, nat_tests, sym c.is_empty.ensures ∙ c.if-is_empty.true)) in
-    let out : core.out ≡ [] = ap (λ (v : Placed). v.core.out) (sym c.self.view_is) ∙ nobody in
+    let out : core.out ≡ [] = ap (λ (v : PlacedCore). v.core.out) (sym c.self.view_is) ∙ nobody in
     c.next_of_all.ensures ∙ sym (ap (next_of_ready c.args.p) (all_free (ready_of core) core.out out))

@@ -1,9 +1,9 @@
 use Rattle.std.proofs.Common.{◌≡◌, ◌∙◌, None, true, rules, sym, subst}
 use Rattle.hep_machine.specs.Words.{schedule_of}
-use Rattle.hep_commit.specs.UnitTables.{AreTables}
+use Rattle.hep_commit.specs.DecodedImages.{AreTables}
 use Rattle.hep_state.specs.Words.{snapshot_of}
-use Rattle.hep_core.specs.Value.{IsStop}
-use Rattle.hep_core.proofs.Kept.{halted-is}
+use Rattle.hep_core.specs.CoreValues.{IsStop}
+use Rattle.hep_core.proofs.GoodTickets.{halted-is}
 use Rattle.hep_core.proofs.run_core.Core.rests.Goals as goal
 
 pub lives-requires : goal.lives-requires

@@ -2,32 +2,32 @@ use Rattle.std.proofs.Common.{◌≡◌, ◌≤◌, ◌+◌, ◌*◌, ℕ, List,
 use Rattle.hep_machine.specs.declared.event.Entry.{Entry}
 use Rattle.hep_machine.specs.Histories.{most_steps}
 use Rattle.hep_machine.specs.Words.{last_process, next_of_ready, schedule_of, state_after, view_of, is_held}
-use Rattle.hep_blocked.specs.Rolls.{want_of}
-use Rattle.hep_history.specs.Entries.{Kept}
-use Rattle.hep_commit.specs.UnitTables.{AreTables}
+use Rattle.hep_blocked.specs.Rosters.{want_of}
+use Rattle.hep_history.specs.Entries.{EntriesLeft}
+use Rattle.hep_commit.specs.DecodedImages.{AreTables}
 use Rattle.hep_commit.specs.Going.{HasGone}
 use Rattle.hep_commit.specs.OwnCells.{AreOwnCells}
-use Rattle.hep_commit.specs.Turning.{IsAsBefore}
-use Rattle.hep_commit.proofs.Runs.{turns-are}
-use Rattle.hep_commit.proofs.Taken.{AreTurnsIn}
+use Rattle.hep_commit.specs.TurnsInPlace.{IsAsBefore}
+use Rattle.hep_commit.proofs.AppliedSegments.{AreTurnsIn}
 use Rattle.hep_state.specs.declared.core_state.CoreState.{CoreState}
 use Rattle.hep_state.specs.Words.{IsMachineAfter, LivesOn, snapshot_of}
-use Rattle.hep_state.proofs.Beside.{beside-again}
+use Rattle.hep_state.proofs.OtherProcesses.{beside-again}
 use Rattle.hep_core.specs.Commits.{AreTurnsAtOnce, LeavesNext, most_tickets}
 use Rattle.hep_core.specs.Invariant.{CoreInvariant, core_value, placed_value}
 use Rattle.hep_core.specs.declared.run_core.Core.TheInside.{Inside}
-use Rattle.hep_core.specs.Places.{Placed, places_of}
-use Rattle.hep_core.specs.Value.{CoreValue, IsFree, IsStop, free_of, next_ready_of, state_of}
+use Rattle.hep_core.specs.ProcessPlaces.{PlacedCore, places_of}
+use Rattle.hep_core.specs.CoreValues.{CoreValue, IsFree, IsStop, free_of, next_ready_of, state_of}
 use Rattle.hep_core.specs.Waking.{HasRoomLeft}
-use Rattle.hep_core.proofs.Beside.{AreReadStill, entry-next, next-between}
-use Rattle.hep_core.proofs.Behind.{left-kept, roll-same}
-use Rattle.hep_core.proofs.Chain.{CanRun, core_at, run-through, turns-made}
+use Rattle.hep_core.proofs.OtherTickets.{AreReadStill, entry-next, next-between}
+use Rattle.hep_core.proofs.AfterPrivate.{left-kept, roll-same}
+use Rattle.hep_core.proofs.ChoiceChains.{CanRun, core_at, run-through, turns-made}
 use Rattle.hep_core.proofs.Committing.{DependOnReads, IsSettledIn, turns-of}
 use Rattle.hep_core.proofs.Histories.{schedule-many}
-use Rattle.hep_core.proofs.Kept.{AreSeen, view-is}
-use Rattle.hep_core.proofs.Underway.{left-placed, settled-by, turn-in}
+use Rattle.hep_core.proofs.GoodTickets.{AreSeen, view-is}
+use Rattle.hep_core.proofs.OutStates.{left-placed, settled-by, turn-in}
 use Rattle.hep_core.proofs.run_core.Core.run_at_once.Goals.{After-run_in_place}
 use Rattle.hep_core.proofs.run_core.Core.run_at_once.Goals as goal
+use Rattle.hep_commit.proofs.AdvanceRunsToBreakpoint.{turns-are}
 
 -- where no more than room was made for entries, nothing has changed
 pub returns-then-is_err-clause-none : goal.returns-then-is_err-clause-none
@@ -44,7 +44,7 @@ run_in_place-requires-clause-prepared c =
     record {
       tables = subst (AreTables c.self.inside.image) (sym c.deref.ensures.value) c.self.invariant.tabled;
       own = subst (AreOwnCells c.self.inside.image) (sym c.deref-2.ensures.value) c.self.invariant.owned;
-      ahead = c.requires.program ∙ ap (λ (v : Placed). v.core.program) (sym c.self.view_is);
+      ahead = c.requires.program ∙ ap (λ (v : PlacedCore). v.core.program) (sym c.self.view_is);
     }
 
 pub run_in_place-requires-clause-turn : goal.run_in_place-requires-clause-turn
@@ -65,7 +65,7 @@ module _ (c : After-run_in_place) where
   h = i.history.items
 
   free : IsFree (core_value i) p
-  free = subst (λ (v : Placed). IsFree v.core p) (sym c.self.view_is) c.requires.free
+  free = subst (λ (v : PlacedCore). IsFree v.core p) (sym c.self.view_is) c.requires.free
 
   is : IsSettledIn i p c.settle.new.self
   is = settled-by i c.self.invariant c.args.self.now c.self.view_is c.requires.free.0 p c.requires.free.1 p refl c.settle.new.self c.settle.ensures.after c.settle.ensures.top c.settle.ensures.made
@@ -97,7 +97,7 @@ module _ (c : After-run_in_place) where
 
   -- ---- all were
 
-  module _ (ran : c.run_in_place.result ≡ true) (history : Kept) (noted : history.items ≡ c.reserve.new.self.items ++ replicate c.args.turns (record { process = c.args.p; steps = 1023 })) (room : length i.history.items + c.args.turns ≤ i.limit) (given : ℕ)
+  module _ (ran : c.run_in_place.result ≡ true) (history : EntriesLeft) (noted : history.items ≡ c.reserve.new.self.items ++ replicate c.args.turns (record { process = c.args.p; steps = 1023 })) (room : length i.history.items + c.args.turns ≤ i.limit) (given : ℕ)
       (count : given ≡ i.given + c.args.turns) (left : i.given + c.args.turns ≤ most_tickets) where
     abbrev n : ℕ
     n = c.args.turns
@@ -124,10 +124,10 @@ module _ (c : After-run_in_place) where
     lives = c.run_in_place.ensures.lives ran
 
     last : last_process h ≡ p
-    last = subst (λ (v : Placed). last_process v.core.history ≡ p) (sym c.self.view_is) c.requires.last
+    last = subst (λ (v : PlacedCore). last_process v.core.history ≡ p) (sym c.self.view_is) c.requires.last
 
     next : next_ready_of (core_value i) ≡ Some p
-    next = subst (λ (v : Placed). next_ready_of v.core ≡ Some p) (sym c.self.view_is) c.requires.next
+    next = subst (λ (v : PlacedCore). next_ready_of v.core ≡ Some p) (sym c.self.view_is) c.requires.next
 
     can : CanRun c.lists_go_along_with_steps.ensures i.image i.cells i.limit p (want_of i.roster.waiting) i.roster.ready i.out.items free.2 1022 few h n
     can =
@@ -197,15 +197,15 @@ module _ (c : After-run_in_place) where
     made =
         let there = turns-made c.lists_go_along_with_steps.ensures i.image i.cells i.limit p (want_of i.roster.waiting) i.roster.ready i.out.items free.2 1022 few laws is.after.few depend refl h n can c.requires.some i.given left
         (placed_value now) (sym ends) (record { machine = snapshot_of m; after = after-it.after; places = refl }) in
-        subst (λ (v : Placed). AreTurnsAtOnce p n v (placed_value now)) ((λ j. record (placed_value i) { core = begins j; places = is.places j }) ∙ c.self.view_is) there
+        subst (λ (v : PlacedCore). AreTurnsAtOnce p n v (placed_value now)) ((λ j. record (placed_value i) { core = begins j; places = is.places j }) ∙ c.self.view_is) there
 
     leaves : LeavesNext p c.args.self.now (placed_value now)
     leaves =
         let law : AreReadStill = c.others_leave_what_is_read.ensures in
         let stay = beside-again p (snapshot_of i.machine) (snapshot_of c.settle.new.self) (snapshot_of m) is.others lives.others in
         let rest = entry-next law depend i c.self.invariant free.0 p (n * 1023) history.items turns-now m after-it stay (core_value now) refl in
-        next-between p c.args.self.now (placed_value i) (placed_value now) (placed_value now) (ap (λ (v : Placed). v.places) c.self.view_is) (ap (λ (v : Placed). v.core.program) c.self.view_is)
-        (ap (λ (v : Placed). state_of v.core) c.self.view_is) rest refl refl refl refl
+        next-between p c.args.self.now (placed_value i) (placed_value now) (placed_value now) (ap (λ (v : PlacedCore). v.places) c.self.view_is) (ap (λ (v : PlacedCore). v.core.program) c.self.view_is)
+        (ap (λ (v : PlacedCore). state_of v.core) c.self.view_is) rest refl refl refl refl
 
 pub invariant_of-self-then-not-run_in_place : goal.invariant_of-self-then-not-run_in_place
 invariant_of-self-then-not-run_in_place c = kept-still (goal.at.invariant_of-self-then-not-run_in_place c).After-run_in_place c.if-not-run_in_place.true

@@ -1,34 +1,34 @@
 use Rattle.std.proofs.Common.{◌≡◌, ◌≢◌, ◌<◌, ◌≤◌, ℕ, List, ◌++◌, ◌∷◌, [], ◌∙◌, inl, inr, sym, ap, subst, rules, false, true, Option, None, Some, length, arith, refl, ◌||◌, ◌&&◌, is_some, nat_eq, nat_lt, not}
 use Rattle.hep_machine.specs.declared.event.Entry.{Entry}
-use Rattle.hep_history.specs.Entries.{Kept}
+use Rattle.hep_history.specs.Entries.{EntriesLeft}
 use Rattle.hep_machine.specs.Words.{Units, is_number_among, living, run, schedule_of, state_after, progress_after, progress_after_step, State, is_waiting, step}
-use Rattle.hep_blocked.specs.Listing.{AreListed, IsBlocked, IsReadyNoMore, WaitsNow, is_noted}
-use Rattle.hep_step.specs.Purged.{have_cell}
-use Rattle.hep_blocked.specs.Rolls.{KeepsRoll, Roll, want_of}
-use Rattle.hep_blocked.proofs.Keeping.{living-enrolled}
-use Rattle.hep_state.specs.declared.turn.Turned.{Turned}
-use Rattle.hep_state.specs.declared.turn.Turned.TheVariants.{Stepped, Purged, Waits}
+use Rattle.hep_blocked.specs.RosterUpdates.{AreListed, IsBlocked, IsReadyNoMore, WaitsNow, is_noted}
+use Rattle.hep_step.specs.PurgeEffects.{have_cell}
+use Rattle.hep_blocked.specs.Rosters.{KeepsRoll, RosterValue, want_of}
+use Rattle.hep_blocked.proofs.KeptNeeds.{living-enrolled}
+use Rattle.hep_state.specs.declared.turn.TurnOutcome.{TurnOutcome}
+use Rattle.hep_state.specs.declared.turn.TurnOutcome.TheVariants.{Stepped, Purged, Waits}
 use Rattle.hep_state.specs.Words.{HasTurned, IsAfter, IsMachineAfter, IsSameButTop, KeepsRollFor, LeavesOthers, LeavesRest, snapshot_of, IsUnturned}
-use Rattle.hep_state.proofs.Unchanged.{on-err}
-use Rattle.hep_core.specs.Places.{places_of}
-use Rattle.hep_core.proofs.Settled.{places-same}
+use Rattle.hep_state.proofs.UnchangedStates.{on-err}
+use Rattle.hep_core.specs.ProcessPlaces.{places_of}
+use Rattle.hep_core.proofs.SettledMachines.{places-same}
 use Rattle.hep_state.proofs.Histories.{after-history, still-after, turned-at, unturned-at}
-use Rattle.hep_state.proofs.Numbered.{length-stacks}
+use Rattle.hep_state.proofs.ProcessNumbers.{length-stacks}
 use Rattle.hep_core.specs.Invariant.{CoreInvariant, core_value, placed_value}
 use Rattle.hep_core.specs.declared.run_core.Core.TheInside.{Inside}
 use Rattle.hep_state.specs.declared.core_state.CoreState.{CoreState}
-use Rattle.hep_views.specs.Seen.{machine_view}
+use Rattle.hep_views.specs.MachineViews.{machine_view}
 use Rattle.hep_core.specs.Tickets.{is_out}
 use Rattle.hep_core.specs.Commits.{LeavesNext}
-use Rattle.hep_core.specs.Places.{Placed}
-use Rattle.hep_core.specs.Value.{CoreValue, HasNoStop, IsStop, IsTurn, state_of, stop_after}
+use Rattle.hep_core.specs.ProcessPlaces.{PlacedCore}
+use Rattle.hep_core.specs.CoreValues.{CoreValue, HasNoStop, IsStop, IsTurn, state_of, stop_after}
 use Rattle.hep_core.specs.declared.stop.ChoiceStop.{ChoiceStop}
 use Rattle.hep_core.specs.Waking.{AreInArena, HasRoomLeft, awake_after, is_woken_after}
 use Rattle.hep_core.specs.declared.stop.ChoiceStop.TheVariants.{ArenaFull, Halted, StepLimit}
-use Rattle.hep_core.proofs.Beside.{AreReadStill, entry-next, next-itself, next-same, rest-others}
+use Rattle.hep_core.proofs.OtherTickets.{AreReadStill, entry-next, next-itself, next-same, rest-others}
 use Rattle.hep_core.proofs.Committing.{DependOnReads}
 use Rattle.hep_core.proofs.Histories.{state-is}
-use Rattle.hep_core.proofs.Kept.{AreSeen, activations-are, processes-are, halted-is, halted-next, named-left, next, schedule-next, some-of, state-left, state-next, stepped-kept, steps-on, unturned-kept, unturned-view, view-is, view-next, waited-kept, IsNoWait, along, along-emptying, as-many, blocked-now, emptied-to-lists, in-arena, made-step, no-memory, risen, waits-unstepped}
+use Rattle.hep_core.proofs.GoodTickets.{AreSeen, activations-are, processes-are, halted-is, halted-next, named-left, next, schedule-next, some-of, state-left, state-next, stepped-kept, steps-on, unturned-kept, unturned-view, view-is, view-next, waited-kept, IsNoWait, along, along-emptying, as-many, blocked-now, emptied-to-lists, in-arena, made-step, no-memory, risen, waits-unstepped}
 use Rattle.hep_core.proofs.run_core.Core.turn.Goals.{After-len, After-lives, After-turn, After-block, After-wake_after}
 use Rattle.hep_core.proofs.run_core.Core.turn.Goals as goal
 use Rattle.hep_source.proofs.Tests.{none-from-not}
@@ -58,7 +58,7 @@ are-seen c choices n = c.views_are_of_states.ensures c.self.inside.image c.self.
 
 -- p isn't out
 at-home : (c : After-lives) → is_out c.args.p c.self.inside.out.items ≡ false
-at-home c = subst (λ (v : Placed). is_out c.args.p v.core.out ≡ false) (sym c.self.view_is) c.requires
+at-home c = subst (λ (v : PlacedCore). is_out c.args.p v.core.out ≡ false) (sym c.self.view_is) c.requires
 
 -- ---- no turn is asked for
 
@@ -98,7 +98,7 @@ turn-requires c =
     }
 
 -- a process that was made has room to be enrolled, and none was that wasn't made
-left-room : (i : Inside) (k : CoreInvariant i) (m : CoreState) (roster : Roll) → IsMachineAfter i.image i.cells (schedule_of i.history.items) m → KeepsRollFor m i.roster roster → HasRoomLeft m roster
+left-room : (i : Inside) (k : CoreInvariant i) (m : CoreState) (roster : RosterValue) → IsMachineAfter i.image i.cells (schedule_of i.history.items) m → KeepsRollFor m i.roster roster → HasRoomLeft m roster
 left-room i k m roster after kept =
     let choices = schedule_of i.history.items in
     record {
@@ -196,7 +196,7 @@ noted-now c q =
     c.note_ready.ensures.ready i.image i.cells (schedule_of i.history.items ++ p ∷ []) (stepped-now c).1.after q ∙ ap (λ b. (b && (not (nat_eq p q) || lives)) || (nat_lt c.self.inside.machine.made c.turn.new.self.made && nat_eq q c.turn.new.self.made)) (c.turn.ensures.roster.kept.ready q)
 
 -- the lists go along with what the turn came to
-lists-by : (c : After-wake_after) (turned : Turned) → IsNoWait turned → HasTurned c.self.inside.image c.self.inside.cells (schedule_of c.self.inside.history.items) c.args.p turned c.turn.new.self
+lists-by : (c : After-wake_after) (turned : TurnOutcome) → IsNoWait turned → HasTurned c.self.inside.image c.self.inside.cells (schedule_of c.self.inside.history.items) c.args.p turned c.turn.new.self
     → ((q : ℕ) → want_of c.wake_after.new.roster.waiting q ≡ awake_after turned c.turn.new.self.passing.ranges.items (want_of c.self.inside.roster.waiting q))
     → ((q : ℕ) → is_number_among q c.wake_after.new.roster.ready ≡ (is_woken_after turned c.turn.new.self.passing.ranges.items (want_of c.self.inside.roster.waiting) q || is_number_among q c.note_ready.new.roster.ready))
     → AreListed c.self.inside.image c.self.inside.cells (schedule_of c.self.inside.history.items ++ c.args.p ∷ [])
@@ -413,13 +413,13 @@ places-left : (c : After-turn) → IsSameButTop c.self.inside.image c.args.p (sn
 places-left c top =
     let i = c.self.inside in
     let lives : c.lives.result ≡ true = search rules in
-    places-same i.image c.args.p (snapshot_of i.machine) (snapshot_of c.turn.new.self) (c.lives.ensures.levels lives) top ∙ ap (λ (v : Placed). v.places) c.self.view_is
+    places-same i.image c.args.p (snapshot_of i.machine) (snapshot_of c.turn.new.self) (c.lives.ensures.levels lives) top ∙ ap (λ (v : PlacedCore). v.places) c.self.view_is
 
 pub returns-then-not-lives-clause-places : goal.returns-then-not-lives-clause-places
 returns-then-not-lives-clause-places c = refl
 
 pub returns-then-self-len-clause-places : goal.returns-then-self-len-clause-places
-returns-then-self-len-clause-places c = ap (λ (v : Placed). v.places) c.self.view_is
+returns-then-self-len-clause-places c = ap (λ (v : PlacedCore). v.places) c.self.view_is
 
 pub returns-in-Err-NoMemory-clause-places : goal.returns-in-Err-NoMemory-clause-places
 returns-in-Err-NoMemory-clause-places c = places-left (goal.at.returns-in-Err-NoMemory-clause-places c).After-turn c.in-Err-NoMemory.ensures.unturned.1.top
@@ -430,7 +430,7 @@ returns-in-Err-ArenaFull-clause-places c = places-left (goal.at.returns-in-Err-A
 pub returns-in_err-block-in-Waits-clause-places : goal.returns-in_err-block-in-Waits-clause-places
 returns-in_err-block-in-Waits-clause-places c =
     let i = c.self.inside in
-    let waiting = subst (λ (turned : Turned). LeavesRest turned i.image c.args.p (snapshot_of i.machine) (snapshot_of c.turn.new.self)) c.in-Waits.is c.in-Ok.ensures.rest in
+    let waiting = subst (λ (turned : TurnOutcome). LeavesRest turned i.image c.args.p (snapshot_of i.machine) (snapshot_of c.turn.new.self)) c.in-Waits.is c.in-Ok.ensures.rest in
     on-err c.from_residual.result c.from_residual.ensures.0 (places-left (goal.at.returns-in_err-block-in-Waits-clause-places c).After-turn waiting)
 
 -- ---- what comes next of other processes
@@ -440,15 +440,15 @@ returns-then-not-lives-clause-others c = next-itself c.args.p c.args.self.now c.
 
 pub returns-then-self-len-clause-others : goal.returns-then-self-len-clause-others
 returns-then-self-len-clause-others c =
-    next-same c.args.p c.args.self.now (placed_value (record c.self.inside { stop = Some StepLimit })) (ap (λ (v : Placed). v.places) c.self.view_is) (ap (λ (v : Placed). v.core.program) c.self.view_is) (ap (λ (v : Placed). state_of v.core) c.self.view_is)
+    next-same c.args.p c.args.self.now (placed_value (record c.self.inside { stop = Some StepLimit })) (ap (λ (v : PlacedCore). v.places) c.self.view_is) (ap (λ (v : PlacedCore). v.core.program) c.self.view_is) (ap (λ (v : PlacedCore). state_of v.core) c.self.view_is)
 
 -- where the machine has the same places
-places-next : (c : After-turn) → IsSameButTop c.self.inside.image c.args.p (snapshot_of c.self.inside.machine) (snapshot_of c.turn.new.self) → (history : Kept) (stop : Option ChoiceStop)
+places-next : (c : After-turn) → IsSameButTop c.self.inside.image c.args.p (snapshot_of c.self.inside.machine) (snapshot_of c.turn.new.self) → (history : EntriesLeft) (stop : Option ChoiceStop)
     → state_after c.self.inside.image history.items ≡ state_after c.self.inside.image c.self.inside.history.items
     → LeavesNext c.args.p c.args.self.now (placed_value (record c.self.inside { history = history; stop = stop; machine = c.turn.new.self }))
 places-next c top history stop state =
-    next-same c.args.p c.args.self.now (placed_value (record c.self.inside { history = history; stop = stop; machine = c.turn.new.self })) (places-left c top) (ap (λ (v : Placed). v.core.program) c.self.view_is) (
-    state ∙ ap (λ (v : Placed). state_of v.core) c.self.view_is)
+    next-same c.args.p c.args.self.now (placed_value (record c.self.inside { history = history; stop = stop; machine = c.turn.new.self })) (places-left c top) (ap (λ (v : PlacedCore). v.core.program) c.self.view_is) (
+    state ∙ ap (λ (v : PlacedCore). state_of v.core) c.self.view_is)
 
 pub returns-in-Err-NoMemory-clause-others : goal.returns-in-Err-NoMemory-clause-others
 returns-in-Err-NoMemory-clause-others c =
@@ -462,7 +462,7 @@ returns-in-Err-ArenaFull-clause-others c =
 waits-top : (c : After-block) → IsSameButTop c.self.inside.image c.args.p (snapshot_of c.self.inside.machine) (snapshot_of c.turn.new.self)
 waits-top c =
     let i = c.self.inside in
-    subst (λ (turned : Turned). LeavesRest turned i.image c.args.p (snapshot_of i.machine) (snapshot_of c.turn.new.self)) c.in-Waits.is c.in-Ok.ensures.rest
+    subst (λ (turned : TurnOutcome). LeavesRest turned i.image c.args.p (snapshot_of i.machine) (snapshot_of c.turn.new.self)) c.in-Waits.is c.in-Ok.ensures.rest
 
 pub returns-in_err-block-in-Waits-clause-others : goal.returns-in_err-block-in-Waits-clause-others
 returns-in_err-block-in-Waits-clause-others c =

@@ -2,14 +2,14 @@ use Rattle.std.proofs.Common.{◌≡◌, ◌≢◌, ◌∙◌, ◌<◌, ◌+◌,
 use Rattle.hep_machine.specs.Words.{living}
 use Rattle.hep_core.specs.Commits.{HasMovedAtOnce, IsTurnAtOnce, most_tickets}
 use Rattle.hep_core.specs.Tickets.{is_out}
-use Rattle.hep_core.specs.Places.{ArePlaces, Placed, with_core}
-use Rattle.hep_core.specs.Value.{HasNoStop, next_ready_of, state_of}
-use Rattle.hep_core.proofs.AtOnce.{at-once, behind-at-once, moved-given}
-use Rattle.hep_core.proofs.Beside.{chosen-good, good-itself, next-between}
-use Rattle.hep_core.proofs.Kept.{some-of}
+use Rattle.hep_core.specs.ProcessPlaces.{ArePlaces, PlacedCore, with_core}
+use Rattle.hep_core.specs.CoreValues.{HasNoStop, next_ready_of, state_of}
+use Rattle.hep_core.proofs.TurnsAtOnce.{at-once, behind-at-once, moved-given}
+use Rattle.hep_core.proofs.OtherTickets.{chosen-good, good-itself, next-between}
+use Rattle.hep_core.proofs.GoodTickets.{some-of}
 use Rattle.hep_core.proofs.run_core.Core.turn_at_once.Goals as goal
 
-by-way : (old mid new : Placed) (p n : ℕ) → HasNoStop old.core → living (state_of old.core) p ≢ None → is_out p old.core.out ≡ false → old.core.given < most_tickets → next_ready_of old.core ≡ Some p
+by-way : (old mid new : PlacedCore) (p n : ℕ) → HasNoStop old.core → living (state_of old.core) p ≢ None → is_out p old.core.out ≡ false → old.core.given < most_tickets → next_ready_of old.core ≡ Some p
     → new ≡ with_core mid (record mid.core { given = mid.core.given + 1 }) → ArePlaces new → HasMovedAtOnce old p n mid → IsTurnAtOnce old p n new
 by-way old mid new p n going lives home left next same placed (inl (one, alone, choices)) =
     subst (λ k. IsTurnAtOnce old p k new) (sym one) (at-once old mid new p going lives home left next same placed alone choices)
@@ -41,4 +41,4 @@ returns-clause-kept c =
     let same = c.count_ticket.ensures in
     let leaves = c.move_at_once-steps.ensures.others (omega (arith, c.if-steps-eq0.false)) in
     chosen-good p old c.count_ticket.new.self (sym c.is_out.ensures ∙ c.if-is_out.false) (
-    next-between p old old mid c.count_ticket.new.self refl refl refl leaves (ap (λ (v : Placed). v.places) same) (ap (λ (v : Placed). v.core.program) same) (ap (λ (v : Placed). state_of v.core) same) (ap (λ (v : Placed). v.core.stop) same))
+    next-between p old old mid c.count_ticket.new.self refl refl refl leaves (ap (λ (v : PlacedCore). v.places) same) (ap (λ (v : PlacedCore). v.core.program) same) (ap (λ (v : PlacedCore). state_of v.core) same) (ap (λ (v : PlacedCore). v.core.stop) same))

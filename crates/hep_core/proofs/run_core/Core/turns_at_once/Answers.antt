@@ -1,8 +1,8 @@
 use Rattle.std.proofs.Common.{◌∙◌, refl, sym}
 use Rattle.hep_machine.specs.Words.{living}
-use Rattle.hep_core.specs.Value.{state_of}
-use Rattle.hep_core.proofs.Beside.{chosen-good, good-itself}
-use Rattle.hep_core.proofs.Kept.{some-of}
+use Rattle.hep_core.specs.CoreValues.{state_of}
+use Rattle.hep_core.proofs.OtherTickets.{chosen-good, good-itself}
+use Rattle.hep_core.proofs.GoodTickets.{some-of}
 use Rattle.hep_core.proofs.run_core.Core.turns_at_once.Goals as goal
 
 -- what was looked at before

@@ -1,6 +1,6 @@
 use Rattle.std.proofs.Common.{◌∙◌, ap, sym}
 use Rattle.hep_machine.specs.Words.{is_held, used_cells, run, schedule_of}
-use Rattle.hep_proc.specs.Keeping.{frames_in}
+use Rattle.hep_proc.specs.FrameTable.{frames_in}
 use Rattle.hep_core.proofs.Histories.{state-is}
 use Rattle.hep_core.proofs.run_core.Core.used.Goals as goal
 

@@ -3,10 +3,10 @@ use Rattle.std.proofs.lemmas.Bool.{and_parts}
 use Rattle.std.proofs.lemmas.Bool.Decides.{nat_tests}
 use Rattle.hep_machine.specs.Words.{Units, is_number_among, schedule_of, state_after, Progress, living_from, progress_after, ready_in, State}
 use Rattle.hep_machine.specs.declared.event.Entry.{Entry}
-use Rattle.hep_blocked.specs.Listing.{AreListed}
-use Rattle.hep_blocked.specs.Rolls.{want_of}
+use Rattle.hep_blocked.specs.RosterUpdates.{AreListed}
+use Rattle.hep_blocked.specs.Rosters.{want_of}
 use Rattle.hep_blocked.proofs.Members.{among-living, among-ready, none-among}
-use Rattle.hep_core.specs.Value.{verdict_by}
+use Rattle.hep_core.specs.CoreValues.{verdict_by}
 use Rattle.hep_core.specs.declared.stop.Verdict.TheVariants.{Done, Running, Waiting}
 use Rattle.hep_core.proofs.Histories.{state-is}
 use Rattle.hep_core.proofs.run_core.Core.verdict.Goals as goal

@@ -1,13 +1,13 @@
 use Rattle.std.proofs.Common.{◌≡◌, ℕ, suc, ◌-◌, ◌≤◌, Bool, true, length, Option, Some, None, sym, ap, ◌∙◌, subst, arith, if◌then◌else◌, is_some}
 use Rattle.hep_machine.specs.Words.{is_number_among, run, schedule_of, state_after, progress_after, State}
 use Rattle.hep_cells.specs.declared.want.Want.{Want}
-use Rattle.hep_blocked.specs.Rolls.{want_of}
-use Rattle.hep_blocked.proofs.Living.{living-within, waits-live}
-use Rattle.hep_blocked.specs.Listing.{IsBlocked}
+use Rattle.hep_blocked.specs.Rosters.{want_of}
+use Rattle.hep_blocked.proofs.LivingProcesses.{living-within, waits-live}
+use Rattle.hep_blocked.specs.RosterUpdates.{IsBlocked}
 use Rattle.hep_views.specs.declared.listed.Listed.{Listed}
-use Rattle.hep_views.specs.Listed.{listed_by}
+use Rattle.hep_views.specs.ListedProcesses.{listed_by}
 use Rattle.hep_core.specs.Invariant.{CoreInvariant}
-use Rattle.hep_core.specs.Value.{listed_after}
+use Rattle.hep_core.specs.CoreValues.{listed_after}
 use Rattle.hep_core.specs.declared.run_core.Core.TheInside.{Inside}
 use Rattle.hep_core.proofs.Histories.{listed-first, none-listed, state-is}
 use Rattle.hep_core.proofs.run_core.Core.waiting_after.Goals as goal

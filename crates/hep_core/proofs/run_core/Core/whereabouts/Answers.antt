@@ -1,7 +1,7 @@
 use Rattle.std.proofs.Common.{◌≡◌, false, true, IsSome, is_some, rules, sym, ap, ◌∙◌}
 use Rattle.hep_source.proofs.Tests.{none-from-not}
 use Rattle.hep_machine.specs.Words.{living, run, schedule_of, state_after, State}
-use Rattle.hep_views.specs.Standing.{whereabouts_by, whereabouts_with}
+use Rattle.hep_views.specs.ProcessPositions.{whereabouts_by, whereabouts_with}
 use Rattle.hep_core.proofs.Histories.{state-is}
 use Rattle.hep_core.proofs.run_core.Core.whereabouts.Goals.{After-lives}
 use Rattle.hep_core.proofs.run_core.Core.whereabouts.Goals as goal

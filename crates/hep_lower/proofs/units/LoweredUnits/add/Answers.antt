@@ -1,5 +1,5 @@
 use Rattle.std.proofs.Common.{ℕ, ◌+◌, ◌∙◌, ap, length, refl, subst}
-use Rattle.hep_lower.specs.Units.{IsUnit}
+use Rattle.hep_lower.specs.LoweredUnits.{IsUnit}
 use Rattle.hep_lower.proofs.Counts.{added-runnable}
 use Rattle.hep_lower.proofs.units.LoweredUnits.add.Goals as goal
 

@@ -1,6 +1,6 @@
 use Rattle.std.proofs.Common.{[], subst, sym, arith}
-use Rattle.hep_private.specs.Recent.{IsRecent}
-use Rattle.hep_private.proofs.Places.{without-stores}
+use Rattle.hep_private.specs.LastStores.{IsRecent}
+use Rattle.hep_private.proofs.LastStoredPlaces.{without-stores}
 use Rattle.hep_private.proofs.records.Records.clear.Goals as goal
 
 pub invariant_of-self : goal.invariant_of-self

@@ -1,7 +1,7 @@
 use Rattle.std.proofs.Common.{◌≡◌, suc, ◌+◌, ◌<◌, [], ◌∷◌, ◌++◌, length, take, slice_set, subst, sym, arith, rules}
 use Rattle.std.proofs.Math.Seq.{take-suc-set}
-use Rattle.hep_private.specs.Recent.{IsRecent}
-use Rattle.hep_private.proofs.Places.{with-stores}
+use Rattle.hep_private.specs.LastStores.{IsRecent}
+use Rattle.hep_private.proofs.LastStoredPlaces.{with-stores}
 use Rattle.hep_private.proofs.records.Records.push.Goals as goal
 
 pub invariant_of-self : goal.invariant_of-self

@@ -2,9 +2,9 @@ use Rattle.std.proofs.Common.{◌≡◌, ◌∙◌, Some, sym, ap, subst, length
 use Rattle.hep_machine.specs.Words.{common_cells, frame_of, lowest_gap}
 use Rattle.hep_arena.specs.Holes.{first_fit}
 use Rattle.hep_layout.specs.Words.{new_node, with_node}
-use Rattle.hep_proc.specs.Keeping.{IsTaken}
+use Rattle.hep_proc.specs.FrameTable.{IsTaken}
 use Rattle.hep_proc.specs.Nodes.{nodes_of}
-use Rattle.hep_proc.proofs.Begun.{begun-gap, begun-keeps, fit-there}
+use Rattle.hep_proc.proofs.BegunActivations.{begun-gap, begun-keeps, fit-there}
 use Rattle.hep_proc.proofs.Slabs.{entered-nodes, key-there}
 use Rattle.hep_proc.proofs.frames.Frames.enter.Goals as goal
 

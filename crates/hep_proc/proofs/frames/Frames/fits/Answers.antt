@@ -1,6 +1,6 @@
 use Rattle.std.proofs.Common.{◌∙◌}
 use Rattle.hep_proc.specs.Nodes.{nodes_of}
-use Rattle.hep_proc.proofs.Stays.{keeps-fits, unused-fits}
+use Rattle.hep_proc.proofs.UnchangedFrames.{keeps-fits, unused-fits}
 use Rattle.hep_proc.proofs.frames.Frames.fits.Goals as goal
 
 pub returns-clause-opening : goal.returns-clause-opening

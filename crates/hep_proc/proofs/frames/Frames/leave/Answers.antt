@@ -1,11 +1,11 @@
 use Rattle.std.proofs.Common.{◌≡◌, ◌⊎◌, inl, inr, ◌≤◌, None, false, refl, sym, ◌∙◌, subst, arith}
 use Rattle.hep_layout.specs.Words.{but, with_ended, is_stacked}
 use Rattle.hep_proc.specs.declared.frames.Frames.{Frames}
-use Rattle.hep_proc.specs.Keeping.{as_wanted, frames_in, HasLeft}
+use Rattle.hep_proc.specs.FrameTable.{as_wanted, frames_in, HasLeft}
 use Rattle.hep_proc.specs.Nodes.{nodes_of, shown}
-use Rattle.hep_proc.proofs.Giving.{IsGiving, giving-begins, giving-block, giving-counted, giving-ends, giving-goes_on, giving-inside, giving-stops, giving-there, off_stack}
+use Rattle.hep_proc.proofs.ReturnedFrames.{IsGiving, giving-begins, giving-block, giving-counted, giving-ends, giving-goes_on, giving-inside, giving-stops, giving-there, off_stack}
 use Rattle.hep_proc.proofs.Slabs.{node-there, one-tree, shown-at, value-there}
-use Rattle.hep_proc.proofs.Stays.{ended-left}
+use Rattle.hep_proc.proofs.UnchangedFrames.{ended-left}
 use Rattle.hep_proc.proofs.frames.Frames.leave.Goals as goal
 use Rattle.hep_proc.proofs.frames.Frames.leave.Goals.{then-not-node-via-then-not-node, then-not-node-via-else-not-node+then-node-gt0}
 

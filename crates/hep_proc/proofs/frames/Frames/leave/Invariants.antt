@@ -1,8 +1,8 @@
 use Rattle.std.proofs.Common.{◌≡◌, Some, length}
 use Rattle.slab.specs.Slab.{slab_len}
 use Rattle.hep_proc.specs.Nodes.{nodes_of}
-use Rattle.hep_proc.specs.Keeping.{FramesOf, Keeps}
-use Rattle.hep_proc.proofs.Giving.{IsGiving, off_stack}
+use Rattle.hep_proc.specs.FrameTable.{FramesOf, Keeps}
+use Rattle.hep_proc.proofs.ReturnedFrames.{IsGiving, off_stack}
 use Rattle.hep_proc.proofs.frames.Frames.leave.Given as goal
 use Rattle.hep_layout.specs.Words.{FrameNode}
 

@@ -1,11 +1,11 @@
 use Rattle.std.proofs.Common.{◌∙◌, ◌+◌, ◌<◌, length, drop, get_or, refl, subst, arith}
 use Rattle.std.proofs.lemmas.List.{drop_all}
 use Rattle.hep_layout.specs.Words.{is_stacked}
-use Rattle.hep_proc.specs.Keeping.{all_but, frames_in, frames_left}
+use Rattle.hep_proc.specs.FrameTable.{all_but, frames_in, frames_left}
 use Rattle.hep_proc.specs.Nodes.{nodes_of}
-use Rattle.hep_proc.proofs.Several.{AreLeaving, leaving-begins, leaving-ends, leaving-goes_on, leaving-next, next-key}
+use Rattle.hep_proc.proofs.SeveralFrames.{AreLeaving, leaving-begins, leaving-ends, leaving-goes_on, leaving-next, next-key}
 use Rattle.hep_proc.proofs.Slabs.{some-value}
-use Rattle.hep_proc.proofs.Stays.{ended-left}
+use Rattle.hep_proc.proofs.UnchangedFrames.{ended-left}
 use Rattle.hep_proc.proofs.frames.Frames.leave_all.Goals as goal
 
 pub loop-key-init : goal.loop-key-init

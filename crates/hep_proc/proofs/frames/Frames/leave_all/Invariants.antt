@@ -1,7 +1,7 @@
 use Rattle.std.proofs.Common.{◌≡◌, ℕ, List, drop, length}
 use Rattle.hep_proc.specs.Nodes.{nodes_of}
-use Rattle.hep_proc.specs.Keeping.{as_wanted, CanLeave, FramesOf, Keeps, LeadUpwards}
-use Rattle.hep_proc.proofs.Several.{AreLeaving}
+use Rattle.hep_proc.specs.FrameTable.{as_wanted, CanLeave, FramesOf, Keeps, LeadUpwards}
+use Rattle.hep_proc.proofs.SeveralFrames.{AreLeaving}
 use Rattle.hep_proc.proofs.frames.Frames.leave_all.Given as goal
 
 abbrev pub invariant-loop-key : goal.invariant-loop-key

@@ -4,7 +4,7 @@ use Rattle.hep_layout.specs.Words.{first_nodes}
 use Rattle.hep_proc.specs.Nodes.{nodes_of}
 use Rattle.hep_proc.proofs.Opened.{opened-keeps, opened-layout}
 use Rattle.hep_proc.proofs.Slabs.{opened-nodes}
-use Rattle.hep_proc.proofs.Begun.{fit-there}
+use Rattle.hep_proc.proofs.BegunActivations.{fit-there}
 use Rattle.hep_proc.proofs.frames.Frames.open.Goals as goal
 
 pub returns-clause-opened : goal.returns-clause-opened

@@ -1,5 +1,5 @@
 use Rattle.hep_proc.specs.Nodes.{nodes_of}
-use Rattle.hep_proc.proofs.Stays.{keeps-described, keeps-stored}
+use Rattle.hep_proc.proofs.UnchangedFrames.{keeps-described, keeps-stored}
 use Rattle.hep_proc.proofs.frames.Frames.set.Goals as goal
 
 pub returns-clause-unit : goal.returns-clause-unit

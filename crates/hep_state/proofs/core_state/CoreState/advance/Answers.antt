@@ -1,31 +1,23 @@
-use Rattle.std.proofs.Common.{◌≡◌, ℕ, List, Option, ◌∷◌, refl, sym, ap, ◌∙◌, subst, vec_capacity}
+use Rattle.std.proofs.Common.{◌≡◌, Option, refl, sym, ap, ◌∙◌, subst, vec_capacity}
 use Rattle.std.proofs.lemmas.Result.{IfOk-weaker, on_err_weaker}
-use Rattle.hep_machine.specs.Words.{Value}
-use Rattle.hep_proc.specs.Nodes.{nodes_of}
 use Rattle.hep_cells.specs.declared.want.Want.{Want}
 use Rattle.hep_step.specs.declared.effect.Effect.{Effect}
 use Rattle.hep_step.specs.declared.effect.Effect.TheVariants.{Moved, Printed, Failed, Waits, Returned, Answered, Stopped, LeftOut}
 use Rattle.hep_step.specs.Changes.{changed_at}
 use Rattle.hep_step.specs.Effects as effects
 use Rattle.hep_step.specs.Effects.{effect_at}
-use Rattle.hep_step.specs.Performed as performed
-use Rattle.hep_step.specs.Performed.{changed_in}
+use Rattle.hep_step.specs.PerformedSteps as performed
+use Rattle.hep_step.specs.PerformedSteps.{changed_in}
 use Rattle.hep_step.specs.Simulation.{unit_arrays, unit_code}
-use Rattle.hep_proc.specs.declared.frames.Frames.{Frames}
-use Rattle.std.specs.Vec.{with_item}
-use Rattle.hep_proc.specs.declared.process.Local.{Local}
-use Rattle.hep_state.specs.declared.core_state.CoreState.{CoreState}
-use Rattle.hep_proc.specs.declared.process.Process.{Process}
-use Rattle.hep_proc.specs.Stacks.{Stack, stack_of, stack_with}
 use Rattle.hep_proc.proofs.Levels.{last-there}
-use Rattle.hep_state.specs.Words.{AreNumbered, Changes, node_under, Snapshot, snapshot_of, IsLeft, StaysWaiting, turn_with, with_contents, with_stack}
-use Rattle.hep_state.proofs.Beside.{beside-set}
-use Rattle.hep_state.proofs.Moved.{top-node}
-use Rattle.hep_state.proofs.Processes.{IsAt, process-at, room-moved, stacks-set}
-use Rattle.hep_state.proofs.Tops.{turning}
+use Rattle.hep_state.specs.Words.{Changes, node_under, Snapshot, snapshot_of, IsLeft, StaysWaiting, turn_with}
+use Rattle.hep_state.proofs.OtherProcesses.{beside-set}
+use Rattle.hep_state.proofs.SilentTurns.{top-node}
+use Rattle.hep_state.proofs.Processes.{process-at, room-moved, shown-now}
+use Rattle.hep_state.proofs.TopActivations.{turning}
 use Rattle.hep_state.proofs.Changes.{changes-only}
-use Rattle.hep_state.proofs.Taken.{ahead-simulated, inside, left-over, ready, unperformed, with_performed}
-use Rattle.hep_state.proofs.Unchanged.{rooms-set}
+use Rattle.hep_state.proofs.TakenTurns.{ahead-simulated, inside, left-over, ready, unperformed, with_performed}
+use Rattle.hep_state.proofs.UnchangedStates.{rooms-set}
 use Rattle.hep_state.proofs.core_state.CoreState.advance.Goals as goal
 
 pub place-at-requires : goal.place-at-requires
@@ -56,18 +48,6 @@ advance-requires c =
       ready =
           ready turn.1 (laws.running t accepted main turn.1) (vec_capacity q.operands) (laws.arrays t accepted main turn.1) h.few
           (h.room c.place-at.result q it.there _ l.level (last-there q l.level l.below l.operands l.pending it.stack));
-    }
-
--- what the machine shows, where a process has another stack and cells of the arena have changed
-shown-now : (m : CoreState) (p : ℕ) {at : ℕ} {before : Stack} {q : Process} (r : Process) (frames : Frames) (l : Local) (ls : List Local) (left pending : List Value) (next : ℕ) → AreNumbered m → IsAt m.processes.items p at before q → r.number ≡ q.number
-    → stack_of r ≡ stack_with (record l { index = next }) ls left pending → frames.arena.holes ≡ m.frames.arena.holes → frames.nodes ≡ m.frames.nodes
-    → snapshot_of (record m { frames = frames; processes = with_item m.processes at r }) ≡ with_stack (with_contents (snapshot_of m) frames.arena.contents) p (record l { index = next } ∷ ls) left pending
-shown-now m p r frames l ls left pending next numbers it same stack holes nodes =
-    let stacks = stacks-set m p r (stack_with (record l { index = next }) ls left pending) numbers it same stack in
-    λ i. record (with_stack (with_contents (snapshot_of m) frames.arena.contents) p (record l { index = next } ∷ ls) left pending) {
-      arena = record { contents = frames.arena.contents; holes = holes i };
-      nodes = nodes_of (nodes i);
-      processes = stacks i;
     }
 
 -- an operation that waits has changed nothing

@@ -2,11 +2,11 @@ use Rattle.std.proofs.Common.{◌≡◌, ◌<◌, drop, length, sym, ap, ◌∙�
 use Rattle.hep_step.specs.Simulation.{unit_code}
 use Rattle.hep_proc.specs.declared.process.Local.{Local}
 use Rattle.hep_state.specs.Words.{IsInFront}
-use Rattle.hep_state.proofs.Ahead.{found-ahead}
+use Rattle.hep_state.proofs.NextSteps.{found-ahead}
 use Rattle.hep_state.proofs.Processes.{process-at, some-levels-at}
-use Rattle.hep_state.proofs.Taken.{inside}
-use Rattle.hep_state.proofs.Tops.{turning}
-use Rattle.hep_state.proofs.Unchanged.{carry}
+use Rattle.hep_state.proofs.TakenTurns.{inside}
+use Rattle.hep_state.proofs.TopActivations.{turning}
+use Rattle.hep_state.proofs.UnchangedStates.{carry}
 use Rattle.hep_state.proofs.core_state.CoreState.ahead_now.Goals as goal
 
 pub place-at-requires : goal.place-at-requires

@@ -1,21 +1,21 @@
 use Rattle.std.proofs.Common.{◌≡◌, [], Result, sym, ◌∙◌, subst, vec_capacity}
 use Rattle.hep_machine.specs.Words.{Value}
 use Rattle.hep_machine.specs.declared.event.Kind.{Kind}
-use Rattle.hep_image.specs.Finding.{address_of, cells_in}
+use Rattle.hep_image.specs.Addressing.{address_of, cells_in}
 use Rattle.hep_proc.specs.Nodes.{nodes_of}
 use Rattle.hep_proc.specs.declared.process.Local.{Local}
 use Rattle.hep_proc.proofs.Levels.{last-there}
 use Rattle.hep_step.specs.Cells.{HasFrame}
 use Rattle.hep_step.specs.Effects.{effect_of_answer, value_found}
-use Rattle.hep_step.specs.Ready.{IsAheadReady, IsReady, IsVariableReady, frame_in_arena}
+use Rattle.hep_step.specs.StepReady.{IsAheadReady, IsReady, IsVariableReady, frame_in_arena}
 use Rattle.hep_step.specs.Simulation.{unit_arrays, unit_code}
 use Rattle.hep_state.specs.Words.{IsPlace, IsToEnd, IsToEndBy, frame_under, snapshot_of, turn_with}
-use Rattle.hep_state.proofs.Moved.{top-node}
+use Rattle.hep_state.proofs.SilentTurns.{top-node}
 use Rattle.hep_state.proofs.Processes.{process-at}
-use Rattle.hep_state.proofs.Returning.{answers-so, ends-there, fails-so, running-always}
-use Rattle.hep_state.proofs.Taken.{inside, ready}
-use Rattle.hep_state.proofs.Tops.{turning}
-use Rattle.hep_state.proofs.Unchanged.{carry}
+use Rattle.hep_state.proofs.ReturnTurns.{answers-so, ends-there, fails-so, running-always}
+use Rattle.hep_state.proofs.TakenTurns.{inside, ready}
+use Rattle.hep_state.proofs.TopActivations.{turning}
+use Rattle.hep_state.proofs.UnchangedStates.{carry}
 use Rattle.hep_state.proofs.core_state.CoreState.answer.Goals.{After-index-process, After-as_slice-arrays}
 use Rattle.hep_state.proofs.core_state.CoreState.answer.Goals as goal
 

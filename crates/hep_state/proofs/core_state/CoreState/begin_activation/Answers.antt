@@ -1,22 +1,22 @@
 use Rattle.std.proofs.Common.{◌≡◌, ℕ, ◌+◌, ◌≤◌, true, List, length, Option, Some, if◌then◌else◌, refl, sym, ap, ◌∙◌, subst, arith, eq-eqb}
 use Rattle.hep_machine.specs.Words.{Units, unit_at, Layout, common_cells, frame_of, is_held, lowest_gap, Activation, Bounds, State, scope_of, frame_cells}
 use Rattle.hep_layout.specs.Words.{FrameNode, Nodes, is_stacked, new_node, with_node}
-use Rattle.hep_image.specs.Bound.{AreKept}
+use Rattle.hep_image.specs.BoundActivations.{AreKept}
 use Rattle.slab.specs.Slab.{ContainsKey}
 use Rattle.hep_proc.specs.Nodes.{nodes_of}
 use Rattle.hep_proc.proofs.Slabs.{some-value}
 use Rattle.hep_step.specs.Shapes.{AreShapesOf}
 use Rattle.hep_binding.specs.Calling.{ArePassed, CallOf, IsWritten, frames_with, layout_with, state_begun, unit_begun}
-use Rattle.hep_binding.proofs.Begun.{activation-is, long, unit-is}
+use Rattle.hep_binding.proofs.BegunActivations.{activation-is, long, unit-is}
 use Rattle.hep_binding.proofs.Calls.{made-begun, made-stacks, made-store}
-use Rattle.hep_binding.specs.Shapes.{AreShaping, cells_of_shapes, cells_to_bounds_of}
+use Rattle.hep_binding.specs.AdjustableBounds.{AreShaping, cells_of_shapes, cells_to_bounds_of}
 use Rattle.hep_binding.proofs.Nodes.{node-new}
-use Rattle.hep_step.specs.declared.way.Way.{Way}
-use Rattle.hep_step.specs.Calls.{is_creation}
+use Rattle.hep_step.specs.declared.call_kind.CallKind.{CallKind}
+use Rattle.hep_step.specs.NextCalls.{is_creation}
 use Rattle.hep_proc.specs.declared.process.Local.{Local}
 use Rattle.hep_state.specs.Words.{IsMaking, Makes, TurnOf, call_in, frames_before, node_under, snapshot_of, state_before, state_made, turn_of}
-use Rattle.hep_state.proofs.Moved.{kept-now, top-activation, top-node}
-use Rattle.hep_state.proofs.Begun.{IsBegunIn, begun-kept, passed-many, shapes-inside}
+use Rattle.hep_state.proofs.SilentTurns.{kept-now, top-activation, top-node}
+use Rattle.hep_state.proofs.BegunActivations.{IsBegunIn, begun-kept, passed-many, shapes-inside}
 use Rattle.hep_state.proofs.Processes.{process-at, some-levels-at}
 use Rattle.hep_state.proofs.core_state.CoreState.begin_activation.Goals.{After-begin-key}
 use Rattle.hep_state.proofs.core_state.CoreState.begin_activation.Goals as goal
@@ -55,7 +55,7 @@ begin-key-requires c =
 
 -- ---- the frame with the cells of its dummy arguments written
 
-module _ (c : After-begin-key) (way : Way) (program : Units) (cells : ℕ) (choices : List ℕ) (own index : ℕ) (makes : Makes way program cells choices c.args.p c.args.self.now c.args.called own index) where
+module _ (c : After-begin-key) (way : CallKind) (program : Units) (cells : ℕ) (choices : List ℕ) (own index : ℕ) (makes : Makes way program cells choices c.args.p c.args.self.now c.args.called own index) where
   abbrev t : TurnOf
   t = turn_of makes.making
 

@@ -3,12 +3,12 @@ use Rattle.hep_machine.specs.Words.{Units}
 use Rattle.hep_arena.specs.Holes.{first_fit}
 use Rattle.hep_code.specs.Words.{deepest}
 use Rattle.hep_step.specs.Simulation.{unit_code}
-use Rattle.hep_state.specs.declared.calling.Called.{Called}
+use Rattle.hep_state.specs.declared.calling.CalledUnit.{CalledUnit}
 use Rattle.hep_state.specs.declared.core_state.CoreState.{CoreState}
 use Rattle.hep_state.specs.Words.{HaveRoom, HoldsInTurn, IsMachineAfter, IsMaking, IsUnit, Makes, ShowsSame, Snapshot, snapshot_of, turn_of}
-use Rattle.hep_state.proofs.Beside.{beside-again, beside-shown}
+use Rattle.hep_state.proofs.OtherProcesses.{beside-again, beside-shown}
 use Rattle.hep_state.proofs.GivenArguments.{ahead-after}
-use Rattle.hep_state.proofs.Unchanged.{carry, rooms-of, turned-so}
+use Rattle.hep_state.proofs.UnchangedStates.{carry, rooms-of, turned-so}
 use Rattle.hep_state.proofs.core_state.CoreState.begin_call.Goals.{After-calls_touch_nothing, After-reserve_level}
 use Rattle.hep_state.proofs.core_state.CoreState.begin_call.Goals as goal
 
@@ -33,7 +33,7 @@ module _ (c : After-reserve_level) where
   abbrev new : CoreState
   new = c.reserve_level.new.self
 
-  abbrev callee : Called
+  abbrev callee : CalledUnit
   callee = record { unit = u; cells = c.unit-unit.result.now.cells; entry = c.unit-unit.result.now.entry }
 
   same : ShowsSame c.args.self.now new

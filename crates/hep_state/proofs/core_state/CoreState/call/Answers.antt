@@ -9,10 +9,10 @@ use Rattle.hep_proc.specs.Stacks.{Stack, stack_with}
 use Rattle.hep_proc.proofs.Levels.{operands-are}
 use Rattle.hep_state.specs.declared.core_state.CoreState.{CoreState}
 use Rattle.hep_state.specs.Words.{HasMadeTurn, entered_level, snapshot_made_by, snapshot_of, stacks_of, turn_of}
-use Rattle.hep_state.proofs.Begun.{made-shown}
-use Rattle.hep_state.proofs.Beside.{beside-same, beside-set}
+use Rattle.hep_state.proofs.BegunActivations.{made-shown}
+use Rattle.hep_state.proofs.OtherProcesses.{beside-same, beside-set}
 use Rattle.hep_state.proofs.Processes.{kept-set, numbers-still, process-still, room-more, stacks-set, some-levels-at}
-use Rattle.hep_state.proofs.Unchanged.{rooms-begun, rooms-set}
+use Rattle.hep_state.proofs.UnchangedStates.{rooms-begun, rooms-set}
 use Rattle.hep_state.proofs.core_state.CoreState.call.Goals as goal
 
 pub begin_activation-level-requires : goal.begin_activation-level-requires

@@ -3,17 +3,17 @@ use Rattle.hep_machine.specs.Words.{with_numbered}
 use Rattle.hep_code.specs.Words.{deepest}
 use Rattle.hep_proc.specs.Nodes.{nodes_of}
 use Rattle.hep_step.specs.Simulation.{unit_code}
-use Rattle.hep_step.specs.declared.way.Way.TheVariants.{Creates}
+use Rattle.hep_step.specs.declared.call_kind.CallKind.TheVariants.{Creates}
 use Rattle.hep_proc.specs.declared.process.Local.{Local}
 use Rattle.hep_state.specs.declared.core_state.CoreState.{CoreState}
 use Rattle.hep_proc.specs.declared.process.Process.{Process}
 use Rattle.hep_proc.specs.Stacks.{Stack, stack_of, stack_with}
 use Rattle.hep_state.specs.Words.{HasMadeTurn, HasRoom, entered_level, snapshot_made_by, snapshot_of, stacks_of, turn_of}
-use Rattle.hep_state.proofs.Begun.{made-shown}
-use Rattle.hep_state.proofs.Beside.{more-beside}
-use Rattle.hep_state.proofs.Numbered.{more-stacks}
+use Rattle.hep_state.proofs.BegunActivations.{made-shown}
+use Rattle.hep_state.proofs.OtherProcesses.{more-beside}
+use Rattle.hep_state.proofs.ProcessNumbers.{more-stacks}
 use Rattle.hep_state.proofs.Processes.{all-set, numbered-set, numbers-still, process-still, room-alone, room-moved, stacks-set, some-levels-at}
-use Rattle.hep_state.proofs.Unchanged.{rooms-begun, rooms-more}
+use Rattle.hep_state.proofs.UnchangedStates.{rooms-begun, rooms-more}
 use Rattle.hep_state.proofs.core_state.CoreState.create.Goals as goal
 
 pub begin_activation-level-requires : goal.begin_activation-level-requires

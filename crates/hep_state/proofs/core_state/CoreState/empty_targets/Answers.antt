@@ -1,9 +1,9 @@
 use Rattle.std.proofs.Common.{[], refl, ap, ◌∙◌, arith}
-use Rattle.hep_step.specs.Purged.{purged}
+use Rattle.hep_step.specs.PurgeEffects.{purged}
 use Rattle.hep_proc.specs.Stacks.{stack_with}
 use Rattle.hep_state.specs.Words.{snapshot_of}
 use Rattle.hep_state.proofs.Processes.{process-at, room-moved, stacks-set, some-levels-at}
-use Rattle.hep_state.proofs.Unchanged.{rooms-set}
+use Rattle.hep_state.proofs.UnchangedStates.{rooms-set}
 use Rattle.hep_state.proofs.core_state.CoreState.empty_targets.Goals as goal
 
 pub place-at-requires : goal.place-at-requires

@@ -1,16 +1,16 @@
 use Rattle.std.proofs.Common.{◌≡◌, ◌∷◌, ◌++◌, List, [], reverse, refl, sym, ap, ◌∙◌, subst}
 use Rattle.hep_machine.specs.Words.{activations_on, is_held}
-use Rattle.hep_proc.specs.Keeping.{CanAllLeave, CanLeave}
+use Rattle.hep_proc.specs.FrameTable.{CanAllLeave, CanLeave}
 use Rattle.hep_layout.specs.Words.{is_stacked}
 use Rattle.hep_proc.specs.Nodes.{nodes_of}
 use Rattle.hep_proc.specs.declared.process.Local.{Local}
 use Rattle.hep_proc.specs.declared.process.Process.{Process}
 use Rattle.hep_proc.specs.Stacks.{keys_of, Stack}
 use Rattle.hep_state.specs.Words.{HasMadeTurn, fault_at, snapshot_of, snapshot_failed, state_before, state_failed, turn_of}
-use Rattle.hep_state.proofs.Moved.{can-all-leave, can-leave, failed-ended, failed-shown, lead-upwards}
-use Rattle.hep_state.proofs.Beside.{beside-set}
+use Rattle.hep_state.proofs.SilentTurns.{can-all-leave, can-leave, failed-ended, failed-shown, lead-upwards}
+use Rattle.hep_state.proofs.OtherProcesses.{beside-set}
 use Rattle.hep_state.proofs.Processes.{process-at, room-none, stacks-set, some-levels-at}
-use Rattle.hep_state.proofs.Unchanged.{rooms-set}
+use Rattle.hep_state.proofs.UnchangedStates.{rooms-set}
 use Rattle.hep_state.proofs.core_state.CoreState.fail.Goals as goal
 
 pub place-at-requires : goal.place-at-requires

@@ -1,16 +1,16 @@
 use Rattle.std.proofs.Common.{◌≤◌, length, arith, Result, Ok, Err, IfOk, OnOk}
 use Rattle.std.proofs.lemmas.Result.{IfErr-weaker}
-use Rattle.hep_image.specs.Finding.{cells_in}
+use Rattle.hep_image.specs.Addressing.{cells_in}
 use Rattle.hep_image.specs.Image.{most_cells}
 use Rattle.hep_step.specs.ReadyToPass.{ArePassable}
-use Rattle.hep_step.specs.Ranges.{ranges_of}
+use Rattle.hep_step.specs.PurgedRanges.{ranges_of}
 use Rattle.hep_step.specs.PurgeReady.{AreOut}
 use Rattle.hep_step.specs.Cells.{HasFrame}
 use Rattle.hep_state.specs.Words.{snapshot_of, turn_of}
-use Rattle.hep_state.proofs.Callers.{IsRead, can-read, found-read, of-read, unit-inside}
-use Rattle.hep_state.proofs.Tops.{dropped-first}
+use Rattle.hep_state.proofs.CallerRoom.{IsRead, can-read, found-read, of-read, unit-inside}
 use Rattle.hep_state.proofs.core_state.CoreState.find_targets.Goals.{After-deref}
 use Rattle.hep_state.proofs.core_state.CoreState.find_targets.Goals as goal
+use Rattle.hep_source.proofs.Tests.{dropped-first}
 
 pub place-at-requires : goal.place-at-requires
 place-at-requires c = record { numbers = c.requires.at.2.numbers; living = c.requires.at.3.levels }

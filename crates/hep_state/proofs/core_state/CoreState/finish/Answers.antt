@@ -5,10 +5,10 @@ use Rattle.hep_proc.proofs.Slabs.{some-value}
 use Rattle.hep_proc.specs.declared.process.Local.{Local}
 use Rattle.hep_proc.specs.Stacks.{Stack}
 use Rattle.hep_state.specs.Words.{HasMadeTurn, node_under, snapshot_of, snapshot_returned, state_before, state_returned, turn_of}
-use Rattle.hep_state.proofs.Moved.{kept-now, lead-upwards, returned-ended, returned-shown, top-node}
-use Rattle.hep_state.proofs.Beside.{beside-set}
+use Rattle.hep_state.proofs.SilentTurns.{kept-now, lead-upwards, returned-ended, returned-shown, top-node}
+use Rattle.hep_state.proofs.OtherProcesses.{beside-set}
 use Rattle.hep_state.proofs.Processes.{kept-set, process-at, room-fewer, stacks-set, some-levels-at}
-use Rattle.hep_state.proofs.Unchanged.{rooms-set}
+use Rattle.hep_state.proofs.UnchangedStates.{rooms-set}
 use Rattle.hep_state.proofs.core_state.CoreState.finish.Goals as goal
 
 pub place-at-requires : goal.place-at-requires

@@ -2,20 +2,20 @@ use Rattle.std.proofs.Common.{◌≡◌, ℕ, ◌-◌, ◌≤◌, List, drop, le
 use Rattle.hep_machine.specs.Words.{unit_at}
 use Rattle.hep_machine.specs.declared.event.Kind.{Kind}
 use Rattle.hep_code.specs.Words.{operands_of_entries, passed_from}
-use Rattle.hep_image.specs.Finding.{cells_in}
+use Rattle.hep_image.specs.Addressing.{cells_in}
 use Rattle.hep_image.specs.Dummies.{dummy_arguments}
 use Rattle.hep_image.specs.Image.{most_cells}
-use Rattle.hep_step.specs.declared.given.Given.{Given}
-use Rattle.hep_step.specs.Passing.{given_by}
+use Rattle.hep_step.specs.declared.dummy_storage.DummyStorage.{DummyStorage}
+use Rattle.hep_step.specs.ArgumentPassing.{given_by}
 use Rattle.hep_step.specs.ReadyToPass.{ArePassable}
-use Rattle.hep_binding.specs.Fitting.{AreShapable, are_fitting, shapes_of}
+use Rattle.hep_binding.specs.DummyShapes.{AreShapable, are_fitting, shapes_of}
 use Rattle.hep_step.specs.Cells.{HasFrame}
 use Rattle.hep_step.specs.Effects.{fails}
-use Rattle.hep_step.specs.Ready.{frame_in_arena}
+use Rattle.hep_step.specs.StepReady.{frame_in_arena}
 use Rattle.hep_step.specs.Simulation.{unit_arrays}
 use Rattle.hep_state.specs.Words.{HasCallAhead, HoldsInTurn, IsAtStep, IsMaking, given_of, operation_of, IsMachineAfter, snapshot_of, IsToEnd, top_frame, turn_of}
-use Rattle.hep_state.proofs.Unchanged.{carry}
-use Rattle.hep_state.proofs.Callers.{IsRead, behind-there, can-read, deepest-few, found-read, of-read, operands-there}
+use Rattle.hep_state.proofs.UnchangedStates.{carry}
+use Rattle.hep_state.proofs.CallerRoom.{IsRead, behind-there, can-read, deepest-few, found-read, of-read, operands-there}
 use Rattle.hep_state.proofs.core_state.CoreState.give.Goals.{After-find_shapes, After-past}
 use Rattle.hep_state.proofs.core_state.CoreState.give.Goals as goal
 
@@ -41,7 +41,7 @@ module _ (c : After-past) {cells : ℕ} {choices : List ℕ} (at : HasCallAhead 
       c.in_front-kept.ensures ∙ (λ i. many i - operands_of_entries (take c.args.call.count (behind-there (read c) c.args.call.count at-step i)))
 
   -- what the actual arguments give
-  pub gives : (r : Result (List Given) Kind) → given_by (cells_in c.args.self.now.frames.arena.contents) c.behind.result.2.first c.behind.result.1.now (passed_from c.args.call.count c.behind.result.0.now c.past.result.now) ≡ r
+  pub gives : (r : Result (List DummyStorage) Kind) → given_by (cells_in c.args.self.now.frames.arena.contents) c.behind.result.2.first c.behind.result.1.now (passed_from c.args.call.count c.behind.result.0.now c.past.result.now) ≡ r
       → given_of c.args.call at.holds ≡ r
   gives r e =
       ap (λ n. given_by (cells_in c.args.self.now.frames.arena.contents) (top_frame (turn_of at)).first (unit_arrays c.args.image.now at.levels.level.unit) (passed_from c.args.call.count at.holds.step.behind (drop n at.levels.operands))) (sym front-is)

@@ -5,10 +5,10 @@ use Rattle.hep_proc.proofs.Slabs.{some-value}
 use Rattle.hep_proc.specs.declared.process.Local.{Local}
 use Rattle.hep_proc.specs.Stacks.{operands_answered, pending_answered, Stack, stack_with}
 use Rattle.hep_state.specs.Words.{HasMadeTurn, node_under, snapshot_answered, snapshot_of, state_answered, state_before, turn_of}
-use Rattle.hep_state.proofs.Moved.{answer-room, answered-ended, answered-shown, kept-now, lead-upwards, top-node}
-use Rattle.hep_state.proofs.Beside.{beside-set}
+use Rattle.hep_state.proofs.SilentTurns.{answer-room, answered-ended, answered-shown, kept-now, lead-upwards, top-node}
+use Rattle.hep_state.proofs.OtherProcesses.{beside-set}
 use Rattle.hep_state.proofs.Processes.{kept-set, process-at, room-below, room-fewer, stacks-set, some-levels-at}
-use Rattle.hep_state.proofs.Unchanged.{rooms-set}
+use Rattle.hep_state.proofs.UnchangedStates.{rooms-set}
 use Rattle.hep_state.proofs.core_state.CoreState.hand_down.Goals as goal
 
 pub place-at-requires : goal.place-at-requires

@@ -5,7 +5,7 @@ use Rattle.hep_proc.specs.Stacks.{no_stack, stack_of}
 use Rattle.hep_proc.proofs.Levels.{levels-by}
 use Rattle.hep_state.specs.Words.{IsPlaceOf, numbers_of, snapshot_of}
 use Rattle.hep_state.proofs.Processes.{numbered-absent, numbered-of, some-levels-of}
-use Rattle.hep_state.proofs.Tops.{lives-by, none-lives}
+use Rattle.hep_state.proofs.TopActivations.{lives-by, none-lives}
 use Rattle.hep_state.proofs.core_state.CoreState.lives.Goals.{After-is_empty, After-find}
 use Rattle.hep_state.proofs.core_state.CoreState.lives.Goals as goal
 

@@ -1,7 +1,7 @@
 use Rattle.std.proofs.Common.{refl, arith}
 use Rattle.hep_state.proofs.Processes.{counted, process-at, some-by}
-use Rattle.hep_state.proofs.Returning.{answer-untouched, running-always}
-use Rattle.hep_state.proofs.Unchanged.{rooms-of, turned-so}
+use Rattle.hep_state.proofs.ReturnTurns.{answer-untouched, running-always}
+use Rattle.hep_state.proofs.UnchangedStates.{rooms-of, turned-so}
 use Rattle.hep_state.proofs.core_state.CoreState.make_answer.Goals as goal
 
 pub place-at-requires : goal.place-at-requires

@@ -1,7 +1,7 @@
 use Rattle.std.proofs.Common.{refl, arith}
 use Rattle.hep_state.proofs.Processes.{counted, process-at, some-by}
-use Rattle.hep_state.proofs.Returning.{IsRunningAlways, ends-there, running-always, untouched-there}
-use Rattle.hep_state.proofs.Unchanged.{rooms-of, turned-so}
+use Rattle.hep_state.proofs.ReturnTurns.{IsRunningAlways, ends-there, running-always, untouched-there}
+use Rattle.hep_state.proofs.UnchangedStates.{rooms-of, turned-so}
 use Rattle.hep_state.proofs.core_state.CoreState.make_return.Goals.{After-tops_are_running}
 use Rattle.hep_state.proofs.core_state.CoreState.make_return.Goals as goal
 

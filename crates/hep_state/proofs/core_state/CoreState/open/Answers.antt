@@ -8,7 +8,7 @@ use Rattle.hep_layout.specs.Words.{Nodes}
 use Rattle.hep_proc.specs.Nodes.{nodes_of}
 use Rattle.hep_step.specs.Simulation.{unit_code}
 use Rattle.hep_state.specs.Words.{AreNumbered, IsEntered, snapshot_opened, IsAfter, HasRoom, HasRoomToPass, IsMachineAfter, numbers_of, snapshot_of, stack_numbered, stacks_of}
-use Rattle.hep_state.proofs.Opened.{entered-out}
+use Rattle.hep_state.proofs.OpenedStates.{entered-out}
 use Rattle.hep_state.proofs.RoomToPass.{room-enough}
 use Rattle.hep_state.proofs.core_state.CoreState.open.Goals as goal
 use Rattle.hep_image.specs.Image.{most_cells}

@@ -7,9 +7,9 @@ use Rattle.hep_proc.specs.Nodes.{nodes_of}
 use Rattle.hep_proc.specs.Stacks.{Stack, stack_of}
 use Rattle.hep_state.specs.declared.core_state.CoreState.{CoreState}
 use Rattle.hep_state.specs.Words.{HasRoom, snapshot_of, stacks_of}
-use Rattle.hep_state.proofs.Numbered.{more-stacks}
+use Rattle.hep_state.proofs.ProcessNumbers.{more-stacks}
 use Rattle.hep_state.proofs.Processes.{all-set, numbered-set, process-at, room-alone, room-fewer, some-levels-at, stacks-set}
-use Rattle.hep_state.proofs.Unchanged.{rooms-more}
+use Rattle.hep_state.proofs.UnchangedStates.{rooms-more}
 use Rattle.hep_state.proofs.core_state.CoreState.part.Goals.{After-admit}
 use Rattle.hep_state.proofs.core_state.CoreState.part.Goals as goal
 

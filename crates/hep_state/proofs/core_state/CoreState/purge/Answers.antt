@@ -1,16 +1,16 @@
 use Rattle.std.proofs.Common.{◌≡◌, [], ◌∷◌, ◌++◌, length, Some, sym, ap, ◌∙◌, subst, arith}
 use Rattle.hep_machine.specs.Words.{numbered}
-use Rattle.hep_step.specs.Purged.{purged}
+use Rattle.hep_step.specs.PurgeEffects.{purged}
 use Rattle.hep_step.specs.PurgeReady.{AreReached}
 use Rattle.hep_step.specs.Effects.{fails}
 use Rattle.hep_proc.specs.Stacks.{stack_with}
 use Rattle.hep_proc.specs.declared.frames.Frames.{Frames}
 use Rattle.hep_state.specs.declared.core_state.CoreState.{CoreState}
-use Rattle.hep_state.specs.declared.core_state.Passing.{Passing}
+use Rattle.hep_state.specs.declared.core_state.ArgumentBuffers.{ArgumentBuffers}
 use Rattle.hep_state.specs.Words.{HasLevels, HasMadeTurn, HasPurged, HasRoomToPass, Snapshot, snapshot_of, IsToEnd, snapshot_moved, turn_of}
-use Rattle.hep_state.proofs.Beside.{beside-again, beside-shown, beside-with}
+use Rattle.hep_state.proofs.OtherProcesses.{beside-again, beside-shown, beside-with}
 use Rattle.hep_state.proofs.Purging.{reached-alike}
-use Rattle.hep_state.proofs.Unchanged.{machine-of, rooms-of}
+use Rattle.hep_state.proofs.UnchangedStates.{machine-of, rooms-of}
 use Rattle.hep_state.proofs.core_state.CoreState.purge.Goals as goal
 
 pub returns-in-Ok-clause-purged : goal.returns-in-Ok-clause-purged
@@ -38,8 +38,8 @@ returns-in-Ok-clause-purged c cells choices h at =
     let holes = ap (λ (n : Snapshot). n.arena.holes) shown in (
       stepped.stepped,
       machine-of program cells (choices ++ p ∷ []) new stepped.after rooms,
-      subst (λ (ps : Passing). HasPurged program cells choices p ps.ranges.items) (sym c.empty_targets.ensures.passing) purges,
-      subst (λ (ps : Passing). AreReached new.frames.arena ps.ranges.items) (sym c.empty_targets.ensures.passing) (reached-alike old.frames.arena new.frames.arena ranges size holes c.in-Ok.ensures.reached),
+      subst (λ (ps : ArgumentBuffers). HasPurged program cells choices p ps.ranges.items) (sym c.empty_targets.ensures.passing) purges,
+      subst (λ (ps : ArgumentBuffers). AreReached new.frames.arena ps.ranges.items) (sym c.empty_targets.ensures.passing) (reached-alike old.frames.arena new.frames.arena ranges size holes c.in-Ok.ensures.reached),
     )
 
 pub returns-in-Err-clause-purged : goal.returns-in-Err-clause-purged

@@ -4,7 +4,7 @@ use Rattle.hep_proc.specs.Stacks.{stack_of}
 use Rattle.hep_state.specs.Words.{snapshot_of}
 use Rattle.hep_state.proofs.Processes.{is-there, process-at, room-reserved, stacks-set}
 use Rattle.hep_state.proofs.Runs.{set-same}
-use Rattle.hep_state.proofs.Unchanged.{rooms-set}
+use Rattle.hep_state.proofs.UnchangedStates.{rooms-set}
 use Rattle.hep_state.proofs.core_state.CoreState.reserve_level.Goals as goal
 
 -- three facts of one outcome

@@ -1,5 +1,5 @@
 use Rattle.std.proofs.Common.{refl}
-use Rattle.hep_state.proofs.Unchanged.{shows-left}
+use Rattle.hep_state.proofs.UnchangedStates.{shows-left}
 use Rattle.hep_state.proofs.core_state.CoreState.reserve_process.Goals as goal
 
 pub returns-in_err-make_room-clause-same : goal.returns-in_err-make_room-clause-same

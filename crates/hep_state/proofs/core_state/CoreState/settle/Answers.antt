@@ -1,4 +1,4 @@
-use Rattle.hep_state.proofs.Unchanged.{as-many}
+use Rattle.hep_state.proofs.UnchangedStates.{as-many}
 use Rattle.hep_state.proofs.core_state.CoreState.settle.Goals as goal
 
 pub returns-clause-made : goal.returns-clause-made

@@ -6,11 +6,11 @@ use Rattle.hep_proc.specs.declared.process.Local.{Local}
 use Rattle.hep_proc.specs.Stacks.{stack_with}
 use Rattle.hep_proc.proofs.Levels.{last-there, some-levels}
 use Rattle.hep_state.specs.Words.{HasLevels, IsAhead, IsInFront, Snapshot, snapshot_of, with_stack, IsAfter}
-use Rattle.hep_state.proofs.Ahead.{found-ahead}
+use Rattle.hep_state.proofs.NextSteps.{found-ahead}
 use Rattle.hep_state.proofs.Processes.{process-at, room-moved, stacks-set, some-levels-at}
-use Rattle.hep_state.proofs.Tops.{settled, turning}
-use Rattle.hep_state.proofs.Taken.{inside, room-ahead}
-use Rattle.hep_state.proofs.Unchanged.{carry, machine-of, rooms-of, rooms-set, top-settled}
+use Rattle.hep_state.proofs.TopActivations.{settled, turning}
+use Rattle.hep_state.proofs.TakenTurns.{inside, room-ahead}
+use Rattle.hep_state.proofs.UnchangedStates.{carry, machine-of, rooms-of, rooms-set, top-settled}
 use Rattle.hep_state.proofs.core_state.CoreState.step_ahead.Goals as goal
 use Rattle.hep_binding.proofs.Calls.{set-numbered}
 

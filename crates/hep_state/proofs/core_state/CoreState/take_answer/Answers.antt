@@ -1,5 +1,5 @@
-use Rattle.hep_state.proofs.Returning.{IsRunningAlways, answer-untouched, running-always}
-use Rattle.hep_state.proofs.Unchanged.{rooms-of, turned-so}
+use Rattle.hep_state.proofs.ReturnTurns.{IsRunningAlways, answer-untouched, running-always}
+use Rattle.hep_state.proofs.UnchangedStates.{rooms-of, turned-so}
 use Rattle.hep_state.proofs.core_state.CoreState.take_answer.Goals.{After-tops_are_running}
 use Rattle.hep_state.proofs.core_state.CoreState.take_answer.Goals as goal
 

@@ -3,18 +3,18 @@ use Rattle.hep_machine.specs.Words.{Units, schedule_of}
 use Rattle.hep_arena.specs.Holes.{first_fit}
 use Rattle.hep_code.specs.Words.{deepest}
 use Rattle.hep_image.specs.Image.{most_cells}
-use Rattle.hep_step.specs.declared.way.Way.{Way}
-use Rattle.hep_step.specs.declared.way.Way.TheVariants.{Calls, Creates, Refers}
-use Rattle.hep_step.specs.Calls.{is_creation}
+use Rattle.hep_step.specs.declared.call_kind.CallKind.{CallKind}
+use Rattle.hep_step.specs.declared.call_kind.CallKind.TheVariants.{Calls, Creates, Refers}
+use Rattle.hep_step.specs.NextCalls.{is_creation}
 use Rattle.hep_step.specs.Effects.{fails}
 use Rattle.hep_step.specs.Simulation.{unit_code}
-use Rattle.hep_state.specs.declared.calling.Called.{Called}
+use Rattle.hep_state.specs.declared.calling.CalledUnit.{CalledUnit}
 use Rattle.hep_state.specs.declared.core_state.CoreState.{CoreState}
 use Rattle.hep_state.specs.Words.{AreNumbered, HasStepped, HoldsInTurn, IsAtCallAhead, IsMaking, IsRefused, IsTurn, IsUnit, LeavesAlone, Makes, ShowsSame, Changes, HaveRoom, Snapshot, snapshot_of, IsToEnd, HasGaps, cells_of, turn_of}
-use Rattle.hep_state.specs.declared.turn.Turned.TheVariants.{Stepped}
-use Rattle.hep_state.proofs.Beside.{beside-again, beside-shown}
+use Rattle.hep_state.specs.declared.turn.TurnOutcome.TheVariants.{Stepped}
+use Rattle.hep_state.proofs.OtherProcesses.{beside-again, beside-shown}
 use Rattle.hep_state.proofs.GivenArguments.{can-begin, stepped-given}
-use Rattle.hep_state.proofs.Unchanged.{alone, carry, rooms-of, rooms-written, shown-written, turned-so, without-memory}
+use Rattle.hep_state.proofs.UnchangedStates.{alone, carry, rooms-of, rooms-written, shown-written, turned-so, without-memory}
 use Rattle.hep_state.proofs.core_state.CoreState.take_call.Goals.{After-fits, After-reserve}
 use Rattle.hep_state.proofs.core_state.CoreState.take_call.Goals as goal
 use Rattle.hep_source.proofs.Tests.{none-from-not}
@@ -83,7 +83,7 @@ module _ (c : After-fits) where
   abbrev u : ℕ
   u = c.args.call.unit
 
-  abbrev callee : Called
+  abbrev callee : CalledUnit
   callee = record { unit = u; cells = c.unit-unit.result.now.cells; entry = c.unit-unit.result.now.entry }
 
   given-shown : snapshot_of c.give.new.self ≡ snapshot_of c.args.self.now
@@ -137,7 +137,7 @@ module _ (c : After-fits) where
     gap fits = subst (λ (m : Snapshot). IsSome (first_fit c.unit-unit.result.now.cells m.arena.holes)) (sym shown) (sym fits-so ∙ fits)
 
     -- what is made and given is so
-    making : (way : Way) → c.args.call.way ≡ way → Makes way program cells choices c.args.p new callee c.in-Ok.kept c.args.call.next
+    making : (way : CallKind) → c.args.call.way ≡ way → Makes way program cells choices c.args.p new callee c.in-Ok.kept c.args.call.next
     making way is =
         record {
           making = carry (λ i. HoldsInTurn program cells choices c.args.p (sym shown i) (λ t. IsMaking (is i) t u c.in-Ok.kept c.args.call.next (sym same.passing i).given.items (sym same.passing i).shapes.items)) made;
@@ -194,7 +194,7 @@ returns-in_ok-begin_call-clause-turned c =
 
 -- ---- CREATE
 
-creation : (way : Way) → is_creation way ≡ true → way ≡ Creates
+creation : (way : CallKind) → is_creation way ≡ true → way ≡ Creates
 creation Calls e = absurd cc
 creation Creates e = refl
 creation Refers e = absurd cc

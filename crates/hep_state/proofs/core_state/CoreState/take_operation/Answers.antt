@@ -2,8 +2,8 @@ use Rattle.std.proofs.Common.{◌≡◌, ◌<◌, ℕ, List, [], ◌∷◌, ◌+
 use Rattle.hep_machine.specs.Words.{schedule_of}
 use Rattle.hep_step.specs.declared.effect.Effect.{Effect}
 use Rattle.hep_state.specs.Words.{Changes, HaveRoom, IsWithoutCall, IsMachineAfter, Snapshot, StaysWaiting, cells_of, snapshot_of}
-use Rattle.hep_state.proofs.Beside.{beside-again, beside-shown}
-use Rattle.hep_state.proofs.Unchanged.{alone, carry, machine-of, machine-written, on-err, rooms-of, shown-written, top-shown}
+use Rattle.hep_state.proofs.OtherProcesses.{beside-again, beside-shown}
+use Rattle.hep_state.proofs.UnchangedStates.{alone, carry, machine-of, machine-written, on-err, rooms-of, shown-written, top-shown}
 use Rattle.hep_state.proofs.core_state.CoreState.take_operation.Goals.{After-reserve}
 use Rattle.hep_state.proofs.core_state.CoreState.take_operation.Goals as goal
 

@@ -6,10 +6,10 @@ use Rattle.hep_step.specs.Simulation.{unit_code}
 use Rattle.hep_proc.specs.declared.process.Local.{Local}
 use Rattle.hep_proc.specs.Stacks.{stack_with}
 use Rattle.hep_state.specs.Words.{cells_of, HasLevels, HasStepped, Snapshot, snapshot_moved, snapshot_of, snapshot_parted, turn_of}
-use Rattle.hep_state.proofs.Beside.{beside-again, beside-set, beside-shown, more-beside}
+use Rattle.hep_state.proofs.OtherProcesses.{beside-again, beside-set, beside-shown, more-beside}
 use Rattle.hep_state.proofs.Processes.{counted, none-by, process-at, room-moved, some-by, some-levels-at, stacks-set}
-use Rattle.hep_state.proofs.Taken.{inside}
-use Rattle.hep_state.proofs.Unchanged.{alone, on-err, rooms-of, rooms-set, turned-so}
+use Rattle.hep_state.proofs.TakenTurns.{inside}
+use Rattle.hep_state.proofs.UnchangedStates.{alone, on-err, rooms-of, rooms-set, turned-so}
 use Rattle.hep_state.proofs.core_state.CoreState.take_resume.Goals.{After-reserve_process}
 use Rattle.hep_state.proofs.core_state.CoreState.take_resume.Goals as goal
 

@@ -1,15 +1,15 @@
 use Rattle.std.proofs.Common.{◌≡◌, ◌≤◌, ℕ, List, None, arith, refl, sym, ap, ◌∙◌, subst}
 use Rattle.std.proofs.lemmas.Result.{IfErr-weaker, IfOk-weaker}
 use Rattle.hep_machine.specs.Words.{schedule_of}
-use Rattle.hep_blocked.specs.Rolls.{Roll}
+use Rattle.hep_blocked.specs.Rosters.{RosterValue}
 use Rattle.hep_step.specs.Effects.{returns}
 use Rattle.hep_state.specs.declared.core_state.CoreState.{CoreState}
-use Rattle.hep_state.specs.declared.turn.Turned.{Turned}
-use Rattle.hep_state.specs.declared.turn.Turned.TheVariants.{Stepped}
+use Rattle.hep_state.specs.declared.turn.TurnOutcome.{TurnOutcome}
+use Rattle.hep_state.specs.declared.turn.TurnOutcome.TheVariants.{Stepped}
 use Rattle.hep_state.specs.Words.{Changes, HasCallAhead, HasLevels, HasPurgeAhead, HasResumeAhead, HasTurned, IsAtAnswer, IsAtReturn, IsMachineAfter, IsRefused, IsSameButTop, IsSeenSame, IsToEnd, IsTurn, IsUnturned, KeepsRollFor, LeavesAlone, LeavesOthers, LeavesRest, Snapshot, cells_of, snapshot_of, turn_of}
-use Rattle.hep_state.proofs.Beside.{beside-again, beside-shown, beside-top, rest-again}
-use Rattle.hep_state.proofs.Returning.{IsRunningAlways, ends-there, running-always, untouched-there}
-use Rattle.hep_state.proofs.Unchanged.{alone-after, as-large, machine-written, own-size, rooms-of, seen-again, seen-shown, settled-same, shown-written, top-again, top-shown, without-memory, as-many, turned-so}
+use Rattle.hep_state.proofs.OtherProcesses.{beside-again, beside-shown, beside-top, rest-again}
+use Rattle.hep_state.proofs.ReturnTurns.{IsRunningAlways, ends-there, running-always, untouched-there}
+use Rattle.hep_state.proofs.UnchangedStates.{alone-after, as-large, machine-written, own-size, rooms-of, seen-again, seen-shown, settled-same, shown-written, top-again, top-shown, without-memory, as-many, turned-so}
 use Rattle.hep_state.proofs.core_state.CoreState.turn.Goals.{After-reserve, After-step_ahead}
 use Rattle.hep_state.proofs.core_state.CoreState.turn.Goals as goal
 
@@ -39,7 +39,7 @@ module _ (c : After-step_ahead) where
   large = as-large c.args.self.now between c.step_ahead.ensures.same
 
   -- a turn from there is one from before
-  turned : (t : Turned) (new : CoreState) → IsTurn c.args.image.now c.args.history.now.items c.args.p between t new → IsTurn c.args.image.now c.args.history.now.items c.args.p c.args.self.now t new
+  turned : (t : TurnOutcome) (new : CoreState) → IsTurn c.args.image.now c.args.history.now.items c.args.p between t new → IsTurn c.args.image.now c.args.history.now.items c.args.p c.args.self.now t new
   turned t new h = subst (λ n. HasTurned c.args.image.now n choices c.args.p t new) large h
 
 -- ---- CALL, CREATE and references
@@ -241,7 +241,7 @@ returns-in_ok-reserve-in-Return-clause-turned c =
 
 -- ---- who is ready and who waits stays, where no process is made
 
-kept-for : (m : CoreState) (roster : Roll) → m.made ≤ roster.room → KeepsRollFor m roster roster
+kept-for : (m : CoreState) (roster : RosterValue) → m.made ≤ roster.room → KeepsRollFor m roster roster
 kept-for m roster room = record { numbers = room; kept = record { grows = omega arith; ready = λ q. refl; waiting = λ q. refl; last = refl } }
 
 pub returns-in_err-reserve-in-Purge-clause-roster : goal.returns-in_err-reserve-in-Purge-clause-roster
@@ -289,7 +289,7 @@ module _ (c : After-step_ahead) where
       let mid = snapshot_of (between c) in
       beside-again c.args.p old mid new (beside-top c.args.p c.args.image.now old mid c.requires.living settled-top) h
 
-  rest-looked : (turned : Turned) (new : Snapshot) → LeavesRest turned c.args.image.now c.args.p (snapshot_of (between c)) new → LeavesRest turned c.args.image.now c.args.p (snapshot_of c.args.self.now) new
+  rest-looked : (turned : TurnOutcome) (new : Snapshot) → LeavesRest turned c.args.image.now c.args.p (snapshot_of (between c)) new → LeavesRest turned c.args.image.now c.args.p (snapshot_of c.args.self.now) new
   rest-looked turned new h = rest-again c.args.image.now c.args.p turned (snapshot_of c.args.self.now) (snapshot_of (between c)) new c.requires.living settled-top h
 
   -- and room was made

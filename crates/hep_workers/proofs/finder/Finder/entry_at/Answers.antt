@@ -1,7 +1,7 @@
 use Rattle.std.proofs.Common.{◌≡◌, ◌≤◌, drop, slice_get, ℕ, ◌+◌, List, refl, sym, ap, subst, ◌∙◌, arith}
 use Rattle.hep_machine.specs.declared.event.Entry.{Entry}
 use Rattle.hep_workers.specs.declared.finder.Finder.TheInside.{Inside}
-use Rattle.hep_workers.proofs.Passing.{next_there, passed_to}
+use Rattle.hep_workers.proofs.SpanLooking.{next_there, passed_to}
 use Rattle.hep_workers.proofs.finder.Finder.entry_at.Goals.{After-next, then-index-self, else-index-self}
 use Rattle.hep_workers.proofs.finder.Finder.entry_at.Goals as goal
 

@@ -1,0 +1,17 @@
+//! Numbers as text.
+ghost use Rattle.std.specs.Prelude.{◌≡◌, ◌++◌, OnOk};
+
+use itoa::{Buffer, Integer};
+use std::alloc::AllocError;
+
+/// Appends a number in decimal.
+///
+/// # Errors
+///
+/// Only where memory was refused.
+pub fn append_number<I: Integer>(text: &mut Vec<u8>, number: I) -> Result<(), AllocError>
+    ensures { OnOk result (text.new.items ≡ text.old.items ++ I.text number) }
+{
+    let mut buffer = Buffer::new();
+    text.extend_from_slice(buffer.format(number).as_bytes())
+}

@@ -1,9 +1,0 @@
-use Rattle.std.proofs.Common.{◌≡◌, drop}
-use Rattle.hep_conditions.specs.Words.{function_types}
-use Rattle.hep_check.specs.Forms as words
-use Rattle.hep_check.specs.Trees.{either}
-use Rattle.hep_check.proofs.forms.wrong_conditions.Given as goal
-
-abbrev pub invariant-loop-condition : goal.invariant-loop-condition
-invariant-loop-condition l =
-    either l.found (words.wrong_conditions (function_types l.program) l.symbols (drop l.condition-index l.conditions)) ≡ words.wrong_conditions (function_types l.program) l.symbols l.conditions

@@ -1,6 +1,0 @@
-use Rattle.std.proofs.Common.{◌≡◌, map, take}
-use Rattle.hep_machine.specs.Variables as variables
-use Rattle.hep_check.proofs.frames.frames.Given as goal
-
-abbrev pub invariant-loop-symbols : goal.invariant-loop-symbols
-invariant-loop-symbols l = l.frames.items ≡ map variables.frame_cells (take l.symbols-index l.symbols-items)

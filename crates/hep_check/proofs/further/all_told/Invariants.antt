@@ -1,6 +1,0 @@
-use Rattle.std.proofs.Common.{◌≡◌, map, take}
-use Rattle.hep_check.specs.Further as words
-use Rattle.hep_check.proofs.further.all_told.Given as goal
-
-abbrev pub invariant-loop-violation : goal.invariant-loop-violation
-invariant-loop-violation l = l.all.items ≡ map (words.as_told l.faults) (take l.violation-index l.violations)

@@ -1,7 +1,0 @@
-use Rattle.std.proofs.Common.{◌≡◌, ◌++◌, drop}
-use Rattle.hep_check.specs.Further as words
-use Rattle.hep_check.proofs.further.others.Given as goal
-
-abbrev pub invariant-loop-violation : goal.invariant-loop-violation
-invariant-loop-violation l =
-    l.left.items ++ words.others l.first l.last (drop l.violation-index l.found) ≡ words.others l.first l.first l.found

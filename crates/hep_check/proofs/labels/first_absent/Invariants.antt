@@ -1,7 +1,0 @@
-use Rattle.std.proofs.Common.{◌≡◌, drop}
-use Rattle.std.specs.Prelude.{find}
-use Rattle.hep_check.specs.Culprits.{is_absent}
-use Rattle.hep_check.proofs.labels.first_absent.Given as goal
-
-abbrev pub invariant-loop-label : goal.invariant-loop-label
-invariant-loop-label l = find (is_absent l.labels) (drop l.label-index l.wanted) ≡ find (is_absent l.labels) l.wanted

@@ -1,5 +1,0 @@
-use Rattle.hep_machine.specs.Words.{nodes}
-use Rattle.hep_check.proofs.trees.+first_name.Given as goal
-
-abbrev pub decreases-first_name : goal.decreases-first_name
-decreases-first_name l = nodes l.expression.now

@@ -1,8 +1,0 @@
-use Rattle.std.proofs.Common.{◌≡◌, ◌++◌, drop}
-use Rattle.std.specs.List.{flat_map}
-use Rattle.hep_check.specs.Told.{told_in}
-use Rattle.hep_check.proofs.walk.told.Given as goal
-
-abbrev pub invariant-loop-symbols : goal.invariant-loop-symbols
-invariant-loop-symbols l =
-    l.found.items ++ flat_map (told_in l.program) (drop l.symbols-index l.symbols-items) ≡ flat_map (told_in l.program) l.symbols-items

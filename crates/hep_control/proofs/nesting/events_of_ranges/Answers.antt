@@ -1,0 +1,16 @@
+use Rattle.std.proofs.Common.{◌+◌, [], ◌∷◌, ◌++◌, ap, drop, ◌∙◌}
+use Rattle.hep_control.specs.declared.sweep.Event.TheVariants.{Question}
+use Rattle.hep_control.specs.Nesting.{question_of_range}
+use Rattle.hep_control.proofs.AddedLines.{pushed}
+use Rattle.hep_control.proofs.nesting.events_of_ranges.Goals as goal
+use Rattle.hep_source.proofs.Tests.{drop_at}
+
+pub loop-range-preserved : goal.loop-range-preserved
+loop-range-preserved c =
+    let xs = c.args.ranges.now in
+    let i = c.loop-range.range-index in
+    let x = c.range-item.result in
+    let found = c.loop-range.events.items in
+    pushed (question_of_range c.args.unit.now) found c.push.new.self.items _ x (drop i xs) (drop (i + 1) xs) c.loop-range.invariant
+    (c.in_ok-push.ensures.items ∙ ap (λ e. found ++ (e ∷ [])) (c.question.ensures ∙ ap (λ line. Question x.start x.start x.terminal line) c.line_at.ensures))
+    (drop_at xs i x c.loop-range-test.true c.range-item.is)

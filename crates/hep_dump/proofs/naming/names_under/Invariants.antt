@@ -1,7 +1,0 @@
-use Rattle.std.proofs.Common.{◌≡◌, ◌++◌, drop}
-use Rattle.std.specs.List.{flat_map}
-use Rattle.hep_dump.specs.Naming.{names_in_statement}
-use Rattle.hep_dump.proofs.naming.names_under.Given as goal
-
-abbrev pub invariant-loop-statement : goal.invariant-loop-statement
-invariant-loop-statement l = l.names.items ++ flat_map (names_in_statement l.block) (drop l.statement-index l.unit) ≡ flat_map (names_in_statement l.block) l.unit

@@ -1,6 +1,0 @@
-use Rattle.std.proofs.Common.{◌≡◌, drop}
-use Rattle.hep_dump.specs.Naming.{owner_among}
-use Rattle.hep_dump.proofs.naming.owner_among.Given as goal
-
-abbrev pub invariant-loop-name : goal.invariant-loop-name
-invariant-loop-name l = owner_among l.symbols (drop l.name-index l.names) l.left ≡ owner_among l.symbols l.names l.cell

@@ -1,9 +1,0 @@
-use Rattle.std.proofs.Common.{◌≡◌, suc, ◌++◌, ◌-◌, length}
-use Rattle.hep_core.specs.Value.{state_of}
-use Rattle.hep_dump.specs.Stops as words
-use Rattle.hep_dump.proofs.stops.append_places.Given as goal
-
-abbrev pub invariant-loop-before : goal.invariant-loop-before
-invariant-loop-before l =
-    l.text.items ++ words.places_notes l.core.core.program l.core.core.history (suc l.before) (length (state_of l.core.core).processes - l.before)
-    ≡ l.initial.text.items ++ words.all_places_notes l.core.core.program l.core.core.history

@@ -1,7 +1,0 @@
-use Rattle.std.proofs.Common.{◌≡◌, drop}
-use Rattle.std.specs.Prelude.{find}
-use Rattle.hep_dump.specs.Wants.{is_at}
-use Rattle.hep_dump.proofs.wants.wants_at.Given as goal
-
-abbrev pub invariant-loop-statement : goal.invariant-loop-statement
-invariant-loop-statement l = find (is_at l.line) (drop l.statement-index l.statement-items) ≡ find (is_at l.line) l.symbols

@@ -1,8 +1,0 @@
--- How long lists are.
-use Rattle.std.proofs.Common.{◌≡◌, suc, List, [], ◌∷◌, length, refl, ap}
-use Rattle.hep_machine.specs.Words.{Tree, trees_of}
-use Rattle.hep_code.specs.Words.{count}
-
-pub count_length : (ts : List Tree) → count (trees_of ts) ≡ length ts
-count_length [] = refl
-count_length (t ∷ ts) = ap suc (count_length ts)

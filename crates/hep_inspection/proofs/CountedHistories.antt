@@ -1,0 +1,96 @@
+-- Histories counted one after the other; and what is left of a source whose lines are told.
+use Rattle.std.proofs.Common.{◌≡◌, ℕ, ◌+◌, ◌<◌, ◌≤◌, List, [], ◌∷◌, ◌++◌, Bool, Option, Result, Some, None, inl, inr, length, drop, get_or, refl, sym, subst, ap, ◌∙◌, IfOk}
+use Rattle.std.proofs.lemmas.List.{drop_all, drop_more}
+use Rattle.std.specs.Io.KnownBytes.{Consumes, IsAtEnd}
+use Rattle.hep_cover.specs.StatementStarts.{operations_by_line}
+use Rattle.hep_cover.specs.Coverage.{counted_in, counted_in_all, unbegun}
+use Rattle.hep_cover.specs.Lines.{lines_text}
+use Rattle.hep_machine.specs.declared.event.Entry.{Entry}
+use Rattle.hep_machine.specs.Words.{Units}
+use Rattle.hep_text.specs.Line.{lines}
+use Rattle.hep_run.specs.declared.options.Run.{Run}
+use Rattle.hep_outcome.specs.declared.transcript.Transcript.{Transcript}
+use Rattle.hep_run.specs.Checks.{outcome_of_text}
+use Rattle.hep_run.specs.Delivery.{LeavesOfSource, status_alone}
+use Rattle.hep_outcome.specs.Outcome.{Outcome}
+use Rattle.hep_run.specs.Sources.{IsRefusedProgram, IsRunnable}
+use Rattle.hep_outcome.specs.Transcripts.{outcome_of}
+use Rattle.hep_run.specs.Transcripts.{LeavesMade}
+use Rattle.hep_run.proofs.Accepted.{left_alone}
+use Rattle.hep_run.proofs.Fronts.{read_left, same_outcome}
+use Rattle.hep_run.proofs.Outcomes.{made_left}
+use Rattle.hep_inspection.specs.CountedHistories.{IsCountedOrRefused}
+use Rattle.hep_inspection.specs.Covers.{CoversFrom, IsCovered, IsSourceCovered}
+use Rattle.hep_inspection.specs.declared.cover.LineCounts.{LineCounts}
+use Rattle.hep_inspection.specs.declared.origin.Origin.{Origin}
+use Rattle.hep_inspection.proofs.Remaking.{history-none}
+
+module _ (long : Bool) (cells : ℕ) (source : List ℕ) (program : Units) where
+  abbrev operations : List ℕ
+  operations = operations_by_line program (length (lines source))
+
+  -- the histories of the origins in front were counted
+  pub record IsAlong (origins left : List Origin) (c : LineCounts) : Type 0 where
+    pub before : List (List Entry)
+    pub operations_are : c.operations.items ≡ operations
+    pub counts_are : c.counts.items ≡ counted_in_all program operations before (unbegun program (length (lines source)))
+    pub covers : (o : Outcome) → CoversFrom long cells source program o before left → CoversFrom long cells source program o [] origins
+
+  pub along-begins : (origins : List Origin) (c : LineCounts) → c.operations.items ≡ operations → c.counts.items ≡ unbegun program (length (lines source)) → IsAlong origins origins c
+  along-begins origins c operations_are counts_are = record { before = []; operations_are = operations_are; counts_are = counts_are; covers = λ o h. h }
+
+  one-more : (ops : List ℕ) (before : List (List Entry)) (entries : List Entry) (counts : List (Option ℕ))
+      → counted_in_all program ops (before ++ entries ∷ []) counts ≡ counted_in program ops entries (counted_in_all program ops before counts)
+  one-more ops [] entries counts = refl
+  one-more ops (b ∷ bs) entries counts = one-more ops bs entries (counted_in program ops b counts)
+
+  along-next : (origins left : List Origin) (origin : Origin) (old new : LineCounts) → IsAlong origins (origin ∷ left) old → IsCountedOrRefused long cells program origin old new None → IsAlong origins left new
+  along-next origins left origin old new a (entries, is, same, counted) =
+      record {
+        before = a.before ++ entries ∷ [];
+        operations_are = same ∙ a.operations_are;
+        counts_are =
+            counted ∙ (λ i. counted_in program (a.operations_are i) entries (a.counts_are i))
+            ∙ sym (one-more operations a.before entries (unbegun program (length (lines source))));
+        covers = λ o h. a.covers o (inr (entries, is, h));
+      }
+
+  -- ---- one origin after the other
+
+  pub along-ends : (origins : List Origin) (c : LineCounts) (o : Outcome) → IsAlong origins [] c → o ≡ outcome_of_text (lines_text c.counts.items 0 (lines source)) → IsCovered long cells origins source program o
+  along-ends origins c o a is = a.covers o (is ∙ ap (λ counts. outcome_of_text (lines_text counts 0 (lines source))) a.counts_are)
+
+  module _ (origins : List Origin) (i : ℕ) (origin : Origin) (old new : LineCounts) (less : i < length origins) (read : origin ≡ get_or origins i origin) (a : IsAlong origins (drop i origins) old) where
+    here : IsAlong origins (origin ∷ drop (i + 1) origins) old
+    here = subst (λ (os : List Origin). IsAlong origins os old) (drop_more origins i origin less ∙ ap (λ (x : Origin). x ∷ drop (i + 1) origins) (sym read)) a
+
+    pub step-refused : (t : Transcript) → IsCountedOrRefused long cells program origin old new (Some t) → IsCovered long cells origins source program (outcome_of t)
+    step-refused t refused = here.covers (outcome_of t) (inl refused)
+
+    pub step-counted : IsCountedOrRefused long cells program origin old new None → IsAlong origins (drop (i + 1) origins) new
+    step-counted counted = along-next origins (drop (i + 1) origins) origin old new here counted
+
+  pub all-counted : (origins : List Origin) (i : ℕ) (c : LineCounts) → length origins ≤ i → IsAlong origins (drop i origins) c → IsAlong origins [] c
+  all-counted origins i c past a = subst (λ (os : List Origin). IsAlong origins os c) (drop_all i origins past) a
+
+-- ---- what is left of a source
+
+module _ (long : Bool) (cells : ℕ) (origins : List Origin) where
+  none-kept : (source : List ℕ) (program : Units) (o : Outcome) (before : List (List Entry)) (left : List Origin) → CoversFrom long cells source program o before left → o.history ≡ []
+  none-kept source program o before [] is = ap (λ (x : Outcome). x.history) is
+  none-kept source program o before (origin ∷ left) (inl refused) = history-none long cells program o origin refused
+  none-kept source program o before (origin ∷ left) (inr (entries, is, h)) = none-kept source program o (before ++ entries ∷ []) left h
+
+  keeps-none : (source : List ℕ) (o : Outcome) → IsSourceCovered long cells origins source o → o.history ≡ []
+  keeps-none source o (inl (number, line, name, notes, refused, are, is)) = ap (λ (x : Outcome). x.history) is
+  keeps-none source o (inr (program, holds, h)) = none-kept source program o [] origins h
+
+  -- what was made of the bytes that were read is left of the reader's bytes
+  pub cover-left : {E : Type 0} (known left : Option (List ℕ)) (bytes source : List ℕ) (r : Result Transcript E) (run : Run) (output output' messages messages' : Option (List ℕ))
+      → source ≡ bytes → Consumes known left bytes → (length bytes ≤ 4194304 → IsAtEnd left) → IfOk r (λ t. IsSourceCovered long cells origins source (outcome_of t))
+      → LeavesMade r run output output' messages messages'
+      → LeavesOfSource (IsSourceCovered long cells origins) known left (status_alone run.status) output output' messages messages'
+  cover-left known left bytes source r run output output' messages messages' same taken end is made =
+      read_left (IsSourceCovered long cells origins) (same_outcome long IsRefusedProgram IsRunnable (λ its. IsCovered long cells origins its)) known left bytes source (status_alone run.status) output output' messages messages' same taken end (
+      left_alone (IsSourceCovered long cells origins source) (keeps-none source) run output output' messages messages' (
+      made_left (IsSourceCovered long cells origins source) r run output output' messages messages' is made))

@@ -1,0 +1,40 @@
+-- Texts about the first entries of a history: docs/RUNS.md, "What everything holds", "What each step did" and "Why
+-- processes wait".
+use Rattle.std.specs.Prelude.{◌≡◌, ◌⊎◌, ℕ, Bool, List, length, take}
+use Rattle.hep_machine.specs.declared.event.Entry.{Entry}
+use Rattle.hep_machine.specs.Words.{Units}
+use Rattle.hep_cover.specs.CausesReasons.{why_text}
+use Rattle.hep_state_text.specs.States.{state_text}
+use Rattle.hep_state_text.specs.LineDisplay.{line_shown}
+use Rattle.hep_text.specs.Line.{lines}
+use Rattle.hep_diff.specs.EventTraces.{trace_text}
+use Rattle.hep_trace.specs.LineFilters.{shown_on}
+use Rattle.hep_inspection.specs.Covers.{AreRefused, CanBeMade}
+use Rattle.hep_inspection.specs.Origins.{HasEntries, HasNoEntries}
+use Rattle.hep_inspection.specs.declared.origin.Origin.{Origin}
+use Rattle.hep_inspection.specs.declared.inspection.Inspection.{Inspection}
+use Rattle.hep_inspection.specs.declared.inspection.Inspection.TheVariants.{State, Trace, Why}
+use Rattle.hep_run.specs.Checks.{outcome_of_text}
+use Rattle.hep_outcome.specs.Outcome.{Outcome}
+use Rattle.hep_run.specs.Outcome.{RunsTo}
+
+-- the text about entries of a source: the state after them, a line for each step, or why processes wait
+abbrev pub told : Inspection → List ℕ → Units → List Entry → List ℕ
+told State source program entries = state_text (line_shown (lines source)) program (length entries) entries
+told (Trace page) source program entries = trace_text program (shown_on page) entries
+told Why source program entries = why_text program entries
+
+-- what is written about these entries: the text; or why they can't be made
+abbrev pub IsToldOutcome : Inspection → Bool → List ℕ → Units → ℕ → List Entry → Outcome → Type 0
+IsToldOutcome telling long source program cells entries o =
+    AreRefused long cells program o entries ⊎ (CanBeMade program cells entries × (o ≡ outcome_of_text (told telling source program entries)))
+
+-- of the first entries of the history of this origin, so many, or all where it has no more
+abbrev pub IsFirstOutcome : Inspection → Bool → Origin → ℕ → ℕ → List ℕ → Units → Outcome → Type 0
+IsFirstOutcome telling long origin count cells source program o =
+    HasNoEntries program origin o
+    ⊎ ((entries : List Entry) × HasEntries program origin entries × IsToldOutcome telling long source program cells (take count entries) o)
+
+-- of a source
+abbrev pub IsSourceTold : Inspection → Bool → Origin → ℕ → ℕ → List ℕ → Outcome → Type 0
+IsSourceTold telling long origin count cells source o = RunsTo long (IsFirstOutcome telling long origin count cells source) source o

@@ -1,0 +1,7 @@
+use Rattle.std.proofs.Common.{◌≡◌, drop}
+use Rattle.std.specs.List.{flat_map}
+use Rattle.hep_conditions.specs.Words.{function_types, untyped_in, first_of, first_of_two}
+use Rattle.hep_names.proofs.untyped_names.type_missing_violation.Given as goal
+
+abbrev pub invariant-loop-statement : goal.invariant-loop-statement
+invariant-loop-statement l = first_of_two l.first (first_of (flat_map (untyped_in (function_types l.program) l.symbols) (drop l.statement-index l.statement-items))) ≡ first_of (flat_map (untyped_in (function_types l.program) l.symbols) l.statement-items)

@@ -1,5 +1,0 @@
-use Rattle.std.proofs.Common.{length}
-use Rattle.hep_places.proofs.bounds.+add_dimensions.Given as goal
-
-abbrev pub decreases-add_dimensions : goal.decreases-add_dimensions
-decreases-add_dimensions l = length l.dimensions.now

@@ -1,5 +1,0 @@
-use Rattle.std.proofs.Common.{◌≡◌, ◌++◌, replicate}
-use Rattle.hep_replay.proofs.following.append_alike.Given as goal
-
-abbrev pub invariant-loop : goal.invariant-loop
-invariant-loop l = l.choices.items ≡ l.fn.choices.items ++ replicate l.counter l.run.process

@@ -1,0 +1,21 @@
+use Rattle.std.proofs.Common.{inl}
+use Rattle.std.proofs.KnownBytes.{Keeps-refl}
+use Rattle.hep_outcome.specs.RunsByLots.{IsDrawnOutcome}
+use Rattle.hep_run.specs.Sources.{IsRefusedProgram, IsRunnable}
+use Rattle.hep_run.proofs.Fronts.{source_left}
+use Rattle.hep_run.proofs.LargeSources.{large-source}
+use Rattle.hep_run.proofs.run_by_lots.lots_noted.Goals as goal
+
+pub returns-in-Ok-clause-left : goal.returns-in-Ok-clause-left
+returns-in-Ok-clause-left g c =
+    source_left c.args.asked.now.long IsRefusedProgram IsRunnable (λ program. IsDrawnOutcome c.args.asked.now.long program c.args.asked.now.options.now) _ _ c.in-Ok.bytes.items _ _ _ _ _ _ c.deref.ensures.value c.in-Ok.ensures.first c.in-Ok.ensures.all c.lots_bytes.ensures.left
+
+pub returns-in-Err-clause-left : goal.returns-in-Err-clause-left
+returns-in-Err-clause-left g c = inl (Keeps-refl _, c.new.ensures.items, (c.in-Err.ensures.lost, _, c.say_unread.ensures))
+
+pub returns-in-Ok-clause-large : goal.returns-in-Ok-clause-large
+returns-in-Ok-clause-large g c =
+    large-source c.args.asked.now.long _ _ c.in-Ok.bytes.items _ _ _ _ _ _ c.deref.ensures.value c.in-Ok.ensures.first c.in-Ok.ensures.all c.lots_bytes.ensures.large
+
+pub returns-in-Err-clause-large : goal.returns-in-Err-clause-large
+returns-in-Err-clause-large g c = λ short large. inl (Keeps-refl _, (c.in-Err.ensures.lost, _, c.say_unread.ensures))

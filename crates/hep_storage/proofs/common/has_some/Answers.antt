@@ -1,5 +1,0 @@
-use Rattle.hep_storage.proofs.Sharing.{some-place}
-use Rattle.hep_storage.proofs.common.has_some.Goals as goal
-
-pub returns-then-run-gt0 : goal.returns-then-run-gt0
-returns-then-run-gt0 c = some-place c.args.runs.now c.loop-run.run-index _ _ c.loop-run-test.true c.loop-run.invariant c.if-run-gt0.true

@@ -1,5 +1,0 @@
-use Rattle.hep_storage.proofs.Listings.{pushed}
-use Rattle.hep_storage.proofs.contents.push.Goals as goal
-
-pub returns : goal.returns
-returns c = pushed c.args.runs.now.items c.push.new.self.items c.args.run c.in_ok-push.ensures.items

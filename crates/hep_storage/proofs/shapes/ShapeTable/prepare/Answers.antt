@@ -1,9 +1,0 @@
-use Rattle.indexmap.specs.IndexMap.{get}
-use Rattle.hep_machine.specs.Words.{name_eq}
-use Rattle.hep_storage.proofs.ArrayShapes.{table-turn}
-use Rattle.hep_storage.proofs.shapes.ShapeTable.prepare.Goals as goal
-
-pub returns-in_ok-insert-clause-table : goal.returns-in_ok-insert-clause-table
-returns-in_ok-insert-clause-table c =
-    table-turn c.args.symbols.now c.args.self.now.constants (get name_eq c.args.self.now.shapes) (get name_eq c.insert.new.self) c.args.name.now c.array_shape.result _ c.dimensions.result.now
-    c.requires.table (λ y. c.in_ok-insert.ensures.updates.0 y) c.array_shape.ensures c.in_ok-bounds.ensures c.dimensions.ensures

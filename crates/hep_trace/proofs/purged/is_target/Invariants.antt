@@ -1,5 +1,0 @@
-use Rattle.hep_trace.proofs.Sought.{AreSought}
-use Rattle.hep_trace.proofs.purged.is_target.Given as goal
-
-abbrev pub invariant-loop-entry : goal.invariant-loop-entry
-invariant-loop-entry l = AreSought l.ahead l.count l.name l.entry-index l.rest

@@ -1,5 +1,0 @@
-use Rattle.hep_trace.proofs.Written.{AreWritten}
-use Rattle.hep_trace.proofs.targets.append_targets.Given as goal
-
-abbrev pub invariant-loop-entry : goal.invariant-loop-entry
-invariant-loop-entry l = AreWritten l.ahead l.count l.entry-index l.rest l.text.items l.initial.text.items

@@ -1,6 +1,0 @@
-use Rattle.std.proofs.Common.{◌≡◌, drop}
-use Rattle.hep_warnings.specs.Creates.{is_variable}
-use Rattle.hep_warnings.proofs.creates.is_variable.Given as goal
-
-abbrev pub invariant-loop-one : goal.invariant-loop-one
-invariant-loop-one l = is_variable (drop l.one-index l.around) l.name ≡ is_variable l.around l.name

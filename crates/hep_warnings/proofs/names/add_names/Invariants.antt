@@ -1,8 +1,0 @@
-use Rattle.std.proofs.Common.{◌≡◌, ◌++◌, drop}
-use Rattle.std.specs.List.{flat_map}
-use Rattle.hep_warnings.specs.Names.{name_warning}
-use Rattle.hep_warnings.proofs.names.add_names.Given as goal
-
-abbrev pub invariant-loop-name : goal.invariant-loop-name
-invariant-loop-name l =
-    l.found.items ++ flat_map (name_warning l.unit l.line) (drop l.name-index l.names) ≡ l.initial.found.items ++ flat_map (name_warning l.unit l.line) l.names

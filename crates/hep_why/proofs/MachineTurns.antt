@@ -1,0 +1,98 @@
+-- A machine that makes turns again: who has a step has its turn, and what turns came to.
+use Rattle.std.proofs.Common.{◌≡◌, ◌≢◌, ℕ, zero, suc, ◌<◌, Bool, true, false, true≢false, List, [], ◌∷◌, ◌++◌, Option, Some, None, IsSome, is_some, if◌then◌else◌, refl, sym, ap, ◌∙◌, subst, arith, nat_eq}
+use Rattle.std.proofs.lemmas.Bool.{eqb-false, eqb-true}
+use Rattle.hep_blocked.proofs.LivingProcesses.{waits-idle}
+use Rattle.hep_cells.specs.declared.want.Want.{Want}
+use Rattle.hep_replay.proofs.Histories.{schedule-stepped}
+use Rattle.hep_replay.specs.SilentChoices.{entries_along}
+use Rattle.hep_event.specs.AdvanceSilentRuns.{CanTakeTurns, HasGone}
+use Rattle.hep_event.specs.AdvanceSilentRuns as gone
+use Rattle.hep_machine.specs.declared.event.Entry.{Entry}
+use Rattle.hep_machine.specs.Step.{state_made, step_result_of_top}
+use Rattle.hep_machine.specs.Words.{State, Units, living, run, schedule_of, step, step_result_of}
+use Rattle.hep_fast.specs.declared.decoded_image.DecodedImage.{DecodedImage}
+use Rattle.hep_state.specs.declared.core_state.CoreState.{CoreState}
+use Rattle.hep_state.specs.declared.turn.TurnFault.TheVariants.{ArenaFull}
+use Rattle.hep_state.specs.declared.turn.TurnOutcome.{TurnOutcome}
+use Rattle.hep_state.specs.declared.turn.TurnOutcome.TheVariants.{Purged, Stepped, Waits}
+use Rattle.hep_state.specs.Words.{Changes, HasLevels, HasTurned, IsMachineAfter, IsUnturned, snapshot_of}
+use Rattle.hep_views.proofs.WaitingPlaces.{living-top}
+use Rattle.hep_why.specs.declared.replay_machine.ReplayMachine.{ReplayMachine}
+use Rattle.hep_why.specs.WatchedReplay.{CanGoAgain, CanTurnAgain, made_by}
+
+-- ---- who has a step
+
+module _ (program : Units) (p : ℕ) (s : State) where
+  dead-steps : living s p ≡ None → step program p s ≡ None
+  unfolding step_result_of
+  dead-steps e = by s.halted where
+    by : (b : Bool) → (if b then None else state_made (step_result_of_top program s p (living s p))) ≡ None
+    by true = refl
+    by false = ap (λ t. state_made (step_result_of_top program s p t)) e
+
+  -- lives
+  pub who-steps-lives : step program p s ≢ None → IsSome (living s p)
+  who-steps-lives some = by (living s p) refl where
+    by : (o : Option _) → living s p ≡ o → is_some o ≡ true
+    by None e = absurd (some (dead-steps e))
+    by (Some top) e = refl
+
+  -- and the machine hasn't halted
+  pub who-steps-runs : step program p s ≢ None → s.halted ≡ false
+  who-steps-runs some = by s.halted refl where
+    by : (b : Bool) → s.halted ≡ b → b ≡ false
+    by true e = absurd (some (ap (λ b. if b then None else state_made (step_result_of program p s)) e))
+    by false e = refl
+
+module _ (program : Units) (p : ℕ) (again : ReplayMachine) (h : CanTurnAgain program p again) where
+  pub running-now : again.machine.halted ≡ false
+  running-now = h.after.after.shows.halted ∙ who-steps-runs program p (run program (made_by again)) h.steps
+
+  pub living-now : HasLevels (snapshot_of again.machine) p
+  living-now = (living-top program h.cells (made_by again) again.machine h.after p (who-steps-lives program p (run program (made_by again)) h.steps)).is_top.levels
+
+  -- it doesn't wait
+  pub not-waiting : (want : Want) (new : CoreState) → HasTurned program h.cells (made_by again) p (Waits want) new → ⊥
+  not-waiting want new turned = h.steps (waits-idle program p (run program (made_by again)) (ap is_some turned.0.waits))
+
+  -- its frame has a gap
+  pub not-full : IsUnturned ArenaFull program h.cells (made_by again) p → ⊥
+  not-full none = true≢false (sym h.laid ∙ ap is_some none.full)
+
+-- what goes on takes turns
+pub can-go : (tabled : DecodedImage) (p : ℕ) (again : ReplayMachine) → CanGoAgain tabled p again → CanTakeTurns tabled p again.machine
+can-go tabled p again h = record {
+  turn = record {
+    after = (h.turn.cells, made_by again, h.turn.after);
+    running = running-now tabled.image.now p again h.turn;
+    living = living-now tabled.image.now p again h.turn;
+  };
+  tables = h.tables;
+}
+
+-- ---- what turns came to
+
+-- a turn that was a step
+pub stepped : (us : Units) (cells : ℕ) (before : List ℕ) (p : ℕ) (turned : TurnOutcome) (new : CoreState) → ((want : Want) → turned ≢ Waits want) → HasTurned us cells before p turned new → IsMachineAfter us cells (before ++ p ∷ []) new
+stepped us cells before p (Stepped changed) new other h = h.1
+stepped us cells before p Purged new other h = h.1
+stepped us cells before p (Waits want) new other h = absurd (other want refl)
+
+module _ (program : Units) (cells p : ℕ) (history : List Entry) where
+  -- turns that were made, as entries
+  pub gone-along : (choices : List ℕ) (n : ℕ) (after : List ℕ) → HasGone program cells p choices n after → choices ≡ schedule_of history → after ≡ schedule_of (entries_along history p n)
+  gone-along _ _ _ (gone.none choices) is = is
+  gone-along _ _ _ (gone.more choices n after going plain) is =
+      ap (λ ps. ps ++ p ∷ []) (gone-along choices n after going is) ∙ sym (schedule-stepped (entries_along history p n) p)
+
+  -- each of them fills and empties nothing
+  pub gone-quietly : (choices : List ℕ) (n : ℕ) (after : List ℕ) → HasGone program cells p choices n after → choices ≡ schedule_of history
+      → (k : ℕ) → k < n → Changes program cells (schedule_of (entries_along history p k)) p None
+  gone-quietly _ _ _ (gone.none choices) is k less = absurd (omega (arith, less))
+  gone-quietly _ _ _ (gone.more choices n after going plain) is k less = by (λ before. gone-quietly choices n after going is k before) (nat_eq k n) refl
+    where
+      by : (k < n → Changes program cells (schedule_of (entries_along history p k)) p None) → (b : Bool) → nat_eq k n ≡ b → Changes program cells (schedule_of (entries_along history p k)) p None
+      by earlier true t =
+          subst (λ j. Changes program cells (schedule_of (entries_along history p j)) p None) (sym (eqb-true k n t)) (
+          subst (λ ps. Changes program cells ps p None) (gone-along choices n after going is) plain.unchanged)
+      by earlier false t = let not = eqb-false k n t in earlier (grind (arith, less, not))

@@ -1,5 +1,0 @@
-use Rattle.hep_why.specs.Notes.{HaveWalked}
-use Rattle.hep_why.proofs.circles.firsts.Given as goal
-
-abbrev pub invariant-loop-first : goal.invariant-loop-first
-invariant-loop-first l = HaveWalked l.nexts l.visits.items l.noted.items l.first

@@ -1,6 +1,0 @@
-use Rattle.std.proofs.Common.{◌≡◌, ◌++◌, drop, map}
-use Rattle.hep_why.specs.Circles.{next_of, nexts_of}
-use Rattle.hep_why.proofs.nexts.nexts_of.Given as goal
-
-abbrev pub invariant-loop-reason : goal.invariant-loop-reason
-invariant-loop-reason l = l.nexts.items ++ map (next_of l.reasons) (drop l.reason-index l.reasons) ≡ nexts_of l.reasons

@@ -1,0 +1,52 @@
+-- The step of a history that filled or emptied a storage unit last: docs/RUNS.md, "Why processes wait".
+use Rattle.std.specs.Prelude.{ℕ, suc, Bool, ◌&&◌, not, nat_le, if◌then◌else◌, List, [], ◌∷◌, ◌++◌, length, replicate, Option, None}
+use Rattle.std.specs.Option.{option_map}
+use Rattle.hep_machine.specs.declared.event.Entry.{Entry}
+use Rattle.hep_machine.specs.Words.{Location, State, Units, common, local, opening, same_logical, state_after_turn}
+use Rattle.hep_views.specs.declared.whereabouts.Whereabouts.{Whereabouts}
+use Rattle.hep_event.specs.CoreStanding.{whereabouts_by}
+use Rattle.hep_why.specs.declared.reason.Change.{Change}
+
+-- ---- one step
+
+-- the activation whose variable a storage unit is, 0 where it is in COMMON
+abbrev pub owner_of : Location → ℕ
+owner_of (local a x i) = a
+owner_of (common b i) = 0
+
+-- it exists, because that activation was made
+abbrev pub is_there : State → Location → Bool
+is_there s at = nat_le (owner_of at) (length s.activations)
+
+-- it existed, and was filled or emptied from a state to the next one
+abbrev pub has_changed : Location → State → State → Bool
+has_changed at s t = is_there s at && not (same_logical (s.store at).full (t.store at).full)
+
+-- the step of process p from a state, as a change by an entry
+abbrev pub change_by : Units → ℕ → ℕ → State → Option Change
+change_by program entry p s = option_map (λ (w : Whereabouts). record { entry = entry; place = w }) (whereabouts_by program p s)
+
+-- the latest change after that step, by the one before it
+abbrev pub latest_after : Units → Location → ℕ → ℕ → State → State → Option Change → Option Change
+latest_after program at entry p s t latest = if has_changed at s t then change_by program entry p s else latest
+
+-- ---- a history
+
+-- the turns of an entry, each with the entry's number and its process
+abbrev pub turns_of : ℕ → Entry → List (ℕ × ℕ)
+turns_of entry e = replicate e.steps (entry, e.process)
+
+-- those of entries in order, from this number on
+abbrev pub turns_from : ℕ → List Entry → List (ℕ × ℕ)
+turns_from entry [] = []
+turns_from entry (e ∷ es) = turns_of entry e ++ turns_from (suc entry) es
+
+-- the latest change after these turns from a state, with the one before them
+unfoldable pub latest_along : Units → Location → State → Option Change → List (ℕ × ℕ) → Option Change
+latest_along program at s latest [] = latest
+latest_along program at s latest (t ∷ ts) =
+    latest_along program at (state_after_turn program t.1 s) (latest_after program at t.0 t.1 s (state_after_turn program t.1 s) latest) ts
+
+-- that of a whole history
+abbrev pub latest_change : Units → List Entry → Location → Option Change
+latest_change program entries at = latest_along program at (opening program) None (turns_from 1 entries)

@@ -1,0 +1,140 @@
+//! Why processes wait after a history.
+ghost use Rattle.std.specs.Prelude.{◌≡◌, [], IfOk, IsSome, OnOk};
+ghost use Rattle.hep_replay.specs.CoreValues.{state_of};
+ghost use Rattle.hep_replay.specs.HistoryPrefix.{first_of};
+ghost use Rattle.hep_replay.specs.Replays.{standing};
+ghost use Rattle.hep_machine.specs.Words.{schedule_of, wanted_by};
+ghost use Rattle.hep_why.specs.Reasons as words;
+ghost use Rattle.hep_event.specs.Variables.{AreVariablesOf};
+ghost use Rattle.hep_why.specs.Watches.{AreFound, AreNewWatches, AreWaiting, IsReplayed, WaitTheSame, reasons_for as all_reasons};
+
+use crate::reason::Reason;
+use crate::reason_text::append_reasons;
+use crate::replay_machine::ReplayMachine;
+use crate::wait_names::called;
+use crate::watch::Watch;
+use crate::watch_updates::{all_watches, look};
+use crate::watched_replay::make_entries;
+use hep_event::Variables;
+use hep_replay::history_replay::MOST_ENTRIES;
+use hep_replay::{Core, DecodedImage, History, HistoryPrefix, NewFault, tables_of};
+use hep_state_text::append_head;
+use std::alloc::{AllocError, Global};
+
+/// A core of the same image and arena that has made no turn.
+///
+/// # Errors
+///
+/// Only where memory was refused.
+pub fn begin_again(alloc: Global, core: &Core, entries: &History) -> Result<Core, AllocError>
+    requires { IsReplayed core.now.core entries.now.items }
+    ensures { IfOk result (λ again. again.core ≡ standing core.now.core.program core.now.core.cells []) }
+{
+    let image = core.image().copy(alloc)?;
+    match Core::new(alloc, image, core.cells(), MOST_ENTRIES) {
+        Ok(again) => Ok(again),
+        Err(NewFault::NoMemory) => Err(AllocError),
+        Err(NewFault::ArenaFull) => unreachable!(),
+    }
+}
+
+// Finds the latest changes of what the processes of these watches wait for.
+fn find_changes(
+    alloc: Global,
+    core: &Core,
+    watches: &mut Vec<Watch>,
+    entries: &HistoryPrefix<'_>,
+) -> Result<(), AllocError>
+    requires replayed { IsReplayed core.now.core (first_of entries.now) }
+    requires watches { AreNewWatches core.now.core.program core.now.core.cells (schedule_of core.now.core.history) watches.old.items }
+    ensures found { OnOk result (AreFound core.now.core (first_of entries.now) watches.new.items) }
+    ensures same { OnOk result (WaitTheSame watches.old.items watches.new.items) }
+{
+    if watches.is_empty() {
+        return Ok(());
+    }
+    core.headline();
+    let image = core.image();
+    let tables = tables_of(alloc, image)?;
+    let tabled = DecodedImage {
+        image,
+        tables: &tables,
+    };
+    let mut again = ReplayMachine::open(alloc, image, core.cells())?;
+    look(&again.machine, watches, 0, None);
+    make_entries(&mut again, &tabled, watches, entries)?;
+    Ok(())
+}
+
+// Why the process of a watch waits.
+fn reason_for(
+    alloc: Global,
+    core: &Core,
+    variables: &Variables,
+    watch: &Watch,
+) -> Result<Reason, AllocError>
+    requires variables { AreVariablesOf core.now.core.program variables.now }
+    requires waits { IsSome (wanted_by core.now.core.program watch.now.listed.process (state_of core.now.core)) }
+    ensures { IfOk result (λ reason. reason
+        ≡ words.reason_with core.now.core.program (state_of core.now.core) watch.now.listed watch.now.latest) }
+{
+    let lives = match watch.latest {
+        Some(change) => core.lives(change.place.process),
+        None => false,
+    };
+    let called = called(alloc, core, variables, watch.listed.process)?;
+    Ok(Reason {
+        listed: watch.listed,
+        called,
+        latest: watch.latest,
+        lives,
+    })
+}
+
+fn reasons_for(alloc: Global, core: &Core, watches: &[Watch]) -> Result<Vec<Reason>, AllocError>
+    requires { AreWaiting core.now.core watches.now }
+    ensures { IfOk result (λ reasons. reasons.items ≡ all_reasons core.now.core.program (state_of core.now.core) watches.now) }
+{
+    let variables = Variables::of_image(alloc, core.image())?;
+    let mut reasons = Vec::new(alloc);
+    for watch in watches {
+        let reason = reason_for(alloc, core, &variables, watch)?;
+        reasons.push(reason)?;
+    }
+    Ok(reasons)
+}
+
+// Why processes wait after the history of a core that has made these entries.
+fn find_reasons(
+    alloc: Global,
+    core: &Core,
+    entries: &HistoryPrefix<'_>,
+) -> Result<Vec<Reason>, AllocError>
+    requires { IsReplayed core.now.core (first_of entries.now) }
+    ensures { IfOk result (λ reasons. reasons.items ≡ words.reasons_of core.now.core.program (first_of entries.now)) }
+{
+    let mut watches = all_watches(alloc, core)?;
+    find_changes(alloc, core, &mut watches, entries)?;
+    reasons_for(alloc, core, &watches)
+}
+
+/// Why processes wait after the history of a core, which has made these entries, as a text. The entries are made
+/// again for it, unless no process waits.
+///
+/// # Errors
+///
+/// Only where memory was refused.
+pub fn why_text(
+    alloc: Global,
+    core: &Core,
+    entries: &HistoryPrefix<'_>,
+) -> Result<Vec<u8>, AllocError>
+    requires { IsReplayed core.now.core (first_of entries.now) }
+    ensures { IfOk result (λ text. text.items ≡ words.why_text core.now.core.program (first_of entries.now)) }
+{
+    let reasons = find_reasons(alloc, core, entries)?;
+    let mut text = Vec::new(alloc);
+    append_head(&mut text, entries.len())?;
+    append_reasons(alloc, &mut text, core.image(), &reasons)?;
+    Ok(text)
+}

@@ -1,6 +1,0 @@
-use Rattle.std.proofs.Common.{◌≡◌, map}
-use Rattle.hep_workers.specs.Lists.{worker_numbers}
-use Rattle.hep_workers.proofs.tied.Seat.all.Given as goal
-
-abbrev pub invariant-loop-worker : goal.invariant-loop-worker
-invariant-loop-worker g l = map (λ seat. seat.number) l.seats.items ≡ worker_numbers l.worker
