@@ -13,7 +13,7 @@ PROGRAM = "hepf"
 NO_ANSWER = 70
 # What it takes to build, and to compile what isn't proved.
 BUILDING = "half an hour to an hour and a half on four processors"
-COMPILING = "two to three minutes"
+COMPILING = "one to three minutes"
 # The parts of a crate that are proved.
 PARTS = ("src", "specs", "proofs")
 # What the proof of a crate takes at most, in most cases, in bytes.
