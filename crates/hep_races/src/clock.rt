@@ -1,6 +1,6 @@
 //! One clock.
 ghost use Rattle.std.specs.Prelude.{◌≡◌, ◌≤◌, ◌<◌, ℕ, suc, length, nat_le, OnOk};
-ghost use Rattle.hep_clocks.specs.Vectors.{clock_in};
+ghost use Rattle.hep_races.specs.Vectors.{clock_in};
 ghost use Rattle.hep_order.specs.Clocks.{joined, ticked};
 
 use std::alloc::AllocError;
