@@ -3,11 +3,12 @@ use Rattle.std.proofs.Common.{◌≡◌, ◌≢◌, ℕ, Bool, List, [], ◌∷�
 use Rattle.std.specs.List.{Contains}
 use Rattle.std.specs.Option.{unwrap_or}
 use Rattle.hep_machine.specs.Words.{State, Units, opening, run, run_from, state_after_turn, step}
+use Rattle.hep_advance.proofs.RunsToBreakpoint.{run-on}
 use Rattle.hep_endings.specs.Closed.{AreReachable, EndsAmong, IsClosed, IsClosedUpTo, LeadsInto}
 use Rattle.hep_endings.specs.Endings.{Ending, IsEnding, IsReachable, IsTerminal, ending_of}
 use Rattle.hep_endings.specs.Independence.{AreIndependent, AreIndependentSteps}
 use Rattle.hep_endings.proofs.Kept.{LeadsTo, endings_are_kept}
-use Rattle.hep_endings.proofs.Turns.{run_further, some_step}
+use Rattle.hep_endings.proofs.Turns.{some_step}
 
 -- ---- closed sets
 
@@ -55,7 +56,7 @@ module _ (program : Units) (independent : ℕ → State
         steps = leads.steps;
         are_independent = subst (λ t. AreIndependentSteps program independent t leads.steps) (sym is) leads.are_independent;
         kept = run_from program s leads.steps;
-        is_kept = (leads.among, run_further program before leads.steps ∙ ap (λ t. run_from program t leads.steps) is);
+        is_kept = (leads.among, run-on program before leads.steps ∙ ap (λ t. run_from program t leads.steps) is);
       }
 
   -- so does a step of a state that is kept
@@ -64,7 +65,7 @@ module _ (program : Units) (independent : ℕ → State
   unfolding run_from
   goes_on s before p kept is_there =
       let t : State = state_after_turn program p s in
-      leads_to (before ++ p ∷ []) t (run_further program before (p ∷ []) ∙ ap (state_after_turn program p) kept.1) (
+      leads_to (before ++ p ∷ []) t (run-on program before (p ∷ []) ∙ ap (state_after_turn program p) kept.1) (
       closed.goes_on s t p kept.0 (some_step program p s (λ none. is_there (ap (step program p) kept.1 ∙ none))))
 
   -- however the program ends, a terminal state of the set ends so

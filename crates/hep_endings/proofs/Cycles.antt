@@ -1,10 +1,10 @@
 -- A cycle that is reachable can be gone round for ever.
 use Rattle.std.proofs.Common.{◌≡◌, ℕ, zero, suc, List, [], ◌∷◌, ◌++◌, append_assoc, refl, sym, ap, ◌∙◌, subst}
-use Rattle.hep_machine.proofs.Replays.{run_after}
 use Rattle.hep_machine.specs.Words.{AreSteps, State, Units, opening, run, run_from, state_after_turn}
+use Rattle.hep_machine.proofs.Replays.{run_after, steps_before}
 use Rattle.hep_endings.specs.Endings.{IsReachable, MayRunForEver, first_of}
 use Rattle.hep_endings.specs.Closed.{IsCycle}
-use Rattle.hep_endings.proofs.Turns.{steps_before, steps_of}
+use Rattle.hep_endings.proofs.Turns.{steps_of}
 
 -- the first ones of steps
 steps_front : (program : Units) (s : State) (ps qs : List ℕ) → AreSteps program s (ps ++ qs) → AreSteps program s ps

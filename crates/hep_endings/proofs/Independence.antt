@@ -3,9 +3,10 @@ use Rattle.std.proofs.Common.{◌≡◌, ◌≢◌, inl, inr, ℕ, ◌+◌, ◌�
 use Rattle.std.proofs.Common.{arith}
 use Rattle.std.proofs.lemmas.Bool.Decides.{eqb_tells}
 use Rattle.hep_machine.specs.Words.{AreSteps, State, Units, run_from, state_after_turn, step}
+use Rattle.hep_replay.proofs.ReplayTurns.{halted_stays}
 use Rattle.hep_endings.specs.Endings.{Ending, IsReachable, IsTerminal, ending_of}
 use Rattle.hep_endings.specs.Independence.{AreIndependent, AreIndependentSteps, IsBeside}
-use Rattle.hep_endings.proofs.Turns.{by_halted, some_step, step_before, stopped_idle, turn_is, turn_reachable}
+use Rattle.hep_endings.proofs.Turns.{by_halted, some_step, step_before, turn_is, turn_reachable}
 
 -- a state is terminal and ends as another one
 abbrev pub EndsAs : Units → State → State → Type 0
@@ -68,7 +69,7 @@ module _ (program : Units) (independent : ℕ → State → Bool) (are : AreInde
     stops : IsBeside program independent p q s t → t.halted ≡ true → Replaces program s (p ∷ ps) u 1
     stops beside halted = by_rest ps made where
       by_rest : (rs : List ℕ) → AreSteps program t rs → Replaces program s (p ∷ rs) u 1
-      by_rest (r ∷ rs) more = absurd (more.0 (stopped_idle program r t halted))
+      by_rest (r ∷ rs) more = absurd (more.0 (halted_stays program r t halted))
       by_rest [] more =
           let met = are.stops p q s t u beside halted f in
           let halted_too : met.0.halted ≡ true = ap (λ (x : Ending). x.halted) met.2 ∙ halted in
@@ -77,7 +78,7 @@ module _ (program : Units) (independent : ℕ → State → Bool) (are : AreInde
             made = tt;
             few = omega arith;
             many = omega arith;
-            ends = λ ended. (λ r. stopped_idle program r met.0 halted_too, met.2);
+            ends = λ ended. (λ r. halted_stays program r met.0 halted_too, met.2);
           })
 
     goes : IsBeside program independent p q s t → t.halted ≡ false → Replaces program s (p ∷ ps) u 1

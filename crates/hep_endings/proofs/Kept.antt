@@ -3,10 +3,11 @@
 -- whatever else a search keeps of a state, as the contents of a memory.
 use Rattle.std.proofs.Common.{◌≡◌, ◌≢◌, ℕ, zero, suc, ◌≤◌, Bool, List, [], ◌∷◌, ◌++◌, length, None, refl, sym, ap, ◌∙◌, subst, arith}
 use Rattle.hep_machine.specs.Words.{AreSteps, State, Units, opening, run, run_from, state_after_turn, step}
+use Rattle.hep_advance.proofs.RunsToBreakpoint.{run-on}
 use Rattle.hep_endings.specs.Endings.{Ending, IsEnding, IsReachable, IsTerminal, ending_of}
 use Rattle.hep_endings.specs.Independence.{AreIndependent, AreIndependentSteps}
 use Rattle.hep_endings.proofs.Independence.{EndsAs, all_first}
-use Rattle.hep_endings.proofs.Turns.{run_further, steps_of}
+use Rattle.hep_endings.proofs.Turns.{steps_of}
 
 -- independent steps lead from these choices to a list that has something kept
 pub record LeadsTo (program : Units) (independent : ℕ → State → Bool) (M : Type 0) (IsKept : List ℕ → M
@@ -49,7 +50,7 @@ module _ (program : Units) (independent : ℕ → State → Bool) (are : AreInde
       let end : State = run_from program (run program before) choices in
       let new = all_first program independent are leads.steps choices (run program before) (reached before) leads.are_independent made in
       let there : run_from program (run program before) leads.steps ≡ run program (before ++ leads.steps) =
-      sym (run_further program before leads.steps)
+      sym (run-on program before leads.steps)
       in
       record {
         kept = leads.kept;
@@ -70,7 +71,7 @@ module _ (program : Units) (independent : ℕ → State → Bool) (are : AreInde
   ends_from zero (p ∷ ps) before m few kept made ended = absurd (omega arith)
   ends_from (suc n) (p ∷ ps) before m few kept made ended =
       let t : State = state_after_turn program p (run program before) in
-      let there : t ≡ run program (before ++ p ∷ []) = sym (run_further program before (p ∷ [])) in
+      let there : t ≡ run program (before ++ p ∷ []) = sym (run-on program before (p ∷ [])) in
       let next = goes (before ++ p ∷ []) ps (goes_on m before p kept made.0) (subst (λ s. AreSteps program s ps) there made.1) (
       subst (λ s. IsTerminal program (run_from program s ps)) there ended)
       in

@@ -8,4 +8,8 @@ pub mod Rooms
 pub mod Tables
 pub mod Stacks
 pub mod Pure
+pub mod Living
+pub mod Finished
+pub mod Texts
+pub mod Outcomes
 mod Worked

@@ -1,9 +1,9 @@
 -- Steps one after the other, and states that are reachable.
-use Rattle.std.proofs.Common.{◌≡◌, ◌≢◌, ◌⊎◌, inl, inr, ℕ, Bool, true, false, if◌then◌else◌, List, [], ◌∷◌, ◌++◌, Option, Some, None, refl}
+use Rattle.std.proofs.Common.{◌≡◌, ◌≢◌, ◌⊎◌, inl, inr, ℕ, Bool, true, false, List, [], ◌∷◌, ◌++◌, Option, Some, None, refl}
 use Rattle.std.proofs.Common.{sym, ap, ◌∙◌, subst}
 use Rattle.std.specs.Option.{unwrap_or}
-use Rattle.hep_machine.specs.Words.{AreSteps, State, Units, opening, run, run_from, state_after_turn, state_made, step, step_result_of}
-use Rattle.hep_machine.proofs.Replays.{run_after}
+use Rattle.hep_machine.specs.Words.{AreSteps, State, Units, opening, run, run_from, state_after_turn, step}
+use Rattle.hep_advance.proofs.RunsToBreakpoint.{run-on}
 use Rattle.hep_endings.specs.Endings.{IsReachable}
 
 -- a step that is there leads to the state after the turn
@@ -21,10 +21,6 @@ turn_is program p s t e = ap (λ o. unwrap_or o s) e
 pub some_isn't_none : {t : State} {o : Option State} → o ≡ Some t → o ≢ None
 some_isn't_none e n = cc
 
--- after a STOP there are no steps
-pub stopped_idle : (program : Units) (p : ℕ) (s : State) → s.halted ≡ true → step program p s ≡ None
-stopped_idle program p s e = ap (λ b. if b then None else state_made (step_result_of program p s)) e
-
 -- a STOP was made or not
 pub by_halted : (s : State) → (s.halted ≡ true) ⊎ (s.halted ≡ false)
 by_halted s = by_value s.halted refl where
@@ -36,19 +32,6 @@ by_halted s = by_value s.halted refl where
 pub step_before : (program : Units) (p : ℕ) (s t : State) (ps : List ℕ) → step program p s ≡ Some t → AreSteps program t ps
     → AreSteps program s (p ∷ ps)
 step_before program p s t ps e made = (some_isn't_none e, subst (λ u. AreSteps program u ps) (sym (turn_is program p s t e)) made)
-
--- steps after steps are steps
-pub steps_before : (program : Units) (s : State) (ps qs : List ℕ) → AreSteps program s ps → AreSteps program (run_from program s ps) qs
-    → AreSteps program s (ps ++ qs)
-unfolding run_from
-steps_before program s [] qs h more = more
-steps_before program s (p ∷ ps) qs h more = (h.0, steps_before program (state_after_turn program p s) ps qs h.1 more)
-
--- choices after others go on from the state of those
-pub run_further : (program : Units) (before choices : List ℕ)
-    → run program (before ++ choices) ≡ run_from program (run program before) choices
-unfolding run
-run_further program before choices = run_after program (opening program) before choices
 
 -- ---- turns that are steps
 
@@ -83,7 +66,7 @@ opening_reachable program = ([], refl)
 -- what a turn leads to is reachable
 pub turn_reachable : (program : Units) (p : ℕ) (s : State) → IsReachable program s → IsReachable program (state_after_turn program p s)
 unfolding run_from
-turn_reachable program p s h = (h.0 ++ p ∷ [], run_further program h.0 (p ∷ []) ∙ ap (state_after_turn program p) h.1)
+turn_reachable program p s h = (h.0 ++ p ∷ [], run-on program h.0 (p ∷ []) ∙ ap (state_after_turn program p) h.1)
 
 -- what turns lead to is reachable
 pub run_reachable : (program : Units) (ps : List ℕ) (s : State) → IsReachable program s → IsReachable program (run_from program s ps)

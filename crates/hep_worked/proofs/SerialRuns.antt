@@ -1,5 +1,5 @@
 -- Serial runs of whole sources: the choices in order, each one entry, and then what is ready, until nothing is.
-use Rattle.std.specs.Prelude.{◌≡◌, ℕ, zero, suc, pos, ◌-ℤ◌, Bool, true, false, if◌then◌else◌, codes, List, [], ◌∷◌, map, length, reverse, Option, Some, None, Result, Ok, Err}
+use Rattle.std.specs.Prelude.{ℕ, zero, suc, pos, Bool, true, false, if◌then◌else◌, codes, List, [], ◌∷◌, map, length, reverse, Option, Some, None, Result, Ok, Err}
 use Prim.Native.String.{String}
 use Rattle.hep_machine.specs.declared.event.Entry.{Entry}
 use Rattle.hep_machine.specs.declared.event.Fault.{Fault}
@@ -176,11 +176,6 @@ ended_by ending records processes entries used = record { records = records; fau
 abbrev pub rejected : ℕ → ℕ → List ℕ → Report
 rejected number line detail = record { records = []; faults = []; processes = []; entries = 0; used = 0; ending = refused (number, line, detail) }
 
--- each source runs as the report beside it says
-abbrev pub AllRun : List (List String × Report) → Type 0
-unfolding runs
-AllRun rows = map (λ (r : List String × Report). runs r.0) rows ≡ map (λ (r : List String × Report). r.1) rows
-
 -- ---- the history, the cells in use, and where the frames are
 
 abbrev pub history_of : Result Units Refusal → ℕ → (State → ℕ → Bool) → ℕ → List ℕ → List Entry
@@ -246,9 +241,6 @@ frames lines = frames_in (units_of lines)
 abbrev pub int : ℕ → Item
 int n = Int (pos n)
 
-abbrev pub minus : ℕ → Item
-minus n = Int (pos 0 -ℤ pos n)
-
 -- a record of one number, or of some
 abbrev pub one : ℕ → List Item
 one n = int n ∷ []
@@ -259,15 +251,12 @@ numbers ns = map int ns
 abbrev pub fault : ℕ → ℕ → ℕ → Kind → Fault
 fault p unit line k = record { process = p; unit = unit; line = line; kind = k }
 
--- a process at a line of a unit, which waits for nothing, until a storage unit is full, or until it is empty
+-- a process at a line of a unit, which waits for nothing, or until a storage unit is full
 abbrev pub stands : ℕ → ℕ → ℕ → ProcessView
 stands p unit line = record { process = p; unit = unit; line = line; wanted = None }
 
 abbrev pub waits_for_full : ℕ → ℕ → ℕ → Location → ProcessView
 waits_for_full p unit line at = record { process = p; unit = unit; line = line; wanted = Some (record { at = at; full = true }) }
-
-abbrev pub waits_for_empty : ℕ → ℕ → ℕ → Location → ProcessView
-waits_for_empty p unit line at = record { process = p; unit = unit; line = line; wanted = Some (record { at = at; full = false }) }
 
 -- an element of an asynchronous variable of an activation
 abbrev pub asynchronous : ℕ → String → ℕ → Location

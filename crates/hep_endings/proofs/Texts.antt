@@ -20,8 +20,8 @@ use Rattle.hep_core.specs.declared.stop.ChoiceStop.TheVariants.{Halted}
 use Rattle.hep_outcome.specs.declared.status.Status.{Status}
 use Rattle.hep_outcome.specs.Outcome.{dump_text, outcome_of_end, status_of}
 use Rattle.hep_endings.specs.Endings.{Blocked, blocked_of, ending_of, owner_of}
-use Rattle.hep_possible.specs.Texts.{Shows, blocked_line, blocked_text, place_named, status_by_blocked}
-use Rattle.hep_possible.proofs.Finished.{ListedWait}
+use Rattle.hep_endings.specs.Texts.{Shows, blocked_line, blocked_text, place_named, status_by_blocked}
+use Rattle.hep_endings.proofs.Finished.{ListedWait}
 
 -- ---- one process that waits
 

@@ -19,11 +19,11 @@ use Rattle.hep_outcome.specs.declared.status.Status.TheVariants as statuses
 use Rattle.hep_outcome.proofs.Schedules.{choice_is_next, next_is_chosen}
 use Rattle.hep_endings.specs.Endings.{Blocked, Ending, IsEndingWithin, ending_of}
 use Rattle.hep_endings.proofs.Turns.{by_halted}
-use Rattle.hep_possible.specs.Finished.{IsFinished, IsSerial, IsSerialFrom}
-use Rattle.hep_possible.specs.Possible.{IsPossible}
-use Rattle.hep_possible.specs.Texts.{Shows, status_by_blocked}
-use Rattle.hep_possible.proofs.Finished.{finished_ends, has_history, legal_wait}
-use Rattle.hep_possible.proofs.Texts.{shows_halted, shows_over}
+use Rattle.hep_endings.specs.Finished.{IsFinished, IsSerial, IsSerialFrom}
+use Rattle.hep_endings.specs.Possible.{IsPossible}
+use Rattle.hep_endings.specs.Texts.{Shows, status_by_blocked}
+use Rattle.hep_endings.proofs.Finished.{finished_ends, has_history, legal_wait}
+use Rattle.hep_endings.proofs.Texts.{shows_halted, shows_over}
 
 -- ---- who comes next
 

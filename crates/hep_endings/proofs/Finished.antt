@@ -12,20 +12,16 @@ use Rattle.hep_machine.proofs.Replays.{legal_steps}
 use Rattle.hep_blocked.proofs.LivingProcesses.{waits-idle}
 use Rattle.hep_core.proofs.Histories.{progress-state}
 use Rattle.hep_blocked.proofs.Members.{among-filter, among-living, among-ready, among-without, none-among}
+use Rattle.hep_replay.proofs.ReplayTurns.{halted_stays}
 use Rattle.hep_endings.specs.Endings.{Ending, IsEndingWithin, IsTerminal, ending_of}
-use Rattle.hep_endings.proofs.Turns.{by_halted, stopped_idle}
-use Rattle.hep_possible.specs.Finished.{IsFinished, IsSerial, IsSerialFrom}
-use Rattle.hep_possible.proofs.Living.{idle_waits}
+use Rattle.hep_endings.proofs.Turns.{by_halted}
+use Rattle.hep_endings.specs.Finished.{IsFinished, IsSerial, IsSerialFrom}
+use Rattle.hep_endings.proofs.Living.{idle_waits}
 
--- both are true where the conjunction is
+-- the first one is true where the conjunction is
 and_first : (a b : Bool) → (a && b) ≡ true → a ≡ true
 and_first true b e = refl
 and_first false b e = e
-
--- the other one too
-and_second : (a b : Bool) → (a && b) ≡ true → b ≡ true
-and_second true b e = e
-and_second false b e = absurd cc
 
 -- ---- the processes that are listed wait
 
@@ -114,7 +110,7 @@ module _ (program : Units) where
   -- after a legal history that is over
   idle_after : (cells limit : ℕ) (history : List Entry) → IsLegal program cells limit history → IsFinished program history
       → IsTerminal program (state_after program history)
-  idle_after cells limit history legal (inl halted) q = stopped_idle program q (state_after program history) halted
+  idle_after cells limit history legal (inl halted) q = halted_stays program q (state_after program history) halted
   idle_after cells limit history legal (inr none) q =
       subst (IsTerminal program) (progress-state program history) (
       idle_of (progress_after program history) (legal_wait cells limit history legal) none) q
@@ -163,7 +159,7 @@ serial_one program (p ∷ ps) ws s made going =
     (going_now (by_halted s), omega arith, serial_one program ps ws (state_after_turn program p s) made.1 going)
   where
     going_now : (s.halted ≡ true) ⊎ (s.halted ≡ false) → s.halted ≡ false
-    going_now (inl halted) = absurd (made.0 (stopped_idle program p s halted))
+    going_now (inl halted) = absurd (made.0 (halted_stays program p s halted))
     going_now (inr now) = now
 
 module _ (program : Units) where

@@ -1,4 +1,0 @@
-pub mod Living
-pub mod Finished
-pub mod Texts
-pub mod Outcomes

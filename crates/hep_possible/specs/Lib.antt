@@ -1,3 +1,0 @@
-pub mod Finished
-pub mod Texts
-pub mod Possible
