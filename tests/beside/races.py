@@ -136,13 +136,15 @@ class Run(machine.Run):
         self.living[self.processes] = Process(self, self.processes, activation, is_behind)
 
     def shaped(self, unit, names, dummy):
-        """The names in the bounds of all arrays among the dummy arguments are read, once for each time that they occur."""
+        """The names in the bounds of all arrays among the dummy arguments are read, once for each time that they occur; the value of
+        an expression that is passed isn't, since nobody else can store there."""
         arrays = [name for name in unit.dummies if unit.is_array(name)]
         if dummy == arrays[0]:
+            new = f" OF {self.activations + 1}"
             for array in arrays:
                 bounds = [bound for pair in unit.variables[array].bounds for bound in pair if bound is not None]
                 for name in (node.name for bound in bounds for node in machine.names_in(bound)):
-                    if name in names and name not in unit.constants:
+                    if name in names and name not in unit.constants and not names[name].row.shown.endswith(new):
                         self.noted.append((names[name], False, name))
         return super().shaped(unit, names, dummy)
 

@@ -1,16 +1,13 @@
-//! One clock.
-ghost use Rattle.std.specs.Prelude.{◌≡◌, ◌≤◌, ◌<◌, ℕ, suc, length, nat_le, OnOk};
+//! One vector clock.
+ghost use Rattle.std.specs.Prelude.{◌≡◌, ◌≤◌, ℕ, suc, length, nat_le, OnOk};
 ghost use Rattle.hep_races.specs.Vectors.{clock_in};
 ghost use Rattle.hep_order.specs.Clocks.{joined, ticked};
 
+use crate::numbers::successor;
 use std::alloc::AllocError;
 
-/// Makes room for this many processes; those that are new have 0, as they had without room.
-///
-/// # Errors
-///
-/// Where memory was refused; the clock is the same then.
-pub fn grow(clock: &mut Vec<u64>, processes: usize) -> Result<(), AllocError>
+// Makes room for this many processes. Those that are new have 0, as they had without room, also where memory was refused.
+fn grow(clock: &mut Vec<u64>, processes: usize) -> Result<(), AllocError>
     ensures same { (p : ℕ) → clock_in clock.new.items p ≡ clock_in clock.old.items p }
     ensures long { OnOk result (processes ≤ length clock.new.items) }
 {
@@ -20,11 +17,23 @@ pub fn grow(clock: &mut Vec<u64>, processes: usize) -> Result<(), AllocError>
     Ok(())
 }
 
-/// The join with another clock, which has no more processes.
-pub fn join(clock: &mut Vec<u64>, other: &[u64])
+/// The join with another clock.
+///
+/// # Errors
+///
+/// Where memory was refused.
+pub(crate) fn join(clock: &mut Vec<u64>, other: &[u64]) -> Result<(), AllocError>
+    ensures { OnOk result ((p : ℕ) → clock_in clock.new.items p ≡ joined (clock_in clock.old.items) (clock_in other.now) p) }
+{
+    grow(clock, other.len())?;
+    raise(clock, other);
+    Ok(())
+}
+
+// The join with another clock, which has no more processes.
+fn raise(clock: &mut Vec<u64>, other: &[u64])
     requires { length other.now ≤ length clock.old.items }
-    ensures joined { (p : ℕ) → clock_in clock.new.items p ≡ joined (clock_in clock.old.items) (clock_in other.now) p }
-    ensures long { length clock.new.items ≡ length clock.old.items }
+    ensures { (p : ℕ) → clock_in clock.new.items p ≡ joined (clock_in clock.old.items) (clock_in other.now) p }
 {
     for index in 0..other.len() {
         if clock[index] < other[index] {
@@ -34,18 +43,24 @@ pub fn join(clock: &mut Vec<u64>, other: &[u64])
 }
 
 /// A step of a process: the one with this number, counted from 0 over the whole run.
-pub fn tick(clock: &mut Vec<u64>, process: usize, step: u64)
-    requires within { process < length clock.old.items }
-    requires few { step < 18446744073709551615 }
-    ensures ticked { (q : ℕ) → clock_in clock.new.items q ≡ ticked step process (clock_in clock.old.items) q }
-    ensures long { length clock.new.items ≡ length clock.old.items }
+///
+/// # Errors
+///
+/// Where memory was refused, and where a number would pass 2^64 - 1.
+pub(crate) fn tick(clock: &mut Vec<u64>, process: u64, step: u64) -> Result<(), AllocError>
+    ensures { OnOk result ((q : ℕ) → clock_in clock.new.items q ≡ ticked step process (clock_in clock.old.items) q) }
 {
-    clock[process] = step + 1;
+    let next = successor(step)?;
+    let processes = successor(process)?;
+    grow(clock, processes as usize)?;
+    clock[process as usize] = next;
+    Ok(())
 }
 
 /// Whether the clock knows this step of a process, counted from 0.
-pub fn knows(clock: &[u64], process: usize, step: u64) -> bool
+pub(crate) fn knows(clock: &[u64], process: u64, step: u64) -> bool
     ensures { result ≡ nat_le (suc step) (clock_in clock.now process) }
 {
-    process < clock.len() && step < clock[process]
+    let index = process as usize;
+    index < clock.len() && step < clock[index]
 }

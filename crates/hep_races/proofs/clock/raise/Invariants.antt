@@ -1,6 +1,6 @@
 use Rattle.std.proofs.Common.{◌≡◌, ◌≤◌, ◌<◌, ℕ, max, length}
 use Rattle.hep_races.specs.Vectors.{clock_in}
-use Rattle.hep_races.proofs.clock.join.Given as goal
+use Rattle.hep_races.proofs.clock.raise.Given as goal
 
 abbrev pub invariant-loop-index : goal.invariant-loop-index
 invariant-loop-index l =
