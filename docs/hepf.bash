@@ -48,7 +48,7 @@ _hepf() {
     local at=1
     [[ ${COMP_WORDS[1]} != --long ]] || at=2
     if ((COMP_CWORD <= at)); then
-        _hepf_offer -W "check run sample replay state trace why cover diff list explain help --long --help --version"
+        _hepf_offer -W "check run sample replay state trace page why cover diff list explain help --long --help --version"
         return
     fi
     case ${COMP_WORDS[at]} in
@@ -57,7 +57,7 @@ _hepf() {
         run) options="--arena --steps --workers --seed --choices --follow --history --long --help" ;;
         sample) options="--runs --seed --arena --steps --keep --long --help" ;;
         replay) options="--arena --long --help" ;;
-        why | diff) options="--choices --seed --arena --steps --long --help" ;;
+        page | why | diff) options="--choices --seed --arena --steps --long --help" ;;
         cover) options="--choices --seed --runs --arena --steps --long --help" ;;
         state) options="--at --choices --seed --arena --steps --long --help" ;;
         trace) options="--from --to --process --cell --choices --seed --arena --steps --long --help" ;;
@@ -73,7 +73,7 @@ _hepf() {
             return
             ;;
         help)
-            _hepf_offer -W "check run sample replay state trace why cover diff list explain"
+            _hepf_offer -W "check run sample replay state trace page why cover diff list explain"
             return
             ;;
         *) return ;;

@@ -11,6 +11,7 @@ _hepf() {
         'replay:make the steps of a history again'
         'state:show what everything holds'
         'trace:say what each step did'
+        'page:write a page that shows a run step by step'
         'why:say why processes wait'
         'cover:say how often the statement of each line began'
         'diff:say what differs between the runs of two histories'
@@ -51,6 +52,11 @@ _hepf_words() {
             _arguments '--arena=[cells of storage]:cells:' '--long[say more of what went wrong]' '--help[show help]' '1:source:_files -g "*.(f|for|hep)"' \
                 '2:history:_files'
             ;;
+        page)
+            _arguments '--choices=[choices of a run that is looked at]:choices:_files' '--seed=[lots of a run that is looked at]:seed:' '--arena=[cells of storage]:cells:' \
+                '--steps=[entries of the history]:entries:' '--long[say more of what went wrong]' '--help[show help]' '1:source:_files -g "*.(f|for|hep)"' \
+                '2:history or page:_files' '3:page:_files'
+            ;;
         why)
             _arguments '--choices=[choices of a run that is looked at]:choices:_files' '--seed=[lots of a run that is looked at]:seed:' '--arena=[cells of storage]:cells:' \
                 '--steps=[entries of the history]:entries:' '--long[say more of what went wrong]' '--help[show help]' '1:source:_files -g "*.(f|for|hep)"' \
@@ -82,7 +88,7 @@ _hepf_words() {
                 '*:its next word:(ARENA STEP FULL LIMIT MEMORY REFUSED FAULT RUNNING 0 1 2 3 4 5 6 7 8 70)'
             ;;
         help)
-            _arguments '1:command:(check run sample replay state trace why cover diff list explain)'
+            _arguments '1:command:(check run sample replay state trace page why cover diff list explain)'
             ;;
     esac
 }

@@ -15,7 +15,7 @@ HERE = Path(__file__).resolve().parent
 DOCS = HERE.parent / "docs"
 COLUMNS = 80
 # What stands for a file in the file commands, or for what names of files begin with.
-FILES = ("FILE", "HISTORY", "PREFIX")
+FILES = ("FILE", "HISTORY", "OUT", "PREFIX")
 # What is standard input: a file, and its name.
 STANDARD = ("FILE", "-")
 # Behind what stands there for as many words as there are, and behind an option that may be given twice.
@@ -28,6 +28,7 @@ HELPS = ("-h", "--help")
 NO_NUMBER = "error: no refusal has this number\n"
 NO_NAME = "error: nothing has this name; `hepf explain --help` says what is explained\n"
 SAME_FILE = "error: --history names a file that is read\n"
+SAME_PAGE = "error: the page would be written to a file that is read\n"
 TWO_ORDERS = {
     "--follow": "USAGE: --follow excludes --choices, --seed and --workers\n",
     "--seed": "USAGE: --seed excludes --choices and --workers\n",
@@ -54,28 +55,31 @@ class Unread(Exception):
 
 @dataclass
 class Form:
-    """What a command takes: its line, what it has to be given and may be, by option what that is given, options that stand alone, and
-    those that may be given twice."""
+    """What a command takes: its line, what it has to be given, what it may be, and what comes after that, by option what that is given,
+    options that stand alone, and those that may be given twice."""
 
     line: str
     operands: list
     further: list
+    last: list
     options: dict
     flags: list
     repeated: list
 
     def takes_more(self):
         """Whether the last operand may be given more than once."""
-        return (self.operands + self.further)[-1].endswith(MORE)
+        return (self.operands + self.further + self.last)[-1].endswith(MORE)
 
     def kinds(self, count):
-        """What each of so many operands is."""
-        named = [it.removesuffix(MORE) for it in self.operands + self.further]
+        """What each of a number of operands is."""
+        if self.last and count <= len(self.operands + self.last):
+            return self.operands + self.last
+        named = [it.removesuffix(MORE) for it in self.operands + self.further + self.last]
         return named + named[-1:] * (count - len(named))
 
     def looks_at_runs(self):
         """Whether a history may be left out, so that a run is made in its place."""
-        return "HISTORY" in self.kinds(0)[len(self.operands) :]
+        return "HISTORY" in [it.removesuffix(MORE) for it in self.further]
 
 
 TABLE = (HERE / "commands").read_text()
@@ -84,6 +88,7 @@ FORMS = {
         line,
         operands.split(),
         re.findall(r"\[([A-Z]\S*)\]", line),
+        re.findall(r"(?<=\] )([A-Z]+)(?= \[)", line),
         dict(re.findall(r"\[(--\w+) (\w+)\]", line)),
         re.findall(r"\[(--\w+)\]", line),
         re.findall(r"\[(--\w+) \w+\]\.\.", line),
@@ -203,8 +208,8 @@ def taken(command, form, words):
 
 def judge(job, form):
     """Raises the mistake that a job has, if it has one."""
-    lacking = form.operands[len(job.operands) :]
-    most = len(form.operands + form.further)
+    lacking = (form.operands + form.last)[len(job.operands) :]
+    most = len(form.operands + form.further + form.last)
     if lacking or len(job.operands) > most and not form.takes_more():
         wrong = f"lacks {' '.join(lacking)}" if lacking else f"doesn't take {job.operands[most]}"
         raise Mistake(f"error: {job.command} {wrong}\n\nUsage: {form.line}\n")
@@ -215,8 +220,10 @@ def judge(job, form):
     given = dict(job.options)
     if len(job.options) > len(given) + 1:
         raise Mistake(NO_MEANING)
+    if form.last and job.operands[-1] in (given.get("--choices"), *job.operands[:-1]):
+        raise Mistake(SAME_PAGE)
     if form.looks_at_runs():
-        if len([it for it in (job.operands[1:], "--choices" in given, {"--seed", "--runs"} & given.keys()) if it]) > 1:
+        if len([it for it in (job.operands[len(form.operands + form.last) :], "--choices" in given, {"--seed", "--runs"} & given.keys()) if it]) > 1:
             raise Mistake(TWO_RUNS)
         return
     choices, follow, history = (given.get(it) for it in ("--choices", "--follow", "--history"))

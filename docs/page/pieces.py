@@ -1,8 +1,8 @@
 #!/usr/bin/env python3
-"""Writes the template of a page in pieces, as Rust constants: `docs/page/pieces.py OUT.rt`.
+"""Writes the template of a page in pieces, as Rust constants, to `crates/hep_page/src/template.rt`.
 
-The template is page.html with page.css and page.js in it; between its pieces stand the source, what everything holds at first, what each turn
-does, and what it changes. The page may run no script but this one, which it knows by its sum.
+The template is page.html with page.css and page.js in it; between its pieces are the source, what everything holds at first, what each turn
+does, and what it changes. The page may run no script but this one, which it knows by its sum. `tests/words` compares the constants with it.
 """
 import base64
 import hashlib
@@ -11,15 +11,19 @@ import sys
 from pathlib import Path
 
 HERE = Path(__file__).resolve().parent
+TEMPLATE = HERE.parent.parent / "crates/hep_page/src/template.rt"
 NAMES = ["BEFORE_SOURCE", "BEFORE_OPENING", "BEFORE_TRACE", "BEFORE_CHANGES", "END"]
 
 
-def pieces(script=None):
-    """The five pieces, with another script where one is given."""
-    html, style = ((HERE / name).read_text() for name in ("page.html", "page.css"))
-    script = script or (HERE / "page.js").read_text()
-    digest = hashlib.sha256(b"\n" + script.encode()).digest()
-    filled = {"HASH": base64.b64encode(digest).decode(), "CSS": style, "JS": script}
+def sum_of(script):
+    """The sum by which a page knows its script."""
+    return base64.b64encode(hashlib.sha256(b"\n" + script.encode()).digest()).decode()
+
+
+def pieces():
+    """The five pieces."""
+    html, style, script = ((HERE / name).read_text() for name in ("page.html", "page.css", "page.js"))
+    filled = {"HASH": sum_of(script), "CSS": style, "JS": script}
     whole = re.sub("@(HASH|CSS|JS)@", lambda it: filled[it[1]], html)
     return re.split("@(?:SOURCE|OPENING|TRACE|CHANGES)@", whole)
 
@@ -32,6 +36,6 @@ def constants():
 
 
 if __name__ == "__main__":
-    if len(sys.argv) != 2 or sys.argv[1].startswith("-"):
+    if sys.argv[1:]:
         sys.exit(__doc__)
-    Path(sys.argv[1]).write_text(constants())
+    TEMPLATE.write_text(constants())

@@ -70,6 +70,8 @@ def text_of(program, source, arena, histories):
     for number, line in enumerate(lines_of(source), 1):
         count = (begun[number] or "#####") if number in begun else "-"
         text += f"{count:>9}:{number:>5}:".encode() + line + b"\n"
+    never = sum(not count for count in begun.values())
+    text += b"LINES %d BEGAN %d NEVER %d\n" % (len(begun), len(begun) - never, never)
     return machine.Outcome(text, b"", 0, b"")
 
 

@@ -1,7 +1,7 @@
 -- What the words for numbers, jobs and names say, row by row.
 use Rattle.std.proofs.Common.{◌≡◌, ◌∷◌, [], ℕ, Some, None, false, refl, true, codes}
 use Rattle.clap.proofs.OnLiterals.{clap_on_literals}
-use Rattle.hep_command.specs.Asked.{Viewed, check, cover, diff, explain, heard, replay, run, sample, standard, state, trace, why}
+use Rattle.hep_command.specs.Asked.{Viewed, check, cover, diff, explain, heard, page, replay, run, sample, standard, state, trace, why}
 use Rattle.hep_command.specs.Explanations.{is_explained, name_of}
 use Rattle.hep_command.specs.Numbers.{number_within}
 use Rattle.hep_command.specs.Program.{asked, histories, is_long}
@@ -112,6 +112,16 @@ trace_with_all : asked (codes "hepf" ∷ codes "trace" ∷ codes "a.f" ∷ codes
     ≡ Some (trace (codes "a.f") (of_h 7) (Some 2) (Some 9) (Some 3) (Some (codes "$X")))
 unfolding asked clap_on_literals
 trace_with_all = refl
+
+page_alone : asked (codes "hepf" ∷ codes "page" ∷ codes "a.f" ∷ codes "--seed=9" ∷ codes "a.html" ∷ [])
+    ≡ Some (page (codes "a.f") (record serial { seed = Some 9 }) (codes "a.html"))
+unfolding asked clap_on_literals
+page_alone = refl
+
+page_of_history : asked (codes "hepf" ∷ codes "page" ∷ codes "a.f" ∷ codes "h" ∷ codes "a.html" ∷ codes "--arena=9" ∷ [])
+    ≡ Some (page (codes "a.f") (of_h 9) (codes "a.html"))
+unfolding asked clap_on_literals
+page_of_history = refl
 
 why_with_arena : asked (codes "hepf" ∷ codes "why" ∷ codes "a.f" ∷ codes "h" ∷ codes "--arena=9" ∷ [])
     ≡ Some (why (codes "a.f") (of_h 9))

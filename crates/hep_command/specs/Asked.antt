@@ -9,7 +9,7 @@ use Rattle.clap.specs.declared.parser.matches.ArgMatches.{ArgMatches}
 use Rattle.hep_command.specs.Numbers.{number_within, option_number}
 use Rattle.hep_command.specs.declared.job.Job.{Job}
 use Rattle.hep_command.specs.declared.job.ViewedRun.{ViewedRun}
-use Rattle.hep_command.specs.declared.job.Job.TheVariants.{Standard, Check, Run, Sample, Replay, State, Trace, Why, Cover, Diff, List, Explain}
+use Rattle.hep_command.specs.declared.job.Job.TheVariants.{Standard, Check, Run, Sample, Replay, State, Trace, Page, Why, Cover, Diff, List, Explain}
 
 abbrev pub texts : Option (Bor (ListOf ℕ)) → Option Text
 texts = option_map (λ path. path.now)
@@ -34,6 +34,7 @@ pub data RequestedJob : Type 0 where
   replay : Text → Text → ℕ → RequestedJob
   state : Text → Viewed → Option ℕ → RequestedJob
   trace : Text → Viewed → Option ℕ → Option ℕ → Option ℕ → Option Text → RequestedJob
+  page : Text → Viewed → Text → RequestedJob
   why : Text → Viewed → RequestedJob
   cover : Text → Viewed → Option ℕ → RequestedJob
   diff : Text → Viewed → Option Text → Option ℕ → RequestedJob
@@ -48,6 +49,7 @@ asked_by (Sample file runs seed arena steps keep) = sample file.now runs seed ar
 asked_by (Replay file history arena) = replay file.now history.now arena
 asked_by (State file view at) = state file.now (viewed_by view) at
 asked_by (Trace file view first last process cell) = trace file.now (viewed_by view) first last process (texts cell)
+asked_by (Page file view out) = page file.now (viewed_by view) out.now
 asked_by (Why file view) = why file.now (viewed_by view)
 asked_by (Cover file view runs) = cover file.now (viewed_by view) runs
 asked_by (Diff file view other other_seed) = diff file.now (viewed_by view) (texts other) other_seed
@@ -166,6 +168,16 @@ trace_in rows =
     (ordinal_in (codes "process") rows)) (ordinal_in (codes "to") rows)) (ordinal_in (codes "from") rows))
     (viewed_in (codes "history") rows)) (first_of (codes "file") rows)
 
+-- of two words the second one names the file that gets the page; of one word alone it is that one, and there is no history
+abbrev pub page_by : Text → Viewed → Option Text → Option RequestedJob
+page_by file view (Some out) = Some (page file view out)
+page_by file view None = option_map (page file (record view { history = None })) view.history
+
+abbrev pub page_in : ListOf Row → Option RequestedJob
+page_in rows =
+    option_and_then (λ file. option_and_then (λ view. page_by file view (first_of (codes "page") rows))
+    (viewed_in (codes "history") rows)) (first_of (codes "file") rows)
+
 abbrev pub why_in : ListOf Row → Option RequestedJob
 why_in rows = option_and_then (λ file. option_map (why file) (viewed_in (codes "history") rows)) (first_of (codes "file") rows)
 
@@ -210,11 +222,12 @@ command_in command rows =
     else (if bytes_eq command (codes "replay") then replay_in rows
     else (if bytes_eq command (codes "state") then state_in rows
     else (if bytes_eq command (codes "trace") then trace_in rows
+    else (if bytes_eq command (codes "page") then page_in rows
     else (if bytes_eq command (codes "why") then why_in rows
     else (if bytes_eq command (codes "cover") then cover_in rows
     else (if bytes_eq command (codes "diff") then diff_in rows
     else (if bytes_eq command (codes "list") then list_in rows
-    else (if bytes_eq command (codes "explain") then explain_in rows else None))))))))))
+    else (if bytes_eq command (codes "explain") then explain_in rows else None)))))))))))
 
 -- without a command the source on standard input is run
 abbrev pub job_in : Option (Text × ListOf Row) → Option RequestedJob

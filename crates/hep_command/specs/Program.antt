@@ -126,6 +126,10 @@ trace_command =
     viewing (with_rule (with_rule (with_rule (with_rule (with_rule (with_rule (new_app (codes "trace")) source_word) viewed_word)
     first_option) last_option) process_option) cell_option) seed_option
 
+-- the file that gets the page, or a history; and the file where there is a history
+abbrev pub page_command : App
+page_command = viewing (with_rule (with_rule (with_rule (new_app (codes "page")) source_word) history_word) (optional_word (codes "page"))) seed_option
+
 abbrev pub why_command : App
 why_command = viewing (with_rule (with_rule (new_app (codes "why")) source_word) viewed_word) seed_option
 
@@ -167,8 +171,8 @@ bare_program = with_rule named_program long_flag
 abbrev pub hepf : App
 hepf =
     with_subcommand (with_subcommand (with_subcommand (with_subcommand (with_subcommand (with_subcommand (with_subcommand (with_subcommand (with_subcommand
-    (with_subcommand (with_subcommand bare_program check_command.top) run_command.top) sample_command.top) replay_command.top) state_command.top)
-    trace_command.top) why_command.top) cover_command.top) diff_command.top) list_command.top) explain_command.top
+    (with_subcommand (with_subcommand (with_subcommand bare_program check_command.top) run_command.top) sample_command.top) replay_command.top)
+    state_command.top) trace_command.top) page_command.top) why_command.top) cover_command.top) diff_command.top) list_command.top) explain_command.top
 
 -- a parse sees the argument, or the command, as this
 abbrev pub IsArgument : Rule → Arg → Type 0

@@ -116,6 +116,13 @@ pub enum Job<'a> {
         /// The name of the variable whose accesses are shown; all steps where it isn't given.
         cell: Option<&'a str>,
     },
+    /// Write a page that shows each step of a run.
+    Page {
+        file: &'a str,
+        run: ViewedRun<'a>,
+        /// The file to which the page is written.
+        page: &'a str,
+    },
     /// Show why processes wait after a history.
     Why {
         file: &'a str,

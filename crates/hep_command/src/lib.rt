@@ -15,4 +15,6 @@ pub use explanations::explain;
 pub use fault_texts::meaning;
 pub use job::{Job, Request, Usage, ViewedRun};
 pub use refusal_texts::explanation;
-pub use words::{FOLLOW_TOO, LOTS_TOO, SAME_FILE, TWO_ORDERS, TWO_RUNS, read_request, read_words};
+pub use words::{
+    FOLLOW_TOO, LOTS_TOO, SAME_FILE, SAME_PAGE, TWO_ORDERS, TWO_RUNS, read_request, read_words,
+};

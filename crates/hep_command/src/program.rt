@@ -14,10 +14,7 @@ use std::alloc::{AllocError, Global};
 /// The output of `hepf --version` after the program's name.
 const VERSION: &str = "0.3.0, rattle-kit-13f logic dac8208d650f15bf";
 
-const ABOUT: &str = "Compiles and runs HEP FORTRAN.";
-
-const EXAMPLES: &str =
-    "No command runs standard input. `hepf COMMAND --help` and `man hepf` have more.";
+const ABOUT: &str = "Compiles and runs HEP FORTRAN. Without a command it runs standard input.";
 
 const NO_WORDS: &[&str] = &[];
 
@@ -137,9 +134,6 @@ fn with_commands<'a>(
 pub(crate) fn program<'a>(alloc: Global) -> Result<Command<'a>, AllocError>
     ensures { IfOk result (IsCommand spec.hepf) }
 {
-    let bare = Command::new(alloc, "hepf")
-        .version(VERSION)
-        .about(ABOUT)
-        .after_help(EXAMPLES);
+    let bare = Command::new(alloc, "hepf").version(VERSION).about(ABOUT);
     with_commands(alloc, with_words(alloc, Ok(bare), &[LONG]), &COMMANDS)
 }

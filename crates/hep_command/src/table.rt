@@ -57,6 +57,9 @@ const STATE_EXAMPLE: &str = "Example: hepf state examples/powers.f --at 100";
 const TRACE_EXAMPLE: &str = "Example: hepf trace examples/deadlock.f --cell '$A'
          hepf trace examples/race.f --seed 9 --cell N";
 
+const PAGE_EXAMPLE: &str = "Example: hepf page examples/pair.f pair.html
+         hepf page examples/race.f race.history race.html";
+
 const WHY_EXAMPLE: &str = "Example: hepf why examples/deadlock.f";
 
 const COVER_EXAMPLE: &str = "Example: hepf cover examples/race.f --runs 100";
@@ -198,6 +201,21 @@ const HISTORIES: WordRow = WordRow {
     help: "Histories, or first lines of them [default: of a serial run]",
 };
 
+// The last two words of `page`: the file that gets the page, or a history and then this file.
+const PAGE_OR_HISTORY: WordRow = WordRow {
+    id: "history",
+    kind: WordKind::Required,
+    value: "OUT",
+    help: "Gets the page in HTML; a history where one more word follows",
+};
+
+const PAGE_LAST: WordRow = WordRow {
+    id: "page",
+    kind: WordKind::Optional,
+    value: "OUT",
+    help: "Gets the page of that history",
+};
+
 // The runs that are made for a view.
 const VIEWED_CHOICES: WordRow = WordRow {
     id: "choices",
@@ -291,7 +309,7 @@ const THIRD: WordRow = WordRow {
     help: "",
 };
 
-pub(crate) const COMMANDS: [CommandRow; 11] = [
+pub(crate) const COMMANDS: [CommandRow; 12] = [
     CommandRow {
         name: "check",
         about: "Say why a source can't run, and nothing if it can",
@@ -352,6 +370,21 @@ pub(crate) const COMMANDS: [CommandRow; 11] = [
             LAST_ENTRY,
             PROCESS,
             CELL,
+            VIEWED_CHOICES,
+            VIEWED_SEED,
+            ARENA,
+            STEPS,
+            LONG,
+        ],
+    },
+    CommandRow {
+        name: "page",
+        about: "Write a page that shows a run step by step in a browser",
+        example: PAGE_EXAMPLE,
+        words: &[
+            SOURCE,
+            PAGE_OR_HISTORY,
+            PAGE_LAST,
             VIEWED_CHOICES,
             VIEWED_SEED,
             ARENA,

@@ -6,7 +6,7 @@ ghost use Rattle.std.specs.Option.{unwrap_or};
 ghost use Rattle.hep_command.specs.Numbers.{number_within, option_number};
 ghost use Rattle.hep_command.specs.Asked.{asked_by, arena_in, check_in, command_in, command_place, explain_in, heard, is_given, is_help_of_help, is_version};
 ghost use Rattle.hep_command.specs.Asked.{entries_in, is_long_in, is_word, job_in, cover_in, diff_in, histories_in, list_in, ordinal_in, replay_in, run_in, state_in, steps_in, trace_in, why_in, word_of, words_found};
-ghost use Rattle.hep_command.specs.Asked.{covered_in, other_seed_in, viewed_by, viewed_in};
+ghost use Rattle.hep_command.specs.Asked.{covered_in, other_seed_in, page_in, viewed_by, viewed_in};
 ghost use Rattle.hep_command.specs.Asked.{first_seed_in, runs_in, sample_in, seed_in, workers_in};
 ghost use Rattle.hep_command.specs.Jobs.{IsInRange, IsNoPath, IsOneOrder, IsOneRun, IsUsage, IsViewInRange, IsWant, IsWrittenApart, usage_status};
 
@@ -27,6 +27,9 @@ const MISTAKE: &str = "error: these words have no meaning\n";
 
 /// The message where the history would be written to a file that is read.
 pub const SAME_FILE: &str = "error: --history names a file that is read\n";
+
+/// The message where the page would be written to one.
+pub const SAME_PAGE: &str = "error: the page would be written to a file that is read\n";
 
 /// The message where both choices and workers are given, since both decide which process comes next.
 pub const TWO_ORDERS: &str = "USAGE: --choices excludes --workers\n";
@@ -237,6 +240,26 @@ fn trace_job<'a>(found: &ArgMatches<'a>) -> Option<Job<'a>>
     })
 }
 
+// Of two words after the source the second one names the file that gets the page; of one word alone it is that one.
+fn page_job<'a>(found: &ArgMatches<'a>) -> Option<Job<'a>>
+    ensures range { IfSome result IsInRange }
+    ensures job { option_map asked_by result ≡ page_in (words_found found.now) }
+{
+    let file = word_of(found, "file")?;
+    let run = viewed_of(found, "history")?;
+    match word_of(found, "page") {
+        Some(page) => Some(Job::Page { file, run, page }),
+        None => Some(Job::Page {
+            file,
+            run: ViewedRun {
+                history: None,
+                ..run
+            },
+            page: run.history?,
+        }),
+    }
+}
+
 fn why_job<'a>(found: &ArgMatches<'a>) -> Option<Job<'a>>
     ensures range { IfSome result IsInRange }
     ensures job { option_map asked_by result ≡ why_in (words_found found.now) }
@@ -339,6 +362,9 @@ fn command_job<'a>(command: &str, found: &ArgMatches<'a>) -> Option<Job<'a>>
     if command == "trace" {
         return trace_job(found);
     }
+    if command == "page" {
+        return page_job(found);
+    }
     if command == "why" {
         return why_job(found);
     }
@@ -401,10 +427,10 @@ fn is_path(path: Option<&str>, other: &str) -> bool
     }
 }
 
-// Whether the history would be written to a file that is read.
-fn is_overwriting(job: &Job<'_>) -> bool
-    ensures apart { result ≡ false → IsWrittenApart job.now }
-    ensures over { result ≡ true → ¬ (IsWrittenApart job.now) }
+// What is said where a history or a page would be written to a file that is read.
+fn overwriting(job: &Job<'_>) -> Option<&'static str>
+    ensures apart { IfNone result (IsWrittenApart job.now) }
+    ensures over { IfSome result (λ _. ¬ (IsWrittenApart job.now)) }
 {
     match job {
         Job::Run {
@@ -414,9 +440,24 @@ fn is_overwriting(job: &Job<'_>) -> bool
             history: Some(history),
             ..
         } => {
-            is_path(Some(*file), history) || is_path(*choices, history) || is_path(*follow, history)
+            if is_path(Some(*file), history)
+                || is_path(*choices, history)
+                || is_path(*follow, history)
+            {
+                return Some(SAME_FILE);
+            }
+            None
         }
-        _ => false,
+        Job::Page { file, run, page } => {
+            if is_path(Some(*file), page)
+                || is_path(run.history, page)
+                || is_path(run.choices, page)
+            {
+                return Some(SAME_PAGE);
+            }
+            None
+        }
+        _ => None,
     }
 }
 
@@ -454,6 +495,7 @@ fn two_orders(job: &Job<'_>) -> Option<&'static str>
         } => (workers, seed, choices, follow),
         Job::State { run, .. } => return two_runs(run, None),
         Job::Trace { run, .. } => return two_runs(run, None),
+        Job::Page { run, .. } => return two_runs(run, None),
         Job::Why { run, .. } => return two_runs(run, None),
         Job::Cover { run, runs, .. } => return two_runs(run, *runs),
         Job::Diff { run, .. } => return two_runs(run, None),
@@ -581,8 +623,8 @@ fn request_of<'a>(alloc: Global, matches: &ArgMatches<'a>) -> Result<Request<'a>
     let Some(job) = job_of(matches) else {
         return Err(Usage::of_text(alloc, 2, MISTAKE));
     };
-    if is_overwriting(&job) {
-        return Err(Usage::of_text(alloc, 2, SAME_FILE));
+    if let Some(text) = overwriting(&job) {
+        return Err(Usage::of_text(alloc, 2, text));
     }
     if let Some(text) = two_orders(&job) {
         return Err(Usage::of_text(alloc, 2, text));
@@ -626,7 +668,7 @@ pub fn read_request<'a, S: AsStr>(alloc: Global, words: &'a [S]) -> Result<Reque
 /// # Errors
 ///
 /// A text in the place of a job. With status 0 it is help or the version. With status 2 it says what is wrong with
-/// the words, in the words of `clap` and a few more; or that the history would be written to a file that is read; or
+/// the words, in the words of `clap` and a few more; or that a history or a page would be written to a file that is read; or
 /// that two of a history to follow, choices, workers and a seed are given. With status 7 memory was refused.
 pub fn read_words<'a, S: AsStr>(alloc: Global, words: &'a [S]) -> Result<Job<'a>, Usage>
     ensures job { IfOk result IsInRange }

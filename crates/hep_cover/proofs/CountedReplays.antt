@@ -3,12 +3,12 @@ use Rattle.std.proofs.Common.{◌≡◌, ℕ, zero, suc, ◌+◌, ◌-◌, ◌*�
 use Rattle.std.proofs.Math.Nat.{suc-mul}
 use Rattle.std.proofs.lemmas.List.{length-map, replicate-append-replicate}
 use Rattle.std.proofs.lemmas.Option.{none-some}
-use Rattle.hep_why.proofs.FoundReasons.{begin-along, processes-all, whole}
+use Rattle.hep_fold.proofs.TurnRows.{processes-all}
+use Rattle.hep_why.proofs.FoundReasons.{begin-along, whole}
 use Rattle.hep_why.specs.LatestChanges.{turns_from}
 use Rattle.hep_why.specs.Replays.{most_entries, standing}
 use Rattle.hep_why.specs.Watches.{AreAlong, HaveLooked, IsReplayed}
-use Rattle.hep_core.proofs.SilentChoices.{entries-many}
-use Rattle.hep_core.proofs.Histories.{schedule-along, schedule-none, state-is, opening-is}
+use Rattle.hep_core.proofs.Histories.{schedule-none, state-is, opening-is}
 use Rattle.hep_core.specs.CoreValues.{CoreValue}
 use Rattle.hep_history.specs.declared.run.Run.{Run}
 use Rattle.hep_history.specs.Runs.{entries_of, entry_of}
@@ -25,8 +25,8 @@ use Rattle.hep_cover.specs.StartMarks.{AreMarks}
 use Rattle.hep_cover.proofs.CountedSteps.{counted-behind, counted-none}
 use Rattle.hep_cover.specs.Coverage.{counted_in}
 use Rattle.hep_cover.specs.CountedReplay.{IsRemade, ReplayTarget}
-use Rattle.hep_why.specs.declared.replay_machine.ReplayMachine.{ReplayMachine}
-use Rattle.hep_why.specs.WatchedReplay.{CanTurnAgain}
+use Rattle.hep_fold.specs.declared.replay_machine.ReplayMachine.{ReplayMachine}
+use Rattle.hep_fold.specs.ReplayMachines.{CanTurnAgain}
 
 steps-behind : (program : Units) (s : State) (ps qs : List ℕ) → AreSteps program s (ps ++ qs) → AreSteps program (run_from program s ps) qs
 unfolding run_from
@@ -54,10 +54,6 @@ module _ (aim : ReplayTarget) (marked : MarkedImage) (again : ReplayMachine) (p 
   can-turn = record { cells = aim.cells; after = h.after; numbers = h.numbers; few = few-now; steps = h.steps.0; laid = laid-next }
 
 -- ---- turns that were made
-
--- so many entries of one step
-pub schedule-many : (es : List Entry) (p n : ℕ) → schedule_of (es ++ replicate n (record { process = p; steps = 1 })) ≡ schedule_of es ++ replicate n p
-schedule-many es p n = ap schedule_of (entries-many es p n) ∙ schedule-along es p n
 
 pub remade-on : (aim : ReplayTarget) (marked : MarkedImage) (old new : ReplayMachine) (ps left : List ℕ) (counts now : List (Option ℕ)) → IsRemade aim marked old (ps ++ left) counts
     → IsMachineAfter marked.tabled.image.now aim.cells (schedule_of old.history.items ++ ps) new.machine

@@ -7,7 +7,7 @@ use Rattle.hep_why.specs.Replays.{most_entries}
 use Rattle.hep_cover.specs.Counts.{counted_along}
 use Rattle.hep_cover.specs.declared.statement_starts.MarkedImage.{MarkedImage}
 use Rattle.hep_cover.specs.StartMarks.{AreMarks}
-use Rattle.hep_why.specs.declared.replay_machine.ReplayMachine.{ReplayMachine}
+use Rattle.hep_fold.specs.declared.replay_machine.ReplayMachine.{ReplayMachine}
 
 -- the cells of the arena, the processes of all turns that are made again, and the resulting counts
 pub record ReplayTarget : Type 0 where

@@ -1,7 +1,8 @@
 -- The lines of a source, each with the number of times that its statement began: docs/RUNS.md, "How often lines
 -- began".
-use Rattle.std.specs.Prelude.{ℕ, suc, ◌-◌, nat_eq, if◌then◌else◌, List, [], ◌∷◌, ◌++◌, codes, length, replicate, Option, Some, None, slice_get}
+use Rattle.std.specs.Prelude.{ℕ, suc, ◌-◌, not, nat_eq, is_some, if◌then◌else◌, Bool, false, List, [], ◌∷◌, ◌++◌, codes, length, replicate, Option, Some, None, slice_get}
 use Rattle.std.specs.Fmt.{decimal}
+use Rattle.std.specs.List.{filter}
 use Rattle.std.specs.Option.{option_flatten}
 use Rattle.hep_machine.specs.declared.event.Entry.{Entry}
 use Rattle.hep_machine.specs.Words.{Units}
@@ -28,6 +29,25 @@ abbrev pub lines_text : List (Option ℕ) → ℕ → List (List ℕ) → List �
 lines_text counts before [] = []
 lines_text counts before (l ∷ ls) = line_text (option_flatten (slice_get counts before)) (suc before) l ++ lines_text counts (suc before) ls
 
--- all lines of a source
+-- ---- how many lines have a statement that can begin, how many of these began, and how many never did
+
+abbrev pub has_begun : Option ℕ → Bool
+has_begun None = false
+has_begun (Some n) = not (nat_eq n 0)
+
+abbrev pub can_begin_in : List (Option ℕ) → ℕ
+can_begin_in counts = length (filter is_some counts)
+
+abbrev pub begun_in : List (Option ℕ) → ℕ
+begun_in counts = length (filter has_begun counts)
+
+abbrev pub total_text : ℕ → ℕ → List ℕ
+total_text all began = codes "LINES " ++ decimal all ++ codes " BEGAN " ++ decimal began ++ codes " NEVER " ++ decimal (all - began) ++ codes "\n"
+
+-- ---- all lines of a source, and how many they are
+
+abbrev pub coverage_text : List (Option ℕ) → List (List ℕ) → List ℕ
+coverage_text counts source = lines_text counts 0 source ++ total_text (can_begin_in counts) (begun_in counts)
+
 abbrev pub cover_text : Units → List ℕ → List (List Entry) → List ℕ
-cover_text program source histories = lines_text (coverage program (length (lines source)) histories) 0 (lines source)
+cover_text program source histories = coverage_text (coverage program (length (lines source)) histories) (lines source)

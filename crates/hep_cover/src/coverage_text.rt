@@ -1,5 +1,5 @@
 //! The lines of a source with their counts.
-ghost use Rattle.std.specs.Prelude.{◌≡◌, ◌++◌, IfOk, OnOk, length, replicate, slice_get};
+ghost use Rattle.std.specs.Prelude.{◌≡◌, ◌≤◌, ◌++◌, OnOk, length, replicate, slice_get};
 ghost use Rattle.std.specs.Option.{option_flatten};
 ghost use Rattle.hep_text.specs.Line.{lines};
 ghost use Rattle.hep_cover.specs.Lines as words;
@@ -100,12 +100,8 @@ fn count_behind(counts: &[Option<u64>], before: usize) -> Option<u64>
     }
 }
 
-/// Appends all lines of a source, each with its count and its number.
-///
-/// # Errors
-///
-/// Only where memory was refused.
-pub fn append_lines(
+// Appends all lines of a source, each with its count and its number.
+fn append_lines(
     alloc: Global,
     text: &mut Vec<u8>,
     source: &[u8],
@@ -122,4 +118,56 @@ pub fn append_lines(
         rest = behind;
     }
     Ok(())
+}
+
+// The number of lines with a statement that can begin, and of those whose statement began.
+fn totals(counts: &[Option<u64>]) -> (usize, usize)
+    ensures all { result.0 ≡ words.can_begin_in counts.now }
+    ensures began { result.1 ≡ words.begun_in counts.now }
+    ensures few { result.1 ≤ result.0 }
+{
+    let mut all = 0;
+    let mut began = 0;
+    for count in counts {
+        if let Some(count) = count {
+            all += 1;
+            if *count != 0 {
+                began += 1;
+            }
+        }
+    }
+    (all, began)
+}
+
+// Appends how many lines have a statement that can begin, how many of these began, and how many never did.
+fn append_total(text: &mut Vec<u8>, all: usize, began: usize) -> Result<(), AllocError>
+    requires { began ≤ all }
+    ensures { OnOk result (text.new.items ≡ text.old.items ++ words.total_text all began) }
+{
+    text.extend_from_slice(b"LINES ")?;
+    append_number(text, all)?;
+    text.extend_from_slice(b" BEGAN ")?;
+    append_number(text, began)?;
+    text.extend_from_slice(b" NEVER ")?;
+    append_number(text, all - began)?;
+    text.extend_from_slice(b"\n")?;
+    Ok(())
+}
+
+/// Appends all lines of a source, each with its count and its number, and how many lines began and how many never did.
+///
+/// # Errors
+///
+/// Only where memory was refused.
+pub fn append_coverage(
+    alloc: Global,
+    text: &mut Vec<u8>,
+    source: &[u8],
+    counts: &[Option<u64>],
+) -> Result<(), AllocError>
+    ensures { OnOk result (text.new.items ≡ text.old.items ++ words.coverage_text counts.now (lines source.now)) }
+{
+    append_lines(alloc, text, source, counts)?;
+    let (all, began) = totals(counts);
+    append_total(text, all, began)
 }

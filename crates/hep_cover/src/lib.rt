@@ -20,7 +20,7 @@ pub mod unbegun_lines;
 
 pub use counted_turns::{begun, count_on};
 pub use coverage::count_history;
-pub use coverage_text::{append_lines, line_count};
+pub use coverage_text::{append_coverage, line_count};
 pub use hep_advance::{DecodedCode, DecodedImage, tables_of};
 pub use hep_why::{
     Choices, HistFault, History, HistoryPrefix, ReplayFault, read_text, replay, replay_first,

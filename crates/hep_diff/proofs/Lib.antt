@@ -1,7 +1,8 @@
 mod FirstDifferences
 mod StepLogs
 mod CellReadings
-mod LivingProcesses
+mod NotedSteps
+mod ReplayedRanges
 mod LogRows
 mod SiteValues
 mod Sides

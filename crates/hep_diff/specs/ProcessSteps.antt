@@ -7,7 +7,7 @@ use Rattle.hep_machine.specs.declared.slot.Slot.{Slot}
 use Rattle.hep_machine.specs.Access.{is_empty, is_full}
 use Rattle.hep_machine.specs.Evaluation.{reading}
 use Rattle.hep_machine.specs.Words.{Level, Location, Name, Next, Process, Reference, Scope, State, Statement, Units, Value, does, ending_loop, evaluating, function_name, leaving, line_at, living, location_of_name, next_of, scope_of, state_after, state_after_turn, testing, unit_at, unit_of, variable_of, wants}
-use Rattle.hep_why.specs.LatestChanges.{turns_from}
+use Rattle.hep_fold.specs.Turns.{turns_from}
 use Rattle.hep_source.specs.declared.function.StateFunction.{StateFunction}
 use Rattle.hep_source.specs.declared.function.StateFunction.TheVariants.{IsEmpty, IsFull, ValueOf}
 use Rattle.hep_source.specs.declared.value.Value.TheVariants.{Truth}

@@ -1,109 +1,68 @@
-//! A history that is made again, while the steps of each process are noted.
-ghost use Rattle.std.specs.Prelude.{◌≡◌, ◌+◌, ◌≤◌, ◌∷◌, ◌++◌, [], ℕ, List, IfOk, OnOk, drop, length};
-ghost use Rattle.hep_why.specs.Watches.{AreAlong, IsReplayed, Whole};
-ghost use Rattle.hep_diff.specs.StepLogs.{IsNoting, kept_of};
+//! The steps of each process in a history, noted while it is made again.
+ghost use Rattle.std.specs.Prelude.{◌≡◌, ◌≤◌, IfOk, ℕ, length};
 ghost use Rattle.hep_diff.specs.ProcessSteps as words;
-ghost use Rattle.hep_diff.specs.declared.process_step.ProcessStep.{ProcessStep as AProcessStep};
-ghost use Rattle.hep_why.specs.LatestChanges.{turns_from, turns_of};
+ghost use Rattle.hep_diff.specs.StepLogs.{kept_of};
+ghost use Rattle.hep_why.specs.Watches.{IsReplayed};
 
-use crate::next_process_step::deed_of;
+use crate::next_process_step::deed_by;
 use crate::process_step::ProcessStep;
 use crate::step_logs::note;
-use hep_machine::Entry;
-use hep_why::{Core, History, begin_again, step};
+use hep_fold::{DecodedImage, HistoryRange, Observer, TurnRow, fold_history};
+use hep_image::Image;
+use hep_state::CoreState;
+use hep_why::{Core, History};
 use std::alloc::{AllocError, Global};
 
-// Makes a turn of process p, which is part of an entry, and notes it.
-fn make_turn(
+/// The steps of each process so far.
+#[derive(Drop)]
+pub(crate) struct StepLog {
     alloc: Global,
-    core: &mut Core,
-    logs: &mut Vec<Vec<ProcessStep>>,
-    p: u64,
-    entry: u64,
-) -> Result<(), AllocError>
-    requires { (whole : Whole) × (total : ℕ → List AProcessStep) × (left : List (ℕ × ℕ))
-        × IsNoting whole total core.old.core ((entry, p) ∷ left) logs.old.items }
-    ensures { OnOk result ((whole : Whole) (total : ℕ → List AProcessStep) (left : List (ℕ × ℕ))
-        → IsNoting whole total core.old.core ((entry, p) ∷ left) logs.old.items → IsNoting whole total core.new.core left logs.new.items) }
-{
-    let deed = deed_of(alloc, core, p, entry)?;
-    step(core, p)?;
-    note(alloc, logs, p, deed)?;
-    Ok(())
+    logs: Vec<Vec<ProcessStep>>,
 }
 
-// Makes the turns of the entry with this number, and notes them.
-fn make_entry(
-    alloc: Global,
-    core: &mut Core,
-    logs: &mut Vec<Vec<ProcessStep>>,
-    number: u64,
-    entry: Entry,
-) -> Result<(), AllocError>
-    requires { (whole : Whole) × (total : ℕ → List AProcessStep) × (left : List (ℕ × ℕ))
-        × IsNoting whole total core.old.core (turns_of number entry ++ left) logs.old.items }
-    ensures { OnOk result ((whole : Whole) (total : ℕ → List AProcessStep) (left : List (ℕ × ℕ))
-        → IsNoting whole total core.old.core (turns_of number entry ++ left) logs.old.items → IsNoting whole total core.new.core left logs.new.items) }
-{
-    for _ in 0..entry.steps {
-        make_turn(alloc, core, logs, entry.process, number)?;
-    }
-    Ok(())
-}
+impl Observer for StepLog {
+    ghost use Rattle.std.specs.Prelude.{◌≡◌, ℕ, List, Some};
+    ghost use Rattle.hep_diff.specs.ProcessSteps.{deed_by as step_by};
+    ghost use Rattle.hep_diff.specs.StepLogs.{kept_of, steps_after};
+    ghost use Rattle.hep_diff.specs.declared.process_step.ProcessStep.{ProcessStep as AProcessStep};
+    ghost use Rattle.hep_machine.specs.Words.{run};
 
-// Makes the turns of an entry without noting them.
-fn pass_entry(core: &mut Core, entry: Entry) -> Result<(), AllocError>
-    requires { (whole : Whole) × (number : ℕ) × (left : List (ℕ × ℕ)) × AreAlong whole core.old.core (turns_of number entry ++ left) [] }
-    ensures { OnOk result ((whole : Whole) (number : ℕ) (left : List (ℕ × ℕ)) → AreAlong whole core.old.core (turns_of number entry ++ left) []
-        → AreAlong whole core.new.core left []) }
-{
-    for _ in 0..entry.steps {
-        step(core, entry.process)?;
-    }
-    Ok(())
-}
+    ghost Seen = { ℕ → List AProcessStep };
 
-// Makes the turns of the first `front` entries without noting them.
-fn pass_entries(core: &mut Core, entries: &History, front: u64) -> Result<(), AllocError>
-    requires along { (whole : Whole) × AreAlong whole core.old.core (turns_from 1 entries.now.items) [] }
-    requires few { front ≤ length entries.now.items }
-    ensures { OnOk result ((whole : Whole) → AreAlong whole core.old.core (turns_from 1 entries.now.items) []
-        → AreAlong whole core.new.core (turns_from (front + 1) (drop front entries.now.items)) []) }
-{
-    let mut rest = entries.iter();
-    for _ in 0..front {
-        let Some(entry) = rest.next() else {
-            return Ok(());
-        };
-        pass_entry(core, entry)?;
-    }
-    Ok(())
-}
+    ghost knows = { λ program replay made log steps. (q : ℕ) → kept_of log.logs.items q ≡ steps q };
 
-// Makes the turns of the entries after the first ones, and notes them.
-fn make_entries(
-    alloc: Global,
-    core: &mut Core,
-    logs: &mut Vec<Vec<ProcessStep>>,
-    entries: &History,
-    front: u64,
-) -> Result<(), AllocError>
-    requires noting { (whole : Whole) × (total : ℕ → List AProcessStep)
-        × IsNoting whole total core.old.core (turns_from (front + 1) (drop front entries.now.items)) logs.old.items }
-    requires few { front ≤ length entries.now.items }
-    ensures { OnOk result ((whole : Whole) (total : ℕ → List AProcessStep)
-        → IsNoting whole total core.old.core (turns_from (front + 1) (drop front entries.now.items)) logs.old.items
-        → IsNoting whole total core.new.core [] logs.new.items) }
-{
-    let mut rest = entries.iter();
-    rest.pass(front);
-    for before in front..entries.len() {
-        let Some(entry) = rest.next() else {
-            return Ok(());
-        };
-        make_entry(alloc, core, logs, before + 1, entry)?;
+    ghost see = { steps_after };
+
+    type Look = ProcessStep;
+
+    ghost notes = { λ program replay made entry p log look. step_by program (run program made) entry p ≡ Some look };
+
+    fn look(
+        &self,
+        machine: &CoreState,
+        image: &Image,
+        entry: u64,
+        p: u64,
+    ) -> Result<ProcessStep, AllocError> {
+        let deed = deed_by(self.alloc, machine, image, p, entry)?;
+        Ok(deed)
     }
-    Ok(())
+
+    fn tell(
+        &mut self,
+        machine: &CoreState,
+        image: &Image,
+        entry: u64,
+        p: u64,
+        look: ProcessStep,
+    ) -> Result<(), AllocError> {
+        note(self.alloc, &mut self.logs, p, look)?;
+        Ok(())
+    }
+
+    fn go_on(&mut self, machine: &mut CoreState, tabled: &DecodedImage<'_>, row: TurnRow) -> u64 {
+        0
+    }
 }
 
 /// The steps of each process in the entries of a history after the first `front`. `core` has made all of them. They
@@ -123,9 +82,16 @@ pub(crate) fn deeds_behind(
     ensures { IfOk result (λ logs. (q : ℕ) → kept_of logs.items q ≡ words.deeds_behind core.now.core.program front entries.now.items q) }
 {
     core.headline();
-    let mut again = begin_again(alloc, core, entries)?;
-    pass_entries(&mut again, entries, front)?;
-    let mut logs = Vec::new(alloc);
-    make_entries(alloc, &mut again, &mut logs, entries, front)?;
-    Ok(logs)
+    let image = core.image();
+    let cells = core.cells();
+    let end = entries.len();
+    let range = HistoryRange {
+        history: entries,
+        start: front,
+        end,
+    };
+    let logs = Vec::new(alloc);
+    let mut log = StepLog { alloc, logs };
+    fold_history(alloc, image, cells, &range, &mut log)?;
+    Ok(log.logs)
 }

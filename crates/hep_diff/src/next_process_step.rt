@@ -1,7 +1,5 @@
 //! A step of a process, before it is made.
-ghost use Rattle.std.specs.Prelude.{◌≡◌, ℕ, List, IfOk, Some};
-ghost use Rattle.hep_why.specs.Watches.{CanTurn};
-ghost use Rattle.hep_core.specs.CoreValues.{state_of};
+ghost use Rattle.std.specs.Prelude.{◌≡◌, ℕ, List, IfOk};
 ghost use Rattle.hep_diff.specs.ProcessSteps as words;
 ghost use Rattle.hep_machine.specs.Words.{Level, Process, run};
 ghost use Rattle.hep_event.specs.Sites.{LivesAfter};
@@ -10,11 +8,15 @@ use crate::cell_reading::found;
 use crate::process_step::ProcessStep;
 use hep_image::Image;
 use hep_state::CoreState;
-use hep_why::{Core, coming_of, whereabouts};
+use hep_why::{coming_of, whereabouts};
 use std::alloc::{AllocError, Global};
 
-// The next step of process p, which lives, as part of an entry.
-fn deed_by(
+/// The next step of process p, which lives, as part of an entry.
+///
+/// # Errors
+///
+/// Only where memory was refused.
+pub(crate) fn deed_by(
     alloc: Global,
     machine: &CoreState,
     image: &Image,
@@ -33,23 +35,4 @@ fn deed_by(
         line: place.line,
         found: found(machine, image, p, &coming),
     })
-}
-
-/// The next step of process p, as part of an entry.
-///
-/// # Errors
-///
-/// Only where memory was refused.
-pub(crate) fn deed_of(
-    alloc: Global,
-    core: &Core,
-    p: u64,
-    entry: u64,
-) -> Result<ProcessStep, AllocError>
-    requires { CanTurn core.now.core p }
-    ensures { IfOk result (λ deed. words.deed_by core.now.core.program (state_of core.now.core) entry p ≡ Some deed) }
-{
-    let machine = core.machine();
-    let image = core.image();
-    deed_by(alloc, machine, image, p, entry)
 }

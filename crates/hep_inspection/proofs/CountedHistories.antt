@@ -1,29 +1,20 @@
--- Histories counted one after the other; and what is left of a source whose lines are told.
-use Rattle.std.proofs.Common.{◌≡◌, ℕ, ◌+◌, ◌<◌, ◌≤◌, List, [], ◌∷◌, ◌++◌, Bool, Option, Result, Some, None, inl, inr, length, drop, get_or, refl, sym, subst, ap, ◌∙◌, IfOk}
+-- Histories counted one after the other.
+use Rattle.std.proofs.Common.{◌≡◌, ℕ, ◌+◌, ◌<◌, ◌≤◌, List, [], ◌∷◌, ◌++◌, Bool, Option, Some, None, inl, inr, length, drop, get_or, refl, sym, subst, ap, ◌∙◌}
 use Rattle.std.proofs.lemmas.List.{drop_all, drop_more}
-use Rattle.std.specs.Io.KnownBytes.{Consumes, IsAtEnd}
 use Rattle.hep_cover.specs.StatementStarts.{operations_by_line}
 use Rattle.hep_cover.specs.Coverage.{counted_in, counted_in_all, unbegun}
-use Rattle.hep_cover.specs.Lines.{lines_text}
+use Rattle.hep_cover.specs.Lines.{coverage_text}
 use Rattle.hep_machine.specs.declared.event.Entry.{Entry}
 use Rattle.hep_machine.specs.Words.{Units}
 use Rattle.hep_text.specs.Line.{lines}
-use Rattle.hep_run.specs.declared.options.Run.{Run}
 use Rattle.hep_outcome.specs.declared.transcript.Transcript.{Transcript}
 use Rattle.hep_run.specs.Checks.{outcome_of_text}
-use Rattle.hep_run.specs.Delivery.{LeavesOfSource, status_alone}
 use Rattle.hep_outcome.specs.Outcome.{Outcome}
-use Rattle.hep_run.specs.Sources.{IsRefusedProgram, IsRunnable}
 use Rattle.hep_outcome.specs.Transcripts.{outcome_of}
-use Rattle.hep_run.specs.Transcripts.{LeavesMade}
-use Rattle.hep_run.proofs.Accepted.{left_alone}
-use Rattle.hep_run.proofs.Fronts.{read_left, same_outcome}
-use Rattle.hep_run.proofs.Outcomes.{made_left}
 use Rattle.hep_inspection.specs.CountedHistories.{IsCountedOrRefused}
-use Rattle.hep_inspection.specs.Covers.{CoversFrom, IsCovered, IsSourceCovered}
+use Rattle.hep_inspection.specs.Covers.{CoversFrom, IsCovered}
 use Rattle.hep_inspection.specs.declared.cover.LineCounts.{LineCounts}
 use Rattle.hep_inspection.specs.declared.origin.Origin.{Origin}
-use Rattle.hep_inspection.proofs.Remaking.{history-none}
 
 module _ (long : Bool) (cells : ℕ) (source : List ℕ) (program : Units) where
   abbrev operations : List ℕ
@@ -57,8 +48,8 @@ module _ (long : Bool) (cells : ℕ) (source : List ℕ) (program : Units) where
 
   -- ---- one origin after the other
 
-  pub along-ends : (origins : List Origin) (c : LineCounts) (o : Outcome) → IsAlong origins [] c → o ≡ outcome_of_text (lines_text c.counts.items 0 (lines source)) → IsCovered long cells origins source program o
-  along-ends origins c o a is = a.covers o (is ∙ ap (λ counts. outcome_of_text (lines_text counts 0 (lines source))) a.counts_are)
+  pub along-ends : (origins : List Origin) (c : LineCounts) (o : Outcome) → IsAlong origins [] c → o ≡ outcome_of_text (coverage_text c.counts.items (lines source)) → IsCovered long cells origins source program o
+  along-ends origins c o a is = a.covers o (is ∙ ap (λ counts. outcome_of_text (coverage_text counts (lines source))) a.counts_are)
 
   module _ (origins : List Origin) (i : ℕ) (origin : Origin) (old new : LineCounts) (less : i < length origins) (read : origin ≡ get_or origins i origin) (a : IsAlong origins (drop i origins) old) where
     here : IsAlong origins (origin ∷ drop (i + 1) origins) old
@@ -72,25 +63,3 @@ module _ (long : Bool) (cells : ℕ) (source : List ℕ) (program : Units) where
 
   pub all-counted : (origins : List Origin) (i : ℕ) (c : LineCounts) → length origins ≤ i → IsAlong origins (drop i origins) c → IsAlong origins [] c
   all-counted origins i c past a = subst (λ (os : List Origin). IsAlong origins os c) (drop_all i origins past) a
-
--- ---- what is left of a source
-
-module _ (long : Bool) (cells : ℕ) (origins : List Origin) where
-  none-kept : (source : List ℕ) (program : Units) (o : Outcome) (before : List (List Entry)) (left : List Origin) → CoversFrom long cells source program o before left → o.history ≡ []
-  none-kept source program o before [] is = ap (λ (x : Outcome). x.history) is
-  none-kept source program o before (origin ∷ left) (inl refused) = history-none long cells program o origin refused
-  none-kept source program o before (origin ∷ left) (inr (entries, is, h)) = none-kept source program o (before ++ entries ∷ []) left h
-
-  keeps-none : (source : List ℕ) (o : Outcome) → IsSourceCovered long cells origins source o → o.history ≡ []
-  keeps-none source o (inl (number, line, name, notes, refused, are, is)) = ap (λ (x : Outcome). x.history) is
-  keeps-none source o (inr (program, holds, h)) = none-kept source program o [] origins h
-
-  -- what was made of the bytes that were read is left of the reader's bytes
-  pub cover-left : {E : Type 0} (known left : Option (List ℕ)) (bytes source : List ℕ) (r : Result Transcript E) (run : Run) (output output' messages messages' : Option (List ℕ))
-      → source ≡ bytes → Consumes known left bytes → (length bytes ≤ 4194304 → IsAtEnd left) → IfOk r (λ t. IsSourceCovered long cells origins source (outcome_of t))
-      → LeavesMade r run output output' messages messages'
-      → LeavesOfSource (IsSourceCovered long cells origins) known left (status_alone run.status) output output' messages messages'
-  cover-left known left bytes source r run output output' messages messages' same taken end is made =
-      read_left (IsSourceCovered long cells origins) (same_outcome long IsRefusedProgram IsRunnable (λ its. IsCovered long cells origins its)) known left bytes source (status_alone run.status) output output' messages messages' same taken end (
-      left_alone (IsSourceCovered long cells origins source) (keeps-none source) run output output' messages messages' (
-      made_left (IsSourceCovered long cells origins source) r run output output' messages messages' is made))

@@ -1,5 +1,3 @@
-mod FrameLines
-mod StateViews
 mod Remaking
 mod InspectedStates
 mod CountedHistories

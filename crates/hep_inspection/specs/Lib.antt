@@ -1,5 +1,4 @@
 pub use Rattle.hep_state_text.specs.LineDisplay
-pub mod Frames
 pub mod Origins
 pub mod Recorded
 pub mod Inspections

@@ -1,35 +1,30 @@
 //! The bytes of a source and histories to how often the statement of each line began in them.
-ghost use Rattle.std.specs.Prelude.{◌≡◌, ◌≤◌, [], IfOk, OnErr};
+ghost use Rattle.std.specs.Prelude.{◌≡◌, ◌≤◌, [], IfOk};
 ghost use Rattle.hep_cover.specs.StatementStarts.{operations_by_line};
 ghost use Rattle.hep_cover.specs.Coverage.{unbegun};
 ghost use Rattle.hep_inspection.specs.Covers.{IsCovered, IsSourceCovered};
 ghost use Rattle.hep_inspection.specs.CountedHistories.{IsCountedOrRefused};
 ghost use Rattle.hep_outcome.specs.Transcripts.{outcome_of};
-ghost use Rattle.hep_run.specs.Delivery.{LeavesOfSource, status_alone};
-ghost use Rattle.hep_run.specs.Memory.{MayReadOn, RefusesLargeSource};
+ghost use Rattle.hep_run.specs.Delivery.{LeavesOfSource};
+ghost use Rattle.hep_run.specs.Memory.{RefusesLargeSource};
 
 use crate::origin::Origin;
 use crate::replay_result::{ReplayResult, make_again};
-use hep_cover::{append_lines, count_history, line_count, operations_by_line, unbegun};
+use hep_cover::{append_coverage, count_history, line_count, operations_by_line, unbegun};
 use hep_image::Image;
-use hep_run::delivery::deliver_made;
-use hep_run::front_end::image_of_source;
-use hep_run::input::read_input;
-use hep_run::say_unread;
-use hep_run::source::MOST_BYTES;
-use hep_run::transcript::{Transcript, fault_transcript, text_transcript};
+use hep_run::Run;
+use hep_run::command::{Command, CommandRequest, deliver_source};
+use hep_run::transcript::{Transcript, text_transcript};
 use std::alloc::{AllocError, Global};
 use std::io::{Read, Write};
 
 /// The histories and the options of `cover`.
 #[derive(Clone, Copy)]
-pub struct CoverRequest<'a> {
+pub struct CoverOptions<'a> {
     /// Where the histories come from.
     pub origins: &'a [Origin<'a>],
     /// The arena's size in cells, 1 to 16,777,216.
     pub arena: u32,
-    /// Whether notes are written besides the lines of the standard form.
-    pub long: bool,
     ghost some: { 1 ≤ arena },
     ghost few: { arena ≤ 16777216 },
 }
@@ -56,13 +51,13 @@ fn uncounted(alloc: Global, image: &Image, lines: usize) -> Result<LineCounts, A
 fn count_one(
     alloc: Global,
     image: &Image,
-    asked: &CoverRequest<'_>,
+    asked: &CommandRequest<'_, CoverOptions<'_>>,
     counting: &mut LineCounts,
     origin: &Origin<'_>,
 ) -> Result<Option<Transcript>, AllocError>
-    ensures { IfOk result (IsCountedOrRefused asked.now.long asked.now.arena image.now origin.now counting.old counting.new) }
+    ensures { IfOk result (IsCountedOrRefused asked.now.long asked.now.options.now.arena image.now origin.now counting.old counting.new) }
 {
-    match make_again(alloc, image, asked.arena, asked.long, origin)? {
+    match make_again(alloc, image, asked.options.arena, asked.long, origin)? {
         ReplayResult::Made { core, entries } => {
             count_history(
                 alloc,
@@ -82,67 +77,58 @@ fn image_cover(
     alloc: Global,
     image: &Image,
     source: &[u8],
-    asked: &CoverRequest<'_>,
+    asked: &CommandRequest<'_, CoverOptions<'_>>,
 ) -> Result<Transcript, AllocError>
     ensures { IfOk result (λ r.
-        IsCovered asked.now.long asked.now.arena asked.now.origins.now source.now image.now (outcome_of r)) }
+        IsCovered asked.now.long asked.now.options.now.arena asked.now.options.now.origins.now source.now image.now (outcome_of r)) }
 {
     let mut counting = uncounted(alloc, image, line_count(source))?;
-    for index in 0..asked.origins.len() {
-        let origin = &asked.origins[index];
+    for index in 0..asked.options.origins.len() {
+        let origin = &asked.options.origins[index];
         match count_one(alloc, image, asked, &mut counting, origin)? {
             Some(refused) => return Ok(refused),
             None => {}
         }
     }
     let mut text = Vec::new(alloc);
-    append_lines(alloc, &mut text, source, &counting.counts)?;
+    append_coverage(alloc, &mut text, source, &counting.counts)?;
     Ok(text_transcript(alloc, text))
 }
 
-/// All that is written about histories, before a byte of it is written.
-///
-/// # Errors
-///
-/// Only where memory was refused, which without notes is asked for only where the source isn't too large.
-pub fn cover_transcript(
-    alloc: Global,
-    source: &[u8],
-    asked: &CoverRequest<'_>,
-) -> Result<Transcript, AllocError>
-    ensures made { IfOk result (λ r.
-        IsSourceCovered asked.now.long asked.now.arena asked.now.origins.now source.now (outcome_of r)) }
-    ensures unmade { OnErr result (MayReadOn asked.now.long source.now) }
-{
-    match image_of_source(alloc, source, asked.long) {
-        Ok(image) => image_cover(alloc, &image, source, asked),
-        Err(fault) => fault_transcript(alloc, fault),
+impl Command for CoverOptions<'_> {
+    ghost use Rattle.hep_inspection.specs.Covers.{IsCovered};
+
+    type Front = Image;
+
+    ghost gives = { λ options long. IsCovered long options.arena options.origins.now };
+
+    fn transcript(
+        alloc: Global,
+        source: &[u8],
+        image: Image,
+        asked: &CommandRequest<'_, Self>,
+    ) -> Result<Transcript, AllocError> {
+        image_cover(alloc, &image, source, asked)
     }
 }
 
 /// Reads a source, makes histories of it again, and writes to `output` the lines of the source, each with the number
 /// of times that its statement began; or to `messages` why something is refused.
 ///
-/// The bytes or the choices of the histories were read before. The answer is the code of a `Status`.
+/// The bytes or the choices of the histories were read before. The run's status is the code of a `Status`.
 pub fn cover_noted<R: Read, W: Write, E: Write>(
     alloc: Global,
     source: &mut R,
-    asked: &CoverRequest<'_>,
+    asked: &CommandRequest<'_, CoverOptions<'_>>,
     output: &mut W,
     messages: &mut E,
-) -> u8
-    ensures left { LeavesOfSource (IsSourceCovered asked.now.long asked.now.arena asked.now.origins.now)
+) -> Run
+    ensures left { LeavesOfSource (IsSourceCovered asked.now.long asked.now.options.now.arena asked.now.options.now.origins.now)
         (R.remaining source.old) (R.remaining source.new)
-        (status_alone result) (W.contents output.old) (W.contents output.new)
+        result (W.contents output.old) (W.contents output.new)
         (E.contents messages.old) (E.contents messages.new) }
-    ensures large { RefusesLargeSource asked.now.long (R.remaining source.old) (R.remaining source.new) (status_alone result)
+    ensures large { RefusesLargeSource asked.now.long (R.remaining source.old) (R.remaining source.new) result
         (W.contents output.old) (W.contents output.new) (E.contents messages.old) (E.contents messages.new) }
 {
-    match read_input(alloc, source, MOST_BYTES) {
-        Ok(bytes) => {
-            let made = cover_transcript(alloc, &bytes, asked);
-            deliver_made(alloc, made, output, messages).status
-        }
-        Err(fault) => say_unread(messages, fault),
-    }
+    deliver_source::<CoverOptions<'_>, R, W, E>(alloc, source, asked, output, messages)
 }

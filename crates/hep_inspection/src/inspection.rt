@@ -4,32 +4,26 @@ ghost use Rattle.hep_inspection.specs.declared.origin.Origin.TheVariants.{Text};
 ghost use Rattle.hep_inspection.specs.declared.inspection.Inspection.TheVariants.{State};
 ghost use Rattle.hep_replay.specs.HistoryPrefix.{first_of};
 ghost use Rattle.hep_replay.specs.Replays.{IsUnmade};
-ghost use Rattle.hep_run.specs.Delivery.{LeavesOfSource, status_alone};
-ghost use Rattle.hep_run.specs.Memory.{MayReadOn, RefusesLargeSource};
+ghost use Rattle.hep_run.specs.Delivery.{LeavesOfSource};
+ghost use Rattle.hep_run.specs.Memory.{RefusesLargeSource};
 ghost use Rattle.hep_state_text.specs.States as words;
 ghost use Rattle.hep_state_text.specs.LineDisplay.{line_shown};
 ghost use Rattle.hep_text.specs.Line.{lines};
 ghost use Rattle.hep_inspection.specs.Covers.{CanBeMade};
 ghost use Rattle.hep_inspection.specs.Inspections.{IsFirstOutcome, IsSourceTold, IsToldOutcome, told};
 ghost use Rattle.hep_cover.specs.CausesReasons as reasons;
-ghost use Rattle.hep_diff.specs.EventTraces as traces;
-ghost use Rattle.hep_trace.specs.LineFilters.{shown_on};
 ghost use Rattle.hep_outcome.specs.Memory.{MayOpen};
 ghost use Rattle.hep_outcome.specs.Transcripts.{outcome_of};
 
 use crate::origin::{Origin, Recorded, entries_of};
-use crate::state_view::state_text;
 use hep_core::Core;
 use hep_cover::{History, HistoryPrefix, ReplayFault, replay_first, why_text};
 use hep_image::Image;
-use hep_run::delivery::deliver_made;
-use hep_run::front_end::image_of_source;
-use hep_run::input::read_input;
-use hep_run::say_unread;
-use hep_run::source::MOST_BYTES;
+use hep_page::{page_text, state_text};
+use hep_run::Run;
+use hep_run::command::{Command, CommandRequest, deliver_source};
 use hep_run::transcript::{
-    Transcript, fault_transcript, full_transcript, history_transcript, opening_notes_when,
-    text_transcript,
+    Transcript, full_transcript, history_transcript, opening_notes_when, text_transcript,
 };
 use hep_state_text::Listing;
 use hep_trace::{LineFilter, trace_history};
@@ -43,13 +37,15 @@ pub enum Inspection<'a> {
     State,
     /// A line for each of their steps, as far as these are shown.
     Trace(LineFilter<'a>),
+    /// A page that shows their steps in a browser.
+    Page,
     /// Why processes wait after them.
     Why,
 }
 
 /// A history, and what is to be written about its first entries.
 #[derive(Clone, Copy)]
-pub struct InspectionRequest<'a> {
+pub struct InspectionOptions<'a> {
     pub telling: Inspection<'a>,
     /// Where the history comes from.
     pub origin: Origin<'a>,
@@ -57,8 +53,6 @@ pub struct InspectionRequest<'a> {
     pub entries: u64,
     /// The arena's size in cells, 1 to 16,777,216.
     pub arena: u32,
-    /// Whether notes are written besides the lines of the standard form.
-    pub long: bool,
     ghost some: { 1 ≤ arena },
     ghost few: { arena ≤ 16777216 },
 }
@@ -113,39 +107,25 @@ fn why_told(
     }
 }
 
-// A line for each step of entries, as far as these are shown, while they are made.
-fn trace_told(
-    alloc: Global,
-    image: Image,
-    arena: u32,
-    entries: &HistoryPrefix<'_>,
-    page: LineFilter<'_>,
-) -> Result<Vec<u8>, ReplayFault>
-    requires some { 1 ≤ arena }
-    requires few { arena ≤ 16777216 }
-    ensures told { IfOk result (λ text. text.items ≡ traces.trace_text image (shown_on page.entry) (first_of entries.now)) }
-    ensures possible { OnOk result (CanBeMade image arena (first_of entries.now)) }
-    ensures unmade { IfErr result (IsUnmade image arena (first_of entries.now)) }
-{
-    trace_history(alloc, image, arena, entries, &page)
-}
-
 // The text about entries, which are made once for it.
 fn told_text(
     alloc: Global,
     source: &[u8],
     image: Image,
-    asked: &InspectionRequest<'_>,
+    asked: &CommandRequest<'_, InspectionOptions<'_>>,
     entries: &HistoryPrefix<'_>,
 ) -> Result<Vec<u8>, ReplayFault>
-    ensures told { IfOk result (λ text. text.items ≡ told asked.now.telling source.now image (first_of entries.now)) }
-    ensures possible { OnOk result (CanBeMade image asked.now.arena (first_of entries.now)) }
-    ensures unmade { IfErr result (IsUnmade image asked.now.arena (first_of entries.now)) }
+    ensures told { IfOk result (λ text. text.items ≡ told asked.now.options.now.telling source.now image (first_of entries.now)) }
+    ensures possible { OnOk result (CanBeMade image asked.now.options.now.arena (first_of entries.now)) }
+    ensures unmade { IfErr result (IsUnmade image asked.now.options.now.arena (first_of entries.now)) }
 {
-    match asked.telling {
-        Inspection::State => state_told(alloc, source, image, asked.arena, entries),
-        Inspection::Trace(page) => trace_told(alloc, image, asked.arena, entries, page),
-        Inspection::Why => why_told(alloc, image, asked.arena, entries),
+    match asked.options.telling {
+        Inspection::State => state_told(alloc, source, image, asked.options.arena, entries),
+        Inspection::Trace(page) => {
+            trace_history(alloc, image, asked.options.arena, entries, &page)
+        }
+        Inspection::Page => page_text(alloc, image, asked.options.arena, entries, source),
+        Inspection::Why => why_told(alloc, image, asked.options.arena, entries),
     }
 }
 
@@ -154,18 +134,18 @@ fn entries_state(
     alloc: Global,
     source: &[u8],
     image: Image,
-    asked: &InspectionRequest<'_>,
+    asked: &CommandRequest<'_, InspectionOptions<'_>>,
     entries: &History,
 ) -> Result<Transcript, AllocError>
     ensures made { IfOk result (λ r.
-        IsToldOutcome asked.now.telling asked.now.long source.now image asked.now.arena (take asked.now.entries entries.now.items) (outcome_of r)) }
-    ensures unmade { OnErr result (MayOpen asked.now.long image asked.now.arena) }
+        IsToldOutcome asked.now.options.now.telling asked.now.long source.now image asked.now.options.now.arena (take asked.now.options.now.entries entries.now.items) (outcome_of r)) }
+    ensures unmade { OnErr result (MayOpen asked.now.long image asked.now.options.now.arena) }
 {
     let first = HistoryPrefix {
         history: entries,
-        count: asked.entries,
+        count: asked.options.entries,
     };
-    let notes = opening_notes_when(alloc, &image, asked.arena, asked.long)?;
+    let notes = opening_notes_when(alloc, &image, asked.options.arena, asked.long)?;
     match told_text(alloc, source, image, asked, &first) {
         Ok(text) => Ok(text_transcript(alloc, text)),
         Err(ReplayFault::NoMemory) => Err(AllocError),
@@ -179,64 +159,55 @@ fn image_state(
     alloc: Global,
     source: &[u8],
     image: Image,
-    asked: &InspectionRequest<'_>,
+    asked: &CommandRequest<'_, InspectionOptions<'_>>,
 ) -> Result<Transcript, AllocError>
     ensures { IfOk result (λ r.
-        IsFirstOutcome asked.now.telling asked.now.long asked.now.origin asked.now.entries asked.now.arena source.now image (outcome_of r)) }
+        IsFirstOutcome asked.now.options.now.telling asked.now.long asked.now.options.now.origin asked.now.options.now.entries asked.now.options.now.arena source.now image (outcome_of r)) }
 {
-    match entries_of(alloc, &image, &asked.origin)? {
+    match entries_of(alloc, &image, &asked.options.origin)? {
         Recorded::Made(entries) => entries_state(alloc, source, image, asked, &entries),
         Recorded::Refused(refused) => Ok(refused),
     }
 }
 
-/// All that is written about a state, before a byte of it is written.
-///
-/// # Errors
-///
-/// Only where memory was refused, which without notes is asked for only where the source isn't too large.
-pub fn state_transcript(
-    alloc: Global,
-    source: &[u8],
-    asked: &InspectionRequest<'_>,
-) -> Result<Transcript, AllocError>
-    ensures made { IfOk result (λ r.
-        IsSourceTold asked.now.telling asked.now.long asked.now.origin asked.now.entries asked.now.arena source.now (outcome_of r)) }
-    ensures unmade { OnErr result (MayReadOn asked.now.long source.now) }
-{
-    match image_of_source(alloc, source, asked.long) {
-        Ok(image) => image_state(alloc, source, image, asked),
-        Err(fault) => fault_transcript(alloc, fault),
+impl Command for InspectionOptions<'_> {
+    ghost use Rattle.hep_inspection.specs.Inspections.{IsFirstOutcome};
+
+    type Front = Image;
+
+    ghost gives = { λ options long. IsFirstOutcome options.telling long options.origin options.entries options.arena };
+
+    fn transcript(
+        alloc: Global,
+        source: &[u8],
+        image: Image,
+        asked: &CommandRequest<'_, Self>,
+    ) -> Result<Transcript, AllocError> {
+        image_state(alloc, source, image, asked)
     }
 }
 
 /// Reads a source, makes the first entries of a history of it again, and writes a text about them to `output`; or to
 /// `messages` why there is no such state. The text is the state after them (the place of each process, with the line
-/// of the source, and the values of COMMON and of the held activations), or a line for each step, or why processes
-/// wait.
+/// of the source, and the values of COMMON and of the held activations), or a line for each step, or a page of them, or
+/// why processes wait.
 ///
-/// The bytes or the choices of the history were read before. The answer is the code of a `Status`.
+/// The bytes or the choices of the history were read before. The run's status is the code of a `Status`.
 pub fn state_noted<R: Read, W: Write, E: Write>(
     alloc: Global,
     source: &mut R,
-    asked: &InspectionRequest<'_>,
+    asked: &CommandRequest<'_, InspectionOptions<'_>>,
     output: &mut W,
     messages: &mut E,
-) -> u8
-    ensures left { LeavesOfSource (IsSourceTold asked.now.telling asked.now.long asked.now.origin asked.now.entries asked.now.arena)
+) -> Run
+    ensures left { LeavesOfSource (IsSourceTold asked.now.options.now.telling asked.now.long asked.now.options.now.origin asked.now.options.now.entries asked.now.options.now.arena)
         (R.remaining source.old) (R.remaining source.new)
-        (status_alone result) (W.contents output.old) (W.contents output.new)
+        result (W.contents output.old) (W.contents output.new)
         (E.contents messages.old) (E.contents messages.new) }
-    ensures large { RefusesLargeSource asked.now.long (R.remaining source.old) (R.remaining source.new) (status_alone result)
+    ensures large { RefusesLargeSource asked.now.long (R.remaining source.old) (R.remaining source.new) result
         (W.contents output.old) (W.contents output.new) (E.contents messages.old) (E.contents messages.new) }
 {
-    match read_input(alloc, source, MOST_BYTES) {
-        Ok(bytes) => {
-            let made = state_transcript(alloc, &bytes, asked);
-            deliver_made(alloc, made, output, messages).status
-        }
-        Err(fault) => say_unread(messages, fault),
-    }
+    deliver_source::<InspectionOptions<'_>, R, W, E>(alloc, source, asked, output, messages)
 }
 
 /// Writes the state after the first entries of a history, as `state_noted` does without notes, in an arena of 65,536
@@ -248,19 +219,22 @@ pub fn state_source<R: Read, W: Write, E: Write>(
     entries: u64,
     output: &mut W,
     messages: &mut E,
-) -> u8
+) -> Run
     ensures left { LeavesOfSource (IsSourceTold State false (Text history.entry) entries 65536)
         (R.remaining source.old) (R.remaining source.new)
-        (status_alone result) (W.contents output.old) (W.contents output.new)
+        result (W.contents output.old) (W.contents output.new)
         (E.contents messages.old) (E.contents messages.new) }
-    ensures large { RefusesLargeSource false (R.remaining source.old) (R.remaining source.new) (status_alone result)
+    ensures large { RefusesLargeSource false (R.remaining source.old) (R.remaining source.new) result
         (W.contents output.old) (W.contents output.new) (E.contents messages.old) (E.contents messages.new) }
 {
-    let asked = InspectionRequest {
+    let options = InspectionOptions {
         telling: Inspection::State,
         origin: Origin::Text(history),
         entries,
         arena: 65_536,
+    };
+    let asked = CommandRequest {
+        options: &options,
         long: false,
     };
     state_noted(alloc, source, &asked, output, messages)

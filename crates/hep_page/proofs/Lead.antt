@@ -1,7 +1,7 @@
 -- What everything holds, and the changes of turns, lead to what everything holds after these.
 use Rattle.std.proofs.Common.{◌≡◌, ℕ, zero, suc, List, [], ◌∷◌, ◌++◌, take, append_assoc, append-nil, refl, sym, ap, ◌∙◌}
 use Rattle.hep_core.proofs.Histories.{progress-last, progress-state}
-use Rattle.hep_edits.proofs.Edits.{after-same}
+use Rattle.hep_page.proofs.Edits.{after-same}
 use Rattle.hep_machine.specs.declared.event.Entry.{Entry}
 use Rattle.hep_machine.specs.Words.{Progress, State, Units, progress_after, progress_after_entry, progress_from}
 use Rattle.hep_state_text.specs.Lines.{head_text}

@@ -1,1 +1,9 @@
+pub mod Joined
+pub mod Edits
+pub mod Same
 pub mod Lead
+mod FrameLines
+mod StateViews
+mod NextTurns
+mod NotedTurns
+pub mod PagesOfCores

@@ -1,10 +1,10 @@
 -- What each turn of a history changes in the text of what everything holds: docs/page/README.md.
 use Rattle.std.specs.Prelude.{ℕ, List, [], ◌∷◌, ◌++◌, codes, Option}
 use Rattle.std.specs.List.{flat_map}
-use Rattle.hep_edits.specs.Edits.{Edit, edit_between, edit_text, text_after}
+use Rattle.hep_page.specs.Edits.{Edit, edit_between, edit_text, text_after}
 use Rattle.hep_machine.specs.declared.event.Entry.{Entry}
 use Rattle.hep_machine.specs.Words.{Progress, Units, blocks_of, progress_after, progress_after_entry}
-use Rattle.hep_page.specs.declared.changes.Parts.{Parts}
+use Rattle.hep_page.specs.declared.state_view.Parts.{Parts}
 use Rattle.hep_replay.specs.Replays.{single_entries}
 use Rattle.hep_state_text.specs.States.{activations_text, block_text, processes_text}
 
@@ -18,9 +18,9 @@ pub record PartTexts : Type 0 where
 abbrev pub parts_text : PartTexts → List ℕ
 parts_text parts = parts.processes ++ parts.common ++ parts.activations
 
--- as a slice each
+-- as a vector each
 abbrev pub texts_of : Parts → PartTexts
-texts_of parts = record { processes = parts.processes.now; common = parts.common.now; activations = parts.activations.now }
+texts_of parts = record { processes = parts.processes.items; common = parts.common.items; activations = parts.activations.items }
 
 -- the edit of each part that differs
 pub record Change : Type 0 where

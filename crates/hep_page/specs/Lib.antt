@@ -1,4 +1,10 @@
+pub mod Edits
+pub mod WorkedEdits
 pub mod Changes
 pub mod Html
+pub mod SourceLines
+pub mod Templates
 pub mod Pages
 pub mod Worked
+pub mod Frames
+pub mod ChangeLogs

@@ -2,16 +2,9 @@
 ghost use Rattle.std.specs.Prelude.{◌≡◌, ◌++◌, OnOk};
 ghost use Rattle.hep_page.specs.Changes as words;
 
-use hep_edits::append_edit;
+use crate::edit::append_edit;
+use crate::state_view::Parts;
 use std::alloc::{AllocError, Global};
-
-/// The parts of the text of what everything holds: the lines of processes, of common blocks and of activations.
-#[derive(Clone, Copy)]
-pub struct Parts<'a> {
-    pub processes: &'a [u8],
-    pub common: &'a [u8],
-    pub activations: &'a [u8],
-}
 
 /// Appends what changes from the text of a state to that of the next one: a line of its own, and the edit of each part that differs.
 ///
@@ -21,15 +14,15 @@ pub struct Parts<'a> {
 pub fn append_change(
     alloc: Global,
     text: &mut Vec<u8>,
-    old: &Parts<'_>,
-    new: &Parts<'_>,
+    old: &Parts,
+    new: &Parts,
 ) -> Result<(), AllocError>
     ensures { OnOk result (text.new.items
         ≡ text.old.items ++ words.change_text (words.change_between (words.texts_of old.now) (words.texts_of new.now))) }
 {
     text.extend_from_slice(b"=\n")?;
-    append_edit(alloc, text, b"P", old.processes, new.processes)?;
-    append_edit(alloc, text, b"B", old.common, new.common)?;
-    append_edit(alloc, text, b"A", old.activations, new.activations)?;
+    append_edit(alloc, text, b"P", &old.processes, &new.processes)?;
+    append_edit(alloc, text, b"B", &old.common, &new.common)?;
+    append_edit(alloc, text, b"A", &old.activations, &new.activations)?;
     Ok(())
 }

@@ -5,3 +5,6 @@ pub mod UnitEntries
 pub mod ClocksAfter
 pub mod ObservedMore
 pub mod Renamed
+pub mod EntryNumbers
+pub mod PlaceTexts
+pub mod NamedLines

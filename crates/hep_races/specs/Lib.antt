@@ -5,3 +5,7 @@ pub mod LatestRaces
 pub mod Tables
 pub mod Detectors
 pub mod Renamings
+pub mod EntryNumbers
+pub mod RaceLines
+pub mod SeenRaces
+pub mod Races

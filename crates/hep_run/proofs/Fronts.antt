@@ -88,8 +88,3 @@ module _ (Is : List ℕ → Outcome → Type 0) (same_for_long : (s t : List ℕ
   read_left known left bytes source run output output' messages messages' same taken end (inl wants) = inr ((bytes, taken, end), inl wants)
   read_left known left bytes source run output output' messages messages' same taken end (inr (o, is, leaves)) =
       inr ((bytes, taken, end), inr (o, outcome_of_front known left bytes o taken end (subst (λ (l : List ℕ). Is l o) same is), leaves))
-
-module _ (long : Bool) (IsRefused : Units → ℕ → ℕ → List ℕ → Type 0) (Holds : Units → Type 0) (Comes : Units → Outcome → Type 0) where
-  -- the same of what comes of a program, whatever its source is
-  pub source_left : (known left : Option (List ℕ)) (bytes source : List ℕ) (run : Run) (output output' messages messages' : Option (List ℕ)) → source ≡ bytes → Consumes known left bytes → (length bytes ≤ 4194304 → IsAtEnd left) → LeavesOneOf (ComesTo long IsRefused Holds Comes source) run output output' messages messages' → LeavesOfSource (ComesTo long IsRefused Holds Comes) known left run output output' messages messages'
-  source_left = read_left (ComesTo long IsRefused Holds Comes) (same_outcome long IsRefused Holds (λ source. Comes))

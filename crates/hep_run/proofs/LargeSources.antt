@@ -14,7 +14,7 @@ use Rattle.hep_outcome.specs.Outcome.{Outcome}
 use Rattle.hep_run.specs.Outcome.{ComesTo, refused}
 use Rattle.hep_outcome.specs.Transcripts.{outcome_of}
 use Rattle.hep_run.specs.Transcripts.{LeavesMade}
-use Rattle.hep_run.proofs.Accepted.{alone}
+use Rattle.hep_run.proofs.NoHistory.{alone}
 use Rattle.hep_run.proofs.Fronts.{unread, over}
 use Rattle.hep_run.proofs.Wanted.{large-alone, large-refused}
 
@@ -48,7 +48,7 @@ module _ (long : Bool) (IsRefused : Units → ℕ → ℕ → List ℕ → Type 
 
 -- it has no history
 pub large-status : (long : Bool) (source : List ℕ) (run : Run) (output output' messages messages' : Option (List ℕ)) → RefusesLarge long source run output output' messages messages' → RefusesLarge long source (status_alone run.status) output output' messages messages'
-large-status long source run output output' messages messages' left = λ short large. alone (refused 107 0 [] []) run output output' messages messages' refl (left short large)
+large-status long source run output output' messages messages' left = λ short large. alone run output output' messages messages' (refused 107 0 [] []) refl (left short large)
 
 -- ---- readers
 

@@ -1,8 +1,7 @@
 mod Counts
 mod Messages
 pub mod Fronts
-pub mod Accepted
-mod AnsweredRuns
+pub mod NoHistory
 pub mod Outcomes
 pub mod LargeSources
 mod RefusalNotes

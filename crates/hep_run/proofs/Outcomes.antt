@@ -8,6 +8,8 @@ use Rattle.hep_run.specs.Delivery.{LeavesOneOf}
 use Rattle.hep_run.specs.Transcripts.{LeavesMade}
 
 -- this, where its outcome is one of these
-pub made_left : {E : Type 0} (Is : Outcome → Type 0) (r : Result Transcript E) (run : Run) (output output' messages messages' : Option (List ℕ)) → IfOk r (λ t. Is (outcome_of t)) → LeavesMade r run output output' messages messages' → LeavesOneOf Is run output output' messages messages'
+pub made_left : {E : Type 0} (Is : Outcome → Type 0) (r : Result Transcript E) (run : Run) (output output' messages messages' : Option (List ℕ))
+    → IfOk r (λ t. Is (outcome_of t)) → LeavesMade r run output output' messages messages'
+    → LeavesOneOf Is run output output' messages messages'
 made_left Is (Ok t) run output output' messages messages' is left = inr (outcome_of t, is, left)
 made_left Is (Err e) run output output' messages messages' is left = inl left

@@ -7,9 +7,8 @@ use Rattle.hep_lower.specs.Refusals as lower
 use Rattle.hep_run.specs.declared.refusal.SourceFault.{SourceFault}
 use Rattle.hep_run.specs.declared.refusal.SourceFault.TheVariants as source
 use Rattle.hep_run.specs.Notes.{line_notes_when}
-use Rattle.hep_run.specs.Refusals.{IsSourceRefusal, noted}
+use Rattle.hep_run.specs.Refusals.{IsRefusal, IsSourceRefusal, noted}
 use Rattle.hep_run.specs.Sources.{IsAcceptedSource, IsRefusedFor, IsRefusedProgram, IsUnrunnableProgram}
-use Rattle.hep_run.proofs.Wanted.{IsNoted}
 
 -- what a refusal says holds
 abbrev Says : (ℕ → ℕ → List ℕ → Type 0) → Refusal → Type 0
@@ -21,7 +20,8 @@ abbrev IsByLine : (Units → ℕ → ℕ → List ℕ → Type 0) → List ℕ �
 IsByLine Is bytes refusal = Says (λ number line name. IsRefusedFor Is bytes number line name × IsRefusedFor IsUnrunnableProgram bytes number line name) refusal
 
 -- the notes are those by the line
-by_line : (long : Bool) (Is : Units → ℕ → ℕ → List ℕ → Type 0) (bytes : List ℕ) (refusal : Refusal) → IsByLine Is bytes refusal → IsNoted long Is bytes (noted (line_notes_when long bytes) refusal)
+by_line : (long : Bool) (Is : Units → ℕ → ℕ → List ℕ → Type 0) (bytes : List ℕ) (refusal : Refusal)
+    → IsByLine Is bytes refusal → IsRefusal Is long bytes (noted (line_notes_when long bytes) refusal)
 by_line long Is bytes NoMemory h = tt
 by_line false Is bytes (Refused number line name) h = (h.0, refl)
 by_line true Is bytes (Refused number line name) h = (h.0, inl (h.1, refl))

@@ -12,7 +12,7 @@ use Rattle.hep_run.specs.Memory.{IsWant, MayReadOn, tells_large}
 use Rattle.hep_run.specs.Notes.{AreNotes, line_notes_when}
 use Rattle.hep_outcome.proofs.Wanted.{none-there}
 use Rattle.hep_run.specs.Outcome.{refused}
-use Rattle.hep_run.specs.Refusals.{Tells, noted}
+use Rattle.hep_run.specs.Refusals.{IsRefusal, noted}
 use Rattle.hep_run.specs.Sources.{IsRefusedFor, IsSourceOf}
 use Rattle.hep_run.specs.declared.refusal.SourceFault.{SourceFault}
 use Rattle.hep_run.specs.declared.refusal.SourceFault.TheVariants.{NoMemory, Refused}
@@ -34,10 +34,6 @@ read-small source statements read = by-size (is_too_large source) refl where
 pub program-small : (Is : Units → Type 0) (source : List ℕ) (program : Units) → IsSourceOf Is source program → is_too_large source ≡ false
 program-small Is source program (statements, read, reading, holds) = read-small source statements read
 
--- the source is refused so, with these notes
-abbrev pub IsNoted : Bool → (Units → ℕ → ℕ → List ℕ → Type 0) → List ℕ → SourceFault → Type 0
-IsNoted long Is bytes fault = Tells (λ number line name notes. IsRefusedFor Is bytes number line name × AreNotes long bytes number line name notes) fault
-
 -- a source that is too large has this refusal alone
 pub large-alone : (Is : Units → ℕ → ℕ → List ℕ → Type 0) (bytes : List ℕ) (number line : ℕ) (name notes : List ℕ) → statements_of bytes ≡ refusal 107 0 → IsRefusedFor Is bytes number line name → notes ≡ []
     → tells_large (Refused number line name notes) ≡ true
@@ -51,7 +47,8 @@ large-alone Is bytes number line name notes large (inr (inl (ss, e, first))) bar
 large-alone Is bytes number line name notes large (inr (inr (ss, p, e, program, so))) bare = unread bytes ss large e
 
 -- why a source isn't run is a refusal that needs memory to be told, or was found where memory was asked for
-pub may-read-on : (long : Bool) (Is : Units → ℕ → ℕ → List ℕ → Type 0) (bytes : List ℕ) (fault : SourceFault) → IsNoted long Is bytes fault → IsWant long bytes fault → tells_large fault ≡ false → MayReadOn long bytes
+pub may-read-on : (long : Bool) (Is : Units → ℕ → ℕ → List ℕ → Type 0) (bytes : List ℕ) (fault : SourceFault)
+    → IsRefusal Is long bytes fault → IsWant long bytes fault → tells_large fault ≡ false → MayReadOn long bytes
 may-read-on true Is bytes fault why want other = inl refl
 may-read-on false Is bytes NoMemory why want other = want refl
 may-read-on false Is bytes (Refused number line name notes) why want other = by-size (is_too_large bytes) refl where

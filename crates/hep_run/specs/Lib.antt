@@ -3,7 +3,6 @@ pub mod Notes
 pub mod Outcome
 pub mod Workers
 pub mod Checks
-pub mod Warnings
 pub mod Refusals
 pub mod Memory
 pub mod Transcripts

@@ -28,6 +28,11 @@ ComesTo long IsRefused Holds Comes source o =
 abbrev pub RunsTo : Bool → (Units → Outcome → Type 0) → List ℕ → Outcome → Type 0
 RunsTo long Comes source o = ComesTo long IsRefusedProgram IsRunnable Comes source o
 
+-- the outcome of a command, by what it gives of a source and its program
+abbrev pub IsCommandOutcome : (Units → ℕ → ℕ → List ℕ → Type 0) → (Units → Type 0) → (Bool → List ℕ → Units → Outcome → Type 0)
+    → Bool → List ℕ → Outcome → Type 0
+IsCommandOutcome IsRefused Holds gives long source o = ComesTo long IsRefused Holds (gives long source) source o
+
 -- ---- runs of sources, with notes where they are asked for
 
 -- the outcome of a run of a source by these options

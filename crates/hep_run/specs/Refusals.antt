@@ -4,11 +4,11 @@ use Rattle.std.specs.Option.{option_map_or}
 use Rattle.hep_base.specs.declared.refusal.Refusal.{Refusal}
 use Rattle.hep_base.specs.declared.refusal.Refusal.TheVariants.{NoMemory, Refused}
 use Rattle.hep_conditions.specs.declared.violation.Violation.{Violation}
-use Rattle.hep_machine.specs.Words.{spelling}
+use Rattle.hep_machine.specs.Words.{spelling, Units}
 use Rattle.hep_run.specs.declared.refusal.SourceFault.{SourceFault}
 use Rattle.hep_run.specs.declared.refusal.SourceFault.TheVariants as source
 use Rattle.hep_run.specs.Notes.{AreNotes}
-use Rattle.hep_run.specs.Sources.{IsRefusedSource, IsUnacceptedSource}
+use Rattle.hep_run.specs.Sources.{IsRefusedFor, IsRefusedProgram, IsViolatingProgram}
 
 -- a violation as it is reported
 abbrev pub refusal_of : Violation → Refusal
@@ -24,12 +24,15 @@ abbrev pub Tells : (ℕ → ℕ → List ℕ → List ℕ → Type 0) → Source
 Tells Is source.NoMemory = Unit {0}
 Tells Is (source.Refused number line name notes) = Is number line name notes
 
--- why a source isn't accepted, with notes where they are asked for
-abbrev pub IsCheckRefusal : Bool → List ℕ → SourceFault → Type 0
-IsCheckRefusal long bytes fault =
-    Tells (λ number line name notes. IsUnacceptedSource bytes number line name × AreNotes long bytes number line name notes) fault
+-- why a source has no program that isn't refused so, with notes where they are asked for
+abbrev pub IsRefusal : (Units → ℕ → ℕ → List ℕ → Type 0) → Bool → List ℕ → SourceFault → Type 0
+IsRefusal Is long bytes fault =
+    Tells (λ number line name notes. IsRefusedFor Is bytes number line name × AreNotes long bytes number line name notes) fault
 
--- why a source isn't run, with notes where they are asked for
+-- why a source isn't accepted
+abbrev pub IsCheckRefusal : Bool → List ℕ → SourceFault → Type 0
+IsCheckRefusal long bytes fault = IsRefusal IsViolatingProgram long bytes fault
+
+-- why a source isn't run
 abbrev pub IsSourceRefusal : Bool → List ℕ → SourceFault → Type 0
-IsSourceRefusal long bytes fault =
-    Tells (λ number line name notes. IsRefusedSource bytes number line name × AreNotes long bytes number line name notes) fault
+IsSourceRefusal long bytes fault = IsRefusal IsRefusedProgram long bytes fault

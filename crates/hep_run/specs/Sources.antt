@@ -30,14 +30,6 @@ IsRefusedFor Is source number line name =
     ⊎ ((statements : List Stmt) × (statements_of source ≡ Ok statements) × IsFirstFault statements number line name)
     ⊎ ((statements : List Stmt) × (program : Units) × (statements_of source ≡ Ok statements) × IsProgram statements program × Is program number line name)
 
--- the source isn't accepted
-abbrev pub IsUnacceptedSource : List ℕ → ℕ → ℕ → List ℕ → Type 0
-IsUnacceptedSource source number line name = IsRefusedFor IsViolatingProgram source number line name
-
--- the source isn't run: it isn't accepted, or passes a limit
-abbrev pub IsRefusedSource : List ℕ → ℕ → ℕ → List ℕ → Type 0
-IsRefusedSource source number line name = IsRefusedFor IsRefusedProgram source number line name
-
 -- ---- programs
 
 -- the source is this program, which satisfies `Is`

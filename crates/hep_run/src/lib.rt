@@ -4,21 +4,21 @@
 #![tactic(auto)]
 
 pub mod checks;
+pub mod command;
 pub mod companion_files;
 pub mod delivery;
 pub mod front_end;
 pub mod input;
 pub mod options;
 pub mod refusal;
-pub mod replay;
-pub mod run;
-pub mod run_by_lots;
 pub mod run_by_workers;
+pub mod runs;
 pub mod sample;
 pub mod source;
 pub mod transcript;
-pub mod warnings;
 
+pub use checks::{Check, List, Warn};
+pub use command::{Command, CommandRequest, deliver_source};
 pub use companion_files::{
     answer, choices_of, followed_of, history_text, read_text_file, say_unread, say_unwritten,
 };
@@ -26,8 +26,7 @@ pub use delivery::put_text;
 pub use hep_check::{Checked, check};
 pub use hep_lower::lower;
 pub use hep_outcome::{
-    LotOptions, LotsRequest, MOST_SEED, Options, ReplayFault, ReplayRequest, RunRequest,
-    SampleOptions, SampleRequest, dump_text, read_text, write_text,
+    LotOptions, MOST_SEED, Options, ReplayFault, SampleOptions, dump_text, read_text, write_text,
 };
 pub use hep_replay::replay as history_replay;
 pub use hep_workers::{
@@ -36,12 +35,7 @@ pub use hep_workers::{
     WorkFault, WorkOptions, close, compute, run_workers, worker_turn,
 };
 pub use input::ReadFault;
-pub use options::{Run, WorkRequest};
-pub use run_by_lots::{lots_bytes, lots_noted};
+pub use options::{ReplayOptions, Run, WorkRequest};
 pub use run_by_workers::{work_noted, work_source};
 pub use sample::{Sample, lots_history, sample_bytes};
-pub use source::{
-    check_noted, check_source, list_noted, list_source, replay_bytes, replay_noted, replay_source,
-    run_bytes, run_noted, run_source,
-};
-pub use warnings::{warn_noted, warn_source};
+pub use source::{check_source, list_source, lots_noted, replay_source, run_source, warn_source};

@@ -6,6 +6,7 @@ ghost use Rattle.hep_run.specs.Memory.{MayReadOn, RefusesLargeSource};
 ghost use Rattle.hep_outcome.specs.Transcripts.{outcome_of};
 ghost use Rattle.hep_run.specs.Workers.{IsImageWorked, IsWorkOutcome, outcome_of_refused_workers};
 
+use crate::command::CommandRequest;
 use crate::companion_files::say_unread;
 use crate::delivery::deliver_made;
 use crate::front_end::image_of_source;
@@ -42,15 +43,16 @@ fn image_transcript<H: Threads + Wait + Sync, G: Gate + Sync>(
     alloc: Global,
     image: Image,
     asked: &WorkRequest<'_, H, G>,
+    long: bool,
 ) -> Result<Transcript, AllocError>
-    ensures made { IfOk result (λ r. IsImageWorked asked.now.long image asked.now.options.now (outcome_of r)) }
-    ensures unmade { OnErr result (MayOpen asked.now.long image asked.now.options.now.arena) }
+    ensures made { IfOk result (λ r. IsImageWorked long image asked.now.options.now (outcome_of r)) }
+    ensures unmade { OnErr result (MayOpen long image asked.now.options.now.arena) }
 {
-    let notes = opening_notes_when(alloc, &image, asked.options.arena, asked.long)?;
+    let notes = opening_notes_when(alloc, &image, asked.options.arena, long)?;
     match run_unlogged(asked.threads, alloc, image, asked.options, asked.gate) {
         Ok(core) => {
             core.headline();
-            ended_transcript(alloc, core, asked.long)
+            ended_transcript(alloc, core, long)
         }
         Err(fault) => match fault {
             WorkFault::ArenaFull => full_transcript(alloc, &notes),
@@ -62,33 +64,34 @@ fn image_transcript<H: Threads + Wait + Sync, G: Gate + Sync>(
     }
 }
 
-// All that a run of a source by workers writes, before a byte of it is written.
+// All that a run of a source by workers writes, before a byte of it is written. No `Command` starts threads, since it can't
+// say that what it is handed may go to them.
 fn work_transcript<H: Threads + Wait + Sync, G: Gate + Sync>(
     alloc: Global,
     source: &[u8],
-    asked: &WorkRequest<'_, H, G>,
+    asked: &CommandRequest<'_, WorkRequest<'_, H, G>>,
 ) -> Result<Transcript, AllocError>
-    ensures made { IfOk result (λ r. IsWorkOutcome asked.now.long asked.now.options.now source.now (outcome_of r)) }
+    ensures made { IfOk result (λ r. IsWorkOutcome asked.now.long asked.now.options.now.options.now source.now (outcome_of r)) }
     ensures unmade { OnErr result (MayReadOn asked.now.long source.now) }
 {
     match image_of_source(alloc, source, asked.long) {
-        Ok(image) => image_transcript(alloc, image, asked),
+        Ok(image) => image_transcript(alloc, image, asked.options, asked.long),
         Err(fault) => fault_transcript(alloc, fault),
     }
 }
 
-/// Runs a source by workers: reads it, checks it, lets threads make its steps, and then writes as `run_noted` does,
-/// or `WORKERS REFUSED` with a number to `messages` where the workers gave up.
+/// Runs a source by workers: reads it, checks it, lets threads make its steps, and then writes as `run_source` does,
+/// or `WORKERS REFUSED` with a number to `messages` where the workers gave up; with notes where they are asked for.
 ///
 /// The run's status is the code of a `Status`. The call may wait. Its contract holds if it returns.
 pub fn work_noted<H: Threads + Wait + Sync, G: Gate + Sync, R: Read, W: Write, E: Write>(
     alloc: Global,
     source: &mut R,
-    asked: &WorkRequest<'_, H, G>,
+    asked: &CommandRequest<'_, WorkRequest<'_, H, G>>,
     output: &mut W,
     messages: &mut E,
 ) -> Run
-    ensures left { LeavesOfSource (IsWorkOutcome asked.now.long asked.now.options.now) (R.remaining source.old) (R.remaining source.new)
+    ensures left { LeavesOfSource (IsWorkOutcome asked.now.long asked.now.options.now.options.now) (R.remaining source.old) (R.remaining source.new)
         result (W.contents output.old) (W.contents output.new)
         (E.contents messages.old) (E.contents messages.new) }
     ensures large { RefusesLargeSource asked.now.long (R.remaining source.old) (R.remaining source.new) result
@@ -122,10 +125,13 @@ pub fn work_source<H: Threads + Wait + Sync, G: Gate + Sync, R: Read, W: Write, 
     ensures large { RefusesLargeSource false (R.remaining source.old) (R.remaining source.new) result
         (W.contents output.old) (W.contents output.new) (E.contents messages.old) (E.contents messages.new) }
 {
-    let asked = WorkRequest {
+    let options = WorkRequest {
         threads: rt,
         options,
         gate,
+    };
+    let asked = CommandRequest {
+        options: &options,
         long: false,
     };
     work_noted(alloc, source, &asked, output, messages)

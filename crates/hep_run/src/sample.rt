@@ -7,14 +7,14 @@ ghost use Rattle.hep_run.specs.Memory.{MayReadOn, RefusesLarge};
 ghost use Rattle.hep_run.specs.Samples.{AreFirstSeeds, HasLotHistory, IsSampleOutcome, IsSampled, IsTallied};
 ghost use Rattle.hep_outcome.specs.Transcripts.{outcome_of};
 
+use crate::command::{CommandRequest, transcript_of};
 use crate::delivery::{deliver, say};
 use crate::front_end::image_of_source;
-use crate::run_by_lots::lots_transcript;
 use crate::source::NO_MEMORY;
 use crate::transcript::{fault_transcript, text_transcript};
 use hep_outcome::{
-    LotOptions, SampleOptions, SampleRequest, Status, Tally, Transcript, count, nth_options,
-    seeds_of, text_of, write_text,
+    LotOptions, SampleOptions, Status, Tally, Transcript, count, nth_options, seeds_of, text_of,
+    write_text,
 };
 use std::alloc::{AllocError, Global};
 use std::io::Write;
@@ -40,7 +40,8 @@ fn tallies_of(
     let mut tallies = Vec::new(alloc);
     for run in 0..options.runs {
         let by = nth_options(options, run);
-        let transcript = lots_transcript(alloc, source, &by, long)?;
+        let asked = CommandRequest { options: &by, long };
+        let transcript = transcript_of(alloc, source, &asked)?;
         count(&mut tallies, Tally::new(by.seed, transcript)?)?;
     }
     Ok(tallies)
@@ -85,7 +86,7 @@ fn sample_transcript(
 pub fn sample_bytes<W: Write, E: Write>(
     alloc: Global,
     source: &[u8],
-    asked: &SampleRequest<'_>,
+    asked: &CommandRequest<'_, SampleOptions>,
     output: &mut W,
     messages: &mut E,
 ) -> Sample
@@ -124,7 +125,11 @@ pub fn lots_history<E: Write>(
     ensures silent { IfOk result (λ _. Keeps (E.contents messages.old) (E.contents messages.new)) }
     ensures unmade { IfErr result (λ code. SaysLines (codes "NO MEMORY\n") NoMemory code (E.contents messages.old) (E.contents messages.new)) }
 {
-    match lots_transcript(alloc, source, options, false) {
+    let asked = CommandRequest {
+        options,
+        long: false,
+    };
+    match transcript_of(alloc, source, &asked) {
         Ok(transcript) => match write_text(alloc, &transcript.history) {
             Ok(text) => Ok(text),
             Err(_) => Err(say(messages, NO_MEMORY, Status::NoMemory)),

@@ -1,19 +1,15 @@
-//! The program's work on one source, from its reader to its two writers: a check, its lines, a run, or a replay.
+//! The program's work on one source, from its reader to its two writers: a check, its lines, a run, or a replay. Those
+//! in `src/command.rt` do the same with notes.
 ghost use Rattle.std.specs.Prelude.{◌≤◌, false};
-ghost use Rattle.hep_run.specs.Delivery.{LeavesOneOf, LeavesOfSource, status_alone};
-ghost use Rattle.hep_run.specs.Checks.{IsCheckOutcome, IsListOutcome};
-ghost use Rattle.hep_run.specs.Memory.{RefusesLarge, RefusesLargeSource};
-ghost use Rattle.hep_run.specs.Outcome.{IsOutcome, IsReplayOutcome};
+ghost use Rattle.hep_run.specs.Delivery.{LeavesOfSource, status_alone};
+ghost use Rattle.hep_run.specs.Checks.{IsCheckOutcome, IsListOutcome, IsWarnOutcome};
+ghost use Rattle.hep_run.specs.Memory.{RefusesLargeSource};
+ghost use Rattle.hep_run.specs.Outcome.{IsLotOutcome, IsOutcome, IsReplayOutcome};
 
-use crate::checks::{check_transcript, list_transcript};
-use crate::companion_files::say_unread;
-use crate::delivery::deliver_made;
-use crate::input::read_input;
-use crate::options::Run;
-use crate::replay::replay_transcript;
-use crate::run::transcript_of;
-use hep_history::History;
-use hep_outcome::{Options, ReplayRequest, RunRequest};
+use crate::checks::{Check, List, Warn};
+use crate::command::{CommandRequest, deliver_source};
+use crate::options::{ReplayOptions, Run};
+use hep_outcome::{LotOptions, Options};
 use std::alloc::Global;
 use std::io::{Read, Write};
 
@@ -26,33 +22,10 @@ pub const MOST_BYTES: usize = 4_194_304;
 /// The line where memory was refused.
 pub const NO_MEMORY: &[u8] = b"NO MEMORY\n";
 
-/// Checks a source: reads it, and writes to `messages` why it is refused, if it is, with notes where `long` is true.
-/// If it isn't refused, nothing is written, and `run_noted` would run it.
+/// Checks a source: reads it, and writes to `messages` why it is refused, if it is. If it isn't refused, nothing is
+/// written, and `run_source` would run it.
 ///
 /// Returns the code of a `Status`.
-pub fn check_noted<R: Read, W: Write, E: Write>(
-    alloc: Global,
-    source: &mut R,
-    long: bool,
-    output: &mut W,
-    messages: &mut E,
-) -> u8
-    ensures left { LeavesOfSource (IsCheckOutcome long) (R.remaining source.old) (R.remaining source.new)
-        (status_alone result) (W.contents output.old) (W.contents output.new)
-        (E.contents messages.old) (E.contents messages.new) }
-    ensures large { RefusesLargeSource long (R.remaining source.old) (R.remaining source.new) (status_alone result)
-        (W.contents output.old) (W.contents output.new) (E.contents messages.old) (E.contents messages.new) }
-{
-    match read_input(alloc, source, MOST_BYTES) {
-        Ok(bytes) => {
-            let made = check_transcript(alloc, &bytes, long);
-            deliver_made(alloc, made, output, messages).status
-        }
-        Err(fault) => say_unread(messages, fault),
-    }
-}
-
-/// Checks a source, as `check_noted` does without notes.
 pub fn check_source<R: Read, W: Write, E: Write>(
     alloc: Global,
     source: &mut R,
@@ -65,36 +38,40 @@ pub fn check_source<R: Read, W: Write, E: Write>(
     ensures large { RefusesLargeSource false (R.remaining source.old) (R.remaining source.new) (status_alone result)
         (W.contents output.old) (W.contents output.new) (E.contents messages.old) (E.contents messages.new) }
 {
-    check_noted(alloc, source, false, output, messages)
+    let asked = CommandRequest {
+        options: &Check,
+        long: false,
+    };
+    deliver_source(alloc, source, &asked, output, messages).status
 }
 
-/// Lists a source: reads it, and writes to `output` the lines of its units and common blocks, also where it passes a
-/// limit; or to `messages` why it is refused, with notes where `long` is true.
+/// Checks a source, as `check_source` does, and if it isn't refused writes to `messages` a line for each of its
+/// warnings.
 ///
 /// Returns the code of a `Status`.
-pub fn list_noted<R: Read, W: Write, E: Write>(
+pub fn warn_source<R: Read, W: Write, E: Write>(
     alloc: Global,
     source: &mut R,
-    long: bool,
     output: &mut W,
     messages: &mut E,
 ) -> u8
-    ensures left { LeavesOfSource (IsListOutcome long) (R.remaining source.old) (R.remaining source.new)
+    ensures left { LeavesOfSource (IsWarnOutcome false) (R.remaining source.old) (R.remaining source.new)
         (status_alone result) (W.contents output.old) (W.contents output.new)
         (E.contents messages.old) (E.contents messages.new) }
-    ensures large { RefusesLargeSource long (R.remaining source.old) (R.remaining source.new) (status_alone result)
+    ensures large { RefusesLargeSource false (R.remaining source.old) (R.remaining source.new) (status_alone result)
         (W.contents output.old) (W.contents output.new) (E.contents messages.old) (E.contents messages.new) }
 {
-    match read_input(alloc, source, MOST_BYTES) {
-        Ok(bytes) => {
-            let made = list_transcript(alloc, &bytes, long);
-            deliver_made(alloc, made, output, messages).status
-        }
-        Err(fault) => say_unread(messages, fault),
-    }
+    let asked = CommandRequest {
+        options: &Warn,
+        long: false,
+    };
+    deliver_source(alloc, source, &asked, output, messages).status
 }
 
-/// Lists a source, as `list_noted` does without notes.
+/// Lists a source: reads it, and writes to `output` the lines of its units and common blocks, also where it passes a
+/// limit; or to `messages` why it is refused.
+///
+/// Returns the code of a `Status`.
 pub fn list_source<R: Read, W: Write, E: Write>(
     alloc: Global,
     source: &mut R,
@@ -107,57 +84,17 @@ pub fn list_source<R: Read, W: Write, E: Write>(
     ensures large { RefusesLargeSource false (R.remaining source.old) (R.remaining source.new) (status_alone result)
         (W.contents output.old) (W.contents output.new) (E.contents messages.old) (E.contents messages.new) }
 {
-    list_noted(alloc, source, false, output, messages)
-}
-
-/// Runs a source, which has been read: checks it, runs it by the options, and then writes the records to `output` and
-/// the faults, the stop or the refusal to `messages`, with notes where they are asked for.
-///
-/// The run's status is the code of a `Status`.
-pub fn run_bytes<W: Write, E: Write>(
-    alloc: Global,
-    source: &[u8],
-    asked: &RunRequest<'_>,
-    output: &mut W,
-    messages: &mut E,
-) -> Run
-    ensures left { LeavesOneOf (IsOutcome asked.now.long asked.now.options.now source.now) result
-        (W.contents output.old) (W.contents output.new)
-        (E.contents messages.old) (E.contents messages.new) }
-    ensures large { RefusesLarge asked.now.long source.now result
-        (W.contents output.old) (W.contents output.new) (E.contents messages.old) (E.contents messages.new) }
-{
-    let made = transcript_of(alloc, source, asked.options, asked.long);
-    deliver_made(alloc, made, output, messages)
+    let asked = CommandRequest {
+        options: &List,
+        long: false,
+    };
+    deliver_source(alloc, source, &asked, output, messages).status
 }
 
 /// Runs a source: reads it, checks it, runs it by the options, and then writes the records to
-/// `output` and the faults, the stop or the refusal to `messages`, with notes where they are asked for.
+/// `output` and the faults, the stop or the refusal to `messages`.
 ///
 /// The run's status is the code of a `Status`.
-pub fn run_noted<R: Read, W: Write, E: Write>(
-    alloc: Global,
-    source: &mut R,
-    asked: &RunRequest<'_>,
-    output: &mut W,
-    messages: &mut E,
-) -> Run
-    ensures left { LeavesOfSource (IsOutcome asked.now.long asked.now.options.now) (R.remaining source.old) (R.remaining source.new)
-        result (W.contents output.old) (W.contents output.new)
-        (E.contents messages.old) (E.contents messages.new) }
-    ensures large { RefusesLargeSource asked.now.long (R.remaining source.old) (R.remaining source.new) result
-        (W.contents output.old) (W.contents output.new) (E.contents messages.old) (E.contents messages.new) }
-{
-    match read_input(alloc, source, MOST_BYTES) {
-        Ok(bytes) => run_bytes(alloc, &bytes, asked, output, messages),
-        Err(fault) => Run {
-            status: say_unread(messages, fault),
-            history: History::new(alloc),
-        },
-    }
-}
-
-/// Runs a source, as `run_noted` does without notes.
 pub fn run_source<R: Read, W: Write, E: Write>(
     alloc: Global,
     source: &mut R,
@@ -171,62 +108,40 @@ pub fn run_source<R: Read, W: Write, E: Write>(
     ensures large { RefusesLargeSource false (R.remaining source.old) (R.remaining source.new) result
         (W.contents output.old) (W.contents output.new) (E.contents messages.old) (E.contents messages.new) }
 {
-    let asked = RunRequest {
+    let asked = CommandRequest {
         options,
         long: false,
     };
-    run_noted(alloc, source, &asked, output, messages)
+    deliver_source(alloc, source, &asked, output, messages)
 }
 
-/// Makes the steps of a history of a source again, where both have been read. Then it writes as `run_bytes` does, and
-/// `STILL RUNNING` to `messages` where the run could go on.
+/// Runs a source by lots: reads it, checks it, chooses the process that the seed draws at each step, and then writes as
+/// `run_source` does, with notes where they are asked for.
 ///
-/// The run's status is the code of a `Status`, and its history has an entry for each step.
-pub fn replay_bytes<W: Write, E: Write>(
-    alloc: Global,
-    source: &[u8],
-    asked: &ReplayRequest<'_>,
-    output: &mut W,
-    messages: &mut E,
-) -> Run
-    ensures left { LeavesOneOf (IsReplayOutcome asked.now.long asked.now.history.now asked.now.arena source.now) result
-        (W.contents output.old) (W.contents output.new)
-        (E.contents messages.old) (E.contents messages.new) }
-    ensures large { RefusesLarge asked.now.long source.now result
-        (W.contents output.old) (W.contents output.new) (E.contents messages.old) (E.contents messages.new) }
-{
-    let made = replay_transcript(alloc, source, asked);
-    deliver_made(alloc, made, output, messages)
-}
-
-/// Reads a source and makes the steps of a history of it again, as `replay_bytes` does.
-///
-/// The bytes of the history have been read before, so that faults are reported in the order of the command line:
-/// first a fault of reading the history, then those of the source, then those of the history's text.
-pub fn replay_noted<R: Read, W: Write, E: Write>(
+/// The run's status is the code of a `Status`.
+pub fn lots_noted<R: Read, W: Write, E: Write>(
     alloc: Global,
     source: &mut R,
-    asked: &ReplayRequest<'_>,
+    asked: &CommandRequest<'_, LotOptions>,
     output: &mut W,
     messages: &mut E,
 ) -> Run
-    ensures left { LeavesOfSource (IsReplayOutcome asked.now.long asked.now.history.now asked.now.arena)
-        (R.remaining source.old) (R.remaining source.new)
+    ensures left { LeavesOfSource (IsLotOutcome asked.now.long asked.now.options.now) (R.remaining source.old) (R.remaining source.new)
         result (W.contents output.old) (W.contents output.new)
         (E.contents messages.old) (E.contents messages.new) }
     ensures large { RefusesLargeSource asked.now.long (R.remaining source.old) (R.remaining source.new) result
         (W.contents output.old) (W.contents output.new) (E.contents messages.old) (E.contents messages.new) }
 {
-    match read_input(alloc, source, MOST_BYTES) {
-        Ok(bytes) => replay_bytes(alloc, &bytes, asked, output, messages),
-        Err(fault) => Run {
-            status: say_unread(messages, fault),
-            history: History::new(alloc),
-        },
-    }
+    deliver_source::<LotOptions, R, W, E>(alloc, source, asked, output, messages)
 }
 
-/// Reads a source and makes the steps of a history of it again, as `replay_noted` does without notes.
+/// Reads a source and makes the steps of a history of it again. Then it writes as `run_source` does, and `STILL RUNNING`
+/// to `messages` where the run could go on.
+///
+/// The bytes of the history have been read before, so that faults are reported in the order of the command line:
+/// first a fault of reading the history, then those of the source, then those of the history's text.
+///
+/// The run's status is the code of a `Status`, and its history has an entry for each step.
 pub fn replay_source<R: Read, W: Write, E: Write>(
     alloc: Global,
     source: &mut R,
@@ -237,17 +152,19 @@ pub fn replay_source<R: Read, W: Write, E: Write>(
 ) -> Run
     requires some { 1 ≤ cells }
     requires few { cells ≤ 16777216 }
-    ensures left { LeavesOfSource (IsReplayOutcome false history.now cells)
-        (R.remaining source.old) (R.remaining source.new)
+    ensures left { LeavesOfSource (IsReplayOutcome false history.now cells) (R.remaining source.old) (R.remaining source.new)
         result (W.contents output.old) (W.contents output.new)
         (E.contents messages.old) (E.contents messages.new) }
     ensures large { RefusesLargeSource false (R.remaining source.old) (R.remaining source.new) result
         (W.contents output.old) (W.contents output.new) (E.contents messages.old) (E.contents messages.new) }
 {
-    let asked = ReplayRequest {
+    let options = ReplayOptions {
         history,
         arena: cells,
+    };
+    let asked = CommandRequest {
+        options: &options,
         long: false,
     };
-    replay_noted(alloc, source, &asked, output, messages)
+    deliver_source(alloc, source, &asked, output, messages)
 }

@@ -1,7 +1,7 @@
 -- From watches, for which nothing is known, to reasons.
 use Rattle.std.proofs.Common.{◌≡◌, ℕ, zero, suc, ◌+◌, ◌≤◌, ◌&&◌, Bool, true, false, true≢false, List, [], ◌∷◌, ◌++◌, length, length-append, map, not, replicate, Option, Some, None, refl, sym, ap, ◌∙◌, subst, arith, IsSome, if◌then◌else◌, nat_le, slice_get}
 use Rattle.std.specs.Option.{option_map, option_to_list}
-use Rattle.std.proofs.lemmas.List.{length-map, length-replicate, map-append}
+use Rattle.std.proofs.lemmas.List.{length-map, length-replicate}
 use Rattle.std.proofs.lemmas.Option.{none-some, same_Some, slice_get-map}
 use Rattle.hep_replay.proofs.Histories.{number-listed, schedule-none, state-is}
 use Rattle.hep_replay.specs.CoreValues.{CoreValue, listed_after, state_of}
@@ -17,6 +17,7 @@ use Rattle.hep_views.specs.declared.listed.Listed.{Listed}
 use Rattle.hep_views.specs.ListedProcesses.{listed_by}
 use Rattle.hep_why.specs.declared.watch.Watch.{Watch}
 use Rattle.hep_why.specs.Watches.{AreAlong, AreFound, AreKeptOnceThere, AreNewWatches, AreWaiting, HaveLooked, IsAlong, IsKeptOnceThere, IsReplayed, IsWatch, WaitTheSame, Whole, listed_from, location_of, looked, processes, reasons_for}
+use Rattle.hep_fold.proofs.TurnRows.{processes-all}
 use Rattle.hep_why.proofs.WatchedTurns.{same-there}
 use Rattle.hep_why.proofs.KeptUnits.{kept-then}
 use Rattle.hep_core.proofs.Histories.{opening-is}
@@ -60,19 +61,6 @@ few-singles (e ∷ es) =
     let turns : length (schedule_of (e ∷ es)) ≡ length (replicate e.steps e.process) + length (schedule_of es) = length-append (replicate e.steps e.process) (schedule_of es) in
     let entries : length (single_entries (e ∷ es)) ≡ length (single_steps e.process e.steps) + length (single_entries es) = length-append (single_steps e.process e.steps) (single_entries es) in
     omega (arith, turns, entries, few-singles es, some-singles e.process e.steps, length-replicate e.steps e.process)
-
--- ---- turns
-
-processes-alike : (n k p : ℕ) → processes (replicate n (k, p)) ≡ replicate n p
-processes-alike zero k p = refl
-processes-alike (suc n) k p = ap (λ ps. p ∷ ps) (processes-alike n k p)
-
-pub processes-all : (k : ℕ) (es : List Entry) → processes (turns_from k es) ≡ schedule_of es
-unfolding schedule_of
-processes-all k [] = refl
-processes-all k (e ∷ es) =
-    map-append (λ (t : ℕ × ℕ). t.1) (replicate e.steps (k, e.process)) (turns_from (suc k) es)
-    ∙ (λ i. processes-alike e.steps k e.process i ++ processes-all (suc k) es i)
 
 -- ---- the beginning
 

@@ -11,10 +11,7 @@ pub mod WatchedTurns
 mod WatchUpdates
 mod ListedWatches
 pub mod FoundReasons
-pub mod OpenedCores
 mod SilentTurns
-mod TurnRows
-pub mod MachineTurns
 mod RemadeTurns
 mod OpenedMachines
 mod NextNames

@@ -9,7 +9,7 @@ use Rattle.hep_fast.specs.declared.decoded_image.DecodedImage.{DecodedImage}
 use Rattle.hep_fast.specs.DecodedImages.{AreTables}
 use Rattle.hep_state.specs.declared.core_state.CoreState.{CoreState}
 use Rattle.hep_state.specs.Words.{IsMachineAfter}
-use Rattle.hep_why.specs.declared.replay_machine.ReplayMachine.{ReplayMachine}
+use Rattle.hep_fold.specs.declared.replay_machine.ReplayMachine.{ReplayMachine}
 use Rattle.hep_why.specs.declared.watch.Watch.{Watch}
 use Rattle.hep_why.specs.WatchedReplay.{IsRemade, core_like, made_by}
 use Rattle.hep_why.specs.Watches.{AreAlong, AreNewWatches, IsMachineOf, IsReplayed, Looks}

@@ -2,7 +2,8 @@
 use Rattle.std.proofs.Common.{◌≡◌, ◌≢◌, ◌⊎◌, inl, inr, ℕ, ◌+◌, ◌-◌, ◌≤◌, ◌<◌, List, [], ◌∷◌, ◌++◌, length, length-append, Option, Some, None, IsSome, refl, sym, ap, ◌∙◌, subst, arith, append_assoc, slice_get}
 use Rattle.std.specs.Option.{option_map}
 use Rattle.std.proofs.lemmas.List.{length-map}
-use Rattle.hep_replay.proofs.Histories.{schedule-stepped, state-is}
+use Rattle.hep_replay.proofs.Histories.{schedule-along, schedule-stepped, state-is}
+use Rattle.hep_replay.proofs.SilentChoices.{entries-many}
 use Rattle.hep_replay.specs.SilentChoices.{entries_along}
 use Rattle.hep_replay.specs.CoreValues.{CoreValue, state_of}
 use Rattle.hep_replay.specs.Replays.{most_entries, standing}
@@ -13,14 +14,14 @@ use Rattle.hep_why.specs.LatestChanges.{change_by}
 use Rattle.hep_why.specs.declared.reason.Change.{Change}
 use Rattle.hep_state.specs.declared.core_state.CoreState.{CoreState}
 use Rattle.hep_state.specs.Words.{Changes, IsMachineAfter}
-use Rattle.hep_why.specs.declared.replay_machine.ReplayMachine.{ReplayMachine}
+use Rattle.hep_fold.specs.declared.replay_machine.ReplayMachine.{ReplayMachine}
 use Rattle.hep_why.specs.declared.watch.Watch.{Watch}
 use Rattle.hep_why.specs.WatchedReplay.{CanGoAgain, CanTurnAgain, FillsNothing, HasGoneAgain, IsRemade, core_like, made_by}
 use Rattle.hep_why.specs.Watches.{AreAlong, AreOf, CanLook, IsMachineOf, Looks, WaitTheSame, Whole, processes, turns_in_row}
 use Rattle.hep_why.proofs.WatchedTurns.{along-next, can-look, can-turn}
-use Rattle.hep_why.proofs.TurnRows.{row-each, row-long, row-split}
+use Rattle.hep_fold.proofs.TurnRows.{row-each, row-long, row-split}
 use Rattle.hep_why.proofs.SilentTurns.{along-many, along-unlooked, can-look-after, core_after}
-use Rattle.hep_why.proofs.MachineTurns.{who-steps-lives}
+use Rattle.hep_fold.proofs.MachineTurns.{who-steps-lives}
 
 -- a machine keeps what a core like it does
 module _ (whole : Whole) (tabled : DecodedImage) (again : ReplayMachine) (left : List (ℕ × ℕ)) (ws : List Watch) (h : IsRemade whole tabled again left ws) where
@@ -39,7 +40,7 @@ module _ (whole : Whole) (tabled : DecodedImage) (again : ReplayMachine) (left :
     activations-new = kept-new.after.shows.activations ∙ ap (λ (s : State). length s.activations) (sym (state-is whole.program new.history.items))
 
     pub like-new : core_like whole new ≡ standing whole.program whole.cells (entries_along again.history.items p n)
-    like-new = ap (λ (es : List Entry). standing whole.program whole.cells es) gone.history
+    like-new = ap (λ (es : List Entry). standing whole.program whole.cells es) (gone.history ∙ entries-many again.history.items p n)
 
     pub remade-new : (now : List (ℕ × ℕ)) (watches : List Watch) → AreAlong whole (core_like whole new) now watches → IsRemade whole tabled new now watches
     remade-new now watches along = record {
@@ -158,7 +159,8 @@ module _ (whole : Whole) (tabled : DecodedImage) (again : ReplayMachine) (p numb
     unchanged : (k : ℕ) → k < length front → Changes whole.program whole.cells (schedule_of (entries_along history p k)) p None
     unchanged k less =
         subst (λ (us : Units). Changes us whole.cells (schedule_of (entries_along history p k)) p None) h.program (
-        quiet whole.cells h.after k (omega (arith, less, row-long made number p)))
+        subst (λ ps. Changes tabled.image.now whole.cells ps p None) (sym (schedule-along history p k)) (
+        quiet whole.cells h.after k (omega (arith, less, row-long made number p))))
 
     pub can-look-row : CanLook new.machine ws
     can-look-row = (

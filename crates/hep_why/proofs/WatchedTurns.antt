@@ -194,9 +194,3 @@ module _ (whole : Whole) (core : CoreValue) (p entry : ℕ) (left : List (ℕ ×
 
 pub same-both : (old mid new : List Watch) → WaitTheSame old mid → WaitTheSame mid new → WaitTheSame old new
 same-both old mid new first second i = second i ∙ first i
-
--- one turn more of those that are left
-pub one-more : (n i : ℕ) (t : ℕ × ℕ) (left : List (ℕ × ℕ)) → i < n → replicate (n - i) t ++ left ≡ t ∷ (replicate (n - (i + 1)) t ++ left)
-one-more n i t left less =
-    let count : n - i ≡ suc (n - (i + 1)) = omega (arith, less) in
-    ap (λ k. replicate k t ++ left) count

@@ -1,11 +1,12 @@
 -- The step of a history that filled or emptied a storage unit last: docs/RUNS.md, "Why processes wait".
-use Rattle.std.specs.Prelude.{ℕ, suc, Bool, ◌&&◌, not, nat_le, if◌then◌else◌, List, [], ◌∷◌, ◌++◌, length, replicate, Option, None}
+use Rattle.std.specs.Prelude.{ℕ, Bool, ◌&&◌, not, nat_le, if◌then◌else◌, List, [], ◌∷◌, length, Option, None}
 use Rattle.std.specs.Option.{option_map}
 use Rattle.hep_machine.specs.declared.event.Entry.{Entry}
 use Rattle.hep_machine.specs.Words.{Location, State, Units, common, local, opening, same_logical, state_after_turn}
 use Rattle.hep_views.specs.declared.whereabouts.Whereabouts.{Whereabouts}
 use Rattle.hep_event.specs.CoreStanding.{whereabouts_by}
 use Rattle.hep_why.specs.declared.reason.Change.{Change}
+pub use Rattle.hep_fold.specs.Turns.{turns_from, turns_of}
 
 -- ---- one step
 
@@ -31,15 +32,6 @@ abbrev pub latest_after : Units → Location → ℕ → ℕ → State → State
 latest_after program at entry p s t latest = if has_changed at s t then change_by program entry p s else latest
 
 -- ---- a history
-
--- the turns of an entry, each with the entry's number and its process
-abbrev pub turns_of : ℕ → Entry → List (ℕ × ℕ)
-turns_of entry e = replicate e.steps (entry, e.process)
-
--- those of entries in order, from this number on
-abbrev pub turns_from : ℕ → List Entry → List (ℕ × ℕ)
-turns_from entry [] = []
-turns_from entry (e ∷ es) = turns_of entry e ++ turns_from (suc entry) es
 
 -- the latest change after these turns from a state, with the one before them
 unfoldable pub latest_along : Units → Location → State → Option Change → List (ℕ × ℕ) → Option Change

@@ -16,6 +16,7 @@ use Rattle.hep_state.specs.declared.core_state.CoreState.{CoreState}
 use Rattle.hep_state.specs.Words.{IsMachineAfter}
 use Rattle.hep_views.specs.declared.listed.Listed.{Listed}
 use Rattle.hep_why.specs.declared.watch.Watch.{Watch}
+pub use Rattle.hep_fold.specs.Turns.{AreOf, processes, turns_in_row}
 
 -- ---- who waits
 
@@ -23,10 +24,6 @@ use Rattle.hep_why.specs.declared.watch.Watch.{Watch}
 abbrev pub listed_from : Units → List Entry → ℕ → ℕ → List Listed
 listed_from program history p zero = []
 listed_from program history p (suc n) = option_to_list (listed_after program history p) ++ listed_from program history (suc p) n
-
--- the processes of turns
-abbrev pub processes : List (ℕ × ℕ) → List ℕ
-processes turns = map (λ (t : ℕ × ℕ). t.1) turns
 
 -- the storage unit that a process waits for after these turns
 abbrev pub location_of : Units → List ℕ → ℕ → Option Location
@@ -133,18 +130,6 @@ pub record AreAlong (whole : Whole) (core : CoreValue) (left : List (ℕ × ℕ)
   pub laid : IsSome (layout_of whole.program whole.cells is_held (processes whole.turns))
   pub few : length core.history + length left ≤ most_entries
   pub each : (i : ℕ) (w : Watch) → slice_get ws i ≡ Some w → (at : Location) × IsAlong whole core.history left w at
-
--- ---- turns of one process in a row
-
--- each of these turns is of process p
-abbrev pub AreOf : ℕ → List (ℕ × ℕ) → Type 0
-AreOf p [] = Unit {0}
-AreOf p (t ∷ ts) = (t.1 ≡ p) × AreOf p ts
-
--- the turns of n entries of one step of process p, from the entry with this number on
-abbrev pub turns_in_row : ℕ → ℕ → ℕ → List (ℕ × ℕ)
-turns_in_row number p zero = []
-turns_in_row number p (suc n) = (number, p) ∷ turns_in_row (suc number) p n
 
 -- ---- reasons
 

@@ -6,13 +6,12 @@
 pub mod laws;
 pub mod reason;
 pub mod reason_text;
-pub mod replay_machine;
 mod wait_cycles;
 mod wait_graph;
 mod wait_names;
 mod watch;
 mod watch_updates;
-pub mod watched_replay;
+mod watched_replay;
 pub mod why;
 
 pub use hep_event::site_laws::operations_name_variables;
@@ -20,12 +19,11 @@ pub use hep_event::{
     Listed, NextOperation, Site, Variables, append_reference, coming_of, listed, named, site_of,
     whereabouts,
 };
+pub use hep_fold::ReplayMachine;
 pub use hep_replay::{
     Breakpoints, Choices, ChooseFault, Core, HistFault, History, HistoryPrefix, ReplayFault,
     make_run, read_text, replay, replay_first, stands_watched,
 };
 pub use reason::{Change, Reason};
 pub use reason_text::append_reasons;
-pub use replay_machine::ReplayMachine;
-pub use watched_replay::step;
-pub use why::{begin_again, why_text};
+pub use why::why_text;

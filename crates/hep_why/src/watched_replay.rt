@@ -1,37 +1,18 @@
 //! The turns of a history, made again, while watches look at their storage units.
-ghost use Rattle.std.specs.Prelude.{◌≡◌, ◌+◌, ◌-◌, ◌^◌, ◌<◌, ◌≤◌, ◌∷◌, [], false, replicate, IfOk, OnOk};
+ghost use Rattle.std.specs.Prelude.{◌≡◌, ◌+◌, ◌-◌, ◌^◌, ◌<◌, ◌≤◌, ◌∷◌, [], replicate, IfOk, OnOk};
 ghost use Rattle.hep_history.specs.Runs.{entry_of};
 ghost use Rattle.hep_replay.specs.HistoryPrefix.{first_of};
-ghost use Rattle.hep_replay.specs.Progress.{longer, turn_entry};
-ghost use Rattle.hep_why.specs.LatestChanges.{turns_from, turns_of};
+ghost use Rattle.hep_fold.specs.Turns.{turns_from, turns_in_row, turns_of};
 ghost use Rattle.hep_why.specs.WatchedReplay.{CanRemake, Remakes};
-ghost use Rattle.hep_why.specs.Watches.{CanTurn, WaitTheSame, turns_in_row};
+ghost use Rattle.hep_why.specs.Watches.{WaitTheSame};
 
-use crate::replay_machine::ReplayMachine;
 use crate::watch::Watch;
 use crate::watch_updates::{change_by, look, look_at_new};
+use hep_fold::ReplayMachine;
 use hep_history::Run;
 use hep_machine::Entry;
-use hep_replay::{ChooseFault, Core, DecodedImage, HistoryPrefix};
+use hep_replay::{DecodedImage, HistoryPrefix};
 use std::alloc::AllocError;
-
-/// Makes a step of process p, which has one; each frame has its gap.
-///
-/// # Errors
-///
-/// Only where memory was refused.
-pub fn step(core: &mut Core, p: u64) -> Result<(), AllocError>
-    requires { CanTurn core.old.core p }
-    ensures { OnOk result (core.new.core ≡ longer core.old.core (turn_entry p false ∷ [])) }
-{
-    match core.choose(p) {
-        Ok(_) => Ok(()),
-        Err(ChooseFault::NoMemory) => Err(AllocError),
-        Err(ChooseFault::Stopped(_)) => unreachable!(),
-        Err(ChooseFault::NoSuchProcess) => unreachable!(),
-        Err(ChooseFault::IsOut | ChooseFault::NoTicket) => unreachable!(),
-    }
-}
 
 // A number of turns of a process, each of an entry of its own, the first one of the entry with this number.
 #[derive(Clone, Copy)]

@@ -1,8 +1,7 @@
 //! Why processes wait after a history.
-ghost use Rattle.std.specs.Prelude.{◌≡◌, [], IfOk, IsSome, OnOk};
+ghost use Rattle.std.specs.Prelude.{◌≡◌, IfOk, IsSome, OnOk};
 ghost use Rattle.hep_replay.specs.CoreValues.{state_of};
 ghost use Rattle.hep_replay.specs.HistoryPrefix.{first_of};
-ghost use Rattle.hep_replay.specs.Replays.{standing};
 ghost use Rattle.hep_machine.specs.Words.{schedule_of, wanted_by};
 ghost use Rattle.hep_why.specs.Reasons as words;
 ghost use Rattle.hep_event.specs.Variables.{AreVariablesOf};
@@ -10,33 +9,15 @@ ghost use Rattle.hep_why.specs.Watches.{AreFound, AreNewWatches, AreWaiting, IsR
 
 use crate::reason::Reason;
 use crate::reason_text::append_reasons;
-use crate::replay_machine::ReplayMachine;
 use crate::wait_names::called;
 use crate::watch::Watch;
 use crate::watch_updates::{all_watches, look};
 use crate::watched_replay::make_entries;
 use hep_event::Variables;
-use hep_replay::history_replay::MOST_ENTRIES;
-use hep_replay::{Core, DecodedImage, History, HistoryPrefix, NewFault, tables_of};
+use hep_fold::ReplayMachine;
+use hep_replay::{Core, DecodedImage, HistoryPrefix, tables_of};
 use hep_state_text::append_head;
 use std::alloc::{AllocError, Global};
-
-/// A core of the same image and arena that has made no turn.
-///
-/// # Errors
-///
-/// Only where memory was refused.
-pub fn begin_again(alloc: Global, core: &Core, entries: &History) -> Result<Core, AllocError>
-    requires { IsReplayed core.now.core entries.now.items }
-    ensures { IfOk result (λ again. again.core ≡ standing core.now.core.program core.now.core.cells []) }
-{
-    let image = core.image().copy(alloc)?;
-    match Core::new(alloc, image, core.cells(), MOST_ENTRIES) {
-        Ok(again) => Ok(again),
-        Err(NewFault::NoMemory) => Err(AllocError),
-        Err(NewFault::ArenaFull) => unreachable!(),
-    }
-}
 
 // Finds the latest changes of what the processes of these watches wait for.
 fn find_changes(

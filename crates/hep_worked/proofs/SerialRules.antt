@@ -6,7 +6,7 @@ use Rattle.std.proofs.lemmas.Grind.{reverse_onto}
 use Rattle.std.proofs.lemmas.List.{length-reverse}
 use Rattle.hep_machine.specs.declared.event.Entry.{Entry}
 use Rattle.hep_machine.specs.Words.{IsEntry, AreEntries, IsLegal, state_replayed, Layout, Placing, is_held, layout_after_step, opening_layout, placing_turn, placing_from, opening, state_after_turn, run_from, schedule_of_entry, schedule_of, Progress, progress_after_step, progress_after_entry, progress_from, progress_after, ready_in, last_process, next_of_ready, next_ready, State, StepResult, Wanted, stepped, waiting, absent, step_result_of, wanted_of, step, Units}
-use Rattle.hep_worked.proofs.SerialRuns.{Course, Ending, halted, entry, last_of, with_step, with_turn, turned, next_of, if_next, if_turned, course_from, first_course, course_in, course}
+use Rattle.hep_worked.proofs.SerialRuns.{Course, Ending, halted, steps, last_of, with_step, with_turn, turned, next_of, if_next, if_turned, course_from, first_course, course_in, course}
 use Rattle.hep_machine.proofs.Others.{step-is}
 
 -- ---- one entry more
@@ -70,10 +70,10 @@ abbrev OnCourse : (Course → Type 0) → Result Course Ending → Type 0
 OnCourse P (Ok d) = P d
 OnCourse P (Err e) = Unit {0}
 
-one_step : (program : Units) (s t : State) (p : ℕ) → step program p s ≡ Some t → IsEntry program s (entry p 1)
+one_step : (program : Units) (s t : State) (p : ℕ) → step program p s ≡ Some t → IsEntry program s (steps p 1)
 one_step program s t p e = inr (omega arith, omega arith, ((λ n. let both : Some t ≡ None = sym e ∙ n in cc), tt))
 
-no_step : (program : Units) (s : State) (p : ℕ) (w : Wanted) → step_result_of program p s ≡ waiting w → IsEntry program s (entry p 0)
+no_step : (program : Units) (s : State) (p : ℕ) (w : Wanted) → step_result_of program p s ≡ waiting w → IsEntry program s (steps p 0)
 no_step program s p w e = inl (refl, ap (λ (u : StepResult). is_some (wanted_of u)) e)
 
 step_holds : (program : Units) (cells : ℕ) (has : Frames) (c : Course) (p : ℕ) (s : State) (o : Option Layout) → Holds program cells has c → step program p c.progress.state ≡ Some s → layout_after_step program cells has c.progress.state s c.layout ≡ o → OnCourse (Holds program cells has) (with_step program c p s o)
@@ -82,10 +82,10 @@ step_holds program cells has c p s None h e l = tt
 step_holds program cells has c p s (Some layout) h e l =
     let made : state_after_turn program p c.progress.state ≡ s = ap (λ (o : Option State). unwrap_or o c.progress.state) e in
     record {
-      progress = ap (progress_after_step program c.progress p) (sym made) ∙ (ap (λ (x : Progress). progress_after_entry program x (entry p 1) 1) h.progress ∙ sym (progress_after_one program c.history (entry p 1)));
-      state = replayed_after program c.history (entry p 1) ∙ (ap (λ (t : State). run_from program t (p ∷ [])) h.state ∙ made);
-      entries = entries_after program c.history (entry p 1) h.entries (subst (λ (t : State). IsEntry program t (entry p 1)) (sym h.state) (one_step program c.progress.state s p e));
-      frames = placing_after program cells has c.history (entry p 1) ∙ (ap (λ (x : Placing). placing_from program cells has x (p ∷ [])) h.frames
+      progress = ap (progress_after_step program c.progress p) (sym made) ∙ (ap (λ (x : Progress). progress_after_entry program x (steps p 1) 1) h.progress ∙ sym (progress_after_one program c.history (steps p 1)));
+      state = replayed_after program c.history (steps p 1) ∙ (ap (λ (t : State). run_from program t (p ∷ [])) h.state ∙ made);
+      entries = entries_after program c.history (steps p 1) h.entries (subst (λ (t : State). IsEntry program t (steps p 1)) (sym h.state) (one_step program c.progress.state s p e));
+      frames = placing_after program cells has c.history (steps p 1) ∙ (ap (λ (x : Placing). placing_from program cells has x (p ∷ [])) h.frames
           ∙ (ap (λ (t : State). record { state = t; layout = layout_after_step program cells has c.progress.state t c.layout }) made
           ∙ ap (λ (o : Option Layout). record { state = s; layout = o }) l));
     }
@@ -96,10 +96,10 @@ turn_holds program cells has c p (stepped s) h running e =
     step_holds program cells has c p s (layout_after_step program cells has c.progress.state s c.layout) h (step-is program p c.progress.state s running e) refl
 turn_holds program cells has c p (waiting w) h running e =
     record {
-      progress = ap (λ (x : Progress). progress_after_entry program x (entry p 0) 0) h.progress ∙ sym (progress_after_one program c.history (entry p 0));
-      state = replayed_after program c.history (entry p 0) ∙ h.state;
-      entries = entries_after program c.history (entry p 0) h.entries (subst (λ (t : State). IsEntry program t (entry p 0)) (sym h.state) (no_step program c.progress.state p w e));
-      frames = placing_after program cells has c.history (entry p 0) ∙ h.frames;
+      progress = ap (λ (x : Progress). progress_after_entry program x (steps p 0) 0) h.progress ∙ sym (progress_after_one program c.history (steps p 0));
+      state = replayed_after program c.history (steps p 0) ∙ h.state;
+      entries = entries_after program c.history (steps p 0) h.entries (subst (λ (t : State). IsEntry program t (steps p 0)) (sym h.state) (no_step program c.progress.state p w e));
+      frames = placing_after program cells has c.history (steps p 0) ∙ h.frames;
     }
 turn_holds program cells has c p absent h running e = tt
 

@@ -41,9 +41,6 @@ pub record Course : Type 0 where
   pub layout : Layout
   pub history : List Entry
 
-abbrev pub entry : ℕ → ℕ → Entry
-entry p n = record { process = p; steps = n }
-
 abbrev pub last_of : List Entry → ℕ
 last_of [] = 0
 last_of (e ∷ es) = e.process
@@ -52,13 +49,13 @@ last_of (e ∷ es) = e.process
 abbrev pub with_step : Units → Course → ℕ → State → Option Layout → Result Course Ending
 with_step program c p s None = Err arena_full
 with_step program c p s (Some layout) =
-    Ok (record { progress = progress_after_step program c.progress p s; layout = layout; history = entry p 1 ∷ c.history })
+    Ok (record { progress = progress_after_step program c.progress p s; layout = layout; history = steps p 1 ∷ c.history })
 
 -- after a turn of p: one step, or none where it waits
 abbrev pub with_turn : Units → ℕ → (State → ℕ → Bool) → Course → ℕ → StepResult → Result Course Ending
 with_turn program cells has c p (stepped s) = with_step program c p s (layout_after_step program cells has c.progress.state s c.layout)
 with_turn program cells has c p (waiting w) =
-    Ok (record { progress = progress_after_entry program c.progress (entry p 0) 0; layout = c.layout; history = entry p 0 ∷ c.history })
+    Ok (record { progress = progress_after_entry program c.progress (steps p 0) 0; layout = c.layout; history = steps p 0 ∷ c.history })
 with_turn program cells has c p absent = Err no_such_process
 
 abbrev pub turned : Units → ℕ → (State → ℕ → Bool) → Course → ℕ → Result Course Ending
@@ -279,4 +276,4 @@ holds at c = record { at = at; cell = c }
 
 -- each entry as its process and its steps
 abbrev pub entries_of : List (ℕ × ℕ) → List Entry
-entries_of xs = map (λ (x : ℕ × ℕ). entry x.0 x.1) xs
+entries_of xs = map (λ (x : ℕ × ℕ). steps x.0 x.1) xs

@@ -49,6 +49,7 @@ faulted : covered loop ((steps 1 2 ∷ []) ∷ [])
     ∷ "    #####:    8:      K = 2"
     ∷ "    #####:    9:      END IF"
     ∷ "    #####:   10:   20 END"
+    ∷ "LINES 8 BEGAN 2 NEVER 6"
     ∷ [])
 unfolding covered loop
 faulted = refl
@@ -80,6 +81,7 @@ begun_once : covered pair ((steps 1 1 ∷ steps 1 0 ∷ steps 2 3 ∷ steps 1 1 
     ∷ "        1:    8:      DO 10 K = 1,2"
     ∷ "        1:    9:   10 $X = K"
     ∷ "    #####:   10:      END"
+    ∷ "LINES 6 BEGAN 4 NEVER 2"
     ∷ [])
 unfolding covered pair
 begun_once = refl
@@ -97,6 +99,7 @@ in_two : covered pair ((steps 1 1 ∷ []) ∷ (steps 1 1 ∷ steps 2 3 ∷ []) �
     ∷ "        1:    8:      DO 10 K = 1,2"
     ∷ "        1:    9:   10 $X = K"
     ∷ "    #####:   10:      END"
+    ∷ "LINES 6 BEGAN 3 NEVER 3"
     ∷ [])
 unfolding covered pair
 in_two = refl

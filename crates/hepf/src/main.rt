@@ -4,17 +4,15 @@
 //! reads the command line; `hep_run` and `hep_inspection` do the work and report all other errors.
 #![tactic(auto)]
 
-ghost use Rattle.std.specs.Prelude.{◌≤◌};
-ghost use Rattle.hep_command.specs.Jobs.{IsInRange, IsSeed, IsViewInRange};
+ghost use Rattle.hep_command.specs.Jobs.{IsArena, IsInRange, IsSeed, IsViewInRange};
 
-use hep_command::{Job, Request, SAME_FILE, ViewedRun, explain, read_request};
+use hep_command::{Job, Request, SAME_FILE, SAME_PAGE, ViewedRun, explain, read_request};
 use hep_inspection::{
-    Choices, CoverRequest, DiffRequest, HistFault, Inspection, InspectionRequest, LineFilter,
-    LotOptions, LotsRequest, NoGate, Options, Origin, ReadFault, ReplayRequest, Run, RunRequest,
-    SampleOptions, SampleRequest, WorkOptions, WorkRequest, answer, check_noted, choices_of,
-    cover_noted, diff_noted, followed_of, history_text, list_noted, lots_history, lots_noted,
-    nth_options, put_text, read_text, read_text_file, replay_noted, run_noted, sample_bytes,
-    say_unread, say_unwritten, state_noted, warn_noted, work_noted,
+    Check, Choices, Command, CommandRequest, CoverOptions, DiffOptions, HistFault, Inspection,
+    InspectionOptions, LineFilter, List, LotOptions, NoGate, Options, Origin, ReadFault,
+    ReplayOptions, Run, SampleOptions, Warn, WorkOptions, WorkRequest, answer, choices_of,
+    deliver_source, followed_of, history_text, lots_history, nth_options, put_text, read_text,
+    read_text_file, sample_bytes, say_unread, say_unwritten, work_noted,
 };
 use std::fs::File;
 use std::io::{ErrorKind, Read, Stdin};
@@ -46,15 +44,31 @@ impl Read for Source {
     }
 }
 
-/// What was read of a run that is looked at: the text of its history, or how it is made.
+/// What was read of a run that is looked at: the file of its history, with its text, or how it is made.
 #[derive(Drop)]
-enum Viewed {
-    History(Vec<u8>),
+enum Viewed<'a> {
+    History(&'a str, Vec<u8>),
     Choices(Options),
     Lots(LotOptions),
 }
 
-/// A file that is to get a history, and whether it was made for that.
+/// How a source is run.
+#[derive(Drop)]
+enum Schedule {
+    Choices(Options),
+    Lots(LotOptions),
+    Workers(WorkOptions),
+}
+
+/// A run of a source, and the file to which its history is written.
+#[derive(Drop)]
+struct Plan<'a> {
+    file: &'a str,
+    history: Option<&'a str>,
+    schedule: Schedule,
+}
+
+/// A file that is to get a history or a page, and whether it was made for that.
 #[derive(Drop)]
 struct Kept {
     file: File,
@@ -75,30 +89,33 @@ fn reason_of(fault: &io::Error) -> &'static str {
     }
 }
 
+// Writes a text for the user of the command line.
+fn answered(rt: &HostRuntime, status: u8, text: &[u8]) -> u8 {
+    answer(status, text, &mut rt.stdout(), &mut rt.stderr())
+}
+
 // Reports that a file can't be read; with `long`, which file and why.
 fn say_unopened(rt: &HostRuntime, path: &str, reason: &str, long: bool) -> u8 {
-    let mut messages = rt.stderr();
     if long {
         if let Ok(text) = format!(in rt.alloc(); "READ FAULT\n{path}: {reason}\n") {
-            return answer(8, text.as_bytes(), &mut rt.stdout(), &mut messages);
+            return answered(rt, 8, text.as_bytes());
         }
     }
-    say_unread(&mut messages, ReadFault::Failed)
+    say_unread(&mut rt.stderr(), ReadFault::Failed)
 }
 
 // Reports that a file can't be written; with `long`, which file and why.
 fn say_uncreated(rt: &HostRuntime, path: &str, fault: &io::Error, long: bool) -> u8 {
-    let mut messages = rt.stderr();
     let reason = match fault.kind() {
         ErrorKind::NotFound => "no such folder",
         _ => reason_of(fault),
     };
     if long {
         if let Ok(text) = format!(in rt.alloc(); "WRITE FAULT AFTER 0\n{path}: {reason}\n") {
-            return answer(8, text.as_bytes(), &mut rt.stdout(), &mut messages);
+            return answered(rt, 8, text.as_bytes());
         }
     }
-    say_unwritten(&mut messages)
+    say_unwritten(&mut rt.stderr())
 }
 
 // Opens a file for reading. A folder can be opened but not read, so with `long` it is tested before.
@@ -155,7 +172,7 @@ fn is_one_file(rt: &HostRuntime, path: &str, other: &str) -> bool {
     }
 }
 
-// Whether the history would overwrite a file that is read. `read_words` has compared the names only.
+// Whether a history or a page would overwrite a file that is read. `read_words` has compared the names only.
 fn is_over_read(rt: &HostRuntime, history: Option<&str>, file: &str, first: Option<&str>) -> bool {
     let Some(history) = history else {
         return false;
@@ -180,7 +197,7 @@ fn writable(rt: &HostRuntime, path: &str) -> io::Result<Kept> {
     })
 }
 
-// Opens the file for a history. It is opened before the run, so that no run is lost for want of the file.
+// Opens the file for a history or a page. It is opened before the run, so that no run is lost for want of the file.
 fn kept_file(rt: &HostRuntime, path: &str, long: bool) -> Result<Kept, u8> {
     match writable(rt, path) {
         Ok(kept) => Ok(kept),
@@ -196,8 +213,8 @@ fn empty(file: &File) -> io::Result<()> {
     Ok(())
 }
 
-// Replaces the contents of the file by the text of a history.
-fn put_history(
+// Replaces the contents of the file by a text.
+fn put_contents(
     rt: &HostRuntime,
     path: &str,
     kept: &mut Kept,
@@ -211,7 +228,7 @@ fn put_history(
     }
 }
 
-// Removes a file that was made for a history, where there is no history.
+// Removes a file that was made for a history or a page, where there is none.
 fn let_go(rt: &HostRuntime, path: &str, kept: &Kept) {
     if kept.is_new {
         let _ = fs::remove_file(rt, path);
@@ -220,7 +237,7 @@ fn let_go(rt: &HostRuntime, path: &str, kept: &Kept) {
 
 fn write_history(rt: &HostRuntime, run: &Run, path: &str, kept: &mut Kept, long: bool) -> u8 {
     match history_text(rt.alloc(), run, &mut rt.stderr()) {
-        Ok(text) => put_history(rt, path, kept, &text, run.status, long),
+        Ok(text) => put_contents(rt, path, kept, &text, run.status, long),
         Err(status) => {
             let_go(rt, path, kept);
             status
@@ -228,60 +245,23 @@ fn write_history(rt: &HostRuntime, run: &Run, path: &str, kept: &mut Kept, long:
     }
 }
 
-fn run_standard(rt: &HostRuntime, long: bool) -> u8 {
-    let alloc = rt.alloc();
-    let options = Options::defaults(alloc);
-    let asked = RunRequest {
-        options: &options,
-        long,
-    };
-    let mut source = rt.stdin();
-    run_noted(
-        alloc,
-        &mut source,
-        &asked,
-        &mut rt.stdout(),
-        &mut rt.stderr(),
-    )
-    .status
+// Says that memory was refused.
+fn say_no_memory(rt: &HostRuntime) -> u8 {
+    answered(rt, 7, b"")
 }
 
-fn check_file(rt: &HostRuntime, file: &str, long: bool) -> Result<u8, u8> {
-    let mut source = source_of(rt, file, long)?;
-    Ok(check_noted(
-        rt.alloc(),
-        &mut source,
-        long,
-        &mut rt.stdout(),
-        &mut rt.stderr(),
-    ))
+// Appends to a list.
+fn add<T: Drop>(rt: &HostRuntime, all: &mut Vec<T>, item: T) -> Result<(), u8> {
+    match all.push(item) {
+        Ok(()) => Ok(()),
+        Err(_) => Err(say_no_memory(rt)),
+    }
 }
 
-fn warn_file(rt: &HostRuntime, file: &str, long: bool) -> Result<u8, u8> {
-    let mut source = source_of(rt, file, long)?;
-    Ok(warn_noted(
-        rt.alloc(),
-        &mut source,
-        long,
-        &mut rt.stdout(),
-        &mut rt.stderr(),
-    ))
-}
-
-fn list_file(rt: &HostRuntime, file: &str, long: bool) -> Result<u8, u8> {
-    let mut source = source_of(rt, file, long)?;
-    Ok(list_noted(
-        rt.alloc(),
-        &mut source,
-        long,
-        &mut rt.stdout(),
-        &mut rt.stderr(),
-    ))
-}
-
-fn run_choices(rt: &HostRuntime, source: &mut Source, options: &Options, long: bool) -> Run {
-    let asked = RunRequest { options, long };
-    run_noted(
+// Writes what a command gives of a source.
+fn deliver<C: Command>(rt: &HostRuntime, source: &mut Source, options: &C, long: bool) -> Run {
+    let asked = CommandRequest { options, long };
+    deliver_source(
         rt.alloc(),
         source,
         &asked,
@@ -290,48 +270,56 @@ fn run_choices(rt: &HostRuntime, source: &mut Source, options: &Options, long: b
     )
 }
 
-fn run_lots(rt: &HostRuntime, source: &mut Source, options: &LotOptions, long: bool) -> Run {
-    let asked = LotsRequest { options, long };
-    lots_noted(
-        rt.alloc(),
-        source,
-        &asked,
-        &mut rt.stdout(),
-        &mut rt.stderr(),
-    )
+// Writes what a command gives of the source in a file.
+fn deliver_file<C: Command>(
+    rt: &HostRuntime,
+    file: &str,
+    options: &C,
+    long: bool,
+) -> Result<u8, u8> {
+    let mut source = source_of(rt, file, long)?;
+    Ok(deliver(rt, &mut source, options, long).status)
 }
 
-// `threads` is the runtime itself, which may start threads where it is passed as such.
-fn run_workers<H: Threads + Wait + Sync>(
+// Runs a source. `threads` is the runtime itself, which may start threads where it is passed as such.
+fn run_by<H: Threads + Wait + Sync>(
     rt: &HostRuntime,
     threads: &H,
     source: &mut Source,
-    options: &WorkOptions,
+    schedule: &Schedule,
     long: bool,
 ) -> Run {
-    let asked = WorkRequest {
-        threads,
-        options,
-        gate: &NoGate,
-        long,
-    };
-    work_noted(
-        rt.alloc(),
-        source,
-        &asked,
-        &mut rt.stdout(),
-        &mut rt.stderr(),
-    )
+    match schedule {
+        Schedule::Choices(options) => deliver(rt, source, options, long),
+        Schedule::Lots(options) => deliver(rt, source, options, long),
+        Schedule::Workers(options) => {
+            let request = WorkRequest {
+                threads,
+                options,
+                gate: &NoGate,
+            };
+            let asked = CommandRequest {
+                options: &request,
+                long,
+            };
+            work_noted(
+                rt.alloc(),
+                source,
+                &asked,
+                &mut rt.stdout(),
+                &mut rt.stderr(),
+            )
+        }
+    }
 }
 
 // The path of a kept history, by its prefix and its seed, unless it is that of the source.
 fn kept_path(rt: &HostRuntime, file: &str, prefix: &str, seed: u64) -> Result<String, u8> {
     let Ok(path) = format!(in rt.alloc(); "{prefix}.{seed}") else {
-        return Err(answer(7, b"", &mut rt.stdout(), &mut rt.stderr()));
+        return Err(say_no_memory(rt));
     };
     if is_one_file(rt, path.as_str(), file) {
-        let text = KEPT_OVER.as_bytes();
-        return Err(answer(2, text, &mut rt.stdout(), &mut rt.stderr()));
+        return Err(answered(rt, 2, KEPT_OVER.as_bytes()));
     }
     Ok(path)
 }
@@ -346,7 +334,7 @@ fn keep_history(
 ) -> Result<u8, u8> {
     let mut kept = kept_file(rt, path, long)?;
     match lots_history(rt.alloc(), source, options, &mut rt.stderr()) {
-        Ok(text) => Ok(put_history(rt, path, &mut kept, &text, 0, long)),
+        Ok(text) => Ok(put_contents(rt, path, &mut kept, &text, 0, long)),
         Err(status) => {
             let_go(rt, path, &kept);
             Err(status)
@@ -385,7 +373,7 @@ fn sample_file(
     if let Some(prefix) = keep {
         look_at_first(rt, file, prefix, options.seed, long)?;
     }
-    let asked = SampleRequest { options, long };
+    let asked = CommandRequest { options, long };
     let sample = sample_bytes(
         rt.alloc(),
         &source,
@@ -414,32 +402,6 @@ fn sample_file(
     Ok(0)
 }
 
-fn replay_file(
-    rt: &HostRuntime,
-    file: &str,
-    history: &[u8],
-    arena: u32,
-    long: bool,
-) -> Result<u8, u8>
-    requires some { 1 ≤ arena }
-    requires few { arena ≤ 16777216 }
-{
-    let mut source = source_of(rt, file, long)?;
-    let asked = ReplayRequest {
-        history,
-        arena,
-        long,
-    };
-    let run = replay_noted(
-        rt.alloc(),
-        &mut source,
-        &asked,
-        &mut rt.stdout(),
-        &mut rt.stderr(),
-    );
-    Ok(run.status)
-}
-
 fn bytes_of(word: Option<&str>) -> Option<&[u8]> {
     match word {
         Some(word) => Some(word.as_bytes()),
@@ -447,30 +409,13 @@ fn bytes_of(word: Option<&str>) -> Option<&[u8]> {
     }
 }
 
-// Says what is asked of the first entries of a run.
-fn state_file(rt: &HostRuntime, file: &str, asked: &InspectionRequest<'_>) -> Result<u8, u8> {
-    let mut source = source_of(rt, file, asked.long)?;
-    Ok(state_noted(
-        rt.alloc(),
-        &mut source,
-        asked,
-        &mut rt.stdout(),
-        &mut rt.stderr(),
-    ))
-}
-
-// Says that memory was refused.
-fn say_no_memory(rt: &HostRuntime) -> u8 {
-    answer(7, b"", &mut rt.stdout(), &mut rt.stderr())
-}
-
 // The run that is looked at, with what its file has.
-fn viewed_run(rt: &HostRuntime, run: &ViewedRun<'_>, long: bool) -> Result<Viewed, u8>
+fn viewed_run<'a>(rt: &HostRuntime, run: &ViewedRun<'a>, long: bool) -> Result<Viewed<'a>, u8>
     requires { IsViewInRange run.now }
 {
     let (arena, steps) = (run.arena, run.steps);
     if let Some(path) = run.history {
-        return Ok(Viewed::History(file_bytes(rt, path, long)?));
+        return Ok(Viewed::History(path, file_bytes(rt, path, long)?));
     }
     if let Some(seed) = run.seed {
         return Ok(Viewed::Lots(LotOptions { arena, steps, seed }));
@@ -484,46 +429,44 @@ fn viewed_run(rt: &HostRuntime, run: &ViewedRun<'_>, long: bool) -> Result<Viewe
 }
 
 // Where its history comes from.
-fn origin_of(viewed: &Viewed) -> Origin<'_> {
+fn origin_of<'a>(viewed: &'a Viewed<'_>) -> Origin<'a> {
     match viewed {
-        Viewed::History(text) => Origin::Text(text),
+        Viewed::History(_, text) => Origin::Text(text),
         Viewed::Choices(options) => Origin::Choices(options),
         Viewed::Lots(options) => Origin::Lots(*options),
     }
 }
 
 // The runs of files of histories, in order.
-fn viewed_files(rt: &HostRuntime, paths: &[&str], long: bool) -> Result<Vec<Viewed>, u8> {
+fn viewed_files<'a>(
+    rt: &HostRuntime,
+    paths: &[&'a str],
+    long: bool,
+) -> Result<Vec<Viewed<'a>>, u8> {
     let mut all = Vec::new(rt.alloc());
     for path in paths {
         let text = file_bytes(rt, *path, long)?;
-        if all.push(Viewed::History(text)).is_err() {
-            return Err(say_no_memory(rt));
-        }
+        add(rt, &mut all, Viewed::History(*path, text))?;
     }
     Ok(all)
 }
 
 // Runs by lots, in the order of a sample's.
-fn viewed_lots(rt: &HostRuntime, options: &SampleOptions) -> Result<Vec<Viewed>, u8> {
+fn viewed_lots<'a>(rt: &HostRuntime, options: &SampleOptions) -> Result<Vec<Viewed<'a>>, u8> {
     let mut all = Vec::new(rt.alloc());
     for index in 0..options.runs {
-        if all.push(Viewed::Lots(nth_options(options, index))).is_err() {
-            return Err(say_no_memory(rt));
-        }
+        add(rt, &mut all, Viewed::Lots(nth_options(options, index)))?;
     }
     Ok(all)
 }
 
 // The one run that is looked at.
-fn viewed_one(rt: &HostRuntime, run: &ViewedRun<'_>, long: bool) -> Result<Vec<Viewed>, u8>
+fn viewed_one<'a>(rt: &HostRuntime, run: &ViewedRun<'a>, long: bool) -> Result<Vec<Viewed<'a>>, u8>
     requires { IsViewInRange run.now }
 {
     let mut all = Vec::new(rt.alloc());
-    match all.push(viewed_run(rt, run, long)?) {
-        Ok(()) => Ok(all),
-        Err(_) => Err(say_no_memory(rt)),
-    }
+    add(rt, &mut all, viewed_run(rt, run, long)?)?;
+    Ok(all)
 }
 
 // The seed of the first run by lots, where there are several.
@@ -538,13 +481,13 @@ fn first_seed(run: &ViewedRun<'_>) -> u64
 }
 
 // The runs that `cover` looks at.
-fn covered(
+fn covered<'a>(
     rt: &HostRuntime,
-    run: &ViewedRun<'_>,
+    run: &ViewedRun<'a>,
     runs: Option<u32>,
-    histories: &[&str],
+    histories: &[&'a str],
     long: bool,
-) -> Result<Vec<Viewed>, u8>
+) -> Result<Vec<Viewed<'a>>, u8>
     requires { IsViewInRange run.now }
 {
     if !histories.is_empty() {
@@ -563,54 +506,284 @@ fn covered(
 }
 
 // Where their histories come from.
-fn origins_of<'a>(rt: &HostRuntime, all: &'a [Viewed]) -> Result<Vec<Origin<'a>>, u8> {
+fn origins_of<'a>(rt: &HostRuntime, all: &'a [Viewed<'_>]) -> Result<Vec<Origin<'a>>, u8> {
     let mut origins = Vec::new(rt.alloc());
     for viewed in all {
-        if origins.push(origin_of(viewed)).is_err() {
-            return Err(say_no_memory(rt));
-        }
+        add(rt, &mut origins, origin_of(viewed))?;
     }
     Ok(origins)
 }
 
 // Says which of several files has no history, where it is refused.
-fn say_refused(rt: &HostRuntime, path: &str, viewed: &Viewed) -> Option<u8> {
-    let Viewed::History(text) = viewed else {
+fn say_refused(rt: &HostRuntime, viewed: &Viewed<'_>) -> Option<u8> {
+    let Viewed::History(path, text) = viewed else {
         return None;
     };
     let Err(HistFault::Refused { line, .. }) = read_text(rt.alloc(), text) else {
         return None;
     };
     match format!(in rt.alloc(); "{path}: line {line} is no entry of a history\n") {
-        Ok(text) => Some(answer(2, text.as_bytes(), &mut rt.stdout(), &mut rt.stderr())),
+        Ok(text) => Some(answered(rt, 2, text.as_bytes())),
         Err(_) => None,
     }
 }
 
-// Says how often the statement of each line began in runs.
-fn cover_file(rt: &HostRuntime, file: &str, asked: &CoverRequest<'_>) -> Result<u8, u8> {
-    let mut source = source_of(rt, file, asked.long)?;
-    Ok(cover_noted(
+// The status of a command that looks at several runs. With `long`, says which history is refused.
+fn several_status(rt: &HostRuntime, all: &[Viewed<'_>], status: u8, long: bool) -> u8 {
+    if long && status == 2 {
+        for viewed in all {
+            if let Some(status) = say_refused(rt, viewed) {
+                return status;
+            }
+        }
+    }
+    status
+}
+
+// The run that a job asks for, with the choices of its files; without words it is that of standard input with the
+// defaults.
+fn plan_of<'a>(rt: &HostRuntime, job: Job<'a>, long: bool) -> Result<Plan<'a>, u8>
+    requires { IsInRange job }
+{
+    let Job::Run {
+        file,
+        arena,
+        steps,
+        workers,
+        seed,
+        choices,
+        follow,
+        history,
+    } = job
+    else {
+        return Ok(Plan {
+            file: STANDARD_INPUT,
+            history: None,
+            schedule: Schedule::Choices(Options::defaults(rt.alloc())),
+        });
+    };
+    if is_over_read(rt, history, file, choices.or(follow)) {
+        return Err(answered(rt, 2, SAME_FILE.as_bytes()));
+    }
+    let choices = first_choices(rt, choices, follow, long)?;
+    let schedule = match (workers, seed) {
+        (Some(workers), _) => Schedule::Workers(WorkOptions {
+            arena,
+            steps,
+            workers,
+        }),
+        (None, Some(seed)) => Schedule::Lots(LotOptions { arena, steps, seed }),
+        (None, None) => Schedule::Choices(Options {
+            arena,
+            steps,
+            choices,
+        }),
+    };
+    Ok(Plan {
+        file,
+        history,
+        schedule,
+    })
+}
+
+// Runs a source.
+fn run_file<H: Threads + Wait + Sync>(
+    rt: &HostRuntime,
+    threads: &H,
+    plan: &Plan<'_>,
+    long: bool,
+) -> Result<u8, u8> {
+    let source = &mut source_of(rt, plan.file, long)?;
+    let Some(path) = plan.history else {
+        return Ok(run_by(rt, threads, source, &plan.schedule, long).status);
+    };
+    let mut kept = kept_file(rt, path, long)?;
+    let run = run_by(rt, threads, source, &plan.schedule, long);
+    Ok(write_history(rt, &run, path, &mut kept, long))
+}
+
+// The lines of a trace that are shown.
+fn page_of<'a>(
+    first: Option<u64>,
+    last: u64,
+    process: Option<u64>,
+    cell: Option<&'a str>,
+) -> LineFilter<'a> {
+    LineFilter {
+        first: first.unwrap_or(1),
+        last,
+        process,
+        cell: bytes_of(cell),
+    }
+}
+
+// Says what is asked of the first entries of a run, up to the last one that is named.
+fn inspect(
+    rt: &HostRuntime,
+    file: &str,
+    run: &ViewedRun<'_>,
+    asked: (Inspection<'_>, Option<u64>),
+    long: bool,
+) -> Result<u8, u8>
+    requires { IsViewInRange run.now }
+{
+    let viewed = viewed_run(rt, run, long)?;
+    let (telling, last) = asked;
+    let options = InspectionOptions {
+        telling,
+        origin: origin_of(&viewed),
+        entries: last.unwrap_or(u64::MAX),
+        arena: run.arena,
+    };
+    deliver_file(rt, file, &options, long)
+}
+
+// Makes the steps of the history in a file again.
+fn replay_file(
+    rt: &HostRuntime,
+    file: &str,
+    history: &str,
+    arena: u32,
+    long: bool,
+) -> Result<u8, u8>
+    requires { IsArena arena }
+{
+    let history = &file_bytes(rt, history, long)?;
+    deliver_file(rt, file, &ReplayOptions { history, arena }, long)
+}
+
+// Makes the page of a source by these options, and writes it to a file, which keeps what it has where there is no page.
+fn write_page(
+    rt: &HostRuntime,
+    file: &str,
+    path: &str,
+    options: &InspectionOptions<'_>,
+    long: bool,
+) -> Result<u8, u8> {
+    let mut source = source_of(rt, file, long)?;
+    let mut kept = kept_file(rt, path, long)?;
+    let mut page = Vec::new(rt.alloc());
+    let asked = CommandRequest { options, long };
+    let status = deliver_source(
         rt.alloc(),
         &mut source,
-        asked,
-        &mut rt.stdout(),
+        &asked,
+        &mut page,
         &mut rt.stderr(),
-    ))
+    ).status;
+    if status == 0 {
+        return Ok(put_contents(rt, path, &mut kept, &page, 0, long));
+    }
+    let_go(rt, path, &kept);
+    Ok(status)
+}
+
+// Writes the page of a run to a file that isn't read.
+fn page_file(
+    rt: &HostRuntime,
+    file: &str,
+    run: &ViewedRun<'_>,
+    path: &str,
+    long: bool,
+) -> Result<u8, u8>
+    requires { IsViewInRange run.now }
+{
+    if is_over_read(rt, Some(path), file, run.history.or(run.choices)) {
+        return Err(answered(rt, 2, SAME_PAGE.as_bytes()));
+    }
+    let viewed = viewed_run(rt, run, long)?;
+    let options = InspectionOptions {
+        telling: Inspection::Page,
+        origin: origin_of(&viewed),
+        entries: u64::MAX,
+        arena: run.arena,
+    };
+    write_page(rt, file, path, &options, long)
+}
+
+// Says how often the statement of each line began in runs.
+fn cover_file(
+    rt: &HostRuntime,
+    file: &str,
+    all: &[Viewed<'_>],
+    arena: u32,
+    long: bool,
+) -> Result<u8, u8>
+    requires { IsArena arena }
+{
+    let origins = origins_of(rt, all)?;
+    let options = CoverOptions {
+        origins: &origins,
+        arena,
+    };
+    let status = deliver_file(rt, file, &options, long)?;
+    Ok(several_status(rt, all, status, long))
 }
 
 // Says what differs between two runs.
-fn diff_file(rt: &HostRuntime, file: &str, asked: &DiffRequest<'_>) -> Result<u8, u8> {
-    let mut source = source_of(rt, file, asked.long)?;
-    Ok(diff_noted(
-        rt.alloc(),
-        &mut source,
-        asked,
-        &mut rt.stdout(),
-        &mut rt.stderr(),
-    ))
+fn diff_file(
+    rt: &HostRuntime,
+    file: &str,
+    run: &ViewedRun<'_>,
+    other: &ViewedRun<'_>,
+    long: bool,
+) -> Result<u8, u8>
+    requires first { IsViewInRange run.now }
+    requires second { IsViewInRange other.now }
+{
+    let both = [viewed_run(rt, run, long)?, viewed_run(rt, other, long)?];
+    let options = DiffOptions {
+        first: origin_of(&both[0]),
+        second: origin_of(&both[1]),
+        arena: run.arena,
+    };
+    let status = deliver_file(rt, file, &options, long)?;
+    Ok(several_status(rt, &both, status, long))
 }
 
+// Does a job that looks at runs; no other one is passed.
+fn view_job(rt: &HostRuntime, job: Job<'_>, histories: &[&str], long: bool) -> Result<u8, u8>
+    requires { IsInRange job }
+{
+    match job {
+        Job::State { file, run, at } => inspect(rt, file, &run, (Inspection::State, at), long),
+        Job::Trace {
+            file,
+            run,
+            first,
+            last,
+            process,
+            cell,
+        } => {
+            let page = page_of(first, last.unwrap_or(u64::MAX), process, cell);
+            inspect(rt, file, &run, (Inspection::Trace(page), last), long)
+        }
+        Job::Page { file, run, page } => page_file(rt, file, &run, page, long),
+        Job::Why { file, run } => inspect(rt, file, &run, (Inspection::Why, None), long),
+        Job::Cover { file, run, runs } => {
+            let all = covered(rt, &run, runs, histories, long)?;
+            cover_file(rt, file, &all, run.arena, long)
+        }
+        Job::Diff {
+            file,
+            run,
+            other,
+            other_seed,
+        } => {
+            let other = ViewedRun {
+                history: other,
+                choices: None,
+                seed: other_seed,
+                arena: run.arena,
+                steps: run.steps,
+            };
+            diff_file(rt, file, &run, &other, long)
+        }
+        _ => Ok(0),
+    }
+}
+
+// Does a job.
 fn done<H: Threads + Wait + Sync>(
     rt: &HostRuntime,
     threads: &H,
@@ -624,56 +797,10 @@ fn done<H: Threads + Wait + Sync>(
         long,
     } = request;
     match job {
-        Job::Standard => Ok(run_standard(rt, long)),
-        Job::Check { file, warn: false } => check_file(rt, file, long),
-        Job::Check { file, warn: true } => warn_file(rt, file, long),
-        Job::Run {
-            file,
-            arena,
-            steps,
-            workers,
-            seed,
-            choices,
-            follow,
-            history,
-        } => {
-            if is_over_read(rt, history, file, choices.or(follow)) {
-                let text = SAME_FILE.as_bytes();
-                return Err(answer(2, text, &mut rt.stdout(), &mut rt.stderr()));
-            }
-            let choices = first_choices(rt, choices, follow, long)?;
-            let source = &mut source_of(rt, file, long)?;
-            let kept = match history {
-                Some(path) => Some((path, kept_file(rt, path, long)?)),
-                None => None,
-            };
-            let run = match (workers, seed) {
-                (Some(workers), _) => {
-                    let options = WorkOptions {
-                        arena,
-                        steps,
-                        workers,
-                    };
-                    run_workers(rt, threads, source, &options, long)
-                }
-                (None, Some(seed)) => {
-                    let options = LotOptions { arena, steps, seed };
-                    run_lots(rt, source, &options, long)
-                }
-                (None, None) => {
-                    let options = Options {
-                        arena,
-                        steps,
-                        choices,
-                    };
-                    run_choices(rt, source, &options, long)
-                }
-            };
-            match kept {
-                Some((path, mut kept)) => Ok(write_history(rt, &run, path, &mut kept, long)),
-                None => Ok(run.status),
-            }
-        }
+        Job::Standard | Job::Run { .. } => run_file(rt, threads, &plan_of(rt, job, long)?, long),
+        Job::Check { file, warn: false } => deliver_file(rt, file, &Check, long),
+        Job::Check { file, warn: true } => deliver_file(rt, file, &Warn, long),
+        Job::List { file } => deliver_file(rt, file, &List, long),
         Job::Sample {
             file,
             runs,
@@ -694,119 +821,21 @@ fn done<H: Threads + Wait + Sync>(
             file,
             history,
             arena,
-        } => replay_file(rt, file, &file_bytes(rt, history, long)?, arena, long),
-        Job::State { file, run, at } => {
-            let viewed = viewed_run(rt, &run, long)?;
-            let asked = InspectionRequest {
-                telling: Inspection::State,
-                origin: origin_of(&viewed),
-                entries: at.unwrap_or(u64::MAX),
-                arena: run.arena,
-                long,
-            };
-            state_file(rt, file, &asked)
-        }
-        Job::Trace {
-            file,
-            run,
-            first,
-            last,
-            process,
-            cell,
-        } => {
-            let viewed = viewed_run(rt, &run, long)?;
-            let last = last.unwrap_or(u64::MAX);
-            let page = LineFilter {
-                first: first.unwrap_or(1),
-                last,
-                process,
-                cell: bytes_of(cell),
-            };
-            let asked = InspectionRequest {
-                telling: Inspection::Trace(page),
-                origin: origin_of(&viewed),
-                entries: last,
-                arena: run.arena,
-                long,
-            };
-            state_file(rt, file, &asked)
-        }
-        Job::Why { file, run } => {
-            let viewed = viewed_run(rt, &run, long)?;
-            let asked = InspectionRequest {
-                telling: Inspection::Why,
-                origin: origin_of(&viewed),
-                entries: u64::MAX,
-                arena: run.arena,
-                long,
-            };
-            state_file(rt, file, &asked)
-        }
-        Job::Cover { file, run, runs } => {
-            let all = covered(rt, &run, runs, &histories, long)?;
-            let origins = origins_of(rt, &all)?;
-            let asked = CoverRequest {
-                origins: &origins,
-                arena: run.arena,
-                long,
-            };
-            let status = cover_file(rt, file, &asked)?;
-            if long && status == 2 {
-                for (path, viewed) in histories.iter().zip(all.iter()) {
-                    if let Some(status) = say_refused(rt, *path, viewed) {
-                        return Err(status);
-                    }
-                }
-            }
-            Ok(status)
-        }
-        Job::Diff {
-            file,
-            run,
-            other,
-            other_seed,
-        } => {
-            let other_run = ViewedRun {
-                history: other,
-                choices: None,
-                seed: other_seed,
-                arena: run.arena,
-                steps: run.steps,
-            };
-            let first = viewed_run(rt, &run, long)?;
-            let second = viewed_run(rt, &other_run, long)?;
-            let asked = DiffRequest {
-                first: origin_of(&first),
-                second: origin_of(&second),
-                arena: run.arena,
-                long,
-            };
-            let status = diff_file(rt, file, &asked)?;
-            if long && status == 2 {
-                for (path, viewed) in [(run.history, &first), (other, &second)] {
-                    if let Some(path) = path {
-                        if let Some(status) = say_refused(rt, path, viewed) {
-                            return Err(status);
-                        }
-                    }
-                }
-            }
-            Ok(status)
-        }
-        Job::List { file } => list_file(rt, file, long),
+        } => replay_file(rt, file, history, arena, long),
         Job::Explain {
             first,
             second,
             third,
         } => {
             let usage = explain(rt.alloc(), first, second, third);
-            Ok(answer(
-                usage.status,
-                &usage.text,
-                &mut rt.stdout(),
-                &mut rt.stderr(),
-            ))
+            Ok(answered(rt, usage.status, &usage.text))
         }
+        Job::State { .. }
+        | Job::Trace { .. }
+        | Job::Page { .. }
+        | Job::Why { .. }
+        | Job::Cover { .. }
+        | Job::Diff { .. } => view_job(rt, job, &histories, long),
     }
 }
 
@@ -817,17 +846,16 @@ fn words_of(rt: &HostRuntime) -> io::Result<Vec<String>> {
 }
 
 fn status_of<H: Threads + Wait + Sync>(rt: &HostRuntime, threads: &H) -> Result<u8, u8> {
-    let (output, messages) = (&mut rt.stdout(), &mut rt.stderr());
     let words = match words_of(rt) {
         Ok(words) => words,
         Err(fault) if fault.kind() == ErrorKind::OutOfMemory => {
-            return Err(answer(7, b"", output, messages));
+            return Err(say_no_memory(rt));
         }
-        Err(_) => return Err(answer(2, b"error: a word isn't UTF-8\n", output, messages)),
+        Err(_) => return Err(answered(rt, 2, b"error: a word isn't UTF-8\n")),
     };
     match read_request(rt.alloc(), &words) {
         Ok(request) => done(rt, threads, request),
-        Err(usage) => Err(answer(usage.status, &usage.text, output, messages)),
+        Err(usage) => Err(answered(rt, usage.status, &usage.text)),
     }
 }
 

@@ -4,8 +4,9 @@ use Rattle.hep_machine.specs.Words.{schedule_of}
 use Rattle.hep_state.specs.Words.{IsMachineAfter, snapshot_of}
 use Rattle.hep_advance.proofs.RunsToBreakpoint.{turns-are}
 use Rattle.hep_cover.specs.CountedReplay.{IsRemade, ReplayTarget}
-use Rattle.hep_why.proofs.MachineTurns.{living-now, running-now}
-use Rattle.hep_cover.proofs.CountedReplays.{can-turn, few-now, first-of, in-two, remade-on, schedule-many}
+use Rattle.hep_fold.proofs.TurnRows.{schedule-many}
+use Rattle.hep_fold.proofs.MachineTurns.{living-now, running-now}
+use Rattle.hep_cover.proofs.CountedReplays.{can-turn, few-now, first-of, in-two, remade-on}
 use Rattle.hep_cover.proofs.coverage.make_some.Goals.{After-push_many}
 use Rattle.hep_cover.proofs.coverage.make_some.Goals as goal
 

@@ -2,7 +2,7 @@ use Rattle.std.proofs.Common.{◌∷◌, [], ap, ◌∙◌, subst}
 use Rattle.hep_core.proofs.Histories.{schedule-along}
 use Rattle.hep_machine.specs.Words.{run, schedule_of}
 use Rattle.hep_state.specs.Words.{IsMachineAfter}
-use Rattle.hep_why.proofs.MachineTurns.{living-now, running-now}
+use Rattle.hep_fold.proofs.MachineTurns.{living-now, running-now}
 use Rattle.hep_cover.proofs.CountedSteps.{counted-one}
 use Rattle.hep_cover.proofs.CountedReplays.{can-turn, remade-on}
 use Rattle.hep_cover.proofs.coverage.make_turn.Goals as goal

@@ -1,4 +1,4 @@
-use Rattle.std.proofs.Common.{◌≡◌, ◌+◌, ◌++◌, ◌≤◌, length}
+use Rattle.std.proofs.Common.{◌≡◌, ◌+◌, ◌≤◌, length}
 use Rattle.hep_diff.specs.DifferenceLines.{records_text}
 use Rattle.hep_text.specs.Line.{lines}
 use Rattle.hep_diff.proofs.difference_text.append_records.Given as goal

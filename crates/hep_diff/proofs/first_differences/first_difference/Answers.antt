@@ -1,4 +1,4 @@
-use Rattle.std.proofs.Common.{◌≡◌, ◌⊎◌, inl, inr, ◌≤◌, ◌∙◌, length, sym, arith}
+use Rattle.std.proofs.Common.{◌⊎◌, inl, inr, ◌≤◌, ◌∙◌, length, sym, arith}
 use Rattle.hep_diff.proofs.FirstDifferences.{first-is}
 use Rattle.hep_diff.proofs.first_differences.first_difference.Goals.{then-loop-at-test+else-at-second, else-loop-at-test}
 use Rattle.hep_diff.proofs.first_differences.first_difference.Goals as goal

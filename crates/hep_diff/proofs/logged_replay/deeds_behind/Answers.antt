@@ -1,34 +1,30 @@
-use Rattle.hep_why.proofs.FoundReasons.{whole}
+use Rattle.std.proofs.Common.{◌∙◌, [], ap, arith, subst, sym}
+use Rattle.hep_fold.specs.declared.history_range.HistoryRange.{HistoryRange}
+use Rattle.hep_fold.specs.Folds.{CanBeMade}
+use Rattle.hep_machine.specs.Words.{Units}
 use Rattle.hep_diff.specs.ProcessSteps as words
-use Rattle.hep_diff.proofs.StepLogs.{along-begins, noting-begins, noting-ends}
+use Rattle.hep_diff.specs.StepLogs.{kept_of}
+use Rattle.hep_diff.proofs.ReplayedRanges.{can-be-made}
+use Rattle.hep_diff.proofs.StepLogs.{steps-behind}
 use Rattle.hep_diff.proofs.logged_replay.deeds_behind.Goals as goal
 
-pub pass_entries-requires-clause-along : goal.pass_entries-requires-clause-along
-pass_entries-requires-clause-along c =
-    let core = c.args.core.now.core in
-    let entries = c.args.entries.now.items in
-    (whole core entries c.requires.replayed, along-begins core entries c.requires.replayed c.headline.ensures.legal c.in_ok-again.again.core c.in_ok-again.ensures)
+pub fold_history-requires-clause-size : goal.fold_history-requires-clause-size
+fold_history-requires-clause-size c = (omega (arith, c.requires.replayed.some, c.cells-cells.ensures), omega (arith, c.requires.replayed.few, c.cells-cells.ensures))
 
-pub make_entries-requires-clause-noting : goal.make_entries-requires-clause-noting
-make_entries-requires-clause-noting c =
+pub fold_history-requires-clause-possible : goal.fold_history-requires-clause-possible
+fold_history-requires-clause-possible c =
     let core = c.args.core.now.core in
-    let entries = c.args.entries.now.items in
-    let r = c.requires.replayed in
-    let w = whole core entries r in (
-      w,
-      words.deeds_behind core.program c.args.front entries,
-      noting-begins core entries r c.pass_entries.new.core.core c.args.front c.new-logs.result.items c.new-logs.ensures.items (
-          c.in_ok-pass_entries.ensures w (along-begins core entries r c.headline.ensures.legal c.in_ok-again.again.core c.in_ok-again.ensures)),
-    )
+    let range : HistoryRange = record { history = c.args.entries; start = c.args.front; end = c.len-end.result } in
+    subst (λ (us : Units). CanBeMade us c.cells-cells.result range) (sym c.image-image.ensures) (
+    subst (λ n. CanBeMade core.program n range) (sym c.cells-cells.ensures) (
+    can-be-made core range c.requires.replayed c.headline.ensures.legal c.requires.few c.len-end.ensures.count))
+
+pub fold_history-requires-clause-known : goal.fold_history-requires-clause-known
+fold_history-requires-clause-known c = (λ q. [], λ q. ap (λ rows. kept_of rows q) c.new-logs.ensures.items)
 
 pub returns : goal.returns
-returns c =
-    let core = c.args.core.now.core in
-    let entries = c.args.entries.now.items in
-    let r = c.requires.replayed in
-    let w = whole core entries r in
-    let total = words.deeds_behind core.program c.args.front entries in
-    noting-ends w total c.make_entries.new.core.core c.make_entries.new.logs.items (
-    c.in_ok-make_entries.ensures w total (
-    noting-begins core entries r c.pass_entries.new.core.core c.args.front c.new-logs.result.items c.new-logs.ensures.items (
-    c.in_ok-pass_entries.ensures w (along-begins core entries r c.headline.ensures.legal c.in_ok-again.again.core c.in_ok-again.ensures))))
+returns c q =
+    let range : HistoryRange = record { history = c.args.entries; start = c.args.front; end = c.len-end.result } in
+    c.in_ok-fold_history.ensures.seen (λ p. []) (λ p. ap (λ rows. kept_of rows p) c.new-logs.ensures.items) q
+    ∙ steps-behind c.image-image.result.now range q c.len-end.ensures.count
+    ∙ ap (λ (us : Units). words.deeds_behind us c.args.front c.args.entries.now.items q) c.image-image.ensures

@@ -6,13 +6,14 @@ use Rattle.hep_inspection.proofs.cover.count_one.Goals as goal
 pub count_history-requires : goal.count_history-requires
 count_history-requires c =
     let asked = c.args.asked.now in
-    (subst (IsMadeOrRefused asked.long asked.arena c.args.image.now c.args.origin.now) c.in-Made.is c.in_ok-core.ensures).1
+    (subst (IsMadeOrRefused asked.long asked.options.now.arena c.args.image.now c.args.origin.now) c.in-Made.is c.in_ok-core.ensures).1
 
 pub returns-in_ok-count_history-in-Made : goal.returns-in_ok-count_history-in-Made
 returns-in_ok-count_history-in-Made c =
     let asked = c.args.asked.now in
     let entries = c.in-Made.entries.items in
-    let made = subst (IsMadeOrRefused asked.long asked.arena c.args.image.now c.args.origin.now) c.in-Made.is c.in_ok-core.ensures in (
+    let is = IsMadeOrRefused asked.long asked.options.now.arena c.args.image.now c.args.origin.now in
+    let made = subst is c.in-Made.is c.in_ok-core.ensures in (
       entries,
       made.0,
       refl {A = List ℕ},

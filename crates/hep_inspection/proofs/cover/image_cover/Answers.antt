@@ -10,32 +10,45 @@ use Rattle.hep_inspection.proofs.cover.image_cover.Goals as goal
 pub loop-index-init : goal.loop-index-init
 loop-index-init c =
     let program = c.args.image.now in
-    let asked = c.args.asked.now in
-    along-begins asked.long asked.arena c.args.source.now program asked.origins.now c.in_ok-counting.counting
+    let options = c.args.asked.now.options.now in
+    along-begins c.args.asked.now.long options.arena c.args.source.now program options.origins.now c.in_ok-counting.counting
     (c.in_ok-counting.ensures.operations ∙ ap (operations_by_line program) c.line_count.ensures)
     (c.in_ok-counting.ensures.counts ∙ ap (unbegun program) c.line_count.ensures)
 
 pub returns-in-Some : goal.returns-in-Some
 returns-in-Some c =
-    let asked = c.args.asked.now in
+    let long = c.args.asked.now.long in
+    let options = c.args.asked.now.options.now in
+    let program = c.args.image.now in
+    let old = c.loop-index.counting in
+    let new = c.count_one.new.counting in
     let origin = c.index-asked-index.result in
-    step-refused asked.long asked.arena c.args.source.now c.args.image.now asked.origins.now c.loop-index.index origin c.loop-index.counting c.count_one.new.counting
+    let here = get_or options.origins.now c.loop-index.index origin in
+    step-refused long options.arena c.args.source.now program options.origins.now c.loop-index.index origin old new
     c.loop-index-test.true c.index-asked-index.is c.loop-index.invariant c.in-Some.refused
-    (subst (λ (o : Origin). IsCountedOrRefused asked.long asked.arena c.args.image.now o c.loop-index.counting c.count_one.new.counting (Some c.in-Some.refused)) (sym c.index-asked-index.is)
-    (subst (IsCountedOrRefused asked.long asked.arena c.args.image.now (get_or asked.origins.now c.loop-index.index origin) c.loop-index.counting c.count_one.new.counting) c.in-Some.is c.in_ok-refused.ensures))
+    (subst (λ (o : Origin). IsCountedOrRefused long options.arena program o old new (Some c.in-Some.refused)) (sym c.index-asked-index.is)
+    (subst (IsCountedOrRefused long options.arena program here old new) c.in-Some.is c.in_ok-refused.ensures))
 
 pub loop-index-preserved : goal.loop-index-preserved
 loop-index-preserved c =
-    let asked = c.args.asked.now in
+    let long = c.args.asked.now.long in
+    let options = c.args.asked.now.options.now in
+    let program = c.args.image.now in
+    let old = c.loop-index.counting in
+    let new = c.count_one.new.counting in
     let origin = c.index-asked-index.result in
-    step-counted asked.long asked.arena c.args.source.now c.args.image.now asked.origins.now c.loop-index.index origin c.loop-index.counting c.count_one.new.counting
+    let here = get_or options.origins.now c.loop-index.index origin in
+    step-counted long options.arena c.args.source.now program options.origins.now c.loop-index.index origin old new
     c.loop-index-test.true c.index-asked-index.is c.loop-index.invariant
-    (subst (λ (o : Origin). IsCountedOrRefused asked.long asked.arena c.args.image.now o c.loop-index.counting c.count_one.new.counting None) (sym c.index-asked-index.is)
-    (subst (IsCountedOrRefused asked.long asked.arena c.args.image.now (get_or asked.origins.now c.loop-index.index origin) c.loop-index.counting c.count_one.new.counting) c.in-None.is c.in_ok-refused.ensures))
+    (subst (λ (o : Origin). IsCountedOrRefused long options.arena program o old new None) (sym c.index-asked-index.is)
+    (subst (IsCountedOrRefused long options.arena program here old new) c.in-None.is c.in_ok-refused.ensures))
 
 pub returns : goal.returns
 returns c =
-    let asked = c.args.asked.now in
+    let long = c.args.asked.now.long in
+    let options = c.args.asked.now.options.now in
     let program = c.args.image.now in
-    along-ends asked.long asked.arena c.args.source.now program asked.origins.now c.loop-index.counting (outcome_of c.text_transcript.result)
-    (all-counted asked.long asked.arena c.args.source.now program asked.origins.now c.loop-index.index c.loop-index.counting c.loop-index-test.false c.loop-index.invariant) (search rules)
+    let counted = c.loop-index.counting in
+    along-ends long options.arena c.args.source.now program options.origins.now counted (outcome_of c.text_transcript.result)
+    (all-counted long options.arena c.args.source.now program options.origins.now c.loop-index.index counted c.loop-index-test.false
+    c.loop-index.invariant) (search rules)

@@ -4,4 +4,5 @@ use Rattle.hep_inspection.proofs.cover.image_cover.Given as goal
 
 abbrev pub invariant-loop-index : goal.invariant-loop-index
 invariant-loop-index l =
-    IsAlong l.asked.long l.asked.arena l.source l.image l.asked.origins.now (drop l.index l.asked.origins.now) l.counting
+    let options = l.asked.options.now in
+    IsAlong l.asked.long options.arena l.source l.image options.origins.now (drop l.index options.origins.now) l.counting

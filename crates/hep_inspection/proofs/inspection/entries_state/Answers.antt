@@ -11,9 +11,13 @@ returns-in-Ok-clause-made c = inr (c.in-Ok.ensures.possible, c.text_transcript.e
 
 pub returns-in-Err-ArenaFull-clause-made : goal.returns-in-Err-ArenaFull-clause-made
 returns-in-Err-ArenaFull-clause-made c =
-    let none = subst (IsUnmade c.args.image c.args.asked.now.arena (take c.args.asked.now.entries c.args.entries.now.items)) c.in-Err-ArenaFull.field-0-is c.in-Err-ArenaFull.ensures.unmade in
+    let options = c.args.asked.now.options.now in
+    let unmade = IsUnmade c.args.image options.arena (take options.entries c.args.entries.now.items) in
+    let none = subst unmade c.in-Err-ArenaFull.field-0-is c.in-Err-ArenaFull.ensures.unmade in
     IfOk-weaker c.full_transcript.result _ _ (λ r is. inl (inl (none, is ∙ ap full_with c.in_ok-notes.ensures.made))) c.full_transcript.ensures.made
 
 pub returns-in-Err-ArenaFull-clause-unmade : goal.returns-in-Err-ArenaFull-clause-unmade
 returns-in-Err-ArenaFull-clause-unmade c =
-    on-err-so c.full_transcript.result (noted-full c.args.asked.now.long c.args.image c.args.asked.now.arena c.in_ok-notes.notes c.in_ok-notes.ensures.made) c.full_transcript.ensures.unmade
+    let asked = c.args.asked.now in
+    let noted = noted-full asked.long c.args.image asked.options.now.arena c.in_ok-notes.notes c.in_ok-notes.ensures.made in
+    on-err-so c.full_transcript.result noted c.full_transcript.ensures.unmade

@@ -6,12 +6,22 @@ use Rattle.hep_inspection.proofs.inspection.told_text.Goals as goal
 
 pub returns-in-State-clause-told : goal.returns-in-State-clause-told
 returns-in-State-clause-told c =
-    subst (λ (t : Inspection). IfOk c.state_told.result (λ text. text.items ≡ told t c.args.source.now c.args.image (first_of c.args.entries.now))) (sym c.in-State.is) c.state_told.ensures.told
+    let entries = first_of c.args.entries.now in
+    subst (λ (t : Inspection). IfOk c.state_told.result (λ text. text.items ≡ told t c.args.source.now c.args.image entries))
+    (sym c.in-State.is) c.state_told.ensures.told
 
 pub returns-in-Trace-clause-told : goal.returns-in-Trace-clause-told
 returns-in-Trace-clause-told c =
-    subst (λ (t : Inspection). IfOk c.trace_told.result (λ text. text.items ≡ told t c.args.source.now c.args.image (first_of c.args.entries.now))) (sym c.in-Trace.is) c.trace_told.ensures.told
+    let entries = first_of c.args.entries.now in
+    subst (λ (t : Inspection). IfOk c.trace_history.result (λ text. text.items ≡ told t c.args.source.now c.args.image entries))
+    (sym c.in-Trace.is) c.trace_history.ensures.told
 
 pub returns-in-Why-clause-told : goal.returns-in-Why-clause-told
 returns-in-Why-clause-told c =
-    subst (λ (t : Inspection). IfOk c.why_told.result (λ text. text.items ≡ told t c.args.source.now c.args.image (first_of c.args.entries.now))) (sym c.in-Why.is) c.why_told.ensures.told
+    let entries = first_of c.args.entries.now in
+    subst (λ (t : Inspection). IfOk c.why_told.result (λ text. text.items ≡ told t c.args.source.now c.args.image entries))
+    (sym c.in-Why.is) c.why_told.ensures.told
+
+pub returns-in-Page-clause-told : goal.returns-in-Page-clause-told
+returns-in-Page-clause-told c =
+    subst (λ (t : Inspection). IfOk c.page_text.result (λ text. text.items ≡ told t c.args.source.now c.args.image (first_of c.args.entries.now))) (sym c.in-Page.is) c.page_text.ensures.told

@@ -2,7 +2,7 @@ use Rattle.std.proofs.Common.{◌∙◌, ap}
 use Rattle.hep_core.specs.CoreValues.{CoreValue}
 use Rattle.hep_replay.specs.HistoryPrefix.{first_of}
 use Rattle.hep_cover.specs.CausesReasons.{why_text}
-use Rattle.hep_inspection.proofs.Remaking.{replayed-again}
+use Rattle.hep_page.proofs.PagesOfCores.{replayed-again}
 use Rattle.hep_inspection.proofs.inspection.why_told.Goals as goal
 
 pub why_text-requires : goal.why_text-requires

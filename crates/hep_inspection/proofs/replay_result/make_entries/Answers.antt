@@ -1,6 +1,6 @@
 use Rattle.std.proofs.Common.{ap, refl}
 use Rattle.hep_core.specs.CoreValues.{CoreValue}
-use Rattle.hep_inspection.proofs.Remaking.{replayed-again}
+use Rattle.hep_page.proofs.PagesOfCores.{replayed-again}
 use Rattle.hep_inspection.proofs.replay_result.make_entries.Goals as goal
 
 pub returns-in-Ok-clause-made : goal.returns-in-Ok-clause-made

@@ -12,7 +12,8 @@ pub returns-in-Ok-clause-made : goal.returns-in-Ok-clause-made
 returns-in-Ok-clause-made g c =
     let core = c.in-Ok.core.core in
     let e = c.in-Ok.ensures in
-    IfOk-weaker c.ended_transcript.result _ _ (λ r is. outcome-worked c.args.asked.now.long c.args.image c.args.asked.now.options.now core (outcome_of r) e.run e.over e.turns c.headline.ensures.legal c.headline.ensures.named is) c.ended_transcript.ensures
+    IfOk-weaker c.ended_transcript.result _ _ (λ r. outcome-worked c.args.long c.args.image c.args.asked.now.options.now core (outcome_of r)
+    e.run e.over e.turns c.headline.ensures.legal c.headline.ensures.named) c.ended_transcript.ensures
 
 pub returns-in-Ok-clause-unmade : goal.returns-in-Ok-clause-unmade
 returns-in-Ok-clause-unmade g c = on-err-anyway c.ended_transcript.result (inr c.in-Ok.ensures.fits)
@@ -24,7 +25,8 @@ returns-in-ArenaFull-clause-made g c =
 
 pub returns-in-ArenaFull-clause-unmade : goal.returns-in-ArenaFull-clause-unmade
 returns-in-ArenaFull-clause-unmade g c =
-    on-err-so c.full_transcript.result (noted-full c.args.asked.now.long c.args.image c.args.asked.now.options.now.arena c.in_ok-notes.notes c.in_ok-notes.ensures.made) c.full_transcript.ensures.unmade
+    let noted = noted-full c.args.long c.args.image c.args.asked.now.options.now.arena c.in_ok-notes.notes c.in_ok-notes.ensures.made in
+    on-err-so c.full_transcript.result noted c.full_transcript.ensures.unmade
 
 pub returns-in-Some-clause-unmade : goal.returns-in-Some-clause-unmade
 returns-in-Some-clause-unmade g c =

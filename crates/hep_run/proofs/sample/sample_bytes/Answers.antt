@@ -7,7 +7,7 @@ use Rattle.hep_run.specs.Delivery.{Leaves}
 use Rattle.hep_run.specs.Sources.{IsRefusedProgram, IsRunnable}
 use Rattle.hep_run.specs.Samples.{IsSampleOutcome, IsSampled}
 use Rattle.hep_outcome.specs.Transcripts.{outcome_of}
-use Rattle.hep_run.proofs.Accepted.{left_alone}
+use Rattle.hep_run.proofs.NoHistory.{left_alone}
 use Rattle.hep_run.proofs.LargeSources.{large-delivered, large-status, wanted-small}
 use Rattle.hep_run.proofs.sample.sample_bytes.Goals as goal
 
@@ -22,8 +22,8 @@ returns-in-Ok-clause-left g c =
     let options = c.args.asked.now.options.now in
     let seeds = c.in-Ok.seeds.items in
     let source = c.args.source.now in
-    left_alone (IsSampleOutcome long options seeds source) (no_history long options seeds source) c.deliver.result _ _ _ _ (
-    inr (outcome_of c.in-Ok.transcript, c.in-Ok.ensures.made, c.deliver.ensures))
+    left_alone c.deliver.result _ _ _ _ (IsSampleOutcome long options seeds source) (no_history long options seeds source)
+    (inr (outcome_of c.in-Ok.transcript, c.in-Ok.ensures.made, c.deliver.ensures))
 
 pub returns-in-Ok-clause-large : goal.returns-in-Ok-clause-large
 returns-in-Ok-clause-large g c =

@@ -9,7 +9,7 @@ use Rattle.hep_why.specs.LatestChanges.{turns_from}
 use Rattle.hep_why.specs.WatchedReplay.{CanRemake, IsRemade, Remakes}
 use Rattle.hep_why.specs.Watches.{Whole}
 use Rattle.hep_why.proofs.WatchedTurns.{same-both}
-use Rattle.hep_why.proofs.TurnRows.{turns-append}
+use Rattle.hep_fold.proofs.TurnRows.{turns-append}
 use Rattle.hep_why.proofs.watched_replay.make_entries.Goals.{In-Some}
 use Rattle.hep_why.proofs.watched_replay.make_entries.Goals as goal
 

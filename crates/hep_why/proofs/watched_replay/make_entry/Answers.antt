@@ -1,6 +1,7 @@
 use Rattle.std.proofs.Common.{◌≡◌, ◌+◌, ◌-◌, ◌++◌, ℕ, List, replicate, subst, refl, arith}
 use Rattle.hep_why.specs.WatchedReplay.{CanRemake, IsRemade, Remakes}
-use Rattle.hep_why.proofs.WatchedTurns.{same-both, one-more}
+use Rattle.hep_fold.proofs.TurnRows.{one-more}
+use Rattle.hep_why.proofs.WatchedTurns.{same-both}
 use Rattle.hep_why.proofs.watched_replay.make_entry.Goals as goal
 use Rattle.hep_why.specs.LatestChanges.{turns_of}
 

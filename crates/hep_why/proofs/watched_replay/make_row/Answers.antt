@@ -1,21 +1,9 @@
 use Rattle.std.proofs.Common.{◌≡◌, ◌+◌, ◌-◌, ℕ, List, subst, refl, arith}
 use Rattle.hep_why.specs.WatchedReplay.{CanRemake, Remakes}
 use Rattle.hep_why.specs.Watches.{turns_in_row}
+use Rattle.hep_fold.proofs.TurnRows.{row-further, row-whole}
 use Rattle.hep_why.proofs.WatchedTurns.{same-both}
 use Rattle.hep_why.proofs.watched_replay.make_row.Goals as goal
-
-all : (n number p : ℕ) → turns_in_row number p n ≡ turns_in_row (number + 0) p (n - 0)
-all n number p =
-    let at : number ≡ number + 0 = omega arith in
-    let count : n ≡ n - 0 = omega arith in
-    (λ i. turns_in_row (at i) p (count i))
-
--- behind more of them
-behind : (n made more number p : ℕ) → turns_in_row (number + made + more) p (n - made - more) ≡ turns_in_row (number + (made + more)) p (n - (made + more))
-behind n made more number p =
-    let at : number + made + more ≡ number + (made + more) = omega arith in
-    let count : n - made - more ≡ n - (made + more) = omega arith in
-    (λ i. turns_in_row (at i) p (count i))
 
 pub loop-made-init : goal.loop-made-init
 loop-made-init c =
@@ -24,8 +12,8 @@ loop-made-init c =
     let ws = c.args.watches.now.items in
     record {
       few = omega arith;
-      there = subst (λ (ts : List (ℕ × ℕ)). CanRemake c.args.tabled.now again ts ws) (all row.count row.number row.process) c.requires.along;
-      along = subst (λ (ts : List (ℕ × ℕ)). Remakes c.args.tabled.now again (turns_in_row row.number row.process row.count) ws again ts ws) (all row.count row.number row.process) (λ whole left h. h);
+      there = subst (λ (ts : List (ℕ × ℕ)). CanRemake c.args.tabled.now again ts ws) (row-whole row.count row.number row.process) c.requires.along;
+      along = subst (λ (ts : List (ℕ × ℕ)). Remakes c.args.tabled.now again (turns_in_row row.number row.process row.count) ws again ts ws) (row-whole row.count row.number row.process) (λ whole left h. h);
       same = λ i. refl;
     }
 
@@ -43,7 +31,7 @@ loop-made-preserved c =
     let next : Remakes tabled c.loop-made.again (turns_in_row (row.number + made) row.process (row.count - made)) c.loop-made.watches.items
     c.make_turns.new.again (turns_in_row (row.number + (made + more)) row.process (row.count - (made + more))) c.make_turns.new.watches.items =
     subst (λ (ts : List (ℕ × ℕ)). Remakes tabled c.loop-made.again (turns_in_row (row.number + made) row.process (row.count - made)) c.loop-made.watches.items c.make_turns.new.again ts c.make_turns.new.watches.items)
-    (behind row.count made more row.number row.process) done.along in
+    (row-further row.count made more row.number row.process) done.along in
     let there = inv.there in
     record {
       few = omega (arith, done.few, c.loop-made-test.true);

@@ -1,45 +1,19 @@
 use Rattle.std.proofs.Common.{◌≡◌, ◌+◌, ◌-◌, ◌<◌, ◌++◌, [], ℕ, suc, List, replicate, sym, ap, ◌∙◌, subst, refl, arith, append_assoc}
-use Rattle.hep_history.specs.declared.run.Run.{Run}
 use Rattle.hep_history.specs.Runs.{entry_of}
-use Rattle.hep_machine.specs.declared.event.Entry.{Entry}
-use Rattle.hep_why.specs.LatestChanges.{turns_from, turns_of}
+use Rattle.hep_why.specs.LatestChanges.{turns_from}
 use Rattle.hep_why.specs.WatchedReplay.{CanRemake, IsRemade, Remakes}
-use Rattle.hep_why.specs.Watches.{turns_in_row}
 use Rattle.hep_why.proofs.WatchedTurns.{same-both}
-use Rattle.hep_why.proofs.TurnRows.{row-of}
+use Rattle.hep_fold.proofs.TurnRows.{row-of-run, run-next, run-whole}
 use Rattle.hep_why.proofs.watched_replay.make_run.Goals as goal
-
-all : (n number : ℕ) (e : Entry) → turns_from number (replicate n e) ≡ turns_from (number + 0) (replicate (n - 0) e)
-all n number e =
-    let at : number ≡ number + 0 = omega arith in
-    let count : n ≡ n - 0 = omega arith in
-    (λ i. turns_from (at i) (replicate (count i) e))
-
-one : (n i number : ℕ) (e : Entry) (left : List (ℕ × ℕ)) → i < n
-    → turns_from (number + i) (replicate (n - i) e) ++ left ≡ turns_of (number + i) e ++ (turns_from (number + (i + 1)) (replicate (n - (i + 1)) e) ++ left)
-one n i number e left less =
-    let count : n - i ≡ suc (n - (i + 1)) = omega (arith, less) in
-    let at : suc (number + i) ≡ number + (i + 1) = omega arith in
-    ap (λ k. turns_from (number + i) (replicate k e) ++ left) count
-    ∙ append_assoc (turns_of (number + i) e) (turns_from (suc (number + i)) (replicate (n - (i + 1)) e)) left
-    ∙ ap (λ k. turns_of (number + i) e ++ (turns_from k (replicate (n - (i + 1)) e) ++ left)) at
-
-one-so : (n i number : ℕ) (e x : Entry) (left : List (ℕ × ℕ)) → i < n → x ≡ e
-    → turns_from (number + i) (replicate (n - i) e) ++ left ≡ turns_of (number + i) x ++ (turns_from (number + (i + 1)) (replicate (n - (i + 1)) e) ++ left)
-one-so n i number e x left less is =
-    one n i number e left less ∙ ap (λ y. turns_of (number + i) y ++ (turns_from (number + (i + 1)) (replicate (n - (i + 1)) e) ++ left)) (sym is)
-
-row-so : (run : Run) (number : ℕ) → run.steps ≡ 1 → turns_from number (replicate run.count (entry_of run)) ≡ turns_in_row number run.process run.count
-row-so run number one = row-of run.count number (entry_of run) one
 
 pub make_row-requires-clause-along : goal.make_row-requires-clause-along
 make_row-requires-clause-along c =
-    subst (λ (ts : List (ℕ × ℕ)). CanRemake c.args.tabled.now c.args.again.now ts c.args.watches.now.items) (row-so c.args.run c.args.number c.if-run-eq1.true) c.requires.along
+    subst (λ (ts : List (ℕ × ℕ)). CanRemake c.args.tabled.now c.args.again.now ts c.args.watches.now.items) (row-of-run c.args.run c.args.number c.if-run-eq1.true) c.requires.along
 
 pub returns-then-run-eq1-clause-along : goal.returns-then-run-eq1-clause-along
 returns-then-run-eq1-clause-along c =
     subst (λ (ts : List (ℕ × ℕ)). Remakes c.args.tabled.now c.args.again.now ts c.args.watches.now.items c.make_row.new.again [] c.make_row.new.watches.items)
-    (sym (row-so c.args.run c.args.number c.if-run-eq1.true)) c.in_ok-make_row.ensures.along
+    (sym (row-of-run c.args.run c.args.number c.if-run-eq1.true)) c.in_ok-make_row.ensures.along
 
 pub loop-before-init : goal.loop-before-init
 loop-before-init c =
@@ -48,8 +22,8 @@ loop-before-init c =
     let again = c.args.again.now in
     let ws = c.args.watches.now.items in
     record {
-      there = subst (λ (ts : List (ℕ × ℕ)). CanRemake c.args.tabled.now again ts ws) (all n c.args.number e) c.requires.along;
-      along = subst (λ (ts : List (ℕ × ℕ)). Remakes c.args.tabled.now again (turns_from c.args.number (replicate n e)) ws again ts ws) (all n c.args.number e) (λ whole left h. h);
+      there = subst (λ (ts : List (ℕ × ℕ)). CanRemake c.args.tabled.now again ts ws) (run-whole n c.args.number e) c.requires.along;
+      along = subst (λ (ts : List (ℕ × ℕ)). Remakes c.args.tabled.now again (turns_from c.args.number (replicate n e)) ws again ts ws) (run-whole n c.args.number e) (λ whole left h. h);
       same = λ i. refl;
     }
 
@@ -62,7 +36,7 @@ make_entry-requires c =
       there.0,
       turns_from (c.args.number + (i + 1)) (replicate (n - (i + 1)) e) ++ there.1,
       subst (λ (ts : List (ℕ × ℕ)). IsRemade there.0 c.args.tabled.now c.loop-before.again ts c.loop-before.watches.items)
-          (one-so n i c.args.number e c.entry.result there.1 c.loop-before-test.true c.entry.ensures) there.2,
+          (run-next n i c.args.number e c.entry.result there.1 c.loop-before-test.true c.entry.ensures) there.2,
     )
 
 pub loop-before-preserved : goal.loop-before-preserved
@@ -74,7 +48,7 @@ loop-before-preserved c =
     let rest : List (ℕ × ℕ) = turns_from (c.args.number + (i + 1)) (replicate (n - (i + 1)) e) in
     let next : Remakes tabled c.loop-before.again (turns_from (c.args.number + i) (replicate (n - i) e)) c.loop-before.watches.items c.make_entry.new.again rest c.make_entry.new.watches.items =
     λ whole left h. c.in_ok-make_entry.ensures.along whole (rest ++ left) (subst (λ (ts : List (ℕ × ℕ)). IsRemade whole tabled c.loop-before.again ts c.loop-before.watches.items)
-    (one-so n i c.args.number e c.entry.result left c.loop-before-test.true c.entry.ensures) h) in
+    (run-next n i c.args.number e c.entry.result left c.loop-before-test.true c.entry.ensures) h) in
     let there = c.loop-before.invariant.there in
     record {
       there = (there.0, there.1, next there.0 there.1 there.2);

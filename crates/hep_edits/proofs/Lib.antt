@@ -1,3 +1,0 @@
-pub mod Joined
-pub mod Edits
-pub mod Same

@@ -1,0 +1,5 @@
+pub mod Turns
+pub mod ReplayMachines
+pub mod Observers
+pub mod Unobserved
+pub mod Folds

@@ -1,0 +1,33 @@
+-- The turns of a history, and what is known after them: docs/ARCHITECTURE.md, "Forms".
+use Rattle.std.specs.Prelude.{◌≡◌, ℕ, zero, suc, List, [], ◌∷◌, ◌++◌, map, replicate}
+use Rattle.hep_machine.specs.declared.event.Entry.{Entry}
+use Rattle.hep_machine.specs.Words.{State, Units, state_after_turn}
+
+-- the turns of an entry, each with the entry's number and its process
+abbrev pub turns_of : ℕ → Entry → List (ℕ × ℕ)
+turns_of entry e = replicate e.steps (entry, e.process)
+
+-- those of entries in order, from this number on
+abbrev pub turns_from : ℕ → List Entry → List (ℕ × ℕ)
+turns_from entry [] = []
+turns_from entry (e ∷ es) = turns_of entry e ++ turns_from (suc entry) es
+
+-- the turns of n entries of one step of process p, from the entry with this number on
+abbrev pub turns_in_row : ℕ → ℕ → ℕ → List (ℕ × ℕ)
+turns_in_row number p zero = []
+turns_in_row number p (suc n) = (number, p) ∷ turns_in_row (suc number) p n
+
+-- the processes of turns
+abbrev pub processes : List (ℕ × ℕ) → List ℕ
+processes turns = map (λ (t : ℕ × ℕ). t.1) turns
+
+-- each of these turns is of process p
+abbrev pub AreOf : ℕ → List (ℕ × ℕ) → Type 0
+AreOf p [] = Unit {0}
+AreOf p (t ∷ ts) = (t.1 ≡ p) × AreOf p ts
+
+-- what is known after these turns from a state, by what is known after one: of the entry with this number, of this
+-- process, from this state
+unfoldable pub seen_along : {S : Type 0} → Units → (ℕ → ℕ → State → S → S) → State → List (ℕ × ℕ) → S → S
+seen_along program see s [] seen = seen
+seen_along program see s (t ∷ ts) seen = seen_along program see (state_after_turn program t.1 s) ts (see t.0 t.1 s seen)

@@ -1,0 +1,11 @@
+use Rattle.std.proofs.Common.{◌≡◌, ℕ, suc, List, ◌++◌, drop}
+use Rattle.hep_machine.specs.Words.{run}
+use Rattle.hep_state.specs.Words.{IsMachineAfter}
+use Rattle.hep_state_text.specs.States as words
+use Rattle.hep_page.proofs.activation_lines.append_activations.Given as goal
+
+abbrev pub invariant-loop-key : goal.invariant-loop-key
+invariant-loop-key l =
+    (cells : ℕ) (choices : List ℕ) → IsMachineAfter l.storage.image.now cells choices l.machine
+    → l.text.items ++ words.activations_text l.storage.image.now (run l.storage.image.now choices) (suc l.key-index) (drop l.key-index (run l.storage.image.now choices).activations)
+    ≡ l.initial.text.items ++ words.activations_text l.storage.image.now (run l.storage.image.now choices) 1 (run l.storage.image.now choices).activations
