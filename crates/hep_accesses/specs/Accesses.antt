@@ -11,7 +11,7 @@ use Rattle.hep_machine.specs.declared.event.Kind.{Kind}
 use Rattle.hep_machine.specs.Evaluation.{reading}
 use Rattle.hep_machine.specs.Words.{Action, Actual, Dummy, Location, Loop, Next, Redex, Reference, Top, Units, Value, constant_value}
 use Rattle.hep_machine.specs.Words.{dimensions_of, dummies_for, dummies_of, function_name, function_unit, integer_of, integer_or_overflow}
-use Rattle.hep_machine.specs.Words.{is_common, is_dummy, iterations, line_at, location_of_name, loop_at, next_activation, next_of}
+use Rattle.hep_machine.specs.Words.{common, is_common, is_dummy, iterations, line_at, local, location_of_name, loop_at, next_activation, next_of}
 use Rattle.hep_machine.specs.Words.{occurrences_in_dimension, same_name, Scope, further, is_array, is_nonempty, scope_of, storage_of}
 use Rattle.hep_machine.specs.Words.{unit_at, unit_called, unit_of, unit_on_top, variable_of, assigning, calling, creating, does}
 use Rattle.hep_machine.specs.Words.{ending_loop, entering_loop, evaluating, leaving, referring, testing, wants, purging}
@@ -86,15 +86,21 @@ module _ (program : Units) (t : Top) where
       map (λ (o : Occurrence). o.name)
       (flat_map (λ (x : Name). flat_map (occurrences_in_dimension unit) (dimensions_of unit x)) (dummies_of unit)))
 
-  -- each is read, where the new activation has it
+  -- a storage unit of the new activation: the value of an expression is in it
+  abbrev pub is_new : Location → Bool
+  is_new (local a x i) = nat_eq a (next_activation t.state)
+  is_new (common b i) = false
+
+  -- the value of an expression is stored and read in one step, before all other accesses to it
+  abbrev pub bound_access : Name → Location → List Access
+  bound_access x at = if is_new at then [] else access_at x false (Ok at)
+
+  -- each other name is read, where the new activation has it
   abbrev pub bound_accesses : List Statement → Result (List Dummy) Kind → List Access
   bound_accesses unit (Err k) = []
   bound_accesses unit (Ok dummies) =
-      map (λ (x : Name). record {
-        at = (storage_of (record { unit = unit; number = next_activation t.state; dummies = dummies }) x).start;
-        stores = false;
-        site = site_of x;
-      }) (bound_names unit)
+      flat_map (λ (x : Name). bound_access x (storage_of (record { unit = unit; number = next_activation t.state; dummies = dummies }) x).start) (
+      bound_names unit)
 
   abbrev pub binding_accesses : ℕ → List Actual → List Access
   binding_accesses u actuals =

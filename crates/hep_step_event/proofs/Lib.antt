@@ -1,0 +1,10 @@
+pub mod ChangedUnits
+pub mod PlacesTold
+pub mod UnitsInCells
+pub mod SeenAhead
+pub mod ObservedSteps
+pub mod LookedAhead
+pub mod KeptNames
+pub mod PurgedUnits
+pub mod PurgedPlaces
+pub mod NamedThere

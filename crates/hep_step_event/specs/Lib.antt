@@ -1,0 +1,4 @@
+pub mod StepChanges
+pub mod StoragePlaces
+pub mod FullUnits
+pub mod StepEvents
