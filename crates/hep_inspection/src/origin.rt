@@ -16,7 +16,7 @@ use std::alloc::{AllocError, Global};
 pub enum Origin<'a> {
     /// This text of a history.
     Text(&'a [u8]),
-    /// The run by choices, as `run_noted` makes it.
+    /// The run by choices, as `deliver_source` of `hep_run` makes it by these options.
     Choices(&'a Options),
     /// The run by lots, as `lots_noted` makes it.
     Lots(LotOptions),
