@@ -1,4 +1,4 @@
-" Syntax of HEP FORTRAN in fixed form. The words in capitals are those that hepf reads, which tests/words compares.
+" Syntax of HEP FORTRAN in fixed form. The words in capitals are those that hepf reads: editors/build writes them from editors/words.
 if exists('b:current_syntax')
   finish
 endif
