@@ -6,7 +6,7 @@ use Rattle.hep_machine.specs.Words.{Tree, NamedConstant, Target, StateFunction, 
 use Rattle.hep_source.specs.declared.statement.Form.TheVariants as form
 use Rattle.hep_conditions.specs.Words.{FunctionTypes, function_types, IsAccepted, is_not_held, NameWithList, names_with_lists, targets_assigned, targets_purged, is_plain_integer_scalar}
 use Rattle.hep_accepted_laws.specs.Agreement.{IsOneAsynchronousScalar}
-use Rattle.hep_accepted_laws.specs.Typing.{HasValue}
+use Rattle.hep_accepted_laws.specs.PartlyEvaluated.{HasValue}
 use Rattle.hep_accepted_laws.proofs.Agreed.{purged_no_constant, tested_are_asynchronous}
 use Rattle.hep_accepted_laws.proofs.Shaped.{constants_have_values}
 use Rattle.hep_accepted_laws.proofs.NameMeanings.{assigned_known, constant_is_scalar, constant_not_assigned, purged_known, result_no_constant}

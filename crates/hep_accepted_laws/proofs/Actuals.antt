@@ -11,7 +11,7 @@ use Rattle.hep_source.specs.declared.statement.Form.TheVariants as form
 use Rattle.hep_conditions.specs.Words.{FunctionTypes, NameWithList, function_types, is_function_in, list_of, names_with_lists, names_with_lists_in, names_with_lists_in_all, subexpressions_of, subexpressions_of_all, type_of_listed}
 use Rattle.hep_conditions.specs.Words.{value, variable, whole_array, actual_class, fits_array, fits_dummy, fits_scalar, given_name, given_with_list, IsAccepted, count_of, Calling, calls_in, trees_in_declarator, trees_in_form, trees_in_statement, KnownType, agree, same_declared, type_of_tree}
 use Rattle.hep_accepted_laws.specs.Agreement.{FitPairwise}
-use Rattle.hep_accepted_laws.specs.Typing.{IsListOf}
+use Rattle.hep_accepted_laws.specs.PartlyEvaluated.{IsListOf, AreActualsFilled, AreEach, AreFilled, Chosen, IsFilledActual, IsValue}
 use Rattle.hep_accepted_laws.proofs.StatementForms.{occurrence_in_statement, operands_have_types}
 use Rattle.hep_accepted_laws.proofs.Executed.{in_form}
 use Rattle.hep_accepted_laws.proofs.NameMeanings.{no_function_alone}
@@ -24,7 +24,6 @@ use Rattle.hep_accepted_laws.proofs.Rights.{in_listed}
 use Rattle.hep_accepted_laws.proofs.Starts.{begins, begun_placed}
 use Rattle.hep_accepted_laws.proofs.CodedValues.{no_value_of_others}
 use Rattle.hep_accepted_laws.specs.Actuals.{FitsDummy, IsGivenTo, IsVariableOf}
-use Rattle.hep_accepted_laws.specs.PartlyEvaluated.{AreActualsFilled, AreEach, AreFilled, Chosen, IsFilledActual, IsValue}
 use Rattle.hep_accepted_laws.specs.WorkOrigins.{IsCalledBy, IsGivenBy, IsReferredBy}
 use Rattle.hep_accepted_laws.proofs.RunCalls.{IsActual, are-actuals, callee, calls-subroutine, referred-callee, refers-to-function}
 

@@ -5,7 +5,7 @@ use Rattle.std.proofs.lemmas.Option.{slice_get_within, slice_get-get_or}
 use Rattle.hep_machine.specs.Words.{Name, Form, Statement, Units, dummies_by_header, dummies_of, is_main, main_among, main_unit, function_by_header, procedure_name, subroutine_by_header, unit_at, is_array, is_dummy, no_activation, numbered, unit_of, run, Activation}
 use Rattle.hep_source.specs.declared.statement.Form.TheVariants as form
 use Rattle.hep_conditions.specs.Words.{IsAccepted}
-use Rattle.hep_accepted_laws.specs.Typing.{HasShape}
+use Rattle.hep_accepted_laws.specs.PartlyEvaluated.{HasShape}
 use Rattle.hep_accepted_laws.proofs.Parts.{found_at}
 use Rattle.hep_image.specs.BoundActivations.{AreClosed}
 use Rattle.hep_accepted_laws.proofs.Starts.{index_some}

@@ -6,7 +6,7 @@ use Rattle.std.proofs.lemmas.List.Folds.{list_all-append}
 use Rattle.hep_machine.specs.Words.{Tree, trees_of, Target, ValueType, Integer, Logical, Name, Occurrence, DoControl, Form, Statement, Units, declarators_in, is_array, is_constant_name, is_nonempty, type_of, element, external, array_occurrence, occurrences_in, occurrences_in_all, occurrences_in_form, occurrences_in_target}
 use Rattle.hep_source.specs.declared.statement.Form.TheVariants as form
 use Rattle.hep_conditions.specs.Words.{FunctionTypes, function_types, type_of_name, IsAccepted, is_not_held, names_with_lists_in, names_with_lists_in_all, targets_assigned, trees_in_declarator, trees_in_form, trees_in_statement, KnownType, agree, are_actuals, are_integers, has_dimensions, is_form_typed, is_list_typed, is_of, is_plain_integer_scalar, is_scalar_target, is_target_typed, is_typed, is_typed_as, same_declared, type_of_target, type_of_tree}
-use Rattle.hep_accepted_laws.specs.Typing.{HasTypes, IsOf, IsPlace}
+use Rattle.hep_accepted_laws.specs.PartlyEvaluated.{HasTypes, IsOf, IsPlace}
 use Rattle.hep_accepted_laws.proofs.StatementForms.{lists_in, names_have_types, names_in, target_typed, typed_statement}
 use Rattle.hep_accepted_laws.proofs.NameMeanings.{assigned_known, no_function_alone}
 use Rattle.hep_accepted_laws.proofs.Members.{Has, all_has, has_behind, has_front, has_more}

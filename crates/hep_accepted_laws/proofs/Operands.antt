@@ -5,7 +5,7 @@ use Rattle.std.proofs.lemmas.Bool.{and_from, and_parts, eqb-true, not-true}
 use Rattle.hep_machine.specs.Words.{Tree, Trees, constant, occurrence, with_list, parenthesized, signed, negated, binary, no_trees, trees, ValueType, Integer, Logical, spelling, PureFunction, StateFunction, IsFull, IsEmpty, Name, Occurrence, Statement, dimensions_of, is_array, type_of, Meaning, by_pure_function, element, function_named, listed_meaning, pure, pure_functions, state, state_functions, external, is_external, word_in, array_occurrence, occurrences_in, occurrences_in_all}
 use Rattle.hep_conditions.specs.Words.{actual_class, given_with_list, is_asynchronous_scalar, is_reference_given, is_test_typed, count_of, is_counted, takes_list, FunctionTypes, is_function_in, type_of_name, NameWithList, names_with_lists_in, names_with_lists_in_all, subexpressions_of, subexpressions_of_all, KnownType, are_actuals, are_integers, has_dimensions, is_list_typed, is_of, is_typed, same_declared, type_of_listed, type_of_operands, type_of_operation, type_of_test, type_of_tested, type_of_tree, type_of_value}
 use Rattle.hep_accepted_laws.specs.Agreement.{IsOneAsynchronousScalar}
-use Rattle.hep_accepted_laws.specs.Typing.{AreAllOf, AreSubscripts, HasOperands, HasType, IsListOf, IsOf}
+use Rattle.hep_accepted_laws.specs.PartlyEvaluated.{AreAllOf, AreSubscripts, HasOperands, HasType, IsListOf, IsOf}
 use Rattle.hep_accepted_laws.proofs.Agreed.{one_tested}
 use Rattle.hep_accepted_laws.proofs.Members.{Each, each_append, each_none, each_one}
 use Rattle.hep_conditions.proofs.Agreeing.{all-parts}

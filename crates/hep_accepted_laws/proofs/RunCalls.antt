@@ -1,75 +1,19 @@
--- What is called next is what the statement calls, and agrees with the subroutine that is called; so do references and functions.
-use Rattle.std.proofs.Common.{◌≡◌, ◌≢◌, ℕ, suc, ◌<◌, false, List, [], ◌∷◌, length, Option, Some, None, refl, sym, ap, ◌∙◌, subst, arith, slice_get, true, true≢false}
+-- What is called next agrees with the subroutine that is called; so do references and functions.
+use Rattle.std.proofs.Common.{◌≡◌, ℕ, suc, ◌<◌, false, List, [], ◌∷◌, length, Option, Some, None, refl, sym, ap, ◌∙◌, subst, arith, slice_get, true, true≢false}
 use Rattle.std.specs.Option.{unwrap_or}
-use Rattle.std.proofs.lemmas.Option.{none-some, same_Some, slice_get_within}
-use Rattle.hep_machine.specs.Words.{Trees, evaluating, function_by_header, function_name, function_unit, is_named, no_trees, referring, subroutine_by_header, trees}
-use Rattle.hep_machine.specs.Words.{no_statement, no_unit, Tree, Name, Occurrence, Form, Statement, Value, Units, dummies_of, is_main, subroutine_name, statement_at, unit_at, Actual, Action, assigning, choosing, branching, testing_condition, entering_block, entering_loop, calling, creating, purging, printing, Next}
-use Rattle.hep_machine.specs.Words.{wants, does, Part, whole, first_redex, Reference, actual_of, actuals_of, control_part, items_part, next_by, next_of, next_of_form, part_of, target_part, targets_part, then_part, unit_of, run, Work, doing, ending, unit_called}
+use Rattle.std.proofs.lemmas.Option.{none-some, slice_get_within}
+use Rattle.hep_machine.specs.Words.{Trees, evaluating, function_by_header, function_name, function_unit, is_named, no_trees, referring, subroutine_by_header, trees, no_unit, Tree, Name, Form, Statement, Units, dummies_of, is_main, subroutine_name, unit_at, Actual, calling, creating, Next, wants, does, Part, whole, first_redex, actual_of, actuals_of, next_of, then_part, unit_of, run, Work, unit_called}
 use Rattle.hep_source.specs.declared.statement.Form.TheVariants as form
-use Rattle.hep_conditions.specs.Words.{IsAccepted, calls_in, count_of, list_of}
+use Rattle.hep_conditions.specs.Words.{IsAccepted, count_of, list_of}
 use Rattle.hep_accepted_laws.specs.Agreement.{CallsSubroutine, RefersToFunction}
 use Rattle.hep_accepted_laws.proofs.Agreed.{calls_agree, references_agree}
 use Rattle.hep_image.specs.BoundActivations.{CallsAgree, NextAgrees}
 use Rattle.hep_accepted_laws.proofs.CodedCalls.{named_subroutine, some_named}
-use Rattle.hep_accepted_laws.specs.PartlyEvaluated.{AreEach, IsFilledActual, IsFilledForm}
+use Rattle.hep_accepted_laws.specs.PartlyEvaluated.{AreEach, IsFilledActual}
 use Rattle.hep_accepted_laws.specs.WorkOrigins.{ComesFrom, IsCalledBy, IsGivenBy, IsReferredBy}
 use Rattle.hep_accepted_laws.proofs.Levels.{CallsIn, top-comes}
 use Rattle.hep_accepted_laws.proofs.References.{comes-reference}
-
--- ---- what is called next
-
-abbrev pub call_in_action : Action → Option (Name × List Actual)
-call_in_action (calling x actuals) = Some (x, actuals)
-call_in_action (creating x actuals) = Some (x, actuals)
-call_in_action _ = None
-
-abbrev pub call_in : Next → Option (Name × List Actual)
-call_in (wants r) = None
-call_in (does a) = call_in_action a
-
-no-call : {A : Type 0} (f : A → Action) → ((x : A) → call_in_action (f x) ≡ None) → (p : Part A) (c : Name × List Actual) → call_in (next_by f p) ≡ Some c → ⊥
-no-call f none (whole x) c e = none-some c (sym (none x) ∙ e)
-no-call f none (first_redex r) c e = none-some c e
-
-module _ (unit : List Statement) (k : ℕ) (c : Name × List Actual) where
-  there-is : (o : Option Statement) (f : Form) → (unwrap_or o no_statement).form ≡ f → f ≢ form.End → o ≡ Some (unwrap_or o no_statement)
-  there-is None f e other = absurd (other (sym e))
-  there-is (Some s) f e other = refl
-
-  called-by : (f : Form) (p : Occurrence) (ts us : List Tree) → (statement_at unit k).form ≡ f → f ≢ form.End → calls_in f ≡ record { occurrence = p; actuals = ts } ∷ [] → AreEach (IsFilledActual unit) ts us → (q : Part (List Actual)) → actuals_of unit us ≡ q → (a : List Actual → Action) → ((xs : List Actual) → call_in_action (a xs) ≡ Some (p.name, xs)) → call_in (next_by a q) ≡ Some c → IsCalledBy unit k c.0 c.1
-  called-by f p ts us is other only h (first_redex r) e a call called = absurd (none-some c called)
-  called-by f p ts us is other only h (whole xs) e a call called =
-      let same : (p.name, xs) ≡ c = same_Some (p.name, xs) c (sym (call xs) ∙ called) in
-      record {
-        statement = statement_at unit k;
-        call = record { occurrence = p; actuals = ts };
-        there = there-is (slice_get unit k) f is other;
-        only = ap calls_in is ∙ only;
-        name = ap (λ (z : Name × List Actual). z.0) same;
-        given = record { filled = us; is_filled = h; are = e ∙ ap (λ (z : Name × List Actual). whole z.1) same };
-      }
-
-  by-form : (f g : Form) → (statement_at unit k).form ≡ f → IsFilledForm unit f g → call_in (next_of_form unit g) ≡ Some c → IsCalledBy unit k c.0 c.1
-  by-form (form.Assign x t) g is (y, u, e, h, i) called =
-      absurd (no-call (λ (both : Value × Reference). assigning both.1 both.0) (λ both. refl) (then_part (λ v r. (v, r)) (part_of unit u) (target_part unit y)) c (subst (λ g. call_in (next_of_form unit g) ≡ Some c) e called))
-  by-form (form.ComputedGoTo labels t) g is (u, e, h) called = absurd (no-call (choosing labels) (λ v. refl) (part_of unit u) c (subst (λ g. call_in (next_of_form unit g) ≡ Some c) e called))
-  by-form (form.ArithmeticIf t labels) g is (u, e, h) called = absurd (no-call (branching labels) (λ v. refl) (part_of unit u) c (subst (λ g. call_in (next_of_form unit g) ≡ Some c) e called))
-  by-form (form.IfThen t) g is (u, e, h) called = absurd (no-call entering_block (λ v. refl) (part_of unit u) c (subst (λ g. call_in (next_of_form unit g) ≡ Some c) e called))
-  by-form (form.ElseIf t) g is (u, e, h) called = absurd (no-call entering_block (λ v. refl) (part_of unit u) c (subst (λ g. call_in (next_of_form unit g) ≡ Some c) e called))
-  by-form (form.Do d) g is (b, e, h) called =
-      absurd (no-call (λ (m : Value × Value × Value). entering_loop b.variable.name m.0 m.1 m.2) (λ m. refl) (control_part unit b) c (subst (λ g. call_in (next_of_form unit g) ≡ Some c) e called))
-  by-form (form.Call p ts) g is (us, e, h) called =
-      called-by (form.Call p ts) p ts us is (λ e. absurd cc) refl h (actuals_of unit us) refl (calling p.name) (λ xs. refl) (subst (λ g. call_in (next_of_form unit g) ≡ Some c) e called)
-  by-form (form.Create p ts) g is (us, e, h) called =
-      called-by (form.Create p ts) p ts us is (λ e. absurd cc) refl h (actuals_of unit us) refl (creating p.name) (λ xs. refl) (subst (λ g. call_in (next_of_form unit g) ≡ Some c) e called)
-  by-form (form.Purge targets) g is (us, e, h) called = absurd (no-call purging (λ rs. refl) (targets_part unit us) c (subst (λ g. call_in (next_of_form unit g) ≡ Some c) e called))
-  by-form (form.Print items) g is (us, e, h) called = absurd (no-call printing (λ rs. refl) (items_part unit us) c (subst (λ g. call_in (next_of_form unit g) ≡ Some c) e called))
-  by-form _ g is e called = absurd (none-some c (sym (ap (λ g. call_in (next_of_form unit g)) e) ∙ called))
-
-  pub comes-call : (work : Work) → ComesFrom unit k work → call_in (next_of unit work) ≡ Some c → IsCalledBy unit k c.0 c.1
-  comes-call (doing [] f) h called = by-form (statement_at unit k).form f refl h.1 called
-  comes-call (doing (t ∷ ts) f) h called = absurd (no-call testing_condition (λ v. refl) (part_of unit t) c called)
-  comes-call (ending d) h called = absurd (none-some c called)
+use Rattle.hep_accepted_laws.proofs.PartlyEvaluated.{call_in, comes-call}
 
 -- ---- as many actual arguments
 

@@ -12,7 +12,7 @@ use Rattle.hep_source.specs.declared.declaration.UpperBound.TheVariants as bound
 use Rattle.hep_machine.specs.declared.shape.Bound.{Bound}
 use Rattle.hep_conditions.specs.Words.{IsAccepted, no_functions, Parameters, are_bounds_open, has_bounds, has_value, is_adjustable, is_adjusted, is_bound, is_dimension, is_open, is_shape_if_known, is_upper_bound, value_by, is_counted, Keeps, names_with_lists, names_with_lists_in, trees_in_declarator, trees_in_dimension, trees_in_statement, trees_in_upper, is_typed_as, type_of_value}
 use Rattle.hep_source.proofs.Tests.{or-false, some_of}
-use Rattle.hep_accepted_laws.specs.Typing.{HasShape, HasValue, IsOf}
+use Rattle.hep_accepted_laws.specs.PartlyEvaluated.{HasShape, HasValue, IsOf}
 use Rattle.hep_accepted_laws.proofs.Agreed.{counted}
 use Rattle.hep_accepted_laws.proofs.StatementForms.{parameters_at, typed_statement}
 use Rattle.hep_accepted_laws.proofs.NameMeanings.{array_declarator}

@@ -15,7 +15,7 @@ use Rattle.hep_source.specs.declared.statement.PrintItem.TheVariants as item
 use Rattle.hep_conditions.specs.Words.{is_reference_given, IsAccepted, Parameters, are_constants_given, has_bounds, has_constant_subscripts, is_bound, is_constant_given, is_dimension, is_group_typed, is_statement_typed, is_upper_bound, no_parameters, type_violations_from, with_parameter, with_parameters, is_counted}
 use Rattle.hep_conditions.specs.Words.{FunctionTypes, function_types, has_value, is_constant_of, is_function_in, is_untyped, no_functions, NameWithList, untyped_in, names_with_lists, names_with_lists_in, subexpressions_of, trees_in_declarator, trees_in_dimension, trees_in_form, trees_in_item, trees_in_statement, trees_in_upper, are_actuals, are_integers, is_form_typed, is_item_typed, is_list_typed, is_of}
 use Rattle.hep_conditions.specs.Words.{is_scalar_target, is_target_typed, is_typed, is_typed_as, type_of_tree, at_line, at_occurrence, when}
-use Rattle.hep_accepted_laws.specs.Typing.{HasOperands, HasType, IsOf}
+use Rattle.hep_accepted_laws.specs.PartlyEvaluated.{HasOperands, HasType, IsOf}
 use Rattle.hep_accepted_laws.proofs.Agreed.{counted, given, references_agree}
 use Rattle.hep_accepted_laws.proofs.Fixed.{ArePure, pure_bound, pure_value, same_typed}
 use Rattle.hep_accepted_laws.proofs.NameMeanings.{named_so, no_function_alone}

@@ -11,7 +11,7 @@ use Rattle.hep_source.specs.declared.operator.Operator.TheVariants.{Logical as L
 use Rattle.hep_source.specs.declared.statement.Form.TheVariants as form
 use Rattle.hep_machine.specs.declared.event.Kind.{Kind}
 use Rattle.hep_conditions.specs.Words.{IsAccepted, function_types, no_functions, Parameters, has_value, has_value_or_is_open, is_constant_expression, is_constant_given, is_given, is_known, is_open, no_parameters, value_by, with_parameter, with_parameters, Keeps, subexpressions_of, trees_in_declarator, trees_in_form, KnownType, agree, is_typed, type_of_listed, type_of_operation, type_of_tree, type_of_value}
-use Rattle.hep_accepted_laws.specs.Typing.{IsOf}
+use Rattle.hep_accepted_laws.specs.PartlyEvaluated.{IsOf}
 use Rattle.hep_accepted_laws.proofs.Executed.{same_types}
 use Rattle.hep_accepted_laws.proofs.StatementForms.{constant_given, expressions_have_types, names_have_types, names_in, parameters_at, typed_statement}
 use Rattle.hep_accepted_laws.proofs.Fixed.{pure_value, same_type_of}

@@ -1,7 +1,6 @@
 pub mod Agreement
 pub mod Flow
 pub mod Meanings
-pub mod Typing
 pub mod Initial
 pub mod Instructions
 pub mod PlacedCode

@@ -2,7 +2,7 @@
 ghost use Rattle.std.specs.Prelude.{◌≡◌, ℕ, List, Some, slice_get};
 ghost use Rattle.hep_machine.specs.Words.{Tree, ValueType, Logical, Occurrence, Statement, Units, type_of, occurrences_in_statement};
 ghost use Rattle.hep_conditions.specs.Words.{IsAccepted, function_types, subexpressions_of, trees_in_statement};
-ghost use Rattle.hep_accepted_laws.specs.Typing.{HasOperands, HasType, HasTypes, IsOf};
+ghost use Rattle.hep_accepted_laws.specs.PartlyEvaluated.{HasOperands, HasType, HasTypes, IsOf};
 
 /// Each variable and named constant is an integer or logical.
 pub fn names_have_types()

@@ -3,7 +3,7 @@ ghost use Rattle.std.specs.Prelude.{◌≡◌, ℕ, true, false, List, Some, sli
 ghost use Rattle.hep_machine.specs.Words.{NamedConstant, Name, Statement, Units, constant_shape, is_array, is_dummy, named_constants};
 ghost use Rattle.hep_machine.specs.Words.{Bounds, is_shape};
 ghost use Rattle.hep_conditions.specs.Words.{IsAccepted};
-ghost use Rattle.hep_accepted_laws.specs.Typing.{HasShape, HasValue};
+ghost use Rattle.hep_accepted_laws.specs.PartlyEvaluated.{HasShape, HasValue};
 
 use hep_conditions::laws;
 

@@ -1,105 +1,28 @@
 -- Two independent steps lead to the same state, whichever comes first.
 use Rattle.std.proofs.Common.{◌≡◌, ◌⊎◌, inl, inr, ◌≢◌, ℕ, zero, suc, ◌-◌, ◌≤◌, Bool, true, false, List, [], ◌∷◌, ◌++◌, length, Option, Some}
-use Rattle.std.proofs.Common.{None, Result, Ok, Err, refl, sym, ap, ◌∙◌, subst, arith, if◌then◌else◌, length-append, length-set, ℤ}
+use Rattle.std.proofs.Common.{None, refl, sym, ap, ◌∙◌, subst, arith, if◌then◌else◌, length-append, length-set}
+use Rattle.std.specs.List.{AllByRecursion}
 use Rattle.std.specs.Option.{unwrap_or}
-use Rattle.std.proofs.lemmas.Option.{none-some, same_Some, slice_get_within}
-use Rattle.hep_machine.specs.declared.event.Kind.{Kind}
-use Rattle.hep_machine.specs.Evaluation.{reading}
-use Rattle.hep_machine.specs.Words.{Wanted, Action, Cell, Level, Location, Name, Next, Process, Redex, Reference, State, StepResult, Store}
-use Rattle.hep_machine.specs.Words.{Top, Units, absent, further, function_name, living, numbered, result_after_next, state_made, step}
-use Rattle.hep_machine.specs.Words.{step_result_of, step_result_of_top, stepped, top_of, unit_on_top, waiting, with_numbered, applying}
-use Rattle.hep_machine.specs.Words.{assigning, branching, calling, choosing, combining, continuing, creating, does, ending_loop}
-use Rattle.hep_machine.specs.Words.{entering_block, entering_loop, evaluating, jumping, leaving, negating, printing, purging, referring}
-use Rattle.hep_machine.specs.Words.{resuming, signing, stopping, testing, testing_condition, wants, integer_of, iterations}
-use Rattle.hep_machine.proofs.Others.{lives_from_one, others_stay}
-use Rattle.hep_machine.proofs.Locations.{equal_locations}
-use Rattle.hep_accesses.specs.Exchanges.{AreIndependent, IsExchangeable, next_on_top, top_before, top_with}
-use Rattle.hep_accesses.proofs.Patches.{AreApart, Keeps, LeavesAlone, Patch, patched, patched_result, patched_store}
-use Rattle.hep_accesses.proofs.Footprints.{EachCounted, Places, next_writes, EachFrom, EachTouchedByTargets, EachTouchedByAction, EachFound}
-use Rattle.hep_accesses.proofs.Footprints.{EachTouched, EachTouchedByRedex, EachTouchedByResult, EachTouchedByTargetAs}
-use Rattle.hep_accesses.proofs.AsPatch.{Leaves, leaves, patch_by, patched-is}
 use Rattle.std.proofs.Math.Path.{fun_ext}
 use Rattle.std.proofs.lemmas.List.{append-nil}
+use Rattle.std.proofs.lemmas.Option.{none-some, same_Some, slice_get_within}
+use Rattle.hep_machine.specs.Words.{Wanted, Cell, Level, Location, Process, State, StepResult, Store, Top, Units, absent, living, numbered}
+use Rattle.hep_machine.specs.Words.{result_after_next, state_made, step, step_result_of, step_result_of_top, stepped, top_of, waiting}
+use Rattle.hep_machine.specs.Words.{with_numbered}
+use Rattle.hep_machine.proofs.Others.{lives_from_one, others_stay}
+use Rattle.hep_machine.proofs.Locations.{equal_locations}
+use Rattle.hep_accesses.specs.Accesses.{Access, uses_on_top}
+use Rattle.hep_accesses.specs.Exchanges.{AreIndependent, IsExchangeable, next_on_top, top_before, top_with}
+use Rattle.hep_accesses.proofs.Elements.{all-mapped}
+use Rattle.hep_accesses.proofs.Patches.{AreApart, AreBeside, Keeps, LeavesAlone, LeavesEach, Patch, is_stored, patched, patched_result}
+use Rattle.hep_accesses.proofs.Patches.{patched_store}
+use Rattle.hep_accesses.proofs.AsPatch.{Leaves, patch_by, patched-is}
+use Rattle.hep_accesses.proofs.LocalSteps.{local}
 use Rattle.hep_accesses.proofs.Patched.{front-set, numbered-swapped}
-use Rattle.hep_accesses.proofs.OverPatch.{next}
 
--- ---- what two steps do to each other
-
-module _ (program : Units) where
-  -- where the step may store, fill or empty
-  abbrev pub places_of : Top → Places
-  places_of t = next_writes program t (next_on_top program t)
-
-  -- the step of t touches nothing that the step of o stores, fills or empties
-  abbrev pub Avoids : Top → Top → Type 0
-  Avoids t o = EachTouched program t (λ at. places_of o at ≡ false) (next_on_top program t)
-
--- ---- what holds of each touched storage unit
-
-module _ (program : Units) (t : Top) (Q R : Location → Type 0) (follows : (at : Location) → Q at → R at) where
-  free-more : (at : Result Location Kind) → EachFound Q at → EachFound R at
-  free-more (Err k) h = tt
-  free-more (Ok at) h = follows at h
-
-  -- of the variable of a DO
-  counted-more : (count : Result ℤ Kind) (at : Result Location Kind) → EachCounted Q count at → EachCounted R count at
-  counted-more (Err k) at h = tt
-  counted-more (Ok n) at h = free-more at h
-
-  -- what holds of each storage unit from one on, and implies more
-  all-free-more : (n : ℕ) (at : Location) → EachFrom Q n at → EachFrom R n at
-  all-free-more zero at h = tt
-  all-free-more (suc n) at h = (follows at h.0, all-free-more n (further at 1) h.1)
-
-  -- of a target of PURGE
-  target-more : (b : Bool) (r : Reference) → EachTouchedByTargetAs program t Q b r → EachTouchedByTargetAs program t R b r
-  target-more true r h = all-free-more _ _ h
-  target-more false r h = free-more _ h
-
-  -- of all its targets
-  targets-more : (rs : List Reference) → EachTouchedByTargets program t Q rs → EachTouchedByTargets program t R rs
-  targets-more [] h = tt
-  targets-more (r ∷ rs) h = (target-more _ r h.0, targets-more rs h.1)
-
-  -- of the result of a function
-  result-more : (o : Option Name) → EachTouchedByResult program t Q o → EachTouchedByResult program t R o
-  result-more None h = tt
-  result-more (Some x) h = free-more _ h
-
-  -- of a redex
-  redex-more : (r : Redex) → EachTouchedByRedex program t Q r → EachTouchedByRedex program t R r
-  redex-more (reading r) h = free-more _ h
-  redex-more (testing f r) h = free-more _ h
-  redex-more (signing s v) h = tt
-  redex-more (negating v) h = tt
-  redex-more (combining o v w) h = tt
-  redex-more (applying f vs) h = tt
-
-  -- of an action
-  action-more : (a : Action) → EachTouchedByAction program t Q a → EachTouchedByAction program t R a
-  action-more (assigning r v) h = free-more _ h
-  action-more (jumping l) h = tt
-  action-more (choosing labels v) h = tt
-  action-more (branching labels v) h = tt
-  action-more (testing_condition v) h = tt
-  action-more (entering_block v) h = tt
-  action-more (entering_loop x m n k) h =
-      counted-more (iterations (integer_of m) (integer_of n) (integer_of k)) _ h
-  action-more (ending_loop k) h = free-more _ h
-  action-more (calling x actuals) h = h
-  action-more (creating x actuals) h = h
-  action-more (purging targets) h = targets-more targets h
-  action-more (printing items) h = tt
-  action-more continuing h = tt
-  action-more leaving h = result-more (function_name (unit_on_top program t)) h
-  action-more resuming h = tt
-  action-more stopping h = tt
-
-  -- of what comes next: what holds of each storage unit that a step touches, and implies more
-  next-more : (n : Next) → EachTouched program t Q n → EachTouched program t R n
-  next-more (wants (evaluating r)) h = redex-more r h
-  next-more (wants (referring x actuals)) h = h
-  next-more (does a) h = action-more a h
+-- the step of t accesses nothing where the step of o may store, fill or empty
+abbrev pub Avoids : Units → Top → Top → Type 0
+Avoids program t o = AllByRecursion (λ (a : Access). is_stored (uses_on_top program o) a.at ≡ false) (uses_on_top program t)
 
 -- ---- patches
 
@@ -108,12 +31,15 @@ none-appended : {A : Type 0} (xs ys : List A) → length (xs ++ ys) ≡ length x
 none-appended xs [] e = refl
 none-appended xs (y ∷ ys) e = absurd (omega (arith, e, length-append xs (y ∷ ys)))
 
-module _ (patch : Patch) (places : Places) (new : Store) (is : patch.cells ≡ (λ l. if places l then Some (new l) else None)) where
-  left_alone : (at : Location) → places at ≡ false → LeavesAlone patch at
+module _ (patch : Patch) (xs : List Access) (new : Store) (is : patch.cells ≡ (λ l. if is_stored xs l then Some (new l) else None)) where
+  left_alone : (at : Location) → is_stored xs at ≡ false → LeavesAlone patch at
   left_alone at h =
-      record { itself = none at h; same = λ l e. none l (subst (λ (m : Location). places m ≡ false) (sym (equal_locations l at e)) h) }
+      record {
+        itself = none at h;
+        same = λ l e. none l (subst (λ (m : Location). is_stored xs m ≡ false) (sym (equal_locations l at e)) h);
+      }
     where
-      none : (l : Location) → places l ≡ false → patch.cells l ≡ None
+      none : (l : Location) → is_stored xs l ≡ false → patch.cells l ≡ None
       none l e = ap (λ f. f l) is ∙ ap (λ b. if b then Some (new l) else None) e
 
 -- two patches of different processes, of which none stores what the other one does
@@ -236,33 +162,37 @@ module _ (program : Units) (s t : State) (p q : ℕ) (made : step program p s �
   abbrev other_top : Top
   other_top = top_with program s q second.top
 
+  -- what the first step uses
+  abbrev uses : List Access
+  uses = uses_on_top program top
+
   -- what the first step leaves
-  pub what-is_left : Leaves top (places_of program top) t
+  pub what-is_left : Leaves top uses t
   what-is_left =
-      subst (Keeps (Leaves top (places_of program top))) (made-by program p s t first.top made first.lives)
-      (leaves top program (next_on_top program top) first.begins_no_activation first.is_no_stop)
+      subst (Keeps (Leaves top uses)) (made-by program p s t first.top made first.lives) (
+      local program top (next_on_top program top) first.begins_no_activation first.is_no_stop).0
 
   -- the first step as a patch
   pub own_patch : Patch
-  own_patch = patch_by top (places_of program top) t what-is_left
+  own_patch = patch_by top uses t what-is_left
 
   -- its state is the patched one
   pub own_patch-is : t ≡ patched own_patch s
   unfolding own_patch
-  own_patch-is = patched-is top (places_of program top) t what-is_left
+  own_patch-is = patched-is top uses t what-is_left
 
   -- the patch is of its process
   pub own_patch-process : own_patch.process ≡ p
   unfolding own_patch patch_by
   own_patch-process = refl
 
-  -- the patch has the cells at the places of its step
-  pub own_patch-cells : own_patch.cells ≡ (λ l. if places_of program top l then Some (t.store l) else None)
+  -- the patch has the cells where the step stores
+  pub own_patch-cells : own_patch.cells ≡ (λ l. if is_stored uses l then Some (t.store l) else None)
   unfolding own_patch patch_by
   own_patch-cells = refl
 
   -- it has none elsewhere
-  pub own_patch-none : (l : Location) → places_of program top l ≡ false → own_patch.cells l ≡ None
+  pub own_patch-none : (l : Location) → is_stored uses l ≡ false → own_patch.cells l ≡ None
   own_patch-none l e = ap (λ (f : Location → Option Cell). f l) own_patch-cells ∙ ap (λ b. if b then Some (t.store l) else None) e
 
   -- a step that is no fault adds none
@@ -295,19 +225,23 @@ module _ (program : Units) (s t : State) (p q : ℕ) (made : step program p s �
       ap (λ (x : State). result_after_next program (top_with program x q second.top)
       (next_on_top program (top_with program x q second.top)))
       own_patch-is
-      ∙ next program own_patch other_top (lives-from s q second.top second.lives) one (λ e. d (sym own_patch-process ∙ sym e))
-      (lives-within s q second.top second.lives) inside (next_on_top program other_top) free apart
+      ∙ (local program other_top (next_on_top program other_top) second.begins_no_activation second.is_no_stop).1 own_patch
+      beside free apart
     where
-      one : 1 ≤ own_patch.process
-      one = subst (λ n. 1 ≤ n) (sym own_patch-process) (lives-from s p first.top first.lives)
+      beside : AreBeside own_patch other_top
+      beside =
+          record {
+            one = lives-from s q second.top second.lives;
+            other = subst (λ n. 1 ≤ n) (sym own_patch-process) (lives-from s p first.top first.lives);
+            different = λ e. d (sym own_patch-process ∙ sym e);
+            within = lives-within s q second.top second.lives;
+            inside = subst (λ n. n ≤ length s.processes) (sym own_patch-process) (lives-within s p first.top first.lives);
+          }
 
-      inside : own_patch.process ≤ length s.processes
-      inside = subst (λ n. n ≤ length s.processes) (sym own_patch-process) (lives-within s p first.top first.lives)
-
-      free : EachTouched program other_top (LeavesAlone own_patch) (next_on_top program other_top)
+      free : LeavesEach own_patch (uses_on_top program other_top)
       free =
-          next-more program other_top (λ at. places_of program top at ≡ false) (LeavesAlone own_patch)
-          (left_alone own_patch (places_of program top) t.store own_patch-cells) (next_on_top program other_top) avoids
+          all-mapped (λ (a : Access). is_stored uses a.at ≡ false) (λ (a : Access). LeavesAlone own_patch a.at)
+          (λ a e. left_alone own_patch uses t.store own_patch-cells a.at e) (uses_on_top program other_top) avoids
 
   -- where the second process has a step after the first one's, it has one by itself
   pub possible : Avoids program other_top top → (v : State) → step program q t ≡ Some v → (u : State) × (step program q s ≡ Some u)
@@ -369,8 +303,8 @@ module _ (program : Units) (s t u : State) (p q : ℕ) (made : step program p s 
     (h : AreIndependent program s p q t u)
     (avoids : Avoids program (top_before program h.separate.first) (top_before program h.separate.second))
     (other_avoids : Avoids program (top_before program h.separate.second) (top_before program h.separate.first))
-    (stores : (l : Location) → (places_of program (top_before program h.separate.first) l ≡ false)
-    ⊎ (places_of program (top_before program h.separate.second) l ≡ false)) where
+    (stores : (l : Location) → (is_stored (uses_on_top program (top_before program h.separate.first)) l ≡ false)
+    ⊎ (is_stored (uses_on_top program (top_before program h.separate.second)) l ≡ false)) where
   -- the second process isn't the first one
   back : q ≢ p
   back e = h.separate.different (sym e)
@@ -403,8 +337,8 @@ module _ (program : Units) (s t u : State) (p q : ℕ) (made : step program p s 
 
   -- no storage unit is stored by both
   cells-apart : (l : Location)
-      → (places_of program (top_before program h.separate.first) l ≡ false)
-      ⊎ (places_of program (top_before program h.separate.second) l ≡ false)
+      → (is_stored (uses_on_top program (top_before program h.separate.first)) l ≡ false)
+      ⊎ (is_stored (uses_on_top program (top_before program h.separate.second)) l ≡ false)
       → (b.cells l ≡ None) ⊎ (a.cells l ≡ None)
   cells-apart l (inl e) =
       inr (own_patch-none program s t p q made h.separate.different h.separate.first h.separate.second l e)

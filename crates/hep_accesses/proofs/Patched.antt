@@ -1,17 +1,13 @@
 -- A step goes on beside what another process has left.
-use Rattle.std.proofs.Common.{◌≡◌, ◌≢◌, ℕ, ◌-◌, ◌<◌, ◌≤◌, Bool, true, false, List, ◌++◌, length, Result, Ok, Err, refl, sym, ap, ◌∙◌, arith}
+use Rattle.std.proofs.Common.{◌≡◌, ◌≢◌, ℕ, ◌-◌, ◌<◌, ◌≤◌, Bool, true, false, List, ◌++◌, length, refl, sym, ap, ◌∙◌, arith}
 use Rattle.std.proofs.Common.{if◌then◌else◌, length-set}
 use Rattle.std.proofs.Math.Path.{fun_ext}
 use Rattle.std.proofs.lemmas.List.{set-append_left, set_comm}
 use Rattle.std.specs.Option.{unwrap_or}
-use Rattle.hep_source.specs.declared.function.StateFunction.{StateFunction}
-use Rattle.hep_source.specs.declared.function.StateFunction.TheVariants.{IsFull, IsEmpty, ValueOf, SetEmpty, WaitFull}
-use Rattle.hep_machine.specs.declared.event.Kind.{Kind}
 use Rattle.hep_machine.specs.Access as access
-use Rattle.hep_machine.specs.Access.{Outcome, is_full, is_empty}
+use Rattle.hep_machine.specs.Access.{Outcome}
 use Rattle.hep_machine.specs.Step.{gives, waits, fails}
-use Rattle.hep_source.specs.declared.value.Value.TheVariants as value
-use Rattle.hep_machine.specs.Words.{Answer, Cell, Location, Store, answer_at, answer_of_read_at, answer_of_test_at, same_location}
+use Rattle.hep_machine.specs.Words.{Answer, Cell, Location, Store, answer_at, same_location}
 use Rattle.hep_machine.specs.Words.{with_cell, with_numbered}
 use Rattle.hep_accesses.proofs.Patches.{LeavesAlone, Patch, patched_store}
 
@@ -69,26 +65,3 @@ module _ (patch : Patch) where
       → answer_at (patched_store patch store) at (f (patched_store patch store at)) ≡ patched_answer (answer_at store at (f (store at)))
   patched-access f store at free =
       ap (λ c. answer_at (patched_store patch store) at (f c)) (patched-at store at free) ∙ patched-answer_at store at (f (store at)) free
-
-  -- each storage unit that is found is left alone
-  abbrev pub EachFound : Result Location Kind → Type 0
-  EachFound (Err k) = Unit {0}
-  EachFound (Ok at) = LeavesAlone patch at
-
-  -- so it is of a read
-  pub patched-read : (asynchronous : Bool) (store : Store) (at : Result Location Kind) → EachFound at
-      → answer_of_read_at asynchronous (patched_store patch store) at ≡ patched_answer (answer_of_read_at asynchronous store at)
-  patched-read asynchronous store (Err k) free = refl
-  patched-read false store (Ok at) free = patched-access access.reading store at free
-  patched-read true store (Ok at) free = patched-access access.reading_asynchronous store at free
-
-  -- and of each test of a state
-  pub patched-test : (f : StateFunction) (store : Store) (at : Result Location Kind) → EachFound at
-      → answer_of_test_at f (patched_store patch store) at ≡ patched_answer (answer_of_test_at f store at)
-  patched-test f store (Err k) free = refl
-  patched-test IsFull store (Ok at) free = ap (λ c. gives (value.Truth (is_full c)) (patched_store patch store)) (patched-at store at free)
-  patched-test IsEmpty store (Ok at) free =
-      ap (λ c. gives (value.Truth (is_empty c)) (patched_store patch store)) (patched-at store at free)
-  patched-test ValueOf store (Ok at) free = patched-access access.reading store at free
-  patched-test SetEmpty store (Ok at) free = patched-access access.setting_empty store at free
-  patched-test WaitFull store (Ok at) free = patched-access access.waiting_full store at free

@@ -9,10 +9,10 @@ use Rattle.hep_machine.specs.declared.event.Entry.{Entry}
 use Rattle.hep_machine.specs.Words.{Common, Create, Declarator, Do, End, Form, Location, Name, Occurrence, Purge, Statement, Subroutine}
 use Rattle.hep_machine.specs.Words.{Target, Tree, Units, common, constant, local, no_trees, occurrence, opening, parenthesized, run_from}
 use Rattle.hep_machine.specs.Words.{schedule_of, step_result_of, trees, with_list}
-use Rattle.hep_order.specs.Pairs.{pairs_from}
-use Rattle.hep_order.specs.Races.{StepAccess}
+use Rattle.hep_accesses.specs.Pairs.{pairs_from}
+use Rattle.hep_accesses.specs.Races.{StepAccess}
 use Rattle.hep_accesses.specs.Accesses.{Site}
-use Rattle.hep_accesses.specs.Events.{Row, events_from, events_of, races_of}
+use Rattle.hep_accesses.specs.RunEvents.{Row, events_from, events_of, races_of}
 
 -- ---- statements
 

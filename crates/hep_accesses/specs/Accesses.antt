@@ -15,7 +15,7 @@ use Rattle.hep_machine.specs.Words.{common, is_common, is_dummy, iterations, lin
 use Rattle.hep_machine.specs.Words.{occurrences_in_dimension, same_name, Scope, further, is_array, is_nonempty, scope_of, storage_of}
 use Rattle.hep_machine.specs.Words.{unit_at, unit_called, unit_of, unit_on_top, variable_of, assigning, calling, creating, does}
 use Rattle.hep_machine.specs.Words.{ending_loop, entering_loop, evaluating, leaving, referring, testing, wants, purging}
-use Rattle.hep_order.specs.Events.{Access as AnAccess}
+use Rattle.hep_accesses.specs.Events.{Access as AnAccess}
 
 -- from where in a program an access is made: the unit and the line of the statement, and the name
 pub record Site : Type 0 where
@@ -37,6 +37,11 @@ is_ok (Err k) = false
 abbrev pub locations_from : ℕ → Location → List Location
 locations_from zero at = []
 locations_from (suc n) at = at ∷ locations_from n (further at 1)
+
+-- SETE empties; FULL, EMPTY, VALUE and WAITF leave the state as it is
+abbrev pub empties : StateFunction → Bool
+empties SetEmpty = true
+empties _ = false
 
 -- of an activation on top of a process, before its step
 module _ (program : Units) (t : Top) where
@@ -164,10 +169,8 @@ module _ (program : Units) (t : Top) where
   abbrev pub asynchronous_access : Reference → List Access
   asynchronous_access r = if r.0.asynchronous then access_at r.0 true (location_of r) else []
 
-  -- FULL, EMPTY, VALUE and WAITF leave the state as it is
   abbrev pub test_access : StateFunction → Reference → List Access
-  test_access SetEmpty r = access_at r.0 true (location_of r)
-  test_access _ r = access_at r.0 false (location_of r)
+  test_access f r = access_at r.0 (empties f) (location_of r)
 
   -- a whole array, or one storage unit
   abbrev pub target_accesses : Reference → List Access

@@ -3,7 +3,7 @@ use Rattle.std.specs.Prelude.{◌≡◌, ◌≢◌, ◌⊎◌, ℕ, false, List,
 use Rattle.std.specs.List.{Contains}
 use Rattle.hep_machine.specs.Words.{Level, Next, Process, State, Top, Units, calling, creating, does, living, next_of, referring}
 use Rattle.hep_machine.specs.Words.{same_location, stopping, unit_on_top, wants}
-use Rattle.hep_order.specs.Races.{conflicts}
+use Rattle.hep_accesses.specs.Races.{conflicts}
 use Rattle.hep_accesses.specs.Accesses.{Access, uses_on_top}
 
 -- it begins no activation

@@ -1,3 +1,12 @@
-pub mod Accesses
 pub mod Events
+pub mod HappensBefore
+pub mod Pasts
+pub mod Clocks
+pub mod Firsts
+pub mod Races
+pub mod Pairs
+pub mod Detector
+pub mod Reorderings
+pub mod Accesses
+pub mod RunEvents
 pub mod Exchanges

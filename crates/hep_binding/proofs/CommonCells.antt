@@ -3,7 +3,7 @@ use Rattle.std.proofs.Common.{◌≡◌, ℕ, ◌+◌, ◌<◌, ◌≤◌, Bool,
 use Rattle.std.specs.Option.{unwrap_or}
 use Rattle.hep_machine.specs.Words.{Name, Statement, Units, cells_before, cells_of, cells_of_shape, constant_value, shape_by, BlockName, common_block, is_array, is_common, is_constant_name, is_dummy, names_in_block, Layout, Scope, own_storage, start_by_block, elements, Dummy, State, common, is_local}
 use Rattle.hep_accepted_laws.specs.Meanings.{IsOneThing, how_many}
-use Rattle.hep_accepted_laws.specs.Typing.{HasShape}
+use Rattle.hep_accepted_laws.specs.PartlyEvaluated.{HasShape}
 use Rattle.hep_layout.specs.Words.{address, first_in_common}
 use Rattle.hep_layout.proofs.Runs.{runs-common}
 use Rattle.hep_image.specs.Dummies.{common_cell, common_cell_by}

@@ -10,7 +10,7 @@ use Rattle.hep_conditions.specs.Names.{is_untyped}
 use Rattle.hep_source.proofs.NameTests.{equal_names}
 use Rattle.hep_conditions.specs.Words.{Calling, FunctionTypes, Parameters, Violations, argument_violations, at_line, at_occurrence, calls_in, common_violations, count_violations, data_violations, function_types, is_resume, is_statement_typed, jump_violations, label_violations, name_violations, names_with_lists, no_parameters, resume_violations, structure_violations, type_missing_violations, type_violations, type_violations_from, unknown_name_violations, unknown_references, unknown_subroutines, unknown_targets, untyped_in, when, with_parameters}
 use Rattle.hep_types.specs.CallPasses.{is_mismatched}
-use Rattle.hep_names.specs.Passes.{is_miscounted, unknown_in_form, unknown_listed}
+use Rattle.hep_names.specs.Parts.{is_miscounted, unknown_in_form, unknown_listed}
 use Rattle.hep_names.proofs.Passes.{unknown-targets}
 use Rattle.hep_check.specs.Culprits.{miscounted, misfit}
 use Rattle.hep_check.specs.AllViolations.{ViolatedLines, has_doubtful, has_line, is_doubtful, is_untyped_at, lines_in, names_after, others_told, shared_told, told, told_after, told_from, told_in, unknown_call, unknown_told, untold, untyped_told, with_name}

@@ -53,9 +53,3 @@ Within {A} vs ws = (v : A) → Contains vs v → Contains ws v
 
 pub within-append : {A : Type 0} (us vs ws : List A) → Within us ws → Within vs ws → Within (us ++ vs) ws
 within-append us vs ws h k v c = ⊎_elim (h v) (k v) (Contains-append_cases us vs v c)
-
-pub within-left : {A : Type 0} (us vs ws : List A) → Within us vs → Within us (vs ++ ws)
-within-left us vs ws h v c = Contains-append_left vs ws v (h v c)
-
-pub within-right : {A : Type 0} (us vs ws : List A) → Within us ws → Within us (vs ++ ws)
-within-right us vs ws h v c = Contains-append_right vs ws v (h v c)

@@ -1,22 +1,14 @@
 -- Names that a table notes by lines.
-use Rattle.std.proofs.Common.{◌≡◌, ◌∙◌, ℕ, ◌+◌, ◌<◌, ◌≤◌, Bool, List, Option, Some, None, drop, get_or, length, if◌then◌else◌, refl, ap, sym}
+use Rattle.std.proofs.Common.{◌≡◌, ◌∙◌, ℕ, ◌+◌, ◌<◌, List, Option, Some, None, drop, get_or, length, refl, ap, sym}
 use Rattle.std.specs.Option.{option_or}
-use Rattle.std.proofs.lemmas.List.{drop_all, drop_more}
+use Rattle.std.proofs.lemmas.List.{drop_more}
 use Rattle.hep_machine.specs.Words.{Name}
-use Rattle.hep_uses.specs.declared.all_ambiguities.Ambiguity.{Ambiguity}
-use Rattle.hep_check.specs.NameClashes.{name_at, named_at, noted}
+use Rattle.hep_types.specs.declared.all_ambiguities.Ambiguity.{Ambiguity}
+use Rattle.hep_check.specs.NameClashes.{name_at, named_at}
 
 or-assoc : (a b c : Option Name) → option_or (option_or a b) c ≡ option_or a (option_or b c)
 or-assoc None b c = refl
 or-assoc (Some x) b c = refl
-
-pub or-none : (a : Option Name) → option_or a None ≡ a
-or-none None = refl
-or-none (Some x) = refl
-
-pub noted-or : (o : Option Name) (b : Bool) (x : Name) → noted o b x ≡ option_or o (if b then Some x else None)
-noted-or None b x = refl
-noted-or (Some y) b x = refl
 
 -- one more
 pub names-next : (line : ℕ) (old new whole : Option Name) (xs : List Ambiguity) (i : ℕ) (d : Ambiguity) → i < length xs → option_or old (name_at line (drop i xs)) ≡ whole
@@ -26,7 +18,3 @@ names-next line old new whole xs i d lt h n =
     let rest = drop (i + 1) xs in
     ap (λ o. option_or o (name_at line rest)) n
     ∙ (or-assoc old (named_at line a) (name_at line rest) ∙ (ap (λ zs. option_or old (name_at line zs)) (sym (drop_more xs i d lt)) ∙ h))
-
--- none is left
-pub names-end : (line : ℕ) (found whole : Option Name) (xs : List Ambiguity) (i : ℕ) → length xs ≤ i → option_or found (name_at line (drop i xs)) ≡ whole → found ≡ whole
-names-end line found whole xs i le h = sym (or-none found) ∙ (ap (λ zs. option_or found (name_at line zs)) (sym (drop_all i xs le)) ∙ h)

@@ -7,7 +7,7 @@ use Rattle.hep_conditions.specs.Names.{is_untyped}
 use Rattle.hep_conditions.specs.declared.violation.Violation.{Violation}
 use Rattle.hep_conditions.specs.Words.{FunctionTypes, Parameters, Violations, at_line, at_occurrence, common_violations, data_violations, function_types, is_resume, is_statement_typed, jump_violations, label_violations, name_violations, names_with_lists, no_parameters, structure_violations, when}
 use Rattle.hep_check.specs.Culprits.{miscounted, misfit}
-use Rattle.hep_names.specs.Passes.{unknown_by, unknown_in_form, unknown_listed}
+use Rattle.hep_names.specs.Parts.{unknown_by, unknown_in_form, unknown_listed}
 use Rattle.hep_types.specs.Passes.{parameters_after}
 
 -- ---- 301: a name is reported once, where it appears first

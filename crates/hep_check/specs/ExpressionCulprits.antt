@@ -2,8 +2,8 @@
 -- docs/MACHINE.md, "Notes".
 use Rattle.std.specs.Prelude.{Bool, if◌then◌else◌, List, Option, Some, None}
 use Rattle.hep_machine.specs.Words.{Tree, Trees, constant, occurrence, with_list, parenthesized, signed, negated, binary, no_trees, trees, Occurrence, Operator, Statement, ValueType, Integer, Logical, is_array, Meaning, element, pure, state, external, listed_meaning}
-use Rattle.hep_conditions.specs.Types as types
-use Rattle.hep_conditions.specs.Types.{FunctionTypes, has_dimensions, is_of, type_of_tree}
+use Rattle.hep_conditions.specs.Statements as types
+use Rattle.hep_conditions.specs.Statements.{FunctionTypes, has_dimensions, is_of, type_of_tree}
 
 abbrev pub Found : Type 0
 Found = Option Occurrence

@@ -3,8 +3,8 @@ use Rattle.std.specs.Prelude.{ℕ, Bool, find, nat_eq, if◌then◌else◌, List
 use Rattle.std.specs.Option.{option_map, option_or, unwrap_or}
 use Rattle.hep_source.specs.declared.statement.Form.TheVariants as form
 use Rattle.hep_machine.specs.Words.{Form, Name, Occurrence, Statement, Units, name_eq, occurrences_in_statement}
-use Rattle.hep_uses.specs.declared.all_ambiguities.Ambiguity.{Ambiguity}
-use Rattle.hep_uses.specs.Ambiguities.{ambiguities}
+use Rattle.hep_types.specs.declared.all_ambiguities.Ambiguity.{Ambiguity}
+use Rattle.hep_types.specs.Ambiguities.{ambiguities}
 use Rattle.hep_check.specs.ExpressionCulprits.{Found}
 
 -- the name of an ambiguity, where it is at this line

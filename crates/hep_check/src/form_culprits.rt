@@ -1,7 +1,7 @@
 //! The name at fault in a statement that violates 302: the first name of a part that has the wrong type, or that is an array where a
 //! scalar is needed (X3.9-1978, sections 10 to 12).
 ghost use Rattle.std.specs.Prelude.{◌≡◌};
-ghost use Rattle.hep_conditions.specs.Types as types;
+ghost use Rattle.hep_conditions.specs.Statements as types;
 ghost use Rattle.hep_conditions.specs.Words.{function_types};
 ghost use Rattle.hep_check.specs.FormCulprits as words;
 

@@ -6,10 +6,10 @@ ghost use Rattle.hep_machine.specs.Words.{blocks_of};
 ghost use Rattle.hep_check.specs.Listing as words;
 
 use hep_base::append_number;
-use hep_common::CommonBlocks;
 use hep_conditions::Checked;
 use hep_names::ProgramSymbols;
 use hep_source::{Text, block_spelling};
+use hep_storage::CommonBlocks;
 use std::alloc::{AllocError, Global};
 
 // The line of a unit of this name: `UNIT name CELLS n`.

@@ -2,13 +2,13 @@
 ghost use Rattle.std.specs.Prelude.{◌≡◌, ℕ, find, nat_eq, IfOk, OnOk};
 ghost use Rattle.std.specs.Option.{option_or};
 ghost use Rattle.indexmap.specs.IndexMap.{get};
-ghost use Rattle.hep_uses.specs.Ambiguities.{ambiguities};
+ghost use Rattle.hep_types.specs.Ambiguities.{ambiguities};
 ghost use Rattle.hep_check.specs.NameClashes as words;
 
 use hep_names::occurrences::occurrences;
 use hep_names::{ProgramSymbols, Symbols};
 use hep_source::{Form, Name, Occurrence, Statement};
-use hep_uses::{Ambiguity, ambiguities};
+use hep_types::{Ambiguity, ambiguities};
 use indexmap::IndexMap;
 use std::alloc::{AllocError, Global};
 use std::marker::Model;
@@ -43,7 +43,7 @@ impl<'a> Model for NameClashes<'a> {
     ghost use Rattle.indexmap.specs.IndexMap.{get};
     ghost use Rattle.hep_source.specs.declared.statement.Statement.{Statement};
     ghost use Rattle.hep_check.specs.NameClashes.{name_at};
-    ghost use Rattle.hep_uses.specs.Ambiguities.{ambiguities};
+    ghost use Rattle.hep_types.specs.Ambiguities.{ambiguities};
     ghost use Rattle.std.specs.Coded.{codes};
     ghost use Rattle.hep_source.specs.contracts.expression.Expr as expression;
 

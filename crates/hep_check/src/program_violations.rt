@@ -9,7 +9,7 @@ use hep_conditions::Violation;
 use hep_conditions::reported::first_of_two;
 use hep_names::ProgramSymbols;
 use hep_storage::common_violation;
-use hep_uses::{ambiguous_unit_violation, ambiguous_violation};
+use hep_types::{ambiguous_unit_violation, ambiguous_violation};
 use std::alloc::{AllocError, Global};
 
 // The first violations in the units of a program.

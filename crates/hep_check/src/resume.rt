@@ -1,7 +1,7 @@
 //! 312: RESUME is only allowed in a subroutine (docs/LANGUAGE.md, 9).
 ghost use Rattle.std.specs.Prelude.{◌≡◌};
 ghost use Rattle.hep_conditions.specs.Words.{first_of, is_resume, least_line_where, resume_violations};
-ghost use Rattle.hep_names.specs.Passes.{line_of};
+ghost use Rattle.hep_names.specs.Parts.{line_of};
 ghost use Rattle.hep_check.specs.Resume.{is_misplaced};
 
 use crate::statement_conditions::{is_resume, is_uncalled};

@@ -3,7 +3,7 @@ ghost use Rattle.std.specs.Prelude.{◌≡◌};
 ghost use Rattle.hep_check.specs.SoleNames as words;
 
 use crate::culprit::Culprit;
-use hep_names::declarators::block_of;
+use hep_names::specification::block_of;
 use hep_source::{
     CommonBlock, DataGroup, Declarator, Form, NamedConstant, Occurrence, Statement, Target,
 };

@@ -3,7 +3,7 @@ ghost use Rattle.std.specs.Prelude.{◌≡◌, ◌++◌, map, OnOk};
 ghost use Rattle.std.specs.List.{flat_map};
 ghost use Rattle.hep_conditions.specs.Names as conditions;
 ghost use Rattle.hep_names.specs.Lists.{listed};
-ghost use Rattle.hep_names.specs.Passes as passes;
+ghost use Rattle.hep_names.specs.Parts as passes;
 ghost use Rattle.hep_check.specs.AllViolations as words;
 
 use hep_conditions::Violation;

@@ -3,15 +3,14 @@ ghost use Rattle.std.specs.Prelude.{◌≡◌, ◌||◌, ℕ, nat_eq, IfOk, OnOk
 ghost use Rattle.std.specs.List.{list_any};
 ghost use Rattle.indexmap.specs.IndexSet.{contains};
 ghost use Rattle.hep_conditions.specs.Words.{common_violations, data_violations, function_types, jump_violations, label_violations, name_violations, structure_violations};
-ghost use Rattle.hep_uses.specs.declared.all_ambiguities.Ambiguity.{Ambiguity as PureAmbiguity};
+ghost use Rattle.hep_types.specs.declared.all_ambiguities.Ambiguity.{Ambiguity as PureAmbiguity};
 ghost use Rattle.hep_check.specs.ViolationLines.{is_in};
 ghost use Rattle.hep_check.specs.AllViolations.{has_line};
 
 use hep_control::{Labels, jump_lines, label_lines, structure_lines};
 use hep_names::{ProgramSymbols, Symbols};
 use hep_storage::{common_lines, data_lines};
-use hep_types::loop_variables;
-use hep_uses::{Ambiguity, ambiguities};
+use hep_types::{Ambiguity, ambiguities, loop_variables};
 use indexmap::IndexSet;
 use std::alloc::{AllocError, Global};
 

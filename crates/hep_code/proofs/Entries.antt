@@ -25,10 +25,6 @@ abbrev pub IfFirst : {A : Type 0} → Part A → Type 0 → Type 0
 IfFirst (whole x) P = Unit {0}
 IfFirst (first_redex r) P = P
 
-in_first : {A : Type 0} {P : Type 0} (p : Part A) → P → IfFirst p P
-in_first (whole x) h = tt
-in_first (first_redex r) h = h
-
 module _ (addressed : AddressedUnit) (line : ℕ) where
   -- the code of a part with what stands of it behind the operation: of a whole, that of what it is, and else the same with a value in its
   -- first redex

@@ -1,8 +1,6 @@
 mod Worked
 pub mod Expressions
 pub mod Entries
-pub mod WorkCode
-pub mod NextOperation
 pub mod CodePositions
 pub mod ControlFlow
 pub mod ProcessesInCode

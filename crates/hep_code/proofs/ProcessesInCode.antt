@@ -1,10 +1,9 @@
 -- Processes in the code, as activations are added, begin and end: X3.9-1978, 15.6.2 and 15.8.
 use Rattle.std.proofs.Common.{◌≡◌, ℕ, zero, suc, ◌+◌, ◌≤◌, List, [], ◌∷◌, ◌++◌, length, length-append, refl, ap, sym, ◌∙◌, subst, arith, Option, Some, None}
 use Rattle.std.specs.Option.{unwrap_or}
-use Rattle.hep_machine.specs.Words.{Actual, Name, Value, Units, function_name, stack_after_value, unit_at, executable_from, Binding, level_after_statement, no_activation, Redex, plug_work, numbered, unit_of, Activation, Level, Process, State, Top, entry_level, next_activation, with_activation, stack_after_return}
-use Rattle.hep_code.specs.declared.instruction.Instruction.{Instruction}
+use Rattle.hep_machine.specs.Words.{Name, Value, Units, function_name, stack_after_value, unit_at, executable_from, Binding, level_after_statement, no_activation, Redex, plug_work, numbered, unit_of, Activation, Level, Process, State, Top, entry_level, next_activation, with_activation, stack_after_return}
 use Rattle.hep_code.specs.declared.instruction.Operation.{Operation}
-use Rattle.hep_code.specs.Words.{Awaits, AddressedUnit, IsReference, IsRedex, Moves, Addresses, addressed_unit, CodeLevel, IsOf, IsBelow, IsTop, AreBelow, AreLevels, NoLoops, entered, calling, Counts, HoldsLoops, Stands}
+use Rattle.hep_code.specs.Words.{Awaits, IsRedex, Moves, Addresses, addressed_unit, CodeLevel, IsOf, IsBelow, IsTop, AreBelow, AreLevels, NoLoops, entered, calling, Counts, HoldsLoops, Stands}
 use Rattle.hep_code.proofs.CodePositions.{StandsAt, after_statement_stands, after_statement_keeps, entry_stands}
 use Rattle.hep_machine.proofs.Others.{front_kept}
 use Rattle.hep_source.proofs.Tests.{at-last}
@@ -122,11 +121,6 @@ called program addresses top u b counts f fs operands index none awaits h =
         still_below program addresses s t (made ∷ []) refl f.unit fs top.below h.1,
       ),
     )
-
--- a reference is awaited behind its entries, without its own operands
-pub reference_awaits : (addressed : AddressedUnit) (level : Level) (operands : List Value) (index : ℕ) (x y : Name) (actuals : List Actual) (o : Operation) (behind : List Instruction) (r : IsReference addressed level.statement level.work operands index x actuals o behind)
-    → Awaits (Some y) addressed level r.before (index + suc (length actuals))
-reference_awaits addressed level operands index x y actuals o behind r = r.filled
 
 pub created : (program : Units) (addresses : Addresses) (top : Top) (u : ℕ) (b : Binding) (counts : Counts) → NoLoops (unit_at program u) counts → AreLevels program addresses (with_activation top u b) (entered program addresses (next_activation top.state) u counts ∷ []) (entry_level (unit_at program u) (next_activation top.state) ∷ [])
 created program addresses top u b counts none = (begun program addresses top u b counts none, tt)

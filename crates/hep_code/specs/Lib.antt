@@ -2,9 +2,7 @@ pub mod Targets
 pub mod Tables
 pub mod ExpressionCode
 pub mod StatementCode
-pub mod UnitCode
 pub mod CodePosition
-pub mod Actions
 pub mod NextInCode
 pub mod ControlTransfer
 pub mod PassedArguments
@@ -12,7 +10,6 @@ pub mod Replies
 pub mod ControlFlow
 pub mod ProcessCode
 pub mod Limits
-pub mod OperandDepths
 pub mod Words
 pub mod BoundCode
 pub mod DimensionCode

@@ -3,7 +3,7 @@ use Rattle.std.specs.Prelude.{◌≡◌, ℕ, ◌≤◌, List, [], ◌∷◌, �
 use Rattle.hep_machine.specs.Words.{Name, Statement, Value, Units, function_name, function_unit, plug_work, unit_at, executable_from, unit_of, Level, Process, State, unit_called}
 use Rattle.hep_code.specs.declared.variable.Variable.{Variable}
 use Rattle.hep_code.specs.Targets.{at}
-use Rattle.hep_code.specs.UnitCode.{AddressedUnit, index_of, table_of}
+use Rattle.hep_code.specs.StatementCode.{AddressedUnit, index_of, table_of}
 use Rattle.hep_code.specs.CodePosition.{Counts, HoldsLoops, IsAt, Stands}
 
 -- the places of variables and of the cells of DOs, by the number of the unit

@@ -11,14 +11,14 @@ pub use Rattle.hep_code.specs.ExpressionCode.{name_code, target_code, targets_co
 unfoldable pub use Rattle.hep_code.specs.StatementCode.{ending_of}
 pub use Rattle.hep_code.specs.StatementCode.{conditions_code, form_code, instructions_before, loop_end, loop_end_code, operands_code}
 pub use Rattle.hep_code.specs.StatementCode.{operation_code, statement_code, statements_code}
-unfoldable pub use Rattle.hep_code.specs.UnitCode.{code_of, index_of, names_of, table_by, table_of, unplaced}
-pub use Rattle.hep_code.specs.UnitCode.{AddressedUnit}
+unfoldable pub use Rattle.hep_code.specs.StatementCode.{code_of, index_of, names_of, table_by, table_of, unplaced}
+pub use Rattle.hep_code.specs.StatementCode.{AddressedUnit}
 unfoldable pub use Rattle.hep_code.specs.CodePosition.{Counts, counts_of, Fits, HoldsLoops, left_to_do, work_code}
 pub use Rattle.hep_code.specs.CodePosition.{IsAt, Stands}
-unfoldable pub use Rattle.hep_code.specs.Actions.{argument_of_actual, arity, evaluation_of, operands_of_action, operands_of_actual}
-unfoldable pub use Rattle.hep_code.specs.Actions.{operands_of_item, operands_of_redex, printed_item, referred_argument}
-unfoldable pub use Rattle.hep_code.specs.Actions.{operands_of_sought}
-pub use Rattle.hep_code.specs.Actions.{entries_of, entries_of_sought, operation_of, operation_of_sought}
+unfoldable pub use Rattle.hep_code.specs.StatementCode.{argument_of_actual, arity, evaluation_of, operands_of_action, operands_of_actual}
+unfoldable pub use Rattle.hep_code.specs.StatementCode.{operands_of_item, operands_of_redex, printed_item, referred_argument}
+unfoldable pub use Rattle.hep_code.specs.StatementCode.{operands_of_sought}
+pub use Rattle.hep_code.specs.StatementCode.{entries_of, entries_of_sought, operation_of, operation_of_sought}
 unfoldable pub use Rattle.hep_code.specs.NextInCode.{IsPastPushes, values_ahead}
 pub use Rattle.hep_code.specs.NextInCode.{IsAction, IsNext, IsRedex, IsReference}
 unfoldable pub use Rattle.hep_code.specs.ControlTransfer.{first_operand, index_at, index_by_count, index_by_sign, index_chosen, led_by_count, led_to}
@@ -31,5 +31,5 @@ pub use Rattle.hep_code.specs.ControlFlow.{IsCounted, Leads, LeadsCounted, Moves
 unfoldable pub use Rattle.hep_code.specs.ProcessCode.{addressed_unit, Awaits, calling, entered, entry_index, NoLoops}
 pub use Rattle.hep_code.specs.ProcessCode.{Addresses, AreBelow, AreLevels, CodeLevel, IsBelow, IsOf, IsTop}
 unfoldable pub use Rattle.hep_code.specs.Limits.{most_instructions, most_operands}
-unfoldable pub use Rattle.hep_code.specs.OperandDepths.{deeper, deepest, line_ahead, line_before, line_too_deep, operands_ahead, operands_before}
-unfoldable pub use Rattle.hep_code.specs.OperandDepths.{operands_by, operands_of_entries, operands_of_entry, operands_passed, operands_shown}
+unfoldable pub use Rattle.hep_code.specs.ControlTransfer.{deeper, deepest, line_ahead, line_before, line_too_deep, operands_ahead, operands_before}
+unfoldable pub use Rattle.hep_code.specs.ControlTransfer.{operands_by, operands_of_entries, operands_of_entry, operands_passed, operands_shown}

@@ -2,7 +2,7 @@
 ghost use Rattle.std.specs.Prelude.{◌≡◌, ◌+◌, ◌<◌, ◌≤◌, ◌++◌, ◌∷◌, [], ℕ, drop, length, slice_get, vec_len, vec_capacity};
 ghost use Rattle.std.specs.Option.{unwrap_or};
 ghost use Rattle.hep_machine.specs.Words.{Name, Redex, Work, no_value};
-ghost use Rattle.hep_code.specs.Actions as actions;
+ghost use Rattle.hep_code.specs.StatementCode as actions;
 ghost use Rattle.hep_code.specs.ControlTransfer as moves;
 ghost use Rattle.hep_code.specs.Words.{IsPastPushes, values_ahead, AddressedUnit, code_of};
 ghost use Rattle.hep_code.specs.CodePosition as standing;

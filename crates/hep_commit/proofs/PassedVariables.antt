@@ -5,7 +5,8 @@ use Rattle.hep_machine.specs.Words.{Tree, Trees, constant, occurrence, with_list
 use Rattle.hep_machine.specs.Words.{Meaning, element, external, pure, state, function_named, listed_meaning}
 use Rattle.hep_source.specs.declared.statement.Form.TheVariants as form
 use Rattle.hep_conditions.specs.Words.{Calling, calls_in, list_of, names_with_lists}
-use Rattle.hep_image.specs.Private.{bare_actuals, bare_actuals_in, bare_actuals_of, bare_in_list, bare_name, is_private}
+use Rattle.hep_image.specs.Private.{bare_actuals, bare_actuals_of, bare_in_list, is_private}
+use Rattle.hep_conditions.specs.Statements.{bare_actuals_in, bare_name}
 use Rattle.hep_accepted_laws.specs.PartlyEvaluated.{AreActualsFilled, AreFilled, Chosen, IsFilledActual, IsValue}
 use Rattle.hep_accepted_laws.specs.WorkOrigins.{IsCalledBy, IsGivenBy, IsReferredBy}
 use Rattle.hep_accepted_laws.proofs.Members.{Has, has_among, has_behind, has_flat, has_front}

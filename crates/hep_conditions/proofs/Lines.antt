@@ -1,9 +1,7 @@
 -- The first of violations that differ in their lines alone.
 use Rattle.std.proofs.Common.{◌≡◌, ℕ, Bool, true, false, ◌||◌, nat_lt, Option, Some, None, List, [], ◌∷◌, ◌++◌, refl, ◌∙◌, sym, ap, arith, true≢false, if◌then◌else◌}
 use Rattle.std.specs.List.{flat_map, list_any}
-use Rattle.std.specs.Option.{option_map}
 use Rattle.std.proofs.lemmas.Bool.Decides.{nat_tests}
-use Rattle.hep_conditions.specs.declared.violation.Violation.{Violation}
 use Rattle.hep_conditions.specs.Words.{Violations, precedes, first_of, when, at_line, first_of_two, reported, least_line, line_when, least_line_of, least_line_where}
 use Rattle.hep_conditions.proofs.First.{first_of-append}
 
@@ -53,14 +51,6 @@ first_of_two-reported number (Some k) (Some l) = by (nat_lt l k) (precedes (at_l
     by false false e = refl
     by true false e = absurd (true≢false e)
     by false true e = absurd (true≢false (sym e))
-
-line_of_reported : Option Violation → Option ℕ
-line_of_reported o = option_map (λ (v : Violation). v.line) o
-
-line_of_reported-is : (number : ℕ) (a : Option ℕ) → line_of_reported (reported number a) ≡ a
-unfolding line_of_reported
-line_of_reported-is number None = refl
-line_of_reported-is number (Some line) = refl
 
 pub reported-when : (number line : ℕ) (b : Bool) → first_of (when b (at_line number line)) ≡ reported number (line_when b line)
 reported-when number line true = refl

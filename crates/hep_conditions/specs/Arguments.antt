@@ -2,8 +2,7 @@
 use Rattle.std.specs.Prelude.{ℕ, Bool, true, false, not, ◌&&◌, ◌||◌, if◌then◌else◌, List, [], ◌∷◌, Option, Some, None}
 use Rattle.std.specs.List.{flat_map, list_all}
 use Rattle.hep_machine.specs.Words.{list_of, Tree, Trees, occurrence, with_list, no_trees, trees, Target, ValueType, Name, Statement, same_logical, type_of, is_array, is_constant_name, is_nonempty, Meaning, element, state, external, is_external, listed_meaning, Units, unit_at, subroutine_called, function_called, dummies_of}
-use Rattle.hep_conditions.specs.Statements.{NameWithList, names_with_lists, targets_purged, Calling, calls_in}
-use Rattle.hep_conditions.specs.Types.{FunctionTypes, is_function_in, KnownType, type_of_tree, same_declared, agree}
+use Rattle.hep_conditions.specs.Statements.{NameWithList, names_with_lists, targets_purged, Calling, calls_in, FunctionTypes, is_function_in, KnownType, type_of_tree, same_declared, agree}
 use Rattle.hep_conditions.specs.Violations.{Violations, at_line, when}
 
 -- ---- actual arguments: 15.9.2

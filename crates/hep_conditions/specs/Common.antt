@@ -5,7 +5,7 @@ use Rattle.std.specs.Option.{option_map, option_map_or}
 use Rattle.hep_machine.specs.Words.{CommonBlock, ValueType, Name, Statement, same_logical, BlockName, same_block, block_of, blocks_in, blocks_of, common_block, names_in_block, type_of, is_among, Repeated, elements, Units}
 use Rattle.hep_conditions.specs.Constants.{known_shape}
 use Rattle.hep_conditions.specs.Known.{Known, nothing_more, known_before, same_length, holds_at_each_place}
-use Rattle.hep_conditions.specs.Types.{same_declared}
+use Rattle.hep_conditions.specs.Statements.{same_declared}
 use Rattle.hep_conditions.specs.Violations.{Violations, at_line, when}
 
 -- a position of a block: whether its variable is asynchronous, and its type

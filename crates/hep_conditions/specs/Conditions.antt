@@ -3,7 +3,7 @@ use Rattle.std.specs.Prelude.{◌≡◌, Bool, true, false, ◌&&◌, List, [], 
 use Rattle.std.specs.List.{flat_map}
 use Rattle.hep_machine.specs.Words.{Form, Statement, subroutine_name, Units}
 use Rattle.hep_source.specs.declared.statement.Form.TheVariants as form
-use Rattle.hep_conditions.specs.Types.{function_types}
+use Rattle.hep_conditions.specs.Statements.{function_types}
 use Rattle.hep_conditions.specs.declared.violation.Violation.{Violation}
 use Rattle.hep_conditions.specs.Common.{common_violations}
 use Rattle.hep_conditions.specs.Data.{data_violations}

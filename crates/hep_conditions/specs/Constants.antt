@@ -4,8 +4,7 @@ use Rattle.std.specs.List.{list_all, list_any}
 use Rattle.hep_machine.specs.Words.{Tree, DataGroup, Declarator, Dimension, NamedConstant, Target, UpperBound, ValueType, Integer, Logical, Name, Occurrence, Statement, Value, Constants, value_of, value_among, with_constant, bounds_of, groups_in, type_of, is_dummy, is_common, is_nonempty, constants_in, declarators_in, declarator_among, Meaning, pure, listed_meaning, is_among, Bounds, is_shape, occurrences_in, trees_in_declarator}
 use Rattle.hep_source.specs.declared.declaration.UpperBound.TheVariants as bound
 use Rattle.hep_conditions.specs.Counts.{is_counted}
-use Rattle.hep_conditions.specs.Statements.{NameWithList, names_with_lists_in, subexpressions_of}
-use Rattle.hep_conditions.specs.Types.{agree, FunctionTypes, no_functions, type_of_tree, is_plain_integer_scalar, is_typed, is_typed_as, is_target_typed, is_form_typed}
+use Rattle.hep_conditions.specs.Statements.{NameWithList, names_with_lists_in, subexpressions_of, agree, FunctionTypes, no_functions, type_of_tree, is_plain_integer_scalar, is_typed, is_typed_as, is_target_typed, is_form_typed}
 use Rattle.hep_conditions.specs.Violations.{Violations, at_line, when}
 
 -- ---- what is known: docs/LANGUAGE.md, 10

@@ -1,15 +1,11 @@
 -- Condition 303, on the number of arguments (X3.9-1978, 15.6.2.3 and 15.10).
-use Rattle.std.specs.Prelude.{ℕ, suc, Bool, true, not, ◌&&◌, ◌||◌, nat_eq, nat_le, List, length, Option, Some, None}
+use Rattle.std.specs.Prelude.{ℕ, Bool, true, not, ◌&&◌, ◌||◌, nat_eq, nat_le, List, length, Option, Some, None}
 use Rattle.std.specs.List.{flat_map, list_all}
-use Rattle.hep_machine.specs.Words.{Trees, no_trees, trees, PureFunction, AbsoluteValue, Remainder, TransferOfSign, PositiveDifference, Largest, Smallest, Statement, Meaning, element, pure, state, external, listed_meaning, Units, unit_at, subroutine_called, function_called, is_external, dummies_of}
-use Rattle.hep_conditions.specs.Statements.{NameWithList, names_with_lists, Calling, calls_in}
+use Rattle.hep_machine.specs.Words.{PureFunction, AbsoluteValue, Remainder, TransferOfSign, PositiveDifference, Largest, Smallest, Statement, Meaning, element, pure, state, external, listed_meaning, Units, unit_at, subroutine_called, function_called, is_external, dummies_of}
+use Rattle.hep_conditions.specs.Statements.{count_of, NameWithList, names_with_lists, Calling, calls_in}
 use Rattle.hep_conditions.specs.Violations.{Violations, at_line, when}
 
 -- ---- functions: 15.10
-
-abbrev pub count_of : Trees → ℕ
-count_of no_trees = 0
-count_of (trees t ts) = suc (count_of ts)
 
 abbrev pub takes : PureFunction → ℕ → Bool
 takes AbsoluteValue n = nat_eq n 1

@@ -4,7 +4,7 @@ use Rattle.std.specs.List.{flat_map, list_any}
 use Rattle.std.specs.Option.{option_map}
 use Rattle.hep_machine.specs.Words.{trees_of, DataGroup, DataValue, Target, Name, Statement, Value, integers_of, Constants, value_among, values_of, given_by, constant_shape, type_of, is_array, is_dummy, is_common, is_nonempty, constants_in, same_name, groups_in, Repeated, Stretch, elements_named, repeat_of, value_of_constant, values_given, Bounds, element_number, is_main, procedure_name}
 use Rattle.hep_conditions.specs.Known.{Known, nothing_more, known_before, same_length, meet, holds_at_each_place}
-use Rattle.hep_conditions.specs.Types.{agree, type_of_value}
+use Rattle.hep_conditions.specs.Statements.{agree, type_of_value}
 use Rattle.hep_conditions.specs.Violations.{Violations, at_line, when}
 
 -- ---- what is known of the lists of a group: docs/LANGUAGE.md, 10

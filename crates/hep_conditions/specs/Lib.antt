@@ -1,10 +1,9 @@
 pub mod Violations
 pub mod Reported
 pub mod Known
-pub mod Statements
 pub mod Names
 pub mod Counts
-pub mod Types
+pub mod Statements
 pub mod Constants
 pub mod Arguments
 pub mod Common

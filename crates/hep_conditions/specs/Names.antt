@@ -3,8 +3,7 @@ use Rattle.std.specs.Prelude.{ℕ, max, Bool, true, false, not, ◌&&◌, nat_le
 use Rattle.std.specs.List.{flat_map, filter}
 use Rattle.hep_machine.specs.Words.{CommonBlock, Declarator, ImplicitGroup, LetterRange, Target, Name, Occurrence, Form, Statement, type_of, is_array, is_constant_name, is_nonempty, blocks_in, constants_in, names_of_constants, declarators_in, names_declared, block_of, Meaning, is_external, function_named, listed_meaning, is_referenced, names_listed_by, same_name, Units, dummies_by_header, names_of_occurrences, subroutine_called, function_called, groups_in, occurrences_in_statement, occurrences_in_target}
 use Rattle.hep_source.specs.declared.statement.Form.TheVariants as form
-use Rattle.hep_conditions.specs.Statements.{NameWithList, names_with_lists, targets_assigned, targets_in_data, targets_purged, Calling, calls_in}
-use Rattle.hep_conditions.specs.Types.{FunctionTypes, function_types, is_function_in}
+use Rattle.hep_conditions.specs.Statements.{NameWithList, names_with_lists, targets_assigned, targets_in_data, targets_purged, Calling, calls_in, FunctionTypes, function_types, is_function_in}
 use Rattle.hep_conditions.specs.Violations.{Violations, at_line, at_occurrence, when, repeated_by}
 
 -- ---- 301: a variable or named constant has no type (X3.9-1978, 4.1.2, 8.4 and 8.5)

@@ -3,8 +3,7 @@ use Rattle.std.specs.Prelude.{ℕ, suc, Bool, true, false, not, ◌&&◌, ◌||�
 use Rattle.std.specs.List.{flat_map, list_any}
 use Rattle.hep_machine.specs.Words.{Tree, Name, Form, Statement, Role, opens, alternative, otherwise, closes, other, role_of, index_labelled, is_nonempty, same_name, line_at, statement_at}
 use Rattle.hep_source.specs.declared.statement.Form.TheVariants as form
-use Rattle.hep_conditions.specs.Types.{FunctionTypes, is_function_in, is_plain_integer_scalar}
-use Rattle.hep_conditions.specs.Statements.{targets_of_jump}
+use Rattle.hep_conditions.specs.Statements.{FunctionTypes, is_function_in, is_plain_integer_scalar, targets_of_jump}
 use Rattle.hep_conditions.specs.Violations.{Violations, at_line, when}
 
 -- ---- statements with their indices in the unit: 3.5

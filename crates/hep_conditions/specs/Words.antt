@@ -5,7 +5,7 @@ unfoldable pub use Rattle.hep_conditions.specs.Reported.{first_of_two, least_lin
 unfoldable pub use Rattle.hep_conditions.specs.Known.{count_of_items, holds_at_each_place, holds_from, holds_within, known_before, meet}
 unfoldable pub use Rattle.hep_conditions.specs.Known.{nothing_more, same_length}
 pub use Rattle.hep_conditions.specs.Known.{Known}
-unfoldable pub use Rattle.hep_conditions.specs.Statements.{calls_in, names_of_lists, names_with_lists, names_with_lists_in, names_with_lists_in_all}
+unfoldable pub use Rattle.hep_conditions.specs.Statements.{calls_in, count_of, names_of_lists, names_with_lists, names_with_lists_in, names_with_lists_in_all}
 unfoldable pub use Rattle.hep_conditions.specs.Statements.{subexpressions_of, subexpressions_of_all, targets_assigned, targets_in_data}
 unfoldable pub use Rattle.hep_machine.specs.Words.{trees_in_declarator, trees_in_dimension, trees_in_form, trees_in_item, trees_in_statement}
 unfoldable pub use Rattle.hep_machine.specs.Words.{trees_in_upper}
@@ -18,12 +18,12 @@ unfoldable pub use Rattle.hep_conditions.specs.Names.{misused_constants, name_vi
 unfoldable pub use Rattle.hep_conditions.specs.Names.{type_missing_violations, typed_names, unit_uses, unknown_name_violations}
 unfoldable pub use Rattle.hep_conditions.specs.Names.{unknown_references, unknown_subroutines, unknown_targets, untyped_in, Use, used_both_ways}
 unfoldable pub use Rattle.hep_conditions.specs.Names.{uses_by, variable_names}
-unfoldable pub use Rattle.hep_conditions.specs.Counts.{count_of, count_violations, is_call_counted, is_counted, takes, takes_actuals, takes_list}
-unfoldable pub use Rattle.hep_conditions.specs.Types.{agree, are_actuals, are_integers, has_dimensions, is_form_typed, is_item_typed}
-unfoldable pub use Rattle.hep_conditions.specs.Types.{is_list_typed, is_of, is_plain_integer_scalar, is_scalar_target, is_target_typed, is_typed}
-unfoldable pub use Rattle.hep_conditions.specs.Types.{is_typed_as, KnownType, same_declared, same_type, type_of_listed, type_of_operands}
-unfoldable pub use Rattle.hep_conditions.specs.Types.{type_of_operation, type_of_target, type_of_test, type_of_tested, type_of_tree}
-unfoldable pub use Rattle.hep_conditions.specs.Types.{type_of_value}
+unfoldable pub use Rattle.hep_conditions.specs.Counts.{count_violations, is_call_counted, is_counted, takes, takes_actuals, takes_list}
+unfoldable pub use Rattle.hep_conditions.specs.Statements.{agree, are_actuals, are_integers, has_dimensions, is_form_typed, is_item_typed}
+unfoldable pub use Rattle.hep_conditions.specs.Statements.{is_list_typed, is_of, is_plain_integer_scalar, is_scalar_target, is_target_typed, is_typed}
+unfoldable pub use Rattle.hep_conditions.specs.Statements.{is_typed_as, KnownType, same_declared, same_type, type_of_listed, type_of_operands}
+unfoldable pub use Rattle.hep_conditions.specs.Statements.{type_of_operation, type_of_target, type_of_test, type_of_tested, type_of_tree}
+unfoldable pub use Rattle.hep_conditions.specs.Statements.{type_of_value}
 unfoldable pub use Rattle.hep_conditions.specs.Constants.{are_bounds_open, are_constants_given, has_bounds, has_constant_subscripts, has_value}
 unfoldable pub use Rattle.hep_conditions.specs.Constants.{has_value_or_is_open, is_adjustable, is_adjusted, is_adjusting, is_bound}
 unfoldable pub use Rattle.hep_conditions.specs.Constants.{is_constant_expression, is_constant_given, is_constant_of, is_dimension, is_given}
@@ -51,7 +51,7 @@ unfoldable pub use Rattle.hep_conditions.specs.Data.{is_misplaced, is_outside, i
 unfoldable pub use Rattle.hep_conditions.specs.Data.{known_values, name_repeated, share_element, wrong_groups_from}
 unfoldable pub use Rattle.hep_conditions.specs.Conditions.{first_violation, IsAccepted, is_resume, resume_violations, violations, violations_in}
 unfoldable pub use Rattle.hep_conditions.specs.Laws.{Keeps}
-unfoldable pub use Rattle.hep_conditions.specs.Types.{FunctionTypes, function_types, is_function_in, is_type_of, no_functions, type_of_name}
+unfoldable pub use Rattle.hep_conditions.specs.Statements.{FunctionTypes, function_types, is_function_in, is_type_of, no_functions, type_of_name}
 unfoldable pub use Rattle.hep_conditions.specs.Counts.{is_reference_counted}
 unfoldable pub use Rattle.hep_conditions.specs.Nesting.{has_loop_variable, is_loop_variable, loop_variables}
 unfoldable pub use Rattle.hep_conditions.specs.Arguments.{fits_reference}

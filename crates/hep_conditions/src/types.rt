@@ -1,6 +1,6 @@
 //! Equality of declared types (X3.9-1978, 4.1).
 ghost use Rattle.std.specs.Prelude.{◌≡◌};
-ghost use Rattle.hep_conditions.specs.Types as types;
+ghost use Rattle.hep_conditions.specs.Statements as types;
 
 use hep_source::ValueType;
 

@@ -6,7 +6,6 @@
 
 pub(crate) mod blocks;
 pub mod control;
-pub mod jumps;
 pub mod labels;
 pub(crate) mod loops;
 pub(crate) mod nesting;
@@ -18,6 +17,5 @@ pub(crate) mod successors;
 pub(crate) mod sweep;
 
 pub use control::Control;
-pub use jumps::{jump_lines, jump_violation};
-pub use labels::{Labels, label_lines, label_violation};
+pub use labels::{Labels, jump_lines, jump_violation, label_lines, label_violation};
 pub use structure::{structure_lines, structure_violation};

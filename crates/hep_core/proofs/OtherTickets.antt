@@ -1,5 +1,5 @@
 -- What comes next of a process is left by the turns of others, and so each segment that is out stays good.
-use Rattle.std.proofs.Common.{◌≡◌, ◌≢◌, ℕ, zero, suc, ◌+◌, Bool, true, false, true≢false, ◌||◌, ◌&&◌, nat_eq, OnOk, List, [], ◌∷◌, ◌++◌, map, length, Option, Some, None, Result, Ok, Err, inl, inr, refl, sym, ap, ◌∙◌, subst, arith, replicate, eq-eqb, ne_eqb}
+use Rattle.std.proofs.Common.{◌≡◌, ◌≢◌, ℕ, zero, suc, ◌+◌, Bool, true, false, true≢false, ◌||◌, ◌&&◌, nat_eq, OnOk, List, [], ◌∷◌, ◌++◌, map, length, Option, Some, None, Result, Ok, Err, inl, inr, refl, sym, ap, ◌∙◌, subst, replicate, eq-eqb, ne_eqb}
 use Rattle.std.specs.Result.{IsErr}
 use Rattle.std.proofs.lemmas.Option.{none-some, same_Some}
 use Rattle.hep_machine.specs.declared.event.Entry.{Entry}
@@ -26,12 +26,10 @@ use Rattle.hep_state.specs.declared.turn.TurnOutcome.TheVariants.{Stepped, Purge
 use Rattle.hep_state.specs.Words.{HasLevels, IsAfter, IsMachineAfter, IsTurning, LeavesOthers, LeavesRest, Snapshot, TurnOf, frame_under, snapshot_of, turn_settled, turn_with}
 use Rattle.hep_state.proofs.TopActivations.{settled, turning}
 use Rattle.hep_state.proofs.UnchangedStates.{carry}
-use Rattle.hep_core.specs.Commits.{AreGoodStill, ComesNext, IsCancelled, IsCheckedOut, IsCommitted, IsFresh, IsGivenTo, IsGood, IsTakenBy, LeavesNext, core_after_return, core_after_ticket, next_id}
+use Rattle.hep_core.specs.Commits.{AreGoodStill, ComesNext, IsCommitted, IsFresh, IsGivenTo, IsGood, IsTakenBy, LeavesNext, core_after_return, core_after_ticket, next_id}
 use Rattle.hep_core.specs.ProcessPlaces.{IsHere, IsWhere, PlacedCore, ProcessPlace, place_on, places_of, with_core}
 use Rattle.hep_core.specs.Tickets.{has_ticket, is_out, without_process}
 use Rattle.hep_core.specs.CoreValues.{CoreValue, HasNoStop, IsTurn, state_of}
-use Rattle.hep_core.specs.declared.core_fault.ChooseFault.{ChooseFault}
-use Rattle.hep_core.specs.declared.core_fault.ChooseFault.TheVariants as choosing
 use Rattle.hep_core.specs.declared.core_fault.CommitFault.{CommitFault}
 use Rattle.hep_core.specs.declared.core_fault.CommitFault.TheVariants as committing
 use Rattle.hep_core.specs.declared.stop.ChoiceStop.TheVariants.{ArenaFull, StepLimit}
@@ -238,11 +236,6 @@ stopped-good old new stop s going out good = absurd (stop going.0)
 pub nobody-good : (old new : PlacedCore) → old.core.out ≡ [] → AreGoodStill old new
 nobody-good old new none s going out good = absurd (true≢false (sym good.1.0.2 ∙ ap (has_ticket s.id) none))
 
--- where all is the same but who is out
-pub good-same : (old new : PlacedCore) → new.places ≡ old.places → new.core.program ≡ old.core.program → state_of new.core ≡ state_of old.core → AreGoodStill old new
-good-same old new places program state s going out good =
-    good-of new s going out (next-same (suc s.id.process) old new places program state s (λ e. omega (arith, e)) going (good-comes old s good))
-
 -- a choice of one that isn't out
 pub chosen-good : (p : ℕ) (old new : PlacedCore) → is_out p old.core.out ≡ false → LeavesNext p old new → AreGoodStill old new
 chosen-good p old new home leaves = still-good p old new leaves (λ s out good. another p old s home good)
@@ -286,22 +279,7 @@ committed-good old s (Err (committing.Stopped stop)) new (inr (inr gap)) leaves 
 committed-good old s (Err committing.Stale) new refused leaves = good-itself old new refused.2
 committed-good old s (Err committing.NoMemory) new refused leaves = good-itself old new refused.3
 
--- ---- check-outs, and tickets that are cancelled
-
-pub checked-good : (old : PlacedCore) (p : ℕ) (r : Result TicketValue ChooseFault) (new : PlacedCore) → IsCheckedOut old p r new → AreGoodStill old new
-checked-good old p (Ok ticket) new is = let same = is.3.3 in good-same old new (ap (λ (v : PlacedCore). v.places) same) (ap (λ (v : PlacedCore). v.core.program) same) (ap (λ (v : PlacedCore). state_of v.core) same)
-checked-good old p (Err (choosing.Stopped stop)) new (inl before) = good-itself old new before.1
-checked-good old p (Err (choosing.Stopped stop)) new (inr full) = stopped-good old new (λ none. none-some StepLimit (sym none ∙ ap (λ (v : PlacedCore). v.core.stop) full.4))
-checked-good old p (Err choosing.NoSuchProcess) new is = good-itself old new is.2
-checked-good old p (Err choosing.IsOut) new is = good-itself old new is.3
-checked-good old p (Err choosing.NoTicket) new is = good-itself old new is.2
-checked-good old p (Err choosing.NoMemory) new is = good-itself old new is.3
-
-pub cancelled-good : (old : PlacedCore) (id : TicketId) (r : Result (Unit {0}) CommitFault) (new : PlacedCore) → IsCancelled old id r new → AreGoodStill old new
-cancelled-good old id (Ok done) new is = let same = is.3 in good-same old new (ap (λ (v : PlacedCore). v.places) same) (ap (λ (v : PlacedCore). v.core.program) same) (ap (λ (v : PlacedCore). state_of v.core) same)
-cancelled-good old id (Err (committing.Stopped stop)) new is = good-itself old new is.1
-cancelled-good old id (Err committing.Stale) new is = good-itself old new is.2
-cancelled-good old id (Err committing.NoMemory) new is = absurd is
+-- ---- check-outs
 
 pub last-ticket : (id : TicketId) (out : List TicketId) → has_ticket id (out ++ id ∷ []) ≡ true
 last-ticket id [] = ap (λ b. b || false) (ap (λ b. b && nat_eq id.number id.number) (eq-eqb id.process id.process refl) ∙ eq-eqb id.number id.number refl)

@@ -83,9 +83,6 @@ underway i s first m settled tops law made same =
     let is = subst (IsSettledIn i s.id.process) (sym same) settled in
     record { is = is; made = (made-in i s.id.process m is tops law s refl true (subst (λ z. IsMadeIn true i.image z s) (sym same) made)).0 refl }
 
-pub underway-still : (i : Inside) (s : SegmentValue) (m new : CoreState) → IsUnderway i s m → new ≡ m → IsUnderway i s new
-underway-still i s m new at same = subst (IsUnderway i s) (sym same) at
-
 -- ---- nothing came of it
 
 -- the core is as it was, but for a stop

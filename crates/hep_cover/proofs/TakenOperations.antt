@@ -1,7 +1,7 @@
 -- A value that a statement gets takes one of its operations away.
 use Rattle.std.proofs.Common.{◌≡◌, ℕ, suc, List, [], ◌∷◌, ◌++◌, map, refl, sym, ap, ◌∙◌, subst, append-nil}
 use Rattle.hep_code.proofs.Expressions.{FirstIs, sought_code}
-use Rattle.hep_code.proofs.WorkCode.{NextIs, work_is}
+use Rattle.hep_code.proofs.ControlFlow.{NextIs, work_is}
 use Rattle.hep_code.specs.declared.instruction.Instruction.{Instruction}
 use Rattle.hep_code.specs.declared.instruction.Instruction.TheVariants.{Pass}
 use Rattle.hep_code.specs.declared.instruction.Argument.{Argument}

@@ -8,7 +8,7 @@ ghost use Rattle.hep_dump.specs.CommonNames as words;
 use crate::elements::append_subscripts;
 use hep_base::Text;
 use hep_names::Symbols;
-use hep_names::declarators::{add_declared, block_of, blocks_in};
+use hep_names::specification::{add_declared, block_of, blocks_in};
 use hep_source::{CommonBlock, Name, Statement};
 use hep_values::named_constants::constants;
 use hep_values::{Constants, bounds_of, cells_of};

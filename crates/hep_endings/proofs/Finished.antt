@@ -16,7 +16,7 @@ use Rattle.hep_replay.proofs.ReplayTurns.{halted_stays}
 use Rattle.hep_endings.specs.Endings.{Ending, IsEndingWithin, IsTerminal, ending_of}
 use Rattle.hep_endings.proofs.Turns.{by_halted}
 use Rattle.hep_endings.specs.Finished.{IsFinished, IsSerial, IsSerialFrom}
-use Rattle.hep_endings.proofs.Living.{idle_waits}
+use Rattle.hep_endings.proofs.Stacks.{idle_waits}
 
 -- the first one is true where the conjunction is
 and_first : (a b : Bool) → (a && b) ≡ true → a ≡ true

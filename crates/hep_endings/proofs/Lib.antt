@@ -8,7 +8,6 @@ pub mod Rooms
 pub mod Tables
 pub mod Stacks
 pub mod Pure
-pub mod Living
 pub mod Finished
 pub mod Texts
 pub mod Outcomes

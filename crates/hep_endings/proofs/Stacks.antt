@@ -1,21 +1,21 @@
--- A step of one process is the same wherever another process stands.
+-- A step of one process is the same wherever another process is; and a process that lives makes a step or waits.
 use Rattle.std.proofs.Common.{◌≡◌, ◌≢◌, ℕ, zero, suc, ◌-◌, ◌<◌, ◌≤◌, Bool, true, false, if◌then◌else◌, List, [], ◌∷◌, ◌++◌, length}
 use Rattle.std.proofs.Common.{length-set, Option, Some, None, Result, Ok, Err, refl, sym, ap, ◌∙◌, arith, slice_set, ℤ, ◌-ℤ◌, ◌+ℤ◌, pos}
+use Rattle.std.proofs.Common.{is_some}
 use Rattle.std.specs.Option.{option_map}
 use Rattle.hep_machine.specs.declared.event.Kind.{Kind}
-use Rattle.hep_machine.specs.Words.{Action, Binding, Level, Location, Loop, Name, Next, Process, State, Store, StepResult, RedexOrReference, Top}
-use Rattle.hep_machine.specs.Words.{Units, Value, absent, answer_of, evaluating, referring, integer_of, integer_or_overflow}
-use Rattle.hep_machine.specs.Words.{assigning, branching, calling, choosing, continuing, creating, does, ending_loop, entering_block}
-use Rattle.hep_machine.specs.Words.{entering_loop, jumping, leaving, printing, purging, resuming, stopping, testing_condition, wants}
-use Rattle.hep_machine.specs.Words.{next_of}
-use Rattle.hep_machine.specs.Words.{living, step, step_result_of, step_result_of_top, state_made, stepped, waiting, with_numbered}
-use Rattle.hep_machine.specs.Words.{with_process, top_of, unit_at, unit_of, Answer, fails}
-use Rattle.hep_machine.specs.Words.{answer_at, binding_of, function_name, function_unit, iterations, level_after_statement}
-use Rattle.hep_machine.specs.Words.{location_of_name, loop_at, result_after_action, result_after_answer, result_after_assignment}
-use Rattle.hep_machine.specs.Words.{result_after_call, result_after_create, result_after_do, result_after_increment, result_after_leaving}
-use Rattle.hep_machine.specs.Words.{result_after_loop_end, result_after_loop_variable, result_after_next, result_after_purge}
-use Rattle.hep_machine.specs.Words.{result_after_result, result_after_value, result_after_write, scope_of, state_resumed, store_after_purge}
-use Rattle.hep_machine.specs.Words.{unit_called, unit_on_top, variable_of, written}
+use Rattle.hep_machine.specs.Words.{Action, Binding, Level, Location, Loop, Name, Next, Process, State, Store, StepResult, RedexOrReference}
+use Rattle.hep_machine.specs.Words.{Top, Units, Value, absent, answer_of, evaluating, referring, integer_of, integer_or_overflow, assigning}
+use Rattle.hep_machine.specs.Words.{branching, calling, choosing, continuing, creating, does, ending_loop, entering_block, entering_loop}
+use Rattle.hep_machine.specs.Words.{jumping, leaving, printing, purging, resuming, stopping, testing_condition, wants, next_of, living}
+use Rattle.hep_machine.specs.Words.{step, step_result_of, step_result_of_top, state_made, stepped, waiting, with_numbered, with_process}
+use Rattle.hep_machine.specs.Words.{top_of, unit_at, unit_of, Answer, fails, answer_at, binding_of, function_name, function_unit}
+use Rattle.hep_machine.specs.Words.{iterations, level_after_statement, location_of_name, loop_at, result_after_action, result_after_answer}
+use Rattle.hep_machine.specs.Words.{result_after_assignment, result_after_call, result_after_create, result_after_do}
+use Rattle.hep_machine.specs.Words.{result_after_increment, result_after_leaving, result_after_loop_end, result_after_loop_variable}
+use Rattle.hep_machine.specs.Words.{result_after_next, result_after_purge, result_after_result, result_after_value, result_after_write}
+use Rattle.hep_machine.specs.Words.{scope_of, state_resumed, store_after_purge, unit_called, unit_on_top, variable_of, written, is_waiting}
+use Rattle.hep_machine.specs.Words.{wanted_of}
 use Rattle.hep_machine.specs.Step.{gives, waits, fault_of, result_after_fault, result_after_sought, stack_after_return, stack_after_value}
 use Rattle.hep_machine.specs.Step.{state_after_count, state_with_level, state_with_store, with_activation, entry_level, next_activation}
 use Rattle.hep_machine.specs.Step.{level_after_count}
@@ -264,3 +264,118 @@ module _ (program : Units) (p q : ℕ) (r : Process) (s : State) (one : 1 ≤ q)
         ≡ option_map (moved q r) (if h then None else state_made (step_result_of program p s))
     by_halted true = refl
     by_halted false = ap state_made of_result_of ∙ state_moved (step_result_of program p s)
+
+-- ---- a process that lives makes a step or waits
+
+-- a step is made, or waited for
+abbrev IsMadeOrWaits : StepResult → Type 0
+IsMadeOrWaits absent = ⊥
+IsMadeOrWaits x = Unit {0}
+
+module _ (program : Units) (t : Top) where
+  made-answer : (a : Answer) → IsMadeOrWaits (result_after_answer program t a)
+  made-answer (gives v store) = tt
+  made-answer (waits w) = tt
+  made-answer (fails k) = tt
+
+  made-write : (level : Level) (a : Answer) → IsMadeOrWaits (result_after_write program t level a)
+  made-write level (gives v store) = tt
+  made-write level (waits w) = tt
+  made-write level (fails k) = tt
+
+  made-assignment : (asynchronous : Bool) (at : Result Location Kind) (v : Value)
+      → IsMadeOrWaits (result_after_assignment program t asynchronous at v)
+  made-assignment asynchronous (Err k) v = tt
+  made-assignment asynchronous (Ok at) v =
+      made-write (level_after_statement (unit_on_top program t) t.level) (
+      answer_at t.state.store at (written asynchronous v (t.state.store at)))
+
+  made-purge : (store : Result Store Kind) → IsMadeOrWaits (result_after_purge program t store)
+  made-purge (Err k) = tt
+  made-purge (Ok store) = tt
+
+  made-do : (at : Result Location Kind) (m increment : ℤ) (count : Result ℤ Kind)
+      → IsMadeOrWaits (result_after_do program t at m increment count)
+  made-do at m increment (Err k) = tt
+  made-do (Err k) m increment (Ok count) = tt
+  made-do (Ok at) m increment (Ok count) = tt
+
+  made-increment : (l : Loop) (at : Location) (z : Result ℤ Kind) → IsMadeOrWaits (result_after_increment program t l at z)
+  made-increment l at (Err k) = tt
+  made-increment l at (Ok z) = tt
+
+  made-variable : (l : Loop) (at : Location) (v : Option Value) → IsMadeOrWaits (result_after_loop_variable program t l at v)
+  made-variable l at None = tt
+  made-variable l at (Some v) = made-increment l at (integer_or_overflow (integer_of v +ℤ l.increment))
+
+  made-loop_end : (l : Loop) (at : Result Location Kind) → IsMadeOrWaits (result_after_loop_end program t l at)
+  made-loop_end l (Err k) = tt
+  made-loop_end l (Ok at) = made-variable l at (t.state.store at).value
+
+  made-call : (u : ℕ) (b : Result Binding Kind) → IsMadeOrWaits (result_after_call program t u b)
+  made-call u (Err k) = tt
+  made-call u (Ok b) = tt
+
+  made-create : (u : ℕ) (b : Result Binding Kind) → IsMadeOrWaits (result_after_create program t u b)
+  made-create u (Err k) = tt
+  made-create u (Ok b) = tt
+
+  made-value : (v : Option Value) → IsMadeOrWaits (result_after_value program t v)
+  made-value None = tt
+  made-value (Some v) = tt
+
+  made-result : (at : Result Location Kind) → IsMadeOrWaits (result_after_result program t at)
+  made-result (Err k) = tt
+  made-result (Ok at) = made-value (t.state.store at).value
+
+  made-leaving : (x : Option Name) → IsMadeOrWaits (result_after_leaving program t x)
+  made-leaving None = tt
+  made-leaving (Some x) = made-result (location_of_name (scope_of program t.state t.level.activation) x [])
+
+  made-action : (a : Action) → IsMadeOrWaits (result_after_action program t a)
+  made-action (assigning x v) = made-assignment x.0.asynchronous (location_of_name (scope_of program t.state t.level.activation) x.0 x.1) v
+  made-action (jumping l) = tt
+  made-action (choosing labels v) = tt
+  made-action (branching labels v) = tt
+  made-action (testing_condition v) = tt
+  made-action (entering_block v) = tt
+  made-action (entering_loop x m n k) =
+      made-do (location_of_name (scope_of program t.state t.level.activation) x []) (integer_of m) (integer_of k) (
+      iterations (integer_of m) (integer_of n) (integer_of k))
+  made-action (ending_loop d) =
+      made-loop_end (loop_at t.level.loops d) (
+      location_of_name (scope_of program t.state t.level.activation) (variable_of (unit_on_top program t) d) [])
+  made-action (calling x actuals) = made-call (unit_called program x) (binding_of program t (unit_called program x) actuals)
+  made-action (creating x actuals) = made-create (unit_called program x) (binding_of program t (unit_called program x) actuals)
+  made-action (purging targets) = made-purge (store_after_purge (scope_of program t.state t.level.activation) targets t.state.store)
+  made-action (printing items) = tt
+  made-action continuing = tt
+  made-action leaving = made-leaving (function_name (unit_on_top program t))
+  made-action resuming = tt
+  made-action stopping = tt
+
+  made-sought : (x : RedexOrReference) → IsMadeOrWaits (result_after_sought program t x)
+  made-sought (evaluating e) = made-answer (answer_of (scope_of program t.state t.level.activation) t.state.store e)
+  made-sought (referring x actuals) = made-call (function_unit program x) (binding_of program t (function_unit program x) actuals)
+
+  made-next : (n : Next) → IsMadeOrWaits (result_after_next program t n)
+  made-next (wants x) = made-sought x
+  made-next (does a) = made-action a
+
+module _ (program : Units) (p : ℕ) (s : State) where
+  -- so it is of each process that lives
+  made_or_waits : (top : Option (Level × Process)) → is_some top ≡ true → IsMadeOrWaits (step_result_of_top program s p top)
+  made_or_waits None lives = absurd cc
+  made_or_waits (Some top) lives =
+      made-next program (record { state = s; process = p; level = top.0; below = top.1 }) (
+      next_of (unit_at program (unit_of s top.0.activation)) top.0.work)
+
+  -- one that lives and has no step waits, unless a STOP was made
+  pub idle_waits : s.halted ≡ false → is_some (living s p) ≡ true → step program p s ≡ None → is_waiting program s p ≡ true
+  unfolding step_result_of
+  idle_waits going lives idle = by_result (step_result_of_top program s p (living s p)) (made_or_waits (living s p) lives) (
+      sym (ap (λ h. if h then None else state_made (step_result_of program p s)) going) ∙ idle) where
+        by_result : (x : StepResult) → IsMadeOrWaits x → state_made x ≡ None → is_some (wanted_of x) ≡ true
+        by_result (stepped t) there none = absurd cc
+        by_result (waiting w) there none = refl
+        by_result absent there none = absurd there

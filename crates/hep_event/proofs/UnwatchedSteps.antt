@@ -4,7 +4,7 @@ use Rattle.std.specs.List.{list_any}
 use Rattle.std.specs.Str.{bytes_eq}
 use Rattle.hep_accepted_laws.specs.Instructions.{variables_in_operation}
 use Rattle.hep_accepted_laws.specs.PlacedCode.{ArePlaced}
-use Rattle.hep_code.proofs.NextOperation.{drop_one_more, pushed}
+use Rattle.hep_code.proofs.ControlFlow.{drop_one_more, pushed}
 use Rattle.hep_code.specs.declared.instruction.Instruction.{Instruction}
 use Rattle.hep_code.specs.declared.instruction.Instruction.TheVariants.{Push, Step}
 use Rattle.hep_code.specs.declared.instruction.Operation.{Operation}

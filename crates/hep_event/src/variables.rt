@@ -2,7 +2,7 @@
 ghost use Rattle.std.specs.Prelude.{◌≡◌, ◌≢◌, ◌<◌, ◌≤◌, ◌↔◌, ℕ, Some, IfOk, IsTrue, length, map};
 ghost use Rattle.hep_code.specs.Placements.{variable_in};
 ghost use Rattle.hep_code.specs.declared.variable.Variable.TheVariants.{Absent};
-ghost use Rattle.hep_common.specs.Starts.{AreStarts};
+ghost use Rattle.hep_storage.specs.Starts.{AreStarts};
 ghost use Rattle.hep_conditions.specs.Words.{IsAccepted};
 ghost use Rattle.hep_image.specs.Names.{variable_number};
 ghost use Rattle.hep_image.specs.Places.{variable_of};
@@ -12,11 +12,11 @@ ghost use Rattle.hep_event.specs.Variables.{AreVariablesOf, IsFirstAmong, variab
 use hep_base::Sequence;
 use hep_code::Variable;
 use hep_code::placement::Placement;
-use hep_common::{CommonBlocks, CommonStarts};
 use hep_image::{FrameVariable, Image};
 use hep_names::{ProgramSymbols, Symbols};
 use hep_places::unit_places;
 use hep_source::Name;
+use hep_storage::{CommonBlocks, CommonStarts};
 use std::alloc::{AllocError, Global};
 
 /// The variables of the names of each unit, in the order of the names. The name of a variable is found by a search.

@@ -5,10 +5,10 @@ use Rattle.hep_machine.specs.Words.{index_where, Units, BlockName, blocks_of, is
 use Rattle.hep_image.specs.declared.owners.BlockStart.{BlockStart}
 use Rattle.hep_image.specs.Image.{most_cells}
 use Rattle.hep_image.specs.Owners.{block_start, block_starts}
-use Rattle.hep_common.specs.Starts.{AreStarts, start_in}
-use Rattle.hep_common.specs.declared.common.CommonBlocks.{CommonBlocks}
-use Rattle.hep_common.specs.declared.starts.CommonStarts.{CommonStarts}
-use Rattle.hep_common.proofs.Beginnings.{first-start}
+use Rattle.hep_storage.specs.Starts.{AreStarts, start_in}
+use Rattle.hep_storage.specs.declared.common.CommonBlocks.{CommonBlocks}
+use Rattle.hep_storage.specs.declared.starts.CommonStarts.{CommonStarts}
+use Rattle.hep_storage.proofs.Beginnings.{first-start}
 use Rattle.hep_lower.specs.BlockStarts.{block_begun}
 use Rattle.hep_source.proofs.Tests.{or-true}
 use Rattle.hep_machine.proofs.Locations.{block-self}

@@ -14,11 +14,11 @@ use Rattle.hep_places.specs.UnitPlaces.{ArePlaces}
 use Rattle.hep_code.specs.declared.placement.Placement.{Placement}
 use Rattle.hep_code.specs.Placements.{cells_in, variable_in}
 use Rattle.hep_accepted_laws.specs.PlacedCode.{code_in}
-use Rattle.hep_emit.specs.declared.fault.EmitFault.{EmitFault}
-use Rattle.hep_emit.specs.declared.fault.EmitFault.TheVariants as emit_fault
-use Rattle.hep_emit.specs.UnitLimits.{IsOverLimit}
+use Rattle.hep_lower.specs.declared.fault.EmitFault.{EmitFault}
+use Rattle.hep_lower.specs.declared.fault.EmitFault.TheVariants as emit_fault
+use Rattle.hep_lower.specs.UnitLimits.{IsOverLimit}
 use Rattle.hep_lower.specs.Refusals.{RefusesCode, fault_by}
-use Rattle.hep_emit.specs.Tables.{addressed_by}
+use Rattle.hep_lower.specs.Tables.{addressed_by}
 use Rattle.hep_lower.proofs.Counts.{as-many}
 
 module _ (program : Units) (u : ℕ) (unit : List Statement) (places : Placement) (same : unit ≡ unit_at program u)

@@ -17,9 +17,9 @@ use Rattle.hep_image.specs.Data.{AreInitial, AreOfUnits}
 use Rattle.hep_image.specs.Image.{IsImage, most_cells}
 use Rattle.hep_image.specs.Names.{AreNames}
 use Rattle.hep_image.specs.Owners.{block_starts}
-use Rattle.hep_common.specs.Lengths.{greatest_length}
-use Rattle.hep_common.specs.Starts.{AreBlocks}
-use Rattle.hep_common.specs.declared.common.CommonBlocks.{CommonBlocks}
+use Rattle.hep_storage.specs.Lengths.{greatest_length}
+use Rattle.hep_storage.specs.Starts.{AreBlocks}
+use Rattle.hep_storage.specs.declared.common.CommonBlocks.{CommonBlocks}
 use Rattle.hep_lower.specs.declared.units.LoweredUnits.{LoweredUnits}
 use Rattle.hep_lower.specs.Refusals.{AreCellsBeyond, IsCodeBeyond, IsFirstDeep, IsLowered, IsWithinLimits, Refuses, RefusesCode}
 use Rattle.hep_lower.specs.LoweredUnits.{AreUnits}

@@ -1,3 +1,12 @@
+pub mod Names
+pub mod ArgumentLimits
+pub mod StateFunctionSubscripts
+pub mod Uses
+pub mod Destinations
+pub mod Operations
+pub mod Tables
+pub mod UnitLimits
+pub mod Starts
 pub mod Refusals
 pub mod PartCounts
 pub mod Counts

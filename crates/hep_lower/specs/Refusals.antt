@@ -6,8 +6,8 @@ use Rattle.hep_machine.specs.Words.{Units, main_among, unit_at, common_cells, fr
 use Rattle.hep_code.specs.Words.{line_too_deep, most_instructions}
 use Rattle.hep_image.specs.Image.{most_cells}
 use Rattle.hep_accepted_laws.specs.PlacedCode.{code_in}
-use Rattle.hep_emit.specs.declared.fault.EmitFault.{EmitFault}
-use Rattle.hep_emit.specs.declared.fault.EmitFault.TheVariants as emit_fault
+use Rattle.hep_lower.specs.declared.fault.EmitFault.{EmitFault}
+use Rattle.hep_lower.specs.declared.fault.EmitFault.TheVariants as emit_fault
 
 -- ---- 401: COMMON and frames of at most 16,777,216 cells, and at most 1,048,576 instructions in all units together
 

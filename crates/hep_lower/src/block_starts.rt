@@ -2,8 +2,8 @@
 ghost use Rattle.std.specs.Prelude.{◌≡◌, map, IfOk};
 ghost use Rattle.hep_lower.specs.BlockStarts.{block_begun};
 
-use hep_common::{CommonBlocks, CommonStarts};
 use hep_image::BlockStart;
+use hep_storage::{CommonBlocks, CommonStarts};
 use std::alloc::{AllocError, Global};
 
 /// The common blocks with their first cells.

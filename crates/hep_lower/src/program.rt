@@ -1,7 +1,7 @@
 //! Checked programs, made into images.
 ghost use Rattle.std.specs.Prelude.{◌≡◌, ◌≤◌, ◌<◌, ℕ, Some, None, IfOk, IfErr, OnOk, IsTrue, true, false, length};
 ghost use Rattle.hep_machine.specs.Words.{main_among, unit_at, common_cells, frame_cells};
-ghost use Rattle.hep_common.specs.Starts.{AreBlocks, AreStarts};
+ghost use Rattle.hep_storage.specs.Starts.{AreBlocks, AreStarts};
 ghost use Rattle.hep_code.specs.Words.{most_instructions};
 ghost use Rattle.hep_image.specs.Image.{most_cells};
 ghost use Rattle.hep_lower.specs.Counts.{IsByCount};
@@ -12,14 +12,14 @@ use crate::block_starts::starts_of;
 use crate::laws::limits_are_wide;
 use crate::main_program::main_index;
 use crate::program_names::names_in_order;
+use crate::unit::MOST_INSTRUCTIONS;
 use crate::units::{LoweredProgram, lower_units};
 use hep_base::{Refusal as LowerFault, Sequence};
-use hep_common::{CommonBlocks, CommonStarts};
 use hep_conditions::Checked;
-use hep_emit::MOST_INSTRUCTIONS;
 use hep_image::{BlockStart, DataRow, Image, ProgramNames, UnitCode};
 use hep_names::ProgramSymbols;
 use hep_source::Program;
+use hep_storage::{CommonBlocks, CommonStarts};
 use std::alloc::{AllocError, Global};
 
 /// The greatest number of cells of a frame, and of COMMON.

@@ -4,19 +4,21 @@ ghost use Rattle.hep_machine.specs.Words.{Units, main_unit, unit_at, common_cell
 ghost use Rattle.hep_conditions.specs.Words.{IsAccepted};
 ghost use Rattle.hep_code.specs.Words.{most_instructions};
 ghost use Rattle.hep_image.specs.Image.{most_cells};
-ghost use Rattle.hep_common.specs.Starts.{AreStarts};
+ghost use Rattle.hep_storage.specs.Starts.{AreStarts};
 ghost use Rattle.hep_lower.specs.Refusals.{RefusesCode, fault_by};
-ghost use Rattle.hep_emit.specs.Names.{greatest};
+ghost use Rattle.hep_lower.specs.Names.{greatest};
 ghost use Rattle.hep_lower.specs.LoweredUnits.{AreRows, AreUnits, IsUnit};
 ghost use Rattle.hep_places.specs.UnitPlaces.{ArePlaces};
 
+use crate::fault::EmitFault;
+use crate::lowered::lower_unit;
+use crate::unit::MOST_INSTRUCTIONS;
 use hep_base::{Refusal as LowerFault, Sequence};
 use hep_code::Instruction;
-use hep_common::CommonStarts;
-use hep_emit::{EmitFault, MOST_INSTRUCTIONS, lower_unit};
 use hep_image::{DataRow, UnitCode};
 use hep_names::{ProgramSymbols, Symbols};
 use hep_places::{MainFrame, UnitPlaces, data_rows, unit_places};
+use hep_storage::CommonStarts;
 use std::alloc::{AllocError, Global};
 
 /// A lowered unit, or the line of its first statement with too many operands.

@@ -9,7 +9,7 @@ use Rattle.hep_machine.specs.Words.{index_where, same_letters, letters_of, Tree,
 use Rattle.std.proofs.lemmas.List.{length-map}
 use Rattle.hep_conditions.specs.Words.{count_of, takes_actuals, targets_assigned, targets_in_data, targets_purged, targets_of_groups}
 use Rattle.std.proofs.lemmas.Grind.{flat_map-append}
-use Rattle.hep_names.specs.Passes.{takes_dummies, unknown_target, unknown_in_group, unknown_in_form}
+use Rattle.hep_names.specs.Parts.{takes_dummies, unknown_target, unknown_in_group, unknown_in_form}
 use Rattle.std.proofs.lemmas.Option.{get_or_from_slice_get}
 
 pub count_is_length : (ts : List Tree) → count_of (trees_of ts) ≡ length ts

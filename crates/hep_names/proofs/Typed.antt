@@ -6,7 +6,7 @@ use Rattle.std.proofs.lemmas.Bool.{and_parts}
 use Rattle.hep_machine.specs.Words.{Name, Occurrence, Statement, same_name, is_among, with_name, with_names, names_of_occurrences, type_of, occurrences_in_statement, occurrences_of, names_of}
 use Rattle.hep_source.proofs.NameTests.{equal_names}
 use Rattle.hep_conditions.specs.Words.{FunctionTypes, is_function_in, untyped_in, type_missing_violations, when, at_occurrence}
-use Rattle.hep_names.specs.Passes.{untyped, is_typed}
+use Rattle.hep_names.specs.Parts.{untyped, is_typed}
 
 -- ---- a test that all names of a list pass, each once
 

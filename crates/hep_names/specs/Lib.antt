@@ -2,6 +2,5 @@ pub mod Tables
 pub mod Statements
 pub mod Functions
 pub mod Lists
-pub mod Passes
 pub mod Meanings
 pub mod Parts

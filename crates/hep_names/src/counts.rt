@@ -7,7 +7,7 @@ ghost use Rattle.hep_conditions.specs.Reported as reported;
 ghost use Rattle.hep_conditions.specs.Words.{first_of};
 ghost use Rattle.hep_names.specs.Meanings.{meaning};
 ghost use Rattle.hep_names.specs.Lists.{listed};
-ghost use Rattle.hep_names.specs.Passes as passes;
+ghost use Rattle.hep_names.specs.Parts as passes;
 
 use crate::functions::Meaning;
 use crate::lists::{NameWithList, names_with_lists};

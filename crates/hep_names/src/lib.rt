@@ -5,7 +5,6 @@
 
 mod arrays;
 pub mod counts;
-pub mod declarators;
 pub mod functions;
 mod list_table;
 pub mod lists;
@@ -14,7 +13,7 @@ pub mod occurrences;
 mod parts;
 pub mod program;
 pub mod references;
-mod specification;
+pub mod specification;
 pub mod symbols;
 mod table;
 pub mod unknown_names;

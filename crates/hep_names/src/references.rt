@@ -1,6 +1,6 @@
 //! The functions that a unit references (X3.9-1978, 15.5).
 ghost use Rattle.std.specs.Prelude.{◌≡◌};
-ghost use Rattle.hep_conditions.specs.Types as conditions;
+ghost use Rattle.hep_conditions.specs.Statements as conditions;
 ghost use Rattle.hep_names.specs.Functions.{functions_of};
 
 use crate::program::ProgramSymbols;

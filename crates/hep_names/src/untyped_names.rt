@@ -3,7 +3,7 @@ ghost use Rattle.std.specs.Prelude.{◌≡◌, IfOk};
 ghost use Rattle.std.specs.List.{flat_map, list_all};
 ghost use Rattle.hep_conditions.specs.Names as conditions;
 ghost use Rattle.hep_conditions.specs.Words.{first_of, function_types};
-ghost use Rattle.hep_names.specs.Passes as passes;
+ghost use Rattle.hep_names.specs.Parts as passes;
 
 use crate::occurrences::occurrences;
 use crate::program::ProgramSymbols;

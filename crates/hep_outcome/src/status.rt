@@ -23,6 +23,8 @@ pub enum Status {
     NoMemory,
     /// A read or a write failed.
     DeviceFailed,
+    /// A race was found.
+    Raced,
 }
 
 impl Status {
@@ -40,6 +42,7 @@ impl Status {
             Status::StepLimit => 6,
             Status::NoMemory => 7,
             Status::DeviceFailed => 8,
+            Status::Raced => 9,
         }
     }
 }

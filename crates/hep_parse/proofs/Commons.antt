@@ -12,8 +12,7 @@ use Rattle.hep_expression.proofs.Leaves.{bind_some, either_some, after_is, place
 use Rattle.hep_expression.proofs.Complete.{plain_place_read}
 use Rattle.hep_parse.specs.Lists.{AreListed}
 use Rattle.hep_parse.specs.ReadingLists.{part_after_comma}
-use Rattle.hep_parse.specs.Declaration.{ReadsDeclarator, ReadsBlockName, ReadsFirstName, AreMoreBlocks, AreBlocks}
-use Rattle.hep_parse.specs.ReadingDeclaration.{declarator_at, block_name_at, entries_at, block_after, block_at, first_block_at, common}
+use Rattle.hep_parse.specs.Declaration.{ReadsDeclarator, ReadsBlockName, ReadsFirstName, AreMoreBlocks, AreBlocks, declarator_at, block_name_at, entries_at, block_after, block_at, first_block_at, common}
 use Rattle.hep_parse.proofs.Lists.{IsSound, IsComplete, listed_shortens, listed_sound, listed_complete}
 use Rattle.hep_parse.proofs.Targets.{begins_name, first_is, place_begins, AfterName}
 use Rattle.hep_parse.proofs.Headers.{carried}

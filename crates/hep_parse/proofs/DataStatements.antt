@@ -22,9 +22,8 @@ use Rattle.hep_expression.proofs.Complete.{above, digit_from, letter_from, lette
 use Rattle.hep_parse.specs.Lists.{AreListed}
 use Rattle.hep_parse.specs.ReadingLists.{listed}
 use Rattle.hep_parse.specs.Target.{ReadsTarget}
-use Rattle.hep_parse.specs.Declaration.{optional_sign, signed_value, ReadsDataConstant, ReadsRepeat, ReadsDataValue, ReadsGroup, AreMoreGroups, AreGroups}
+use Rattle.hep_parse.specs.Declaration.{optional_sign, signed_value, ReadsDataConstant, ReadsRepeat, ReadsDataValue, ReadsGroup, AreMoreGroups, AreGroups, signed_integer_at, data_constant_at, is_zero, count_at, repeat_at, data_value_at, group_at, data_statement}
 use Rattle.hep_parse.specs.ReadingTarget.{target_at}
-use Rattle.hep_parse.specs.ReadingDeclaration.{signed_integer_at, data_constant_at, is_zero, count_at, repeat_at, data_value_at, group_at, data_statement}
 use Rattle.hep_parse.proofs.Lists.{IsSound, Shortens, IsComplete, listed_shortens, listed_sound, listed_complete}
 use Rattle.hep_parse.proofs.Targets.{begins_name, place_begins, AfterName, target_shortens, target_sound, target_complete}
 use Rattle.hep_parse.proofs.Headers.{carried, AfterWord, Any}

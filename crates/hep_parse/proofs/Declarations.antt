@@ -10,12 +10,10 @@ use Rattle.hep_expression.specs.declared.characters.Context.{Context}
 use Rattle.hep_expression.specs.Reading.{◌>>=◌}
 use Rattle.hep_parse.specs.declared.keyword.Keyword.{Keyword}
 use Rattle.hep_parse.specs.declared.keyword.Keyword.TheVariants as words
-use Rattle.hep_parse.specs.Declaration.{type_spelling, function_spelling, ReadsDeclarator}
-use Rattle.hep_parse.specs.ReadingDeclaration.{function_header}
+use Rattle.hep_parse.specs.Declaration.{type_spelling, function_spelling, ReadsDeclarator, function_header}
 use Rattle.hep_parse.specs.Lists.{AreListed}
 use Rattle.hep_parse.specs.Statement.{IsWorded}
-use Rattle.hep_parse.specs.ReadingKeyword.{spelling, keyword_at}
-use Rattle.hep_parse.specs.ReadingStatement.{declaration, after_word, worded}
+use Rattle.hep_parse.specs.ReadingStatement.{spelling, keyword_at, declaration, after_word, worded}
 use Rattle.hep_parse.proofs.Headers.{program_header_is, program_header_read, subroutine_header_is, subroutine_header_read, function_header_is, function_header_read, implicit_is, implicit_read, parameter_is, parameter_read}
 use Rattle.hep_parse.proofs.Declarators.{declare_is, declare_read, no_function_after, dimension_statement_is, dimension_statement_read}
 use Rattle.hep_parse.proofs.Commons.{common_is, common_read}

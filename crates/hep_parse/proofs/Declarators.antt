@@ -22,8 +22,7 @@ use Rattle.hep_expression.proofs.Sound.{expression_at_sound}
 use Rattle.hep_expression.proofs.Complete.{place_read, AfterExpression, after_comma, after_parenthesis, after_colon, expression_read}
 use Rattle.hep_parse.specs.Lists.{AreAfter, AreListed}
 use Rattle.hep_parse.specs.ReadingLists.{listed, whole}
-use Rattle.hep_parse.specs.Declaration.{ReadsUpper, ReadsLower, ReadsDimension, is_open, OnlyLastOpen, ReadsDeclarator, ReadsArrayDeclarator}
-use Rattle.hep_parse.specs.ReadingDeclaration.{upper_bound_at, dimension_after, dimension_at, only_last_open, are_dimensions, declarator_at, declare, is_array, dimension}
+use Rattle.hep_parse.specs.Declaration.{ReadsUpper, ReadsLower, ReadsDimension, is_open, OnlyLastOpen, ReadsDeclarator, ReadsArrayDeclarator, upper_bound_at, dimension_after, dimension_at, only_last_open, are_dimensions, declarator_at, declare, is_array, dimension}
 use Rattle.hep_parse.proofs.Lists.{all_is, whole_is, IsSound, Shortens, IsComplete, optional_shortens, listed_sound, listed_complete, optional_complete}
 use Rattle.hep_parse.proofs.Targets.{begins_expression, expression_begins, AfterName, name_ends, name_and_optional_are}
 use Rattle.hep_parse.proofs.Headers.{carried}

@@ -4,7 +4,7 @@ use Rattle.hep_expression.specs.declared.read_failure.ReadFailure.{ReadFailure}
 use Rattle.hep_expression.specs.declared.read_failure.ReadFailure.TheVariants as unread
 use Rattle.hep_expression.specs.Reading.{Reader, ◌>>=◌, Gives, all_read}
 use Rattle.hep_parse.specs.ReadingLists.{after_optional_comma}
-use Rattle.hep_parse.specs.ReadingDeclaration.{parts_to_end}
+use Rattle.hep_parse.specs.Declaration.{parts_to_end}
 use Rattle.std.proofs.lemmas.Option.{same_Some, none-some}
 
 -- parts that were read before the others

@@ -5,7 +5,7 @@ use Rattle.hep_expression.specs.Reading.{Reader, ◌>>=◌, all_read, after}
 use Rattle.hep_expression.proofs.Leaves.{bind_some, either_some, after_is}
 use Rattle.hep_parse.specs.Lists.{IsOptionalComma}
 use Rattle.hep_parse.specs.ReadingLists.{after_optional_comma}
-use Rattle.hep_parse.specs.ReadingDeclaration.{parts_to_end, up_to_end}
+use Rattle.hep_parse.specs.Declaration.{parts_to_end, up_to_end}
 use Rattle.hep_parse.proofs.Lists.{IsSound, IsComplete}
 use Rattle.std.proofs.lemmas.Option.{same_Some, none-some}
 

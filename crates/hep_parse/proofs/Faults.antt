@@ -13,9 +13,8 @@ use Rattle.hep_parse.specs.Statement.{context, IsForm}
 use Rattle.hep_parse.specs.Program.{class_of, MayStandAfter, begins_main, HasNoReading, IsLeftOutStatement, IsMisplaced, IsRefusedStatement, parts_after, main_after, IsFirstFaultFrom, IsFirstFault}
 use Rattle.hep_parse.specs.ReadingStatement.{form}
 use Rattle.hep_parse.specs.ReadingProgram.{Refusal, or_refusal, left_out, with_line, nameless_refusal, refusal_of, statement, is_start, may_follow, state_after_statement, placed, after_one, ended, units, nothing_read, program}
-use Rattle.hep_parse.proofs.Forms.{form_is, form_read}
+use Rattle.hep_parse.proofs.Forms.{form_is, form_read, any_form}
 use Rattle.hep_parse.proofs.LeftOut.{left_out_is, left_out_read}
-use Rattle.hep_parse.proofs.Sizes.{any_form}
 use Rattle.hep_parse.proofs.Programs.{ok, refused, refusal_is, not_both, stand_is, is_stand, is_empty, Stands, stands_first, next_state, stands_end, stands_other, state_is, end_or_other, stage_after_other}
 use Rattle.std.proofs.lemmas.Option.{same_Some, none-some}
 use Rattle.std.proofs.lemmas.Bool.{not-false}

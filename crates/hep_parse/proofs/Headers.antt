@@ -19,8 +19,7 @@ use Rattle.hep_expression.proofs.Sound.{expression_at_sound}
 use Rattle.hep_expression.proofs.Complete.{place_read, plain_place_read, AfterExpression, after_comma, after_parenthesis, expression_read}
 use Rattle.hep_parse.specs.Lists.{AreListed, AreEnclosed, AreArguments, AreParenthesized}
 use Rattle.hep_parse.specs.ReadingLists.{listed, enclosed, arguments, name_and_arguments, parenthesized, whole}
-use Rattle.hep_parse.specs.Declaration.{type_spelling, ReadsLetters, ReadsImplicit, ReadsNamedConstant}
-use Rattle.hep_parse.specs.ReadingDeclaration.{program_header, dummy_at, subroutine_header, function_header, letter_at, letter_range_at, letter_range_part, value_type_at, implicit_group_at, implicit, named_constant_at, parameter}
+use Rattle.hep_parse.specs.Declaration.{type_spelling, ReadsLetters, ReadsImplicit, ReadsNamedConstant, program_header, dummy_at, subroutine_header, function_header, letter_at, letter_range_at, letter_range_part, value_type_at, implicit_group_at, implicit, named_constant_at, parameter}
 use Rattle.hep_parse.proofs.Lists.{whole_is, IsSound, Shortens, IsComplete, enclosed_shortens, listed_sound, enclosed_sound, arguments_sound, parenthesized_sound, parenthesized_complete, listed_complete, enclosed_complete, arguments_complete}
 use Rattle.hep_parse.proofs.Targets.{begins_name, place_begins}
 use Rattle.std.proofs.lemmas.Option.{same_Some, none-some}

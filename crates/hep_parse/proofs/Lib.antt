@@ -13,11 +13,9 @@ pub mod Commons
 pub mod DataStatements
 mod WorkedDeclarations
 pub mod ConditionLoops
-pub mod ExecutableSound
-pub mod ExecutableComplete
+pub mod Executable
 pub mod Declarations
 pub mod Forms
-pub mod Sizes
 pub mod Worked
 pub mod LeftOut
 pub mod Programs

@@ -16,9 +16,8 @@ use Rattle.hep_parse.specs.ReadingLists.{parts_after, closed, enclosed, optional
 use Rattle.hep_parse.specs.ReadingLists as lists
 use Rattle.hep_parse.specs.ReadingTarget.{target_at}
 use Rattle.hep_parse.specs.ReadingConstant.{characters, constant_after, item_at}
-use Rattle.hep_parse.specs.ReadingExecutable.{print, assignment, computed_go_to, go_to, condition_at, arithmetic_if, if_then, else_if, limits, do_loop, call, create, purge, stop}
-use Rattle.hep_parse.specs.ReadingDeclaration.{declare, declarator_at, function_header}
-use Rattle.hep_parse.specs.ReadingStatement.{worded, logical_if, conditions, form}
+use Rattle.hep_parse.specs.ReadingStatement.{print, assignment, computed_go_to, go_to, condition_at, arithmetic_if, if_then, else_if, limits, do_loop, call, create, purge, stop, worded, logical_if, conditions, form}
+use Rattle.hep_parse.specs.Declaration.{declare, declarator_at, function_header}
 use Rattle.hep_parse.proofs.Forms.{form_is, form_read}
 use Rattle.std.proofs.lemmas.Option.{none-some}
 

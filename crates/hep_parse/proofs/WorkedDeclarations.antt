@@ -26,9 +26,8 @@ use Rattle.hep_expression.specs.ReadingExpression as expressions
 use Rattle.hep_expression.proofs.Worked.{Works, works, fitting, any, int, at, name}
 use Rattle.hep_parse.specs.Lists.{AreListed, AreEnclosed}
 use Rattle.hep_parse.specs.ReadingLists.{parts_after, listed, closed, enclosed, optional}
-use Rattle.hep_parse.specs.Declaration.{ReadsImplicit, ReadsDeclarator, ReadsArrayDeclarator, AreBlocks, ReadsNamedConstant, AreGroups}
+use Rattle.hep_parse.specs.Declaration.{ReadsImplicit, ReadsDeclarator, ReadsArrayDeclarator, AreBlocks, ReadsNamedConstant, AreGroups, implicit_group_at, implicit, dimension_at, declarator_at, declare, dimension, parts_to_end, block_at, common, named_constant_at, parameter, data_value_at, group_at, data_statement}
 use Rattle.hep_parse.specs.ReadingTarget.{target_at}
-use Rattle.hep_parse.specs.ReadingDeclaration.{implicit_group_at, implicit, dimension_at, declarator_at, declare, dimension, parts_to_end, block_at, common, named_constant_at, parameter, data_value_at, group_at, data_statement}
 use Rattle.hep_parse.proofs.Headers.{implicit_is, implicit_read, parameter_is, parameter_read}
 use Rattle.hep_parse.proofs.Declarators.{declare_is, declare_read, dimension_statement_is, dimension_statement_read}
 use Rattle.hep_parse.proofs.Commons.{common_is, common_read}

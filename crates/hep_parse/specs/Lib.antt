@@ -4,16 +4,13 @@ pub mod ReadingRule
 pub mod Lists
 pub mod Constant
 pub mod Target
-pub mod Declaration
-pub mod Executable
-pub mod Statement
 -- the readers as functions on lists, which agree with the grammar
 pub mod ReadingLists
 pub mod ReadingConstant
 pub mod ReadingTarget
-pub mod ReadingDeclaration
-pub mod ReadingExecutable
-pub mod ReadingKeyword
+-- the grammar of statements, and their readers
+pub mod Declaration
+pub mod Statement
 pub mod ReadingStatement
 pub mod Program
 pub mod ReadingProgram

@@ -3,7 +3,7 @@
 ghost use Rattle.std.specs.Prelude.{◌≡◌, option_map};
 ghost use Rattle.std.specs.List.{list_all};
 ghost use Rattle.hep_expression.specs.Reading.{Gives};
-ghost use Rattle.hep_parse.specs.ReadingDeclaration as reading;
+ghost use Rattle.hep_parse.specs.Declaration as reading;
 
 use crate::list::{
     Readable, after_optional_comma, enclosed, listed, name_and_arguments, optional, parenthesized,
@@ -37,7 +37,7 @@ pub fn program_header(context: Context, s: &[u8]) -> Result<Form, ReadFailure>
 
 /// A dummy argument of a subroutine (15.6.1).
 impl Readable for Occurrence {
-    ghost use Rattle.hep_parse.specs.ReadingDeclaration.{dummy_at};
+    ghost use Rattle.hep_parse.specs.Declaration.{dummy_at};
 
     ghost part_at = { dummy_at };
 
@@ -55,7 +55,7 @@ impl Readable for Occurrence {
 /// # Errors
 ///
 /// [`ReadFailure::NoReading`] where the text has no such form, or [`ReadFailure::NoMemory`].
-#[tactic(auto, unfolding(crate::specs::ReadingDeclaration::subroutine_header))]
+#[tactic(auto, unfolding(crate::specs::Declaration::subroutine_header))]
 pub fn subroutine_header(alloc: Global, context: Context, s: &[u8]) -> Result<Form, ReadFailure>
     ensures { Gives (λ x. x) result (reading.subroutine_header context s.now) }
 {
@@ -68,7 +68,7 @@ pub fn subroutine_header(alloc: Global, context: Context, s: &[u8]) -> Result<Fo
 /// # Errors
 ///
 /// [`ReadFailure::NoReading`] where the text has no such form, or [`ReadFailure::NoMemory`].
-#[tactic(auto, unfolding(crate::specs::ReadingDeclaration::function_header))]
+#[tactic(auto, unfolding(crate::specs::Declaration::function_header))]
 pub fn function_header(
     alloc: Global,
     context: Context,
@@ -112,7 +112,7 @@ fn letter_range_at(s: &[u8]) -> Option<(LetterRange, &[u8])>
 
 /// A range of letters in an IMPLICIT statement.
 impl Readable for LetterRange {
-    ghost use Rattle.hep_parse.specs.ReadingDeclaration.{letter_range_part};
+    ghost use Rattle.hep_parse.specs.Declaration.{letter_range_part};
 
     ghost part_at = { letter_range_part };
 
@@ -138,11 +138,11 @@ fn value_type_at(s: &[u8]) -> Option<(ValueType, &[u8])>
 
 /// A type and its letters in an IMPLICIT statement.
 impl Readable for ImplicitGroup {
-    ghost use Rattle.hep_parse.specs.ReadingDeclaration.{implicit_group_at};
+    ghost use Rattle.hep_parse.specs.Declaration.{implicit_group_at};
 
     ghost part_at = { implicit_group_at };
 
-    #[tactic(auto, unfolding(crate::specs::ReadingDeclaration::implicit_group_at))]
+    #[tactic(auto, unfolding(crate::specs::Declaration::implicit_group_at))]
     fn read(
         alloc: Global,
         context: Context,
@@ -164,7 +164,7 @@ impl Readable for ImplicitGroup {
 /// # Errors
 ///
 /// [`ReadFailure::NoReading`] where the text has no such form, or [`ReadFailure::NoMemory`].
-#[tactic(auto, unfolding(crate::specs::ReadingDeclaration::implicit))]
+#[tactic(auto, unfolding(crate::specs::Declaration::implicit))]
 pub fn implicit(alloc: Global, context: Context, s: &[u8]) -> Result<Form, ReadFailure>
     ensures { Gives (λ x. x) result (reading.implicit context s.now) }
 {
@@ -189,11 +189,11 @@ fn upper_bound_at(
 
 /// A dimension declarator (5.1.1).
 impl Readable for Dimension {
-    ghost use Rattle.hep_parse.specs.ReadingDeclaration.{dimension_at};
+    ghost use Rattle.hep_parse.specs.Declaration.{dimension_at};
 
     ghost part_at = { dimension_at };
 
-    #[tactic(auto, unfolding(crate::specs::ReadingDeclaration::dimension_at))]
+    #[tactic(auto, unfolding(crate::specs::Declaration::dimension_at))]
     fn read(alloc: Global, context: Context, s: &[u8]) -> Result<(Dimension, &[u8]), ReadFailure> {
         if let Some(rest) = after(b'*', s) {
             let upper = UpperBound::Open;
@@ -236,11 +236,11 @@ fn are_dimensions(dimensions: &[Dimension]) -> bool
 
 /// A name alone, or with its dimensions (5.1).
 impl Readable for Declarator {
-    ghost use Rattle.hep_parse.specs.ReadingDeclaration.{declarator_at};
+    ghost use Rattle.hep_parse.specs.Declaration.{declarator_at};
 
     ghost part_at = { declarator_at };
 
-    #[tactic(auto, unfolding(crate::specs::ReadingDeclaration::declarator_at))]
+    #[tactic(auto, unfolding(crate::specs::Declaration::declarator_at))]
     fn read(alloc: Global, context: Context, s: &[u8]) -> Result<(Declarator, &[u8]), ReadFailure> {
         let (occurrence, rest) = occurrence_at(context, s).ok_or(ReadFailure::NoReading)?;
         let (dimensions, rest) = optional::<Dimension>(alloc, context, rest)?;
@@ -263,7 +263,7 @@ impl Readable for Declarator {
 /// # Errors
 ///
 /// [`ReadFailure::NoReading`] where the text has no such form, or [`ReadFailure::NoMemory`].
-#[tactic(auto, unfolding(crate::specs::ReadingDeclaration::declare))]
+#[tactic(auto, unfolding(crate::specs::Declaration::declare))]
 pub fn declare(
     alloc: Global,
     context: Context,
@@ -290,7 +290,7 @@ fn all_arrays(declarators: &[Declarator]) -> bool
 /// # Errors
 ///
 /// [`ReadFailure::NoReading`] where the text has no such form, or [`ReadFailure::NoMemory`].
-#[tactic(auto, unfolding(crate::specs::ReadingDeclaration::dimension))]
+#[tactic(auto, unfolding(crate::specs::Declaration::dimension))]
 pub fn dimension(alloc: Global, context: Context, s: &[u8]) -> Result<Form, ReadFailure>
     ensures { Gives (λ x. x) result (reading.dimension context s.now) }
 {
@@ -368,11 +368,11 @@ fn block_after(
 
 /// A common block with its name between two `/` (8.3).
 impl Readable for CommonBlock {
-    ghost use Rattle.hep_parse.specs.ReadingDeclaration.{block_at};
+    ghost use Rattle.hep_parse.specs.Declaration.{block_at};
 
     ghost part_at = { block_at };
 
-    #[tactic(auto, unfolding(crate::specs::ReadingDeclaration::block_at))]
+    #[tactic(auto, unfolding(crate::specs::Declaration::block_at))]
     fn read(
         alloc: Global,
         context: Context,
@@ -405,7 +405,7 @@ fn first_block_at(
 /// # Errors
 ///
 /// [`ReadFailure::NoReading`] where the text has no such form, or [`ReadFailure::NoMemory`].
-#[tactic(auto, unfolding(crate::specs::ReadingDeclaration::common))]
+#[tactic(auto, unfolding(crate::specs::Declaration::common))]
 pub fn common(alloc: Global, context: Context, s: &[u8]) -> Result<Form, ReadFailure>
     ensures { Gives (λ x. x) result (reading.common context s.now) }
 {
@@ -416,11 +416,11 @@ pub fn common(alloc: Global, context: Context, s: &[u8]) -> Result<Form, ReadFai
 
 /// A name and the expression that PARAMETER gives it (8.6).
 impl Readable for NamedConstant {
-    ghost use Rattle.hep_parse.specs.ReadingDeclaration.{named_constant_at};
+    ghost use Rattle.hep_parse.specs.Declaration.{named_constant_at};
 
     ghost part_at = { named_constant_at };
 
-    #[tactic(auto, unfolding(crate::specs::ReadingDeclaration::named_constant_at))]
+    #[tactic(auto, unfolding(crate::specs::Declaration::named_constant_at))]
     fn read(
         alloc: Global,
         context: Context,
@@ -438,7 +438,7 @@ impl Readable for NamedConstant {
 /// # Errors
 ///
 /// [`ReadFailure::NoReading`] where the text has no such form, or [`ReadFailure::NoMemory`].
-#[tactic(auto, unfolding(crate::specs::ReadingDeclaration::parameter))]
+#[tactic(auto, unfolding(crate::specs::Declaration::parameter))]
 pub fn parameter(alloc: Global, context: Context, s: &[u8]) -> Result<Form, ReadFailure>
     ensures { Gives (λ x. x) result (reading.parameter context s.now) }
 {
@@ -500,7 +500,7 @@ fn repeat_at(context: Context, s: &[u8]) -> Option<(Repeat, &[u8])>
 }
 
 /// A value of DATA with its repeat count, if it has one (9.1), and what follows it.
-#[tactic(auto, unfolding(crate::specs::ReadingDeclaration::data_value_at))]
+#[tactic(auto, unfolding(crate::specs::Declaration::data_value_at))]
 fn data_value_at(context: Context, s: &[u8]) -> Option<(DataValue, &[u8])>
     ensures { option_map (λ x. (x.0, x.1.now)) result ≡ reading.data_value_at context s.now }
 {
@@ -520,7 +520,7 @@ fn data_value_at(context: Context, s: &[u8]) -> Option<(DataValue, &[u8])>
 
 /// A value of DATA.
 impl Readable for DataValue {
-    ghost use Rattle.hep_parse.specs.ReadingDeclaration.{data_value_at};
+    ghost use Rattle.hep_parse.specs.Declaration.{data_value_at};
 
     ghost part_at = { data_value_at };
 
@@ -531,11 +531,11 @@ impl Readable for DataValue {
 
 /// A group of a DATA statement (9.1): the names up to a `/`, and the values between it and the next `/`.
 impl Readable for DataGroup {
-    ghost use Rattle.hep_parse.specs.ReadingDeclaration.{group_at};
+    ghost use Rattle.hep_parse.specs.Declaration.{group_at};
 
     ghost part_at = { group_at };
 
-    #[tactic(auto, unfolding(crate::specs::ReadingDeclaration::group_at))]
+    #[tactic(auto, unfolding(crate::specs::Declaration::group_at))]
     fn read(alloc: Global, context: Context, s: &[u8]) -> Result<(DataGroup, &[u8]), ReadFailure> {
         let (targets, rest) = listed::<Target>(alloc, context, s)?;
         let rest = after(b'/', rest).ok_or(ReadFailure::NoReading)?;
@@ -552,7 +552,7 @@ impl Readable for DataGroup {
 /// # Errors
 ///
 /// [`ReadFailure::NoReading`] where the text has no such form, or [`ReadFailure::NoMemory`].
-#[tactic(auto, unfolding(crate::specs::ReadingDeclaration::data_statement))]
+#[tactic(auto, unfolding(crate::specs::Declaration::data_statement))]
 pub fn data_statement(alloc: Global, context: Context, s: &[u8]) -> Result<Form, ReadFailure>
     ensures { Gives (λ x. x) result (reading.data_statement context s.now) }
 {

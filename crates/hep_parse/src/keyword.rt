@@ -1,7 +1,11 @@
-//! The words with which a form of statement begins.
-ghost use Rattle.std.specs.Prelude.{◌≡◌, option_map};
-ghost use Rattle.hep_parse.specs.ReadingKeyword as words;
+//! The words with which statements begin: those of the forms, and those that the language leaves out.
+ghost use Rattle.std.specs.Prelude.{◌≡◌, map, option_map};
+ghost use Rattle.hep_parse.specs.ReadingStatement as words;
+ghost use Rattle.hep_expression.specs.Reading.{Gives};
+ghost use Rattle.hep_parse.specs.Program as grammar;
+ghost use Rattle.hep_parse.specs.ReadingProgram as reading;
 
+use hep_expression::ReadFailure;
 use hep_expression::characters::after_text;
 
 /// A word with which a form of statement begins (docs/LANGUAGE.md).
@@ -143,4 +147,54 @@ pub fn keyword_at(s: &[u8]) -> Option<(Keyword, &[u8])>
         Keyword::Stop,
     ];
     keyword_among(&keywords, s)
+}
+
+/// The words with which the statements begin that the language leaves out, each with the name that a refusal reports.
+const LEFT_OUT_WORDS: [(&[u8], &[u8]); 22] = [
+    (b"REAL", b"REAL"),
+    (b"DOUBLEPRECISION", b"DOUBLEPRECISION"),
+    (b"COMPLEX", b"COMPLEX"),
+    (b"CHARACTER", b"CHARACTER"),
+    (b"READ", b"READ"),
+    (b"WRITE", b"WRITE"),
+    (b"FORMAT", b"FORMAT"),
+    (b"OPEN", b"OPEN"),
+    (b"CLOSE", b"CLOSE"),
+    (b"INQUIRE", b"INQUIRE"),
+    (b"REWIND", b"REWIND"),
+    (b"BACKSPACE", b"BACKSPACE"),
+    (b"ENDFILE", b"ENDFILE"),
+    (b"EQUIVALENCE", b"EQUIVALENCE"),
+    (b"SAVE", b"SAVE"),
+    (b"ENTRY", b"ENTRY"),
+    (b"EXTERNAL", b"EXTERNAL"),
+    (b"INTRINSIC", b"INTRINSIC"),
+    (b"ASSIGN", b"ASSIGN"),
+    (b"PAUSE", b"PAUSE"),
+    (b"BLOCKDATA", b"BLOCKDATA"),
+    (b"INCLUDE", b"INCLUDE"),
+];
+
+/// The name of the first of these words with which a text begins.
+fn name_at(words: &[(&'static [u8], &'static [u8])], s: &[u8]) -> Option<&'static [u8]>
+    ensures { option_map (λ x. x.now) result ≡ reading.word_at (map (λ x. (x.0.now, x.1.now)) words.now) s.now }
+{
+    match words {
+        [] => None,
+        [(word, name), others @ ..] => match after_text(word, s) {
+            Some(_) => Some(name),
+            None => name_at(others, s),
+        },
+    }
+}
+
+/// The name of the word with which a text begins, where that word begins a statement that the language leaves out.
+///
+/// # Errors
+///
+/// [`ReadFailure::NoReading`] where the text begins with no such word.
+pub fn left_out_word_at(s: &[u8]) -> Result<&'static [u8], ReadFailure>
+    ensures { Gives (λ x. x.now) result (reading.word_at grammar.left_out_words s.now) }
+{
+    name_at(&LEFT_OUT_WORDS, s).ok_or(ReadFailure::NoReading)
 }

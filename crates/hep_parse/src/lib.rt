@@ -7,10 +7,8 @@
 
 mod constant;
 mod declaration;
-mod executable;
 mod item;
 mod keyword;
-mod left_out;
 mod list;
 mod program;
 pub mod rule;

@@ -8,8 +8,7 @@ ghost use Rattle.hep_parse.specs.ReadingProgram as reading;
 ghost use Rattle.hep_base.specs.Refusals.{Reports};
 ghost use Rattle.hep_parse.specs.ReadingProgram.{Answers};
 
-use crate::left_out::left_out;
-use crate::statement::form;
+use crate::statement::{form, left_out};
 use hep_base::Refusal as ParseFault;
 use hep_expression::ReadFailure;
 use hep_expression::characters::{Context, Sizes};

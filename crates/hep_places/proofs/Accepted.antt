@@ -2,7 +2,7 @@
 use Rattle.std.proofs.Common.{◌≡◌, ◌<◌, Bool, true, false, List, None, refl, sym, ◌∙◌}
 use Rattle.std.proofs.lemmas.Option.{none-some}
 use Rattle.hep_machine.specs.Words.{Name, Statement, index_among, is_among, dummies_of, cells_of, is_dummy}
-use Rattle.hep_accepted_laws.specs.Typing.{HasShape}
+use Rattle.hep_accepted_laws.specs.PartlyEvaluated.{HasShape}
 use Rattle.hep_places.proofs.FewCells.{some-cells}
 use Rattle.hep_places.proofs.RightPlaces.{index-there}
 

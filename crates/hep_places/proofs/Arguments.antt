@@ -8,8 +8,8 @@ use Rattle.hep_code.specs.DimensionCode.{code_of_dimensions}
 use Rattle.hep_code.specs.Sources.{source_by, source_of}
 use Rattle.hep_image.specs.declared.dummy.DummyArgument.TheVariants.{Scalar, Array, Adjustable}
 use Rattle.hep_image.specs.Dummies.{common_cell, common_cell_by, dummy_of}
-use Rattle.hep_common.specs.Starts.{AreStarts}
-use Rattle.hep_common.specs.declared.starts.CommonStarts.{CommonStarts}
+use Rattle.hep_storage.specs.Starts.{AreStarts}
+use Rattle.hep_storage.specs.declared.starts.CommonStarts.{CommonStarts}
 use Rattle.hep_places.specs.DummyArguments.{array_found, cell_by, constant_array, dummy_found, source_found}
 use Rattle.hep_places.specs.StorageStarts.{Table, entries_of, no_length, offset_among}
 use Rattle.hep_places.proofs.FrameStarts.{common-first}

@@ -10,8 +10,8 @@ use Rattle.hep_image.specs.Owners.{AreInOrder, frame_variables}
 use Rattle.hep_image.specs.Places.{arrays_of, start_of}
 use Rattle.hep_image.specs.Private.{is_private}
 use Rattle.hep_image.proofs.FrameOwners.{in_order}
-use Rattle.hep_common.specs.Starts.{AreStarts}
-use Rattle.hep_common.specs.declared.starts.CommonStarts.{CommonStarts}
+use Rattle.hep_storage.specs.Starts.{AreStarts}
+use Rattle.hep_storage.specs.declared.starts.CommonStarts.{CommonStarts}
 use Rattle.hep_places.specs.declared.storage_starts.StorageStarts.{StorageStarts}
 use Rattle.hep_places.specs.declared.unit.UnitPlaces.{UnitPlaces}
 use Rattle.hep_places.specs.DummyArguments.{dummy_found, source_found}

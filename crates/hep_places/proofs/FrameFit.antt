@@ -14,7 +14,7 @@ use Rattle.hep_layout.specs.Words.{bounds, first_of_part, frame_row, same_part, 
 use Rattle.hep_layout.proofs.FrameRows.{frame_row-cells, variable-first, first-size}
 use Rattle.hep_layout.proofs.Runs.{local-index}
 use Rattle.hep_values.proofs.Elements.{number-within}
-use Rattle.hep_accepted_laws.specs.Typing.{HasShape}
+use Rattle.hep_accepted_laws.specs.PartlyEvaluated.{HasShape}
 use Rattle.hep_accepted_laws.proofs.NameMeanings.{data_known}
 use Rattle.hep_accepted_laws.proofs.Members.{Has, flat_has, has_filter, has_flat, image_at}
 use Rattle.hep_accepted_laws.proofs.Shaped.{arrays_have_shapes}

@@ -12,8 +12,8 @@ use Rattle.hep_layout.proofs.CommonRows.{block_row-below, common_row-cells}
 use Rattle.hep_layout.proofs.FrameRows.{argument-first, bounds-first, frame_row-cells, iteration-first, variable-first, first-size}
 use Rattle.hep_layout.proofs.Rows.{has_key}
 use Rattle.hep_layout.proofs.Runs.{common-size}
-use Rattle.hep_common.specs.Starts.{AreStarts, narrowed, start_in}
-use Rattle.hep_common.specs.declared.starts.CommonStarts.{CommonStarts}
+use Rattle.hep_storage.specs.Starts.{AreStarts, narrowed, start_in}
+use Rattle.hep_storage.specs.declared.starts.CommonStarts.{CommonStarts}
 use Rattle.hep_places.specs.StorageStarts.{Table, adjustable_row, behind, behind_loops, first_bound, first_local, first_loop, loops_from, name_row, no_length, offset_among, entries_of, start_among, start_by, start_found}
 use Rattle.hep_places.proofs.InBlocks.{block-of-program, offsets-are}
 use Rattle.hep_places.proofs.Narrowed.{narrowed-more, narrowed-small, narrowed-sum}

@@ -7,11 +7,11 @@ use Rattle.hep_machine.specs.Words.{CommonBlock, Declarator, Name, Statement, is
 use Rattle.hep_accepted_laws.proofs.Members.{Has, has_flat, has_more}
 use Rattle.hep_layout.specs.Words.{Row, block_row, first_in}
 use Rattle.hep_layout.proofs.Rows.{has_key}
-use Rattle.hep_common.specs.Starts.{narrowed}
+use Rattle.hep_storage.specs.Starts.{narrowed}
 use Rattle.hep_places.specs.declared.block_offsets.NameInBlock.{NameInBlock}
 use Rattle.hep_places.specs.StorageStarts.{entries_in, entries_of, entry_of, lengthened, name_row, no_length, offset_among}
 use Rattle.hep_places.proofs.Narrowed.{narrowed-more, narrowed-zero}
-use Rattle.hep_common.proofs.Entries.{last-among}
+use Rattle.hep_storage.proofs.Entries.{last-among}
 use Rattle.hep_machine.proofs.Locations.{block-stays, block-self}
 
 abbrev pub row_under : List Statement → BlockName → List NameInBlock → Row Name

@@ -7,7 +7,7 @@ use Rattle.hep_layout.specs.Words.{first_of_part, variable}
 use Rattle.hep_image.specs.Names.{variable_index}
 use Rattle.hep_image.specs.declared.owners.FrameVariable.{FrameVariable}
 use Rattle.hep_image.specs.Owners.{argument_at, frame_variables, variable_at}
-use Rattle.hep_common.specs.Starts.{narrowed}
+use Rattle.hep_storage.specs.Starts.{narrowed}
 use Rattle.hep_places.specs.StorageStarts.{Table}
 use Rattle.hep_places.specs.FrameOwners.{argument_found, local_found, variables_found}
 use Rattle.hep_places.proofs.FrameStarts.{argument-at}

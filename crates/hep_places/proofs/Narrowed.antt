@@ -1,7 +1,7 @@
 -- Sums of numbers in 32 bits.
 use Rattle.std.proofs.Common.{◌≡◌, ℕ, ◌+◌, ◌≤◌, Bool, true, false, refl, arith, min, if◌then◌else◌, nat_le}
 use Rattle.std.proofs.lemmas.Bool.Decides.{nat_tests}
-use Rattle.hep_common.specs.Starts.{narrowed}
+use Rattle.hep_storage.specs.Starts.{narrowed}
 
 most : (n : ℕ) → narrowed n ≡ min n 4294967295
 most n = by (nat_le n 4294967295) refl where

@@ -17,7 +17,7 @@ use Rattle.hep_image.specs.declared.array.Start.TheVariants.{Local}
 use Rattle.hep_image.specs.Places.{array_of, arrays_of, extents_of, scalar, start_by, start_of, variable_by, variable_of}
 use Rattle.hep_image.specs.Private.{is_private, private_cells}
 use Rattle.hep_values.proofs.CellCounts.{adjustable}
-use Rattle.hep_common.specs.Starts.{narrowed}
+use Rattle.hep_storage.specs.Starts.{narrowed}
 use Rattle.hep_places.specs.StorageStarts.{Table, array_found, arrays_with, constant_extents, extents_found, variable_among, variable_found}
 use Rattle.hep_places.proofs.InBlocks.{held-by, none-before}
 use Rattle.hep_places.proofs.Narrowed.{narrowed-more, narrowed-small, narrowed-zero}

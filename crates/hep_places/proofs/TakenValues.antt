@@ -5,7 +5,7 @@ use Rattle.hep_machine.specs.Words.{Name, Statement, same_name, cells_of, BlockN
 use Rattle.hep_layout.specs.Words.{Row, cells_in, first_in}
 use Rattle.hep_layout.proofs.Rows.{has_key}
 use Rattle.hep_names.specs.Tables.{by_name}
-use Rattle.hep_common.specs.Starts.{narrowed}
+use Rattle.hep_storage.specs.Starts.{narrowed}
 use Rattle.hep_places.specs.declared.block_offsets.NameInBlock.{NameInBlock}
 use Rattle.hep_places.specs.StorageStarts.{start_among, behind, lengthened, no_length, offset_among}
 use Rattle.hep_places.proofs.Narrowed.{narrowed-more}

@@ -8,8 +8,8 @@ use Rattle.hep_code.specs.DimensionCode.{code_of_dimensions}
 use Rattle.hep_code.specs.Sources.{source_by}
 use Rattle.hep_image.specs.declared.dummy.DummyArgument.{DummyArgument}
 use Rattle.hep_image.specs.declared.dummy.DummyArgument.TheVariants.{Scalar, Array, Adjustable}
-use Rattle.hep_common.specs.Starts.{narrowed, start_in}
-use Rattle.hep_common.specs.declared.starts.CommonStarts.{CommonStarts}
+use Rattle.hep_storage.specs.Starts.{narrowed, start_in}
+use Rattle.hep_storage.specs.declared.starts.CommonStarts.{CommonStarts}
 use Rattle.hep_places.specs.declared.bound_code.BoundContext.{BoundContext}
 use Rattle.hep_places.specs.StorageStarts.{Table}
 

@@ -4,7 +4,7 @@ use Rattle.std.specs.Option.{unwrap_or}
 use Rattle.hep_machine.specs.Words.{Name, Statement, index_among, dummies_of, is_array}
 use Rattle.hep_image.specs.Names.{variable_index}
 use Rattle.hep_image.specs.declared.owners.FrameVariable.{FrameVariable}
-use Rattle.hep_common.specs.Starts.{narrowed}
+use Rattle.hep_storage.specs.Starts.{narrowed}
 use Rattle.hep_places.specs.StorageStarts.{Table}
 
 abbrev pub argument_found : List Statement → Name → FrameVariable

@@ -13,8 +13,8 @@ use Rattle.hep_image.specs.declared.array.Start.{Start}
 use Rattle.hep_image.specs.declared.array.Start.TheVariants.{Local, Common, Dummy}
 use Rattle.hep_image.specs.Places.{scalar}
 use Rattle.hep_layout.specs.Words.{Row}
-use Rattle.hep_common.specs.Starts.{narrowed, start_in}
-use Rattle.hep_common.specs.declared.starts.CommonStarts.{CommonStarts}
+use Rattle.hep_storage.specs.Starts.{narrowed, start_in}
+use Rattle.hep_storage.specs.declared.starts.CommonStarts.{CommonStarts}
 use Rattle.hep_places.specs.declared.block_offsets.NameInBlock.{NameInBlock}
 use Rattle.hep_places.specs.declared.bound_code.BoundContext.{BoundContext}
 use Rattle.hep_places.specs.declared.storage_starts.StorageStarts.{StorageStarts}

@@ -4,6 +4,7 @@ ghost use Rattle.std.specs.List.{flat_map};
 ghost use Rattle.indexmap.specs.IndexSet.{contains};
 ghost use Rattle.hep_source.specs.declared.name.Name.{Name as PureName};
 ghost use Rattle.hep_machine.specs.Words.{is_among, name_eq};
+ghost use Rattle.hep_conditions.specs.Statements as statements;
 ghost use Rattle.hep_names.specs.Lists.{listed};
 ghost use Rattle.hep_names.specs.Tables.{either};
 ghost use Rattle.hep_image.specs.Private as private;
@@ -15,7 +16,7 @@ use std::alloc::{AllocError, Global};
 
 fn add_name(names: &mut IndexSet<Name>, actual: &Expr) -> Result<(), AllocError>
     ensures { OnOk result ((x : PureName) → contains name_eq names.new x
-        ≡ either (contains name_eq names.old x) (is_among x (private.bare_name actual.now))) }
+        ≡ either (contains name_eq names.old x) (is_among x (statements.bare_name actual.now))) }
 {
     if let Node::Occurrence(occurrence) = &actual.node {
         names.insert(occurrence.name)?;
@@ -25,7 +26,7 @@ fn add_name(names: &mut IndexSet<Name>, actual: &Expr) -> Result<(), AllocError>
 
 fn add_names(names: &mut IndexSet<Name>, actuals: &[Expr]) -> Result<(), AllocError>
     ensures { OnOk result ((x : PureName) → contains name_eq names.new x
-        ≡ either (contains name_eq names.old x) (is_among x (flat_map private.bare_name actuals.now))) }
+        ≡ either (contains name_eq names.old x) (is_among x (flat_map statements.bare_name actuals.now))) }
 {
     for actual in actuals {
         add_name(names, actual)?;
@@ -35,7 +36,7 @@ fn add_names(names: &mut IndexSet<Name>, actuals: &[Expr]) -> Result<(), AllocEr
 
 // The actual arguments of a CALL or CREATE.
 fn actuals_in(form: &Form) -> &[Expr]
-    ensures { flat_map private.bare_name result.now ≡ private.bare_actuals_in form.now }
+    ensures { flat_map statements.bare_name result.now ≡ statements.bare_actuals_in form.now }
 {
     match form {
         Form::Call(_, actuals) | Form::Create(_, actuals) => actuals.as_slice(),

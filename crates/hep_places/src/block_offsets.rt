@@ -9,7 +9,7 @@ ghost use Rattle.hep_names.specs.Tables.{by_name};
 ghost use Rattle.hep_places.specs.StorageStarts as found;
 
 use crate::cell_numbers::further;
-use hep_names::declarators::{block_of, blocks_in};
+use hep_names::specification::{block_of, blocks_in};
 use hep_names::{Symbols, note};
 use hep_source::{CommonBlock, Declarator, Name, Statement};
 use hep_values::{Constants, cells_of};

@@ -10,9 +10,9 @@ ghost use Rattle.hep_places.specs.DummyArguments.{source_in};
 use crate::cell_numbers::further;
 use crate::storage_starts::StorageStarts;
 use hep_code::BoundOperation;
-use hep_common::CommonStarts;
 use hep_names::{Meaning, Symbols};
 use hep_source::{Dimension, Expr, Name, Node, UpperBound, Value};
+use hep_storage::CommonStarts;
 use hep_values::Constants;
 use std::alloc::AllocError;
 

@@ -1,6 +1,6 @@
 //! Numbers of cells in 32 bits. Each arena is small enough for them.
 ghost use Rattle.std.specs.Prelude.{◌≡◌, ◌+◌, ◌*◌};
-ghost use Rattle.hep_common.specs.Starts.{narrowed};
+ghost use Rattle.hep_storage.specs.Starts.{narrowed};
 
 // A number in 32 bits.
 pub(crate) fn in_32_bits(number: usize) -> u32

@@ -5,7 +5,7 @@ ghost use Rattle.indexmap.specs.IndexMap.{get};
 ghost use Rattle.hep_source.specs.declared.name.Name.{Name as PureName};
 ghost use Rattle.hep_machine.specs.Words.{name_eq, Statement, value_among, constant_value};
 ghost use Rattle.hep_machine.specs.Constants as values;
-ghost use Rattle.hep_common.specs.Starts.{narrowed};
+ghost use Rattle.hep_storage.specs.Starts.{narrowed};
 ghost use Rattle.hep_places.specs.StorageStarts as found;
 
 use crate::cell_numbers::{behind_pairs, further};

@@ -3,7 +3,7 @@ ghost use Rattle.std.specs.Prelude.{◌≡◌, ◌≤◌, ◌<◌, ℕ, length, 
 ghost use Rattle.hep_machine.specs.Words.{Units, unit_at, common_cells};
 ghost use Rattle.hep_machine.specs.Variables as variables;
 ghost use Rattle.hep_conditions.specs.Words.{IsAccepted};
-ghost use Rattle.hep_common.specs.Starts.{AreStarts};
+ghost use Rattle.hep_storage.specs.Starts.{AreStarts};
 ghost use Rattle.hep_places.specs.UnitPlaces.{ArePlaces};
 
 use crate::arrays::arrays_among;
@@ -17,9 +17,9 @@ use hep_accepted_laws::code::constant_shapes;
 use hep_accepted_laws::names::names_are_given_once;
 use hep_accepted_laws::values::arrays_have_shapes;
 use hep_code::Placement;
-use hep_common::CommonStarts;
 use hep_image::{Array, DummyArgument, FrameVariable};
 use hep_names::Symbols;
+use hep_storage::CommonStarts;
 use hep_values::named_constants::constants;
 use std::alloc::{AllocError, Global};
 use std::mem::replace;

@@ -15,10 +15,10 @@ use crate::bare_actuals::bare_actuals;
 use crate::cell_numbers::further;
 use crate::storage_starts::{StorageStarts, start_of};
 use hep_code::Variable;
-use hep_common::CommonStarts;
 use hep_image::Start;
 use hep_names::{Symbols, note};
 use hep_source::Name;
+use hep_storage::CommonStarts;
 use indexmap::{IndexMap, IndexSet};
 use std::alloc::{AllocError, Global};
 

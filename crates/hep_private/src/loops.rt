@@ -11,7 +11,7 @@ use crate::private_step::{PrivateStep, StepContext};
 use crate::record::Record;
 use crate::write_log::one_less;
 use hep_cells::iterations;
-use hep_code::{Operation, Variable, control_transfer};
+use hep_code::{Operation, Variable, instruction};
 use hep_machine::arithmetic::apply;
 use hep_machine::values::integer_of;
 use hep_source::{ArithmeticOperator, Value};
@@ -53,7 +53,7 @@ pub fn enter_loop(here: &StepContext<'_>, entered: PrivateLoop) -> Option<Privat
             count,
             increment: parameters.increment,
         },
-        index: control_transfer::led_by_count(entered.operation, here.index, count),
+        index: instruction::led_by_count(entered.operation, here.index, count),
         given: None,
     })
 }
@@ -121,7 +121,7 @@ fn raise(
                 count,
                 increment,
             },
-            index: control_transfer::led_by_count(ended.operation, here.index, one_less(count)),
+            index: instruction::led_by_count(ended.operation, here.index, one_less(count)),
             given: None,
         }),
         None => None,

@@ -11,7 +11,7 @@ use crate::operation_values::value_of;
 use crate::record::Record;
 use crate::write_log::WriteLog;
 use hep_code::operands::operand;
-use hep_code::{Evaluation, Instruction, Operation, Variable, control_transfer};
+use hep_code::{Evaluation, Instruction, Operation, Variable, instruction};
 use hep_source::Value;
 
 /// The place of an activation in its unit's code, its operands and its cells.
@@ -103,7 +103,7 @@ fn lead(here: &StepContext<'_>, operation: Operation, entries: &[Instruction]) -
 {
     PrivateStep {
         note: Record::Goes { at: here.index },
-        index: control_transfer::led_to(entries, here.index, operation, here.operands),
+        index: instruction::led_to(entries, here.index, operation, here.operands),
         given: None,
     }
 }

@@ -4,9 +4,9 @@ use Rattle.std.proofs.Common.{if◌then◌else◌, max, nat_eq, List, [], ◌∷
 use Rattle.std.proofs.Common.{refl, sym, ap, ◌∙◌, ◌++◌, subst, arith}
 use Rattle.std.proofs.Math.Path.{fun_ext}
 use Rattle.std.proofs.lemmas.Bool.{eqb-true}
-use Rattle.hep_order.specs.Clocks.{Clock, Clocks, clock_before, clock_of_need, clocks_after, joined, ticked}
-use Rattle.hep_order.specs.Detector.{Detector, detector_after, detector_after_accesses, detector_from}
-use Rattle.hep_order.specs.Events.{Access, Event, is_made, leads_to}
+use Rattle.hep_accesses.specs.Clocks.{Clock, Clocks, clock_before, clock_of_need, clocks_after, joined, ticked}
+use Rattle.hep_accesses.specs.Detector.{Detector, detector_after, detector_after_accesses, detector_from}
+use Rattle.hep_accesses.specs.Events.{Access, Event, is_made, leads_to}
 
 -- no clock knows a step from n on
 pub record AreWithin {L : Type 0} (n : ℕ) (x : Clocks L) : Type 0 where

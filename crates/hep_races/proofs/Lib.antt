@@ -8,3 +8,13 @@ pub mod Renamed
 pub mod EntryNumbers
 pub mod PlaceTexts
 pub mod NamedLines
+pub mod ChangedUnits
+pub mod PlacesTold
+pub mod UnitsInCells
+pub mod SeenAhead
+pub mod ObservedSteps
+pub mod LookedAhead
+pub mod KeptNames
+pub mod PurgedUnits
+pub mod PurgedPlaces
+pub mod NamedThere

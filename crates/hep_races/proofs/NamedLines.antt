@@ -1,7 +1,7 @@
 -- Rows of races with other names for storage units and sites have the same lines, where these names stand for the same words.
 use Rattle.std.proofs.Common.{◌≡◌, ℕ, List, [], ◌∷◌, ◌++◌, refl, ap, ◌∙◌}
 use Rattle.std.specs.List.{AllZip, flat_map}
-use Rattle.hep_order.specs.Races.{Row, StepAccess}
+use Rattle.hep_accesses.specs.Races.{Row, StepAccess}
 use Rattle.hep_races.specs.Renamings.{IsRenamedRow, IsRenamedStep, Renaming}
 use Rattle.hep_races.specs.RaceLines.{RowWords, SiteWords, access_text, deed_text, others_text, race_text, row_text, rows_text}
 use Rattle.hep_races.specs.RaceLines.{source_text, where_text}

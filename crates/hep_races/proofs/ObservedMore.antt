@@ -3,10 +3,10 @@ use Rattle.std.proofs.Common.{◌≡◌, ℕ, ◌+◌, ◌<◌, false, if◌then
 use Rattle.std.proofs.Common.{◌++◌, drop, get_or, length, map, sym, ap, ◌∙◌, subst, arith}
 use Rattle.std.proofs.Math.Path.{fun_ext}
 use Rattle.std.proofs.lemmas.List.{drop_more, length_push}
-use Rattle.hep_order.specs.Clocks.{Clock, Clocks as AllClocks, clock_before, clocks_after, joined, ticked, zero_clocks}
-use Rattle.hep_order.specs.Detector.{detector_after, detector_after_accesses, detector_from, racing_by_clock, with_access}
-use Rattle.hep_order.specs.Events.{Event, is_made}
-use Rattle.hep_order.specs.Races.{StepAccess as AStepAccess, with_pairs}
+use Rattle.hep_accesses.specs.Clocks.{Clock, Clocks as AllClocks, clock_before, clocks_after, joined, ticked, zero_clocks}
+use Rattle.hep_accesses.specs.Detector.{detector_after, detector_after_accesses, detector_from, racing_by_clock, with_access}
+use Rattle.hep_accesses.specs.Events.{Event, is_made}
+use Rattle.hep_accesses.specs.Races.{StepAccess as AStepAccess, with_pairs}
 use Rattle.hep_races.specs.declared.detector.Detector.{Detector}
 use Rattle.hep_races.specs.declared.event.Access.{Access}
 use Rattle.hep_races.specs.declared.storage_unit.StorageUnit.{StorageUnit}

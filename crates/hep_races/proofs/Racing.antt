@@ -5,10 +5,10 @@ use Rattle.std.proofs.Common.{refl, sym, ap, ◌∙◌, append-nil}
 use Rattle.std.specs.List.{filter, list_any}
 use Rattle.std.proofs.lemmas.List.{map-append, take_more}
 use Rattle.std.proofs.lemmas.List.Elements.{filter-append}
-use Rattle.hep_order.specs.Clocks.{Clock}
-use Rattle.hep_order.specs.Detector.{is_racing_by_clock, racing_by_clock}
-use Rattle.hep_order.specs.Firsts.{first_of_each}
-use Rattle.hep_order.specs.Races.{Row as ARow, StepAccess as AStepAccess, from_same_site, with_pair, with_pairs}
+use Rattle.hep_accesses.specs.Clocks.{Clock}
+use Rattle.hep_accesses.specs.Detector.{is_racing_by_clock, racing_by_clock}
+use Rattle.hep_accesses.specs.Firsts.{first_of_each}
+use Rattle.hep_accesses.specs.Races.{Row as ARow, StepAccess as AStepAccess, from_same_site, with_pair, with_pairs}
 use Rattle.hep_races.specs.declared.event.StepAccess.{StepAccess}
 use Rattle.hep_races.specs.declared.storage_unit.StorageUnit.{StorageUnit}
 use Rattle.hep_races.specs.LatestRaces.{is_latest_race, is_race, rows_with_races}

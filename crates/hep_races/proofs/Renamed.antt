@@ -3,12 +3,12 @@ use mathlib.Core.Bool.{beq}
 use Rattle.std.proofs.Common.{◌≡◌, ℕ, ◌+◌, suc, Bool, true, false, not, ◌&&◌, ◌||◌, cond, if◌then◌else◌, nat_eq, nat_le, List, [], ◌∷◌}
 use Rattle.std.proofs.Common.{Option, Some, None, refl, sym, ap, subst}
 use Rattle.std.specs.List.{AllZip, filter}
-use Rattle.hep_order.specs.Clocks.{Clock, Clocks, clock_before, clock_of_need, clocks_after, joined, ticked, zero_clocks}
-use Rattle.hep_order.specs.Detector.{Detector, Table, detector_after, detector_after_accesses, detector_from, is_racing_by_clock}
-use Rattle.hep_order.specs.Detector.{is_repeated, racing_by_clock, rows_by_clocks, with_access}
-use Rattle.hep_order.specs.Events.{Access, Event, is_made}
-use Rattle.hep_order.specs.Firsts.{first_of_each}
-use Rattle.hep_order.specs.Races.{Row, StepAccess, conflicts, from_same_site, is_row_of, with_pair, with_pairs}
+use Rattle.hep_accesses.specs.Clocks.{Clock, Clocks, clock_before, clock_of_need, clocks_after, joined, ticked, zero_clocks}
+use Rattle.hep_accesses.specs.Detector.{Detector, Table, detector_after, detector_after_accesses, detector_from, is_racing_by_clock}
+use Rattle.hep_accesses.specs.Detector.{is_repeated, racing_by_clock, rows_by_clocks, with_access}
+use Rattle.hep_accesses.specs.Events.{Access, Event, is_made}
+use Rattle.hep_accesses.specs.Firsts.{first_of_each}
+use Rattle.hep_accesses.specs.Races.{Row, StepAccess, conflicts, from_same_site, is_row_of, with_pair, with_pairs}
 use Rattle.hep_races.specs.Renamings.{AreTestsKept, IsRenamedAccess, IsRenamedEvent, IsRenamedNeed, IsRenamedRow, IsRenamedStep, Renaming}
 
 -- ---- lists, element by element

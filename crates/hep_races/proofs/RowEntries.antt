@@ -3,7 +3,7 @@ use Rattle.std.proofs.Common.{◌≡◌, Bool, true, false, cond, nat_eq, List, 
 use Rattle.std.proofs.lemmas.Bool.{true≢false, false≢true}
 use Rattle.std.specs.Map.{lookup, values_of}
 use Rattle.indexmap.specs.IndexMap.{insert_entry}
-use Rattle.hep_order.specs.Races.{is_row_of, with_pair}
+use Rattle.hep_accesses.specs.Races.{is_row_of, with_pair}
 use Rattle.hep_races.specs.declared.event.StepAccess.{StepAccess}
 use Rattle.hep_races.specs.declared.rows.Row.{Row}
 use Rattle.hep_races.specs.declared.rows.SitePair.{SitePair}

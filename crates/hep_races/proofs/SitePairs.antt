@@ -3,8 +3,8 @@ use mathlib.Core.Bool.{beq}
 use Rattle.std.proofs.Common.{◌≡◌, inl, inr, ◌⊎◌, ℕ, ◌+◌, ◌*◌, Bool, true, false, ◌&&◌, ◌||◌, if◌then◌else◌, nat_eq, min, max, refl, arith}
 use Rattle.std.proofs.lemmas.Bool.{and_from, and_parts, cases_eq, eqb-true, eq-eqb, or_cases, or_left, or_right}
 use Rattle.std.proofs.lemmas.Bool.Decides.{same_from_decides}
-use Rattle.hep_order.specs.Races.{is_row_of}
-use Rattle.hep_order.proofs.Sites.{stores-same}
+use Rattle.hep_accesses.specs.Races.{is_row_of}
+use Rattle.hep_accesses.proofs.Sites.{stores-same}
 use Rattle.hep_races.specs.declared.event.StepAccess.{StepAccess}
 use Rattle.hep_races.specs.declared.rows.Row.{Row}
 use Rattle.hep_races.specs.LatestRaces.{share_site}

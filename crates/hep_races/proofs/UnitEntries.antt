@@ -3,8 +3,8 @@ use Rattle.std.proofs.Common.{◌≡◌, ℕ, Bool, true, false, not, ◌&&◌, 
 use Rattle.std.specs.Global.{Vec}
 use Rattle.std.specs.List.{filter}
 use Rattle.std.proofs.lemmas.Bool.{and_parts, eqb-true}
-use Rattle.hep_order.specs.Detector.{is_repeated, with_access}
-use Rattle.hep_order.specs.Races.{StepAccess as AStepAccess}
+use Rattle.hep_accesses.specs.Detector.{is_repeated, with_access}
+use Rattle.hep_accesses.specs.Races.{StepAccess as AStepAccess}
 use Rattle.hep_races.specs.declared.event.StepAccess.{StepAccess}
 use Rattle.hep_races.specs.declared.storage_unit.StorageUnit.{StorageUnit}
 use Rattle.hep_races.specs.Observed.{step_access_in, unit_eq}

@@ -1,8 +1,8 @@
 -- What a detector has observed: docs/MACHINE.md, "The order of steps".
 use Rattle.std.specs.Prelude.{◌≡◌, ℕ, nat_eq, List, [], length}
-use Rattle.hep_order.specs.Clocks.{zero_clocks}
-use Rattle.hep_order.specs.Detector.{Detector as ADetector, detector_from}
-use Rattle.hep_order.specs.Events.{Event as AnEvent}
+use Rattle.hep_accesses.specs.Clocks.{zero_clocks}
+use Rattle.hep_accesses.specs.Detector.{Detector as ADetector, detector_from}
+use Rattle.hep_accesses.specs.Events.{Event as AnEvent}
 use Rattle.hep_races.specs.declared.detector.Detector.{Detector}
 use Rattle.hep_races.specs.declared.storage_unit.StorageUnit.{StorageUnit}
 use Rattle.hep_races.specs.Observed.{unit_eq}

@@ -1,9 +1,9 @@
 -- The races of one access with the latest ones at its storage unit: docs/MACHINE.md, "The order of steps".
 use Rattle.std.specs.Prelude.{ℕ, Bool, ◌&&◌, not, nat_eq, List, map}
 use Rattle.std.specs.List.{list_any}
-use Rattle.hep_order.specs.Clocks.{Clock}
-use Rattle.hep_order.specs.Detector.{is_racing_by_clock, racing_by_clock}
-use Rattle.hep_order.specs.Races.{Row as ARow, from_same_site, with_pairs}
+use Rattle.hep_accesses.specs.Clocks.{Clock}
+use Rattle.hep_accesses.specs.Detector.{is_racing_by_clock, racing_by_clock}
+use Rattle.hep_accesses.specs.Races.{Row as ARow, from_same_site, with_pairs}
 use Rattle.hep_races.specs.declared.event.StepAccess.{StepAccess}
 use Rattle.hep_races.specs.declared.storage_unit.StorageUnit.{StorageUnit}
 use Rattle.hep_races.specs.Observed.{step_access_in, unit_eq}

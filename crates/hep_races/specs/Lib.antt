@@ -9,3 +9,7 @@ pub mod EntryNumbers
 pub mod RaceLines
 pub mod SeenRaces
 pub mod Races
+pub mod StepChanges
+pub mod StoragePlaces
+pub mod FullUnits
+pub mod StepEvents

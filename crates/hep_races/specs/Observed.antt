@@ -1,8 +1,8 @@
 -- The steps of a run, as the detector reads them, as events: docs/MACHINE.md, "The order of steps".
 use Rattle.std.specs.Prelude.{ℕ, Bool, ◌&&◌, nat_eq, map}
 use Rattle.std.specs.List.{list_any}
-use Rattle.hep_order.specs.Events.{Access as AnAccess, Event as AnEvent}
-use Rattle.hep_order.specs.Races.{Row as ARow, StepAccess as AStepAccess}
+use Rattle.hep_accesses.specs.Events.{Access as AnAccess, Event as AnEvent}
+use Rattle.hep_accesses.specs.Races.{Row as ARow, StepAccess as AStepAccess}
 use Rattle.hep_races.specs.declared.event.Access.{Access}
 use Rattle.hep_races.specs.declared.event.StepAccess.{StepAccess}
 use Rattle.hep_races.specs.declared.event.StepEvent.{StepEvent}

@@ -7,7 +7,7 @@ use Rattle.hep_source.specs.declared.statement.Form.{Form}
 use Rattle.hep_source.specs.declared.statement.Form.TheVariants as form
 use Rattle.hep_source.specs.declared.statement.Statement.{Statement}
 use Rattle.hep_source.specs.Names.{same_name}
-use Rattle.hep_order.specs.Races.{Row, StepAccess}
+use Rattle.hep_accesses.specs.Races.{Row, StepAccess}
 
 -- ---- the end of a DO: X3.9-1978, 11.10.6
 

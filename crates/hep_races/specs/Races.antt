@@ -1,7 +1,7 @@
 -- The races of a run as lines: docs/RUNS.md, "Races of a run".
 use Rattle.std.specs.Prelude.{ℕ, List}
 use Rattle.hep_accesses.specs.Accesses.{Site}
-use Rattle.hep_accesses.specs.Events.{races_of}
+use Rattle.hep_accesses.specs.RunEvents.{races_of}
 use Rattle.hep_machine.specs.declared.event.Entry.{Entry}
 use Rattle.hep_machine.specs.Words.{Location, Units, schedule_of, spelling, state_after, unit_at, unit_name}
 use Rattle.hep_state_text.specs.States.{place_text}

@@ -1,8 +1,8 @@
 -- Runs in which storage units and sites have other names: docs/MACHINE.md, "The order of steps".
 use Rattle.std.specs.Prelude.{◌≡◌, Bool, true, Option, Some, None}
 use Rattle.std.specs.List.{AllZip}
-use Rattle.hep_order.specs.Events.{Access, Event}
-use Rattle.hep_order.specs.Races.{Row, StepAccess}
+use Rattle.hep_accesses.specs.Events.{Access, Event}
+use Rattle.hep_accesses.specs.Races.{Row, StepAccess}
 
 -- the names of full/empty storage units, of plain ones, and of sites: which name on the right is one for which name on the left
 pub record Renaming (L M S T : Type 0) : Type 1 where

@@ -11,7 +11,7 @@ use Rattle.hep_views.specs.declared.place.Place.{Place}
 use Rattle.hep_races.specs.EntryNumbers.{entry_of}
 use Rattle.hep_races.specs.RaceLines.{RowWords, SiteWords, ends_loop}
 use Rattle.hep_races.specs.declared.race_lines.RaceSources.{RaceSources}
-use Rattle.hep_races.specs.declared.site.AccessSite.{AccessSite}
+use Rattle.hep_races.specs.declared.step_access.AccessSite.{AccessSite}
 use Rattle.hep_races.specs.declared.storage_unit.StorageUnit.{StorageUnit}
 
 abbrev pub place_of_unit : StorageUnit → Place

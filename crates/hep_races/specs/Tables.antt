@@ -2,9 +2,9 @@
 use Rattle.std.specs.Prelude.{ℕ, List, [], map, Option, Some, None}
 use Rattle.std.specs.Global.{Vec}
 use Rattle.indexmap.specs.IndexMap.{IndexMap, get}
-use Rattle.hep_order.specs.Clocks.{Clocks as AllClocks}
-use Rattle.hep_order.specs.Detector.{Detector as ADetector}
-use Rattle.hep_order.specs.Races.{StepAccess as AStepAccess}
+use Rattle.hep_accesses.specs.Clocks.{Clocks as AllClocks}
+use Rattle.hep_accesses.specs.Detector.{Detector as ADetector}
+use Rattle.hep_accesses.specs.Races.{StepAccess as AStepAccess}
 use Rattle.hep_races.specs.declared.event.StepAccess.{StepAccess}
 use Rattle.hep_races.specs.declared.storage_unit.StorageUnit.{StorageUnit}
 use Rattle.hep_races.specs.declared.table.RaceTable.{RaceTable}

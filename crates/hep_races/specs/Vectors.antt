@@ -2,7 +2,7 @@
 use Rattle.std.specs.Prelude.{ℕ, List, get_or, Option, Some, None, slice_get}
 use Rattle.std.specs.Global.{Vec}
 use Rattle.indexmap.specs.IndexMap.{IndexMap, get}
-use Rattle.hep_order.specs.Clocks.{Clock, Clocks as AllClocks, zero_clock}
+use Rattle.hep_accesses.specs.Clocks.{Clock, Clocks as AllClocks, zero_clock}
 use Rattle.hep_races.specs.declared.clocks.Clocks.{Clocks}
 use Rattle.hep_races.specs.declared.storage_unit.StorageUnit.{StorageUnit}
 use Rattle.hep_races.specs.Observed.{unit_eq}

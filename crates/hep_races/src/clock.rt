@@ -1,7 +1,7 @@
 //! One vector clock.
 ghost use Rattle.std.specs.Prelude.{◌≡◌, ◌≤◌, ℕ, suc, length, nat_le, OnOk};
 ghost use Rattle.hep_races.specs.Vectors.{clock_in};
-ghost use Rattle.hep_order.specs.Clocks.{joined, ticked};
+ghost use Rattle.hep_accesses.specs.Clocks.{joined, ticked};
 
 use crate::numbers::successor;
 use std::alloc::AllocError;

@@ -1,8 +1,8 @@
 //! The clocks of processes, and those that changes of full/empty storage units left.
 ghost use Rattle.std.specs.Prelude.{◌≡◌, ℕ, ◌<◌, length, OnOk, IfOk, if◌then◌else◌, nat_eq, false};
 ghost use Rattle.std.specs.List.{list_any};
-ghost use Rattle.hep_order.specs.Clocks.{clock_before, clock_of_need, joined};
-ghost use Rattle.hep_order.specs.Events.{is_made};
+ghost use Rattle.hep_accesses.specs.Clocks.{clock_before, clock_of_need, joined};
+ghost use Rattle.hep_accesses.specs.Events.{is_made};
 ghost use Rattle.hep_races.specs.declared.storage_unit.StorageUnit.{StorageUnit as PureUnit};
 ghost use Rattle.hep_races.specs.Observed.{event_in, unit_eq};
 ghost use Rattle.hep_races.specs.Vectors.{clock_in, clock_of_process, clock_of_unit, clocks_in};

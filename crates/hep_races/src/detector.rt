@@ -1,7 +1,7 @@
 //! The detector of races.
 ghost use Rattle.std.specs.Prelude.{◌≡◌, ℕ, [], ◌∷◌, ◌++◌, List, OnOk, map, nat_eq};
-ghost use Rattle.hep_order.specs.Detector.{rows_by_clocks};
-ghost use Rattle.hep_order.specs.Events.{Event as AnEvent};
+ghost use Rattle.hep_accesses.specs.Detector.{rows_by_clocks};
+ghost use Rattle.hep_accesses.specs.Events.{Event as AnEvent};
 ghost use Rattle.hep_races.specs.declared.storage_unit.StorageUnit.{StorageUnit as PureUnit};
 ghost use Rattle.hep_races.specs.Detectors.{IsDetectorOf};
 ghost use Rattle.hep_races.specs.Observed.{event_in, row_in, unit_eq};

@@ -2,8 +2,8 @@
 //! since a clause can't speak of all types; what answers the law, in `proofs/Renamed`, is of any type.
 ghost use Rattle.std.specs.Prelude.{ℕ, Bool, List};
 ghost use Rattle.std.specs.List.{AllZip};
-ghost use Rattle.hep_order.specs.Detector.{rows_by_clocks};
-ghost use Rattle.hep_order.specs.Events.{Event};
+ghost use Rattle.hep_accesses.specs.Detector.{rows_by_clocks};
+ghost use Rattle.hep_accesses.specs.Events.{Event};
 ghost use Rattle.hep_races.specs.Renamings.{AreTestsKept, IsRenamedEvent, IsRenamedRow, renaming_by};
 
 /// Where the storage units and sites of a run have other names, and the tests take the same of them for one, the rows are the same

@@ -1,4 +1,5 @@
-//! Races of a run: vector clocks, the detector of races over them, and the lines of the races that it finds.
+//! Races of a run: what each step accesses, needs and changes, read from a machine before the step and after it ([`look_ahead`]); vector
+//! clocks, and the detector of races over them ([`Detector`]); and the lines of the races that it finds.
 //!
 //! A clock is a vector with, for each process, the number of its latest step that is known, counted from 1 over the whole run, and 0
 //! where none is.
@@ -9,18 +10,25 @@ mod clocks;
 mod detector;
 mod entry_number;
 mod event;
+pub mod event_laws;
 pub mod laws;
 mod numbers;
+pub mod place_laws;
+mod purged_places;
 pub mod race_lines;
 mod races;
 mod rows;
-mod site;
+pub mod step_access;
+pub mod step_event;
 mod storage_unit;
 mod table;
+pub mod unit_names;
 
 pub use detector::Detector;
 pub use event::{Access, StepAccess, StepEvent};
 pub use race_lines::{RaceSources, append_rows};
 pub use rows::Row;
-pub use site::AccessSite;
+pub use step_access::{AccessSite, SitedAccess};
+pub use step_event::{ObservedStep, look_ahead};
 pub use storage_unit::StorageUnit;
+pub use unit_names::UnitNames;

@@ -9,7 +9,7 @@ ghost use Rattle.hep_state_text.specs.WaitTexts.{place_seen};
 use crate::entry_number::entry_number;
 use crate::event::StepAccess;
 use crate::rows::Row;
-use crate::site::AccessSite;
+use crate::step_access::AccessSite;
 use crate::storage_unit::StorageUnit;
 use hep_event::name_of;
 use hep_image::Image;

@@ -1,8 +1,8 @@
 //! The races of one access with earlier ones.
 ghost use Rattle.std.specs.Prelude.{◌≡◌, ℕ, ◌+◌, ◌<◌, ◌&&◌, not, ◌∷◌, List, length, OnOk, map, nat_eq, take};
 ghost use Rattle.std.specs.List.{filter};
-ghost use Rattle.hep_order.specs.Detector.{is_repeated};
-ghost use Rattle.hep_order.specs.Races.{Row as ARow, conflicts};
+ghost use Rattle.hep_accesses.specs.Detector.{is_repeated};
+ghost use Rattle.hep_accesses.specs.Races.{Row as ARow, conflicts};
 ghost use Rattle.hep_races.specs.declared.storage_unit.StorageUnit.{StorageUnit as PureUnit};
 ghost use Rattle.hep_races.specs.LatestRaces.{has_race_from, is_latest_race, is_race, rows_with_races, share_site};
 ghost use Rattle.hep_races.specs.Observed.{access_in, row_in, step_access_in, unit_eq};

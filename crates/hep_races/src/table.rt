@@ -1,8 +1,8 @@
 //! The latest accesses at each storage unit, and the rows of races.
 ghost use Rattle.std.specs.Prelude.{◌≡◌, ◌<◌, [], OnOk, map, nat_eq};
-ghost use Rattle.hep_order.specs.Clocks.{Clocks as AllClocks};
-ghost use Rattle.hep_order.specs.Detector.{detector_after_accesses, racing_by_clock, with_access};
-ghost use Rattle.hep_order.specs.Races.{with_pairs};
+ghost use Rattle.hep_accesses.specs.Clocks.{Clocks as AllClocks};
+ghost use Rattle.hep_accesses.specs.Detector.{detector_after_accesses, racing_by_clock, with_access};
+ghost use Rattle.hep_accesses.specs.Races.{with_pairs};
 ghost use Rattle.hep_races.specs.declared.storage_unit.StorageUnit.{StorageUnit as PureUnit};
 ghost use Rattle.hep_races.specs.Observed.{event_in, row_in, step_access_in, unit_eq};
 ghost use Rattle.hep_races.specs.Tables.{accesses_at, detector_with};

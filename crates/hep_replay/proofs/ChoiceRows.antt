@@ -1,5 +1,5 @@
 -- The choices of entries that are the same, and of one run after the other.
-use Rattle.std.proofs.Common.{◌≡◌, ℕ, zero, suc, ◌+◌, ◌*◌, ◌≤◌, List, ◌∷◌, ◌++◌, refl, sym, ap, ◌∙◌, arith, replicate, append_assoc}
+use Rattle.std.proofs.Common.{◌≡◌, ℕ, zero, suc, ◌+◌, ◌*◌, List, ◌∷◌, ◌++◌, sym, ap, ◌∙◌, arith, replicate, append_assoc}
 use Rattle.std.proofs.Math.Nat.{suc-mul}
 use Rattle.std.proofs.lemmas.Grind.{flat_map-append}
 use Rattle.std.proofs.lemmas.List.{replicate-append-replicate}
@@ -7,13 +7,6 @@ use Rattle.hep_machine.specs.declared.event.Entry.{Entry}
 use Rattle.hep_history.specs.declared.run.Run.{Run}
 use Rattle.hep_history.specs.Runs.{entries_of, entry_of}
 use Rattle.hep_replay.specs.HistoryChoices.{choices_for, choices_in, times_for}
-
-pub times-none : (steps : ℕ) → steps ≡ 0 → 1 ≡ times_for steps
-times-none steps none = sym (ap times_for none)
-
-pub times-some : (steps : ℕ) → 1 ≤ steps → steps ≡ times_for steps
-times-some zero some = absurd (omega (arith, some))
-times-some (suc n) some = refl
 
 choices-alike : (e : Entry) (n : ℕ) → choices_in (replicate n e) ≡ replicate (n * times_for e.steps) e.process
 choices-alike e zero = let none : 0 ≡ 0 * times_for e.steps = omega arith in ap (λ k. replicate k e.process) none

@@ -1,7 +1,7 @@
--- Runs of a source that are counted: none, and one more behind others.
+-- Runs of a source that are counted: one more after others.
 use Rattle.std.proofs.Common.{◌≡◌, ℕ, zero, suc, ◌+◌, ◌<◌, Bool, List, [], ◌∷◌, ◌++◌, length, length-append, Some, refl, sym, ap, ◌∙◌, subst, arith, inl, inr, slice_get}
 use Rattle.std.proofs.lemmas.Bool.{cases_lt}
-use Rattle.std.proofs.lemmas.Option.{none-some, same_Some, slice_get_within}
+use Rattle.std.proofs.lemmas.Option.{same_Some, slice_get_within}
 use Rattle.hep_outcome.specs.declared.options.SampleOptions.{SampleOptions}
 use Rattle.hep_outcome.specs.Outcome.{Outcome}
 use Rattle.hep_outcome.specs.Tallies.{Tally, counted, nth_seed, tallied, tally_of}
@@ -17,11 +17,7 @@ last : (xs : List Outcome) (y : Outcome) → slice_get (xs ++ y ∷ []) (length 
 last [] y = refl
 last (x ∷ xs) y = last xs y
 
--- no run yet
-pub tallied-none : (long : Bool) (options : SampleOptions) (source : List ℕ) → IsTallied long options source 0 []
-tallied-none long options source = ([], record { count = refl; each = λ i o at. absurd (none-some o at) }, refl)
-
--- and one run more
+-- one run more
 pub tallied-run : (long : Bool) (options : SampleOptions) (source : List ℕ) (n : ℕ) (ts : List Tally) (o : Outcome) → IsTallied long options source n ts
     → IsNthOutcome long options source n o → IsTallied long options source (n + 1) (counted (tally_of (nth_seed options.seed n) o) ts)
 tallied-run long options source n ts o (os, are, is) run = (

@@ -31,12 +31,12 @@ use Rattle.hep_step.specs.declared.dummy_storage.DummyStorage.TheVariants as giv
 use Rattle.hep_step.specs.ArgumentPassing.{given_by}
 use Rattle.hep_step.specs.Shapes.{AreShapesOf}
 use Rattle.hep_step.specs.Effects.{fails}
-use Rattle.hep_step.proofs.SilentOperations.{passed_last}
+use Rattle.hep_step.proofs.Operations.{passed_last}
 use Rattle.hep_binding.specs.AcceptedLawsActuals.{FitsDummy, IsVariableOf}
 use Rattle.hep_binding.specs.Calling.{AreActualsPassed, CallOf, IsPassed, IsPassing, caller, state_before_call, state_made_by}
 use Rattle.hep_state.proofs.TopActivations.{there-too}
 use Rattle.std.proofs.lemmas.Option.{slice_get_within}
-use Rattle.hep_code.proofs.NextOperation.{drop_one_more}
+use Rattle.hep_code.proofs.ControlFlow.{drop_one_more}
 use Rattle.hep_proc.specs.Nodes.{nodes_of}
 use Rattle.hep_step.specs.declared.frame.Frame.{Frame as CellFrame}
 use Rattle.hep_step.specs.StepReady.{frame_in_arena}

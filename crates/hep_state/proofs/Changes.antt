@@ -13,16 +13,14 @@ use Rattle.hep_code.specs.declared.instruction.Instruction.{Instruction}
 use Rattle.hep_code.specs.declared.instruction.Instruction.TheVariants.{Step}
 use Rattle.hep_code.specs.declared.instruction.Operation.{Operation}
 use Rattle.hep_code.specs.Words.{IsPastPushes}
-use Rattle.hep_code.proofs.NextOperation.{step_is_ahead}
+use Rattle.hep_code.proofs.ControlFlow.{step_is_ahead}
 use Rattle.hep_step.specs.declared.effect.Effect.{Effect}
-use Rattle.hep_step.specs.Changes.{AreChanged, changed_ahead, changed_at, may_change}
 use Rattle.hep_step.specs.Effects as effects
-use Rattle.hep_step.specs.Effects.{effect_ahead, effect_at}
+use Rattle.hep_step.specs.Effects.{effect_ahead, effect_at, AreChanged, changed_ahead, changed_at, may_change}
 use Rattle.hep_step.specs.PerformedSteps as performed
 use Rattle.hep_step.specs.PerformedSteps.{changed_in, performed as done, snapshot}
 use Rattle.hep_step.specs.Simulation.{IsNotLeftOut, RunningTop, addressed_on_top, arrays_running, code_on_top, code_running, unit_arrays, unit_code, unit_running}
-use Rattle.hep_step.proofs.Changes.{changes-told, none-changed, none-told}
-use Rattle.hep_step.proofs.Operations.{operation_simulated}
+use Rattle.hep_step.proofs.Operations.{operation_simulated, changes-told, none-changed, none-told}
 use Rattle.hep_step.proofs.RunningActivations.{Comes, coming, next_is, scope_running}
 use Rattle.hep_state.specs.Words.{Changes, IsTopRunning, IsTurning, TurnOf, running_top, state_before, top_before, top_frame}
 use Rattle.hep_state.proofs.SilentTurns.{unit-is}

@@ -10,8 +10,7 @@ use Rattle.hep_code.specs.declared.instruction.Instruction.TheVariants.{Step}
 use Rattle.hep_code.specs.declared.instruction.Operation.{Operation}
 use Rattle.hep_code.specs.declared.instruction.Operation.TheVariants.{Answer}
 use Rattle.hep_image.specs.Addressing.{address_of, cells_in}
-use Rattle.hep_step.specs.Changes.{changed_ahead}
-use Rattle.hep_step.specs.Effects.{Effect, answers, effect_ahead, effect_of_answer, fails, value_found}
+use Rattle.hep_step.specs.Effects.{Effect, answers, effect_ahead, effect_of_answer, fails, value_found, changed_ahead}
 use Rattle.hep_step.specs.PerformedSteps.{Snapshot as Standing, changed_in, performed, snapshot}
 use Rattle.hep_step.specs.Simulation.{unit_arrays, unit_code}
 use Rattle.hep_state.specs.declared.next_step.NextFunctionReturn.{NextFunctionReturn}

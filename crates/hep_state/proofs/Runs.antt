@@ -48,10 +48,6 @@ placing-last : (program : Units) (cells : ℕ) (x : Placing) (p : ℕ) → placi
 unfolding placing_from
 placing-last program cells x p = refl
 
-run-is : (program : Units) (choices : List ℕ) → run_from program (opening program) choices ≡ run program choices
-unfolding run
-run-is program choices = refl
-
 -- where a frame had no gap, there is none from there on
 placing-none : (program : Units) (cells : ℕ) (x : Placing) (ps : List ℕ) → x.layout ≡ None → (placing_from program cells is_held x ps).layout ≡ None
 unfolding placing_from

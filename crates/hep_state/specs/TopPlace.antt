@@ -8,8 +8,7 @@ use Rattle.hep_image.specs.declared.unit.UnitCode.{UnitCode}
 use Rattle.hep_image.specs.Image.{IsUnitCode}
 use Rattle.hep_step.specs.declared.effect.Effect.{Effect}
 use Rattle.hep_step.specs.declared.frame.Frame.{Frame as CellFrame}
-use Rattle.hep_step.specs.Changes.{changed_at}
-use Rattle.hep_step.specs.Effects.{effect_at}
+use Rattle.hep_step.specs.Effects.{effect_at, changed_at}
 use Rattle.hep_step.specs.PerformedSteps.{IsPerformed, snapshot}
 use Rattle.hep_step.specs.StepReady.{IsReady, frame_in_arena}
 use Rattle.hep_step.specs.Simulation.{unit_arrays, unit_code}

@@ -20,7 +20,6 @@ mod resume;
 mod top_code;
 pub mod top_place;
 mod turn;
-mod turn_end;
 
 pub use calling::CalledUnit;
 pub use core_state::{ArgumentBuffers, CoreState};

@@ -19,7 +19,7 @@ use Rattle.hep_state_text.specs.StoredVariables.{AreKeptFrom}
 use Rattle.hep_state_text.specs.Variables.{IsOwn}
 use Rattle.hep_state_text.specs.declared.common_variables.NamedBlock.{NamedBlock}
 use Rattle.hep_state_text.proofs.EqualCells.{before-is, block-holds, block-once}
-use Rattle.hep_common.proofs.Entries.{all-append}
+use Rattle.hep_storage.proofs.Entries.{all-append}
 
 module _ (program : Units) (s : State) (layout : Layout) (block : NamedBlock) (arena : Space) (h : IsBlockAt program s layout block arena) (i : ℕ) (d : Name) (less : i < length block.list.now) where
   abbrev unit : List Statement

@@ -1,8 +1,7 @@
 -- The unit in which a block is longest.
-use Rattle.std.proofs.Common.{◌≡◌, ℕ, ◌≤◌, List, [], ◌∷◌, nat_eq, Bool, true, false, if◌then◌else◌, ap, arith, slice_get, Some, Option}
+use Rattle.std.proofs.Common.{◌≡◌, ℕ, List, [], ◌∷◌, nat_eq, Bool, true, if◌then◌else◌, ap, slice_get, Some, Option}
 use Rattle.std.specs.Option.{unwrap_or}
-use Rattle.std.proofs.lemmas.Bool.{eqb-false}
-use Rattle.hep_machine.specs.Words.{BlockName, Statement, Units, block_cells, cells_of_all, names_in_block, unit_at}
+use Rattle.hep_machine.specs.Words.{BlockName, Statement, Units, cells_of_all, names_in_block, unit_at}
 use Rattle.hep_state_text.specs.States.{first_with}
 
 pub unit-is : (program : Units) (u : ℕ) (unit : List Statement) → slice_get program u ≡ Some unit → unit_at program u ≡ unit
@@ -14,11 +13,3 @@ length_in b unit = cells_of_all unit (names_in_block unit b)
 -- one that is as long as asked for is the first one
 pub longest-here : (b : BlockName) (n : ℕ) (unit : List Statement) (units : Units) → nat_eq (length_in b unit) n ≡ true → first_with n b (unit ∷ units) ≡ unit
 longest-here b n unit units t = ap (λ (z : Bool). if z then unit else first_with n b units) t
-
-pub longest-later : (b : BlockName) (n : ℕ) (unit : List Statement) (units : Units) → nat_eq (length_in b unit) n ≡ false → first_with n b (unit ∷ units) ≡ first_with n b units
-longest-later b n unit units t = ap (λ (z : Bool). if z then unit else first_with n b units) t
-
-pub longer-later : (b : BlockName) (n : ℕ) (unit : List Statement) (units : Units) → block_cells (unit ∷ units) b ≡ n → nat_eq (length_in b unit) n ≡ false → (block_cells units b ≡ n) × (1 ≤ n)
-longer-later b n unit units e t =
-    let other = eqb-false (length_in b unit) n t in
-    (omega (arith, e, other), omega (arith, e, other))

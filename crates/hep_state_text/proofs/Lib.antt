@@ -9,7 +9,6 @@ mod Extents
 mod HeldKeys
 mod NodeKeys
 mod Locals
-mod Named
 mod Owned
 mod Running
 mod Slots

@@ -1,5 +1,5 @@
 -- Keys that are noted by the numbers of activations.
-use Rattle.std.proofs.Common.{◌≡◌, inl, inr, ◌⊎◌, ℕ, zero, suc, ◌+◌, ◌-◌, ◌<◌, ◌≤◌, Bool, true, false, List, [], ◌∷◌, ◌++◌, length, Option, Some, None, refl, sym, ap, ◌∙◌, subst, arith, if◌then◌else◌, nat_eq, slice_get, slice_set, replicate, get_or}
+use Rattle.std.proofs.Common.{◌≡◌, inl, inr, ◌⊎◌, ℕ, zero, suc, ◌+◌, ◌-◌, ◌<◌, ◌≤◌, Bool, true, false, List, [], ◌∷◌, ◌++◌, length, Option, Some, None, refl, sym, ap, ◌∙◌, subst, arith, if◌then◌else◌, nat_eq, slice_get, slice_set, get_or}
 use Rattle.std.specs.Option.{option_map_or, option_or}
 use Rattle.std.specs.List.{flat_map}
 use Rattle.std.proofs.lemmas.Bool.{cases_Bool, eqb-true, eqb-false}
@@ -42,17 +42,6 @@ module _ (keys : List (Option ℕ)) (j key : ℕ) where
 
 pub stay-both : (a b c : List (Option ℕ)) → StayNoted a b → StayNoted b c → StayNoted a c
 stay-both a b c h k = record { count = k.count ∙ h.count; still = λ i n. k.still i (h.still i n) }
-
-pub stay-self : (a : List (Option ℕ)) → StayNoted a a
-stay-self a = record { count = refl; still = λ i n. n }
-
-no-key : (n i k : ℕ) → slice_get (replicate n None) i ≡ Some (Some k) → ⊥
-no-key zero i k e = none-some (Some k) e
-no-key (suc n) zero k e = none-some k (same_Some None (Some k) e)
-no-key (suc n) (suc i) k e = no-key n i k e
-
-pub none-noted : (nodes : Nodes) (n : ℕ) → AreKeys nodes (replicate n None)
-none-noted nodes n i k e = absurd (no-key n i k e)
 
 -- ---- the parent of one that is noted
 

@@ -6,7 +6,7 @@ ghost use Rattle.hep_machine.specs.Words.{block_cells, cells_of_all, constant_va
 ghost use Rattle.hep_state_text.specs.States as words;
 
 use crate::names::UnitSymbols;
-use hep_names::declarators::{add_declared, block_of, blocks_in};
+use hep_names::specification::{add_declared, block_of, blocks_in};
 use hep_names::{ProgramSymbols, Symbols};
 use hep_source::{CommonBlock, Name, Statement};
 use hep_values::cells_of;

@@ -1,9 +1,7 @@
-pub mod Changes
 pub mod Elements
 pub mod WorkedAddresses
 pub mod RunningActivations
 pub mod IterationCounts
-pub mod SilentOperations
 pub mod ReplySteps
 pub mod Frames
 pub mod Items

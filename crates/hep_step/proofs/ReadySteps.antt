@@ -24,8 +24,8 @@ use Rattle.hep_image.proofs.Variables.{frame-reached, reached}
 use Rattle.hep_image.proofs.FrameBounds.{loop-within, variable-within}
 use Rattle.hep_step.specs.Cells.{HasFrame, IsReached}
 use Rattle.hep_step.specs.Replies.{accessed_by}
-use Rattle.hep_step.specs.Effects.{subscripts_in}
-use Rattle.hep_step.specs.StepReady.{IsAheadReady, IsEvaluationReady, IsLoopReady, IsOperationReady, IsReady, IsVariableReady, frame_in_arena, last_operands}
+use Rattle.hep_step.specs.Effects.{subscripts_in, last_operands}
+use Rattle.hep_step.specs.StepReady.{IsAheadReady, IsEvaluationReady, IsLoopReady, IsOperationReady, IsReady, IsVariableReady, frame_in_arena}
 use Rattle.hep_step.specs.Simulation.{IsRunning, RunningTop, addressed_on_top, arrays_running, code_ahead, code_running, unit_running, variable_in}
 use Rattle.hep_step.proofs.ReplySteps.{arity_is, assigns, in_front, no_action}
 use Rattle.hep_step.proofs.RunningActivations.{Comes, coming, found_running, next_is, no_end, scope_running}

@@ -10,7 +10,7 @@ use Rattle.hep_code.specs.declared.instruction.Instruction.TheVariants.{Step}
 use Rattle.hep_code.specs.declared.instruction.Operation.TheVariants.{Evaluate, Store}
 use Rattle.hep_code.specs.declared.variable.Variable.{Variable}
 use Rattle.hep_code.specs.Words.{arity, evaluation_of, operands_of_redex, operation_of, operands_of_action, IsAddressedIn, reply_of, answer_to_store, reply_to_store, AddressedUnit, table_of, first_operand}
-use Rattle.hep_code.proofs.NextOperation.{next_is_ahead}
+use Rattle.hep_code.proofs.ControlFlow.{next_is_ahead}
 use Rattle.hep_code.proofs.Replies.{reply_is, assignment_is, stored_is}
 use Rattle.hep_layout.specs.Words.{address}
 use Rattle.hep_image.specs.Addressing.{cells_in}

@@ -18,7 +18,7 @@ use Rattle.hep_code.specs.declared.instruction.Instruction.TheVariants.{Step}
 use Rattle.hep_code.specs.declared.instruction.Operation.{Operation}
 use Rattle.hep_code.specs.declared.instruction.Operation.TheVariants.{Answer as Answering, Return}
 use Rattle.hep_code.specs.declared.variable.Variable.{Variable}
-use Rattle.hep_code.proofs.NextOperation.{next_is_ahead}
+use Rattle.hep_code.proofs.ControlFlow.{next_is_ahead}
 use Rattle.hep_code.proofs.CodePositions.{Keeps, StandsAt}
 
 module _ (program : Units) (t : Top) where

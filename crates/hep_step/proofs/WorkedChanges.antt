@@ -12,7 +12,7 @@ use Rattle.hep_code.specs.declared.variable.Variable.TheVariants.{Array as array
 use Rattle.hep_image.specs.declared.array.Array.{Array}
 use Rattle.hep_image.specs.declared.array.Extents.TheVariants.{Constant}
 use Rattle.hep_image.specs.declared.array.Start.TheVariants as start
-use Rattle.hep_step.specs.Changes.{changed_at}
+use Rattle.hep_step.specs.Effects.{changed_at}
 
 abbrev array : Array
 array = record { start = start.Local 0; extents = Constant (record { lower = pos 1; upper = Some (pos 3) } ∷ []) }

@@ -4,7 +4,6 @@ pub mod Effects
 pub mod Items
 pub mod PerformedSteps
 pub mod StepReady
-pub mod Changes
 pub mod Simulation
 pub mod NextCalls
 pub mod Resume
@@ -14,7 +13,6 @@ pub mod PassedEntries
 pub mod ReadyToPass
 pub mod ArgumentList
 pub mod Shapes
-pub mod Plain
 pub mod SilentSteps
 pub mod PurgedRanges
 pub mod PurgeEffects

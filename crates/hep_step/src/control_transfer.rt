@@ -3,7 +3,7 @@ ghost use Rattle.std.specs.Prelude.{◌≡◌, ◌+◌, ◌<◌, ◌≤◌, ◌^
 ghost use Rattle.hep_code.specs.ControlTransfer as moves;
 
 use crate::activation_state::ActivationState;
-use hep_code::{Instruction, Operation, control_transfer};
+use hep_code::{Instruction, Operation, instruction};
 
 /// The activation goes on at an index, with no operands.
 pub(crate) fn go_on(standing: &mut ActivationState, next: usize)
@@ -22,6 +22,6 @@ pub(crate) fn jump(entries: &[Instruction], operation: Operation, standing: &mut
     ensures index { standing.new.index ≡ moves.led_to operation entries.now standing.old.operands.items standing.old.index }
     ensures capacity { vec_capacity standing.old.operands ≤ vec_capacity standing.new.operands }
 {
-    let next = control_transfer::led_to(entries, standing.index, operation, &standing.operands);
+    let next = instruction::led_to(entries, standing.index, operation, &standing.operands);
     go_on(standing, next);
 }

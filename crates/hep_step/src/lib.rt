@@ -1,17 +1,16 @@
 //! One operation of a process: its operands, its effect on the arena, and the index that it leads to. Nothing here
 //! takes memory, except the record of a PRINT.
 //!
-//! - [`performing`] makes one operation. `specs/Replies` and `specs/Effects` say what each does; the contracts of
+//! - [`perform`] makes one operation. `specs/Replies` and `specs/Effects` say what each does; the contracts of
 //!   [`laws`] say that the source machine does the same.
-//! - [`by_reference`] and [`actual_arguments`] compute what the actual arguments of a CALL, CREATE or reference give; their laws are
-//!   in [`passing_laws`].
+//! - [`give_actuals`] and [`passed`] compute what the actual arguments of a CALL, CREATE or reference give; their laws
+//!   are in [`passing_laws`].
 //! - [`purging`] empties the cells of a PURGE (`docs/LANGUAGE.md`, 9).
 //! - [`move_on`] makes many steps of one activation in a row. They are *plain*: they read no variable with `$` and
 //!   assign to none, test no cell, print nothing, and begin and end no activation.
 #![tactic(auto)]
 
 mod activation_state;
-pub mod actual_arguments;
 pub mod addresses;
 pub mod argument_list;
 pub mod by_reference;
@@ -28,7 +27,6 @@ pub mod operands_in_front;
 pub mod passed_argument;
 pub mod passing_laws;
 pub mod performing;
-mod plain;
 mod printing;
 pub mod purge_laws;
 pub mod purged_ranges;
@@ -41,7 +39,6 @@ mod values;
 mod variable_access;
 
 pub use activation_state::ActivationState;
-pub use actual_arguments::give_actuals;
 pub use addresses::address;
 pub use argument_list::{ArgumentList, FromArgument, make_from_entries};
 pub use by_reference::passed;
@@ -60,8 +57,7 @@ pub use hep_shape::{Shape, element_among, is_open};
 pub use loops::parameters_among;
 pub use operands_in_front::in_front;
 pub use passed_argument::PassedArgument;
-pub use performing::perform;
-pub use plain::is_plain_operation;
+pub use performing::{give_actuals, is_plain_operation, perform};
 pub use purged_ranges::find_ranges;
 pub use purging::purge;
 pub use reply::{Reply, reply_of, reply_to_store};

@@ -1,21 +1,80 @@
-//! The next operation of an activation.
-ghost use Rattle.std.specs.Prelude.{◌≡◌, ◌<◌, ◌≤◌, ◌∷◌, IfOk, OnErr, MatchOption, drop, length, vec_capacity};
+//! The next operation of an activation, whether it is plain, and what the actual arguments of a CALL, a CREATE or a
+//! reference give (X3.9-1978, 15.9.3). A plain operation fills and empties no cell, and begins and ends no activation.
+ghost use Rattle.std.specs.Prelude.{◌≡◌, ◌<◌, ◌≤◌, ◌∷◌, Ok, Err, IfOk, IfErr, OnErr, MatchOption, drop, length, vec_capacity};
 ghost use Rattle.hep_code.specs.declared.instruction.Instruction.TheVariants.{Step};
-ghost use Rattle.hep_step.specs.Changes.{changed_at};
-ghost use Rattle.hep_step.specs.Effects.{effect_at};
+ghost use Rattle.hep_step.specs.ArgumentList.{AreAllPassable, made_of_all};
+ghost use Rattle.hep_step.specs.ArgumentPassing.{given_for};
+ghost use Rattle.hep_step.specs.Cells.{HasFrame};
+ghost use Rattle.hep_step.specs.Effects as effects;
+ghost use Rattle.hep_step.specs.Effects.{changed_at, effect_at};
 ghost use Rattle.hep_step.specs.PerformedSteps.{HasNoStep, HasPrint, IsPerformed, KeepsHoles, seen};
 ghost use Rattle.hep_step.specs.StepReady.{IsReady};
 
 use crate::activation_state::ActivationState;
+use crate::argument_list::{ArgumentList, FromArgument, make_from_entries};
+use crate::by_reference::passed;
 use crate::control_transfer::jump;
+use crate::dummy_storage::DummyStorage;
 use crate::effect::Effect;
+use crate::frame::Frame;
 use crate::loops::{Loop, end_loop, enter_loop};
+use crate::passed_argument::PassedArgument;
 use crate::printing::print;
 use crate::storage::Storage;
 use crate::values::{StoreTarget, evaluate, store, value_in};
 use hep_arena::Arena;
-use hep_code::{Instruction, Operation};
+use hep_code::{Evaluation, Instruction, Operation};
+use hep_image::Array;
+use hep_machine::Kind;
 use std::alloc::{AllocError, Global};
+
+fn is_plain_evaluation(evaluation: Evaluation) -> bool
+    ensures { result ≡ effects.is_plain_evaluation evaluation }
+{
+    match evaluation {
+        Evaluation::Load { variable, .. } => !variable.is_asynchronous(),
+        Evaluation::Test { .. } => false,
+        Evaluation::Sign(_) | Evaluation::Not | Evaluation::Combine(_) | Evaluation::Apply { .. } =>
+            true,
+    }
+}
+
+/// Whether an operation is plain: it reads no variable with `$` and assigns to none, tests no cell, prints nothing,
+/// and begins and ends no activation.
+pub fn is_plain_operation(operation: Operation) -> bool
+    ensures { result ≡ effects.is_plain_operation operation }
+{
+    match operation {
+        Operation::Evaluate(evaluation) => is_plain_evaluation(evaluation),
+        Operation::Store { variable, .. } => !variable.is_asynchronous(),
+        Operation::Print { .. }
+        | Operation::Return
+        | Operation::Answer { .. }
+        | Operation::Stop
+        | Operation::Call { .. }
+        | Operation::Create { .. }
+        | Operation::Refer { .. }
+        | Operation::Purge { .. }
+        | Operation::Resume { .. } => false,
+        Operation::Jump { .. }
+        | Operation::Choose { .. }
+        | Operation::BySign { .. }
+        | Operation::Condition { .. }
+        | Operation::Branch { .. }
+        | Operation::EnterLoop { .. }
+        | Operation::EndLoop { .. } => true,
+    }
+}
+
+/// Whether a plain operation is at an index of the code.
+pub(crate) fn is_plain(code: &[Instruction], index: usize) -> bool
+    ensures { result ≡ effects.is_plain (drop index code.now) }
+{
+    match code.get(index) {
+        Some(Instruction::Step { operation, .. }) => is_plain_operation(*operation),
+        _ => false,
+    }
+}
 
 // An operation, with the initial line of its statement and the instructions after it.
 #[derive(Clone, Copy)]
@@ -42,8 +101,7 @@ fn operation_at(code: &[Instruction], index: usize) -> Option<CurrentOperation<'
 }
 
 /// Makes the operation at an index of the code, with these operands. `specs/Effects` says what it does to the arena
-/// and the operands and which index it leads to; `specs/Changes` says which cell it fills or empties. It takes memory
-/// only for a record.
+/// and the operands, which index it leads to, and which cell it fills or empties. It takes memory only for a record.
 ///
 /// # Errors
 ///
@@ -131,4 +189,41 @@ pub fn perform(
             Ok(Effect::Moved { changed: None })
         }
     }
+}
+
+impl FromArgument for DummyStorage {
+    ghost made_for = { given_for };
+
+    fn from_passed(
+        given: PassedArgument<'_>,
+        arrays: &[Array],
+        arena: &Arena,
+        frame: Frame,
+    ) -> Result<DummyStorage, Kind> {
+        match given {
+            PassedArgument::ByValue(value) => Ok(DummyStorage::Value(value)),
+            PassedArgument::ByReference {
+                variable,
+                subscripts,
+            } => passed(arrays, arena, frame, variable, subscripts),
+        }
+    }
+}
+
+/// Computes what all passed actual arguments give, from left to right, and overwrites `given` with it. There is room
+/// for it, so that this takes no memory.
+///
+/// # Errors
+///
+/// `Range` where one of them is no element, or a scalar with subscripts (X3.9-1978, 15.9.3).
+pub fn give_actuals(all: &ArgumentList<'_>, given: &mut Vec<DummyStorage>) -> Result<(), Kind>
+    requires frame { HasFrame all.now.arena.now all.now.frame }
+    // An activation that calls satisfies it: `laws::callers_can_pass`.
+    requires passable { AreAllPassable all.now }
+    requires room { all.now.count ≤ vec_capacity given.old }
+    ensures given { IfOk result (λ _. made_of_all given_for all.now ≡ Ok given.new.items) }
+    ensures fault { IfErr result (λ kind. made_of_all given_for all.now ≡ Err kind) }
+    ensures capacity { vec_capacity given.old ≤ vec_capacity given.new }
+{
+    make_from_entries(all, given)
 }

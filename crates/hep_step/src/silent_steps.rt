@@ -8,8 +8,7 @@ ghost use Rattle.hep_step.specs.SilentSteps.{CanGoOn, Goes, HasGoneOnce, HasNoMo
 use crate::activation_state::ActivationState;
 use crate::effect::Effect;
 use crate::frame::Frame;
-use crate::performing::perform;
-use crate::plain::is_plain;
+use crate::performing::{is_plain, perform};
 use crate::storage::Storage;
 use hep_arena::Arena;
 use hep_code::Instruction;

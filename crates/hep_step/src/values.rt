@@ -3,9 +3,8 @@ ghost use Rattle.std.specs.Prelude.{◌≡◌, ◌+◌, ◌<◌, ◌≤◌, ◌^
 ghost use Rattle.hep_code.specs.declared.instruction.Operation.TheVariants.{Store};
 ghost use Rattle.hep_code.specs.Words.{first_operand};
 ghost use Rattle.hep_step.specs.Cells.{HasFrame};
-ghost use Rattle.hep_step.specs.Changes.{changed_by, changed_by_evaluation};
 ghost use Rattle.hep_image.specs.Addressing.{address_of, cells_in};
-ghost use Rattle.hep_step.specs.Effects.{effect_of, effect_of_evaluation, subscripts_in, value_found};
+ghost use Rattle.hep_step.specs.Effects.{effect_of, effect_of_evaluation, subscripts_in, value_found, changed_by, changed_by_evaluation};
 ghost use Rattle.hep_step.specs.PerformedSteps.{IsPerformed, KeepsHoles, seen};
 ghost use Rattle.hep_step.specs.StepReady.{IsEvaluationReady, IsVariableReady};
 

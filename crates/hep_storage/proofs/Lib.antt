@@ -12,3 +12,8 @@ pub mod DataNames
 pub mod ShapeBounds
 pub mod GivenElements
 pub mod DataLines
+pub mod Indexes
+pub mod Entries
+pub mod LengthTables
+pub mod Totals
+pub mod Beginnings

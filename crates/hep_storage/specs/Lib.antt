@@ -8,3 +8,5 @@ pub mod InitializedElements
 pub mod DataGroups
 pub mod DataNames
 pub mod ArrayShapes
+pub mod Lengths
+pub mod Starts

@@ -11,7 +11,7 @@ ghost use Rattle.hep_storage.specs.BlockTable.{block_at, summed_in, AreRead, Are
 use crate::block_contents::NamesInBlocks;
 use crate::block_table::{BlockEntry, BlockTable};
 use hep_names::Symbols;
-use hep_names::declarators::{block_of, blocks_in};
+use hep_names::specification::{block_of, blocks_in};
 use hep_source::{CommonBlock, Name};
 use hep_types::Shapes;
 use std::alloc::{AllocError, Global};

@@ -8,7 +8,7 @@ ghost use Rattle.hep_machine.specs.Words.{name_eq};
 ghost use Rattle.hep_storage.specs.ArrayShapes.{IsTable};
 ghost use Rattle.hep_machine.specs.Declarations as declarations;
 ghost use Rattle.hep_conditions.specs.Data as conditions;
-ghost use Rattle.hep_conditions.specs.Types as types;
+ghost use Rattle.hep_conditions.specs.Statements as types;
 ghost use Rattle.hep_storage.specs.DataGroups as groups;
 ghost use Rattle.hep_storage.specs.DataNames as lists;
 ghost use Rattle.hep_storage.specs.Runs.{alike, positions_in};

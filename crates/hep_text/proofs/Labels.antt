@@ -13,9 +13,6 @@ abbrev pub limit : ℕ → ℕ
 limit zero = 1
 limit (suc k) = 10 * limit k
 
-pub limit-next : (k : ℕ) → limit (k + 1) ≡ 10 * limit k
-limit-next k = rw add-one refl
-
 -- five digits come to less than a hundred thousand
 pub limit_five : (k : ℕ) → k < 5 → 10 * limit k ≤ 100000
 limit_five zero h = omega arith

@@ -53,9 +53,6 @@ listed-next core i n found next whole less so_far is =
     ap (λ k. next ++ listed_from core (suc k) (n - (i + 1))) (sym more)
     ∙ filter-next test found (numbers_from (suc (suc i)) (n - (i + 1))) next whole (suc i) (ap (λ k. found ++ listed_from core (suc i) k) (sym left) ∙ so_far) is
 
-pub listed-none : (core : CoreValue) (i n : ℕ) → n - i ≡ 0 → listed_from core (suc i) (n - i) ≡ []
-listed-none core i n none = ap (listed_from core (suc i)) none
-
 -- ---- those that a turn has woken
 
 pub woken-are : (p : ℕ) (old new : CoreValue) (waiting : List ℕ) → waiting ≡ listed_numbers old

@@ -6,7 +6,7 @@ use Rattle.std.proofs.lemmas.List.{drop_all, length-map}
 use Rattle.std.proofs.lemmas.Option.{same_Some, slice_get-map}
 use Rattle.hep_code.specs.declared.instruction.Instruction.{Instruction}
 use Rattle.hep_code.specs.declared.instruction.Instruction.TheVariants.{Pass}
-use Rattle.hep_code.specs.Actions.{referred_argument}
+use Rattle.hep_code.specs.StatementCode.{referred_argument}
 use Rattle.hep_image.specs.Places.{variable_of}
 use Rattle.hep_machine.specs.Words.{Level, Process, Reference, Value, run, unit_at, unit_of}
 use Rattle.hep_source.proofs.Tests.{at-front}

@@ -7,7 +7,7 @@ use Rattle.hep_accepted_laws.specs.Instructions.{variables_in}
 use Rattle.hep_accepted_laws.specs.PlacedCode.{ArePlaced, code_in}
 use Rattle.hep_code.specs.declared.instruction.Instruction.{Instruction}
 use Rattle.hep_code.specs.declared.instruction.Instruction.TheVariants.{Pass}
-use Rattle.hep_code.specs.Actions.{referred_argument}
+use Rattle.hep_code.specs.StatementCode.{referred_argument}
 use Rattle.hep_conditions.specs.Words.{IsAccepted}
 use Rattle.hep_image.specs.Places.{variable_of}
 use Rattle.hep_machine.specs.Words.{Level, Process, Reference, Units, Value, does, main_among, next_of, purging, run, spelling, unit_at, unit_of}

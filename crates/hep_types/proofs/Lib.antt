@@ -4,3 +4,7 @@ pub mod Passes
 pub mod Results
 pub mod BoundedArrays
 pub mod CallPasses
+pub mod Used
+pub mod Overlaps
+pub mod Ways
+pub mod Reported

@@ -5,3 +5,6 @@ pub mod KnownShapes
 pub mod Passes
 pub mod Actuals
 pub mod CallPasses
+pub mod Uses
+pub mod AmbiguityLines
+pub mod Ambiguities

@@ -4,10 +4,9 @@ ghost use Rattle.std.specs.List.{list_all};
 ghost use Rattle.hep_machine.specs.Words.{same_logical, names_of_occurrences};
 ghost use Rattle.hep_conditions.specs.Arguments as conditions;
 ghost use Rattle.hep_conditions.specs.Statements as statements;
-ghost use Rattle.hep_conditions.specs.Types as types;
 ghost use Rattle.hep_conditions.specs.Words.{function_types};
 ghost use Rattle.hep_names.specs.Lists.{listed};
-ghost use Rattle.hep_names.specs.Passes.{unit_called, unit_referred};
+ghost use Rattle.hep_names.specs.Parts.{unit_called, unit_referred};
 ghost use Rattle.hep_types.specs.Actuals.{class};
 ghost use Rattle.hep_types.specs.CallPasses as passes;
 
@@ -24,7 +23,7 @@ fn are_alike(
     is_asynchronous: bool,
     given_type: Option<ValueType>,
 ) -> bool
-    ensures { result ≡ (same_logical asynchronous is_asynchronous && types.same_declared value_type given_type) }
+    ensures { result ≡ (same_logical asynchronous is_asynchronous && statements.same_declared value_type given_type) }
 {
     asynchronous == is_asynchronous && same_declared(value_type, given_type)
 }

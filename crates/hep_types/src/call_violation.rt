@@ -3,11 +3,11 @@ ghost use Rattle.std.specs.Prelude.{◌≡◌, IfOk};
 ghost use Rattle.hep_conditions.specs.Arguments as conditions;
 ghost use Rattle.hep_conditions.specs.Reported as reported;
 ghost use Rattle.hep_conditions.specs.Words.{first_of, function_types};
-ghost use Rattle.hep_names.specs.Passes.{line_of};
+ghost use Rattle.hep_names.specs.Parts.{line_of};
 ghost use Rattle.hep_types.specs.CallPasses as passes;
 
 use crate::argument_association::{are_calls_fitting, are_references_fitting};
-use crate::full_empty_arguments::{are_references_given, are_targets_purgeable};
+use crate::forms::{are_references_given, are_targets_purgeable};
 use hep_conditions::Violation;
 use hep_conditions::reported::{lesser, line_when, reported};
 use hep_names::{ProgramSymbols, Symbols, names_with_lists};

@@ -1,29 +1,36 @@
-//! The conditions 302, on types, constants and bounds (X3.9-1978, sections 4 to 6 and 8.6), and 304, on the kinds of arguments
-//! (15.6.2.3 and 15.9, and docs/LANGUAGE.md, 8 and 9).
+//! The conditions 302, on types, constants and bounds (X3.9-1978, sections 4 to 6 and 8.6), 304, on the kinds of arguments
+//! (15.6.2.3 and 15.9, and docs/LANGUAGE.md, 8 and 9), and 309, on names that denote two things or are declared twice
+//! (18.1 and 18.2).
 //!
-//! Begin with [`type_violation`] and [`argument_violation`]. [`Parameters`] are the constants given before a statement, [`Shapes`] the
+//! Begin with [`type_violation`], [`argument_violation`], [`ambiguous_violation`] and [`ambiguous_unit_violation`], which find the
+//! first violation; [`ambiguities`] finds all of 309. [`Parameters`] are the constants given before a statement, [`Shapes`] the
 //! known shapes of arrays, and [`type_of_tree`] is the type of an expression.
 #![tactic(auto)]
 
 pub mod actuals;
+pub mod all_ambiguities;
+pub mod ambiguous_names;
 mod argument_association;
 pub mod bounds;
 pub mod call_violation;
 pub mod forms;
-mod full_empty_arguments;
+mod letters;
 pub mod parameters;
+mod repeated_names;
 pub mod scope;
 pub mod shapes;
 pub mod types;
+mod uses;
 pub mod variables;
 pub mod violation;
 
 pub use actuals::{ActualClass, actual_class};
+pub use all_ambiguities::{Ambiguity, ambiguities};
+pub use ambiguous_names::{ambiguous_unit_violation, ambiguous_violation};
 pub use argument_association::are_calls_fitting;
 pub use bounds::has_bounds;
 pub use call_violation::argument_violation;
-pub use forms::is_form_typed;
-pub use full_empty_arguments::{is_given, is_purgeable};
+pub use forms::{is_form_typed, is_given, is_purgeable};
 pub use parameters::{Parameters, has_value, is_constant_expression};
 pub use scope::Scope;
 pub use shapes::{KnownShape, Shapes};

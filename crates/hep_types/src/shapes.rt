@@ -12,7 +12,7 @@ ghost use Rattle.hep_types.specs.KnownShapes.{known};
 use crate::bounds::shape_given;
 use crate::parameters::Parameters;
 use crate::scope::Scope;
-use hep_names::declarators::array_declarators;
+use hep_names::specification::array_declarators;
 use hep_names::{Symbols, note};
 use hep_shape::Shape;
 use hep_source::{Declarator, Name, Statement};

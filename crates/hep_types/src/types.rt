@@ -2,7 +2,7 @@
 //! constant expressions there are none.
 ghost use Rattle.std.specs.Prelude.{◌≡◌};
 ghost use Rattle.hep_machine.specs.Words.{trees_of};
-ghost use Rattle.hep_conditions.specs.Types as types;
+ghost use Rattle.hep_conditions.specs.Statements as types;
 ghost use Rattle.hep_names.specs.Functions.{functions_of};
 ghost use Rattle.hep_names.specs.Meanings.{meaning};
 ghost use Rattle.hep_types.specs.Types as walks;

@@ -1,7 +1,7 @@
 //! Variables that may be DO variables, or that bounds may use (X3.9-1978, 5.5.1 and 11.10).
 ghost use Rattle.std.specs.Prelude.{◌≡◌, IfOk};
 ghost use Rattle.hep_machine.specs.Declarations as declarations;
-ghost use Rattle.hep_conditions.specs.Types as types;
+ghost use Rattle.hep_conditions.specs.Statements as types;
 ghost use Rattle.hep_conditions.specs.Words.{function_types, is_loop_variable, loop_variables, has_loop_variable};
 ghost use Rattle.hep_types.specs.Types as walks;
 

@@ -2,7 +2,7 @@
 ghost use Rattle.std.specs.Prelude.{◌≡◌, IfOk, OnOk};
 ghost use Rattle.std.specs.List.{list_all};
 ghost use Rattle.hep_conditions.specs.Constants as conditions;
-ghost use Rattle.hep_conditions.specs.Types as types;
+ghost use Rattle.hep_conditions.specs.Statements as types;
 ghost use Rattle.hep_conditions.specs.Words.{first_of, function_types};
 ghost use Rattle.hep_names.specs.Statements.{rest_after};
 ghost use Rattle.hep_types.specs.Passes as passes;
@@ -14,7 +14,7 @@ use crate::scope::Scope;
 use crate::types::is_typed_as;
 use hep_conditions::Violation;
 use hep_conditions::reported::{lesser, line_when, reported};
-use hep_names::declarators::array_declarators;
+use hep_names::specification::array_declarators;
 use hep_names::{ProgramSymbols, Symbols};
 use hep_source::{DataGroup, Declarator, Expr, Statement, Target, ValueType};
 use hep_values::statements::{constants_in, groups_in};

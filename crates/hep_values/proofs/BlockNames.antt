@@ -18,6 +18,3 @@ changed k b new old = ap (λ t. cond t new old) (block_eq-is k b) ∙ by (same_b
     by : (t : Bool) → cond t new old ≡ (if t then new else old)
     by true = refl
     by false = refl
-
-pub other-kept : {A : Type 0} (k b : BlockName) (new old : A) → same_block k b ≡ false → cond (option_eq name_eq k b) new old ≡ old
-other-kept k b new old h = changed k b new old ∙ ap (λ t. if t then new else old) h

@@ -19,7 +19,7 @@ use Rattle.hep_arena.specs.Gaps.{frame_among}
 use Rattle.hep_code.specs.declared.instruction.Instruction.{Instruction}
 use Rattle.hep_code.specs.declared.instruction.Instruction.TheVariants.{Push}
 use Rattle.hep_code.specs.Words.{operands_of_action, operands_of_actual, operands_of_redex, line_ahead, Stands, work_code, AddressedUnit, code_of}
-use Rattle.hep_code.proofs.WorkCode.{NextIs, work_is}
+use Rattle.hep_code.proofs.ControlFlow.{NextIs, work_is}
 use Rattle.hep_layout.specs.Words.{FrameNode}
 use Rattle.hep_views.proofs.ReadContents.{common-is-read, frames-are-read}
 use Rattle.hep_proc.specs.declared.process.Local.{Local}

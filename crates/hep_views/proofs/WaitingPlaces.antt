@@ -8,7 +8,7 @@ use Rattle.hep_cells.specs.declared.want.Want.{Want}
 use Rattle.hep_code.specs.declared.instruction.Instruction.{Instruction}
 use Rattle.hep_code.specs.declared.instruction.Instruction.TheVariants.{Push}
 use Rattle.hep_code.specs.Words.{operands_of_action, operands_of_actual, operands_of_redex, line_ahead, Stands, work_code, AddressedUnit, code_of}
-use Rattle.hep_code.proofs.WorkCode.{NextIs, work_is}
+use Rattle.hep_code.proofs.ControlFlow.{NextIs, work_is}
 use Rattle.hep_layout.specs.Words.{IsOwnedAbove, FrameNode, Nodes}
 use Rattle.hep_layout.proofs.References.{references}
 use Rattle.hep_blocked.specs.Needs.{need_of, unmet}

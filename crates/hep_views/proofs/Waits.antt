@@ -10,7 +10,7 @@ use Rattle.hep_image.specs.declared.array.Array.{Array}
 use Rattle.hep_step.specs.Effects.{effect_ahead, effect_at, Effect, effect_of, fails, moves, prints, answers, returns, stops, left_out, waits}
 use Rattle.hep_step.specs.Simulation.{unit_addressed, unit_code, IsNotLeftOut, IsRunning, RunningTop, Simulates, arrays_running, code_running, is_left_out, unit_arrays}
 use Rattle.hep_state.specs.Words.{HasLevels, IsEffectOf, IsSettled, IsTopRunning, Shows, Snapshot, IsTurning, TurnOf, state_before, top_frame, turn_settled, turn_with, IsAbsent, IsAfter, running_top}
-use Rattle.hep_code.proofs.NextOperation.{drop_one_more, pushed}
+use Rattle.hep_code.proofs.ControlFlow.{drop_one_more, pushed}
 use Rattle.hep_views.specs.SeenWaits.{effect_behind, wanted_by_levels, wanted_by_stack, wanted_for, wanted_on, wanted_seen}
 use Rattle.std.specs.Option.{option_map}
 use Rattle.hep_machine.specs.State.{Level as SourceLevel}

@@ -2,7 +2,7 @@
 ghost use Rattle.std.specs.Prelude.{◌≡◌, ◌+◌, ◌-◌, ◌<◌, ◌&&◌, ℕ, IsSome, List, Some, drop, length};
 ghost use Rattle.slab.specs.Slab.{ContainsKey};
 ghost use Rattle.hep_machine.specs.Words.{Name, unit_at, BlockName, living, run};
-ghost use Rattle.hep_code.specs.OperandDepths as depths;
+ghost use Rattle.hep_code.specs.ControlTransfer as depths;
 ghost use Rattle.hep_layout.specs.Words.{FrameNode};
 ghost use Rattle.hep_image.specs.Image.{most_cells};
 ghost use Rattle.hep_image.specs.Owners.{IsBlockTold, IsTold};

@@ -12,9 +12,8 @@ use Rattle.hep_parse.specs.ReadingLists as lists
 use Rattle.hep_parse.specs.ReadingLists.{parts_after, closed, enclosed, optional, arguments_within, arguments}
 use Rattle.hep_parse.specs.ReadingTarget.{target_at}
 use Rattle.hep_parse.specs.ReadingConstant.{characters, constant_after, item_at}
-use Rattle.hep_parse.specs.ReadingExecutable.{print, assignment, computed_go_to, go_to, condition_at, arithmetic_if, if_then, else_if, limits, do_loop, call, create, purge, stop}
-use Rattle.hep_parse.specs.ReadingDeclaration.{function_header, subroutine_header, implicit_group_at, implicit, dimension_at, declarator_at, declare, dimension, parts_to_end, block_at, common, named_constant_at, parameter, data_value_at, group_at, data_statement}
-use Rattle.hep_parse.specs.ReadingStatement.{worded, logical_if, conditions, form}
+use Rattle.hep_parse.specs.ReadingStatement.{print, assignment, computed_go_to, go_to, condition_at, arithmetic_if, if_then, else_if, limits, do_loop, call, create, purge, stop, worded, logical_if, conditions, form}
+use Rattle.hep_parse.specs.Declaration.{function_header, subroutine_header, implicit_group_at, implicit, dimension_at, declarator_at, declare, dimension, parts_to_end, block_at, common, named_constant_at, parameter, data_value_at, group_at, data_statement}
 use Rattle.hep_parse.specs.ReadingProgram.{Refusal, left_out, nameless_refusal, refusal_of, statement, placed, units, program}
 
 -- ---- from lines to units

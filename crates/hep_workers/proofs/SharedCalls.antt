@@ -16,7 +16,7 @@ use Rattle.hep_machine.specs.Words.{last_process}
 use Rattle.hep_workers.proofs.Committed.{one-entry}
 use Rattle.hep_workers.proofs.SharedCores.{by-commit}
 use Rattle.hep_workers.specs.Turns.{HasCommitted}
-use Rattle.hep_workers.specs.LockedCalls.{IsAnswered, IsTurned, IsUnfree}
+use Rattle.hep_workers.specs.LockedCalls.{IsAnswered, IsTurned}
 
 abbrev pub AreTold : PlacedCore → PlacedCore → SegmentValue → Result Receipt CommitFault → Type 0
 AreTold old new s r = IfOk r (λ receipt. HasCommitted old s receipt new) × IfErr r (λ fault. IsCommitted old s (Err fault) new)
@@ -74,9 +74,3 @@ told-unturned old new s committing.NoMemory (good, room, gap, same) = same
 pub turned-last : (old new : PlacedCore) (s : SegmentValue) → IsTurned old s (Ok tt) new → last_process new.core.history ≡ s.id.process
 turned-last old new s (turn, made) =
     ap last_process (one-entry old new s turn made) ∙ last-more old.core.history (record { process = s.id.process; steps = turn.steps })
-
--- nothing was noted then
-pub unfree-same : (old new : PlacedCore) (p : ℕ) → IsUnfree old p new → HasSame old new
-unfree-same old new p (inl (stop, is)) = checked-out-same old new p (Err (choosing.Stopped stop)) is
-unfree-same old new p (inr (inl is)) = checked-out-same old new p (Err choosing.NoSuchProcess) is
-unfree-same old new p (inr (inr is)) = checked-out-same old new p (Err choosing.IsOut) is

@@ -1,5 +1,5 @@
 use Rattle.std.proofs.Common.{ap}
-use Rattle.hep_accepted_laws.proofs.RunCalls.{call_in, comes-call}
+use Rattle.hep_accepted_laws.proofs.PartlyEvaluated.{call_in, comes-call}
 use Rattle.hep_accepted_laws.proofs.runs.calls_come_from_statements.Goals as goal
 
 pub returns : goal.returns

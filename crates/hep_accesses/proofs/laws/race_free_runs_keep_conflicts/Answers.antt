@@ -1,9 +1,9 @@
 use Rattle.std.proofs.Common.{◌≡◌, true}
 use Rattle.hep_machine.specs.Words.{same_location}
-use Rattle.hep_order.proofs.Reordered.{conflicts-kept}
+use Rattle.hep_accesses.proofs.Reordered.{conflicts-kept}
 use Rattle.hep_accesses.specs.Accesses.{same_site}
-use Rattle.hep_accesses.specs.Events.{events_of}
-use Rattle.hep_accesses.proofs.Sites.{site-equivalence}
+use Rattle.hep_accesses.specs.RunEvents.{events_of}
+use Rattle.hep_accesses.proofs.SiteTests.{site-equivalence}
 use Rattle.hep_accesses.proofs.laws.race_free_runs_keep_conflicts.Goals as goal
 
 pub returns : goal.returns

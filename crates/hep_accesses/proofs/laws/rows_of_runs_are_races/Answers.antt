@@ -1,10 +1,10 @@
 use Rattle.hep_machine.specs.Words.{same_location}
-use Rattle.hep_order.proofs.RowsAreDistinct.{rows-distinct}
-use Rattle.hep_order.proofs.RowsAreRaces.{rows-complete, rows-sound}
-use Rattle.hep_order.proofs.SameRows.{same-rows}
+use Rattle.hep_accesses.proofs.RowsAreDistinct.{rows-distinct}
+use Rattle.hep_accesses.proofs.RowsAreRaces.{rows-complete, rows-sound}
+use Rattle.hep_accesses.proofs.SameRows.{same-rows}
 use Rattle.hep_accesses.specs.Accesses.{same_site}
-use Rattle.hep_accesses.specs.Events.{events_of}
-use Rattle.hep_accesses.proofs.Sites.{site-equivalence}
+use Rattle.hep_accesses.specs.RunEvents.{events_of}
+use Rattle.hep_accesses.proofs.SiteTests.{site-equivalence}
 use Rattle.hep_accesses.proofs.laws.rows_of_runs_are_races.Goals as goal
 
 pub returns : goal.returns

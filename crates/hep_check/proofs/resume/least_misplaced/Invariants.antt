@@ -1,6 +1,6 @@
 use Rattle.std.proofs.Common.{◌≡◌, drop}
 use Rattle.hep_conditions.specs.Words.{least_line, least_line_where}
-use Rattle.hep_names.specs.Passes.{line_of}
+use Rattle.hep_names.specs.Parts.{line_of}
 use Rattle.hep_check.specs.Resume.{is_misplaced}
 use Rattle.hep_check.proofs.resume.least_misplaced.Given as goal
 

@@ -1,7 +1,7 @@
 use Rattle.std.proofs.Common.{◌∙◌, ap, sym}
 use Rattle.hep_conditions.specs.Words.{reported}
 use Rattle.hep_conditions.proofs.Lines.{reported-where}
-use Rattle.hep_names.specs.Passes.{line_of}
+use Rattle.hep_names.specs.Parts.{line_of}
 use Rattle.hep_check.specs.Resume.{is_misplaced}
 use Rattle.hep_check.proofs.resume.resume_violation.Goals as goal
 

@@ -1,6 +1,6 @@
 use Rattle.std.proofs.Common.{◌+◌, ◌++◌, ◌∙◌, ap, drop, map}
 use Rattle.hep_names.specs.Lists.{listed}
-use Rattle.hep_names.specs.Passes.{unknown_by, unknown_listed}
+use Rattle.hep_names.specs.Parts.{unknown_by, unknown_listed}
 use Rattle.hep_names.proofs.Firsts.{grow}
 use Rattle.hep_source.proofs.Tests.{drop_at}
 use Rattle.hep_check.proofs.unknown_names.add_unknown_listed.Goals as goal

@@ -1,6 +1,6 @@
 use Rattle.std.proofs.Common.{◌≡◌, ◌++◌, drop}
 use Rattle.std.specs.List.{flat_map}
-use Rattle.hep_names.specs.Passes as passes
+use Rattle.hep_names.specs.Parts as passes
 use Rattle.hep_check.proofs.unknown_names.add_unknown_targets.Given as goal
 
 abbrev pub invariant-loop-target : goal.invariant-loop-target

@@ -1,6 +1,6 @@
 use Rattle.std.proofs.Common.{◌∙◌, ap, nat_eq}
 use Rattle.std.specs.List.{list_any}
-use Rattle.hep_uses.specs.declared.all_ambiguities.Ambiguity.{Ambiguity}
+use Rattle.hep_types.specs.declared.all_ambiguities.Ambiguity.{Ambiguity}
 use Rattle.hep_check.proofs.violation_lines.lines_of_names.Goals as goal
 
 pub returns : goal.returns

@@ -1,4 +1,4 @@
-use Rattle.hep_code.proofs.NextOperation.{next_is_ahead, step_is_ahead}
+use Rattle.hep_code.proofs.ControlFlow.{next_is_ahead, step_is_ahead}
 use Rattle.hep_code.proofs.laws.operations_stand_ahead.Goals as goal
 
 pub returns : goal.returns

@@ -1,7 +1,7 @@
 use Rattle.std.proofs.Common.{◌≡◌, ◌<◌, ℕ, Bool, true, false, true≢false, List, Option, Some, None, drop, length, slice_get, refl, sym, ap, ◌∙◌, subst, arith}
 use Rattle.std.specs.Option.{unwrap_or}
 use Rattle.std.proofs.lemmas.Option.{same_Some, slice_get_within}
-use Rattle.hep_code.proofs.NextOperation.{next_is_ahead}
+use Rattle.hep_code.proofs.ControlFlow.{next_is_ahead}
 use Rattle.hep_code.specs.Words.{Stands}
 use Rattle.hep_machine.specs.Words.{Level, Process, Top, next_of, unit_at, unit_of}
 use Rattle.hep_advance.specs.BreakpointRows.{is_watched, row_in, watched_at}

@@ -2,7 +2,7 @@ use Rattle.std.proofs.Common.{◌≡◌, ◌≢◌, ℕ, Some, refl, sym, ◌∙
 use Rattle.std.proofs.lemmas.Option.{same_Some}
 use Rattle.hep_code.specs.declared.variable.Variable.TheVariants.{Absent}
 use Rattle.hep_code.specs.Words.{Stands}
-use Rattle.hep_code.proofs.NextOperation.{next_is_ahead}
+use Rattle.hep_code.proofs.ControlFlow.{next_is_ahead}
 use Rattle.hep_event.specs.NextAccesses.{IsAccessed}
 use Rattle.hep_event.proofs.TopPositions.{on-top}
 use Rattle.hep_image.specs.Places.{variable_of}

@@ -1,5 +1,4 @@
-use Rattle.hep_lower.proofs.FewInstructions.{two_for_each, many_parts}
-use Rattle.hep_lower.proofs.FewOperands.{deep_is_long}
+use Rattle.hep_lower.proofs.FewOperands.{two_for_each, many_parts, deep_is_long}
 use Rattle.hep_lower.proofs.laws.limits_are_wide.Goals as goal
 
 pub returns : goal.returns

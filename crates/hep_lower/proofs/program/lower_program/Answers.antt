@@ -1,7 +1,7 @@
 use Rattle.std.proofs.Common.{◌≡◌, ◌∙◌, ◌<◌, inl, inr, ap, arith, length, subst, sym}
 use Rattle.std.specs.Option.{unwrap_or}
 use Rattle.hep_machine.specs.Words.{no_unit, Units, is_main, main_unit, procedure_name}
-use Rattle.hep_common.specs.Starts.{AreBlocks, AreStarts}
+use Rattle.hep_storage.specs.Starts.{AreBlocks, AreStarts}
 use Rattle.hep_code.specs.Words.{most_instructions}
 use Rattle.hep_lower.specs.Refusals.{IsFirstDeep, RefusesCode}
 use Rattle.hep_lower.specs.LoweredUnits.{AreUnits}

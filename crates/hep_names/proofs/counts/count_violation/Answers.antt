@@ -1,7 +1,7 @@
 use Rattle.std.proofs.Common.{◌∙◌, ap, sym}
 use Rattle.hep_conditions.specs.Words.{reported}
 use Rattle.hep_conditions.proofs.Lines.{reported-where}
-use Rattle.hep_names.specs.Passes.{is_miscounted, line_of}
+use Rattle.hep_names.specs.Parts.{is_miscounted, line_of}
 use Rattle.hep_names.proofs.counts.count_violation.Goals as goal
 
 pub returns : goal.returns

@@ -1,6 +1,6 @@
 use Rattle.std.proofs.Common.{◌≡◌, drop}
 use Rattle.hep_conditions.specs.Words.{least_line, least_line_where}
-use Rattle.hep_names.specs.Passes.{is_miscounted, line_of}
+use Rattle.hep_names.specs.Parts.{is_miscounted, line_of}
 use Rattle.hep_names.proofs.counts.least_miscounted.Given as goal
 
 abbrev pub invariant-loop-statement : goal.invariant-loop-statement

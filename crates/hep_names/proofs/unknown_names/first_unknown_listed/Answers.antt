@@ -1,6 +1,6 @@
 use Rattle.std.proofs.Common.{◌+◌, ap, drop, map}
 use Rattle.hep_names.specs.Lists.{listed}
-use Rattle.hep_names.specs.Passes.{unknown_listed}
+use Rattle.hep_names.specs.Parts.{unknown_listed}
 use Rattle.hep_names.proofs.Firsts.{turn}
 use Rattle.hep_names.proofs.unknown_names.first_unknown_listed.Goals as goal
 use Rattle.hep_source.proofs.Tests.{drop_at}

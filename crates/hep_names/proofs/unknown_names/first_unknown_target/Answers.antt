@@ -1,5 +1,5 @@
 use Rattle.std.proofs.Common.{◌+◌, drop}
-use Rattle.hep_names.specs.Passes.{unknown_target}
+use Rattle.hep_names.specs.Parts.{unknown_target}
 use Rattle.hep_names.proofs.Firsts.{turn}
 use Rattle.hep_names.proofs.unknown_names.first_unknown_target.Goals as goal
 use Rattle.hep_source.proofs.Tests.{drop_at}

@@ -1,7 +1,7 @@
 use Rattle.std.proofs.Common.{◌+◌, ◌∙◌, ap, drop}
 use Rattle.std.specs.List.{flat_map}
 use Rattle.hep_conditions.specs.Words.{first_of}
-use Rattle.hep_names.specs.Passes.{unknown_target, unknown_in_group}
+use Rattle.hep_names.specs.Parts.{unknown_target, unknown_in_group}
 use Rattle.hep_names.proofs.Firsts.{turn}
 use Rattle.hep_names.proofs.unknown_names.unknown_in_groups.Goals as goal
 use Rattle.hep_source.proofs.Tests.{drop_at}

@@ -1,6 +1,6 @@
 use Rattle.std.proofs.Common.{◌≡◌, drop}
 use Rattle.std.specs.List.{list_all}
-use Rattle.hep_names.specs.Passes.{is_typed}
+use Rattle.hep_names.specs.Parts.{is_typed}
 use Rattle.hep_names.proofs.untyped_names.are_typed.Given as goal
 
 abbrev pub invariant-loop-name : goal.invariant-loop-name

@@ -1,7 +1,7 @@
 use Rattle.std.proofs.Common.{◌+◌, drop}
 use Rattle.std.proofs.lemmas.List.{drop_more}
 use Rattle.hep_conditions.specs.Words.{function_types}
-use Rattle.hep_names.specs.Passes.{untyped}
+use Rattle.hep_names.specs.Parts.{untyped}
 use Rattle.hep_names.proofs.Firsts.{turn}
 use Rattle.hep_names.proofs.untyped_names.first_untyped.Goals as goal
 

@@ -1,7 +1,7 @@
 use Rattle.std.proofs.Common.{◌≡◌, drop}
 use Rattle.std.specs.List.{flat_map}
 use Rattle.hep_conditions.specs.Words.{function_types, first_of, first_of_two}
-use Rattle.hep_names.specs.Passes.{untyped}
+use Rattle.hep_names.specs.Parts.{untyped}
 use Rattle.hep_names.proofs.untyped_names.first_untyped.Given as goal
 
 abbrev pub invariant-loop-occurrence : goal.invariant-loop-occurrence

@@ -1,7 +1,7 @@
 use Rattle.std.proofs.Common.{◌+◌, ◌∙◌, ap, sym, drop}
 use Rattle.std.specs.List.{list_all}
 use Rattle.hep_conditions.specs.Words.{function_types, untyped_in, first_of}
-use Rattle.hep_names.specs.Passes.{is_typed}
+use Rattle.hep_names.specs.Parts.{is_typed}
 use Rattle.hep_names.proofs.Typed.{typed-unit}
 use Rattle.hep_names.proofs.Firsts.{turn}
 use Rattle.hep_names.proofs.untyped_names.type_missing_violation.Goals as goal

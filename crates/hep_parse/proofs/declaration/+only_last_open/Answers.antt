@@ -1,6 +1,6 @@
 use Rattle.std.proofs.Common.{◌≡◌, true, ◌<◌, List, [], ◌∷◌, length, refl, arith}
 use Rattle.hep_source.specs.declared.declaration.Dimension.{Dimension}
-use Rattle.hep_parse.specs.ReadingDeclaration.{only_last_open}
+use Rattle.hep_parse.specs.Declaration.{only_last_open}
 use Rattle.hep_parse.proofs.declaration.+only_last_open.Goals as goal
 
 short : (xs : List Dimension) → length xs < 2 → true ≡ only_last_open xs

@@ -1,5 +1,5 @@
 use Rattle.std.proofs.Common.{◌≡◌, length, ◌-◌}
-use Rattle.hep_parse.specs.ReadingDeclaration.{parts_to_end, up_to_end}
+use Rattle.hep_parse.specs.Declaration.{parts_to_end, up_to_end}
 use Rattle.hep_parse.proofs.EndLoops.{with_before}
 use Rattle.hep_parse.proofs.declaration.up_to_end.Given as goal
 

@@ -3,7 +3,7 @@ use Rattle.indexmap.specs.IndexSet.{contains}
 use Rattle.hep_machine.specs.Words.{is_among, name_eq, node_tree}
 use Rattle.hep_names.specs.Tables.{either}
 use Rattle.hep_names.proofs.Notes.{added}
-use Rattle.hep_image.specs.Private.{bare_name}
+use Rattle.hep_conditions.specs.Statements.{bare_name}
 use Rattle.hep_places.proofs.GatheredStarts.{among-one}
 use Rattle.hep_places.proofs.bare_actuals.add_name.Goals as goal
 

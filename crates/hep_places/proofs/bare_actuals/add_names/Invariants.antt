@@ -3,7 +3,7 @@ use Rattle.std.specs.List.{flat_map}
 use Rattle.indexmap.specs.IndexSet.{contains}
 use Rattle.hep_machine.specs.Words.{Name, is_among, name_eq}
 use Rattle.hep_names.specs.Tables.{either}
-use Rattle.hep_image.specs.Private.{bare_name}
+use Rattle.hep_conditions.specs.Statements.{bare_name}
 use Rattle.hep_places.proofs.bare_actuals.add_names.Given as goal
 
 abbrev pub invariant-loop-actual : goal.invariant-loop-actual

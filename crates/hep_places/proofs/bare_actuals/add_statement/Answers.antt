@@ -6,7 +6,8 @@ use Rattle.hep_conditions.specs.Words.{NameWithList, names_with_lists}
 use Rattle.hep_names.specs.Lists.{listed}
 use Rattle.hep_names.specs.declared.lists.NameWithList.{NameWithList as Reference}
 use Rattle.hep_names.specs.Tables.{either}
-use Rattle.hep_image.specs.Private.{bare_actuals_in, bare_in_list}
+use Rattle.hep_image.specs.Private.{bare_in_list}
+use Rattle.hep_conditions.specs.Statements.{bare_actuals_in}
 use Rattle.hep_places.proofs.GatheredStarts.{among-both}
 use Rattle.hep_places.proofs.bare_actuals.add_statement.Goals as goal
 

@@ -1,7 +1,7 @@
 use Rattle.std.proofs.Common.{ap, ◌∙◌}
 use Rattle.std.specs.Option.{unwrap_or}
 use Rattle.hep_machine.specs.Words.{index_among}
-use Rattle.hep_common.proofs.Indexes.{name-index}
+use Rattle.hep_storage.proofs.Indexes.{name-index}
 use Rattle.hep_places.proofs.frame_owners.index_of.Goals as goal
 
 pub returns : goal.returns

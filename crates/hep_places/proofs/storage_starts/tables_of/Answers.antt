@@ -2,7 +2,7 @@ use Rattle.std.proofs.Common.{◌≡◌, ◌+◌, ◌*◌, ◌++◌, List, [], �
 use Rattle.std.specs.Option.{option_or}
 use Rattle.indexmap.specs.IndexMap.{get}
 use Rattle.hep_machine.specs.Words.{name_eq, Occurrence, Statement, dummies_of, names_of_occurrences, adjustable_dimensions}
-use Rattle.hep_common.specs.Starts.{narrowed}
+use Rattle.hep_storage.specs.Starts.{narrowed}
 use Rattle.hep_places.specs.StorageStarts.{adjustable_row, behind, behind_loops, first_bound, first_local, first_loop, loops_from, name_row, start_among}
 use Rattle.hep_places.proofs.storage_starts.tables_of.Goals as goal
 use Rattle.hep_source.proofs.Statements.{names-length}

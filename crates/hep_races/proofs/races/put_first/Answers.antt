@@ -1,7 +1,7 @@
 use Rattle.std.proofs.Common.{◌≡◌, ◌∷◌, not, nat_eq, map, ap, ◌∙◌, rules}
 use Rattle.std.specs.List.{filter}
 use Rattle.std.proofs.lemmas.Fn.{filter_same}
-use Rattle.hep_order.specs.Detector.{is_repeated}
+use Rattle.hep_accesses.specs.Detector.{is_repeated}
 use Rattle.hep_races.specs.declared.event.StepAccess.{StepAccess}
 use Rattle.hep_races.specs.Observed.{step_access_in, unit_eq}
 use Rattle.hep_races.proofs.Racing.{map-filtered}

@@ -2,7 +2,7 @@ use Rattle.std.proofs.Common.{◌≡◌, ℕ, false, refl}
 use Rattle.hep_step.specs.declared.call_kind.CallKind.{CallKind}
 use Rattle.hep_step.specs.declared.call_kind.CallKind.TheVariants.{Calls, Creates, Refers}
 use Rattle.hep_step.specs.NextCalls.{making}
-use Rattle.hep_step.specs.Changes.{may_change}
+use Rattle.hep_step.specs.Effects.{may_change}
 use Rattle.hep_state.proofs.CallerRoom.{ahead-on-top}
 use Rattle.hep_state.proofs.Changes.{none-ahead}
 use Rattle.hep_state.proofs.laws.calls_touch_nothing.Goals as goal

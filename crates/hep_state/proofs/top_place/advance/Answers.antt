@@ -3,8 +3,7 @@ use Rattle.hep_machine.specs.Words.{Value}
 use Rattle.hep_code.specs.declared.instruction.Instruction.{Instruction}
 use Rattle.hep_image.specs.declared.array.Array.{Array}
 use Rattle.hep_proc.specs.Nodes.{nodes_of}
-use Rattle.hep_step.specs.Changes.{changed_at}
-use Rattle.hep_step.specs.Effects.{effect_at}
+use Rattle.hep_step.specs.Effects.{effect_at, changed_at}
 use Rattle.hep_step.specs.PerformedSteps as performed
 use Rattle.hep_step.specs.PerformedSteps.{IsPerformed, snapshot}
 use Rattle.hep_step.specs.StepReady.{IsReady}

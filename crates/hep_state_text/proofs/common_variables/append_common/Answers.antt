@@ -2,7 +2,7 @@ use Rattle.std.proofs.Common.{◌≡◌, ◌+◌, ◌<◌, ◌≤◌, ◌++◌, 
 use Rattle.std.specs.List.{flat_map}
 use Rattle.std.proofs.lemmas.List.{drop_all, drop_more}
 use Rattle.std.proofs.lemmas.Option.{slice_get-get_or}
-use Rattle.hep_common.specs.Starts.{AreBlocks}
+use Rattle.hep_storage.specs.Starts.{AreBlocks}
 use Rattle.hep_machine.specs.Words.{BlockName, Units, block_cells, blocks_of, common_cells, is_block_among, run}
 use Rattle.hep_names.proofs.Firsts.{grow}
 use Rattle.hep_state_text.specs.States as words

@@ -1,4 +1,4 @@
-use Rattle.hep_step.proofs.SilentOperations.{call_ahead, call_fails, passed_last}
+use Rattle.hep_step.proofs.Operations.{call_ahead, call_fails, passed_last}
 use Rattle.hep_step.proofs.laws.calls_are_ahead.Goals as goal
 
 pub returns : goal.returns

@@ -1,4 +1,4 @@
-use Rattle.hep_step.proofs.SilentOperations.{lowest_goes_on, resume_ahead}
+use Rattle.hep_step.proofs.Operations.{lowest_goes_on, resume_ahead}
 use Rattle.hep_step.proofs.laws.resumes_are_ahead.Goals as goal
 
 pub returns : goal.returns

@@ -1,7 +1,7 @@
 use Rattle.std.proofs.Common.{◌∙◌, ap, sym}
 use Rattle.hep_conditions.specs.Words.{reported}
 use Rattle.hep_conditions.proofs.Lines.{reported-where}
-use Rattle.hep_names.specs.Passes.{line_of}
+use Rattle.hep_names.specs.Parts.{line_of}
 use Rattle.hep_types.specs.CallPasses.{is_mismatched}
 use Rattle.hep_types.proofs.call_violation.argument_violation.Goals as goal
 

@@ -1,6 +1,6 @@
 use Rattle.std.proofs.Common.{◌≡◌, drop}
 use Rattle.hep_conditions.specs.Words.{least_line, least_line_where}
-use Rattle.hep_names.specs.Passes.{line_of}
+use Rattle.hep_names.specs.Parts.{line_of}
 use Rattle.hep_types.specs.CallPasses.{is_mismatched}
 use Rattle.hep_types.proofs.call_violation.least_mismatched.Given as goal
 

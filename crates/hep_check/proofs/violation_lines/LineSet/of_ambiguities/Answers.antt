@@ -1,6 +1,6 @@
 use Rattle.std.proofs.Common.{◌≤◌, length, nat_eq, arith}
 use Rattle.indexmap.specs.IndexSet.{contains}
-use Rattle.hep_uses.specs.declared.all_ambiguities.Ambiguity.{Ambiguity}
+use Rattle.hep_types.specs.declared.all_ambiguities.Ambiguity.{Ambiguity}
 use Rattle.hep_check.proofs.LineSets.{added, gathered}
 use Rattle.hep_check.proofs.violation_lines.LineSet.of_ambiguities.Goals as goal
 

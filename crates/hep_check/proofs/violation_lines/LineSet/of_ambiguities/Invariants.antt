@@ -1,7 +1,7 @@
 use Rattle.std.proofs.Common.{◌≡◌, ◌||◌, ℕ, nat_eq, drop}
 use Rattle.std.specs.List.{list_any}
 use Rattle.indexmap.specs.IndexSet.{contains}
-use Rattle.hep_uses.specs.declared.all_ambiguities.Ambiguity.{Ambiguity}
+use Rattle.hep_types.specs.declared.all_ambiguities.Ambiguity.{Ambiguity}
 use Rattle.hep_check.proofs.violation_lines.LineSet.of_ambiguities.Given as goal
 
 abbrev pub invariant-loop-ambiguity : goal.invariant-loop-ambiguity

@@ -1,5 +1,5 @@
 use Rattle.std.proofs.Common.{ap, ◌∙◌, nat_eq}
-use Rattle.hep_order.specs.Detector.{detector_after_accesses}
+use Rattle.hep_accesses.specs.Detector.{detector_after_accesses}
 use Rattle.hep_races.specs.Observed.{event_in, unit_eq}
 use Rattle.hep_races.specs.Tables.{detector_with}
 use Rattle.hep_races.specs.Vectors.{clock_in, clocks_in}

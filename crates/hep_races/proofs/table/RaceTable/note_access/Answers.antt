@@ -1,7 +1,7 @@
 use Rattle.std.proofs.Common.{[], ◌∷◌, Some, ap, ◌∙◌, if◌then◌else◌, map, nat_eq, not, sym}
 use Rattle.std.specs.List.{filter}
 use Rattle.indexmap.specs.IndexMap.{get}
-use Rattle.hep_order.specs.Detector.{is_repeated}
+use Rattle.hep_accesses.specs.Detector.{is_repeated}
 use Rattle.hep_races.specs.Observed.{step_access_in, unit_eq}
 use Rattle.hep_races.specs.Tables.{accesses_from}
 use Rattle.hep_races.proofs.UnitEntries.{latest-after}

@@ -1,6 +1,6 @@
 use Rattle.std.proofs.Common.{◌≡◌, drop, map, nat_eq}
-use Rattle.hep_order.specs.Clocks.{Clocks as AllClocks}
-use Rattle.hep_order.specs.Detector.{detector_after_accesses}
+use Rattle.hep_accesses.specs.Clocks.{Clocks as AllClocks}
+use Rattle.hep_accesses.specs.Detector.{detector_after_accesses}
 use Rattle.hep_races.specs.declared.storage_unit.StorageUnit.{StorageUnit}
 use Rattle.hep_races.specs.Observed.{access_in, unit_eq}
 use Rattle.hep_races.specs.Tables.{detector_with}

@@ -3,9 +3,8 @@ use Rattle.std.proofs.lemmas.Result.{IfOk-weaker, on_err_weaker}
 use Rattle.hep_cells.specs.declared.want.Want.{Want}
 use Rattle.hep_step.specs.declared.effect.Effect.{Effect}
 use Rattle.hep_step.specs.declared.effect.Effect.TheVariants.{Moved, Printed, Failed, Waits, Returned, Answered, Stopped, LeftOut}
-use Rattle.hep_step.specs.Changes.{changed_at}
 use Rattle.hep_step.specs.Effects as effects
-use Rattle.hep_step.specs.Effects.{effect_at}
+use Rattle.hep_step.specs.Effects.{effect_at, changed_at}
 use Rattle.hep_step.specs.PerformedSteps as performed
 use Rattle.hep_step.specs.PerformedSteps.{changed_in}
 use Rattle.hep_step.specs.Simulation.{unit_arrays, unit_code}

@@ -1,6 +1,0 @@
-use Rattle.std.proofs.Common.{◌∙◌}
-use Rattle.hep_common.proofs.Tables.{block-inserted}
-use Rattle.hep_common.proofs.common.add_block.Goals as goal
-
-pub returns : goal.returns
-returns c = c.in_ok-insert.ensures.keys ∙ block-inserted c.args.blocks.now.keys c.args.block

@@ -1,9 +1,0 @@
-pub mod CodeLengths
-pub mod ActualCode
-pub mod StateFunctionCode
-pub mod ExpressionRefusals
-pub mod Uses
-pub mod Flows
-pub mod Forms
-pub mod Indexes
-pub mod UnitRefusals

@@ -1,9 +1,0 @@
-pub mod Names
-pub mod ArgumentLimits
-pub mod StateFunctionSubscripts
-pub mod Uses
-pub mod Destinations
-pub mod Operations
-pub mod Tables
-pub mod UnitLimits
-pub mod Starts

@@ -1,5 +1,0 @@
-use Rattle.hep_order.proofs.SameRows.{same-rows}
-use Rattle.hep_order.proofs.laws.clocks_tell_races.Goals as goal
-
-pub returns : goal.returns
-returns c same alike es laws = same-rows same alike laws es

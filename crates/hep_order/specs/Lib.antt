@@ -1,9 +1,0 @@
-pub mod Events
-pub mod HappensBefore
-pub mod Pasts
-pub mod Clocks
-pub mod Firsts
-pub mod Races
-pub mod Pairs
-pub mod Detector
-pub mod Reorderings

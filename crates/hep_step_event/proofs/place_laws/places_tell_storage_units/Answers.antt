@@ -1,5 +1,0 @@
-use Rattle.hep_step_event.proofs.PlacesTold.{places-told}
-use Rattle.hep_step_event.proofs.place_laws.places_tell_storage_units.Goals as goal
-
-pub returns : goal.returns
-returns c program s a b h g = places-told program s a b h g

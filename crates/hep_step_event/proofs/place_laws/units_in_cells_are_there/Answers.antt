@@ -1,5 +1,0 @@
-use Rattle.hep_step_event.proofs.UnitsInCells.{there}
-use Rattle.hep_step_event.proofs.place_laws.units_in_cells_are_there.Goals as goal
-
-pub returns : goal.returns
-returns c program cells choices layout at cell laid e = there program cells choices layout laid at cell e

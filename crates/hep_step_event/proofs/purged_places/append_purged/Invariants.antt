@@ -1,5 +1,0 @@
-use Rattle.hep_step_event.proofs.PurgedPlaces.{AreAllAppended}
-use Rattle.hep_step_event.proofs.purged_places.append_purged.Given as goal
-
-abbrev pub invariant-loop-entry : goal.invariant-loop-entry
-invariant-loop-entry l = AreAllAppended l.ahead l.count l.entry-index l.rest l.places.items l.initial.places.items

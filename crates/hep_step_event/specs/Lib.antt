@@ -1,4 +1,0 @@
-pub mod StepChanges
-pub mod StoragePlaces
-pub mod FullUnits
-pub mod StepEvents

@@ -1,0 +1,124 @@
+//! Names that are used twice or in two ways, by their lines (X3.9-1978, 18.1 and 18.2).
+ghost use Rattle.std.specs.Prelude.{◌≡◌, ◌||◌, IfOk, OnOk};
+ghost use Rattle.indexmap.specs.IndexMap.{get};
+ghost use Rattle.indexmap.specs.IndexSet.{contains};
+ghost use Rattle.hep_machine.specs.Words.{same_name, name_eq};
+ghost use Rattle.hep_source.specs.declared.name.Name.{Name as PureName};
+ghost use Rattle.hep_conditions.specs.Reported as reported;
+ghost use Rattle.hep_types.specs.AmbiguityLines as passes;
+
+use crate::uses::Use;
+use hep_conditions::reported::{lesser, line_when};
+use hep_source::Name;
+use indexmap::{IndexMap, IndexSet};
+use std::alloc::{AllocError, Global};
+
+/// The set of names seen so far.
+pub(crate) struct SeenNames {
+    pub(crate) set: IndexSet<Name>,
+}
+
+// This is written out so that the proof of a caller has one call of it at each exit.
+impl Drop for SeenNames {
+    fn drop(self) {
+        let SeenNames { set } = self;
+    }
+}
+
+/// The lines of names.
+pub(crate) struct LinesByName {
+    pub(crate) map: IndexMap<Name, u32>,
+}
+
+// This is written out so that the proof of a caller has one call of it at each exit.
+impl Drop for LinesByName {
+    fn drop(self) {
+        let LinesByName { map } = self;
+    }
+}
+
+/// Adds a name to those seen. The result is whether it was among them.
+pub(crate) fn add(seen: &mut IndexSet<Name>, name: Name) -> Result<bool, AllocError>
+    ensures added { OnOk result ((x : PureName) → contains name_eq seen.new x ≡ (same_name x name || contains name_eq seen.old x)) }
+    ensures seen { IfOk result (λ was_there. was_there ≡ contains name_eq seen.old name) }
+{
+    Ok(!seen.insert(name)?)
+}
+
+/// The least line of a use whose name an earlier use has.
+pub(crate) fn least_repeated(alloc: Global, uses: &[Use]) -> Result<Option<u32>, AllocError>
+    ensures { IfOk result (λ line. line ≡ passes.least_repeated_name uses.now) }
+{
+    let set = IndexSet::with_capacity(alloc, uses.len())?;
+    let mut seen = SeenNames { set };
+    let mut least = None;
+    for (name, line) in uses {
+        let is_repeated = add(&mut seen.set, *name)?;
+        least = lesser(least, line_when(is_repeated, *line));
+    }
+    Ok(least)
+}
+
+fn lesser_line(other: Option<u32>, line: u32) -> u32
+    ensures { Some result ≡ reported.least_line other (Some line) }
+{
+    match other {
+        Some(other) => line.min(other),
+        None => line,
+    }
+}
+
+// Records a line of a name, and keeps the least one.
+fn note_line(lines: &mut IndexMap<Name, u32>, name: Name, line: u32) -> Result<(), AllocError>
+    ensures { OnOk result ((x : PureName) → get name_eq lines.new x
+        ≡ reported.least_line (get name_eq lines.old x) (reported.line_when (same_name name x) line)) }
+{
+    let least = lesser_line(lines.get(&name).copied(), line);
+    lines.insert(name, least)?;
+    Ok(())
+}
+
+/// The least line at which each name is used.
+pub(crate) fn lines_by_name(alloc: Global, uses: &[Use]) -> Result<LinesByName, AllocError>
+    ensures { IfOk result (λ lines. (x : PureName) → get name_eq lines.map x ≡ passes.least_named uses.now x) }
+{
+    let mut lines = LinesByName {
+        map: IndexMap::new(alloc),
+    };
+    for (name, line) in uses {
+        note_line(&mut lines.map, *name, *line)?;
+    }
+    Ok(lines)
+}
+
+// The later of the line of a use and the line of its name in the table.
+fn later_line(lines: &IndexMap<Name, u32>, name: &Name, line: u32) -> Option<u32>
+    ensures { result ≡ passes.later_line (get name_eq lines.now) (name.now, line) }
+{
+    match lines.get(name) {
+        Some(other) => Some(line.max(*other)),
+        None => None,
+    }
+}
+
+/// For each of these uses whose name the table has, the later of the two lines; the result is the least of these.
+pub(crate) fn least_met(lines: &IndexMap<Name, u32>, uses: &[Use]) -> Option<u32>
+    ensures { result ≡ passes.least_met (get name_eq lines.now) uses.now }
+{
+    let mut least = None;
+    for (name, line) in uses {
+        least = lesser(least, later_line(lines, name, *line));
+    }
+    least
+}
+
+/// For each two uses of a name, one of each list, the later of the two lines; the result is the least of these.
+pub(crate) fn least_both_ways(
+    alloc: Global,
+    one: &[Use],
+    other: &[Use],
+) -> Result<Option<u32>, AllocError>
+    ensures { IfOk result (λ line. line ≡ passes.least_both_ways one.now other.now) }
+{
+    Ok(least_met(&lines_by_name(alloc, one)?.map, other))
+}

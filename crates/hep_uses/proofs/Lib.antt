@@ -1,4 +1,0 @@
-pub mod Used
-pub mod Overlaps
-pub mod Ways
-pub mod Reported

@@ -1,9 +1,0 @@
-use Rattle.hep_conditions.specs.Words.{function_types}
-use Rattle.hep_uses.specs.Ambiguities.{twice_in}
-use Rattle.hep_uses.proofs.Reported.{flat-more}
-use Rattle.hep_uses.proofs.all_ambiguities.add_given_twice.Goals as goal
-
-pub loop-way-preserved : goal.loop-way-preserved
-loop-way-preserved c =
-    flat-more (twice_in (function_types c.args.program.now) c.args.symbols.now) c.args.ways.now c.loop-way.way-index _ c.loop-way.found.items c.add_twice.new.found.items _
-    c.loop-way-test.true c.loop-way.invariant c.in_ok-add_twice.ensures

@@ -1,3 +1,0 @@
-pub mod Uses
-pub mod AmbiguityLines
-pub mod Ambiguities
