@@ -20,7 +20,7 @@ _hepf_has_file() {
     local index
     for ((index = $1 + 1; index < COMP_CWORD; index++)); do
         case ${COMP_WORDS[index]} in
-            --long | --warn | --help) ;;
+            --long | --warn | --fixed | --free | --capitals | --help) ;;
             --*)
                 ((index += 1))
                 [[ ${COMP_WORDS[index]} != = ]] || ((index += 1))
@@ -39,7 +39,7 @@ _hepf() {
     [[ $word != = ]] || word=
     case $before in
         --arena | --at | --from | --to | --process | --cell | --steps | --workers | --seed | --runs) return ;;
-        --choices | --follow | --history | --keep)
+        --choices | --follow | --history | --keep | -o)
             _hepf_offer -f
             return
             ;;
@@ -48,7 +48,7 @@ _hepf() {
     local at=1
     [[ ${COMP_WORDS[1]} != --long ]] || at=2
     if ((COMP_CWORD <= at)); then
-        _hepf_offer -W "check run sample replay state trace page why cover diff list explain help --long --help --version"
+        _hepf_offer -W "check run sample replay state trace page why cover diff list explain from help --long --help --version"
         return
     fi
     case ${COMP_WORDS[at]} in
@@ -72,6 +72,7 @@ _hepf() {
             _hepf_offer -W "$options"
             return
             ;;
+        from) options="--fixed --free --capitals --help" ;;
         help)
             _hepf_offer -W "check run sample replay state trace page why cover diff list explain"
             return

@@ -14,6 +14,7 @@ for command in hepf hepf-unproved
     complete -c $command -n __fish_use_subcommand -a diff -d 'say what differs between the runs of two histories'
     complete -c $command -n __fish_use_subcommand -a list -d 'show the units and common blocks of a source'
     complete -c $command -n __fish_use_subcommand -a explain -d 'say what a line or a status means'
+    complete -c $command -n __fish_use_subcommand -a from -d 'show what a listing needs to be a source'
     complete -c $command -n __fish_use_subcommand -a help -d 'show help'
     complete -c $command -n __fish_use_subcommand -l long -d 'say more of what went wrong'
     complete -c $command -n __fish_use_subcommand -l help -d 'show help'
@@ -37,6 +38,12 @@ for command in hepf hepf-unproved
     complete -c $command -n '__fish_seen_subcommand_from run state trace page why cover diff' -l choices -r -F -d 'processes that are chosen first'
     complete -c $command -n '__fish_seen_subcommand_from run' -l follow -r -F -d 'history whose steps are made first'
     complete -c $command -n '__fish_seen_subcommand_from run' -l history -r -F -d 'file that gets the history'
+    complete -c $command -n '__fish_seen_subcommand_from from' -F
+    complete -c $command -n '__fish_seen_subcommand_from from' -s o -r -F -d 'file that gets the source'
+    complete -c $command -n '__fish_seen_subcommand_from from' -l fixed -d 'statements begin in column 7'
+    complete -c $command -n '__fish_seen_subcommand_from from' -l free -d 'statements begin anywhere'
+    complete -c $command -n '__fish_seen_subcommand_from from' -l capitals -d 'write small letters as capitals'
+    complete -c $command -n '__fish_seen_subcommand_from from' -l help -d 'show help'
     complete -c $command -n '__fish_seen_subcommand_from help' -a 'check run sample replay state trace page why cover diff list explain'
     complete -c $command -n '__fish_seen_subcommand_from explain' -a '101 102 103 104 105 106 107 201 202 203 204 205 301 302 303 304 305 306 307 308 309 310 311 312 401 402 501 506 601 602 603 701 702 703 704 705 OVERFLOW DIVIDE RANGE UNDEFINED SHAPE STEP FAULT WAITING STOPPED ARENA NO WORKERS READ WRITE REFUSED STILL WARNING STATUS FULL LIMIT MEMORY RUNNING 0 1 2 3 4 5 6 7 8 70'
 end

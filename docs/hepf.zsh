@@ -17,6 +17,7 @@ _hepf() {
         'diff:say what differs between the runs of two histories'
         'list:show the units and common blocks of a source'
         'explain:say what a line or a status means'
+        'from:show what a listing needs to be a source'
         'help:show help'
     )
     _arguments -C '--long[say more of what went wrong]' '--help[show help]' '--version[show the version]' '1: :->command' '*:: :->words'
@@ -86,6 +87,10 @@ _hepf_words() {
         explain)
             _arguments '--long[say more of what went wrong]' '--help[show help]' '1:number or name:(101 102 103 104 105 106 107 201 202 203 204 205 301 302 303 304 305 306 307 308 309 310 311 312 401 402 501 506 601 602 603 701 702 703 704 705 OVERFLOW DIVIDE RANGE UNDEFINED SHAPE STEP FAULT WAITING STOPPED ARENA NO WORKERS READ WRITE REFUSED STILL WARNING STATUS)' \
                 '*:its next word:(ARENA STEP FULL LIMIT MEMORY REFUSED FAULT RUNNING 0 1 2 3 4 5 6 7 8 70)'
+            ;;
+        from)
+            _arguments '-o[file that gets the source]:source:_files' '--fixed[statements begin in column 7]' '--free[statements begin anywhere]' \
+                '--capitals[write small letters as capitals]' '--help[show help]' '1:listing:_files'
             ;;
         help)
             _arguments '1:command:(check run sample replay state trace page why cover diff list explain)'
