@@ -3,4 +3,3 @@ pub mod StatementCode
 mod TakenOperations
 pub mod StartMarks
 pub mod CountedSteps
-mod CountedReplays

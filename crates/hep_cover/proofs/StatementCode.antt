@@ -59,7 +59,8 @@ module _ (line : ℕ) (found its : List ℕ) where
 
   -- an operation that has more behind it
   after : (o : Operation) (n : ℕ) (rest : List Instruction) → ahead_by o (operations_ahead rest) ≡ suc (operations_ahead rest)
-      → noted_by o line (suc (operations_ahead rest)) (noted_from rest found) ≡ with_line (noted_from rest found) line (suc (operations_ahead rest))
+      → noted_by o line (suc (operations_ahead rest)) (noted_from rest found)
+      ≡ with_line (noted_from rest found) line (suc (operations_ahead rest))
       → Has line n found its rest → Has line (suc n) found its (Step line o ∷ rest)
   after o n rest counts notes h = record {
     ahead = counts ∙ ap suc h.ahead;
@@ -73,7 +74,8 @@ module _ (line : ℕ) (found its : List ℕ) where
   one e n rest h = recounted (suc n) (1 + n) (Step line (Evaluate e) ∷ rest) (omega arith) (after (Evaluate e) n rest refl refl h)
 
   -- actual arguments stand behind a reference
-  passed : (addressed : AddressedUnit) (ts : Trees) (n : ℕ) (rest : List Instruction) → Has line n found its rest → Has line n found its (passes (names_of addressed) ts ++ rest)
+  passed : (addressed : AddressedUnit) (ts : Trees) (n : ℕ) (rest : List Instruction) → Has line n found its rest
+      → Has line n found its (passes (names_of addressed) ts ++ rest)
   passed addressed no_trees n rest h = h
   passed addressed (trees t ts) n rest h =
       let more = passed addressed ts n rest h in
@@ -92,10 +94,13 @@ module _ (addressed : AddressedUnit) (line : ℕ) (found its : List ℕ) where
   -- a reference of a function, behind its actual arguments
   referred : (x : Name) (ts : Trees) → More-here (Step line (Refer (addressed.functions x) (count ts)) ∷ passes (names_of addressed) ts) 1
   referred x ts n rest h =
-      recounted line found its (suc n) (1 + n) (Step line (Refer (addressed.functions x) (count ts)) ∷ (passes (names_of addressed) ts ++ rest)) (omega arith) (
-      after line found its (Refer (addressed.functions x) (count ts)) n (passes (names_of addressed) ts ++ rest) refl refl (passed line found its addressed ts n rest h))
+      recounted line found its (suc n) (1 + n)
+      (Step line (Refer (addressed.functions x) (count ts)) ∷ (passes (names_of addressed) ts ++ rest)) (omega arith) (
+      after line found its (Refer (addressed.functions x) (count ts)) n
+      (passes (names_of addressed) ts ++ rest) refl refl (passed line found its addressed ts n rest h))
 
-  listed-is : (m : Meaning) (x : Name) (ts : Trees) (list asked actuals : List Instruction) (a b c : ℕ) → More-here list a → More-here asked b → More-here actuals c
+  listed-is : (m : Meaning) (x : Name) (ts : Trees) (list asked actuals : List Instruction) (a b c : ℕ) → More-here list a
+      → More-here asked b → More-here actuals c
       → More-here (listed_code (names_of addressed) m line x ts list asked actuals) (of_listed m a b c)
   listed-is element x ts list asked actuals a b c f g h = both line found its list _ a 1 f (one line found its _)
   listed-is (pure fun) x ts list asked actuals a b c f g h = both line found its list _ a 1 f (one line found its _)
@@ -112,7 +117,8 @@ module _ (addressed : AddressedUnit) (line : ℕ) (found its : List ℕ) where
   actual-name None = nothing line found its
   actual-name (Some v) = pushed line found its v
 
-  actual-listed : (m : Meaning) (list value : List Instruction) (a b : ℕ) → More-here list a → More-here value b → More-here (actual_listed_code m list value) (of_actual m a b)
+  actual-listed : (m : Meaning) (list value : List Instruction) (a b : ℕ) → More-here list a → More-here value b
+      → More-here (actual_listed_code m list value) (of_actual m a b)
   actual-listed element list value a b f g = f
   actual-listed (pure fun) list value a b f g = g
   actual-listed (state fun) list value a b f g = g
@@ -129,23 +135,28 @@ module _ (addressed : AddressedUnit) (line : ℕ) (found its : List ℕ) where
     tree-is (constant v) = pushed line found its v
     tree-is (occurrence p) = name-is (constant_value unit p.name) p.name
     tree-is (with_list p ts) =
-        listed-is (listed_meaning unit p.name) p.name ts (trees_code names line ts) (asked_code names line ts) (actuals_code_in names line ts) _ _ _ (trees-are ts) (asked-is ts) (actuals-are ts)
+        listed-is (listed_meaning unit p.name) p.name ts (trees_code names line ts) (asked_code names line ts)
+        (actuals_code_in names line ts) _ _ _ (trees-are ts) (asked-is ts) (actuals-are ts)
     tree-is (parenthesized t) = tree-is t
     tree-is (signed s t) = both line found its (tree_code names line t) _ (in_tree unit t) 1 (tree-is t) (one line found its _)
     tree-is (negated t) = both line found its (tree_code names line t) _ (in_tree unit t) 1 (tree-is t) (one line found its _)
     tree-is (binary o a b) =
         both line found its (tree_code names line a ++ tree_code names line b) _ (in_tree unit a + in_tree unit b) 1 (
-        both line found its (tree_code names line a) (tree_code names line b) (in_tree unit a) (in_tree unit b) (tree-is a) (tree-is b)) (one line found its _)
+        both line found its (tree_code names line a) (tree_code names line b) (in_tree unit a)
+        (in_tree unit b) (tree-is a) (tree-is b)) (one line found its _)
 
     trees-are : (ts : Trees) → More-here (trees_code names line ts) (in_trees unit ts)
     trees-are no_trees = nothing line found its
-    trees-are (trees t ts) = both line found its (tree_code names line t) (trees_code names line ts) (in_tree unit t) (in_trees unit ts) (tree-is t) (trees-are ts)
+    trees-are (trees t ts) =
+        both line found its (tree_code names line t) (trees_code names line ts)
+        (in_tree unit t) (in_trees unit ts) (tree-is t) (trees-are ts)
 
     asked-is : (ts : Trees) → More-here (asked_code names line ts) (in_asked unit ts)
     asked-is no_trees = nothing line found its
     asked-is (trees (constant v) ts) = nothing line found its
     asked-is (trees (occurrence p) ts) = nothing line found its
-    asked-is (trees (with_list p ts) no_trees) = asked-listed (listed_meaning unit p.name) (trees_code names line ts) (in_trees unit ts) (trees-are ts)
+    asked-is (trees (with_list p ts) no_trees) =
+        asked-listed (listed_meaning unit p.name) (trees_code names line ts) (in_trees unit ts) (trees-are ts)
     asked-is (trees (with_list p ts) (trees u us)) = nothing line found its
     asked-is (trees (parenthesized t) ts) = nothing line found its
     asked-is (trees (signed s t) ts) = nothing line found its
@@ -157,23 +168,29 @@ module _ (addressed : AddressedUnit) (line : ℕ) (found its : List ℕ) where
     actual-is (occurrence p) = actual-name (constant_value unit p.name)
     actual-is (with_list p ts) =
         actual-listed (listed_meaning unit p.name) (trees_code names line ts) _ (in_trees unit ts) _ (trees-are ts) (
-        listed-is (listed_meaning unit p.name) p.name ts (trees_code names line ts) (asked_code names line ts) (actuals_code_in names line ts) _ _ _ (trees-are ts) (asked-is ts) (actuals-are ts))
+        listed-is (listed_meaning unit p.name) p.name ts (trees_code names line ts) (asked_code names line ts)
+        (actuals_code_in names line ts) _ _ _ (trees-are ts) (asked-is ts) (actuals-are ts))
     actual-is (parenthesized t) = tree-is t
     actual-is (signed s t) = both line found its (tree_code names line t) _ (in_tree unit t) 1 (tree-is t) (one line found its _)
     actual-is (negated t) = both line found its (tree_code names line t) _ (in_tree unit t) 1 (tree-is t) (one line found its _)
     actual-is (binary o a b) =
         both line found its (tree_code names line a ++ tree_code names line b) _ (in_tree unit a + in_tree unit b) 1 (
-        both line found its (tree_code names line a) (tree_code names line b) (in_tree unit a) (in_tree unit b) (tree-is a) (tree-is b)) (one line found its _)
+        both line found its (tree_code names line a) (tree_code names line b) (in_tree unit a)
+        (in_tree unit b) (tree-is a) (tree-is b)) (one line found its _)
 
     actuals-are : (ts : Trees) → More-here (actuals_code_in names line ts) (in_actuals unit ts)
     actuals-are no_trees = nothing line found its
-    actuals-are (trees t ts) = both line found its (actual_code names line t) (actuals_code_in names line ts) (in_actual unit t) (in_actuals unit ts) (actual-is t) (actuals-are ts)
+    actuals-are (trees t ts) =
+        both line found its (actual_code names line t) (actuals_code_in names line ts)
+        (in_actual unit t) (in_actuals unit ts) (actual-is t) (actuals-are ts)
 
   -- ---- lists of them
 
-  all-of : {A : Type 0} (code : A → List Instruction) (count : A → ℕ) → ((x : A) → More-here (code x) (count x)) → (xs : List A) → More-here (flat_map code xs) (total count xs)
+  all-of : {A : Type 0} (code : A → List Instruction) (count : A → ℕ) → ((x : A) → More-here (code x) (count x)) → (xs : List A)
+      → More-here (flat_map code xs) (total count xs)
   all-of code count each [] = nothing line found its
-  all-of code count each (x ∷ xs) = both line found its (code x) (flat_map code xs) (count x) (total count xs) (each x) (all-of code count each xs)
+  all-of code count each (x ∷ xs) =
+      both line found its (code x) (flat_map code xs) (count x) (total count xs) (each x) (all-of code count each xs)
 
   target-is : (t : Target) → More-here (target_code names line t) (in_target unit t)
   target-is t = trees-are (trees_of t.subscripts)
@@ -185,7 +202,8 @@ module _ (addressed : AddressedUnit) (line : ℕ) (found its : List ℕ) where
   control-is : (c : DoControl) → More-here (control_code names line c) (in_control unit c)
   control-is c =
       both line found its (tree_code names line c.initial) _ (in_tree unit c.initial) _ (tree-is c.initial) (
-      both line found its (tree_code names line c.limit) (tree_code names line (increment_of c.increment)) (in_tree unit c.limit) _ (tree-is c.limit) (tree-is (increment_of c.increment)))
+      both line found its (tree_code names line c.limit) (tree_code names line (increment_of c.increment))
+      (in_tree unit c.limit) _ (tree-is c.limit) (tree-is (increment_of c.increment)))
 
   -- ---- statements
 
@@ -193,7 +211,8 @@ module _ (addressed : AddressedUnit) (line : ℕ) (found its : List ℕ) where
   table = table_of addressed
 
   operands-are : (f : Form) → More-here (operands_code table line f) (in_operands unit f)
-  operands-are (form.Assign x t) = both line found its (tree_code names line t) (target_code names line x) (in_tree unit t) (in_target unit x) (tree-is t) (target-is x)
+  operands-are (form.Assign x t) =
+      both line found its (tree_code names line t) (target_code names line x) (in_tree unit t) (in_target unit x) (tree-is t) (target-is x)
   operands-are (form.ComputedGoTo labels t) = tree-is t
   operands-are (form.ArithmeticIf t labels) = tree-is t
   operands-are (form.IfThen t) = tree-is t
@@ -224,20 +243,24 @@ module _ (addressed : AddressedUnit) (line : ℕ) (found its : List ℕ) where
 -- ---- what a statement does behind its operands, and what it goes on by
 
 -- entries behind an operation
-skipped : {T : Type 0} (f : T → Instruction) → ((x : T) (n : ℕ) (found : List ℕ) → noted (f x) n found ≡ found) → (ts : List T) (rest : List Instruction) (found : List ℕ)
+skipped : {T : Type 0} (f : T → Instruction) → ((x : T) (n : ℕ) (found : List ℕ) → noted (f x) n found ≡ found)
+    → (ts : List T) (rest : List Instruction) (found : List ℕ)
     → noted_from (map f ts ++ rest) found ≡ noted_from rest found
 skipped f none [] rest found = refl
-skipped f none (t ∷ ts) rest found = none t (operations_ahead (f t ∷ (map f ts ++ rest))) (noted_from (map f ts ++ rest) found) ∙ skipped f none ts rest found
+skipped f none (t ∷ ts) rest found =
+    none t (operations_ahead (f t ∷ (map f ts ++ rest))) (noted_from (map f ts ++ rest) found) ∙ skipped f none ts rest found
 
 module _ (addressed : AddressedUnit) (found : List ℕ) where
   abbrev its_table : Table
   its_table = table_of addressed
 
-  ended : (line : ℕ) (rest : List Instruction) (x : Option Variable) → Has line 1 found (noted_from rest found) (Step line (ending_of x) ∷ rest)
+  ended : (line : ℕ) (rest : List Instruction) (x : Option Variable)
+      → Has line 1 found (noted_from rest found) (Step line (ending_of x) ∷ rest)
   ended line rest None = record { ahead = refl; notes = refl }
   ended line rest (Some x) = record { ahead = refl; notes = refl }
 
-  done : (line k : ℕ) (rest : List Instruction) (f : Form) → Has line 1 found (noted_from rest found) (operation_code its_table line k f ++ rest)
+  done : (line k : ℕ) (rest : List Instruction) (f : Form)
+      → Has line 1 found (noted_from rest found) (operation_code its_table line k f ++ rest)
   done line k rest (form.Program p) = record { ahead = refl; notes = refl }
   done line k rest (form.Subroutine p dummies) = record { ahead = refl; notes = refl }
   done line k rest (form.Function t p dummies) = record { ahead = refl; notes = refl }
@@ -249,17 +272,22 @@ module _ (addressed : AddressedUnit) (found : List ℕ) where
   done line k rest (form.Data groups) = record { ahead = refl; notes = refl }
   done line k rest (form.Assign x t) = record { ahead = refl; notes = refl }
   done line k rest (form.GoTo l) = record { ahead = refl; notes = refl }
-  done line k rest (form.ComputedGoTo labels t) = record { ahead = refl; notes = ap (λ ys. with_line ys line 1) (skipped (λ l. To (its_table.labels l)) (λ x n ys. refl) labels rest found) }
+  done line k rest (form.ComputedGoTo labels t) =
+      record { ahead = refl; notes = ap (λ ys. with_line ys line 1) (skipped (λ l. To (its_table.labels l)) (λ x n ys. refl) labels rest found) }
   done line k rest (form.ArithmeticIf t labels) = record { ahead = refl; notes = refl }
   done line k rest (form.IfThen t) = record { ahead = refl; notes = refl }
   done line k rest (form.ElseIf t) = record { ahead = refl; notes = refl }
   done line k rest form.Else = record { ahead = refl; notes = refl }
   done line k rest form.EndIf = record { ahead = refl; notes = refl }
   done line k rest (form.Do c) = record { ahead = refl; notes = refl }
-  done line k rest (form.Call p ts) = record { ahead = refl; notes = ap (λ ys. with_line ys line 1) (skipped (λ t. Pass (argument_of (names_of addressed) t)) (λ x n ys. refl) ts rest found) }
-  done line k rest (form.Create p ts) = record { ahead = refl; notes = ap (λ ys. with_line ys line 1) (skipped (λ t. Pass (argument_of (names_of addressed) t)) (λ x n ys. refl) ts rest found) }
-  done line k rest (form.Purge targets) = record { ahead = refl; notes = ap (λ ys. with_line ys line 1) (skipped (λ t. Pass (argument_of_target (names_of addressed) t)) (λ x n ys. refl) targets rest found) }
-  done line k rest (form.Print items) = record { ahead = refl; notes = ap (λ ys. with_line ys line 1) (skipped (λ i. Show (printed_of i)) (λ x n ys. refl) items rest found) }
+  done line k rest (form.Call p ts) =
+      record { ahead = refl; notes = ap (λ ys. with_line ys line 1) (skipped (λ t. Pass (argument_of (names_of addressed) t)) (λ x n ys. refl) ts rest found) }
+  done line k rest (form.Create p ts) =
+      record { ahead = refl; notes = ap (λ ys. with_line ys line 1) (skipped (λ t. Pass (argument_of (names_of addressed) t)) (λ x n ys. refl) ts rest found) }
+  done line k rest (form.Purge targets) =
+      record { ahead = refl; notes = ap (λ ys. with_line ys line 1) (skipped (λ t. Pass (argument_of_target (names_of addressed) t)) (λ x n ys. refl) targets rest found) }
+  done line k rest (form.Print items) =
+      record { ahead = refl; notes = ap (λ ys. with_line ys line 1) (skipped (λ i. Show (printed_of i)) (λ x n ys. refl) items rest found) }
   done line k rest form.Continue = record { ahead = refl; notes = refl }
   done line k rest form.Return = ended line rest its_table.result
   done line k rest form.Resume = record { ahead = refl; notes = refl }
@@ -270,7 +298,9 @@ module _ (addressed : AddressedUnit) (found : List ℕ) where
       → Has line (in_statement addressed.unit ts f) found (noted_from rest found) (conditions_code its_table line k ts f ++ rest)
   statement-is line k [] f rest =
       let its : List ℕ = noted_from rest found in
-      placed line found its (in_operands addressed.unit f + 1) (operands_code its_table line f ++ (operation_code its_table line k f ++ rest)) _ (sym (append_assoc (operands_code its_table line f) (operation_code its_table line k f) rest)) (
+      placed line found its (in_operands addressed.unit f + 1)
+      (operands_code its_table line f ++ (operation_code its_table line k f ++ rest)) _
+      (sym (append_assoc (operands_code its_table line f) (operation_code its_table line k f) rest)) (
       operands-are addressed line found its f 1 (operation_code its_table line k f ++ rest) (done line k rest f))
   statement-is line k (t ∷ ts) f rest =
       let its : List ℕ = noted_from rest found in
@@ -279,7 +309,8 @@ module _ (addressed : AddressedUnit) (found : List ℕ) where
       placed line found its _ (tree_code (names_of addressed) line t ++ (test ∷ (conditions_code its_table line k ts f ++ rest))) _ (
       sym (append_assoc (tree_code (names_of addressed) line t) (test ∷ conditions_code its_table line k ts f) rest)) (
       tree-is addressed line found its t (suc (in_statement addressed.unit ts f)) (test ∷ (conditions_code its_table line k ts f ++ rest)) (
-      after line found its (Condition (its_table.flows k).next) (in_statement addressed.unit ts f) (conditions_code its_table line k ts f ++ rest) refl refl more))
+      after line found its (Condition (its_table.flows k).next) (in_statement addressed.unit ts f)
+      (conditions_code its_table line k ts f ++ rest) refl refl more))
 
   -- the end of a DO is passed over
   end-passed : (d : ℕ) (f : Form) (rest : List Instruction) → noted_from (loop_end_code its_table d f ++ rest) found ≡ noted_from rest found
@@ -312,15 +343,19 @@ module _ (addressed : AddressedUnit) (found : List ℕ) where
   end-passed d form.End rest = refl
 
   statement-noted : (k : ℕ) (s : Statement) (rest : List Instruction)
-      → noted_from (statement_code its_table k s ++ rest) found ≡ with_line (noted_from rest found) s.line (in_statement addressed.unit s.conditions s.form)
+      → noted_from (statement_code its_table k s ++ rest) found
+      ≡ with_line (noted_from rest found) s.line (in_statement addressed.unit s.conditions s.form)
   statement-noted k s rest =
       let behind : List Instruction = loop_end_code its_table k s.form ++ rest in
-      ap (λ is. noted_from is found) (append_assoc (conditions_code its_table s.line k s.conditions s.form) (loop_end_code its_table k s.form) rest)
+      ap (λ is. noted_from is found)
+      (append_assoc (conditions_code its_table s.line k s.conditions s.form) (loop_end_code its_table k s.form) rest)
       ∙ (statement-is s.line k s.conditions s.form behind).notes
       ∙ ap (λ ys. with_line ys s.line (in_statement addressed.unit s.conditions s.form)) (end-passed k s.form rest)
 
-  statements-noted : (k : ℕ) (ss : List Statement) → noted_from (statements_code its_table k ss) found ≡ operations_in_unit addressed.unit ss found
-  statements-noted k [] = ap (λ is. noted_from is found) (sym (append-nil (statement_code its_table k no_statement))) ∙ statement-noted k no_statement []
+  statements-noted : (k : ℕ) (ss : List Statement)
+      → noted_from (statements_code its_table k ss) found ≡ operations_in_unit addressed.unit ss found
+  statements-noted k [] =
+      ap (λ is. noted_from is found) (sym (append-nil (statement_code its_table k no_statement))) ∙ statement-noted k no_statement []
   statements-noted k (s ∷ ss) =
       statement-noted k s (statements_code its_table (suc k) ss)
       ∙ ap (λ ys. with_line ys s.line (in_statement addressed.unit s.conditions s.form)) (statements-noted (suc k) ss)
@@ -337,22 +372,27 @@ values-passed [] code = refl
 values-passed (v ∷ vs) code = values-passed vs code
 
 module _ (addressed : AddressedUnit) (k : ℕ) where
-  pub work-ahead : (work : Work) (rest : List Instruction) → operations_ahead (work_code addressed k work ++ rest) ≡ left_of addressed.unit work
+  pub work-ahead : (work : Work) (rest : List Instruction)
+      → operations_ahead (work_code addressed k work ++ rest) ≡ left_of addressed.unit work
   work-ahead (doing ts f) rest = (statement-is addressed [] (line_at addressed.unit k) k ts f rest).ahead
   work-ahead (ending d) rest = refl
 
   -- as many operations stand ahead as are left
-  pub left-ahead : (work : Work) (operands : List Value) (index : ℕ) → Stands addressed k work operands index → operations_ahead (drop index (code_of addressed)) ≡ left_of addressed.unit work
+  pub left-ahead : (work : Work) (operands : List Value) (index : ℕ) → Stands addressed k work operands index
+      → operations_ahead (drop index (code_of addressed)) ≡ left_of addressed.unit work
   left-ahead work operands index stands =
       sym (values-passed operands (drop index (code_of addressed))) ∙ ap operations_ahead (sym stands.same) ∙ work-ahead work stands.rest
 
 -- ---- the units of a program
 
-pub unit-next : (program : Units) (u : ℕ) (code : List Instruction) (found next whole : List ℕ) → u < length program → code ≡ code_of (addressed_unit program (addresses_of program) u)
+pub unit-next : (program : Units) (u : ℕ) (code : List Instruction) (found next whole : List ℕ) → u < length program
+    → code ≡ code_of (addressed_unit program (addresses_of program) u)
     → operations_in (drop u program) found ≡ whole → next ≡ noted_from code found → operations_in (drop (u + 1) program) next ≡ whole
 unit-next program u code found next whole less code_is h notes =
-    let here : drop u program ≡ unit_at program u ∷ drop (u + 1) program = drop_at program u (unit_at program u) less (there program u less) in
-    ap (operations_in (drop (u + 1) program)) (notes ∙ ap (λ is. noted_from is found) code_is ∙ unit-noted (addressed_unit program (addresses_of program) u) found)
+    let here : drop u program ≡ unit_at program u ∷ drop (u + 1) program =
+    drop_at program u (unit_at program u) less (there program u less) in
+    ap (operations_in (drop (u + 1) program))
+    (notes ∙ ap (λ is. noted_from is found) code_is ∙ unit-noted (addressed_unit program (addresses_of program) u) found)
     ∙ ap (λ us. operations_in us found) (sym here) ∙ h
   where
     there : (us : Units) (i : ℕ) → i < length us → unit_at us i ≡ get_or us i (unit_at us i)
@@ -360,5 +400,6 @@ unit-next program u code found next whole less code_is h notes =
       by : (unit : List Statement) → unit_at us i ≡ unit → unit_at us i ≡ get_or us i unit
       by unit e = ap (λ (o : Option (List Statement)). unwrap_or o []) (slice_get-get_or us i unit inside)
 
-pub all-noted : (program : Units) (u : ℕ) (found whole : List ℕ) → length program ≤ u → operations_in (drop u program) found ≡ whole → found ≡ whole
+pub all-noted : (program : Units) (u : ℕ) (found whole : List ℕ) → length program ≤ u → operations_in (drop u program) found ≡ whole
+    → found ≡ whole
 all-noted program u found whole past h = ap (λ us. operations_in us found) (sym (drop_all u program past)) ∙ h

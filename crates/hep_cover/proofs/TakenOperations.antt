@@ -16,12 +16,14 @@ use Rattle.hep_cover.proofs.StatementCode.{values-passed, work-ahead}
 abbrev nowhere : List Statement → AddressedUnit
 nowhere unit = record { unit = unit; variables = λ x. Absent; cells = λ d. 0; subroutines = λ x. 0; functions = λ x. 0 }
 
-arguments-passed : {T : Type 0} (f : T → Argument) (ts : List T) (code : List Instruction) → operations_ahead (map (λ t. Pass (f t)) ts ++ code) ≡ operations_ahead code
+arguments-passed : {T : Type 0} (f : T → Argument) (ts : List T) (code : List Instruction)
+    → operations_ahead (map (λ t. Pass (f t)) ts ++ code) ≡ operations_ahead code
 arguments-passed f [] code = refl
 arguments-passed f (t ∷ ts) code = arguments-passed f ts code
 
 module _ (addressed : AddressedUnit) where
-  sought-ahead : (line : ℕ) (r : RedexOrReference) (code : List Instruction) → operations_ahead (sought_code addressed line r ++ code) ≡ suc (operations_ahead code)
+  sought-ahead : (line : ℕ) (r : RedexOrReference) (code : List Instruction)
+      → operations_ahead (sought_code addressed line r ++ code) ≡ suc (operations_ahead code)
   sought-ahead line (evaluating q) code = refl
   sought-ahead line (referring x actuals) code = ap suc (arguments-passed (argument_of_actual addressed.variables) actuals code)
 
@@ -33,12 +35,16 @@ module _ (addressed : AddressedUnit) where
   taken-in k work r v e =
       let line = line_at addressed.unit k in
       let first : FirstIs addressed line r (work_code addressed k work) (λ x. work_code addressed k (plug_work addressed.unit work x)) =
-      subst (λ (n : Next). NextIs addressed line k n (work_code addressed k work) (λ x. work_code addressed k (plug_work addressed.unit work x))) e (work_is addressed k work) in
-      ap suc (sym (its-own k (plug_work addressed.unit work v)) ∙ ap operations_ahead (first.filled v) ∙ values-passed (first.before ++ v ∷ []) first.rest)
+      subst
+      (λ (n : Next). NextIs addressed line k n (work_code addressed k work) (λ x. work_code addressed k (plug_work addressed.unit work x)))
+      e (work_is addressed k work) in
+      ap suc
+      (sym (its-own k (plug_work addressed.unit work v)) ∙ ap operations_ahead (first.filled v) ∙ values-passed (first.before ++ v ∷ []) first.rest)
       ∙ sym (sought-ahead line r first.rest)
       ∙ sym (values-passed (first.before ++ operands_of_sought r) (sought_code addressed line r ++ first.rest))
       ∙ ap operations_ahead (sym first.is)
       ∙ its-own k work
 
-pub taken : (unit : List Statement) (work : Work) (r : RedexOrReference) (v : Value) → next_of unit work ≡ wants r → suc (left_of unit (plug_work unit work v)) ≡ left_of unit work
+pub taken : (unit : List Statement) (work : Work) (r : RedexOrReference) (v : Value) → next_of unit work ≡ wants r
+    → suc (left_of unit (plug_work unit work v)) ≡ left_of unit work
 taken unit work r v e = taken-in (nowhere unit) 0 work r v e

@@ -1,6 +1,6 @@
 -- Steps of one activation, and turns of one process, that only move it, with the counts of the statements that they
 -- begin.
-use Rattle.std.specs.Prelude.{◌≡◌, ℕ, suc, ◌<◌, ◌≤◌, List, drop, replicate, Option}
+use Rattle.std.specs.Prelude.{◌≡◌, ℕ, suc, ◌<◌, ◌≤◌, List, drop, Option}
 use Rattle.hep_arena.specs.Space.{Space}
 use Rattle.hep_code.specs.declared.instruction.Instruction.{Instruction}
 use Rattle.hep_image.specs.declared.array.Array.{Array}
@@ -17,7 +17,8 @@ use Rattle.hep_step.specs.Simulation.{unit_arrays, unit_code}
 use Rattle.hep_state.specs.declared.core_state.CoreState.{CoreState}
 use Rattle.hep_state.specs.Words.{AfterTurns, node_under}
 use Rattle.hep_advance.specs.SilentRuns.{HasNoMoveAt}
-use Rattle.hep_cover.specs.Counts.{counted, counted_along}
+use Rattle.hep_fold.specs.Turns.{seen_along, turns_in_row}
+use Rattle.hep_cover.specs.Counts.{counted, counted_after}
 use Rattle.hep_cover.specs.StartMarks.{mark}
 
 -- n plain operations from one snapshot to another, like `Goes` of hep_step, and the counts after them
@@ -47,9 +48,12 @@ pub record HasTalliedOn (program : Units) (operations : List ℕ) (nodes : Nodes
 abbrev pub TalliesTop : Units → List ℕ → Process → Frames → List (Option ℕ) → ℕ → ℕ → Process → Frames → List (Option ℕ) → Type 0
 TalliesTop program operations old frames counts most made new after now =
     HoldsOfTop old (λ l ls operands pending.
-    HasTalliedOn program operations (nodes_of frames.nodes) l ls operands pending frames.arena after.arena counts most made (stack_of new) now)
+    HasTalliedOn program operations (nodes_of frames.nodes) l ls operands pending
+    frames.arena after.arena counts most made (stack_of new) now)
 
--- whatever turns led to the state that a machine keeps, the next turns of process p lead from some counts to others
+-- whatever turns led to the state that a machine keeps, the next turns of process p, whatever entries they are part of,
+-- lead from some counts to others
 abbrev pub CountsTurns : Units → List ℕ → ℕ → CoreState → List (Option ℕ) → ℕ → List (Option ℕ) → Type 0
 CountsTurns program operations p old counts made now =
-    AfterTurns program old (λ cells choices. now ≡ counted_along program operations (run program choices) (replicate made p) counts)
+    AfterTurns program old (λ cells choices. (entry : ℕ)
+    → now ≡ seen_along program (counted_after program operations) (run program choices) (turns_in_row entry p made) counts)

@@ -1,7 +1,7 @@
--- How often the statements of lines began so far, and with turns of processes: docs/RUNS.md, "How often lines began".
-use Rattle.std.specs.Prelude.{ℕ, ◌+◌, ◌-◌, min, List, [], ◌∷◌, Option, Some, None, slice_get}
+-- How often the statements of lines began so far, and with one turn more: docs/RUNS.md, "How often lines began".
+use Rattle.std.specs.Prelude.{ℕ, ◌+◌, ◌-◌, min, List, Option, Some, None, slice_get}
 use Rattle.std.specs.Option.{option_flatten, unwrap_or}
-use Rattle.hep_machine.specs.Words.{Units, State, state_after_turn}
+use Rattle.hep_machine.specs.Words.{Units, State}
 use Rattle.hep_cover.specs.StatementStarts.{begun, with_line}
 
 -- one more, up to the greatest number of 64 bits
@@ -17,8 +17,10 @@ abbrev pub counted : Option ℕ → List (Option ℕ) → List (Option ℕ)
 counted None counts = counts
 counted (Some line) counts = with_line counts line (Some (one_more (count_before counts (line - 1))))
 
--- with the turns of these processes from a state
-unfoldable pub counted_along : Units → List ℕ → State → List ℕ → List (Option ℕ) → List (Option ℕ)
-counted_along program operations s [] counts = counts
-counted_along program operations s (p ∷ ps) counts =
-    counted_along program operations (state_after_turn program p s) ps (counted (begun program operations p s) counts)
+-- with the step of process p from a state, by the number of operations of each line's statement
+abbrev pub counted_after : Units → List ℕ → ℕ → ℕ → State → List (Option ℕ) → List (Option ℕ)
+counted_after program operations entry p s counts = counted (begun program operations p s) counts
+
+-- the same, beside those numbers
+abbrev pub counts_after : Units → ℕ → ℕ → State → (List ℕ × List (Option ℕ)) → (List ℕ × List (Option ℕ))
+counts_after program entry p s known = (known.0, counted_after program known.0 entry p s known.1)

@@ -1,10 +1,12 @@
 -- How often the statements of lines began in histories: docs/RUNS.md, "How often lines began".
 use Rattle.std.specs.Prelude.{ℕ, ◌&&◌, not, Bool, true, false, if◌then◌else◌, List, [], ◌∷◌, replicate, Option, Some, None}
 use Rattle.hep_machine.specs.declared.event.Entry.{Entry}
-use Rattle.hep_machine.specs.Words.{Form, Statement, Units, is_executable, opening, schedule_of}
+use Rattle.hep_machine.specs.Words.{Form, Statement, Units, is_executable, opening}
 use Rattle.hep_source.specs.declared.statement.Form.TheVariants.{Else}
 use Rattle.hep_cover.specs.StatementStarts.{operations_by_line, with_line}
-unfoldable pub use Rattle.hep_cover.specs.Counts.{counted_along}
+use Rattle.hep_cover.specs.Counts.{counted_after}
+unfoldable pub use Rattle.hep_fold.specs.Turns.{seen_along}
+use Rattle.hep_fold.specs.Turns.{turns_from}
 
 -- ---- counts: the number of times that a statement began, none where no statement is that can begin
 
@@ -32,7 +34,8 @@ unbegun program count = unbegun_in program (replicate count None)
 
 -- with the turns of a history
 abbrev pub counted_in : Units → List ℕ → List Entry → List (Option ℕ) → List (Option ℕ)
-counted_in program operations history counts = counted_along program operations (opening program) (schedule_of history) counts
+counted_in program operations history counts =
+    seen_along program (counted_after program operations) (opening program) (turns_from 1 history) counts
 
 abbrev pub counted_in_all : Units → List ℕ → List (List Entry) → List (Option ℕ) → List (Option ℕ)
 counted_in_all program operations [] counts = counts

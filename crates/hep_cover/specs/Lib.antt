@@ -8,4 +8,3 @@ pub mod StartMarks
 pub mod CountedRuns
 pub mod Coverage
 pub mod Lines
-pub mod CountedReplay

@@ -42,7 +42,8 @@ abbrev pub begun_in : List (Option ℕ) → ℕ
 begun_in counts = length (filter has_begun counts)
 
 abbrev pub total_text : ℕ → ℕ → List ℕ
-total_text all began = codes "LINES " ++ decimal all ++ codes " BEGAN " ++ decimal began ++ codes " NEVER " ++ decimal (all - began) ++ codes "\n"
+total_text all began =
+    codes "LINES " ++ decimal all ++ codes " BEGAN " ++ decimal began ++ codes " NEVER " ++ decimal (all - began) ++ codes "\n"
 
 -- ---- all lines of a source, and how many they are
 

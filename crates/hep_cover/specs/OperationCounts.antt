@@ -57,7 +57,8 @@ module _ (unit : List Statement) where
     in_actual (constant v) = 0
     in_actual (occurrence p) = 0
     in_actual (with_list p ts) =
-        of_actual (listed_meaning unit p.name) (in_trees ts) (of_listed (listed_meaning unit p.name) (in_trees ts) (in_asked ts) (in_actuals ts))
+        of_actual (listed_meaning unit p.name) (in_trees ts)
+        (of_listed (listed_meaning unit p.name) (in_trees ts) (in_asked ts) (in_actuals ts))
     in_actual (parenthesized t) = in_tree t
     in_actual (signed s t) = in_tree t + 1
     in_actual (negated t) = in_tree t + 1

@@ -37,7 +37,8 @@ begun_by operations line unit (ending d) = None
 
 abbrev pub begun_at : Units → List ℕ → State → Level → Option ℕ
 begun_at program operations s level =
-    begun_by operations (line_at (unit_at program (unit_of s level.activation)) level.statement) (unit_at program (unit_of s level.activation)) level.work
+    begun_by operations (line_at (unit_at program (unit_of s level.activation)) level.statement)
+    (unit_at program (unit_of s level.activation)) level.work
 
 abbrev pub begun_with : Units → List ℕ → State → Option (Level × Process) → Option ℕ
 begun_with program operations s None = None

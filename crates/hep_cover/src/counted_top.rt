@@ -6,7 +6,7 @@ ghost use Rattle.hep_cover.specs.StartMarks.{AreMarks};
 ghost use Rattle.hep_cover.specs.CountedRuns.{TalliesTop};
 
 use crate::counted_run::{CountedRun, walk_on};
-use crate::statement_starts::MarkedImage;
+use crate::statement_starts::{MarkedImage, lines_of};
 use hep_fast::FastActivation;
 use hep_proc::{Frames, Process};
 use hep_step::Activation;
@@ -37,7 +37,7 @@ pub(crate) fn count_top(
     };
     let level = process.top();
     let table = marked.tabled.table(level.unit as usize);
-    let lines = marked.lines(level.unit as usize);
+    let lines = lines_of(marked.marks, level.unit as usize);
     let walk = CountedRun {
         fast: FastActivation { activation, table },
         operations: marked.operations,

@@ -1,16 +1,17 @@
 //! Turns of a process in a row, after which it lives, and which fill and empty no cell, with the statements that they
 //! begin.
-ghost use Rattle.std.specs.Prelude.{◌≡◌, ◌≤◌, ◌<◌, ◌+◌, ◌^◌};
+ghost use Rattle.std.specs.Prelude.{◌≡◌, ◌≤◌, ◌<◌, ◌+◌, ◌^◌, ℕ, List};
 ghost use Rattle.hep_cover.specs.StatementStarts as words;
 ghost use Rattle.hep_advance.specs.SilentRuns.{CanTakeTurns, HasNoMoveAhead, MakesMoves};
 ghost use Rattle.hep_machine.specs.Words.{run};
-ghost use Rattle.hep_state.specs.Words.{AfterTurns, LivesOn, snapshot_of};
+ghost use Rattle.hep_state.specs.Words.{AfterTurns, IsItsTurn, LivesOn, snapshot_of};
 ghost use Rattle.hep_cover.specs.StartMarks.{AreMarks};
 ghost use Rattle.hep_cover.specs.CountedRuns.{CountsTurns};
 
 use crate::counted_top::count_top;
 use crate::line_counts::count;
-use crate::statement_starts::{MarkedImage, mark_at};
+use crate::statement_starts::{MarkedImage, StatementStarts, lines_of, mark_at};
+use hep_image::Image;
 use hep_views::{CoreState, tops_are_running};
 
 // Makes at most `most` turns of process p, which lives, each a step of a plain operation that moves it, and returns
@@ -40,15 +41,15 @@ fn count_moves(
 }
 
 /// The line of the statement that a step of process p, which lives, begins, if it begins one.
-pub fn begun(machine: &CoreState, marked: &MarkedImage<'_>, p: u64) -> Option<u32>
-    requires turn { CanTakeTurns marked.now.tabled p machine.now }
-    requires marks { AreMarks marked.now.tabled.image.now marked.now.operations.now marked.now.marks.now }
-    ensures { AfterTurns marked.now.tabled.image.now machine.now (λ cells choices.
-        result ≡ words.begun marked.now.tabled.image.now marked.now.operations.now p (run marked.now.tabled.image.now choices)) }
+pub fn begun(machine: &CoreState, image: &Image, marks: &[StatementStarts], p: u64) -> Option<u32>
+    requires turn { IsItsTurn image.now p machine.now }
+    requires marks { (operations : List ℕ) × AreMarks image.now operations marks.now }
+    ensures { (operations : List ℕ) → AreMarks image.now operations marks.now → AfterTurns image.now machine.now (λ cells choices.
+        result ≡ words.begun image.now operations p (run image.now choices)) }
 {
     let at = machine.place(p);
     let level = machine.processes[at].top();
-    mark_at(marked.lines(level.unit as usize), level.index)
+    mark_at(lines_of(marks, level.unit as usize), level.index)
 }
 
 /// Makes at most `most` turns of process p, which lives, and returns their number. Each is a step of a plain
@@ -78,7 +79,7 @@ pub fn count_on(
         if made == most {
             return made;
         }
-        let line = begun(machine, marked, p);
+        let line = begun(machine, marked.tabled.image, marked.marks, p);
         if !machine.turn_plainly(marked.tabled.image, p) {
             return made;
         }

@@ -1,102 +1,75 @@
-//! A history that is made again, while the statements are counted that its steps begin.
-ghost use Rattle.std.specs.Prelude.{◌≡◌, ◌≤◌, ◌-◌, ◌*◌, ◌∷◌, [], IfOk, OnOk, replicate};
-ghost use Rattle.hep_why.specs.Watches.{IsReplayed};
+//! How often the statement of each line began, counted while a history is made again.
+ghost use Rattle.std.specs.Prelude.{◌≡◌, OnOk};
 ghost use Rattle.hep_cover.specs.Coverage.{counted_in};
-ghost use Rattle.hep_cover.specs.CountedReplay.{CanRemake, Remakes};
-ghost use Rattle.hep_machine.specs.Words.{schedule_of};
+ghost use Rattle.hep_why.specs.Watches.{IsReplayed};
 
 use crate::counted_turns::{begun, count_on};
 use crate::line_counts::count;
-use crate::statement_starts::{MarkedImage, marks_of};
-use hep_advance::{DecodedImage, tables_of};
-use hep_machine::Entry;
-use hep_state::laws;
-use hep_why::{Core, History, ReplayMachine};
+use crate::statement_starts::{MarkedImage, StatementStarts, marks_of};
+use hep_fold::{CoreState, DecodedImage, HistoryRange, Observer, TurnRow, fold_history};
+use hep_image::Image;
+use hep_why::{Core, History};
 use std::alloc::{AllocError, Global};
+use std::mem::replace;
 
-// The greatest number of turns that one call of the interpreter makes.
-const MOST_AT_ONCE: u64 = 0xFFFF_FFFF;
-
-// The next turn, of process p, whatever it does.
-fn make_turn(
-    again: &mut ReplayMachine,
-    marked: &MarkedImage<'_>,
-    counts: &mut Vec<Option<u64>>,
-    p: u64,
-) -> Result<(), AllocError>
-    requires { CanRemake marked.now again.old (p ∷ []) counts.old.items }
-    ensures { OnOk result (Remakes marked.now again.old (p ∷ []) counts.old.items again.new [] counts.new.items) }
-{
-    let line = begun(&again.machine, marked, p);
-    again.turn(marked.tabled.image, p)?;
-    count(counts, line);
-    Ok(())
+/// How often the statement of each line began so far, with the number of its operations, and the marks of each unit's
+/// code.
+#[derive(Drop)]
+pub(crate) struct LineCoverage<'a> {
+    operations: &'a [usize],
+    marks: &'a [StatementStarts],
+    counts: Vec<Option<u64>>,
 }
 
-// The first ones of so many turns of process p, and how many were made: as many as only move p, and else one.
-fn make_some(
-    again: &mut ReplayMachine,
-    marked: &MarkedImage<'_>,
-    counts: &mut Vec<Option<u64>>,
-    p: u64,
-    most: u64,
-) -> Result<u64, AllocError>
-    requires remade { CanRemake marked.now again.old (replicate most p) counts.old.items }
-    requires some { 1 ≤ most }
-    ensures remade { IfOk result (λ made. Remakes marked.now again.old (replicate most p) counts.old.items again.new (replicate (most - made) p) counts.new.items) }
-    ensures some { IfOk result (λ made. 1 ≤ made) }
-    ensures few { IfOk result (λ made. made ≤ most) }
-{
-    laws::activations_are_few();
-    let few = most.min(MOST_AT_ONCE);
-    again.history.reserve(few as u32)?;
-    let made = count_on(&mut again.machine, marked, counts, p, few);
-    let entry = Entry {
-        process: p,
-        steps: 1,
-    };
-    again.history.push_many(entry, made as u32);
-    if made == 0 {
-        make_turn(again, marked, counts, p)?;
-        return Ok(1);
-    }
-    Ok(made)
-}
+impl Observer for LineCoverage<'_> {
+    ghost use Rattle.std.specs.Prelude.{◌≡◌, ℕ, List, Option};
+    ghost use Rattle.hep_cover.specs.Counts.{counts_after};
+    ghost use Rattle.hep_cover.specs.StartMarks.{AreMarks};
+    ghost use Rattle.hep_cover.specs.StatementStarts.{begun as statement_begun};
+    ghost use Rattle.hep_machine.specs.Words.{run};
 
-// Makes a number of turns of process p.
-fn make_turns(
-    again: &mut ReplayMachine,
-    marked: &MarkedImage<'_>,
-    counts: &mut Vec<Option<u64>>,
-    p: u64,
-    count: u64,
-) -> Result<(), AllocError>
-    requires { CanRemake marked.now again.old (replicate count p) counts.old.items }
-    ensures { OnOk result (Remakes marked.now again.old (replicate count p) counts.old.items again.new [] counts.new.items) }
-{
-    let mut made = 0;
-    while made < count {
-        made += make_some(again, marked, counts, p, count - made)?;
-    }
-    Ok(())
-}
+    // The number of operations of each line's statement, and how often that began.
+    ghost Seen = { List ℕ × List (Option ℕ) };
 
-// Makes the turns of all entries.
-fn make_entries(
-    again: &mut ReplayMachine,
-    marked: &MarkedImage<'_>,
-    counts: &mut Vec<Option<u64>>,
-    entries: &History,
-) -> Result<(), AllocError>
-    requires { CanRemake marked.now again.old (schedule_of entries.now.items) counts.old.items }
-    ensures { OnOk result (Remakes marked.now again.old (schedule_of entries.now.items) counts.old.items again.new [] counts.new.items) }
-{
-    let mut runs = entries.runs();
-    while let Some(run) = runs.next() {
-        let count = run.count as u64 * run.steps as u64;
-        make_turns(again, marked, counts, run.process, count)?;
+    ghost knows = { λ program replay made o seen.
+        AreMarks program seen.0 o.marks.now × (o.operations.now ≡ seen.0) × (o.counts.items ≡ seen.1) };
+
+    ghost see = { counts_after };
+
+    type Look = Option<u32>;
+
+    ghost notes = { λ program replay made entry p o look. look ≡ statement_begun program o.operations.now p (run program made) };
+
+    fn look(
+        &self,
+        machine: &CoreState,
+        image: &Image,
+        entry: u64,
+        p: u64,
+    ) -> Result<Option<u32>, AllocError> {
+        Ok(begun(machine, image, self.marks, p))
     }
-    Ok(())
+
+    fn tell(
+        &mut self,
+        machine: &CoreState,
+        image: &Image,
+        entry: u64,
+        p: u64,
+        look: Option<u32>,
+    ) -> Result<(), AllocError> {
+        count(&mut self.counts, look);
+        Ok(())
+    }
+
+    fn go_on(&mut self, machine: &mut CoreState, tabled: &DecodedImage<'_>, row: TurnRow) -> u64 {
+        let marked = MarkedImage {
+            tabled: *tabled,
+            operations: self.operations,
+            marks: self.marks,
+        };
+        count_on(machine, &marked, &mut self.counts, row.process, row.count)
+    }
 }
 
 /// Counts the statements that the steps of a history begin. `core` has made its entries, and `operations` has the
@@ -117,17 +90,21 @@ pub fn count_history(
 {
     core.headline();
     let image = core.image();
-    let tables = tables_of(alloc, image)?;
+    let cells = core.cells();
+    let end = entries.len();
+    let range = HistoryRange {
+        history: entries,
+        start: 0,
+        end,
+    };
     let marks = marks_of(alloc, image, operations)?;
-    let marked = MarkedImage {
-        tabled: DecodedImage {
-            image,
-            tables: &tables,
-        },
+    let before = replace(counts, Vec::new(alloc));
+    let mut coverage = LineCoverage {
         operations,
         marks: &marks,
+        counts: before,
     };
-    let mut again = ReplayMachine::open(alloc, image, core.cells())?;
-    make_entries(&mut again, &marked, counts, entries)?;
+    fold_history(alloc, image, cells, &range, &mut coverage)?;
+    *counts = coverage.counts;
     Ok(())
 }

@@ -1,5 +1,5 @@
 //! The command `cover`: how often the statement of each line began in histories (docs/RUNS.md, "How often lines
-//! began"). [`count_history`](covering::count_history) makes a history again and counts.
+//! began"). [`count_history`] makes a history again and counts.
 //!
 //! A step begins a statement if no operation of that was made yet. [`marks_of`] makes a table that gives for each
 //! index of a unit's code the line of the statement that a step from there begins. Steps that only move a process are
@@ -21,7 +21,6 @@ pub mod unbegun_lines;
 pub use counted_turns::{begun, count_on};
 pub use coverage::count_history;
 pub use coverage_text::{append_coverage, line_count};
-pub use hep_advance::{DecodedCode, DecodedImage, tables_of};
 pub use hep_why::{
     Choices, HistFault, History, HistoryPrefix, ReplayFault, read_text, replay, replay_first,
     why_text,

@@ -1,5 +1,6 @@
 //! The statement that a step from each index of the code begins.
-ghost use Rattle.std.specs.Prelude.{◌≡◌, ◌<◌, drop, length, IfOk};
+ghost use Rattle.std.specs.Prelude.{◌≡◌, ◌<◌, ℕ, List, drop, length, IfOk};
+ghost use Rattle.hep_machine.specs.Words.{Units};
 ghost use Rattle.hep_cover.specs.StatementStarts.{at_line as line_operations};
 ghost use Rattle.hep_cover.specs.StartMarks as words;
 ghost use Rattle.hep_step.specs.Simulation.{unit_code};
@@ -25,16 +26,14 @@ pub struct MarkedImage<'a> {
     pub marks: &'a [StatementStarts],
 }
 
-impl MarkedImage<'_> {
-    /// The marks of a unit's code. Units are counted from 0 in the order of the source.
-    #[inline(always)]
-    pub fn lines(&self, unit: usize) -> &[Option<u32>]
-        requires marks { words.AreMarks self.now.tabled.image.now self.now.operations.now self.now.marks.now }
-        requires inside { unit < length self.now.tabled.image.now }
-        ensures { result.now ≡ words.marks self.now.operations.now (unit_code self.now.tabled.image.now unit) }
-    {
-        self.marks[unit].lines.as_slice()
-    }
+/// The marks of a unit's code. Units are counted from 0 in the order of the source.
+#[inline(always)]
+pub(crate) fn lines_of(marks: &[StatementStarts], unit: usize) -> &[Option<u32>]
+    requires { unit < length marks.now }
+    ensures { (program : Units) (operations : List ℕ) → words.AreMarks program operations marks.now
+        → result.now ≡ words.marks operations (unit_code program unit) }
+{
+    marks[unit].lines.as_slice()
 }
 
 // The number of operations of the statement of a line.

@@ -28,7 +28,8 @@ way = option_map (λ (q : Question). q.1)
 
 -- ---- what is asked of is named
 
-named-result : (unit : List Statement) (f : Option Name) (q : Question) → function_name unit ≡ f → result_question f ≡ Some q → IsNamed unit (does leaving) q.0
+named-result : (unit : List Statement) (f : Option Name) (q : Question) → function_name unit ≡ f → result_question f ≡ Some q
+    → IsNamed unit (does leaving) q.0
 named-result unit None q is e = absurd (none-some q e)
 named-result unit (Some y) q is e = (y, is, sym (ap (λ (q : Question). q.0) (same_Some _ q e)))
 

@@ -8,14 +8,16 @@ use Rattle.hep_diff.specs.declared.process_step.ProcessStep.{ProcessStep}
 use Rattle.hep_diff.specs.StepLogs.{items_of, kept_of}
 
 -- an empty row more
-pub kept_empty : (rows : List (Vec ProcessStep)) (row : Vec ProcessStep) (q : ℕ) → row.items ≡ [] → kept_of (rows ++ row ∷ []) q ≡ kept_of rows q
+pub kept_empty : (rows : List (Vec ProcessStep)) (row : Vec ProcessStep) (q : ℕ) → row.items ≡ []
+    → kept_of (rows ++ row ∷ []) q ≡ kept_of rows q
 kept_empty [] row zero e = e
 kept_empty [] row (suc q) e = refl
 kept_empty (r ∷ rows) row zero e = refl
 kept_empty (r ∷ rows) row (suc q) e = kept_empty rows row q e
 
 -- a step more in the row of process p
-pub noted : (rows old : List (Vec ProcessStep)) (p : ℕ) (row now : Vec ProcessStep) (d : ProcessStep) → p < length rows → ((q : ℕ) → kept_of rows q ≡ kept_of old q) → kept_of rows p ≡ row.items
+pub noted : (rows old : List (Vec ProcessStep)) (p : ℕ) (row now : Vec ProcessStep) (d : ProcessStep) → p < length rows
+    → ((q : ℕ) → kept_of rows q ≡ kept_of old q) → kept_of rows p ≡ row.items
     → now.items ≡ row.items ++ d ∷ [] → (q : ℕ) → kept_of (slice_set rows p now) q ≡ kept_of old q ++ of_process q p (Some d)
 noted rows old p row now d less same here more q = by (nat_eq q p) refl where
   by : (t : Bool) → nat_eq q p ≡ t → kept_of (slice_set rows p now) q ≡ kept_of old q ++ (if t then d ∷ [] else [])

@@ -15,7 +15,8 @@ module _ (program : Units) (replay : Replay) (made : List ℕ) (entry p : ℕ) (
       let top = lives-ahead program replay made entry p left m h in
       (top.0, record { after = h.after; running = running-ahead program replay made entry p left m h; lives = top.1 })
 
-  pub deed-noted : (d : ProcessStep) → ((cells : ℕ) (choices : List ℕ) (top : Level × Process) → LivesAfter program cells choices m p top → d ≡ deed_at program (run program choices) entry top.0)
+  pub deed-noted : (d : ProcessStep)
+      → ((cells : ℕ) (choices : List ℕ) (top : Level × Process) → LivesAfter program cells choices m p top → d ≡ deed_at program (run program choices) entry top.0)
       → deed_by program (run program made) entry p ≡ Some d
   deed-noted d is =
       ap (λ (o : Option (Level × Process)). option_map (λ (top : Level × Process). deed_at program (run program made) entry top.0) o) lives-there.1.lives

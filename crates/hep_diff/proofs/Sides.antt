@@ -56,13 +56,15 @@ module _ (core : CoreValue) (entries : List Entry) (r : IsReplayed core entries)
   end-same = ap (outcome_of_core false) r.made
 
 -- how many processes were made in one of two
-pub both-made : (first second : CoreValue) (entries others : List Entry) → IsReplayed first entries → IsReplayed second others → first.program ≡ second.program
+pub both-made : (first second : CoreValue) (entries others : List Entry) → IsReplayed first entries → IsReplayed second others
+    → first.program ≡ second.program
     → max (made_in first.program first.history) (made_in second.program second.history) ≡ max (made_in first.program entries) (made_in first.program others)
 both-made first second entries others h k same =
     λ i. max (made-same first entries h i) ((made-same second others k ∙ ap (λ (us : Units). made_in us others) (sym same)) i)
 
 -- what the second one of two writes, in an arena as large as that of the first one
-pub other-end : (first second : CoreValue) (others : List Entry) → IsReplayed second others → first.program ≡ second.program → second.cells ≡ first.cells
+pub other-end : (first second : CoreValue) (others : List Entry) → IsReplayed second others → first.program ≡ second.program
+    → second.cells ≡ first.cells
     → outcome_of_core false second ≡ end_of first.program first.cells others
 other-end first second others k same cells = end-same second others k ∙ (λ i. end_of (sym same i) (cells i) others)
 
@@ -70,7 +72,8 @@ other-end first second others k same cells = end-same second others k ∙ (λ i.
 
 -- one that is listed
 pub waits-some : (core : CoreValue) (image : Units) (p : ℕ) (m : CoreState) (want : Want) (l : Listed) → image ≡ core.program
-    → IsMachineAfter core.program core.cells (schedule_of core.history) m → IsBlocked core.program core.cells (schedule_of core.history) p want
+    → IsMachineAfter core.program core.cells (schedule_of core.history) m
+    → IsBlocked core.program core.cells (schedule_of core.history) p want
     → true ≡ is_number_among p (progress_after core.program core.history).listed → IsListedAs image m p want l
     → listed_after core.program core.history p ≡ Some l
 waits-some core image p m want l same after blocked found as_listed =
@@ -78,14 +81,17 @@ waits-some core image p m want l same after blocked found as_listed =
     ∙ subst (λ (us : Units). IsListedAs us m p want l) same as_listed core.cells (schedule_of core.history) after blocked
 
 -- and one that isn't
-pub waits-none : (core : CoreValue) (p : ℕ) → false ≡ is_number_among p (progress_after core.program core.history).listed → listed_after core.program core.history p ≡ None
+pub waits-none : (core : CoreValue) (p : ℕ) → false ≡ is_number_among p (progress_after core.program core.history).listed
+    → listed_after core.program core.history p ≡ None
 waits-none core p found = λ i. if sym found i then listed_by core.program p (state-is core.program core.history i) else None
 
 -- ---- texts
 
 -- what two replays write, by their outcomes
-pub written-is : (old text now out other end end_other : List ℕ) (first second : Outcome) → out ≡ first.output → other ≡ second.output → end ≡ first.messages → end_other ≡ second.messages
-    → text ≡ old ++ records_text 1 (lines out) (lines other) → now ≡ text ++ ends_text end end_other → now ≡ old ++ written_text first second
+pub written-is : (old text now out other end end_other : List ℕ) (first second : Outcome) → out ≡ first.output → other ≡ second.output
+    → end ≡ first.messages → end_other ≡ second.messages
+    → text ≡ old ++ records_text 1 (lines out) (lines other) → now ≡ text ++ ends_text end end_other
+    → now ≡ old ++ written_text first second
 written-is old text now out other end end_other first second a b c d e f =
     f ∙ ap (λ t. t ++ ends_text end end_other) e
     ∙ append_assoc old (records_text 1 (lines out) (lines other)) (ends_text end end_other)
@@ -139,7 +145,8 @@ first_inside xs ys at is = plain (inside 0 xs ys at (sym is)) where
     later (inl h) = inl (omega (arith, h))
     later (inr h) = inr (omega (arith, h))
 
-    by : (t : Bool) → (if t then first_from (suc k) us vs else Some k) ≡ Some n → (first_from (suc k) us vs ≡ Some n → (n < suc k + length us) ⊎ (n < suc k + length vs))
+    by : (t : Bool) → (if t then first_from (suc k) us vs else Some k) ≡ Some n
+        → (first_from (suc k) us vs ≡ Some n → (n < suc k + length us) ⊎ (n < suc k + length vs))
         → (n < k + suc (length us)) ⊎ (n < k + suc (length vs))
     by true f more = later (more f)
     by false f more = let same : k ≡ n = same_Some k n f in inl (omega (arith, same))

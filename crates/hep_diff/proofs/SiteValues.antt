@@ -25,7 +25,8 @@ use Rattle.hep_diff.specs.CellReadings.{asked_by}
 use Rattle.hep_diff.proofs.CellReadings.{asked-named, some-asked, way}
 
 -- and what is found there is what the definition says
-pub found-there : (program : Units) (cells : ℕ) (choices : List ℕ) (m : CoreState) (site : Site) (f : StateFunction) (at : Result Location Kind) → IsSiteAfter program cells choices m (Some site) at
+pub found-there : (program : Units) (cells : ℕ) (choices : List ℕ) (m : CoreState) (site : Site) (f : StateFunction) (at : Result Location Kind)
+    → IsSiteAfter program cells choices m (Some site) at
     → (slot : Slot) (v : Option Value)
     → ((g : FramesOf) (place : Location) → Keeps g m.frames.arena (nodes_of m.frames.nodes) → address g.program g.state g.layout place ≡ Some site.cell → slot ≡ g.state.store place)
     → v ≡ answer_of f slot → ◌≡◌ {A = Option CellReading} (Some (record { place = site.place; value = v })) (found_at program (run program choices) f at)
@@ -43,11 +44,13 @@ found-variable program unit v vs x e placed =
     ((sym one, λ absent. placed (sym one ∙ absent)), ap (λ (p : Variable × List Value). p.1) same)
 
 -- a step by where its process is and by what it finds
-pub deed-is : (program : Units) (s : State) (p entry : ℕ) (top : Level × Process) (w : Whereabouts) (f : Option CellReading) → living s p ≡ Some top
+pub deed-is : (program : Units) (s : State) (p entry : ℕ) (top : Level × Process) (w : Whereabouts) (f : Option CellReading)
+    → living s p ≡ Some top
     → whereabouts_by program p s ≡ Some w → f ≡ found_of program s top.0
     → record { entry = entry; unit = w.unit; line = w.line; found = f } ≡ deed_at program s entry top.0
 deed-is program s p entry top w f lives where_is is =
-    let same : w ≡ whereabouts_at program s p top.0 = same_Some w (whereabouts_at program s p top.0) (sym where_is ∙ ap (whereabouts_with program s p) lives) in
+    let same : w ≡ whereabouts_at program s p top.0 =
+    same_Some w (whereabouts_at program s p top.0) (sym where_is ∙ ap (whereabouts_with program s p) lives) in
     λ i. record { entry = entry; unit = (same i).unit; line = (same i).line; found = is i }
 
 -- the variable of an operation that asks, by the name in the source

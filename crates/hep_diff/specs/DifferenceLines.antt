@@ -48,7 +48,8 @@ module _ (program : Units) where
 
   -- unit u's name for a position of COMMON, or the name by the block where it has none
   abbrev pub common_text : ℕ → Place → List ℕ
-  common_text u place = unwrap_or (own_name (unit_at program u) (name_of place.name) place.element) (position_text (name_of place.name) place.element)
+  common_text u place =
+      unwrap_or (own_name (unit_at program u) (name_of place.name) place.element) (position_text (name_of place.name) place.element)
 
   -- a place with its owner, of which COMMON has none
   abbrev pub owned_text : ℕ → Place → ℕ → List ℕ
@@ -61,7 +62,8 @@ module _ (program : Units) where
   found_text u (Some f) = codes " READS " ++ owned_text u f.place f.place.owner ++ codes " = " ++ value_text f.value
 
   abbrev pub deed_text : ProcessStep → List ℕ
-  deed_text d = codes "ENTRY " ++ decimal d.entry ++ codes " " ++ where_text (name_of d.unit) d.line ++ found_text d.unit d.found ++ codes "\n"
+  deed_text d =
+      codes "ENTRY " ++ decimal d.entry ++ codes " " ++ where_text (name_of d.unit) d.line ++ found_text d.unit d.found ++ codes "\n"
 
   -- what has become of a process that has no further step: it was found waiting, and still waits; or it lives; or it
   -- was made; or it was never made

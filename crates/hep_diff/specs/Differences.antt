@@ -25,7 +25,8 @@ module _ (program : Units) where
 
   -- what has become of process p, counted from 1
   abbrev pub rest_of : List Entry → ℕ → List ℕ
-  rest_of history p = rest_text program (listed_after program history p) (whereabouts_by program p (state_after program history)) (nat_le p (made_in history))
+  rest_of history p =
+      rest_text program (listed_after program history p) (whereabouts_by program p (state_after program history)) (nat_le p (made_in history))
 
   -- a step of process p, or what has become of it where it has no such step
   abbrev pub deed_or_rest : List Entry → ℕ → Option ProcessStep → List ℕ

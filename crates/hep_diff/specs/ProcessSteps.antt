@@ -6,7 +6,8 @@ use Rattle.hep_machine.specs.declared.event.Kind.{Kind}
 use Rattle.hep_machine.specs.declared.slot.Slot.{Slot}
 use Rattle.hep_machine.specs.Access.{is_empty, is_full}
 use Rattle.hep_machine.specs.Evaluation.{reading}
-use Rattle.hep_machine.specs.Words.{Level, Location, Name, Next, Process, Reference, Scope, State, Statement, Units, Value, does, ending_loop, evaluating, function_name, leaving, line_at, living, location_of_name, next_of, scope_of, state_after, state_after_turn, testing, unit_at, unit_of, variable_of, wants}
+use Rattle.hep_machine.specs.Words.{Level, Location, Name, Next, Process, Reference, Scope, State, Statement, Units, Value, does, ending_loop, evaluating, function_name, leaving, line_at, living, location_of_name, next_of, scope_of, state_after, testing, unit_at, unit_of, variable_of, wants}
+unfoldable pub use Rattle.hep_fold.specs.Turns.{seen_along}
 use Rattle.hep_fold.specs.Turns.{turns_from}
 use Rattle.hep_source.specs.declared.function.StateFunction.{StateFunction}
 use Rattle.hep_source.specs.declared.function.StateFunction.TheVariants.{IsEmpty, IsFull, ValueOf}
@@ -72,11 +73,11 @@ module _ (program : Units) (s : State) where
 abbrev pub of_process : ℕ → ℕ → Option ProcessStep → List ProcessStep
 of_process q p d = if nat_eq q p then option_to_list d else []
 
--- the steps of process q among these turns from a state, each with the number of its entry
-unfoldable pub deeds_along : Units → ℕ → State → List (ℕ × ℕ) → List ProcessStep
-deeds_along program q s [] = []
-deeds_along program q s (t ∷ ts) = of_process q t.1 (deed_by program s t.0 t.1) ++ deeds_along program q (state_after_turn program t.1 s) ts
+-- the steps of process q, with that of process p from a state, in the entry with this number
+abbrev pub steps_of : Units → ℕ → ℕ → ℕ → State → List ProcessStep → List ProcessStep
+steps_of program q entry p s steps = steps ++ of_process q p (deed_by program s entry p)
 
--- those of the entries of a history after the first n
+-- those of the entries of a history after the first n, each with the number of its entry
 abbrev pub deeds_behind : Units → ℕ → List Entry → ℕ → List ProcessStep
-deeds_behind program n history q = deeds_along program q (state_after program (take n history)) (turns_from (suc n) (drop n history))
+deeds_behind program n history q =
+    seen_along program (steps_of program q) (state_after program (take n history)) (turns_from (suc n) (drop n history)) []

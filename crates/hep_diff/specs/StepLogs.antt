@@ -1,8 +1,8 @@
 -- The steps of each process, noted while a history is made again: docs/ARCHITECTURE.md, "Forms".
-use Rattle.std.specs.Prelude.{ℕ, List, [], ◌++◌, Option, Some, None, slice_get}
+use Rattle.std.specs.Prelude.{ℕ, List, [], Option, Some, None, slice_get}
 use Rattle.std.specs.Global.{Vec}
 use Rattle.hep_machine.specs.Words.{State, Units}
-use Rattle.hep_diff.specs.ProcessSteps.{deed_by, of_process}
+use Rattle.hep_diff.specs.ProcessSteps.{steps_of}
 use Rattle.hep_diff.specs.declared.process_step.ProcessStep.{ProcessStep}
 
 -- the steps in a row; none where there is no row
@@ -14,6 +14,6 @@ items_of (Some deeds) = deeds.items
 abbrev pub kept_of : List (Vec ProcessStep) → ℕ → List ProcessStep
 kept_of logs p = items_of (slice_get logs p)
 
--- the steps of each process, with that of process p from a state, which is part of the entry with this number
+-- the steps of each process, with that of process p from a state, in the entry with this number
 abbrev pub steps_after : Units → ℕ → ℕ → State → (ℕ → List ProcessStep) → ℕ → List ProcessStep
-steps_after program entry p s steps q = steps q ++ of_process q p (deed_by program s entry p)
+steps_after program entry p s steps q = steps_of program q entry p s (steps q)

@@ -1,18 +1,22 @@
 -- Turns that are made for an observer: what is left of them, and what it knows.
-use Rattle.std.proofs.Common.{◌≡◌, ℕ, ◌+◌, ◌-◌, ◌≤◌, List, [], ◌∷◌, ◌++◌, length, length-append, replicate, IsSome, refl, sym, ap, ◌∙◌, subst, arith, append_assoc}
+use Rattle.std.proofs.Common.{◌≡◌, ℕ, suc, ◌+◌, ◌-◌, ◌≤◌, List, [], ◌∷◌, ◌++◌, drop, length, length-append, replicate, take, IsSome, refl, sym, ap, ◌∙◌, subst, arith, append_assoc}
 use Rattle.std.proofs.lemmas.List.{length-map}
-use Rattle.hep_advance.proofs.RunsToBreakpoint.{run-on}
+use Rattle.hep_advance.proofs.RunsToBreakpoint.{run-on, turns-are}
+use Rattle.hep_advance.specs.SilentRuns.{MakesMoves}
 use Rattle.hep_fast.specs.declared.decoded_image.DecodedImage.{DecodedImage}
-use Rattle.hep_machine.specs.Words.{AreSteps, State, Units, is_held, layout_of, run, run_from, schedule_of, state_after_turn}
+use Rattle.hep_layout.proofs.HeldFrames.{opening-is}
+use Rattle.hep_machine.specs.declared.event.Entry.{Entry}
+use Rattle.hep_machine.specs.Words.{AreSteps, State, Units, is_held, layout_of, opening, run, run_from, schedule_of, state_after_turn}
 use Rattle.hep_state.proofs.Runs.{laid-before}
 use Rattle.hep_state.specs.declared.core_state.CoreState.{CoreState}
 use Rattle.hep_state.specs.Words.{IsMachineAfter}
 use Rattle.hep_fold.specs.declared.replay_machine.ReplayMachine.{ReplayMachine}
 use Rattle.hep_fold.specs.declared.turn_row.TurnRow.{TurnRow}
-use Rattle.hep_fold.specs.Folds.{IsFolding}
-use Rattle.hep_fold.specs.Observers.{IsAhead, IsMade, IsUnderWay, Replay, row_turns}
+use Rattle.hep_fold.specs.declared.history_range.HistoryRange.{HistoryRange}
+use Rattle.hep_fold.specs.Folds.{CanFold, Folds, IsFolding, entries_before, entries_until, seen_within}
+use Rattle.hep_fold.specs.Observers.{AreTurnsAhead, IsMade, IsUnderWay, Replay, row_turns}
 use Rattle.hep_fold.specs.ReplayMachines.{CanGoAgain, CanTurnAgain, HasGoneAgain, made_by}
-use Rattle.hep_fold.specs.Turns.{processes, seen_along, turns_in_row}
+use Rattle.hep_fold.specs.Turns.{processes, seen_along, turns_from, turns_in_row}
 use Rattle.hep_fold.proofs.TurnRows.{processes-append, row-processes, row-split, schedule-many}
 
 -- ---- turns after others
@@ -26,12 +30,14 @@ module _ (program : Units) where
 
   -- what is known along all of them
   pub seen-behind : {S : Type 0} (see : ℕ → ℕ → State → S → S) (s : State) (ts us : List (ℕ × ℕ)) (seen : S)
-      → seen_along program see s (ts ++ us) seen ≡ seen_along program see (run_from program s (processes ts)) us (seen_along program see s ts seen)
+      → seen_along program see s (ts ++ us) seen
+      ≡ seen_along program see (run_from program s (processes ts)) us (seen_along program see s ts seen)
   unfolding seen_along run_from
   seen-behind see s [] us seen = refl
   seen-behind see s (t ∷ ts) us seen = seen-behind see (state_after_turn program t.1 s) ts us (see t.0 t.1 s seen)
 
-  pub seen-one : {S : Type 0} (see : ℕ → ℕ → State → S → S) (s : State) (entry p : ℕ) (seen : S) → seen_along program see s ((entry, p) ∷ []) seen ≡ see entry p s seen
+  pub seen-one : {S : Type 0} (see : ℕ → ℕ → State → S → S) (s : State) (entry p : ℕ) (seen : S)
+      → seen_along program see s ((entry, p) ∷ []) seen ≡ see entry p s seen
   unfolding seen_along
   seen-one see s entry p seen = refl
 
@@ -39,8 +45,33 @@ module _ (program : Units) where
   unfolding seen_along
   seen-none see s seen = refl
 
+  -- along turns in a row, and more of them
+  pub seen-row : {S : Type 0} (see : ℕ → ℕ → State → S → S) (s : State) (entry p n m : ℕ) (seen : S)
+      → seen_along program see s (turns_in_row entry p (n + m)) seen
+      ≡ seen_along program see (run_from program s (replicate n p)) (turns_in_row (entry + n) p m)
+      (seen_along program see s (turns_in_row entry p n) seen)
+  seen-row see s entry p n m seen =
+      let left : n + m - n ≡ m = omega arith in
+      let first = turns_in_row entry p n in
+      let more = turns_in_row (entry + n) p m in
+      ap (λ ts. seen_along program see s ts seen)
+      (row-split n (n + m) entry p (omega arith) ∙ ap (λ k. first ++ turns_in_row (entry + n) p k) left)
+      ∙ seen-behind see s first more seen
+      ∙ ap (λ ps. seen_along program see (run_from program s ps) more (seen_along program see s first seen)) (row-processes n entry p)
+
+  -- and the next one
+  pub seen-row-next : {S : Type 0} (see : ℕ → ℕ → State → S → S) (s : State) (entry p n : ℕ) (seen : S)
+      → seen_along program see s (turns_in_row entry p (suc n)) seen
+      ≡ see (entry + n) p (run_from program s (replicate n p)) (seen_along program see s (turns_in_row entry p n) seen)
+  seen-row-next see s entry p n seen =
+      let one : suc n ≡ n + 1 = omega arith in
+      ap (λ k. seen_along program see s (turns_in_row entry p k) seen) one
+      ∙ seen-row see s entry p n 1 seen
+      ∙ seen-one see (run_from program s (replicate n p)) (entry + n) p (seen_along program see s (turns_in_row entry p n) seen)
+
   -- a machine after the first turns that were left
-  pub under-behind : (replay : Replay) (made : List ℕ) (all front left : List (ℕ × ℕ)) (m n : CoreState) → all ≡ front ++ left → IsUnderWay program replay made all m
+  pub under-behind : (replay : Replay) (made : List ℕ) (all front left : List (ℕ × ℕ)) (m n : CoreState) → all ≡ front ++ left
+      → IsUnderWay program replay made all m
       → IsMachineAfter program replay.cells (made ++ processes front) n → IsUnderWay program replay (made ++ processes front) left n
   under-behind replay made all front left m n split h after =
       let parts : processes all ≡ processes front ++ processes left = ap processes split ∙ processes-append front left in
@@ -69,6 +100,21 @@ module _ (row : TurnRow) (left : List (ℕ × ℕ)) where
   pub row-unmade : (n : ℕ) → n ≡ 0 → 1 ≤ row.count → left_of_row n ≡ (row.entry, row.process) ∷ left_of_row 1
   row-unmade n none some = ap left_of_row none ∙ sym (row-parts 0 (omega arith)) ∙ row-parts 1 some
 
+  -- a machine after the first n turns of the row, which only move their process
+  pub row-under-way : (program : Units) (replay : Replay) (made : List ℕ) (old new : CoreState) (n : ℕ) → n ≤ row.count
+      → IsUnderWay program replay made (row_turns row ++ left) old → MakesMoves program row.process old n new
+      → IsUnderWay program replay (made ++ replicate n row.process) (left_of_row n) new
+  row-under-way program replay made old new n few h gone =
+      let p = row.process in
+      let front = turns_in_row row.entry p n in
+      let there = gone replay.cells made h.after in
+      let same : made ++ processes front ≡ made ++ replicate n p = ap (λ ps. made ++ ps) (row-processes n row.entry p) in
+      let after : IsMachineAfter program replay.cells (made ++ replicate n p) new =
+      subst (λ ps. IsMachineAfter program replay.cells ps new) (turns-are program replay.cells p made n there.0 there.1) there.2 in
+      subst (λ ps. IsUnderWay program replay ps (left_of_row n) new) same (
+      under-behind program replay made (row_turns row ++ left) front (left_of_row n) old new (row-parts n few) h (
+      subst (λ ps. IsMachineAfter program replay.cells ps new) (sym same) after))
+
 module _ {O S : Type 0} (knows : Units → Replay → List ℕ → O → S → Type 0) (see : Units → ℕ → ℕ → State → S → S) (tabled : DecodedImage)
     (replay : Replay) (total : S) (old : ReplayMachine) (o : O) where
   abbrev program : Units
@@ -76,7 +122,8 @@ module _ {O S : Type 0} (knows : Units → Replay → List ℕ → O → S → T
 
   -- ---- the first of the turns that are left
 
-  abbrev pub ahead : (all first left : List (ℕ × ℕ)) → all ≡ first ++ left → IsFolding knows see tabled replay total all old o → IsAhead knows program old.machine o first
+  abbrev pub ahead : (all first left : List (ℕ × ℕ)) → all ≡ first ++ left → IsFolding knows see tabled replay total all old o
+      → AreTurnsAhead knows program old.machine o first
   ahead all first left split h = record {
     replay = replay;
     made = made_by old;
@@ -87,8 +134,10 @@ module _ {O S : Type 0} (knows : Units → Replay → List ℕ → O → S → T
   }
 
   -- they were made
-  pub folding-behind : (all front left : List (ℕ × ℕ)) → all ≡ front ++ left → (h : IsFolding knows see tabled replay total all old o) (new : ReplayMachine) (n : O)
-      → made_by new ≡ made_by old ++ processes front → IsMachineAfter program replay.cells (made_by new) new.machine → new.machine.made ≤ new.roster.room
+  pub folding-behind : (all front left : List (ℕ × ℕ)) → all ≡ front ++ left
+      → (h : IsFolding knows see tabled replay total all old o) (new : ReplayMachine) (n : O)
+      → made_by new ≡ made_by old ++ processes front → IsMachineAfter program replay.cells (made_by new) new.machine
+      → new.machine.made ≤ new.roster.room
       → knows program replay (made_by old ++ processes front) n (seen_along program (see program) (run program (made_by old)) front h.seen)
       → IsFolding knows see tabled replay total left new n
   folding-behind all front left split h new n made after room known =
@@ -119,10 +168,17 @@ module _ {O S : Type 0} (knows : Units → Replay → List ℕ → O → S → T
       cells = replay.cells;
       after = h.under_way.after;
       numbers = h.numbers;
-      few = omega (arith, h.under_way.few, length-map replay.turns (λ (t : ℕ × ℕ). t.1), ap length h.under_way.turns, length-append (made_by old) (p ∷ processes left));
+      few = omega (
+        arith,
+        h.under_way.few,
+        length-map replay.turns (λ (t : ℕ × ℕ). t.1),
+        ap length h.under_way.turns,
+        length-append (made_by old) (p ∷ processes left),
+      );
       steps = h.under_way.steps.0;
       laid = laid-before program replay.cells (made_by old ++ p ∷ []) (processes left) (
-          subst (λ ps. IsSome (layout_of program replay.cells is_held ps)) (h.under_way.turns ∙ sym (append_assoc (made_by old) (p ∷ []) (processes left))) h.under_way.laid);
+          subst (λ ps. IsSome (layout_of program replay.cells is_held ps))
+          (h.under_way.turns ∙ sym (append_assoc (made_by old) (p ∷ []) (processes left))) h.under_way.laid);
     }
 
     pub can-go-next : CanGoAgain tabled p old
@@ -136,7 +192,8 @@ module _ {O S : Type 0} (knows : Units → Replay → List ℕ → O → S → T
       after-next = gone.after replay.cells h.under_way.after
 
       -- it was made, and the observer is told
-      abbrev pub made-turn : {L : Type 0} (notes : Units → Replay → List ℕ → ℕ → ℕ → O → L → Type 0) (look : L) → notes program replay (made_by old) entry p o look
+      abbrev pub made-turn : {L : Type 0} (notes : Units → Replay → List ℕ → ℕ → ℕ → O → L → Type 0) (look : L)
+          → notes program replay (made_by old) entry p o look
           → IsMade knows program new.machine o notes entry p look
       made-turn notes look noted = record {
         replay = replay;
@@ -155,7 +212,8 @@ module _ {O S : Type 0} (knows : Units → Replay → List ℕ → O → S → T
           → IsFolding knows see tabled replay total left new n
       folded-turn n known =
           folding-behind ((entry, p) ∷ left) ((entry, p) ∷ []) left refl h new n made-next after-next gone.numbers (
-          subst (λ seen. knows program replay (made_by old ++ p ∷ []) n seen) (sym (seen-one program (see program) (run program (made_by old)) entry p h.seen)) known)
+          subst (λ seen. knows program replay (made_by old ++ p ∷ []) n seen)
+          (sym (seen-one program (see program) (run program (made_by old)) entry p h.seen)) known)
 
   -- ---- turns in a row
 
@@ -175,8 +233,62 @@ module _ {O S : Type 0} (knows : Units → Replay → List ℕ → O → S → T
       folded-row n few new now made after room known =
           let of-row : made_by old ++ replicate n row.process ≡ made_by old ++ processes (turns_in_row row.entry row.process n) =
           ap (λ ps. made_by old ++ ps) (sym (row-processes n row.entry row.process)) in
-          folding-behind (row_turns row ++ left) (turns_in_row row.entry row.process n) (left_of_row row left n) (row-parts row left n few) h new now
+          folding-behind (row_turns row ++ left) (turns_in_row row.entry row.process n)
+          (left_of_row row left n) (row-parts row left n few) h new now
           (made ∙ of-row)
           (subst (λ ps. IsMachineAfter program replay.cells ps new.machine) (sym made) after)
           room
           (subst (λ ps. knows program replay ps now (seen_along program (see program) (run program (made_by old)) (turns_in_row row.entry row.process n) h.seen)) of-row known)
+
+-- ---- turns in parts
+
+module _ {O S : Type 0} {knows : Units → Replay → List ℕ → O → S → Type 0} {see : Units → ℕ → ℕ → State → S → S} {tabled : DecodedImage} where
+  -- the same turns are left
+  pub same-left : {replay : Replay} {total : S} {again : ReplayMachine} {o : O} {ts us : List (ℕ × ℕ)} → ts ≡ us
+      → IsFolding knows see tabled replay total ts again o → IsFolding knows see tabled replay total us again o
+  same-left {replay} {total} {again} {o} same h = subst (λ (vs : List (ℕ × ℕ)). IsFolding knows see tabled replay total vs again o) same h
+
+  -- the same turns come first
+  pub same-first : {again : ReplayMachine} {o : O} {ts us : List (ℕ × ℕ)} → ts ≡ us → CanFold knows see tabled ts again o → CanFold knows see tabled us again o
+  same-first {again} {o} same h = subst (λ (vs : List (ℕ × ℕ)). CanFold knows see tabled vs again o) same h
+
+  -- the same turns were left before
+  pub same-before : (behind : List (ℕ × ℕ)) {old new : ReplayMachine} {o n : O} {ts us : List (ℕ × ℕ)} → ts ≡ us
+      → Folds knows see tabled ts old o behind new n → Folds knows see tabled us old o behind new n
+  same-before behind {old} {new} {o} {n} same h = subst (λ (vs : List (ℕ × ℕ)). Folds knows see tabled vs old o behind new n) same h
+
+  -- and the same after
+  pub same-behind : (before : List (ℕ × ℕ)) {old new : ReplayMachine} {o n : O} {ts us : List (ℕ × ℕ)} → ts ≡ us
+      → Folds knows see tabled before old o ts new n → Folds knows see tabled before old o us new n
+  same-behind before {old} {new} {o} {n} same h = subst (λ (vs : List (ℕ × ℕ)). Folds knows see tabled before old o vs new n) same h
+
+  module _ (all first rest : List (ℕ × ℕ)) (split : (left : List (ℕ × ℕ)) → all ++ left ≡ first ++ (rest ++ left)) where
+    -- the first part of the turns comes first
+    pub first-part : {again : ReplayMachine} {o : O} → CanFold knows see tabled all again o → CanFold knows see tabled first again o
+    first-part there = (there.0, there.1, rest ++ there.2, same-left (split there.2) there.3)
+
+    -- it was made
+    pub part-made : {old new : ReplayMachine} {o n : O} → Folds knows see tabled first old o [] new n → Folds knows see tabled all old o rest new n
+    part-made folds replay total left h = folds replay total (rest ++ left) (same-left (split left) h)
+
+  module _ (before between : List (ℕ × ℕ)) {old mid : ReplayMachine} {o p : O} where
+    -- what is left then can be made
+    pub fold-on : Folds knows see tabled before old o between mid p → CanFold knows see tabled before old o → CanFold knows see tabled between mid p
+    fold-on folds there = (there.0, there.1, there.2, folds there.0 there.1 there.2 there.3)
+
+    -- and was made
+    pub fold-both : (behind : List (ℕ × ℕ)) {new : ReplayMachine} {n : O} → Folds knows see tabled before old o between mid p
+        → Folds knows see tabled between mid p behind new n → Folds knows see tabled before old o behind new n
+    fold-both behind one other replay total left h = other replay total left (one replay total left h)
+
+-- ---- whole histories
+
+-- what is known after all turns of a history
+pub seen-whole : {S : Type 0} (program : Units) (see : ℕ → ℕ → State → S → S) (range : HistoryRange) (entries : List Entry) (seen : S)
+    → range.start ≡ 0 → entries_until range ≡ entries
+    → seen_within program see range seen ≡ seen_along program see (opening program) (turns_from 1 entries) seen
+unfolding schedule_of
+seen-whole program see range entries seen first all =
+    let start : run program (schedule_of (entries_before range)) ≡ opening program =
+    ap (λ n. run program (schedule_of (take n range.history.now.items))) first ∙ opening-is program in
+    (λ i. seen_along program see (start i) (turns_from (first i + 1) (drop (first i) (all i))) seen)

@@ -1,5 +1,6 @@
+pub use Rattle.hep_advance.proofs.RunsToBreakpoint
 pub mod TurnRows
 pub mod MachineTurns
 pub mod Folding
 mod Ranges
-mod Beginnings
+pub mod Beginnings

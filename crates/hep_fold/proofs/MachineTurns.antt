@@ -1,8 +1,6 @@
 -- A machine that makes turns again: who has a step has its turn, and the turns that were made.
-use Rattle.std.proofs.Common.{◌≡◌, ◌≢◌, ℕ, ◌<◌, Bool, true, false, true≢false, List, [], ◌∷◌, ◌++◌, Option, Some, None, IsSome, is_some, if◌then◌else◌, refl, sym, ap, ◌∙◌, subst, arith, nat_eq, replicate}
-use Rattle.std.proofs.lemmas.Bool.{eqb-false, eqb-true}
-use Rattle.hep_advance.proofs.RunsToBreakpoint.{turns-are}
-use Rattle.hep_advance.specs.SilentRuns.{CanTakeTurns, HasGone, MakesMoves}
+use Rattle.std.proofs.Common.{◌≡◌, ◌≢◌, ℕ, Bool, true, false, true≢false, List, [], ◌∷◌, ◌++◌, Option, Some, None, IsSome, is_some, if◌then◌else◌, refl, sym, ap, ◌∙◌}
+use Rattle.hep_advance.specs.SilentRuns.{CanTakeTurns, MakesMoves}
 use Rattle.hep_advance.specs.SilentRuns as gone
 use Rattle.hep_blocked.proofs.LivingProcesses.{waits-idle}
 use Rattle.hep_cells.specs.declared.want.Want.{Want}
@@ -13,7 +11,7 @@ use Rattle.hep_state.specs.declared.core_state.CoreState.{CoreState}
 use Rattle.hep_state.specs.declared.turn.TurnFault.TheVariants.{ArenaFull}
 use Rattle.hep_state.specs.declared.turn.TurnOutcome.{TurnOutcome}
 use Rattle.hep_state.specs.declared.turn.TurnOutcome.TheVariants.{Purged, Stepped, Waits}
-use Rattle.hep_state.specs.Words.{Changes, HasLevels, HasTurned, IsMachineAfter, IsUnturned, snapshot_of}
+use Rattle.hep_state.specs.Words.{HasLevels, HasTurned, IsItsTurn, IsMachineAfter, IsUnturned, snapshot_of}
 use Rattle.hep_views.proofs.WaitingPlaces.{living-top}
 use Rattle.hep_fold.specs.declared.replay_machine.ReplayMachine.{ReplayMachine}
 use Rattle.hep_fold.specs.Observers.{IsUnderWay, Replay}
@@ -48,7 +46,8 @@ module _ (program : Units) (p : ℕ) (again : ReplayMachine) (h : CanTurnAgain p
   running-now = h.after.after.shows.halted ∙ who-steps-runs program p (run program (made_by again)) h.steps
 
   pub living-now : HasLevels (snapshot_of again.machine) p
-  living-now = (living-top program h.cells (made_by again) again.machine h.after p (who-steps-lives program p (run program (made_by again)) h.steps)).is_top.levels
+  living-now =
+      (living-top program h.cells (made_by again) again.machine h.after p (who-steps-lives program p (run program (made_by again)) h.steps)).is_top.levels
 
   -- it doesn't wait
   pub not-waiting : (want : Want) (new : CoreState) → HasTurned program h.cells (made_by again) p (Waits want) new → ⊥
@@ -72,24 +71,12 @@ can-go tabled p again h = record {
 -- ---- the turns that were made
 
 -- a turn that was a step
-pub stepped : (us : Units) (cells : ℕ) (before : List ℕ) (p : ℕ) (turned : TurnOutcome) (new : CoreState) → ((want : Want) → turned ≢ Waits want)
+pub stepped : (us : Units) (cells : ℕ) (before : List ℕ) (p : ℕ) (turned : TurnOutcome) (new : CoreState)
+    → ((want : Want) → turned ≢ Waits want)
     → HasTurned us cells before p turned new → IsMachineAfter us cells (before ++ p ∷ []) new
 stepped us cells before p (Stepped changed) new other h = h.1
 stepped us cells before p Purged new other h = h.1
 stepped us cells before p (Waits want) new other h = absurd (other want refl)
-
--- each of them fills and empties nothing
-pub gone-quietly : (program : Units) (cells p : ℕ) (choices : List ℕ) (n : ℕ) (after : List ℕ) → HasGone program cells p choices n after
-    → (k : ℕ) → k < n → Changes program cells (choices ++ replicate k p) p None
-gone-quietly program cells p _ _ _ (gone.none choices) k less = absurd (omega (arith, less))
-gone-quietly program cells p _ _ _ (gone.more choices n after going plain) k less =
-    by (λ before. gone-quietly program cells p choices n after going k before) (nat_eq k n) refl
-  where
-    by : (k < n → Changes program cells (choices ++ replicate k p) p None) → (b : Bool) → nat_eq k n ≡ b → Changes program cells (choices ++ replicate k p) p None
-    by earlier true t =
-        subst (λ j. Changes program cells (choices ++ replicate j p) p None) (sym (eqb-true k n t)) (
-        subst (λ ps. Changes program cells ps p None) (turns-are program cells p choices n after going) plain.unchanged)
-    by earlier false t = let not = eqb-false k n t in earlier (grind (arith, less, not))
 
 -- ---- before a turn
 
@@ -97,12 +84,21 @@ module _ (program : Units) (replay : Replay) (made : List ℕ) (entry p : ℕ) (
   -- its process lives
   pub lives-ahead : (top : Level × Process) × (living (run program made) p ≡ Some top)
   lives-ahead = by (living (run program made) p) refl (who-steps-lives program p (run program made) h.steps.0) where
-    by : (o : Option (Level × Process)) → living (run program made) p ≡ o → IsSome o → (top : Level × Process) × (living (run program made) p ≡ Some top)
+    by : (o : Option (Level × Process)) → living (run program made) p ≡ o → IsSome o
+        → (top : Level × Process) × (living (run program made) p ≡ Some top)
     by None e some = absurd (true≢false (sym some))
     by (Some top) e some = (top, e)
 
   pub running-ahead : m.halted ≡ false
   running-ahead = h.after.after.shows.halted ∙ who-steps-runs program p (run program made) h.steps.0
+
+  -- it has its turn
+  pub turn-ahead : IsItsTurn program p m
+  turn-ahead = record {
+    after = (replay.cells, made, h.after);
+    running = running-ahead;
+    living = (living-top program replay.cells made m h.after p (who-steps-lives program p (run program made) h.steps.0)).is_top.levels;
+  }
 
 -- no turn was made
 pub makes-none : (program : Units) (p : ℕ) (m : CoreState) → MakesMoves program p m 0 m

@@ -42,7 +42,8 @@ module _ {X : Type 0} (x : X) where
 -- ---- a range
 
 -- its first entries are the first of all runs
-pub range-begins : (entries : List Entry) (runs : List Run) (last end : ℕ) → end ≡ min last (length entries) → entries_of runs ≡ entries → drop 0 (take last entries) ≡ take (end - 0) (entries_of runs)
+pub range-begins : (entries : List Entry) (runs : List Run) (last end : ℕ) → end ≡ min last (length entries) → entries_of runs ≡ entries
+    → drop 0 (take last entries) ≡ take (end - 0) (entries_of runs)
 range-begins entries runs last end least is =
     let all : min last (length entries) ≡ end - 0 = omega (arith, least) in
     sym (take_min last entries) ∙ (λ i. take (all i) (sym is i))
@@ -61,7 +62,8 @@ module _ (entries : List Entry) (last end at : ℕ) (least : end ≡ min last (l
   pub range-ends : (made : ℕ) → end ≤ made → turns_from (made + 1) (drop made inside) ≡ []
   range-ends made past = ap (turns_from (made + 1)) (drop_all made inside (omega (arith, length-take last entries, least, past)))
 
-  module _ (run : Run) (rest : List Run) (some : ℕ) (is : some ≡ min run.count (end - at)) (place : drop at inside ≡ take (end - at) (entries_of (run ∷ rest))) where
+  module _ (run : Run) (rest : List Run) (some : ℕ) (is : some ≡ min run.count (end - at))
+      (place : drop at inside ≡ take (end - at) (entries_of (run ∷ rest))) where
     here : drop at inside ≡ replicate some (entry_of run) ++ take (end - at - some) (entries_of rest)
     here = place ∙ take-alike (entry_of run) (end - at) run.count some (entries_of rest) is
 
@@ -89,7 +91,8 @@ module _ (entries : List Entry) (last end at : ℕ) (least : end ≡ min last (l
           ∙ ap (λ es. replicate k (entry_of run) ++ es) (drop-drop k made inside)
 
       turns-of-part : at ≤ made → made + k ≤ at + some
-          → turns_from (made + 1) (drop made inside) ≡ turns_from (made + 1) (replicate k (entry_of run)) ++ turns_from (made + k + 1) (drop (made + k) inside)
+          → turns_from (made + 1) (drop made inside)
+          ≡ turns_from (made + 1) (replicate k (entry_of run)) ++ turns_from (made + k + 1) (drop (made + k) inside)
       turns-of-part before within =
           let next : made + 1 + length (replicate k (entry_of run)) ≡ made + k + 1 = omega (arith, length-replicate k (entry_of run)) in
           ap (turns_from (made + 1)) (part before within)
@@ -98,6 +101,7 @@ module _ (entries : List Entry) (last end at : ℕ) (least : end ≡ min last (l
 
     -- as many as there are up to the end of the run
     pub range-parts : (made k : ℕ) → k ≡ at + some - made → at ≤ made
-        → turns_from (made + 1) (drop made inside) ≡ turns_from (made + 1) (replicate k (entry_of run)) ++ turns_from (made + k + 1) (drop (made + k) inside)
+        → turns_from (made + 1) (drop made inside)
+        ≡ turns_from (made + 1) (replicate k (entry_of run)) ++ turns_from (made + k + 1) (drop (made + k) inside)
     range-parts made zero counted before = let same : made ≡ made + 0 = omega arith in (λ i. turns_from (same i + 1) (drop (same i) inside))
     range-parts made (suc k) counted before = turns-of-part made (suc k) before (omega (arith, counted))

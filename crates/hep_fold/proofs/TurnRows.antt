@@ -5,19 +5,9 @@ use Rattle.hep_history.specs.declared.run.Run.{Run}
 use Rattle.hep_history.specs.Runs.{entry_of}
 use Rattle.hep_machine.specs.declared.event.Entry.{Entry}
 use Rattle.hep_machine.specs.Words.{schedule_of}
-use Rattle.hep_fold.specs.Turns.{AreOf, processes, turns_from, turns_in_row, turns_of}
+use Rattle.hep_fold.specs.Turns.{processes, turns_from, turns_in_row, turns_of}
 
 -- ---- turns in a row
-
--- each is of the process
-pub row-each : (n number p : ℕ) → AreOf p (turns_in_row number p n)
-row-each zero number p = tt
-row-each (suc n) number p = (refl, row-each n (suc number) p)
-
--- there are n of them
-pub row-long : (n number p : ℕ) → length (turns_in_row number p n) ≡ n
-row-long zero number p = refl
-row-long (suc n) number p = ap suc (row-long n (suc number) p)
 
 -- the first ones, and those behind them
 pub row-split : (m n number p : ℕ) → m ≤ n → turns_in_row number p n ≡ turns_in_row number p m ++ turns_in_row (number + m) p (n - m)
@@ -29,7 +19,8 @@ row-split (suc m) zero number p few = absurd (omega (arith, few))
 row-split (suc m) (suc n) number p few =
     let at : suc number + m ≡ number + suc m = omega arith in
     let left : n - m ≡ suc n - suc m = omega arith in
-    ap (λ ts. (number, p) ∷ ts) (row-split m n (suc number) p (omega (arith, few)) ∙ (λ i. turns_in_row (suc number) p m ++ turns_in_row (at i) p (left i)))
+    ap (λ ts. (number, p) ∷ ts)
+    (row-split m n (suc number) p (omega (arith, few)) ∙ (λ i. turns_in_row (suc number) p m ++ turns_in_row (at i) p (left i)))
 
 -- one turn more of those that are left
 pub one-more : (n i : ℕ) (t : ℕ × ℕ) (left : List (ℕ × ℕ)) → i < n → replicate (n - i) t ++ left ≡ t ∷ (replicate (n - (i + 1)) t ++ left)
@@ -45,7 +36,8 @@ row-whole n number p =
     (λ i. turns_in_row (at i) p (count i))
 
 -- some were made, and more of them
-pub row-further : (n made more number p : ℕ) → turns_in_row (number + made + more) p (n - made - more) ≡ turns_in_row (number + (made + more)) p (n - (made + more))
+pub row-further : (n made more number p : ℕ)
+    → turns_in_row (number + made + more) p (n - made - more) ≡ turns_in_row (number + (made + more)) p (n - (made + more))
 row-further n made more number p =
     let at : number + made + more ≡ number + (made + more) = omega arith in
     let count : n - made - more ≡ n - (made + more) = omega arith in
@@ -59,7 +51,8 @@ row-of zero number e one = refl
 row-of (suc n) number e one = (λ i. replicate (one i) (number, e.process) ++ row-of n (suc number) e one i)
 
 -- of a run of them
-pub row-of-run : (run : Run) (number : ℕ) → run.steps ≡ 1 → turns_from number (replicate run.count (entry_of run)) ≡ turns_in_row number run.process run.count
+pub row-of-run : (run : Run) (number : ℕ) → run.steps ≡ 1
+    → turns_from number (replicate run.count (entry_of run)) ≡ turns_in_row number run.process run.count
 row-of-run run number one = row-of run.count number (entry_of run) one
 
 -- of equal entries, none of which was made
@@ -71,7 +64,8 @@ run-whole n number e =
 
 -- of the next one of them, and of those after it
 pub run-next : (n i number : ℕ) (e x : Entry) (left : List (ℕ × ℕ)) → i < n → x ≡ e
-    → turns_from (number + i) (replicate (n - i) e) ++ left ≡ turns_of (number + i) x ++ (turns_from (number + (i + 1)) (replicate (n - (i + 1)) e) ++ left)
+    → turns_from (number + i) (replicate (n - i) e) ++ left
+    ≡ turns_of (number + i) x ++ (turns_from (number + (i + 1)) (replicate (n - (i + 1)) e) ++ left)
 run-next n i number e x left less is =
     let count : n - i ≡ suc (n - (i + 1)) = omega (arith, less) in
     let at : suc (number + i) ≡ number + (i + 1) = omega arith in
@@ -80,7 +74,8 @@ run-next n i number e x left less is =
     ∙ (λ j. turns_of (number + i) (sym is j) ++ (turns_from (at j) (replicate (n - (i + 1)) e) ++ left))
 
 -- of entries, and of those after them
-pub turns-append : (es fs : List Entry) (number : ℕ) → turns_from number (es ++ fs) ≡ turns_from number es ++ turns_from (number + length es) fs
+pub turns-append : (es fs : List Entry) (number : ℕ)
+    → turns_from number (es ++ fs) ≡ turns_from number es ++ turns_from (number + length es) fs
 turns-append [] fs number = let at : number ≡ number + 0 = omega arith in ap (λ k. turns_from k fs) at
 turns-append (e ∷ es) fs number =
     let at : suc number + length es ≡ number + length (e ∷ es) = omega arith in
@@ -120,8 +115,10 @@ schedule-ones p zero = refl
 schedule-ones p (suc n) = ap (λ ps. p ∷ ps) (schedule-ones p n)
 
 -- and those after others
-pub schedule-many : (es : List Entry) (p n : ℕ) → schedule_of (es ++ replicate n (record { process = p; steps = 1 })) ≡ schedule_of es ++ replicate n p
+pub schedule-many : (es : List Entry) (p n : ℕ)
+    → schedule_of (es ++ replicate n (record { process = p; steps = 1 })) ≡ schedule_of es ++ replicate n p
 unfolding schedule_of
 schedule-many [] p n = schedule-ones p n
 schedule-many (e ∷ es) p n =
-    ap (λ ps. replicate e.steps e.process ++ ps) (schedule-many es p n) ∙ sym (append_assoc (replicate e.steps e.process) (schedule_of es) (replicate n p))
+    ap (λ ps. replicate e.steps e.process ++ ps) (schedule-many es p n)
+    ∙ sym (append_assoc (replicate e.steps e.process) (schedule_of es) (replicate n p))

@@ -4,6 +4,7 @@ use Rattle.hep_machine.specs.declared.event.Entry.{Entry}
 use Rattle.hep_machine.specs.Words.{AreSteps, State, Units, is_held, layout_of, opening, opening_layout, run, schedule_of}
 use Rattle.hep_fast.specs.declared.decoded_image.DecodedImage.{DecodedImage}
 use Rattle.hep_fast.specs.DecodedImages.{AreTables}
+use Rattle.hep_state.specs.Words.{IsMachineAfter}
 use Rattle.hep_fold.specs.declared.history_range.HistoryRange.{HistoryRange}
 use Rattle.hep_fold.specs.declared.replay_machine.ReplayMachine.{ReplayMachine}
 use Rattle.hep_fold.specs.Observers.{IsUnderWay, Replay}
@@ -57,3 +58,25 @@ pub record CanBeMade (program : Units) (cells : ℕ) (range : HistoryRange) : Ty
   pub steps : AreSteps program (opening program) (schedule_of (entries_until range))
   pub laid : IsSome (layout_of program cells is_held (schedule_of (entries_until range)))
   pub few : length (schedule_of (entries_until range)) ≤ most_turns
+
+-- a machine has made the turns before a range, in an arena of this many cells, and the turns in it can be made
+pub record IsAtStart (tabled : DecodedImage) (cells : ℕ) (range : HistoryRange) (again : ReplayMachine) : Type 0 where
+  pub tables : AreTables tabled.image.now tabled.tables.now
+  pub possible : CanBeMade tabled.image.now cells range
+  pub made : made_by again ≡ schedule_of (entries_before range)
+  pub after : IsMachineAfter tabled.image.now cells (made_by again) again.machine
+  pub numbers : again.machine.made ≤ again.roster.room
+
+module _ {O S : Type 0} (knows : Units → Replay → List ℕ → O → S → Type 0) (tabled : DecodedImage) (range : HistoryRange) where
+  -- and an observer knows this of the turns before the range
+  pub record KnowsBefore (again : ReplayMachine) (o : O) (cells : ℕ) (seen : S) : Type 0 where
+    pub start : IsAtStart tabled cells range again
+    pub known : knows tabled.image.now (replay_of cells range) (schedule_of (entries_before range)) o seen
+
+  -- it knows this of the turns before the end of the range
+  abbrev pub KnowsAll : O → ℕ → S → Type 0
+  KnowsAll o cells seen = knows tabled.image.now (replay_of cells range) (schedule_of (entries_until range)) o seen
+
+-- what is known at the end of a range, by what was known at its start
+abbrev pub seen_within : {S : Type 0} → Units → (ℕ → ℕ → State → S → S) → HistoryRange → S → S
+seen_within program see range seen = seen_along program see (run program (schedule_of (entries_before range))) (turns_within range) seen

@@ -24,7 +24,7 @@ pub record IsUnderWay (program : Units) (replay : Replay) (made : List ℕ) (lef
 
 module _ {O S : Type 0} (knows : Units → Replay → List ℕ → O → S → Type 0) (program : Units) (m : CoreState) (o : O) where
   -- an observer knows this of the turns so far, and these turns come next
-  pub record IsAhead (next : List (ℕ × ℕ)) : Type 0 where
+  pub record AreTurnsAhead (next : List (ℕ × ℕ)) : Type 0 where
     pub replay : Replay
     pub made : List ℕ
     pub left : List (ℕ × ℕ)

@@ -1,9 +1,9 @@
 -- A machine that makes the turns of a history again: docs/ARCHITECTURE.md, "Forms".
-use Rattle.std.specs.Prelude.{◌≡◌, ◌≢◌, ◌+◌, ◌^◌, ◌<◌, ◌≤◌, ℕ, List, [], ◌∷◌, ◌++◌, length, replicate, IsSome, None}
+use Rattle.std.specs.Prelude.{◌≡◌, ◌≢◌, ◌+◌, ◌^◌, ◌≤◌, ℕ, List, [], ◌∷◌, ◌++◌, length, replicate, IsSome, None}
 use Rattle.hep_machine.specs.Words.{Units, is_held, layout_of, run, schedule_of, step}
 use Rattle.hep_fast.specs.declared.decoded_image.DecodedImage.{DecodedImage}
 use Rattle.hep_fast.specs.DecodedImages.{AreTables}
-use Rattle.hep_state.specs.Words.{Changes, IsMachineAfter}
+use Rattle.hep_state.specs.Words.{IsMachineAfter}
 use Rattle.hep_fold.specs.declared.replay_machine.ReplayMachine.{ReplayMachine}
 
 -- the greatest number of turns that are made again
@@ -34,8 +34,3 @@ pub record HasGoneAgain (program : Units) (p n : ℕ) (old new : ReplayMachine) 
   pub history : new.history.items ≡ old.history.items ++ replicate n (record { process = p; steps = 1 })
   pub after : (cells : ℕ) → IsMachineAfter program cells (made_by old) old.machine → IsMachineAfter program cells (made_by new) new.machine
   pub numbers : new.machine.made ≤ new.roster.room
-
--- each of n turns of p fills and empties nothing
-abbrev pub FillsNothing : Units → ℕ → ℕ → ReplayMachine → Type 0
-FillsNothing program p n again =
-    (cells : ℕ) → IsMachineAfter program cells (made_by again) again.machine → (k : ℕ) → k < n → Changes program cells (made_by again ++ replicate k p) p None

@@ -1,5 +1,5 @@
 -- The turns of a history, and what is known after them: docs/ARCHITECTURE.md, "Forms".
-use Rattle.std.specs.Prelude.{◌≡◌, ℕ, zero, suc, List, [], ◌∷◌, ◌++◌, map, replicate}
+use Rattle.std.specs.Prelude.{ℕ, zero, suc, List, [], ◌∷◌, ◌++◌, map, replicate}
 use Rattle.hep_machine.specs.declared.event.Entry.{Entry}
 use Rattle.hep_machine.specs.Words.{State, Units, state_after_turn}
 
@@ -20,11 +20,6 @@ turns_in_row number p (suc n) = (number, p) ∷ turns_in_row (suc number) p n
 -- the processes of turns
 abbrev pub processes : List (ℕ × ℕ) → List ℕ
 processes turns = map (λ (t : ℕ × ℕ). t.1) turns
-
--- each of these turns is of process p
-abbrev pub AreOf : ℕ → List (ℕ × ℕ) → Type 0
-AreOf p [] = Unit {0}
-AreOf p (t ∷ ts) = (t.1 ≡ p) × AreOf p ts
 
 -- what is known after these turns from a state, by what is known after one: of the entry with this number, of this
 -- process, from this state

@@ -1,6 +1,6 @@
 //! The turns of a history, made again for an observer.
-ghost use Rattle.std.specs.Prelude.{◌≡◌, ◌+◌, ◌-◌, ◌^◌, ◌<◌, ◌≤◌, ◌∷◌, [], IfOk, OnOk, drop, length, replicate, take};
-ghost use Rattle.hep_fold.specs.Folds.{CanBeMade, CanFold, Folds, entries_before, entries_until, replay_of, turns_within};
+ghost use Rattle.std.specs.Prelude.{◌≡◌, ◌+◌, ◌-◌, ◌^◌, ◌<◌, ◌≤◌, ◌∷◌, ℕ, [], IfOk, OnOk, drop, length, replicate, take};
+ghost use Rattle.hep_fold.specs.Folds.{CanBeMade, CanFold, Folds, KnowsAll, KnowsBefore, entries_before, entries_until, replay_of, seen_within, turns_within};
 ghost use Rattle.hep_fold.specs.Observers.{row_turns};
 ghost use Rattle.hep_fold.specs.Turns.{seen_along, turns_from, turns_in_row, turns_of};
 ghost use Rattle.hep_history.specs.Runs.{entry_of};
@@ -191,6 +191,29 @@ fn make_range<O: Observer>(
     Ok(())
 }
 
+/// Makes the turns of the entries in a range again, on a machine that has made the earlier ones. The observer is told
+/// of them.
+///
+/// # Errors
+///
+/// Only where memory was refused.
+pub fn fold_range<O: Observer>(
+    again: &mut ReplayMachine,
+    tabled: &DecodedImage<'_>,
+    range: &HistoryRange<'_>,
+    observer: &mut O,
+) -> Result<(), AllocError>
+    requires { (cells : ℕ) × (seen : O.Seen) × KnowsBefore O.knows tabled.now range.now again.old observer.old cells seen }
+    ensures made { OnOk result ((cells : ℕ) (seen : O.Seen) → KnowsBefore O.knows tabled.now range.now again.old observer.old cells seen
+        → IsMachineAfter tabled.now.image.now cells (schedule_of (entries_until range.now)) again.new.machine) }
+    ensures seen { OnOk result ((cells : ℕ) (seen : O.Seen) → KnowsBefore O.knows tabled.now range.now again.old observer.old cells seen
+        → KnowsAll O.knows tabled.now range.now observer.new cells
+        (seen_within tabled.now.image.now (O.see tabled.now.image.now) range.now seen)) }
+{
+    make_range(again, tabled, observer, range)?;
+    Ok(())
+}
+
 /// Makes the turns of a history before the end of a range, in an arena of `cells` cells, 1 to 16,777,216. The observer
 /// is told of the turns in the range. The earlier ones are made at once as far as possible. Returns the machine after
 /// all of them.
@@ -225,6 +248,6 @@ pub fn fold_history<O: Observer>(
         end: range.start,
     };
     make_range(&mut again, &tabled, &mut Unobserved {}, &before)?;
-    make_range(&mut again, &tabled, observer, range)?;
+    fold_range(&mut again, &tabled, range, observer)?;
     Ok(again)
 }

@@ -1,7 +1,7 @@
 //! What is told of the turns of a history while they are made again.
 ghost use Rattle.std.specs.Prelude.{◌≡◌, ◌≤◌, ◌++◌, ◌∷◌, [], IfOk, OnOk, replicate};
 ghost use Rattle.hep_advance.specs.SilentRuns.{MakesMoves};
-ghost use Rattle.hep_fold.specs.Observers.{CanGoAtOnce, IsAhead, IsMade, row_turns};
+ghost use Rattle.hep_fold.specs.Observers.{AreTurnsAhead, CanGoAtOnce, IsMade, row_turns};
 ghost use Rattle.hep_fold.specs.Turns.{seen_along, turns_in_row};
 ghost use Rattle.hep_machine.specs.Words.{run};
 
@@ -44,8 +44,8 @@ pub trait Observer: Drop {
         entry: u64,
         p: u64,
     ) -> Result<Self::Look, AllocError>
-        requires { IsAhead knows image.now machine.now self.now ((entry, p) ∷ []) }
-        ensures { IfOk result (λ look. (at : IsAhead knows image.now machine.now self.now ((entry, p) ∷ []))
+        requires { AreTurnsAhead knows image.now machine.now self.now ((entry, p) ∷ []) }
+        ensures { IfOk result (λ look. (at : AreTurnsAhead knows image.now machine.now self.now ((entry, p) ∷ []))
             → notes image.now at.replay at.made entry p self.now look) };
 
     /// Takes note of that turn, which was made.
@@ -69,11 +69,11 @@ pub trait Observer: Drop {
     /// their number, which may be 0: then the next turn is made with `look` and `tell`.
     fn go_on(&mut self, machine: &mut CoreState, tabled: &DecodedImage<'_>, row: TurnRow) -> u64
         requires turn { CanGoAtOnce tabled.now row machine.old }
-        requires ahead { IsAhead knows tabled.now.image.now machine.old self.old (row_turns row) }
+        requires ahead { AreTurnsAhead knows tabled.now.image.now machine.old self.old (row_turns row) }
         ensures gone { MakesMoves tabled.now.image.now row.process machine.old result machine.new }
         ensures few { result ≤ row.count }
         ensures made { machine.new.made ≡ machine.old.made }
-        ensures seen { (at : IsAhead knows tabled.now.image.now machine.old self.old (row_turns row))
+        ensures seen { (at : AreTurnsAhead knows tabled.now.image.now machine.old self.old (row_turns row))
             → knows tabled.now.image.now at.replay (at.made ++ replicate result row.process) self.new
             (seen_along tabled.now.image.now (see tabled.now.image.now) (run tabled.now.image.now at.made) (turns_in_row row.entry row.process result) at.seen) };
 }

@@ -1,10 +1,10 @@
 //! A machine that makes the turns of a history again, with the history and the roster that a turn needs.
 ghost use Rattle.std.specs.Prelude.{◌≡◌, ◌≤◌, [], IfOk, IsSome, OnOk};
-ghost use Rattle.hep_fold.specs.ReplayMachines.{CanGoAgain, CanTurnAgain, FillsNothing, HasGoneAgain};
+ghost use Rattle.hep_fold.specs.ReplayMachines.{CanTurnAgain, HasGoneAgain};
 ghost use Rattle.hep_machine.specs.Words.{opening_layout};
 ghost use Rattle.hep_state.specs.Words.{IsMachineAfter};
 
-use hep_advance::{CoreState, DecodedImage, go_on};
+use hep_advance::CoreState;
 use hep_blocked::Roster;
 use hep_history::History;
 use hep_image::Image;
@@ -88,29 +88,5 @@ impl ReplayMachine {
             Err(TurnFault::NoMemory) => Err(AllocError),
             Err(TurnFault::ArenaFull) => unreachable!(),
         }
-    }
-
-    /// Makes up to `most` turns of process p, which has a step, as long as each only moves p, and returns their
-    /// number.
-    ///
-    /// # Errors
-    ///
-    /// Only where memory was refused.
-    pub fn go_on(&mut self, tabled: &DecodedImage<'_>, p: u64, most: u64) -> Result<u64, AllocError>
-        requires { CanGoAgain tabled.now p self.old }
-        ensures gone { IfOk result (λ made. HasGoneAgain tabled.now.image.now p made self.old self.new) }
-        ensures unchanged { IfOk result (λ made. FillsNothing tabled.now.image.now p made self.old) }
-        ensures few { IfOk result (λ made. made ≤ most) }
-    {
-        activations_are_few();
-        let few = most.min(MOST_AT_ONCE);
-        self.history.reserve(few as u32)?;
-        let made = go_on(&mut self.machine, tabled, p, few);
-        let entry = Entry {
-            process: p,
-            steps: 1,
-        };
-        self.history.push_many(entry, made as u32);
-        Ok(made)
     }
 }

@@ -9,7 +9,7 @@ use Rattle.hep_replay.proofs.Readings.{lines_more}
 use Rattle.hep_replay.proofs.ReplayTurns.{expand_singles, gaps_before, one, state_singles}
 use Rattle.hep_replay.specs.Progress.{AreMade, EntryMade, RunMade, again, begun, longer}
 use Rattle.hep_replay.specs.Replays.{ArePossible, HaveGaps, IsPossible, IsThere, most_entries, single_entries, single_steps}
-use Rattle.hep_why.proofs.WatchedTurns.{state-next}
+use Rattle.hep_core.proofs.Histories.{turned}
 use Rattle.hep_page.specs.ChangeLogs.{AreNext, IsNext}
 
 -- ---- entries that are possible
@@ -26,7 +26,7 @@ module _ (program : Units) (cells : ℕ) where
       let all = subst (HaveGaps program cells) more gaps in (
         record { few = omega (arith, few); single = refl; there = (steps.0, tt); gaps = gaps_before program cells front (replicate n (one p)) all },
         steps-next front p n rest (omega (arith, few, length-append before (one p ∷ [])))
-            (subst (λ (s : State). AreSteps program s (replicate n p)) (sym (state-next program before p)) steps.1) all
+            (subst (λ (s : State). AreSteps program s (replicate n p)) (sym (turned program before p)) steps.1) all
             (subst (λ es. AreNext program cells es rest) more next),
       )
 

@@ -24,7 +24,8 @@ module _ (nexts : List (Option ℕ)) (first : ℕ) where
   lead zero i is e = absurd (none-some is e)
   lead (suc n) i is e = by_next (next_at nexts i) refl e (λ j js. lead n j js)
     where
-      with_more : (j : ℕ) (o : Option (List ℕ)) → next_at nexts i ≡ Some j → ((js : List ℕ) → o ≡ Some js → Leads j js) → option_map (λ (js : List ℕ). i ∷ js) o ≡ Some is → Leads i is
+      with_more : (j : ℕ) (o : Option (List ℕ)) → next_at nexts i ≡ Some j → ((js : List ℕ) → o ≡ Some js → Leads j js)
+          → option_map (λ (js : List ℕ). i ∷ js) o ≡ Some is → Leads i is
       with_more j None f further e = absurd (none-some is e)
       with_more j (Some js) f further e = subst (Leads i) (same_Some (i ∷ js) is e) (longer i j js f (further js refl))
 
@@ -33,8 +34,11 @@ module _ (nexts : List (Option ℕ)) (first : ℕ) where
       by_order j true f further e = with_more j (circle_from nexts first n j) f further e
       by_order j false f further e = absurd (none-some is e)
 
-      by_end : (j : ℕ) (b : Bool) → nat_eq j first ≡ b → next_at nexts i ≡ Some j → ((js : List ℕ) → circle_from nexts first n j ≡ Some js → Leads j js)
-          → (if b then Some (i ∷ []) else (if nat_lt first j then option_map (λ (js : List ℕ). i ∷ js) (circle_from nexts first n j) else None)) ≡ Some is → Leads i is
+      by_end : (j : ℕ) (b : Bool) → nat_eq j first ≡ b → next_at nexts i ≡ Some j
+          → ((js : List ℕ) → circle_from nexts first n j ≡ Some js → Leads j js)
+          → (if b then Some (i ∷ []) else (if nat_lt first j then option_map (λ (js : List ℕ). i ∷ js) (circle_from nexts first n j) else None))
+          ≡ Some is
+          → Leads i is
       by_end j true t f further e = subst (Leads i) (same_Some (i ∷ []) is e) (refl, f ∙ ap (λ (x : ℕ). Some x) (eqb-true j first t))
       by_end j false t f further e = by_order j (nat_lt first j) f further e
 
@@ -52,7 +56,8 @@ module _ (nexts : List (Option ℕ)) (first : ℕ) where
   unfolding circle_from
   ends before m i e = ap (λ o. behind before (circle_by first i (circle_from nexts first m) o)) e
 
-  pub closes : (before : List ℕ) (m i j : ℕ) → next_at nexts i ≡ Some j → j ≡ first → behind before (circle_from nexts first (suc m) i) ≡ Some (before ++ i ∷ [])
+  pub closes : (before : List ℕ) (m i j : ℕ) → next_at nexts i ≡ Some j → j ≡ first
+      → behind before (circle_from nexts first (suc m) i) ≡ Some (before ++ i ∷ [])
   unfolding circle_from
   closes before m i j e same =
       ap (λ o. behind before (circle_by first i (circle_from nexts first m) o)) e
@@ -61,7 +66,8 @@ module _ (nexts : List (Option ℕ)) (first : ℕ) where
       is-same : nat_eq j first ≡ true
       is-same = grind (arith, nat_tests, same)
 
-  pub leaves : (before : List ℕ) (m i j : ℕ) → next_at nexts i ≡ Some j → j < first → behind before (circle_from nexts first (suc m) i) ≡ None
+  pub leaves : (before : List ℕ) (m i j : ℕ) → next_at nexts i ≡ Some j → j < first
+      → behind before (circle_from nexts first (suc m) i) ≡ None
   unfolding circle_from
   leaves before m i j e less =
       ap (λ o. behind before (circle_by first i (circle_from nexts first m) o)) e
@@ -73,11 +79,13 @@ module _ (nexts : List (Option ℕ)) (first : ℕ) where
       below : nat_lt first j ≡ false
       below = grind (arith, nat_tests, less)
 
-  more-behind : (before : List ℕ) (i : ℕ) (o : Option (List ℕ)) → behind before (option_map (λ (js : List ℕ). i ∷ js) o) ≡ behind (before ++ i ∷ []) o
+  more-behind : (before : List ℕ) (i : ℕ) (o : Option (List ℕ))
+      → behind before (option_map (λ (js : List ℕ). i ∷ js) o) ≡ behind (before ++ i ∷ []) o
   more-behind before i None = refl
   more-behind before i (Some js) = ap (λ (xs : List ℕ). Some xs) (sym (append_assoc before (i ∷ []) js))
 
-  pub goes_on : (before : List ℕ) (m i j : ℕ) → next_at nexts i ≡ Some j → first < j → behind before (circle_from nexts first (suc m) i) ≡ behind (before ++ i ∷ []) (circle_from nexts first m j)
+  pub goes_on : (before : List ℕ) (m i j : ℕ) → next_at nexts i ≡ Some j → first < j
+      → behind before (circle_from nexts first (suc m) i) ≡ behind (before ++ i ∷ []) (circle_from nexts first m j)
   unfolding circle_from
   goes_on before m i j e more =
       ap (λ o. behind before (circle_by first i (circle_from nexts first m) o)) e
@@ -114,8 +122,10 @@ module _ (p : ℕ) where
   index-is i [] j e = absurd (none-some j e)
   index-is i (r ∷ rs) j e = by (nat_eq r.listed.process p) refl e (λ k. index-is (suc i) rs k)
     where
-      by : (b : Bool) → nat_eq r.listed.process p ≡ b → (if b then Some i else index_from (suc i) p rs) ≡ Some j → ((k : ℕ) → index_from (suc i) p rs ≡ Some k → IsIndex (suc i) rs k) → IsIndex i (r ∷ rs) j
-      by true t e further = record { place = 0; counted = sym (same_Some i j e) ∙ omega arith; reason = r; there = refl; process = eqb-true r.listed.process p t }
+      by : (b : Bool) → nat_eq r.listed.process p ≡ b → (if b then Some i else index_from (suc i) p rs) ≡ Some j
+          → ((k : ℕ) → index_from (suc i) p rs ≡ Some k → IsIndex (suc i) rs k) → IsIndex i (r ∷ rs) j
+      by true t e further =
+          record { place = 0; counted = sym (same_Some i j e) ∙ omega arith; reason = r; there = refl; process = eqb-true r.listed.process p t }
       by false t e further =
           let h = further j e in
           record { place = suc h.place; counted = h.counted ∙ omega arith; reason = h.reason; there = h.there; process = h.process }
@@ -128,7 +138,8 @@ pub next-changed : (reasons : List Reason) (i j : ℕ) → next_at (nexts_of rea
 next-changed reasons i j e =
     by (slice_get reasons i) refl (sym (ap option_flatten (slice_get-map (next_of reasons) reasons i)) ∙ e)
   where
-    by_change : (r : Reason) (o : Option Change) → slice_get reasons i ≡ Some r → r.latest ≡ o → next_of_change reasons o ≡ Some j → Changed reasons i j
+    by_change : (r : Reason) (o : Option Change) → slice_get reasons i ≡ Some r → r.latest ≡ o → next_of_change reasons o ≡ Some j
+        → Changed reasons i j
     by_change r None there latest f = absurd (none-some j f)
     by_change r (Some c) there latest f =
         let h = index-is c.place.process 0 reasons j f in
@@ -139,12 +150,15 @@ next-changed reasons i j e =
     by None there f = absurd (none-some j f)
     by (Some r) there f = by_change r r.latest there refl f
 
-pub next-at-reason : (reasons : List Reason) (i : ℕ) (r : Reason) → slice_get reasons i ≡ Some r → next_at (nexts_of reasons) i ≡ next_of reasons r
+pub next-at-reason : (reasons : List Reason) (i : ℕ) (r : Reason) → slice_get reasons i ≡ Some r
+    → next_at (nexts_of reasons) i ≡ next_of reasons r
 next-at-reason reasons i r there =
-    ap option_flatten (slice_get-map (next_of reasons) reasons i) ∙ ap (λ (o : Option Reason). option_flatten (option_map (next_of reasons) o)) there
+    ap option_flatten (slice_get-map (next_of reasons) reasons i)
+    ∙ ap (λ (o : Option Reason). option_flatten (option_map (next_of reasons) o)) there
 
 -- one more of a list that is mapped
-pub mapped : {A B : Type 0} (f : A → B) (xs : List A) (i : ℕ) (x : A) (y : B) (found next whole : List B) → i < length xs → x ≡ get_or xs i x → y ≡ f x
+pub mapped : {A B : Type 0} (f : A → B) (xs : List A) (i : ℕ) (x : A) (y : B) (found next whole : List B) → i < length xs
+    → x ≡ get_or xs i x → y ≡ f x
     → found ++ map f (drop i xs) ≡ whole → next ≡ found ++ y ∷ [] → next ++ map f (drop (i + 1) xs) ≡ whole
 mapped f xs i x y found next whole less there is h e =
     let cut : drop i xs ≡ x ∷ drop (i + 1) xs =

@@ -31,16 +31,19 @@ module _ (nexts : List (Option ℕ)) where
   is-from i zero k circle there = absurd (none-some circle there)
   is-from i (suc n) k circle there = by k (circle_at nexts i) refl there (λ m. is-from (suc i) n m circle)
     where
-      by : (k : ℕ) (o : Option (List ℕ)) → circle_at nexts i ≡ o → slice_get (option_to_list o ++ circles_from nexts (suc i) n) k ≡ Some circle
+      by : (k : ℕ) (o : Option (List ℕ)) → circle_at nexts i ≡ o
+          → slice_get (option_to_list o ++ circles_from nexts (suc i) n) k ≡ Some circle
           → ((m : ℕ) → slice_get (circles_from nexts (suc i) n) m ≡ Some circle → IsFrom (suc i) circle) → IsFrom i circle
       by k None e there further = let h = further k there in record { first = h.first; above = omega (arith, h.above); is = h.is }
       by zero (Some c) e there further = record { first = i; above = omega arith; is = e ∙ there }
       by (suc k) (Some c) e there further = let h = further k there in record { first = h.first; above = omega (arith, h.above); is = h.is }
 
   -- a circle stands among those of so many
-  pub stands-once : (i n first : ℕ) (circle : List ℕ) → circle_at nexts first ≡ Some circle → i ≤ first → first < i + n → StandsOnce (circles_from nexts i n) circle
+  pub stands-once : (i n first : ℕ) (circle : List ℕ) → circle_at nexts first ≡ Some circle → i ≤ first → first < i + n
+      → StandsOnce (circles_from nexts i n) circle
   stands-once i zero first circle is above below = absurd (omega (arith, above, below))
-  stands-once i (suc n) first circle is above below = by (nat_eq i first) refl (λ more less. stands-once (suc i) n first circle is more less)
+  stands-once i (suc n) first circle is above below =
+      by (nat_eq i first) refl (λ more less. stands-once (suc i) n first circle is more less)
     where
       here : (o : Option (List ℕ)) → o ≡ Some circle → i ≡ first → StandsOnce (option_to_list o ++ circles_from nexts (suc i) n) circle
       here None e same = absurd (none-some circle e)
@@ -61,11 +64,13 @@ module _ (nexts : List (Option ℕ)) where
           once : (k : ℕ) → slice_get (c ∷ circles_from nexts (suc i) n) k ≡ Some circle → k ≡ suc h.place
           once zero there =
               let same : i ≡ first =
-              same_Some i first (sym (begins i c e) ∙ ap (λ (xs : List ℕ). slice_get xs 0) (same_Some c circle there) ∙ begins first circle is) in
+              same_Some i first
+              (sym (begins i c e) ∙ ap (λ (xs : List ℕ). slice_get xs 0) (same_Some c circle there) ∙ begins first circle is) in
               absurd (not same)
           once (suc k) there = ap suc (h.once k there)
 
-      by : (b : Bool) → nat_eq i first ≡ b → (suc i ≤ first → first < suc i + n → StandsOnce (circles_from nexts (suc i) n) circle) → StandsOnce (circles_from nexts i (suc n)) circle
+      by : (b : Bool) → nat_eq i first ≡ b → (suc i ≤ first → first < suc i + n → StandsOnce (circles_from nexts (suc i) n) circle)
+          → StandsOnce (circles_from nexts i (suc n)) circle
       by true t again = let same : i ≡ first = eqb-true i first t in here (circle_at nexts i) (ap (circle_at nexts) same ∙ is) same
       by false t again =
           let not = eqb-false i first t in
@@ -74,10 +79,12 @@ module _ (nexts : List (Option ℕ)) where
 
   -- ---- what leads back is found
 
-  pub found : (m first i : ℕ) (is : List ℕ) → LeadBack (LeadsTo nexts) first (i ∷ is) → ((k j : ℕ) → slice_get is k ≡ Some j → first < j) → length (i ∷ is) ≤ m
+  pub found : (m first i : ℕ) (is : List ℕ) → LeadBack (LeadsTo nexts) first (i ∷ is) → ((k j : ℕ) → slice_get is k ≡ Some j → first < j)
+      → length (i ∷ is) ≤ m
       → circle_from nexts first m i ≡ Some (i ∷ is)
   found zero first i is h above few = absurd (omega (arith, few))
-  found (suc m) first i [] h above few = sym (behind-none nexts first (circle_from nexts first (suc m) i)) ∙ closes nexts first [] m i first h refl
+  found (suc m) first i [] h above few =
+      sym (behind-none nexts first (circle_from nexts first (suc m) i)) ∙ closes nexts first [] m i first h refl
   found (suc m) first i (j ∷ js) h above few =
       sym (behind-none nexts first (circle_from nexts first (suc m) i))
       ∙ goes_on nexts first [] m i j h.0 (above 0 j refl)
@@ -146,7 +153,8 @@ module _ (nexts : List (Option ℕ)) where
       ∙ ap (λ k. found ++ circles_from nexts i k) (sym left)
       ∙ h
 
-  pub unnoted : (noted : List Bool) (i : ℕ) → AreAllNoted nexts noted → unwrap_or (slice_get noted i) false ≡ false → circle_at nexts i ≡ None
+  pub unnoted : (noted : List Bool) (i : ℕ) → AreAllNoted nexts noted → unwrap_or (slice_get noted i) false ≡ false
+      → circle_at nexts i ≡ None
   unnoted noted i all e = by (circle_at nexts i) refl
     where
       by : (o : Option (List ℕ)) → circle_at nexts i ≡ o → circle_at nexts i ≡ None

@@ -38,7 +38,8 @@ module _ (nexts : List (Option ℕ)) (first : ℕ) where
   goes zero i rest e = absurd (none-some rest e)
   goes (suc m) i rest e = by_next (next_at nexts i) refl e
     where
-      by_more : (j : ℕ) (o : Option (List ℕ)) → next_at nexts i ≡ Some j → first < j → circle_from nexts first m j ≡ o → option_map (λ (js : List ℕ). i ∷ js) o ≡ Some rest → GoesOn (suc m) i rest
+      by_more : (j : ℕ) (o : Option (List ℕ)) → next_at nexts i ≡ Some j → first < j → circle_from nexts first m j ≡ o
+          → option_map (λ (js : List ℕ). i ∷ js) o ≡ Some rest → GoesOn (suc m) i rest
       by_more j None f above g e = absurd (none-some rest e)
       by_more j (Some js) f above g e =
           record {
@@ -47,12 +48,15 @@ module _ (nexts : List (Option ℕ)) (first : ℕ) where
             so = inr (record { left = m; many = refl; above = above; others = js; leads = g; rest_is = sym (same_Some (i ∷ js) rest e) });
           }
 
-      by_order : (j : ℕ) (b : Bool) → nat_lt first j ≡ b → next_at nexts i ≡ Some j → (if b then option_map (λ (js : List ℕ). i ∷ js) (circle_from nexts first m j) else None) ≡ Some rest → GoesOn (suc m) i rest
+      by_order : (j : ℕ) (b : Bool) → nat_lt first j ≡ b → next_at nexts i ≡ Some j
+          → (if b then option_map (λ (js : List ℕ). i ∷ js) (circle_from nexts first m j) else None) ≡ Some rest → GoesOn (suc m) i rest
       by_order j true t f e = by_more j (circle_from nexts first m j) f (grind (arith, nat_tests, t)) refl e
       by_order j false t f e = absurd (none-some rest e)
 
       by_end : (j : ℕ) (b : Bool) → nat_eq j first ≡ b → next_at nexts i ≡ Some j
-          → (if b then Some (i ∷ []) else (if nat_lt first j then option_map (λ (js : List ℕ). i ∷ js) (circle_from nexts first m j) else None)) ≡ Some rest → GoesOn (suc m) i rest
+          → (if b then Some (i ∷ []) else (if nat_lt first j then option_map (λ (js : List ℕ). i ∷ js) (circle_from nexts first m j) else None))
+          ≡ Some rest
+          → GoesOn (suc m) i rest
       by_end j true t f e =
           record { next = j; is_next = f; so = inl (record { back = eqb-true j first t; rest_is = sym (same_Some (i ∷ []) rest e); some = omega arith }) }
       by_end j false t f e = by_order j (nat_lt first j) refl f e
@@ -78,7 +82,8 @@ module _ (nexts : List (Option ℕ)) (first : ℕ) where
       by (inr h) = omega (arith, h.many)
   no-longer (suc m) i rest e = by (goes (suc m) i rest e).so (λ j js. no-longer m j js)
     where
-      by : {j : ℕ} → IsEnd (suc m) i j rest ⊎ HasMore (suc m) i j rest → ((j : ℕ) (js : List ℕ) → circle_from nexts first m j ≡ Some js → length js ≤ m) → length rest ≤ suc m
+      by : {j : ℕ} → IsEnd (suc m) i j rest ⊎ HasMore (suc m) i j rest
+          → ((j : ℕ) (js : List ℕ) → circle_from nexts first m j ≡ Some js → length js ≤ m) → length rest ≤ suc m
       by (inl h) further = omega (arith, ap length h.rest_is)
       by {j} (inr h) further =
           let same : h.left ≡ m = omega (arith, h.many) in
@@ -93,21 +98,26 @@ module _ (nexts : List (Option ℕ)) (first : ℕ) where
     pub is : others ≡ drop place rest
     pub not_less : first ≤ x
 
-  pub rest-at : (place m i x : ℕ) (rest : List ℕ) → first ≤ i → circle_from nexts first m i ≡ Some rest → slice_get rest place ≡ Some x → HasRest m rest place x
+  pub rest-at : (place m i x : ℕ) (rest : List ℕ) → first ≤ i → circle_from nexts first m i ≡ Some rest → slice_get rest place ≡ Some x
+      → HasRest m rest place x
   rest-at zero m i x rest above e there =
       let same : i ≡ x = same_Some i x (sym (head-is m i rest e) ∙ there) in
       record { most = m; others = rest; leads = ap (circle_from nexts first m) (sym same) ∙ e; is = refl; not_less = subst (λ y. first ≤ y) same above }
   rest-at (suc place) m i x rest above e there = by (goes m i rest e).so (λ n j js. rest-at place n j x js)
     where
       by : {j : ℕ} → IsEnd m i j rest ⊎ HasMore m i j rest
-          → ((n j : ℕ) (js : List ℕ) → first ≤ j → circle_from nexts first n j ≡ Some js → slice_get js place ≡ Some x → HasRest n js place x) → HasRest m rest (suc place) x
+          → ((n j : ℕ) (js : List ℕ) → first ≤ j → circle_from nexts first n j ≡ Some js → slice_get js place ≡ Some x → HasRest n js place x)
+          → HasRest m rest (suc place) x
       by (inl h) further = absurd (none-some x (sym (ap (λ (xs : List ℕ). slice_get xs (suc place)) h.rest_is) ∙ there))
       by {j} (inr h) further =
-          let r = further h.left j h.others (omega (arith, h.above)) h.leads (sym (ap (λ (xs : List ℕ). slice_get xs (suc place)) h.rest_is) ∙ there) in
+          let r =
+          further h.left j h.others (omega (arith, h.above)) h.leads
+          (sym (ap (λ (xs : List ℕ). slice_get xs (suc place)) h.rest_is) ∙ there) in
           record { most = r.most; others = r.others; leads = r.leads; is = r.is ∙ ap (drop (suc place)) (sym h.rest_is); not_less = r.not_less }
 
   -- what is left doesn't depend on how many are looked at
-  pub determined : (m n i : ℕ) (rest others : List ℕ) → circle_from nexts first m i ≡ Some rest → circle_from nexts first n i ≡ Some others → rest ≡ others
+  pub determined : (m n i : ℕ) (rest others : List ℕ) → circle_from nexts first m i ≡ Some rest → circle_from nexts first n i ≡ Some others
+      → rest ≡ others
   determined zero n i rest others e f = by (goes zero i rest e).so
     where
       by : {j : ℕ} → IsEnd zero i j rest ⊎ HasMore zero i j rest → rest ≡ others
@@ -119,13 +129,16 @@ module _ (nexts : List (Option ℕ)) (first : ℕ) where
       by g.so h.so (same_Some g.next h.next (sym g.is_next ∙ h.is_next)) (λ k j js ks. determined m k j js ks)
     where
       by : {j k : ℕ} → IsEnd (suc m) i j rest ⊎ HasMore (suc m) i j rest → IsEnd n i k others ⊎ HasMore n i k others → j ≡ k
-          → ((k j : ℕ) (js ks : List ℕ) → circle_from nexts first m j ≡ Some js → circle_from nexts first k j ≡ Some ks → js ≡ ks) → rest ≡ others
+          → ((k j : ℕ) (js ks : List ℕ) → circle_from nexts first m j ≡ Some js → circle_from nexts first k j ≡ Some ks → js ≡ ks)
+          → rest ≡ others
       by (inl a) (inl b) same further = a.rest_is ∙ sym b.rest_is
       by (inl a) (inr b) same further = absurd (omega (arith, a.back, b.above, same))
       by (inr a) (inl b) same further = absurd (omega (arith, b.back, a.above, same))
       by {j} {k} (inr a) (inr b) same further =
           let here : a.left ≡ m = omega (arith, a.many) in
-          let again = further b.left j a.others b.others (ap (λ n. circle_from nexts first n j) (sym here) ∙ a.leads) (ap (circle_from nexts first b.left) same ∙ b.leads) in
+          let again =
+          further b.left j a.others b.others
+          (ap (λ n. circle_from nexts first n j) (sym here) ∙ a.leads) (ap (circle_from nexts first b.left) same ∙ b.leads) in
           a.rest_is ∙ ap (λ (js : List ℕ). i ∷ js) again ∙ sym b.rest_is
 
 -- ---- lists
@@ -168,7 +181,8 @@ module _ (nexts : List (Option ℕ)) where
       let g = goes nexts first r.most i r.others r.leads in
       by g.next r.most r.others g.so r.is (same_Some g.next j (sym g.is_next ∙ e))
     where
-      by : (n m : ℕ) (rest : List ℕ) → IsEnd nexts first m i n rest ⊎ HasMore nexts first m i n rest → rest ≡ drop h.place h.circle → n ≡ j → IsNextIn first i h j
+      by : (n m : ℕ) (rest : List ℕ) → IsEnd nexts first m i n rest ⊎ HasMore nexts first m i n rest → rest ≡ drop h.place h.circle → n ≡ j
+          → IsNextIn first i h j
       by n m rest (inl a) is same =
           let back : j ≡ first = sym same ∙ a.back in
           record {
@@ -228,7 +242,8 @@ module _ (nexts : List (Option ℕ)) where
   pub along-first : (first start : ℕ) (h : IsIn nexts first start) → IsAlong first start h 0 start start
   along-first first start h = record { here = h; not_less = not-less first start h; not_more = omega arith; so = inr (omega arith) }
 
-  pub along-on : (first start : ℕ) (h : IsIn nexts first start) (counter at least next : ℕ) → IsAlong first start h counter at least → next_at nexts at ≡ Some next
+  pub along-on : (first start : ℕ) (h : IsIn nexts first start) (counter at least next : ℕ) → IsAlong first start h counter at least
+      → next_at nexts at ≡ Some next
       → IsAlong first start h (counter + 1) next (min least next)
   along-on first start h counter at least next a e =
       let n = next-in first at next a.here e in
@@ -246,24 +261,29 @@ module _ (nexts : List (Option ℕ)) where
       by place (inr e) (inl f) above = inl (omega (arith, f, a.not_less))
       by place (inr e) (inr f) above = inr (omega (arith, e, f))
 
-  pub along-back : (first start : ℕ) (h : IsIn nexts first start) (counter at least next : ℕ) → IsAlong first start h counter at least → next_at nexts at ≡ Some next
+  pub along-back : (first start : ℕ) (h : IsIn nexts first start) (counter at least next : ℕ) → IsAlong first start h counter at least
+      → next_at nexts at ≡ Some next
       → next ≡ start → least ≡ first
   along-back first start h counter at least next a e back =
       let n = next-in first at next a.here e in
       by n.found a.so n.so
     where
-      by : (found : IsIn nexts first next) → (least ≡ first) ⊎ (a.here.place ≡ h.place + counter) → (next ≡ first) ⊎ (found.place ≡ suc a.here.place) → least ≡ first
+      by : (found : IsIn nexts first next) → (least ≡ first) ⊎ (a.here.place ≡ h.place + counter)
+          → (next ≡ first) ⊎ (found.place ≡ suc a.here.place) → least ≡ first
       by found (inl e) _ = e
       by found (inr e) (inl f) = omega (arith, f, back, a.not_less, a.not_more)
       by found (inr e) (inr f) =
-          let again : IsIn nexts first next = record { circle = h.circle; is = h.is; place = h.place; there = h.there ∙ ap (λ (x : ℕ). Some x) (sym back) } in
+          let again : IsIn nexts first next =
+          record { circle = h.circle; is = h.is; place = h.place; there = h.there ∙ ap (λ (x : ℕ). Some x) (sym back) } in
           let same = one-place first next found again in
           absurd (omega (arith, e, f, same))
 
-  pub along-none : (first start : ℕ) (h : IsIn nexts first start) (counter at least : ℕ) → IsAlong first start h counter at least → next_at nexts at ≡ None → least ≡ first
+  pub along-none : (first start : ℕ) (h : IsIn nexts first start) (counter at least : ℕ) → IsAlong first start h counter at least
+      → next_at nexts at ≡ None → least ≡ first
   along-none first start h counter at least a e = absurd (none-in first at a.here e)
 
-  pub along-all : (first start : ℕ) (h : IsIn nexts first start) (counter at least : ℕ) → IsAlong first start h counter at least → length nexts ≤ counter → least ≡ first
+  pub along-all : (first start : ℕ) (h : IsIn nexts first start) (counter at least : ℕ) → IsAlong first start h counter at least
+      → length nexts ≤ counter → least ≡ first
   along-all first start h counter at least a many = by a.so
     where
       by : (least ≡ first) ⊎ (a.here.place ≡ h.place + counter) → least ≡ first
@@ -292,7 +312,8 @@ module _ (nexts : List (Option ℕ)) where
   walking-first old first room =
       record { room = room; whose = λ i w there. inr there; visited = λ noted before so. before; begun = λ noted before so. so }
 
-  pub walking-on : (old visits : List (Option ℕ)) (first at next : ℕ) → IsWalking old visits first at → next_at nexts at ≡ Some next → at < length visits
+  pub walking-on : (old visits : List (Option ℕ)) (first at next : ℕ) → IsWalking old visits first at → next_at nexts at ≡ Some next
+      → at < length visits
       → IsWalking old (set visits at (Some first)) first next
   walking-on old visits first at next w e less =
       record {
@@ -308,19 +329,24 @@ module _ (nexts : List (Option ℕ)) where
           by : (b : Bool) → nat_eq i at ≡ b → (v ≡ first) ⊎ (slice_get old i ≡ Some (Some v))
           by true t =
               let here : Some (Some first) ≡ Some (Some v) =
-              sym (get-set_same visits at (Some first) less) ∙ ap (slice_get (set visits at (Some first))) (sym (eqb-true i at t)) ∙ there in
+              sym (get-set_same visits at (Some first) less) ∙ ap (slice_get (set visits at (Some first))) (sym (eqb-true i at t))
+              ∙ there in
               inl (sym (same_Some first v (same_Some (Some first) (Some v) here)))
           by false t = w.whose i v (sym (get-set_other visits at i (Some first) (eqb-false i at t)) ∙ there)
 
-      visited : (noted : List Bool) → AreNoted nexts old noted → IsNoted nexts noted next → AreNoted nexts (set visits at (Some first)) noted
+      visited : (noted : List Bool) → AreNoted nexts old noted → IsNoted nexts noted next
+          → AreNoted nexts (set visits at (Some first)) noted
       visited noted before so i v there = by (nat_eq i at) refl
         where
           by : (b : Bool) → nat_eq i at ≡ b → IsNoted nexts noted i
           by true t = subst (IsNoted nexts noted) (sym (eqb-true i at t)) (noted-back noted at next e so)
-          by false t = w.visited noted before (noted-back noted at next e so) i v (sym (get-set_other visits at i (Some first) (eqb-false i at t)) ∙ there)
+          by false t =
+              w.visited noted before (noted-back noted at next e so) i v
+              (sym (get-set_other visits at i (Some first) (eqb-false i at t)) ∙ there)
 
   -- where it comes to one that another walk visited
-  pub walking-met : (old visits : List (Option ℕ)) (first at other : ℕ) (noted : List Bool) → IsWalking old visits first at → slice_get visits at ≡ Some (Some other) → (other ≡ first → ⊥)
+  pub walking-met : (old visits : List (Option ℕ)) (first at other : ℕ) (noted : List Bool) → IsWalking old visits first at
+      → slice_get visits at ≡ Some (Some other) → (other ≡ first → ⊥)
       → AreNoted nexts old noted → IsNoted nexts noted at
   walking-met old visits first at other noted w there not before = by (w.whose at other there)
     where
@@ -330,7 +356,8 @@ module _ (nexts : List (Option ℕ)) where
 
 -- ---- one more note
 
-pub still-noted : (noted : List Bool) (least first : ℕ) → least < length noted → slice_get noted first ≡ Some true → slice_get (set noted least true) first ≡ Some true
+pub still-noted : (noted : List Bool) (least first : ℕ) → least < length noted → slice_get noted first ≡ Some true
+    → slice_get (set noted least true) first ≡ Some true
 still-noted noted least first less there = by (nat_eq first least) refl
   where
     by : (b : Bool) → nat_eq first least ≡ b → slice_get (set noted least true) first ≡ Some true

@@ -24,11 +24,13 @@ owner-is b (local a x i) owned = eqb-true b a owned
 owner-is b (common k i) owned = absurd (true≢false (sym owned))
 
 -- what has an address has a frame of its activation
-framed : (program : Units) (s : State) (layout : Layout) (at : Location) (c b : ℕ) → address program s layout at ≡ Some c → is_owned b at ≡ true → is_some (frame_among b layout) ≡ true
+framed : (program : Units) (s : State) (layout : Layout) (at : Location) (c b : ℕ) → address program s layout at ≡ Some c
+    → is_owned b at ≡ true → is_some (frame_among b layout) ≡ true
 framed program s layout (common k i) c b e owned = absurd (true≢false (sym owned))
 framed program s layout (local a x zero) c b e owned = absurd (none-some c e)
 framed program s layout (local a x (suc i)) c b e owned =
-    subst (λ n. is_some (frame_among n layout) ≡ true) (sym (eqb-true b a owned)) (by_kept (kept_in a (activation_of s a).dummies x i (index_among x (dummies_of (unit_at program (unit_of s a))))) e)
+    subst (λ n. is_some (frame_among n layout) ≡ true) (sym (eqb-true b a owned))
+    (by_kept (kept_in a (activation_of s a).dummies x i (index_among x (dummies_of (unit_at program (unit_of s a))))) e)
   where
     by_frame : (o : Option Frame) (n : Option ℕ) → cell_in o n ≡ Some c → is_some o ≡ true
     by_frame None n e = absurd (none-some c e)
@@ -45,7 +47,8 @@ module _ (program : Units) (cells : ℕ) (s t : State) (layout after : Layout) (
   stays : t.activations ≡ s.activations → layout_after_step program cells is_held s t layout ≡ Some after
       → (activation_of t b ≡ activation_of s b) × (frame_among b after ≡ frame_among b layout)
   stays same turned =
-      let left : remaining_layout is_held t layout ≡ after = same_Some (remaining_layout is_held t layout) after (sym (layout-stays program cells s t layout same) ∙ turned) in
+      let left : remaining_layout is_held t layout ≡ after =
+      same_Some (remaining_layout is_held t layout) after (sym (layout-stays program cells s t layout same) ∙ turned) in
       (same-activation s t b same, ap (frame_among b) (sym left) ∙ among-filter (is_held t) b layout ∙ rw held refl)
 
   enters : (x : Activation) → t.activations ≡ s.activations ++ x ∷ [] → layout_after_step program cells is_held s t layout ≡ Some after
@@ -69,7 +72,8 @@ module _ (program : Units) (cells : ℕ) (s t : State) (layout after : Layout) (
       other : nat_eq n b ≡ false
       other = ne_eqb n b (λ same. omega (arith, same, long, made))
 
-      by_gap : (o : Option ℕ) → option_map (remaining_layout is_held t) (option_map entered o) ≡ Some after → frame_among b after ≡ frame_among b layout
+      by_gap : (o : Option ℕ) → option_map (remaining_layout is_held t) (option_map entered o) ≡ Some after
+          → frame_among b after ≡ frame_among b layout
       by_gap None e = absurd (none-some after e)
       by_gap (Some first) e =
           ap (frame_among b) (sym (same_Some (remaining_layout is_held t (entered first)) after e))
@@ -82,10 +86,12 @@ module _ (program : Units) (cells : ℕ) (s t : State) (layout after : Layout) (
   turned-back (inr more) turned = enters more.0 more.1 turned
 
 one-back : (program : Units) (cells : ℕ) (ps : List ℕ) (p c : ℕ) (layout after : Layout) (at : Location)
-    → layout_of program cells is_held ps ≡ Some layout → layout_of program cells is_held (ps ++ p ∷ []) ≡ Some after → is_there (run program ps) at ≡ true
+    → layout_of program cells is_held ps ≡ Some layout → layout_of program cells is_held (ps ++ p ∷ []) ≡ Some after
+    → is_there (run program ps) at ≡ true
     → address program (run program (ps ++ p ∷ [])) after at ≡ Some c → address program (run program ps) layout at ≡ Some c
 one-back program cells ps p c layout after at e f there kept =
-    sym (address-alike program s t layout after at (λ b owned. turned-back program cells s t layout after (placed-run program cells ps layout e).laid b (made b owned) (held b owned) risen turned)) ∙ kept
+    sym (address-alike program s t layout after at (λ b owned. turned-back program cells s t layout after (placed-run program cells ps layout e).laid b (made b owned) (held b owned) risen turned))
+    ∙ kept
   where
     s : State
     s = run program ps
@@ -97,7 +103,9 @@ one-back program cells ps p c layout after at e f there kept =
     risen = subst (λ (u : State). IsSameOrOneMore s.activations u.activations) (sym (run-last program ps p)) (activations_after program p s)
 
     turned : layout_after_step program cells is_held s t layout ≡ Some after
-    turned = ap (λ (u : State). layout_after_step program cells is_held s u layout) (run-last program ps p) ∙ sym (layout-last program cells ps p layout e) ∙ f
+    turned =
+        ap (λ (u : State). layout_after_step program cells is_held s u layout) (run-last program ps p)
+        ∙ sym (layout-last program cells ps p layout e) ∙ f
 
     made : (b : ℕ) → is_owned b at ≡ true → b ≤ length s.activations
     made b owned = let same = owner-is b at owned in grind (arith, nat_tests, there, same)
@@ -108,11 +116,13 @@ one-back program cells ps p c layout after at e f there kept =
 -- ---- many turns back
 
 -- what was there is there after one turn more
-pub there-next : (program : Units) (ps : List ℕ) (p : ℕ) (at : Location) → is_there (run program ps) at ≡ true → is_there (run program (ps ++ p ∷ [])) at ≡ true
+pub there-next : (program : Units) (ps : List ℕ) (p : ℕ) (at : Location) → is_there (run program ps) at ≡ true
+    → is_there (run program (ps ++ p ∷ [])) at ≡ true
 there-next program ps p at there =
     let risen = activations_after program p (run program ps) in
     let more : length (run program ps).activations ≤ length (state_after_turn program p (run program ps)).activations = longer-by risen in
-    let same : length (run program (ps ++ p ∷ [])).activations ≡ length (state_after_turn program p (run program ps)).activations = ap (λ (s : State). length s.activations) (run-last program ps p) in
+    let same : length (run program (ps ++ p ∷ [])).activations ≡ length (state_after_turn program p (run program ps)).activations =
+    ap (λ (s : State). length s.activations) (run-last program ps p) in
     grind (arith, nat_tests, there, more, same)
   where
     longer-by : {xs ys : List Activation} → IsSameOrOneMore xs ys → length xs ≤ length ys
@@ -120,7 +130,8 @@ there-next program ps p at there =
     longer-by {xs} {ys} (inr more) = omega (arith, ap length more.1, length-append xs (more.0 ∷ []))
 
 back : (program : Units) (cells c : ℕ) (at : Location) (ps qs : List ℕ) (layout after : Layout)
-    → layout_of program cells is_held ps ≡ Some layout → layout_of program cells is_held (ps ++ qs) ≡ Some after → is_there (run program ps) at ≡ true
+    → layout_of program cells is_held ps ≡ Some layout → layout_of program cells is_held (ps ++ qs) ≡ Some after
+    → is_there (run program ps) at ≡ true
     → address program (run program (ps ++ qs)) after at ≡ Some c → address program (run program ps) layout at ≡ Some c
 back program cells c at ps [] layout after e f there kept =
     let same : ps ++ [] ≡ ps = append-nil ps in
@@ -128,18 +139,23 @@ back program cells c at ps [] layout after e f there kept =
     (λ i. address program (run program (sym same i)) (sym one i) at) ∙ kept
 back program cells c at ps (q ∷ qs) layout after e f there kept =
     let same : (ps ++ q ∷ []) ++ qs ≡ ps ++ q ∷ qs = append_assoc ps (q ∷ []) qs in
-    let mid = layout-there (layout_of program cells is_held (ps ++ q ∷ [])) refl (laid-before program cells (ps ++ q ∷ []) qs (ap (λ rs. is_some (layout_of program cells is_held rs)) same ∙ ap is_some f)) in
+    let mid =
+    layout-there (layout_of program cells is_held (ps ++ q ∷ [])) refl
+    (laid-before program cells (ps ++ q ∷ []) qs (ap (λ rs. is_some (layout_of program cells is_held rs)) same ∙ ap is_some f)) in
     let f' = ap (layout_of program cells is_held) same ∙ f in
     let kept' = ap (λ rs. address program (run program rs) after at) same ∙ kept in
-    one-back program cells ps q c layout mid.0 at e mid.1 there (back program cells c at (ps ++ q ∷ []) qs mid.0 after mid.1 f' (there-next program ps q at there) kept')
+    one-back program cells ps q c layout mid.0 at e mid.1 there
+    (back program cells c at (ps ++ q ∷ []) qs mid.0 after mid.1 f' (there-next program ps q at there) kept')
   where
-    layout-there : (o : Option Layout) → layout_of program cells is_held (ps ++ q ∷ []) ≡ o → is_some (layout_of program cells is_held (ps ++ q ∷ [])) ≡ true
+    layout-there : (o : Option Layout) → layout_of program cells is_held (ps ++ q ∷ []) ≡ o
+        → is_some (layout_of program cells is_held (ps ++ q ∷ [])) ≡ true
         → (l : Layout) × (layout_of program cells is_held (ps ++ q ∷ []) ≡ Some l)
     layout-there None e some = absurd (true≢false (sym some ∙ ap is_some e))
     layout-there (Some l) e some = (l, e)
 
 -- what is kept in a cell in the end was kept there after the first turns, once it was there
-pub kept-then : (program : Units) (cells : ℕ) (turns ps qs : List ℕ) (at : Location) (cell : ℕ) → turns ≡ ps ++ qs → IsSome (layout_of program cells is_held turns)
+pub kept-then : (program : Units) (cells : ℕ) (turns ps qs : List ℕ) (at : Location) (cell : ℕ) → turns ≡ ps ++ qs
+    → IsSome (layout_of program cells is_held turns)
     → IsKeptAfter program cells turns at cell → is_there (run program ps) at ≡ true → IsKeptAfter program cells ps at cell
 kept-then program cells turns ps qs at cell same laid kept there layout e =
     by (layout_of program cells is_held turns) refl laid

@@ -7,11 +7,10 @@ mod ReasonLines
 mod RotatedCycles
 mod CycleWalks
 mod KeptUnits
-pub mod WatchedTurns
 mod WatchUpdates
 mod ListedWatches
 pub mod FoundReasons
-mod SilentTurns
-mod RemadeTurns
-mod OpenedMachines
+pub mod ReplayedRanges
+mod WatchedReplays
+mod FoundChanges
 mod NextNames

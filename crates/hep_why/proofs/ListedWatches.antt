@@ -28,7 +28,8 @@ owner-placed program s (common b i) = refl
 
 -- one that is listed
 pub new-watch : (core : CoreValue) (image : Units) (p : ℕ) (m : CoreState) (want : Want) (l : Listed) → image ≡ core.program
-    → IsMachineAfter core.program core.cells (schedule_of core.history) m → IsBlocked core.program core.cells (schedule_of core.history) p want
+    → IsMachineAfter core.program core.cells (schedule_of core.history) m
+    → IsBlocked core.program core.cells (schedule_of core.history) p want
     → true ≡ is_number_among p (progress_after core.program core.history).listed → IsListedAs image m p want l
     → IsWatchOf core p (Some (record { listed = l; cell = want.cell; full = false; latest = None }))
 new-watch core image p m want l same after blocked found as_listed =
@@ -36,28 +37,33 @@ new-watch core image p m want l same after blocked found as_listed =
     let turns = schedule_of core.history in
     let s : State = run program turns in
     let w = blocked-waits program core.cells turns m after p want blocked in
-    let is : listed_by program p s ≡ Some l = subst (λ (us : Units). IsListedAs us m p want l) same as_listed core.cells turns after blocked in
+    let is : listed_by program p s ≡ Some l =
+    subst (λ (us : Units). IsListedAs us m p want l) same as_listed core.cells turns after blocked in
     let there : listed_after program core.history p ≡ Some l =
     (λ i. if sym found i then listed_by program p (state-is program core.history i) else None) ∙ is in
     let number : l.process ≡ p = number-listed program core.history p l there in
-    let as_is : l ≡ listed_at program s p w.top.0 w.wanted = same_Some l (listed_at program s p w.top.0 w.wanted) (sym is ∙ (λ i. listed_with program s p (w.lives i) (w.waits i))) in (
+    let as_is : l ≡ listed_at program s p w.top.0 w.wanted =
+    same_Some l (listed_at program s p w.top.0 w.wanted) (sym is ∙ (λ i. listed_with program s p (w.lives i) (w.waits i))) in (
       there,
       (
         refl,
         (
           w.wanted.at,
           record {
-            located = ap (λ q. option_map (λ (x : Wanted). x.at) (wanted_by program q s)) number ∙ ap (option_map (λ (x : Wanted). x.at)) w.waits;
+            located = ap (λ q. option_map (λ (x : Wanted). x.at) (wanted_by program q s)) number
+                ∙ ap (option_map (λ (x : Wanted). x.at)) w.waits;
             owner = owner-placed program s w.wanted.at ∙ sym (ap (λ (z : Listed). z.owner) as_is);
             kept = λ layout e.
-                ap (λ (ls : Layout). address program s ls w.wanted.at) (same_Some layout w.sought.after.layout (sym e ∙ w.sought.after.laid)) ∙ w.sought.kept;
+                ap (λ (ls : Layout). address program s ls w.wanted.at)
+                (same_Some layout w.sought.after.layout (sym e ∙ w.sought.after.laid)) ∙ w.sought.kept;
           },
         ),
       ),
     )
 
 -- and one that isn't
-pub no-watch : (core : CoreValue) (p : ℕ) → false ≡ is_number_among p (progress_after core.program core.history).listed → IsWatchOf core p None
+pub no-watch : (core : CoreValue) (p : ℕ) → false ≡ is_number_among p (progress_after core.program core.history).listed
+    → IsWatchOf core p None
 no-watch core p found = λ i. if sym found i then listed_by core.program p (state-is core.program core.history i) else None
 
 -- ---- one more
@@ -74,9 +80,11 @@ listed ws = map (λ (w : Watch). w.listed) ws
 
 pub listed-more : (core : CoreValue) (p : ℕ) (ws : List Watch) (w : Watch) → IsWatchOf core p (Some w)
     → listed (ws ++ w ∷ []) ≡ listed ws ++ option_to_list (listed_after core.program core.history p)
-listed-more core p ws w h = map-append (λ (v : Watch). v.listed) ws (w ∷ []) ∙ ap (λ (o : Option Listed). listed ws ++ option_to_list o) (sym h.0)
+listed-more core p ws w h =
+    map-append (λ (v : Watch). v.listed) ws (w ∷ []) ∙ ap (λ (o : Option Listed). listed ws ++ option_to_list o) (sym h.0)
 
-pub listed-no_more : (core : CoreValue) (p : ℕ) (ws : List Watch) → IsWatchOf core p None → listed ws ≡ listed ws ++ option_to_list (listed_after core.program core.history p)
+pub listed-no_more : (core : CoreValue) (p : ℕ) (ws : List Watch) → IsWatchOf core p None
+    → listed ws ≡ listed ws ++ option_to_list (listed_after core.program core.history p)
 listed-no_more core p ws h = sym (append-nil (listed ws)) ∙ ap (λ (o : Option Listed). listed ws ++ option_to_list o) (sym h)
 
 -- a turn of the loop over processes
@@ -95,7 +103,8 @@ turn program history b m n found next whole lt same h e =
     ∙ h
 
 -- before the first one
-pub none-yet : (program : Units) (history : List Entry) (n : ℕ) (ws : List Watch) → ws ≡ [] → listed ws ++ listed_from program history 1 (n - 0) ≡ listed_from program history 1 n
+pub none-yet : (program : Units) (history : List Entry) (n : ℕ) (ws : List Watch) → ws ≡ []
+    → listed ws ++ listed_from program history 1 (n - 0) ≡ listed_from program history 1 n
 none-yet program history n ws none =
     let all : n - 0 ≡ n = omega arith in
     ap (λ (vs : List Watch). listed vs ++ listed_from program history 1 (n - 0)) none ∙ ap (listed_from program history 1) all

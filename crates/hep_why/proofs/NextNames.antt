@@ -21,7 +21,8 @@ use Rattle.hep_views.specs.ProcessPositions.{whereabouts_by, whereabouts_with}
 use Rattle.hep_views.proofs.WaitingPlaces.{living-top}
 
 -- a variable of a unit has the name of its number
-pub name-there : (program : Units) (u : ℕ) (x : Name) (v : Variable) → u < length program → IsVariableOf program (unit_at program u) x v → slice_get (names_in_order program) (variable_number program u x) ≡ Some (spelling x)
+pub name-there : (program : Units) (u : ℕ) (x : Name) (v : Variable) → u < length program → IsVariableOf program (unit_at program u) x v
+    → slice_get (names_in_order program) (variable_number program u x) ≡ Some (spelling x)
 name-there program u x v inside is =
     number-of-variable program u x inside (placed-named program (unit_at program u) x (λ absent. is.1 (sym is.0 ∙ absent)))
 
@@ -30,27 +31,34 @@ name-there program u x v inside is =
 first-of : (r x : Reference) → ◌≡◌ {A = List Reference} (r ∷ []) (x ∷ []) → x ≡ r
 first-of r x e = sym (same_Some r x (ap (λ (rs : List Reference). slice_get rs 0) e))
 
-accessed-next : (program : Units) (t : Top) (scope : Scope) (n : Next) (w : Wanted) (x : Reference) → need_of_next scope n ≡ Some w → references_of program t n ≡ x ∷ [] → IsAccessed n x
+accessed-next : (program : Units) (t : Top) (scope : Scope) (n : Next) (w : Wanted) (x : Reference) → need_of_next scope n ≡ Some w
+    → references_of program t n ≡ x ∷ [] → IsAccessed n x
 accessed-next program t scope (wants (evaluating (reading r))) w x needed one = first-of r x one
 accessed-next program t scope (wants (evaluating (testing f r))) w x needed one = first-of r x one
 accessed-next program t scope (does (assigning r v)) w x needed one = first-of r x one
 accessed-next program t scope _ w x needed one = absurd (none-some w needed)
 
-pub accessed : (program : Units) (s : State) (p : ℕ) (w : Wanted) (h : IsAwaited program s p w) → IsAccessed (next_of (unit_at program (unit_of s h.top.0.activation)) h.top.0.work) h.reference
+pub accessed : (program : Units) (s : State) (p : ℕ) (w : Wanted) (h : IsAwaited program s p w)
+    → IsAccessed (next_of (unit_at program (unit_of s h.top.0.activation)) h.top.0.work) h.reference
 accessed program s p w h =
-    accessed-next program (top_of_process s p h.top) (scope_of program s h.top.0.activation) (next_of (unit_at program (unit_of s h.top.0.activation)) h.top.0.work) w h.reference h.needed h.one
+    accessed-next program (top_of_process s p h.top) (scope_of program s h.top.0.activation)
+    (next_of (unit_at program (unit_of s h.top.0.activation)) h.top.0.work) w h.reference h.needed h.one
 
 -- ---- where it is, in the machine
 
-pub levels-there : (program : Units) (cells : ℕ) (choices : List ℕ) (m : CoreState) (p : ℕ) (top : Level × Process) → IsMachineAfter program cells choices m → living (run program choices) p ≡ Some top → HasLevels (snapshot_of m) p
-levels-there program cells choices m p top after lives = (living-top program cells choices m after p (subst IsSome (sym lives) refl)).is_top.levels
+pub levels-there : (program : Units) (cells : ℕ) (choices : List ℕ) (m : CoreState) (p : ℕ) (top : Level × Process)
+    → IsMachineAfter program cells choices m → living (run program choices) p ≡ Some top → HasLevels (snapshot_of m) p
+levels-there program cells choices m p top after lives =
+    (living-top program cells choices m after p (subst IsSome (sym lives) refl)).is_top.levels
 
-pub unit-there : (program : Units) (cells : ℕ) (choices : List ℕ) (m : CoreState) (p : ℕ) (top : Level × Process) → IsMachineAfter program cells choices m → living (run program choices) p ≡ Some top
+pub unit-there : (program : Units) (cells : ℕ) (choices : List ℕ) (m : CoreState) (p : ℕ) (top : Level × Process)
+    → IsMachineAfter program cells choices m → living (run program choices) p ≡ Some top
     → unit_of (run program choices) top.0.activation < length program
 unit-there program cells choices m p top after lives =
     let it = living-top program cells choices m after p (subst IsSome (sym lives) refl) in
     let same : it.top ≡ top = same_Some it.top top (sym it.lives ∙ lives) in
-    subst (λ (z : Level × Process). unit_of (run program choices) z.0.activation < length program) same (subst (λ u. u < length program) (sym it.is_top.unit) it.is_top.inside)
+    subst (λ (z : Level × Process). unit_of (run program choices) z.0.activation < length program) same
+    (subst (λ u. u < length program) (sym it.is_top.unit) it.is_top.inside)
 
 -- ---- after a core's history
 
@@ -83,5 +91,6 @@ module _ (core : CoreValue) (p : ℕ) where
     pub never-none : (o : Option Whereabouts) → o ≡ whereabouts_by program p (state_of core) → o ≡ None → ⊥
     never-none o is none = none-some _ (sym none ∙ is ∙ told)
 
-    pub unit-told : (place : Whereabouts) (o : Option Whereabouts) → o ≡ whereabouts_by program p (state_of core) → o ≡ Some place → place.unit ≡ unit_of s h.top.0.activation
+    pub unit-told : (place : Whereabouts) (o : Option Whereabouts) → o ≡ whereabouts_by program p (state_of core) → o ≡ Some place
+        → place.unit ≡ unit_of s h.top.0.activation
     unit-told place o is some = ap (λ (x : Whereabouts). x.unit) (same_Some place _ (sym some ∙ is ∙ told))

@@ -21,14 +21,16 @@ process r = r.listed.process
 tail-rises : (r : Reason) (rs : List Reason) → Rise (r ∷ rs) → Rise rs
 tail-rises r rs rise i j s t here there less = rise (suc i) (suc j) s t here there (omega (arith, less))
 
-index-found : (rs : List Reason) (i k : ℕ) (r : Reason) → Rise rs → slice_get rs k ≡ Some r → index_from i r.listed.process rs ≡ Some (i + k)
+index-found : (rs : List Reason) (i k : ℕ) (r : Reason) → Rise rs → slice_get rs k ≡ Some r
+    → index_from i r.listed.process rs ≡ Some (i + k)
 index-found [] i k r rise there = absurd (none-some r there)
 index-found (s ∷ rs) i zero r rise there =
     let same : nat_eq s.listed.process r.listed.process ≡ true = grind (arith, nat_tests, ap process (same_Some s r there)) in
     rw same (ap (λ (x : ℕ). Some x) (omega arith))
 index-found (s ∷ rs) i (suc k) r rise there =
     let less : s.listed.process < r.listed.process = rise 0 (suc k) s r refl there (omega arith) in
-    let other : nat_eq s.listed.process r.listed.process ≡ false = ne_eqb s.listed.process r.listed.process (λ same. omega (arith, same, less)) in
+    let other : nat_eq s.listed.process r.listed.process ≡ false =
+    ne_eqb s.listed.process r.listed.process (λ same. omega (arith, same, less)) in
     rw other (index-found rs (suc i) k r (tail-rises s rs rise) there ∙ ap (λ (x : ℕ). Some x) (omega arith))
 
 module _ (reasons : List Reason) where
@@ -175,7 +177,8 @@ module _ (reasons : List Reason) where
             let x = in-place ps t i p a in
             let y = in-place ps t j p b in
             let same = one-index a.index b.index (in-reason t.first a.index x) (in-reason t.first b.index y) (a.is ∙ sym b.is) in
-            let z : IsIn nexts t.first a.index = record { circle = t.circle; is = t.is; place = j; there = b.there ∙ ap (λ (n : ℕ). Some n) (sym same) } in
+            let z : IsIn nexts t.first a.index =
+            record { circle = t.circle; is = t.is; place = j; there = b.there ∙ ap (λ (n : ℕ). Some n) (sym same) } in
             one-place nexts t.first a.index x z
 
     pub told-least : (place : ℕ) (ps : List ℕ) → slice_get (circles_among reasons) place ≡ Some ps → BeginsWithLeast ps
@@ -210,7 +213,8 @@ module _ (reasons : List Reason) where
     head-of z p [] h = (z, h)
     head-of z p (q ∷ ps) h = (q, h.0)
 
-    have-indexes : (z t : ℕ) (w : WaitsFor reasons z t) (p : ℕ) (ps : List ℕ) (h : LeadBack (WaitsFor reasons) z (p ∷ ps)) → HaveIndexes w.place p ps (head-of z p ps h).1.place
+    have-indexes : (z t : ℕ) (w : WaitsFor reasons z t) (p : ℕ) (ps : List ℕ) (h : LeadBack (WaitsFor reasons) z (p ∷ ps))
+        → HaveIndexes w.place p ps (head-of z p ps h).1.place
     unfolding head-of
     have-indexes z t w p [] h =
         record { others = []; leads = next-is h w; same = ap (λ (x : ℕ). x ∷ []) (process-is h.place h.reason h.there ∙ h.waits) }
@@ -219,7 +223,8 @@ module _ (reasons : List Reason) where
         record {
           others = (head-of z q ps h.1).1.place ∷ k.others;
           leads = (next-is h.0 (head-of z q ps h.1).1, k.leads);
-          same = ap (λ (x : ℕ). x ∷ map f ((head-of z q ps h.1).1.place ∷ k.others)) (process-is h.0.place h.0.reason h.0.there ∙ h.0.waits) ∙ ap (λ (xs : List ℕ). p ∷ xs) k.same;
+          same = ap (λ (x : ℕ). x ∷ map f ((head-of z q ps h.1).1.place ∷ k.others)) (process-is h.0.place h.0.reason h.0.there ∙ h.0.waits)
+              ∙ ap (λ (xs : List ℕ). p ∷ xs) k.same;
         }
 
     map-at : (is : List ℕ) (k i : ℕ) → slice_get is k ≡ Some i → slice_get (map f is) k ≡ Some (f i)
@@ -227,7 +232,8 @@ module _ (reasons : List Reason) where
     map-at (x ∷ xs) zero i there = ap (λ (y : ℕ). Some (f y)) (same_Some x i there)
     map-at (x ∷ xs) (suc k) i there = map-at xs k i there
 
-    maps-at : (lists : List (List ℕ)) (k : ℕ) (xs : List ℕ) → slice_get lists k ≡ Some xs → slice_get (map (map f) lists) k ≡ Some (map f xs)
+    maps-at : (lists : List (List ℕ)) (k : ℕ) (xs : List ℕ) → slice_get lists k ≡ Some xs
+        → slice_get (map (map f) lists) k ≡ Some (map f xs)
     maps-at [] k xs there = absurd (none-some xs there)
     maps-at (x ∷ ys) zero xs there = ap (λ (y : List ℕ). Some (map f y)) (same_Some x xs there)
     maps-at (x ∷ ys) (suc k) xs there = maps-at ys k xs there
@@ -241,7 +247,8 @@ module _ (reasons : List Reason) where
           behind = map f t.behind;
           parts = sym h.same ∙ ap (map f) t.parts ∙ map-append f t.before t.behind;
           place = t.once.place;
-          there = subst (λ (xs : List ℕ). slice_get (circles_among reasons) t.once.place ≡ Some xs) (map-append f t.behind t.before) (maps-at (circles_of nexts) t.once.place (t.behind ++ t.before) t.once.there);
+          there = subst (λ (xs : List ℕ). slice_get (circles_among reasons) t.once.place ≡ Some xs)
+              (map-append f t.behind t.before) (maps-at (circles_of nexts) t.once.place (t.behind ++ t.before) t.once.there);
           once = once;
         }
       where
@@ -249,7 +256,8 @@ module _ (reasons : List Reason) where
         apart j k x here there =
             let a = map-at (i ∷ h.others) j x here in
             let b = map-at (i ∷ h.others) k x there in
-            distinct j k (f x) (ap (λ (xs : List ℕ). slice_get xs j) (sym h.same) ∙ a) (ap (λ (xs : List ℕ). slice_get xs k) (sym h.same) ∙ b)
+            distinct j k (f x) (ap (λ (xs : List ℕ). slice_get xs j) (sym h.same) ∙ a)
+            (ap (λ (xs : List ℕ). slice_get xs k) (sym h.same) ∙ b)
 
         t : IsTurned nexts (i ∷ h.others)
         t = is-turned nexts i h.others h.leads apart
@@ -265,8 +273,10 @@ module _ (reasons : List Reason) where
             same_Some (f from.first) (f t.first) (sym (map-at l.list 0 from.first front) ∙ ap (λ (xs : List ℕ). slice_get xs 0) same_list ∙ map-at (t.behind ++ t.before) 0 t.first ours) in
             let a : IsIn nexts from.first from.first = record { circle = l.list; is = from.is; place = 0; there = front } in
             let b : IsIn nexts t.first t.first = record { circle = t.behind ++ t.before; is = t.found; place = 0; there = ours } in
-            let same : from.first ≡ t.first = one-index from.first t.first (in-reason from.first from.first a) (in-reason t.first t.first b) same_process in
-            let list : l.list ≡ t.behind ++ t.before = same_Some l.list (t.behind ++ t.before) (sym from.is ∙ ap (circle_at nexts) same ∙ t.found) in
+            let same : from.first ≡ t.first =
+            one-index from.first t.first (in-reason from.first from.first a) (in-reason t.first t.first b) same_process in
+            let list : l.list ≡ t.behind ++ t.before =
+            same_Some l.list (t.behind ++ t.before) (sym from.is ∙ ap (circle_at nexts) same ∙ t.found) in
             t.once.once k (l.there ∙ ap (λ (xs : List ℕ). Some xs) list)
 
     pub circle-told : (ps : List ℕ) → IsCircle reasons ps → IsAmong (circles_among reasons) ps

@@ -13,10 +13,12 @@ pub turn : (program : Units) (reasons : List Reason) (nexts : List (Option ℕ))
     → found ++ flat_map (reason_text program reasons) (drop i reasons) ≡ whole → next ≡ found ++ reason_lines program r waits
     → next ++ flat_map (reason_text program reasons) (drop (i + 1) reasons) ≡ whole
 turn program reasons nexts i r waits found next whole less there is all h e =
-    let so : waits ≡ is_some (next_of reasons r) = all ∙ ap (λ (ns : List (Option ℕ)). is_some (next_at ns i)) is ∙ ap is_some (next-at-reason reasons i r there) in
+    let so : waits ≡ is_some (next_of reasons r) =
+    all ∙ ap (λ (ns : List (Option ℕ)). is_some (next_at ns i)) is ∙ ap is_some (next-at-reason reasons i r there) in
     let rest = flat_map (reason_text program reasons) (drop (i + 1) reasons) in
     let cut : drop i reasons ≡ r ∷ drop (i + 1) reasons =
-    drop-cons reasons i r less ∙ ap (λ (x : Reason). x ∷ drop (suc i) reasons) (get_or_from_slice_get reasons i r r there) ∙ ap (λ n. r ∷ drop n reasons) (sym (add-one i)) in
+    drop-cons reasons i r less ∙ ap (λ (x : Reason). x ∷ drop (suc i) reasons) (get_or_from_slice_get reasons i r r there)
+    ∙ ap (λ n. r ∷ drop n reasons) (sym (add-one i)) in
     ap (λ (xs : List ℕ). xs ++ rest) (e ∙ ap (λ b. found ++ reason_lines program r b) so)
     ∙ append_assoc found (reason_text program reasons r) rest
     ∙ ap (λ (rs : List Reason). found ++ flat_map (reason_text program reasons) rs) (sym cut)

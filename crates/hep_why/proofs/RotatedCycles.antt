@@ -22,10 +22,12 @@ module _ (R : ℕ → ℕ → Type 0) where
   joined z x y xs [] a b = (a, b)
   joined z x y xs (w ∷ ys) a b = (a.0, joined z x w xs ys a.1 b)
 
-  pub turned-back : (x first : ℕ) (xs before behind : List ℕ) → x ∷ xs ≡ before ++ first ∷ behind → LeadBack R x (x ∷ xs) → LeadBack R first (first ∷ behind ++ before)
+  pub turned-back : (x first : ℕ) (xs before behind : List ℕ) → x ∷ xs ≡ before ++ first ∷ behind → LeadBack R x (x ∷ xs)
+      → LeadBack R first (first ∷ behind ++ before)
   turned-back x first xs [] behind parts h =
       let same : x ≡ first = same_Some x first (ap (λ (ys : List ℕ). slice_get ys 0) parts) in
-      subst (LeadBack R first) (ap (λ (ys : List ℕ). first ∷ ys) (sym (append-nil behind))) (subst (λ z. LeadBack R z (first ∷ behind)) same (subst (LeadBack R x) parts h))
+      subst (LeadBack R first) (ap (λ (ys : List ℕ). first ∷ ys) (sym (append-nil behind)))
+      (subst (λ z. LeadBack R z (first ∷ behind)) same (subst (LeadBack R x) parts h))
   turned-back x first xs (b ∷ bs) behind parts h =
       let same : x ≡ b = same_Some x b (ap (λ (ys : List ℕ). slice_get ys 0) parts) in
       let both = cut x first b bs behind (subst (LeadBack R x) parts h) in
@@ -124,5 +126,8 @@ no-more-than xs n distinct below =
         by : (b : Bool) → eqb (get_or xs i d) (get_or xs j d) ≡ b → eqb (get_or xs i d) (get_or xs j d) ≡ false
         by false t = t
         by true t =
-            let same = distinct i j (get_or xs j d) (slice_get-get_or xs i d (omega (arith, less, within)) ∙ ap (λ (x : ℕ). Some x) (eqb-true (get_or xs i d) (get_or xs j d) t)) (slice_get-get_or xs j d within) in
+            let same =
+            distinct i j (get_or xs j d)
+            (slice_get-get_or xs i d (omega (arith, less, within)) ∙ ap (λ (x : ℕ). Some x) (eqb-true (get_or xs i d) (get_or xs j d) t))
+            (slice_get-get_or xs j d within) in
             absurd (omega (arith, same, less))

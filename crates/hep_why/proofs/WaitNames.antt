@@ -43,7 +43,8 @@ pub record IsOne (program : Units) (t : Top) (n : Next) (w : Wanted) : Type 0 wh
   pub stands : location_of_name (scope_of program t.state t.level.activation) reference.0 reference.1 ≡ Ok w.at
 
 module _ (program : Units) (t : Top) (w : Wanted) where
-  one-redex : (q : Redex) → need_of_next (scope_of program t.state t.level.activation) (wants (evaluating q)) ≡ Some w → IsOne program t (wants (evaluating q)) w
+  one-redex : (q : Redex) → need_of_next (scope_of program t.state t.level.activation) (wants (evaluating q)) ≡ Some w
+      → IsOne program t (wants (evaluating q)) w
   one-redex (reading r) e = record { reference = r; one = refl; stands = so-located r.0.asynchronous true _ w e }
   one-redex (testing f r) e = record { reference = r; one = refl; stands = test-located f _ w e }
   one-redex _ e = absurd (none-some w e)
@@ -80,10 +81,12 @@ awaited program s p w e = by (living s p) refl (unmet-needed (need_of program p 
           reference = it.reference;
           one = it.one;
           stands = it.stands;
-          written = ap (called_with program s p) lives ∙ ap (flat_map (own_reference program t)) it.one ∙ append-nil (own_reference program t it.reference);
+          written = ap (called_with program s p) lives ∙ ap (flat_map (own_reference program t)) it.one
+              ∙ append-nil (own_reference program t it.reference);
         }
 
-pub named : (program : Units) (s : State) (p : ℕ) (w : Wanted) → wanted_by program p s ≡ Some w → IsNameOf program s p w.at (called_by program s p)
+pub named : (program : Units) (s : State) (p : ℕ) (w : Wanted) → wanted_by program p s ≡ Some w
+    → IsNameOf program s p w.at (called_by program s p)
 named program s p w e =
     let h = awaited program s p w e in
     record { top = h.top; reference = h.reference; lives = h.lives; stands = h.stands; written = h.written }

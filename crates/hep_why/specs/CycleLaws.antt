@@ -10,7 +10,8 @@ LeadsTo nexts i j = next_at nexts i ≡ Some j
 
 -- the processes of reasons are in order
 abbrev pub Rise : List Reason → Type 0
-Rise reasons = (i j : ℕ) (r s : Reason) → slice_get reasons i ≡ Some r → slice_get reasons j ≡ Some s → i < j → r.listed.process < s.listed.process
+Rise reasons =
+    (i j : ℕ) (r s : Reason) → slice_get reasons i ≡ Some r → slice_get reasons j ≡ Some s → i < j → r.listed.process < s.listed.process
 
 -- process p waits for what process q changed last
 pub record WaitsFor (reasons : List Reason) (p q : ℕ) : Type 0 where

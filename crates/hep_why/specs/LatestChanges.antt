@@ -1,12 +1,13 @@
 -- The step of a history that filled or emptied a storage unit last: docs/RUNS.md, "Why processes wait".
-use Rattle.std.specs.Prelude.{ℕ, Bool, ◌&&◌, not, nat_le, if◌then◌else◌, List, [], ◌∷◌, length, Option, None}
+use Rattle.std.specs.Prelude.{ℕ, Bool, ◌&&◌, not, nat_le, if◌then◌else◌, List, length, Option, None}
 use Rattle.std.specs.Option.{option_map}
 use Rattle.hep_machine.specs.declared.event.Entry.{Entry}
 use Rattle.hep_machine.specs.Words.{Location, State, Units, common, local, opening, same_logical, state_after_turn}
 use Rattle.hep_views.specs.declared.whereabouts.Whereabouts.{Whereabouts}
 use Rattle.hep_event.specs.CoreStanding.{whereabouts_by}
 use Rattle.hep_why.specs.declared.reason.Change.{Change}
-pub use Rattle.hep_fold.specs.Turns.{turns_from, turns_of}
+unfoldable pub use Rattle.hep_fold.specs.Turns.{seen_along}
+pub use Rattle.hep_fold.specs.Turns.{turns_from}
 
 -- ---- one step
 
@@ -28,17 +29,12 @@ abbrev pub change_by : Units → ℕ → ℕ → State → Option Change
 change_by program entry p s = option_map (λ (w : Whereabouts). record { entry = entry; place = w }) (whereabouts_by program p s)
 
 -- the latest change after that step, by the one before it
-abbrev pub latest_after : Units → Location → ℕ → ℕ → State → State → Option Change → Option Change
-latest_after program at entry p s t latest = if has_changed at s t then change_by program entry p s else latest
+abbrev pub latest_after : Units → Location → ℕ → ℕ → State → Option Change → Option Change
+latest_after program at entry p s latest =
+    if has_changed at s (state_after_turn program p s) then change_by program entry p s else latest
 
 -- ---- a history
 
--- the latest change after these turns from a state, with the one before them
-unfoldable pub latest_along : Units → Location → State → Option Change → List (ℕ × ℕ) → Option Change
-latest_along program at s latest [] = latest
-latest_along program at s latest (t ∷ ts) =
-    latest_along program at (state_after_turn program t.1 s) (latest_after program at t.0 t.1 s (state_after_turn program t.1 s) latest) ts
-
--- that of a whole history
+-- the latest change in a whole history
 abbrev pub latest_change : Units → List Entry → Location → Option Change
-latest_change program entries at = latest_along program at (opening program) None (turns_from 1 entries)
+latest_change program entries at = seen_along program (latest_after program at) (opening program) (turns_from 1 entries) None

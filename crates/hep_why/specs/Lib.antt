@@ -9,4 +9,3 @@ pub mod CycleMarks
 pub mod Reasons
 pub mod CycleLaws
 pub mod Watches
-pub mod WatchedReplay

@@ -30,7 +30,8 @@ deed_text false = codes "filled"
 
 -- what was changed, the place of its process, in a unit of this name, and the number of the entry
 abbrev pub step_words : List ℕ → List ℕ → ℕ → ℕ → List ℕ
-step_words called unit line entry = codes " " ++ called ++ codes " at " ++ unit ++ codes " LINE " ++ decimal line ++ codes " in entry " ++ decimal entry
+step_words called unit line entry =
+    codes " " ++ called ++ codes " at " ++ unit ++ codes " LINE " ++ decimal line ++ codes " in entry " ++ decimal entry
 
 -- the process that made the change, what has become of it, and whether its storage unit is waited for to be full
 abbrev pub maker_words : ℕ → List ℕ → Bool → List ℕ

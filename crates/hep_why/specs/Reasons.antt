@@ -18,7 +18,8 @@ maker_lives s latest = option_map_or (λ (c : Change). is_some (living s c.place
 
 -- a listed process, after a state, with its unit's name for what it waits for, and the latest change of that
 abbrev pub reason_with : Units → State → Listed → Option Change → Reason
-reason_with program s l latest = record { listed = l; called = called_by program s l.process; latest = latest; lives = maker_lives s latest }
+reason_with program s l latest =
+    record { listed = l; called = called_by program s l.process; latest = latest; lives = maker_lives s latest }
 
 abbrev pub reason_by : Units → List Entry → Option Listed → Option Wanted → List Reason
 reason_by program history (Some l) (Some w) = reason_with program (state_after program history) l (latest_change program history w.at) ∷ []

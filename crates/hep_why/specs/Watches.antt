@@ -1,22 +1,23 @@
 -- Waiting processes, for which the latest changes are looked for, while a history is made again:
 -- docs/ARCHITECTURE.md, "Forms".
-use Rattle.std.specs.Prelude.{◌≡◌, ◌≢◌, ◌+◌, ◌⊎◌, ◌<◌, ◌≤◌, ℕ, zero, suc, true, false, ◌&&◌, not, nat_le, if◌then◌else◌, List, [], ◌∷◌, ◌++◌, length, map, Option, Some, None, IsSome, slice_get}
+use Rattle.std.specs.Prelude.{◌≡◌, ◌≤◌, ℕ, zero, suc, Bool, true, ◌&&◌, not, nat_le, if◌then◌else◌, List, [], ◌++◌, length, map, Option, Some, None, IsSome, slice_get}
 use Rattle.std.specs.Option.{option_map, option_to_list}
 use Rattle.hep_replay.specs.CoreValues.{CoreValue, listed_after, state_of}
-use Rattle.hep_replay.specs.Progress.{IsStanding, turn_entry}
-use Rattle.hep_replay.specs.Replays.{HaveGaps, most_entries, replayed, standing}
+use Rattle.hep_replay.specs.Replays.{replayed}
+use Rattle.hep_fold.specs.Observers.{Replay}
+use Rattle.hep_fold.specs.Turns.{processes}
 use Rattle.hep_layout.specs.Words.{address}
 use Rattle.hep_machine.specs.declared.event.Entry.{Entry}
-use Rattle.hep_machine.specs.Words.{AreSteps, Layout, Location, State, Units, Wanted, is_held, layout_of, opening, opening_layout, run, same_logical, schedule_of, state_after, step, wanted_by}
-use Rattle.hep_why.specs.LatestChanges.{is_there, latest_along, latest_change, owner_of}
+use Rattle.hep_machine.specs.Words.{Layout, Location, State, Units, Wanted, is_held, layout_of, opening_layout, run, same_logical, schedule_of, wanted_by}
+use Rattle.hep_why.specs.LatestChanges.{change_by, is_there, latest_after, latest_change, owner_of}
 use Rattle.hep_why.specs.Reasons.{reason_with}
 use Rattle.hep_why.specs.declared.reason.Change.{Change}
 use Rattle.hep_why.specs.declared.reason.Reason.{Reason}
 use Rattle.hep_state.specs.declared.core_state.CoreState.{CoreState}
 use Rattle.hep_state.specs.Words.{IsMachineAfter}
 use Rattle.hep_views.specs.declared.listed.Listed.{Listed}
+use Rattle.hep_why.specs.declared.watch.ChangeAhead.{ChangeAhead}
 use Rattle.hep_why.specs.declared.watch.Watch.{Watch}
-pub use Rattle.hep_fold.specs.Turns.{AreOf, processes, turns_in_row}
 
 -- ---- who waits
 
@@ -55,81 +56,91 @@ IsWatchOf core p (Some w) =
 
 -- the same processes wait for the same things
 abbrev pub WaitTheSame : List Watch → List Watch → Type 0
-WaitTheSame old new = (i : ℕ) → option_map (λ (w : Watch). w.listed) (slice_get new i) ≡ option_map (λ (w : Watch). w.listed) (slice_get old i)
+WaitTheSame old new =
+    (i : ℕ) → option_map (λ (w : Watch). w.listed) (slice_get new i) ≡ option_map (λ (w : Watch). w.listed) (slice_get old i)
 
 -- ---- looking at a cell
 
--- after a core's history a storage unit is in a cell
-abbrev pub IsKeptIn : CoreValue → Location → ℕ → Type 0
-IsKeptIn core at cell = IsKeptAfter core.program core.cells (schedule_of core.history) at cell
-
--- it is in the watch's cell, as soon as it exists
-pub record IsKeptOnceThere (core : CoreValue) (w : Watch) (at : Location) : Type 0 where
-  pub owner : owner_of at ≡ w.listed.owner
-  pub kept : is_there (state_of core) at ≡ true → IsKeptIn core at w.cell
-
-abbrev pub AreKeptOnceThere : CoreValue → List Watch → Type 0
-AreKeptOnceThere core ws = (i : ℕ) (w : Watch) → slice_get ws i ≡ Some w → (at : Location) × IsKeptOnceThere core w at
-
--- a machine keeps the state after a core's history
-abbrev pub IsMachineOf : CoreValue → CoreState → Type 0
-IsMachineOf core m = IsMachineAfter core.program core.cells (schedule_of core.history) m
-
--- a watch after it has looked at its storage unit after a step, before which `made` activations had been made, and
--- which is this change
-abbrev pub looked : State → Location → ℕ → Option Change → Watch → Watch
-looked s at made change w =
-    if is_there s at
-    then record w {
-      full = (s.store at).full;
-      latest = if nat_le w.listed.owner made && not (same_logical w.full (s.store at).full) then change else w.latest;
-    }
-    else w
-
--- all of them have
-pub record HaveLooked (core : CoreValue) (made : ℕ) (change : Option Change) (old new : List Watch) : Type 0 where
-  pub each : (i : ℕ) (w : Watch) (at : Location) → slice_get old i ≡ Some w → IsKeptOnceThere core w at → slice_get new i ≡ Some (looked (state_of core) at made change w)
-  pub same : WaitTheSame old new
-
--- a machine keeps the state after the history of some core, in which the storage units of all watches are in their
--- cells
-abbrev pub CanLook : CoreState → List Watch → Type 0
-CanLook m ws = (core : CoreValue) × IsMachineOf core m × AreKeptOnceThere core ws
-
--- in each such core
-abbrev pub Looks : CoreState → ℕ → Option Change → List Watch → List Watch → Type 0
-Looks m made change old new = (core : CoreValue) → IsMachineOf core m → AreKeptOnceThere core old → HaveLooked core made change old new
-
--- ---- making turns again
-
--- process p has a step; there are no more steps than a history may have, and each frame has its gap
-pub record CanTurn (core : CoreValue) (p : ℕ) : Type 0 where
-  pub standing : IsStanding core
-  pub few : length core.history < most_entries
-  pub steps : step core.program p (state_of core) ≢ None
-  pub gaps : HaveGaps core.program core.cells (core.history ++ turn_entry p false ∷ [])
-
--- a program, the cells of its arena, and all turns that are made again, each with the number of its entry
-pub record Whole : Type 0 where
+-- turns that a program has made, in an arena of this many cells
+pub record TurnsMade : Type 0 where
   pub program : Units
   pub cells : ℕ
-  pub turns : List (ℕ × ℕ)
+  pub made : List ℕ
 
--- a watch has noted whether its storage unit is full after a history, with these turns left, and the latest change so
--- far
-pub record IsAlong (whole : Whole) (history : List Entry) (left : List (ℕ × ℕ)) (w : Watch) (at : Location) : Type 0 where
-  pub watch : IsWatch whole.program whole.cells (processes whole.turns) w at
-  pub full : is_there (state_after whole.program history) at ≡ true → w.full ≡ ((state_after whole.program history).store at).full
-  pub latest : latest_along whole.program at (state_after whole.program history) w.latest left ≡ latest_along whole.program at (opening whole.program) None whole.turns
+abbrev pub state_at : TurnsMade → State
+state_at t = run t.program t.made
 
--- the same for each of these watches; a core has made the earlier turns, and the turns left can be made
-pub record AreAlong (whole : Whole) (core : CoreValue) (left : List (ℕ × ℕ)) (ws : List Watch) : Type 0 where
-  pub is : core ≡ standing whole.program whole.cells core.history
-  pub turns : processes whole.turns ≡ schedule_of core.history ++ processes left
-  pub steps : AreSteps whole.program (state_after whole.program core.history) (processes left)
-  pub laid : IsSome (layout_of whole.program whole.cells is_held (processes whole.turns))
-  pub few : length core.history + length left ≤ most_entries
-  pub each : (i : ℕ) (w : Watch) → slice_get ws i ≡ Some w → (at : Location) × IsAlong whole core.history left w at
+-- a machine keeps the state after them
+abbrev pub IsMachineOf : TurnsMade → CoreState → Type 0
+IsMachineOf t m = IsMachineAfter t.program t.cells t.made m
+
+-- after them a storage unit is in a cell
+abbrev pub IsKeptIn : TurnsMade → Location → ℕ → Type 0
+IsKeptIn t at cell = IsKeptAfter t.program t.cells t.made at cell
+
+-- it is in the watch's cell, as soon as it exists
+pub record IsKeptOnceThere (t : TurnsMade) (w : Watch) (at : Location) : Type 0 where
+  pub owner : owner_of at ≡ w.listed.owner
+  pub kept : is_there (state_at t) at ≡ true → IsKeptIn t at w.cell
+
+abbrev pub AreKeptOnceThere : TurnsMade → List Watch → Type 0
+AreKeptOnceThere t ws = (i : ℕ) (w : Watch) → slice_get ws i ≡ Some w → (at : Location) × IsKeptOnceThere t w at
+
+-- a watch that notes whether its storage unit is full after a step, before which `made` activations had been made, and
+-- which is this change
+abbrev pub noted : Bool → ℕ → Option Change → Watch → Watch
+noted full made change w =
+    record w { full = full; latest = if nat_le w.listed.owner made && not (same_logical w.full full) then change else w.latest }
+
+-- it looks, if the storage unit exists
+abbrev pub looked : State → Location → ℕ → Option Change → Watch → Watch
+looked s at made change w = if is_there s at then noted (s.store at).full made change w else w
+
+-- all of them have
+pub record HaveLooked (t : TurnsMade) (made : ℕ) (change : Option Change) (old new : List Watch) : Type 0 where
+  pub each : (i : ℕ) (w : Watch) (at : Location) → slice_get old i ≡ Some w → IsKeptOnceThere t w at
+      → slice_get new i ≡ Some (looked (state_at t) at made change w)
+  pub same : WaitTheSame old new
+
+-- a machine keeps the state after some turns, when the storage units of all watches are in their cells
+abbrev pub CanLook : CoreState → List Watch → Type 0
+CanLook m ws = (t : TurnsMade) × IsMachineOf t m × AreKeptOnceThere t ws
+
+-- after all such turns
+abbrev pub Looks : CoreState → ℕ → Option Change → List Watch → List Watch → Type 0
+Looks m made change old new = (t : TurnsMade) → IsMachineOf t m → AreKeptOnceThere t old → HaveLooked t made change old new
+
+-- ---- a history made again
+
+-- the first watches, and the latest change of each storage unit
+abbrev pub KnownChanges : Type 0
+KnownChanges = List Watch × (Location → Option Change)
+
+-- with the step of process p from a state, in the entry with this number
+abbrev pub changes_after : Units → ℕ → ℕ → State → KnownChanges → KnownChanges
+changes_after program entry p s known = (known.0, λ at. latest_after program at entry p s (known.1 at))
+
+-- a watch has noted whether its storage unit is full after these turns, and the latest change; all turns that are made
+-- again lead to what its process waits for
+pub record IsAlong (t : TurnsMade) (turns : List ℕ) (changes : Location → Option Change) (w : Watch) (at : Location) : Type 0 where
+  pub watch : IsWatch t.program t.cells turns w at
+  pub full : is_there (state_at t) at ≡ true → w.full ≡ ((state_at t).store at).full
+  pub latest : w.latest ≡ changes at
+
+-- the same for each of these watches, which wait for the same as the first ones
+pub record AreAlong (t : TurnsMade) (turns : List ℕ) (ws : List Watch) (known : KnownChanges) : Type 0 where
+  pub same : WaitTheSame known.0 ws
+  pub each : (i : ℕ) (w : Watch) → slice_get ws i ≡ Some w → (at : Location) × IsAlong t turns known.1 w at
+
+-- those of an observer of a replay, after these of its turns
+abbrev pub AreAlongReplay : Units → Replay → List ℕ → List Watch → KnownChanges → Type 0
+AreAlongReplay program replay made ws known =
+    AreAlong (record { program = program; cells = replay.cells; made = made }) (processes replay.turns) ws known
+
+-- what was noted before a turn: the number of activations, and the turn as a change
+pub record IsChangeAhead (program : Units) (made : List ℕ) (entry p : ℕ) (next : ChangeAhead) : Type 0 where
+  pub activations : next.activations ≡ length (run program made).activations
+  pub change : change_by program entry p (run program made) ≡ Some next.change
 
 -- ---- reasons
 
@@ -144,7 +155,8 @@ pub record IsReplayed (core : CoreValue) (entries : List Entry) : Type 0 where
 abbrev pub AreFound : CoreValue → List Entry → List Watch → Type 0
 AreFound core entries ws =
     (i : ℕ) (w : Watch) → slice_get ws i ≡ Some w
-    → (at : Location) × (location_of core.program (schedule_of core.history) w.listed.process ≡ Some at) × (w.latest ≡ latest_change core.program entries at)
+    → (at : Location)
+    × (location_of core.program (schedule_of core.history) w.listed.process ≡ Some at) × (w.latest ≡ latest_change core.program entries at)
 
 -- each of their processes waits after a core's history
 abbrev pub AreWaiting : CoreValue → List Watch → Type 0

@@ -10,8 +10,8 @@ mod wait_cycles;
 mod wait_graph;
 mod wait_names;
 mod watch;
+mod watch_list;
 mod watch_updates;
-mod watched_replay;
 pub mod why;
 
 pub use hep_event::site_laws::operations_name_variables;
@@ -19,7 +19,6 @@ pub use hep_event::{
     Listed, NextOperation, Site, Variables, append_reference, coming_of, listed, named, site_of,
     whereabouts,
 };
-pub use hep_fold::ReplayMachine;
 pub use hep_replay::{
     Breakpoints, Choices, ChooseFault, Core, HistFault, History, HistoryPrefix, ReplayFault,
     make_run, read_text, replay, replay_first, stands_watched,

@@ -12,3 +12,10 @@ pub(crate) struct Watch {
     pub(crate) full: bool,
     pub(crate) latest: Option<Change>,
 }
+
+/// The number of activations that were made before a turn, and the turn as a change.
+#[derive(Clone, Copy)]
+pub(crate) struct ChangeAhead {
+    pub(crate) activations: u64,
+    pub(crate) change: Change,
+}

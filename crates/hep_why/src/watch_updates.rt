@@ -1,11 +1,11 @@
 //! The storage units that processes wait for, and whether they are full.
 ghost use Rattle.std.specs.Prelude.{◌≡◌, ◌⊎◌, ◌≤◌, ◌++◌, ◌&&◌, ℕ, List, IfOk, IsSome, None, OnOk, Some, if◌then◌else◌, length, map, nat_le, not};
 ghost use Rattle.std.specs.Option.{option_to_list};
-ghost use Rattle.hep_replay.specs.CoreValues.{CoreValue, listed_after, state_of};
+ghost use Rattle.hep_replay.specs.CoreValues.{listed_after, state_of};
 ghost use Rattle.hep_machine.specs.Words.{Location, living, run, same_logical, schedule_of};
 ghost use Rattle.hep_why.specs.LatestChanges as words;
 ghost use Rattle.hep_state.specs.Words.{IsMachineAfter};
-ghost use Rattle.hep_why.specs.Watches.{AreNewWatches, CanLook, IsKeptIn, IsKeptOnceThere, IsMachineOf, IsWatchOf, Looks, listed_from, looked};
+ghost use Rattle.hep_why.specs.Watches.{AreNewWatches, CanLook, IsKeptIn, IsKeptOnceThere, IsMachineOf, IsWatchOf, Looks, TurnsMade, listed_from, looked, state_at};
 
 use crate::reason::Change;
 use crate::watch::Watch;
@@ -77,8 +77,8 @@ pub(crate) fn change_by(machine: &CoreState, image: &Image, p: u64, entry: u64) 
 
 // Whether the storage unit in a cell is full.
 fn is_full(machine: &CoreState, cell: u32) -> bool
-    requires { (core : CoreValue) × (at : Location) × IsMachineOf core machine.now × IsKeptIn core at cell }
-    ensures { (core : CoreValue) (at : Location) → IsMachineOf core machine.now → IsKeptIn core at cell → result ≡ ((state_of core).store at).full }
+    requires { (t : TurnsMade) × (at : Location) × IsMachineOf t machine.now × IsKeptIn t at cell }
+    ensures { (t : TurnsMade) (at : Location) → IsMachineOf t machine.now → IsKeptIn t at cell → result ≡ ((state_at t).store at).full }
 {
     machine.frames.get(cell).full
 }
@@ -96,9 +96,9 @@ fn latest(watch: Watch, made: u64, full: bool, change: Option<Change>) -> Option
 
 // A watch after it has looked at its storage unit.
 fn look_once(machine: &CoreState, watch: Watch, made: u64, change: Option<Change>) -> Watch
-    requires { (core : CoreValue) × (at : Location) × IsMachineOf core machine.now × IsKeptOnceThere core watch at }
-    ensures { (core : CoreValue) (at : Location) → IsMachineOf core machine.now → IsKeptOnceThere core watch at
-        → result ≡ looked (state_of core) at made change watch }
+    requires { (t : TurnsMade) × (at : Location) × IsMachineOf t machine.now × IsKeptOnceThere t watch at }
+    ensures { (t : TurnsMade) (at : Location) → IsMachineOf t machine.now → IsKeptOnceThere t watch at
+        → result ≡ looked (state_at t) at made change watch }
 {
     let made_now = machine.activations;
     if made_now < watch.listed.owner {
@@ -115,7 +115,12 @@ fn look_once(machine: &CoreState, watch: Watch, made: u64, change: Option<Change
 
 /// Makes all watches look at their storage units after a step, before which `made` activations had been made, and
 /// which is `change`.
-pub(crate) fn look(machine: &CoreState, watches: &mut Vec<Watch>, made: u64, change: Option<Change>)
+pub(crate) fn look_at_all(
+    machine: &CoreState,
+    watches: &mut Vec<Watch>,
+    made: u64,
+    change: Option<Change>,
+)
     requires { CanLook machine.now watches.old.items }
     ensures { Looks machine.now made change watches.old.items watches.new.items }
 {
@@ -135,5 +140,5 @@ pub(crate) fn look_at_new(machine: &CoreState, watches: &mut Vec<Watch>, made: u
     if made_now <= made {
         return;
     }
-    look(machine, watches, made, None);
+    look_at_all(machine, watches, made, None);
 }

@@ -1,5 +1,5 @@
 //! Why processes wait after a history.
-ghost use Rattle.std.specs.Prelude.{◌≡◌, IfOk, IsSome, OnOk};
+ghost use Rattle.std.specs.Prelude.{◌≡◌, IfOk, IsSome};
 ghost use Rattle.hep_replay.specs.CoreValues.{state_of};
 ghost use Rattle.hep_replay.specs.HistoryPrefix.{first_of};
 ghost use Rattle.hep_machine.specs.Words.{schedule_of, wanted_by};
@@ -11,40 +11,48 @@ use crate::reason::Reason;
 use crate::reason_text::append_reasons;
 use crate::wait_names::called;
 use crate::watch::Watch;
-use crate::watch_updates::{all_watches, look};
-use crate::watched_replay::make_entries;
+use crate::watch_list::WatchList;
+use crate::watch_updates::{all_watches, look_at_all};
 use hep_event::Variables;
-use hep_fold::ReplayMachine;
-use hep_replay::{Core, DecodedImage, HistoryPrefix, tables_of};
+use hep_fold::{DecodedImage, HistoryRange, ReplayMachine, fold_range, tables_of};
+use hep_replay::{Core, HistoryPrefix};
 use hep_state_text::append_head;
 use std::alloc::{AllocError, Global};
 
-// Finds the latest changes of what the processes of these watches wait for.
+// The latest changes of what the processes of these watches wait for.
 fn find_changes(
     alloc: Global,
     core: &Core,
-    watches: &mut Vec<Watch>,
     entries: &HistoryPrefix<'_>,
-) -> Result<(), AllocError>
+    watches: Vec<Watch>,
+) -> Result<Vec<Watch>, AllocError>
     requires replayed { IsReplayed core.now.core (first_of entries.now) }
-    requires watches { AreNewWatches core.now.core.program core.now.core.cells (schedule_of core.now.core.history) watches.old.items }
-    ensures found { OnOk result (AreFound core.now.core (first_of entries.now) watches.new.items) }
-    ensures same { OnOk result (WaitTheSame watches.old.items watches.new.items) }
+    requires watches { AreNewWatches core.now.core.program core.now.core.cells (schedule_of core.now.core.history) watches.items }
+    ensures found { IfOk result (λ found. AreFound core.now.core (first_of entries.now) found.items) }
+    ensures same { IfOk result (λ found. WaitTheSame watches.items found.items) }
 {
     if watches.is_empty() {
-        return Ok(());
+        return Ok(watches);
     }
     core.headline();
     let image = core.image();
+    let cells = core.cells();
+    let end = entries.len();
+    let range = HistoryRange {
+        history: entries.history,
+        start: 0,
+        end,
+    };
     let tables = tables_of(alloc, image)?;
     let tabled = DecodedImage {
         image,
         tables: &tables,
     };
-    let mut again = ReplayMachine::open(alloc, image, core.cells())?;
-    look(&again.machine, watches, 0, None);
-    make_entries(&mut again, &tabled, watches, entries)?;
-    Ok(())
+    let mut again = ReplayMachine::open(alloc, image, cells)?;
+    let mut list = WatchList { watches };
+    look_at_all(&again.machine, &mut list.watches, 0, None);
+    fold_range(&mut again, &tabled, &range, &mut list)?;
+    Ok(list.watches)
 }
 
 // Why the process of a watch waits.
@@ -94,9 +102,9 @@ fn find_reasons(
     requires { IsReplayed core.now.core (first_of entries.now) }
     ensures { IfOk result (λ reasons. reasons.items ≡ words.reasons_of core.now.core.program (first_of entries.now)) }
 {
-    let mut watches = all_watches(alloc, core)?;
-    find_changes(alloc, core, &mut watches, entries)?;
-    reasons_for(alloc, core, &watches)
+    let watches = all_watches(alloc, core)?;
+    let found = find_changes(alloc, core, entries, watches)?;
+    reasons_for(alloc, core, &found)
 }
 
 /// Why processes wait after the history of a core, which has made these entries, as a text. The entries are made

@@ -6,14 +6,14 @@ use Rattle.hep_machine.specs.declared.event.Entry.{Entry}
 use Rattle.hep_machine.specs.Words.{Units, opening, run, run_from, schedule_of, state_after, step_result_of}
 use Rattle.hep_parse.specs.ReadingProgram.{Refusal}
 use Rattle.hep_worked.proofs.Sources.{text_of, units_of}
-use Rattle.hep_cover.specs.Coverage.{counted_along}
+use Rattle.hep_cover.specs.Coverage.{seen_along}
 use Rattle.hep_cover.specs.Lines.{cover_text}
 use Rattle.hep_worked.proofs.SerialRuns.{steps}
 
 -- ---- from the lines of a source to the same lines with counts
 
 cover_of : List ℕ → Result Units Refusal → List (List Entry) → List ℕ
-unfolding counted_along opening run run_from schedule_of state_after step_result_of
+unfolding seen_along opening run run_from schedule_of state_after step_result_of
 cover_of source (Err e) histories = []
 cover_of source (Ok program) histories = cover_text program source histories
 

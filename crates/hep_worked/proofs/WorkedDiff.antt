@@ -6,14 +6,14 @@ use Rattle.hep_machine.specs.declared.event.Entry.{Entry}
 use Rattle.hep_machine.specs.Words.{Units, opening, progress_from, run, run_from, schedule_of, state_after, step_result_of}
 use Rattle.hep_parse.specs.ReadingProgram.{Refusal}
 use Rattle.hep_worked.proofs.Sources.{text_of, units_of}
-use Rattle.hep_diff.specs.ProcessSteps.{deeds_along}
+use Rattle.hep_diff.specs.ProcessSteps.{seen_along}
 use Rattle.hep_diff.specs.Differences.{diff_text}
 use Rattle.hep_worked.proofs.SerialRuns.{steps}
 
 -- ---- from the lines of a source to what differs
 
 diff_of : Result Units Refusal → List Entry → List Entry → List ℕ
-unfolding deeds_along opening progress_from run run_from schedule_of state_after step_result_of
+unfolding seen_along opening progress_from run run_from schedule_of state_after step_result_of
 diff_of (Err e) first second = []
 diff_of (Ok program) first second = diff_text program first second 1000
 

@@ -5,7 +5,7 @@ use Prim.Native.String.{String}
 use Rattle.hep_machine.specs.declared.event.Entry.{Entry}
 use Rattle.hep_machine.specs.Words.{Units, opening, progress_from, run, run_from, schedule_of, state_after, step_result_of}
 use Rattle.hep_parse.specs.ReadingProgram.{Refusal}
-use Rattle.hep_why.specs.LatestChanges.{latest_along}
+use Rattle.hep_why.specs.LatestChanges.{seen_along}
 use Rattle.hep_why.specs.WaitCycles.{circle_from, circles_of}
 use Rattle.hep_why.specs.Lines.{circles_text}
 use Rattle.hep_why.specs.Reasons.{why_text}
@@ -46,7 +46,7 @@ alone = refl
 -- ---- from the lines of a source to why its processes wait
 
 why_of : Result Units Refusal → List Entry → List ℕ
-unfolding latest_along circle_from circles_text opening progress_from run run_from schedule_of state_after step_result_of
+unfolding seen_along circle_from circles_text opening progress_from run run_from schedule_of state_after step_result_of
 why_of (Err e) history = []
 why_of (Ok program) history = why_text program history
 

@@ -12,7 +12,8 @@ use Rattle.hep_cover.proofs.CountedSteps.{one-more, still, uncounted}
 use Rattle.hep_cover.proofs.counted_run.walk_on.Goals as goal
 
 pub loop-done-init : goal.loop-done-init
-loop-done-init c = record { tallied = stays (snapshot c.args.arena.now.contents c.args.operands.now.items c.args.index.now) c.args.counts.now.items; few = omega arith; holes = refl; capacity = omega arith }
+loop-done-init c =
+    record { tallied = stays (snapshot c.args.arena.now.contents c.args.operands.now.items c.args.index.now) c.args.counts.now.items; few = omega arith; holes = refl; capacity = omega arith }
 
 pub step_once-made-requires : goal.step_once-made-requires
 step_once-made-requires c =
@@ -22,7 +23,9 @@ step_once-made-requires c =
     let here = snapshot c.loop-done.arena.contents c.loop-done.operands.items c.loop-done.index in
     let done = c.loop-done.done in
     let inv = c.loop-done.invariant in
-    let goes : Goes a.code.now a.arrays.now a.frame.first start done here = uncounted w.operations.now a.code.now a.arrays.now a.frame.first start c.args.counts.now.items done here c.loop-done.counts.items inv.tallied in
+    let goes : Goes a.code.now a.arrays.now a.frame.first start done here =
+    uncounted w.operations.now a.code.now a.arrays.now a.frame.first start
+    c.args.counts.now.items done here c.loop-done.counts.items inv.tallied in
     let before = vec_capacity c.args.operands.now in
     let after = vec_capacity c.loop-done.operands in
     record {
@@ -42,7 +45,9 @@ returns-then-made-eq0-clause-tallied c =
     let next = snapshot c.step_once-made.new.arena.contents c.step_once-made.new.operands.items c.step_once-made.new.index in
     let moved = c.step_once-made.ensures.moved in
     record {
-      tallied = still w.operations.now a.code.now a.arrays.now a.frame.first start c.args.counts.now.items c.loop-done.done here c.loop-done.counts.items c.loop-done.invariant.tallied c.step_once-made.result next moved.gone (omega (arith, c.if-made-eq0.true));
+      tallied = still w.operations.now a.code.now a.arrays.now a.frame.first start c.args.counts.now.items c.loop-done.done here
+          c.loop-done.counts.items c.loop-done.invariant.tallied c.step_once-made.result
+          next moved.gone (omega (arith, c.if-made-eq0.true));
       few = c.loop-done.invariant.few;
       all = λ fewer. moved.all (omega (arith, c.if-made-eq0.true));
     }
@@ -59,14 +64,18 @@ loop-done-preserved c =
     let done = c.loop-done.done in
     let moved = c.step_once-made.ensures.moved in
     let inv = c.loop-done.invariant in
-    let its : mark_at w.lines.now here.index ≡ mark operations (drop here.index a.code.now) = ap (λ ls. mark_at ls here.index) c.requires.marks ∙ mark-there operations a.code.now here.index in
-    let now : c.count.new.counts.items ≡ counted (mark operations (drop here.index a.code.now)) counts = c.count.ensures ∙ ap (λ l. counted l counts) (c.mark_at.ensures ∙ its) in
+    let its : mark_at w.lines.now here.index ≡ mark operations (drop here.index a.code.now) =
+    ap (λ ls. mark_at ls here.index) c.requires.marks ∙ mark-there operations a.code.now here.index in
+    let now : c.count.new.counts.items ≡ counted (mark operations (drop here.index a.code.now)) counts =
+    c.count.ensures ∙ ap (λ l. counted l counts) (c.mark_at.ensures ∙ its) in
     let more : suc done ≡ done + 1 = omega arith in
     let all : Tallies operations a.code.now a.arrays.now a.frame.first start c.args.counts.now.items (suc done) next (counted (mark operations (drop here.index a.code.now)) counts) =
-    one-more operations a.code.now a.arrays.now a.frame.first start c.args.counts.now.items done here counts inv.tallied c.step_once-made.result next moved.gone (omega (arith, moved.few, c.if-made-eq0.false)) in
+    one-more operations a.code.now a.arrays.now a.frame.first start c.args.counts.now.items done here counts inv.tallied
+    c.step_once-made.result next moved.gone (omega (arith, moved.few, c.if-made-eq0.false)) in
     record {
       tallied = subst (λ n. Tallies operations a.code.now a.arrays.now a.frame.first start c.args.counts.now.items n next c.count.new.counts.items) more (
-          subst (λ x. Tallies operations a.code.now a.arrays.now a.frame.first start c.args.counts.now.items (suc done) next x) (sym now) all);
+          subst
+          (λ x. Tallies operations a.code.now a.arrays.now a.frame.first start c.args.counts.now.items (suc done) next x) (sym now) all);
       few = omega (arith, c.loop-done-test.true);
       holes = c.step_once-made.ensures.holes ∙ inv.holes;
       capacity = omega (arith, inv.capacity, c.step_once-made.ensures.capacity);

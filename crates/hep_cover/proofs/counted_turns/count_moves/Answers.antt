@@ -39,7 +39,8 @@ count_top-requires c =
     let q = c.index_mut-process.result.now in
     let e = c.requires.turn.turn.living in
     let h = c.requires.turn.turn.after.2 in
-    let it = process-at c.args.machine.now p c.requires.turn.turn.after.2.numbers c.place-at.ensures e.kept c.index_mut-process.ensures.value in
+    let it =
+    process-at c.args.machine.now p c.requires.turn.turn.after.2.numbers c.place-at.ensures e.kept c.index_mut-process.ensures.value in
     let turn = turning p h.after e c.requires.turn.turn.running in
     let t = turn_with program c.requires.turn.turn.after.0 c.requires.turn.turn.after.1 e turn.0 in
     let runs = known (goal.at.count_top-requires c).After-tops_are_running t refl h.few in
@@ -56,7 +57,8 @@ count_top-requires c =
           there = top-node turn.1;
           sized = framed.0;
           common = framed.1;
-          ready = can-go t runs turn.1 (vec_capacity q.operands) (h.room c.place-at.result q it.there _ e.level (last-there q e.level e.below e.operands e.pending it.stack));
+          ready = can-go t runs turn.1 (vec_capacity q.operands)
+              (h.room c.place-at.result q it.there _ e.level (last-there q e.level e.below e.operands e.pending it.stack));
         },
       );
       marks = c.requires.marks;
@@ -80,16 +82,22 @@ returns-clause-gone c cells choices h =
     let t = turn_with program cells choices e turn.0 in
     let a = done.tallied l ls vs ws it.stack in
     let come = come-so t (known (goal.at.returns-clause-gone c).After-tops_are_running t refl h.few) turn.1 c.count_top.result (step.snapshot c.count_top.new.frames.arena.contents a.left a.next) (
-    uncounted c.args.marked.now.operations.now (unit_code program l.unit) (unit_arrays program l.unit) (top_frame t).first (here t) c.args.counts.now.items c.count_top.result (step.snapshot c.count_top.new.frames.arena.contents a.left a.next) c.count_top.new.counts.items a.tallied) in
-    let shown = shown-now old p r c.count_top.new.frames l ls a.left ws a.next c.requires.turn.turn.after.2.numbers it done.same.number a.stack done.holes done.nodes in (
+    uncounted c.args.marked.now.operations.now (unit_code program l.unit) (unit_arrays program l.unit)
+    (top_frame t).first (here t) c.args.counts.now.items c.count_top.result
+    (step.snapshot c.count_top.new.frames.arena.contents a.left a.next) c.count_top.new.counts.items a.tallied) in
+    let shown =
+    shown-now old p r c.count_top.new.frames l ls a.left ws a.next
+    c.requires.turn.turn.after.2.numbers it done.same.number a.stack done.holes done.nodes in (
       come.after,
       come.gone,
       machine-of program cells come.after _ (subst (IsAfter program cells come.after) (sym shown) come.turns.after) (
-          rooms-set program cells old _ r it done.same.number refl refl refl (room-moved program q r l a.next ls vs a.left ws it.stack a.stack done.same.room (h.room c.place-at.result q it.there)) (rooms-of program cells choices old h)),
+          rooms-set program cells old _ r it done.same.number refl refl refl
+          (room-moved program q r l a.next ls vs a.left ws it.stack a.stack done.same.room (h.room c.place-at.result q it.there))
+          (rooms-of program cells choices old h)),
     )
 
 pub returns-clause-counted : goal.returns-clause-counted
-returns-clause-counted c cells choices h =
+returns-clause-counted c cells choices h entry =
     let program = c.args.marked.now.tabled.image.now in
     let old = c.args.machine.now in
     let p = c.args.p in
@@ -98,7 +106,9 @@ returns-clause-counted c cells choices h =
     let turn = turning p h.after e c.requires.turn.turn.running in
     let t = turn_with program cells choices e turn.0 in
     let a = c.count_top.ensures.tallied e.level e.below e.operands e.pending it.stack in
-    tallied-so t c.args.marked.now.operations.now (known (goal.at.returns-clause-counted c).After-tops_are_running t refl h.few) turn.1 c.args.counts.now.items c.count_top.result
+    tallied-so t c.args.marked.now.operations.now
+    (known (goal.at.returns-clause-counted c).After-tops_are_running t refl h.few) turn.1 entry
+    c.args.counts.now.items c.count_top.result
     (step.snapshot c.count_top.new.frames.arena.contents a.left a.next) c.count_top.new.counts.items a.tallied
 
 pub returns-clause-all : goal.returns-clause-all
@@ -118,7 +128,9 @@ returns-clause-all c fewer =
         pending = e.pending;
         kept = kept-set old p r k c.requires.turn.turn.after.2.numbers it e.kept c.count_top.ensures.same.number a.stack;
       };
-      none = carry (λ i. HasNoMoveAt c.args.marked.now.tabled.image.now (nodes_of (sym c.count_top.ensures.nodes i)) e.level (step.snapshot c.count_top.new.frames.arena.contents a.left a.next)) (a.all fewer);
+      none = carry
+          (λ i. HasNoMoveAt c.args.marked.now.tabled.image.now (nodes_of (sym c.count_top.ensures.nodes i)) e.level (step.snapshot c.count_top.new.frames.arena.contents a.left a.next))
+          (a.all fewer);
     }
 
 pub returns-clause-lives : goal.returns-clause-lives

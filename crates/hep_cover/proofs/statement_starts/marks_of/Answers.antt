@@ -15,9 +15,11 @@ loop-unit-preserved c =
     let its : made.lines.items ≡ marks operations (unit_code image c.loop-unit.unit) = c.in_ok-lines.ensures ∙ ap (marks operations) code in
     record {
       each = λ u m is.
-          elim (get-one-more before made u m (subst (λ (ms : List StatementStarts). slice_get ms u ≡ Some m) c.in_ok-push.ensures.items is)) [
+          elim
+          (get-one-more before made u m (subst (λ (ms : List StatementStarts). slice_get ms u ≡ Some m) c.in_ok-push.ensures.items is)) [
             | inl old ↦ c.loop-unit.invariant.each u m old
-            | inr new ↦ ap (λ (x : StatementStarts). x.lines.items) (sym new.1) ∙ its ∙ ap (λ k. marks operations (unit_code image k)) (sym (new.0 ∙ c.loop-unit.invariant.count))
+            | inr new ↦ ap (λ (x : StatementStarts). x.lines.items) (sym new.1) ∙ its
+                ∙ ap (λ k. marks operations (unit_code image k)) (sym (new.0 ∙ c.loop-unit.invariant.count))
           ];
       count = omega (arith, c.in_ok-push.ensures.len, c.loop-unit.invariant.count, c.push.new.self.ok.0, c.loop-unit.marks.ok.0);
     }

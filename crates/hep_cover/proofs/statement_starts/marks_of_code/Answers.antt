@@ -23,4 +23,5 @@ returns c =
     let code = c.args.code.now in
     let i = c.loop-index.index in
     let before = c.loop-index.lines.items in
-    sym (append-nil before) ∙ ap (λ is. before ++ marks operations is) (sym (drop_all i code (omega (arith, c.loop-index-test.false)))) ∙ c.loop-index.invariant
+    sym (append-nil before) ∙ ap (λ is. before ++ marks operations is) (sym (drop_all i code (omega (arith, c.loop-index-test.false))))
+    ∙ c.loop-index.invariant

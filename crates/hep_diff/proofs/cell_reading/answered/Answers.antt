@@ -22,7 +22,8 @@ site_of-requires c =
     let levels = levels-of lives in
     let accepted = c.is_runnable.ensures.accepted in
     let main = c.is_runnable.ensures.main in
-    let runs = c.tops_are_running.ensures.running (settled-turn m lives.after lives.running levels coming (is levels)) accepted main (settled-there m lives.after lives.running levels coming (is levels)) in
+    let runs =
+    c.tops_are_running.ensures.running (settled-turn m lives.after lives.running levels coming (is levels)) accepted main (settled-there m lives.after lives.running levels coming (is levels)) in
     let q = asked-variable program unit (next_of unit top.0.work) coming.operation coming.operands.items c.args.function c.in-Some.variable c.in-Some.subscripts.now
     (asked-here m lives coming is runs) c.requires.asked
     (λ x named. c.operations_name_variables.ensures.variables program cells choices m c.args.p top coming x accepted main lives is named)
@@ -43,7 +44,8 @@ found_at-requires c =
     let levels = levels-of lives in
     let accepted = c.is_runnable.ensures.accepted in
     let main = c.is_runnable.ensures.main in
-    let runs = c.tops_are_running.ensures.running (settled-turn m lives.after lives.running levels coming (is levels)) accepted main (settled-there m lives.after lives.running levels coming (is levels)) in
+    let runs =
+    c.tops_are_running.ensures.running (settled-turn m lives.after lives.running levels coming (is levels)) accepted main (settled-there m lives.after lives.running levels coming (is levels)) in
     let q = asked-variable program unit (next_of unit top.0.work) coming.operation coming.operands.items c.args.function c.in-Some.variable c.in-Some.subscripts.now
     (asked-here m lives coming is runs) c.requires.asked
     (λ x named. c.operations_name_variables.ensures.variables program cells choices m c.args.p top coming x accepted main lives is named)
@@ -61,7 +63,8 @@ returns-in-Some c cells choices top lives =
     let levels = levels-of lives in
     let accepted = c.is_runnable.ensures.accepted in
     let main = c.is_runnable.ensures.main in
-    let runs = c.tops_are_running.ensures.running (settled-turn m lives.after lives.running levels coming (is levels)) accepted main (settled-there m lives.after lives.running levels coming (is levels)) in
+    let runs =
+    c.tops_are_running.ensures.running (settled-turn m lives.after lives.running levels coming (is levels)) accepted main (settled-there m lives.after lives.running levels coming (is levels)) in
     let q = asked-variable program unit (next_of unit top.0.work) coming.operation coming.operands.items c.args.function c.in-Some.variable c.in-Some.subscripts.now
     (asked-here m lives coming is runs) c.requires.asked
     (λ x named. c.operations_name_variables.ensures.variables program cells choices m c.args.p top coming x accepted main lives is named)

@@ -13,5 +13,6 @@ returns-in-None c cells choices top lives =
     let s = run program choices in
     let levels = levels-of lives in
     let k = c.requires.coming levels in
-    let runs = c.tops_are_running.ensures.running (settled-turn m lives.after lives.running levels coming k) c.is_runnable.ensures.accepted c.is_runnable.ensures.main (settled-there m lives.after lives.running levels coming k) in
+    let runs =
+    c.tops_are_running.ensures.running (settled-turn m lives.after lives.running levels coming k) c.is_runnable.ensures.accepted c.is_runnable.ensures.main (settled-there m lives.after lives.running levels coming k) in
     none-found program s (scope_of program s top.0.activation) _ (asked-here m lives coming c.requires.coming runs ∙ sym c.in-None.ensures)

@@ -31,4 +31,5 @@ returns c front entries others h k =
     c.max-before-end.ensures ∙ (λ i. max (c.made.ensures i) (c.made-2.ensures i))
     ∙ both-made c.args.first.now.core.core c.args.second.now.core.core entries others h.replayed k.replayed c.requires.same in
     let none : count - b ≡ 0 = omega (arith, c.loop-before-test.false, end) in
-    sym (append-nil text) ∙ ap (λ n. text ++ processes_from program entries others front (b + 1) n) (sym none) ∙ c.loop-before.invariant front entries others h k
+    sym (append-nil text) ∙ ap (λ n. text ++ processes_from program entries others front (b + 1) n) (sym none)
+    ∙ c.loop-before.invariant front entries others h k

@@ -21,7 +21,9 @@ returns c =
     let front = c.same_front-front.ensures in
     let left = subst (λ n. IsSide n entries c.in_ok-left.left) front c.in_ok-left.ensures.steps in
     let right = subst (λ n. IsSide n others c.in_ok-right.right) front c.in_ok-right.ensures.steps in
-    let told = c.in_ok-differences.ensures entries others left right ∙ ap (λ (x : PlacedCore). words.differences x.core.program entries others x.core.cells) c.in_ok-left.ensures.core in
+    let told =
+    c.in_ok-differences.ensures entries others left right
+    ∙ ap (λ (x : PlacedCore). words.differences x.core.program entries others x.core.cells) c.in_ok-left.ensures.core in
     let head = c.in_ok-append_front.ensures ∙ ap (λ t. t ++ front_text c.same_front-front.result c.len.result c.len-2.result) c.new-text.ensures.items
     ∙ (λ i. front_text (front i) (c.len.ensures.count i) (c.len-2.ensures.count i)) in
     c.in_ok-append_or_nothing.ensures ∙ (λ i. head i ++ or_nothing ((c.deref.ensures.value ∙ told) i))

@@ -4,12 +4,13 @@ use Rattle.hep_fold.specs.Folds.{CanBeMade}
 use Rattle.hep_machine.specs.Words.{Units}
 use Rattle.hep_diff.specs.ProcessSteps as words
 use Rattle.hep_diff.specs.StepLogs.{kept_of}
-use Rattle.hep_diff.proofs.ReplayedRanges.{can-be-made}
+use Rattle.hep_why.proofs.ReplayedRanges.{can-be-made}
 use Rattle.hep_diff.proofs.StepLogs.{steps-behind}
 use Rattle.hep_diff.proofs.logged_replay.deeds_behind.Goals as goal
 
 pub fold_history-requires-clause-size : goal.fold_history-requires-clause-size
-fold_history-requires-clause-size c = (omega (arith, c.requires.replayed.some, c.cells-cells.ensures), omega (arith, c.requires.replayed.few, c.cells-cells.ensures))
+fold_history-requires-clause-size c =
+    (omega (arith, c.requires.replayed.some, c.cells-cells.ensures), omega (arith, c.requires.replayed.few, c.cells-cells.ensures))
 
 pub fold_history-requires-clause-possible : goal.fold_history-requires-clause-possible
 fold_history-requires-clause-possible c =

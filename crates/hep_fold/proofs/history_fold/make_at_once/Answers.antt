@@ -16,10 +16,17 @@ go_on-made-requires-clause-turn g c =
     let there = c.requires.ahead in
     let again = c.args.again.now in
     let tabled = c.args.tabled.now in
-    let can = can-go-row g.O.Observer.knows g.O.Observer.see tabled there.0 there.1 again c.args.observer.now c.args.row there.2 c.requires.some there.3 in
+    let can =
+    can-go-row g.O.Observer.knows g.O.Observer.see tabled there.0 there.1 again
+    c.args.observer.now c.args.row there.2 c.requires.some there.3 in
     record {
       turn = can-go tabled c.args.row.process again can;
-      countable = omega (arith, c.activations_are_few.ensures.activations tabled.image.now can.turn.cells (made_by again) (snapshot_of again.machine) can.turn.after.after, can.turn.few, c.min-few.ensures);
+      countable = omega (
+        arith,
+        c.activations_are_few.ensures.activations tabled.image.now can.turn.cells (made_by again) (snapshot_of again.machine) can.turn.after.after,
+        can.turn.few,
+        c.min-few.ensures,
+      );
     }
 
 pub go_on-made-requires-clause-ahead : goal.go_on-made-requires-clause-ahead
@@ -53,7 +60,8 @@ returns-clause-made g c replay total left h =
     (omega (arith, h.numbers, c.go_on-made.ensures.made))
     (c.go_on-made.ensures.seen (
     ahead g.O.Observer.knows g.O.Observer.see tabled replay total again c.args.observer.now
-    (row_turns row ++ left) (turns_in_row row.entry p c.min-few.result) (left_of_row row left c.min-few.result) (row-parts row left c.min-few.result few) h))
+    (row_turns row ++ left) (turns_in_row row.entry p c.min-few.result)
+    (left_of_row row left c.min-few.result) (row-parts row left c.min-few.result few) h))
 
 pub returns-clause-few : goal.returns-clause-few
 returns-clause-few g c = omega (arith, c.go_on-made.ensures.few, c.min-few.ensures)

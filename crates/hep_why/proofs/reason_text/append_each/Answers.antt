@@ -8,5 +8,6 @@ pub loop-index-preserved : goal.loop-index-preserved
 loop-index-preserved c =
     let r = c.index-reasons-index.result in
     turn c.args.image.now c.args.reasons.now c.args.nexts.now c.loop-index.index r c.is_some-waits.result _ _ _ c.loop-index-test.true
-    (slice_get-get_or c.args.reasons.now c.loop-index.index r c.loop-index-test.true ∙ ap (λ (x : Reason). Some x) (sym c.index-reasons-index.is)) c.requires (c.is_some-waits.ensures ∙ ap is_some c.next_at.ensures)
+    (slice_get-get_or c.args.reasons.now c.loop-index.index r c.loop-index-test.true ∙ ap (λ (x : Reason). Some x) (sym c.index-reasons-index.is))
+    c.requires (c.is_some-waits.ensures ∙ ap is_some c.next_at.ensures)
     c.loop-index.invariant c.in_ok-append_reason.ensures

@@ -5,4 +5,5 @@ use Rattle.hep_why.proofs.reason_text.append_each.Given as goal
 
 abbrev pub invariant-loop-index : goal.invariant-loop-index
 invariant-loop-index l =
-    l.text.items ++ flat_map (reason_text l.image l.reasons) (drop l.index l.reasons) ≡ l.initial.text.items ++ flat_map (reason_text l.image l.reasons) l.reasons
+    l.text.items ++ flat_map (reason_text l.image l.reasons) (drop l.index l.reasons)
+    ≡ l.initial.text.items ++ flat_map (reason_text l.image l.reasons) l.reasons

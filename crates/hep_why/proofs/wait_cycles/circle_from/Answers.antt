@@ -10,7 +10,8 @@ left n i less = omega (arith, less)
 
 -- what is left to look for, by another number for how many
 same : (nexts : List (Option ℕ)) (first : ℕ) (before : List ℕ) (at k n : ℕ) → k ≡ n
-    → option_map (λ (js : List ℕ). before ++ js) (circle_from nexts first k at) ≡ option_map (λ (js : List ℕ). before ++ js) (circle_from nexts first n at)
+    → option_map (λ (js : List ℕ). before ++ js) (circle_from nexts first k at)
+    ≡ option_map (λ (js : List ℕ). before ++ js) (circle_from nexts first n at)
 same nexts first before at k n e = ap (λ m. option_map (λ (js : List ℕ). before ++ js) (circle_from nexts first m at)) e
 
 pub returns-in_default : goal.returns-in_default
@@ -28,7 +29,8 @@ returns-then-next-first c =
     let n = length nexts in
     let before = c.loop.indexes.items in
     ap (λ (is : List ℕ). Some is) c.in_ok-push.ensures.items
-    ∙ sym (closes nexts c.args.first before (n - (c.loop.counter + 1)) c.loop.at c.in-Some.next (sym c.in-Some.ensures) c.if-next-first.true)
+    ∙ sym
+    (closes nexts c.args.first before (n - (c.loop.counter + 1)) c.loop.at c.in-Some.next (sym c.in-Some.ensures) c.if-next-first.true)
     ∙ same nexts c.args.first before c.loop.at _ _ (left n c.loop.counter c.loop-test.true)
     ∙ c.loop.invariant
 
@@ -48,7 +50,8 @@ loop-preserved c =
     let before = c.loop.indexes.items in
     let m = n - (c.loop.counter + 1) in
     let above : c.args.first < c.in-Some.next = omega (arith, c.if-next-first.false, c.if-next-first-2.false) in
-    ap (λ (is : List ℕ). option_map (λ (js : List ℕ). is ++ js) (circle_from nexts c.args.first m c.in-Some.next)) c.in_ok-push.ensures.items
+    ap
+    (λ (is : List ℕ). option_map (λ (js : List ℕ). is ++ js) (circle_from nexts c.args.first m c.in-Some.next)) c.in_ok-push.ensures.items
     ∙ sym (goes_on nexts c.args.first before m c.loop.at c.in-Some.next (sym c.in-Some.ensures) above)
     ∙ same nexts c.args.first before c.loop.at _ _ (left n c.loop.counter c.loop-test.true)
     ∙ c.loop.invariant

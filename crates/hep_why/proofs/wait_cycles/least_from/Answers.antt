@@ -13,7 +13,8 @@ returns-in_default c = λ first h.
 
 pub returns-then-next-start : goal.returns-then-next-start
 returns-then-next-start c = λ first h.
-    along-back c.args.nexts.now first c.args.start h c.loop.counter c.loop.at c.loop.least c.in-Some.next (c.loop.invariant first h) (sym c.in-Some.ensures) c.if-next-start.true
+    along-back c.args.nexts.now first c.args.start h c.loop.counter c.loop.at c.loop.least c.in-Some.next
+    (c.loop.invariant first h) (sym c.in-Some.ensures) c.if-next-start.true
 
 pub loop-preserved : goal.loop-preserved
 loop-preserved c = λ first h.
@@ -22,4 +23,5 @@ loop-preserved c = λ first h.
 
 pub returns : goal.returns
 returns c = λ first h.
-    along-all c.args.nexts.now first c.args.start h c.loop.counter c.loop.at c.loop.least (c.loop.invariant first h) (omega (arith, c.loop-test.false))
+    along-all c.args.nexts.now first c.args.start h c.loop.counter c.loop.at c.loop.least
+    (c.loop.invariant first h) (omega (arith, c.loop-test.false))

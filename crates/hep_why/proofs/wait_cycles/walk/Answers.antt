@@ -18,7 +18,11 @@ index-requires c =
 pub returns-in-Some-clause-visited : goal.returns-in-Some-clause-visited
 returns-in-Some-clause-visited c = λ noted before so.
     let less : c.loop.at < length c.loop.visits.items =
-    omega (arith, next-within c.args.nexts.now c.loop.at c.in_ok-next.next (sym c.next_at.ensures ∙ c.in_ok-next.was), c.loop.invariant.room) in
+    omega (
+      arith,
+      next-within c.args.nexts.now c.loop.at c.in_ok-next.next (sym c.next_at.ensures ∙ c.in_ok-next.was),
+      c.loop.invariant.room,
+    ) in
     let there = slice_get_read c.loop.visits.items (length c.loop.visits.items) c.loop.at c.index.result.now refl less c.index.ensures
     ∙ ap (λ (o : Option ℕ). Some o) c.in-Some.is in
     c.loop.invariant.visited noted before
@@ -27,7 +31,11 @@ returns-in-Some-clause-visited c = λ noted before so.
 pub returns-in-Some-clause-begun : goal.returns-in-Some-clause-begun
 returns-in-Some-clause-begun c = λ noted before so.
     let less : c.loop.at < length c.loop.visits.items =
-    omega (arith, next-within c.args.nexts.now c.loop.at c.in_ok-next.next (sym c.next_at.ensures ∙ c.in_ok-next.was), c.loop.invariant.room) in
+    omega (
+      arith,
+      next-within c.args.nexts.now c.loop.at c.in_ok-next.next (sym c.next_at.ensures ∙ c.in_ok-next.was),
+      c.loop.invariant.room,
+    ) in
     let there = slice_get_read c.loop.visits.items (length c.loop.visits.items) c.loop.at c.index.result.now refl less c.index.ensures
     ∙ ap (λ (o : Option ℕ). Some o) c.in-Some.is in
     c.loop.invariant.begun noted before
@@ -40,5 +48,6 @@ index_mut-requires c =
 pub loop-preserved : goal.loop-preserved
 loop-preserved c =
     let e = sym c.next_at.ensures ∙ c.in_ok-next.was in
-    let less : c.loop.at < length c.loop.visits.items = omega (arith, next-within c.args.nexts.now c.loop.at c.in_ok-next.next e, c.loop.invariant.room) in
+    let less : c.loop.at < length c.loop.visits.items =
+    omega (arith, next-within c.args.nexts.now c.loop.at c.in_ok-next.next e, c.loop.invariant.room) in
     walking-on c.args.nexts.now c.args.visits.now.items c.loop.visits.items c.args.first c.loop.at c.in_ok-next.next c.loop.invariant e less

@@ -21,7 +21,8 @@ loop-index-preserved c =
     let less : i < length (state_of core).processes = omega (arith, c.loop-index-test.true, c.made-index-end.ensures) in
     let next : i + 1 ≡ suc i = omega arith in
     record {
-      listed = turn core.program core.history i (i + 1) (length (state_of core).processes) _ _ _ less next c.loop-index.invariant.listed c.in_ok-add_watch.ensures.listed;
+      listed = turn core.program core.history i (i + 1) (length (state_of core).processes) _ _ _ less next
+          c.loop-index.invariant.listed c.in_ok-add_watch.ensures.listed;
       each = c.in_ok-add_watch.ensures.each c.loop-index.invariant.each;
     }
 
@@ -31,7 +32,8 @@ returns-clause-listed c =
     let n = length (state_of core).processes in
     let none : n - c.loop-index.index ≡ 0 = omega (arith, c.loop-index-test.false, c.made-index-end.ensures) in
     let found : List Listed = map (λ (w : Watch). w.listed) c.loop-index.watches.items in
-    sym (append-nil found) ∙ ap (λ k. found ++ listed_from core.program core.history (suc c.loop-index.index) k) (sym none) ∙ c.loop-index.invariant.listed
+    sym (append-nil found) ∙ ap (λ k. found ++ listed_from core.program core.history (suc c.loop-index.index) k) (sym none)
+    ∙ c.loop-index.invariant.listed
 
 pub returns-clause-each : goal.returns-clause-each
 returns-clause-each c = c.loop-index.invariant.each

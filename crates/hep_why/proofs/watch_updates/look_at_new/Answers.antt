@@ -5,4 +5,4 @@ pub returns-then-made_now-made : goal.returns-then-made_now-made
 returns-then-made_now-made c = inr (c.if-made_now-made.true, refl)
 
 pub returns : goal.returns
-returns c = inl c.look.ensures
+returns c = inl c.look_at_all.ensures

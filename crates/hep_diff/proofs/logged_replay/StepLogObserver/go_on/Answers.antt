@@ -12,4 +12,5 @@ returns-clause-gone c = makes-none c.args.tabled.now.image.now c.args.row.proces
 pub returns-clause-seen : goal.returns-clause-seen
 returns-clause-seen c at q =
     let program = c.args.tabled.now.image.now in
-    at.known q ∙ ap (λ (steps : ℕ → List ProcessStep). steps q) (sym (seen-none program (steps_after program) (run program at.made) at.seen))
+    at.known q
+    ∙ ap (λ (steps : ℕ → List ProcessStep). steps q) (sym (seen-none program (steps_after program) (run program at.made) at.seen))

@@ -8,4 +8,5 @@ deed_by-requires c =
     (at.replay.cells, at.made, there.0, there.1)
 
 pub returns : goal.returns
-returns c at = deed-noted c.args.image.now at.replay at.made c.args.entry c.args.p at.left c.args.machine.now at.under_way c.in_ok-deed.deed c.in_ok-deed.ensures
+returns c at =
+    deed-noted c.args.image.now at.replay at.made c.args.entry c.args.p at.left c.args.machine.now at.under_way c.in_ok-deed.deed c.in_ok-deed.ensures

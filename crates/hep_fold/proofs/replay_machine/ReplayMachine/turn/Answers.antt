@@ -21,8 +21,17 @@ turn-requires c =
       after = after-history program h.cells self.history.items self.machine h.after;
       running = running-now program c.args.p self h;
       living = living-now program c.args.p self h;
-      countable = omega (arith, c.activations_are_few.ensures.activations program h.cells choices (snapshot_of self.machine) h.after.after, h.few);
-      numerable = omega (arith, c.activations_are_few.ensures.processes program h.cells choices (snapshot_of self.machine) h.after.after, length-stacks self.machine.processes.items 1 self.machine.made, h.few);
+      countable = omega (
+        arith,
+        c.activations_are_few.ensures.activations program h.cells choices (snapshot_of self.machine) h.after.after,
+        h.few,
+      );
+      numerable = omega (
+        arith,
+        c.activations_are_few.ensures.processes program h.cells choices (snapshot_of self.machine) h.after.after,
+        length-stacks self.machine.processes.items 1 self.machine.made,
+        h.few,
+      );
       numbers = h.numbers;
     }
 
@@ -42,7 +51,8 @@ unreachable-requires-in-Err-ArenaFull c =
     let program = c.args.image.now in
     not-full program c.args.p self h (
     subst (λ (e : TurnFault). IsUnturned e program h.cells (made_by self) c.args.p) c.in-Err-ArenaFull.field-0-is (
-    unturned-at program h.cells self.history.items self.machine h.after c.args.p c.in-Err-ArenaFull.field-0 c.in-Err-ArenaFull.ensures.unturned.0))
+    unturned-at program h.cells self.history.items self.machine h.after c.args.p
+    c.in-Err-ArenaFull.field-0 c.in-Err-ArenaFull.ensures.unturned.0))
 
 pub returns-in_default : goal.returns-in_default
 returns-in_default c =
