@@ -39,6 +39,13 @@ _hepf() {
     [[ $word != = ]] || word=
     case $before in
         --arena | --at | --from | --to | --process | --cell | --steps | --workers | --seed | --runs) return ;;
+        --format)
+            case " ${COMP_WORDS[*]} " in
+                *" cover "*) _hepf_offer -W lcov ;;
+                *) _hepf_offer -W gnu ;;
+            esac
+            return
+            ;;
         --choices | --follow | --history | --keep | -o)
             _hepf_offer -f
             return
@@ -48,24 +55,24 @@ _hepf() {
     local at=1
     [[ ${COMP_WORDS[1]} != --long ]] || at=2
     if ((COMP_CWORD <= at)); then
-        _hepf_offer -W "check run sample replay state trace page why cover diff list explain from help --long --help --version"
+        _hepf_offer -W "check run sample replay state trace page picture why races cover diff list explain from help --long --help --version"
         return
     fi
     case ${COMP_WORDS[at]} in
-        check) options="--warn --long --help" ;;
+        check) options="--warn --format --long --help" ;;
         list) options="--long --help" ;;
         run) options="--arena --steps --workers --seed --choices --follow --history --long --help" ;;
         sample) options="--runs --seed --arena --steps --keep --long --help" ;;
         replay) options="--arena --long --help" ;;
-        page | why | diff) options="--choices --seed --arena --steps --long --help" ;;
-        cover) options="--choices --seed --runs --arena --steps --long --help" ;;
+        page | picture | why | races | diff) options="--choices --seed --arena --steps --long --help" ;;
+        cover) options="--choices --seed --runs --format --arena --steps --long --help" ;;
         state) options="--at --choices --seed --arena --steps --long --help" ;;
         trace) options="--from --to --process --cell --choices --seed --arena --steps --long --help" ;;
         explain)
             if ((COMP_CWORD == at + 1)); then
-                options="--long --help 101 102 103 104 105 106 107 201 202 203 204 205 301 302 303 304 305 306 307 308 309 310 311 312 401 402 501 506 601 602 603 701 702 703 704 705 OVERFLOW DIVIDE RANGE UNDEFINED SHAPE STEP FAULT WAITING STOPPED ARENA NO WORKERS READ WRITE REFUSED STILL WARNING STATUS"
+                options="--long --help 101 102 103 104 105 106 107 201 202 203 204 205 301 302 303 304 305 306 307 308 309 310 311 312 401 402 501 506 601 602 603 701 702 703 704 705 OVERFLOW DIVIDE RANGE UNDEFINED SHAPE STEP FAULT WAITING STOPPED ARENA NO WORKERS READ WRITE REFUSED STILL WARNING RACE STATUS"
             else
-                options="ARENA STEP FULL LIMIT MEMORY REFUSED FAULT RUNNING 0 1 2 3 4 5 6 7 8 70"
+                options="ARENA STEP FULL LIMIT MEMORY REFUSED FAULT RUNNING 0 1 2 3 4 5 6 7 8 9 70"
             fi
             # Small letters name the same.
             [[ $word != [a-z]* ]] || options=${options,,}
@@ -74,7 +81,7 @@ _hepf() {
             ;;
         from) options="--fixed --free --capitals --help" ;;
         help)
-            _hepf_offer -W "check run sample replay state trace page why cover diff list explain"
+            _hepf_offer -W "check run sample replay state trace page picture why races cover diff list explain"
             return
             ;;
         *) return ;;

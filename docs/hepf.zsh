@@ -12,7 +12,9 @@ _hepf() {
         'state:show what everything holds'
         'trace:say what each step did'
         'page:write a page that shows a run step by step'
+        'picture:draw a run as lanes of processes'
         'why:say why processes wait'
+        'races:say which accesses race'
         'cover:say how often the statement of each line began'
         'diff:say what differs between the runs of two histories'
         'list:show the units and common blocks of a source'
@@ -32,7 +34,7 @@ _hepf() {
 _hepf_words() {
     case $words[1] in
         check)
-            _arguments '--warn[say what may well be a mistake]' '--long[say more of what went wrong]' '--help[show help]' \
+            _arguments '--warn[say what may well be a mistake]' '--format=[how to write it]:format:(gnu)' '--long[say more of what went wrong]' '--help[show help]' \
                 '1:source:_files -g "*.(f|for|hep)"'
             ;;
         list)
@@ -58,13 +60,23 @@ _hepf_words() {
                 '--steps=[entries of the history]:entries:' '--long[say more of what went wrong]' '--help[show help]' '1:source:_files -g "*.(f|for|hep)"' \
                 '2:history or page:_files' '3:page:_files'
             ;;
+        picture)
+            _arguments '--choices=[choices of a run that is looked at]:choices:_files' '--seed=[lots of a run that is looked at]:seed:' '--arena=[cells of storage]:cells:' \
+                '--steps=[entries of the history]:entries:' '--long[say more of what went wrong]' '--help[show help]' '1:source:_files -g "*.(f|for|hep)"' \
+                '2:history or picture:_files' '3:picture:_files'
+            ;;
         why)
             _arguments '--choices=[choices of a run that is looked at]:choices:_files' '--seed=[lots of a run that is looked at]:seed:' '--arena=[cells of storage]:cells:' \
                 '--steps=[entries of the history]:entries:' '--long[say more of what went wrong]' '--help[show help]' '1:source:_files -g "*.(f|for|hep)"' \
                 '2:history:_files'
             ;;
+        races)
+            _arguments '--choices=[choices of a run that is looked at]:choices:_files' '--seed=[lots of a run that is looked at]:seed:' '--arena=[cells of storage]:cells:' \
+                '--steps=[entries of the history]:entries:' '--long[say more of what went wrong]' '--help[show help]' '1:source:_files -g "*.(f|for|hep)"' \
+                '2:history:_files'
+            ;;
         cover)
-            _arguments '--runs=[runs by lots, 1 to 1000000]:runs:' '--choices=[choices of a run that is looked at]:choices:_files' '--seed=[lots of a run that is looked at]:seed:' '--arena=[cells of storage]:cells:' \
+            _arguments '--runs=[runs by lots, 1 to 1000000]:runs:' '--format=[how to write it]:format:(lcov)' '--choices=[choices of a run that is looked at]:choices:_files' '--seed=[lots of a run that is looked at]:seed:' '--arena=[cells of storage]:cells:' \
                 '--steps=[entries of the history]:entries:' '--long[say more of what went wrong]' '--help[show help]' '1:source:_files -g "*.(f|for|hep)"' \
                 '*:history:_files'
             ;;
@@ -85,15 +97,15 @@ _hepf_words() {
                 '2:history:_files'
             ;;
         explain)
-            _arguments '--long[say more of what went wrong]' '--help[show help]' '1:number or name:(101 102 103 104 105 106 107 201 202 203 204 205 301 302 303 304 305 306 307 308 309 310 311 312 401 402 501 506 601 602 603 701 702 703 704 705 OVERFLOW DIVIDE RANGE UNDEFINED SHAPE STEP FAULT WAITING STOPPED ARENA NO WORKERS READ WRITE REFUSED STILL WARNING STATUS)' \
-                '*:its next word:(ARENA STEP FULL LIMIT MEMORY REFUSED FAULT RUNNING 0 1 2 3 4 5 6 7 8 70)'
+            _arguments '--long[say more of what went wrong]' '--help[show help]' '1:number or name:(101 102 103 104 105 106 107 201 202 203 204 205 301 302 303 304 305 306 307 308 309 310 311 312 401 402 501 506 601 602 603 701 702 703 704 705 OVERFLOW DIVIDE RANGE UNDEFINED SHAPE STEP FAULT WAITING STOPPED ARENA NO WORKERS READ WRITE REFUSED STILL WARNING RACE STATUS)' \
+                '*:its next word:(ARENA STEP FULL LIMIT MEMORY REFUSED FAULT RUNNING 0 1 2 3 4 5 6 7 8 9 70)'
             ;;
         from)
             _arguments '-o[file that gets the source]:source:_files' '--fixed[statements begin in column 7]' '--free[statements begin anywhere]' \
                 '--capitals[write small letters as capitals]' '--help[show help]' '1:listing:_files'
             ;;
         help)
-            _arguments '1:command:(check run sample replay state trace page why cover diff list explain)'
+            _arguments '1:command:(check run sample replay state trace page picture why races cover diff list explain)'
             ;;
     esac
 }

@@ -28,7 +28,7 @@ HELPS = ("-h", "--help")
 NO_NUMBER = "error: no refusal has this number\n"
 NO_NAME = "error: nothing has this name; `hepf explain --help` says what is explained\n"
 SAME_FILE = "error: --history names a file that is read\n"
-SAME_PAGE = "error: the page would be written to a file that is read\n"
+SAME_PAGE = "error: the {} would be written to a file that is read\n"
 TWO_ORDERS = {
     "--follow": "USAGE: --follow excludes --choices, --seed and --workers\n",
     "--seed": "USAGE: --seed excludes --choices and --workers\n",
@@ -38,6 +38,7 @@ TWO_ORDERS = {
 # What it says of a history and of options that say which run is looked at, and of an option that is given too often.
 TWO_RUNS = "USAGE: HISTORY, --choices and --seed or --runs exclude each other\n"
 NO_MEANING = "error: these words have no meaning\n"
+NO_FORMAT = "error: --format takes gnu for check, and lcov for cover\n"
 
 
 class Mistake(Exception):
@@ -217,11 +218,14 @@ def judge(job, form):
         least, most = NUMBERS.get(name, (0, 0))
         if name in NUMBERS and not (re.fullmatch(r"\+?[0-9]+", value) and least <= int(value) <= most):
             raise Mistake(f"error: {name} takes a number, {least} to {most}, and not {value}\n")
+        # What is in small letters is the word itself.
+        if form.options[name].islower() and value != form.options[name]:
+            raise Mistake(NO_FORMAT)
     given = dict(job.options)
     if len(job.options) > len(given) + 1:
         raise Mistake(NO_MEANING)
     if form.last and job.operands[-1] in (given.get("--choices"), *job.operands[:-1]):
-        raise Mistake(SAME_PAGE)
+        raise Mistake(SAME_PAGE.format(job.command))
     if form.looks_at_runs():
         if len([it for it in (job.operands[len(form.operands + form.last) :], "--choices" in given, {"--seed", "--runs"} & given.keys()) if it]) > 1:
             raise Mistake(TWO_RUNS)

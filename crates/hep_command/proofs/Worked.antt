@@ -1,7 +1,8 @@
 -- What the words for numbers, jobs and names say, row by row.
 use Rattle.std.proofs.Common.{◌≡◌, ◌∷◌, [], ℕ, Some, None, false, refl, true, codes}
 use Rattle.clap.proofs.OnLiterals.{clap_on_literals}
-use Rattle.hep_command.specs.Asked.{Viewed, check, cover, diff, explain, heard, page, replay, run, sample, standard, state, trace, why}
+use Rattle.hep_command.specs.Asked.{Viewed, check, cover, diff, explain, heard, page, races, replay, run, sample, standard, state, trace, why}
+use Rattle.hep_command.specs.declared.job.PageForm.TheVariants.{Html, Svg}
 use Rattle.hep_command.specs.Explanations.{is_explained, name_of}
 use Rattle.hep_command.specs.Numbers.{number_within}
 use Rattle.hep_command.specs.Program.{asked, histories, is_long}
@@ -114,32 +115,50 @@ unfolding asked clap_on_literals
 trace_with_all = refl
 
 page_alone : asked (codes "hepf" ∷ codes "page" ∷ codes "a.f" ∷ codes "--seed=9" ∷ codes "a.html" ∷ [])
-    ≡ Some (page (codes "a.f") (record serial { seed = Some 9 }) (codes "a.html"))
+    ≡ Some (page Html (codes "a.f") (record serial { seed = Some 9 }) (codes "a.html"))
 unfolding asked clap_on_literals
 page_alone = refl
 
 page_of_history : asked (codes "hepf" ∷ codes "page" ∷ codes "a.f" ∷ codes "h" ∷ codes "a.html" ∷ codes "--arena=9" ∷ [])
-    ≡ Some (page (codes "a.f") (of_h 9) (codes "a.html"))
+    ≡ Some (page Html (codes "a.f") (of_h 9) (codes "a.html"))
 unfolding asked clap_on_literals
 page_of_history = refl
+
+picture_of_history : asked (codes "hepf" ∷ codes "picture" ∷ codes "a.f" ∷ codes "h" ∷ codes "a.svg" ∷ [])
+    ≡ Some (page Svg (codes "a.f") (of_h 65536) (codes "a.svg"))
+unfolding asked clap_on_literals
+picture_of_history = refl
 
 why_with_arena : asked (codes "hepf" ∷ codes "why" ∷ codes "a.f" ∷ codes "h" ∷ codes "--arena=9" ∷ [])
     ≡ Some (why (codes "a.f") (of_h 9))
 unfolding asked clap_on_literals
 why_with_arena = refl
 
+races_alone : asked (codes "hepf" ∷ codes "races" ∷ codes "a.f" ∷ []) ≡ Some (races (codes "a.f") serial)
+unfolding asked clap_on_literals
+races_alone = refl
+
+races_of_history : asked (codes "hepf" ∷ codes "races" ∷ codes "a.f" ∷ codes "h" ∷ codes "--arena=9" ∷ [])
+    ≡ Some (races (codes "a.f") (of_h 9))
+unfolding asked clap_on_literals
+races_of_history = refl
+
 why_alone : asked (codes "hepf" ∷ codes "why" ∷ codes "a.f" ∷ []) ≡ Some (why (codes "a.f") serial)
 unfolding asked clap_on_literals
 why_alone = refl
 
-cover_two : asked (codes "hepf" ∷ codes "cover" ∷ codes "a.f" ∷ codes "h" ∷ codes "--arena=9" ∷ codes "g" ∷ []) ≡ Some (cover (codes "a.f") (of_h 9) None)
+cover_two : asked (codes "hepf" ∷ codes "cover" ∷ codes "a.f" ∷ codes "h" ∷ codes "--arena=9" ∷ codes "g" ∷ []) ≡ Some (cover (codes "a.f") (of_h 9) None false)
 unfolding asked clap_on_literals
 cover_two = refl
 
 cover_by_lots : asked (codes "hepf" ∷ codes "cover" ∷ codes "a.f" ∷ codes "--runs" ∷ codes "100" ∷ [])
-    ≡ Some (cover (codes "a.f") serial (Some 100))
+    ≡ Some (cover (codes "a.f") serial (Some 100) false)
 unfolding asked clap_on_literals
 cover_by_lots = refl
+
+cover_as_tracefile : asked (codes "hepf" ∷ codes "cover" ∷ codes "--format" ∷ codes "lcov" ∷ codes "a.f" ∷ []) ≡ Some (cover (codes "a.f") serial None true)
+unfolding asked clap_on_literals
+cover_as_tracefile = refl
 
 histories_of_two : histories (codes "hepf" ∷ codes "cover" ∷ codes "a.f" ∷ codes "g" ∷ codes "--arena=9" ∷ codes "h" ∷ []) ≡ codes "g" ∷ codes "h" ∷ []
 unfolding histories clap_on_literals
@@ -191,17 +210,27 @@ no_long : is_long (codes "hepf" ∷ codes "check" ∷ codes "--" ∷ codes "--lo
 unfolding is_long clap_on_literals
 no_long = refl
 
-check_long : asked (codes "hepf" ∷ codes "--long" ∷ codes "check" ∷ codes "a.f" ∷ []) ≡ Some (check (codes "a.f") false)
+check_long : asked (codes "hepf" ∷ codes "--long" ∷ codes "check" ∷ codes "a.f" ∷ []) ≡ Some (check (codes "a.f") false false)
 unfolding asked clap_on_literals
 check_long = refl
 
-check_warn : asked (codes "hepf" ∷ codes "check" ∷ codes "--warn" ∷ codes "a.f" ∷ []) ≡ Some (check (codes "a.f") true)
+check_warn : asked (codes "hepf" ∷ codes "check" ∷ codes "--warn" ∷ codes "a.f" ∷ []) ≡ Some (check (codes "a.f") true false)
 unfolding asked clap_on_literals
 check_warn = refl
 
-check_warn_long : asked (codes "hepf" ∷ codes "--long" ∷ codes "check" ∷ codes "a.f" ∷ codes "--warn" ∷ []) ≡ Some (check (codes "a.f") true)
+check_warn_long : asked (codes "hepf" ∷ codes "--long" ∷ codes "check" ∷ codes "a.f" ∷ codes "--warn" ∷ []) ≡ Some (check (codes "a.f") true false)
 unfolding asked clap_on_literals
 check_warn_long = refl
+
+check_for_editors : asked (codes "hepf" ∷ codes "check" ∷ codes "a.f" ∷ codes "--warn" ∷ codes "--format=gnu" ∷ [])
+    ≡ Some (check (codes "a.f") true true)
+unfolding asked clap_on_literals
+check_for_editors = refl
+
+-- the format of another command
+check_as_tracefile : asked (codes "hepf" ∷ codes "check" ∷ codes "a.f" ∷ codes "--format=lcov" ∷ []) ≡ None
+unfolding asked clap_on_literals
+check_as_tracefile = refl
 
 long_behind_warn : is_long (codes "hepf" ∷ codes "check" ∷ codes "--warn" ∷ codes "--long" ∷ codes "a.f" ∷ []) ≡ true
 unfolding is_long clap_on_literals
@@ -232,7 +261,7 @@ explained_stop = refl
 explained_refusal : is_explained (codes "+0304") ≡ true
 explained_refusal = refl
 
-no_status : is_explained (codes "STATUS 9") ≡ false
+no_status : is_explained (codes "STATUS 10") ≡ false
 no_status = refl
 
 no_refusal : is_explained (codes "70") ≡ false

@@ -1,5 +1,5 @@
 -- The job of a command and its words: docs/MACHINE.md, "The program".
-use Rattle.std.specs.Prelude.{◌&&◌, ◌||◌, ◌+◌, ◌-◌, ℕ, Bool, false, List as ListOf, [], ◌∷◌, Option, Some, None, codes, if◌then◌else◌, length}
+use Rattle.std.specs.Prelude.{◌&&◌, ◌||◌, ◌+◌, ◌-◌, ℕ, Bool, true, false, List as ListOf, [], ◌∷◌, Option, Some, None, codes, if◌then◌else◌, length}
 use Rattle.std.specs.Prelude.{nat_eq, option_and_then, option_map, slice_get, take}
 use Rattle.std.specs.Option.{option_map_or, unwrap_or}
 use Rattle.std.specs.Str.{bytes_eq}
@@ -9,7 +9,9 @@ use Rattle.clap.specs.declared.parser.matches.ArgMatches.{ArgMatches}
 use Rattle.hep_command.specs.Numbers.{number_within, option_number}
 use Rattle.hep_command.specs.declared.job.Job.{Job}
 use Rattle.hep_command.specs.declared.job.ViewedRun.{ViewedRun}
-use Rattle.hep_command.specs.declared.job.Job.TheVariants.{Standard, Check, Run, Sample, Replay, State, Trace, Page, Why, Cover, Diff, List, Explain}
+use Rattle.hep_command.specs.declared.job.Job.TheVariants.{Standard, Check, Run, Sample, Replay, State, Trace, Page, Why, Races, Cover, Diff, List, Explain}
+use Rattle.hep_command.specs.declared.job.PageForm.{PageForm}
+use Rattle.hep_command.specs.declared.job.PageForm.TheVariants.{Html, Svg}
 
 abbrev pub texts : Option (Bor (ListOf ℕ)) → Option Text
 texts = option_map (λ path. path.now)
@@ -28,30 +30,32 @@ viewed_by view = record { history = texts view.history; choices = texts view.cho
 -- a job with the texts of its paths
 pub data RequestedJob : Type 0 where
   standard : RequestedJob
-  check : Text → Bool → RequestedJob
+  check : Text → Bool → Bool → RequestedJob
   run : Text → ℕ → ℕ → Option ℕ → Option ℕ → Option Text → Option Text → Option Text → RequestedJob
   sample : Text → ℕ → ℕ → ℕ → ℕ → Option Text → RequestedJob
   replay : Text → Text → ℕ → RequestedJob
   state : Text → Viewed → Option ℕ → RequestedJob
   trace : Text → Viewed → Option ℕ → Option ℕ → Option ℕ → Option Text → RequestedJob
-  page : Text → Viewed → Text → RequestedJob
+  page : PageForm → Text → Viewed → Text → RequestedJob
   why : Text → Viewed → RequestedJob
-  cover : Text → Viewed → Option ℕ → RequestedJob
+  races : Text → Viewed → RequestedJob
+  cover : Text → Viewed → Option ℕ → Bool → RequestedJob
   diff : Text → Viewed → Option Text → Option ℕ → RequestedJob
   list : Text → RequestedJob
   explain : Text → Option Text → Option Text → RequestedJob
 
 abbrev pub asked_by : Job → RequestedJob
 asked_by Standard = standard
-asked_by (Check file warn) = check file.now warn
+asked_by (Check file warn gnu) = check file.now warn gnu
 asked_by (Run file arena steps workers seed choices follow history) = run file.now arena steps workers seed (texts choices) (texts follow) (texts history)
 asked_by (Sample file runs seed arena steps keep) = sample file.now runs seed arena steps (texts keep)
 asked_by (Replay file history arena) = replay file.now history.now arena
 asked_by (State file view at) = state file.now (viewed_by view) at
 asked_by (Trace file view first last process cell) = trace file.now (viewed_by view) first last process (texts cell)
-asked_by (Page file view out) = page file.now (viewed_by view) out.now
+asked_by (Page form file view out) = page form file.now (viewed_by view) out.now
 asked_by (Why file view) = why file.now (viewed_by view)
-asked_by (Cover file view runs) = cover file.now (viewed_by view) runs
+asked_by (Races file view) = races file.now (viewed_by view)
+asked_by (Cover file view runs lcov) = cover file.now (viewed_by view) runs lcov
 asked_by (Diff file view other other_seed) = diff file.now (viewed_by view) (texts other) other_seed
 asked_by (List file) = list file.now
 asked_by (Explain first second third) = explain first.now (texts second) (texts third)
@@ -117,8 +121,18 @@ first_seed_in rows = option_number 4294967296 1 (first_of (codes "seed") rows)
 abbrev pub runs_in : ListOf Row → Option ℕ
 runs_in rows = option_number 1000000 100 (first_of (codes "runs") rows)
 
+-- whether the format of a command, which has this name, is given; another name has no meaning
+abbrev pub format_by : Text → Option Text → Option Bool
+format_by name None = Some false
+format_by name (Some word) = if bytes_eq word name then Some true else None
+
+abbrev pub format_in : Text → ListOf Row → Option Bool
+format_in name rows = format_by name (first_of (codes "format") rows)
+
 abbrev pub check_in : ListOf Row → Option RequestedJob
-check_in rows = option_map (λ file. check file (is_given (codes "warn") rows)) (first_of (codes "file") rows)
+check_in rows =
+    option_and_then (λ file. option_map (check file (is_given (codes "warn") rows))
+    (format_in (codes "gnu") rows)) (first_of (codes "file") rows)
 
 abbrev pub run_in : ListOf Row → Option RequestedJob
 run_in rows =
@@ -168,18 +182,21 @@ trace_in rows =
     (ordinal_in (codes "process") rows)) (ordinal_in (codes "to") rows)) (ordinal_in (codes "from") rows))
     (viewed_in (codes "history") rows)) (first_of (codes "file") rows)
 
--- of two words the second one names the file that gets the page; of one word alone it is that one, and there is no history
-abbrev pub page_by : Text → Viewed → Option Text → Option RequestedJob
-page_by file view (Some out) = Some (page file view out)
-page_by file view None = option_map (page file (record view { history = None })) view.history
+-- of two words the second one names the file that gets the page or the picture; of one word alone it is that one, and there is no history
+abbrev pub page_by : PageForm → Text → Viewed → Option Text → Option RequestedJob
+page_by form file view (Some out) = Some (page form file view out)
+page_by form file view None = option_map (page form file (record view { history = None })) view.history
 
-abbrev pub page_in : ListOf Row → Option RequestedJob
-page_in rows =
-    option_and_then (λ file. option_and_then (λ view. page_by file view (first_of (codes "page") rows))
+abbrev pub page_in : PageForm → ListOf Row → Option RequestedJob
+page_in form rows =
+    option_and_then (λ file. option_and_then (λ view. page_by form file view (first_of (codes "page") rows))
     (viewed_in (codes "history") rows)) (first_of (codes "file") rows)
 
 abbrev pub why_in : ListOf Row → Option RequestedJob
 why_in rows = option_and_then (λ file. option_map (why file) (viewed_in (codes "history") rows)) (first_of (codes "file") rows)
+
+abbrev pub races_in : ListOf Row → Option RequestedJob
+races_in rows = option_and_then (λ file. option_map (races file) (viewed_in (codes "history") rows)) (first_of (codes "file") rows)
 
 -- how many runs by lots there are, where their option is given
 abbrev pub covered_in : ListOf Row → Option (Option ℕ)
@@ -188,8 +205,8 @@ covered_in rows = number_by 1000000 (first_of (codes "runs") rows)
 -- the history of the first run is the first one
 abbrev pub cover_in : ListOf Row → Option RequestedJob
 cover_in rows =
-    option_and_then (λ file. option_and_then (λ view. option_map (cover file view)
-    (covered_in rows)) (viewed_in (codes "histories") rows)) (first_of (codes "file") rows)
+    option_and_then (λ file. option_and_then (λ view. option_and_then (λ runs. option_map (cover file view runs)
+    (format_in (codes "lcov") rows)) (covered_in rows)) (viewed_in (codes "histories") rows)) (first_of (codes "file") rows)
 
 -- the second seed, where two are given; more than two have no meaning
 abbrev pub other_seed_by : ListOf Text → Option (Option ℕ)
@@ -222,12 +239,14 @@ command_in command rows =
     else (if bytes_eq command (codes "replay") then replay_in rows
     else (if bytes_eq command (codes "state") then state_in rows
     else (if bytes_eq command (codes "trace") then trace_in rows
-    else (if bytes_eq command (codes "page") then page_in rows
+    else (if bytes_eq command (codes "page") then page_in Html rows
+    else (if bytes_eq command (codes "picture") then page_in Svg rows
     else (if bytes_eq command (codes "why") then why_in rows
+    else (if bytes_eq command (codes "races") then races_in rows
     else (if bytes_eq command (codes "cover") then cover_in rows
     else (if bytes_eq command (codes "diff") then diff_in rows
     else (if bytes_eq command (codes "list") then list_in rows
-    else (if bytes_eq command (codes "explain") then explain_in rows else None)))))))))))
+    else (if bytes_eq command (codes "explain") then explain_in rows else None)))))))))))))
 
 -- without a command the source on standard input is run
 abbrev pub job_in : Option (Text × ListOf Row) → Option RequestedJob

@@ -21,17 +21,17 @@ abbrev pub faults : List Text
 faults =
     codes "OVERFLOW" ∷ codes "DIVIDE" ∷ codes "RANGE" ∷ codes "UNDEFINED" ∷ codes "SHAPE" ∷ codes "STEP" ∷ []
 
--- the other ends of a run
+-- the other ends of a run, and what is said of it
 abbrev pub ends : List Text
 ends =
     codes "FAULT" ∷ codes "WAITING" ∷ codes "STOPPED ARENA FULL" ∷ codes "ARENA FULL"
     ∷ codes "STOPPED STEP LIMIT" ∷ codes "STEP LIMIT" ∷ codes "NO MEMORY" ∷ codes "WORKERS REFUSED"
-    ∷ codes "READ FAULT" ∷ codes "WRITE FAULT" ∷ codes "REFUSED" ∷ codes "STILL RUNNING" ∷ codes "WARNING" ∷ []
+    ∷ codes "READ FAULT" ∷ codes "WRITE FAULT" ∷ codes "REFUSED" ∷ codes "STILL RUNNING" ∷ codes "WARNING" ∷ codes "RACE" ∷ []
 
 abbrev pub statuses : List Text
 statuses =
     codes "STATUS" ∷ codes "STATUS 0" ∷ codes "STATUS 1" ∷ codes "STATUS 2" ∷ codes "STATUS 3" ∷ codes "STATUS 4"
-    ∷ codes "STATUS 5" ∷ codes "STATUS 6" ∷ codes "STATUS 7" ∷ codes "STATUS 8" ∷ codes "STATUS 70" ∷ []
+    ∷ codes "STATUS 5" ∷ codes "STATUS 6" ∷ codes "STATUS 7" ∷ codes "STATUS 8" ∷ codes "STATUS 9" ∷ codes "STATUS 70" ∷ []
 
 abbrev pub is_among : List Text → Text → Bool
 is_among names name = list_any (bytes_eq name) names

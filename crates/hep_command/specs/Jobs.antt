@@ -6,7 +6,7 @@ use Rattle.clap.specs.declared.error.kind.ErrorKind.TheVariants.{DisplayHelp, Di
 use Rattle.hep_command.specs.declared.job.Job.{Job}
 use Rattle.hep_command.specs.declared.job.ViewedRun.{ViewedRun}
 use Rattle.hep_command.specs.declared.job.Usage.{Usage}
-use Rattle.hep_command.specs.declared.job.Job.TheVariants.{Standard, Check, Run, Sample, Replay, State, Trace, Page, Why, Cover, Diff, List, Explain}
+use Rattle.hep_command.specs.declared.job.Job.TheVariants.{Standard, Check, Run, Sample, Replay, State, Trace, Page, Why, Races, Cover, Diff, List, Explain}
 
 abbrev pub IsArena : ℕ → Type 0
 IsArena cells = (1 ≤ cells) × (cells ≤ 16777216)
@@ -35,27 +35,28 @@ IsViewInRange run = IsArena run.arena × IsSteps run.steps × HasSeed run.seed
 -- the numbers of the job are those that its options allow
 abbrev pub IsInRange : Job → Type 0
 IsInRange Standard = Unit {0}
-IsInRange (Check file warn) = Unit {0}
+IsInRange (Check file warn gnu) = Unit {0}
 IsInRange (Run file arena steps workers seed choices follow history) = IsArena arena × IsSteps steps × AreWorkers workers × HasSeed seed
 IsInRange (Sample file runs seed arena steps keep) = AreSampled runs × IsSeed seed × IsArena arena × IsSteps steps
 IsInRange (Replay file history arena) = IsArena arena
 IsInRange (State file run at) = IsViewInRange run
 IsInRange (Trace file run first last process cell) = IsViewInRange run
-IsInRange (Page file run page) = IsViewInRange run
+IsInRange (Page form file run page) = IsViewInRange run
 IsInRange (Why file run) = IsViewInRange run
-IsInRange (Cover file run runs) = IsViewInRange run
+IsInRange (Races file run) = IsViewInRange run
+IsInRange (Cover file run runs lcov) = IsViewInRange run
 IsInRange (Diff file run other other_seed) = IsViewInRange run × HasSeed other_seed
 IsInRange (List file) = Unit {0}
 IsInRange (Explain first second third) = Unit {0}
 
--- neither a history nor a page is written to a file that is read
+-- neither a history nor a page or a picture is written to a file that is read
 abbrev pub IsNoPath : Option (Bor (ListOf ℕ)) → Bor (ListOf ℕ) → Type 0
 IsNoPath None other = Unit {0}
 IsNoPath (Some path) other = path.now ≢ other.now
 
 abbrev pub IsWrittenApart : Job → Type 0
 IsWrittenApart (Run file arena steps workers seed choices follow (Some history)) = (file.now ≢ history.now) × IsNoPath choices history × IsNoPath follow history
-IsWrittenApart (Page file run page) = (file.now ≢ page.now) × IsNoPath run.history page × IsNoPath run.choices page
+IsWrittenApart (Page form file run page) = (file.now ≢ page.now) × IsNoPath run.history page × IsNoPath run.choices page
 IsWrittenApart _ = Unit {0}
 
 -- 1 if it is given, otherwise 0
@@ -78,9 +79,10 @@ abbrev pub IsOneOrder : Job → Type 0
 IsOneOrder (Run file arena steps workers seed choices follow history) = count_of workers + count_of seed + count_of choices + count_of follow ≤ 1
 IsOneOrder (State file run at) = IsOneRun run None
 IsOneOrder (Trace file run first last process cell) = IsOneRun run None
-IsOneOrder (Page file run page) = IsOneRun run None
+IsOneOrder (Page form file run page) = IsOneRun run None
 IsOneOrder (Why file run) = IsOneRun run None
-IsOneOrder (Cover file run runs) = IsOneRun run runs
+IsOneOrder (Races file run) = IsOneRun run None
+IsOneOrder (Cover file run runs lcov) = IsOneRun run runs
 IsOneOrder (Diff file run other other_seed) = IsOneRun run None
 IsOneOrder _ = Unit {0}
 

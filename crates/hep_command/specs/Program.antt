@@ -1,5 +1,5 @@
 -- The commands and options of the program, as a parse sees them: docs/MACHINE.md, "The program".
-use Rattle.std.specs.Prelude.{◌≡◌, ◌⊎◌, [], Bool, false, ℕ, List, None, Option, Some, true, codes, map}
+use Rattle.std.specs.Prelude.{◌≡◌, ◌⊎◌, [], ◌∷◌, Bool, false, ℕ, List, None, Option, Some, true, codes, map}
 use Rattle.clap.specs.Words.{App, Rule, Text, app_of, matches_of, new_app, new_rule, rule_of, subcommand_of}
 use Rattle.clap.specs.Words.{IsAmong, fault_of, with_rule, with_subcommand}
 use Rattle.clap.specs.declared.builder.action.ArgAction.TheVariants.{Append, SetTrue}
@@ -71,8 +71,12 @@ long_flag = record (new_rule (codes "long")) { long = Some (codes "long"); actio
 abbrev pub warn_flag : Rule
 warn_flag = record (new_rule (codes "warn")) { long = Some (codes "warn"); action = Some SetTrue }
 
+-- the name of a format, after `check` and `cover`
+abbrev pub format_option : Rule
+format_option = file_option (codes "format")
+
 abbrev pub check_command : App
-check_command = with_rule (with_rule (with_rule (new_app (codes "check")) source_word) warn_flag) long_flag
+check_command = with_rule (with_rule (with_rule (with_rule (new_app (codes "check")) source_word) warn_flag) format_option) long_flag
 
 abbrev pub run_command : App
 run_command =
@@ -130,8 +134,16 @@ trace_command =
 abbrev pub page_command : App
 page_command = viewing (with_rule (with_rule (with_rule (new_app (codes "page")) source_word) history_word) (optional_word (codes "page"))) seed_option
 
+-- the same words for a picture
+abbrev pub picture_command : App
+picture_command =
+    viewing (with_rule (with_rule (with_rule (new_app (codes "picture")) source_word) history_word) (optional_word (codes "page"))) seed_option
+
 abbrev pub why_command : App
 why_command = viewing (with_rule (with_rule (new_app (codes "why")) source_word) viewed_word) seed_option
+
+abbrev pub races_command : App
+races_command = viewing (with_rule (with_rule (new_app (codes "races")) source_word) viewed_word) seed_option
 
 -- as many words as there are, or none
 abbrev pub histories_word : Rule
@@ -139,8 +151,8 @@ histories_word = record (optional_word (codes "histories")) { range = Some (reco
 
 abbrev pub cover_command : App
 cover_command =
-    with_rule (with_rule (with_rule (with_rule (with_rule (with_rule (with_rule (with_rule (new_app (codes "cover")) source_word) histories_word)
-    choices_option) seed_option) runs_option) arena_option) steps_option) long_flag
+    with_rule (with_rule (with_rule (with_rule (with_rule (with_rule (with_rule (with_rule (with_rule (new_app (codes "cover")) source_word) histories_word)
+    choices_option) seed_option) runs_option) format_option) arena_option) steps_option) long_flag
 
 -- a second history
 abbrev pub other_word : Rule
@@ -168,11 +180,23 @@ named_program = record (new_app (codes "hepf")) { top = record (new_app (codes "
 abbrev pub bare_program : App
 bare_program = with_rule named_program long_flag
 
+-- the commands in the order of the help: those that check and run a source, those that look at runs, and those that list and explain
+abbrev pub running : List App
+running = check_command ∷ run_command ∷ sample_command ∷ replay_command ∷ []
+
+abbrev pub looking : List App
+looking = state_command ∷ trace_command ∷ page_command ∷ picture_command ∷ why_command ∷ races_command ∷ cover_command ∷ diff_command ∷ []
+
+abbrev pub saying : List App
+saying = list_command ∷ explain_command ∷ []
+
+-- a command line with these commands too
+abbrev pub with_apps : App → List App → App
+with_apps app [] = app
+with_apps app (command ∷ commands) = with_apps (with_subcommand app command.top) commands
+
 abbrev pub hepf : App
-hepf =
-    with_subcommand (with_subcommand (with_subcommand (with_subcommand (with_subcommand (with_subcommand (with_subcommand (with_subcommand (with_subcommand
-    (with_subcommand (with_subcommand (with_subcommand bare_program check_command.top) run_command.top) sample_command.top) replay_command.top)
-    state_command.top) trace_command.top) page_command.top) why_command.top) cover_command.top) diff_command.top) list_command.top) explain_command.top
+hepf = with_apps (with_apps (with_apps bare_program running) looking) saying
 
 -- a parse sees the argument, or the command, as this
 abbrev pub IsArgument : Rule → Arg → Type 0

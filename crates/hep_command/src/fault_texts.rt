@@ -377,6 +377,32 @@ a status of the launchers alone, and no source gets it.
 Read the lines above it on standard error: they name the crate and say why.
 ";
 
+const RACE: &str = "RACE on v: access and access, n times: two processes access one plain variable,
+one of them stores there, and neither access comes before the other. races
+writes it of one run, with status 9; other runs may have others.
+Hand the value over by a $ variable, or read it after WAITF of one: FULL waits
+for nobody. Put a variable that the loop changes in parentheses where CREATE
+passes it.
+
+Wrong, by races a.f: RACE on I OF 1
+
+      DO 10 I = 1, 2
+   10 CREATE S(I)
+      END
+      SUBROUTINE S(J)
+      PRINT *, J
+      END
+
+Right, by races a.f:
+
+      DO 10 I = 1, 2
+   10 CREATE S((I))
+      END
+      SUBROUTINE S(J)
+      PRINT *, J
+      END
+";
+
 const STATUS: &str = "The exit status of hepf says how the run, or what was asked for, has ended.
 0   Done, or a text was shown. A replay could go on: STILL RUNNING.
 1   The source is refused: REFUSED number LINE n.
@@ -387,6 +413,7 @@ const STATUS: &str = "The exit status of hepf says how the run, or what was aske
 6   STOPPED STEP LIMIT: the history is full.
 7   NO MEMORY, or WORKERS REFUSED number.
 8   READ FAULT or WRITE FAULT AFTER n: a file or a stream failed.
+9   RACE on v: races found a race.
 70  The program couldn't be built, or hepf-unproved got no answer from it.
 `hepf explain status 4` says more of one.
 ";
@@ -402,7 +429,7 @@ const FAULTS: [(&str, &str); 6] = [
 ];
 
 // The other ends of a run.
-const ENDS: [(&str, &str); 13] = [
+const ENDS: [(&str, &str); 14] = [
     ("FAULT", FAULT),
     ("WAITING", WAITING),
     ("STOPPED ARENA FULL", STOPPED_ARENA_FULL),
@@ -416,9 +443,10 @@ const ENDS: [(&str, &str); 13] = [
     ("REFUSED", REFUSED),
     ("STILL RUNNING", DONE),
     ("WARNING", WARNING),
+    ("RACE", RACE),
 ];
 
-const STATUSES: [(&str, &str); 11] = [
+const STATUSES: [(&str, &str); 12] = [
     ("STATUS", STATUS),
     ("STATUS 0", DONE),
     ("STATUS 1", REFUSED),
@@ -429,6 +457,7 @@ const STATUSES: [(&str, &str); 11] = [
     ("STATUS 6", STOPPED_STEP_LIMIT),
     ("STATUS 7", NO_MEMORY),
     ("STATUS 8", READ_FAULT),
+    ("STATUS 9", RACE),
     ("STATUS 70", UNBUILT),
 ];
 

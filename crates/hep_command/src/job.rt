@@ -46,6 +46,15 @@ pub struct ViewedRun<'a> {
     pub steps: u64,
 }
 
+/// What is written of a run for a browser.
+#[derive(Clone, Copy)]
+pub enum PageForm {
+    /// A page in HTML, which shows it step by step.
+    Html,
+    /// A picture in SVG.
+    Svg,
+}
+
 /// What a command line asks for. Files go by their paths, and a source by `-` is standard input.
 #[derive(Clone, Copy)]
 pub enum Job<'a> {
@@ -56,6 +65,8 @@ pub enum Job<'a> {
         file: &'a str,
         /// Whether probable mistakes are reported too.
         warn: bool,
+        /// Whether the lines are those that GNU compilers write.
+        gnu: bool,
     },
     /// Run a source.
     Run {
@@ -116,15 +127,21 @@ pub enum Job<'a> {
         /// The name of the variable whose accesses are shown; all steps where it isn't given.
         cell: Option<&'a str>,
     },
-    /// Write a page that shows each step of a run.
+    /// Write a page that shows each step of a run, or its picture.
     Page {
+        form: PageForm,
         file: &'a str,
         run: ViewedRun<'a>,
-        /// The file to which the page is written.
+        /// The file to which it is written.
         page: &'a str,
     },
     /// Show why processes wait after a history.
     Why {
+        file: &'a str,
+        run: ViewedRun<'a>,
+    },
+    /// List the races of a history.
+    Races {
         file: &'a str,
         run: ViewedRun<'a>,
     },
@@ -135,6 +152,8 @@ pub enum Job<'a> {
         run: ViewedRun<'a>,
         /// How many runs by lots there are, 1 to 1,000,000, by one seed after the other.
         runs: Option<u32>,
+        /// Whether the counts are written as a tracefile of lcov.
+        lcov: bool,
     },
     /// To say what differs between two runs.
     Diff {

@@ -2,11 +2,11 @@
 
 ghost use Rattle.std.specs.Prelude.{◌≡◌, true, IfOk};
 ghost use Rattle.clap.specs.Words.{App, with_rule, with_subcommand};
-ghost use Rattle.hep_command.specs.Program.{IsArgument, IsCommand};
+ghost use Rattle.hep_command.specs.Program.{IsArgument, IsCommand, with_apps};
 ghost use Rattle.hep_command.specs.Program as spec;
 ghost use Rattle.hep_command.specs.Table.{app_of_command, rule_of_word, with_commands, with_words};
 
-use crate::table::{COMMANDS, CommandRow, LONG, WordKind, WordRow};
+use crate::table::{CommandRow, LONG, LOOKING, RUNNING, SAYING, WordKind, WordRow};
 use clap::builder::ValueParser;
 use clap::{Arg, ArgAction, Command};
 use std::alloc::{AllocError, Global};
@@ -130,10 +130,41 @@ fn with_commands<'a>(
     }
 }
 
+// A command line with the commands that check and run a source.
+fn with_running<'a>(
+    alloc: Global,
+    whole: Result<Command<'a>, AllocError>,
+) -> Result<Command<'a>, AllocError>
+    ensures { (app : App) → IfOk whole.entry (IsCommand app) → IfOk result (IsCommand (with_apps app spec.running)) }
+{
+    with_commands(alloc, whole, &RUNNING)
+}
+
+// A command line with those that look at runs.
+fn with_looking<'a>(
+    alloc: Global,
+    whole: Result<Command<'a>, AllocError>,
+) -> Result<Command<'a>, AllocError>
+    ensures { (app : App) → IfOk whole.entry (IsCommand app) → IfOk result (IsCommand (with_apps app spec.looking)) }
+{
+    with_commands(alloc, whole, &LOOKING)
+}
+
+// A command line with those that list and explain.
+fn with_saying<'a>(
+    alloc: Global,
+    whole: Result<Command<'a>, AllocError>,
+) -> Result<Command<'a>, AllocError>
+    ensures { (app : App) → IfOk whole.entry (IsCommand app) → IfOk result (IsCommand (with_apps app spec.saying)) }
+{
+    with_commands(alloc, whole, &SAYING)
+}
+
 // The command line of the program.
 pub(crate) fn program<'a>(alloc: Global) -> Result<Command<'a>, AllocError>
     ensures { IfOk result (IsCommand spec.hepf) }
 {
     let bare = Command::new(alloc, "hepf").version(VERSION).about(ABOUT);
-    with_commands(alloc, with_words(alloc, Ok(bare), &[LONG]), &COMMANDS)
+    let running = with_running(alloc, with_words(alloc, Ok(bare), &[LONG]));
+    with_saying(alloc, with_looking(alloc, running))
 }

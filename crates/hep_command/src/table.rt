@@ -42,7 +42,8 @@ pub(crate) struct CommandRow {
 }
 
 const CHECK_EXAMPLE: &str = "Example: hepf check examples/powers.f
-         hepf check --warn examples/quotients.f";
+         hepf check --warn examples/quotients.f
+         hepf check --format gnu examples/quotients.f";
 
 const RUN_EXAMPLE: &str = "Example: hepf run examples/powers.f --history powers.history";
 
@@ -60,9 +61,15 @@ const TRACE_EXAMPLE: &str = "Example: hepf trace examples/deadlock.f --cell '$A'
 const PAGE_EXAMPLE: &str = "Example: hepf page examples/pair.f pair.html
          hepf page examples/race.f race.history race.html";
 
+const PICTURE_EXAMPLE: &str = "Example: hepf picture examples/pair.f pair.svg
+         hepf picture examples/race.f race.history race.svg";
+
 const WHY_EXAMPLE: &str = "Example: hepf why examples/deadlock.f";
 
-const COVER_EXAMPLE: &str = "Example: hepf cover examples/race.f --runs 100";
+const RACES_EXAMPLE: &str = "Example: hepf races examples/race.f";
+
+const COVER_EXAMPLE: &str = "Example: hepf cover examples/race.f --runs 100
+         hepf cover examples/race.f --format lcov > race.info";
 
 const DIFF_EXAMPLE: &str = "Example: hepf diff examples/race.f --seed 1 --seed 2";
 
@@ -72,7 +79,7 @@ const EXPLAIN_EXAMPLES: &str =
     "Of refusals the number: hepf explain 304. Of the rest, in small letters too:
 OVERFLOW, DIVIDE, RANGE, UNDEFINED, SHAPE, STEP, FAULT, WAITING, ARENA FULL,
 STEP LIMIT, NO MEMORY, WORKERS REFUSED, READ FAULT, WRITE FAULT, REFUSED,
-STILL RUNNING, WARNING, STATUS, STATUS 0 to STATUS 8 and STATUS 70.
+STILL RUNNING, WARNING, RACE, STATUS, STATUS 0 to STATUS 9 and STATUS 70.
 
 Example: hepf explain arena full";
 
@@ -97,6 +104,22 @@ const WARN: WordRow = WordRow {
     kind: WordKind::Flag,
     value: "",
     help: "Say too what may well be a mistake, a line for each",
+};
+
+// The lines of a compiler, for editors.
+const CHECK_FORMAT: WordRow = WordRow {
+    id: "format",
+    kind: WordKind::Text,
+    value: "FORMAT",
+    help: "How to write it: gnu, as FILE:LINE:COLUMN: error: ..",
+};
+
+// The counts of lines, for programs that show them.
+const COVER_FORMAT: WordRow = WordRow {
+    id: "format",
+    kind: WordKind::Text,
+    value: "FORMAT",
+    help: "How to write it: lcov, a tracefile that genhtml reads",
 };
 
 const ARENA: WordRow = WordRow {
@@ -216,6 +239,21 @@ const PAGE_LAST: WordRow = WordRow {
     help: "Gets the page of that history",
 };
 
+// The last two words of `picture`, likewise.
+const PICTURE_OR_HISTORY: WordRow = WordRow {
+    id: "history",
+    kind: WordKind::Required,
+    value: "OUT",
+    help: "Gets the picture in SVG; a history where one more word follows",
+};
+
+const PICTURE_LAST: WordRow = WordRow {
+    id: "page",
+    kind: WordKind::Optional,
+    value: "OUT",
+    help: "Gets the picture of that history",
+};
+
 // The runs that are made for a view.
 const VIEWED_CHOICES: WordRow = WordRow {
     id: "choices",
@@ -309,12 +347,13 @@ const THIRD: WordRow = WordRow {
     help: "",
 };
 
-pub(crate) const COMMANDS: [CommandRow; 12] = [
+/// The commands that check and run a source. All commands as one constant take more steps of a proof than there are.
+pub(crate) const RUNNING: [CommandRow; 4] = [
     CommandRow {
         name: "check",
         about: "Say why a source can't run, and nothing if it can",
         example: CHECK_EXAMPLE,
-        words: &[SOURCE, WARN, LONG],
+        words: &[SOURCE, WARN, CHECK_FORMAT, LONG],
     },
     CommandRow {
         name: "run",
@@ -344,6 +383,10 @@ pub(crate) const COMMANDS: [CommandRow; 12] = [
         example: REPLAY_EXAMPLE,
         words: &[SOURCE, HISTORY, ARENA, LONG],
     },
+];
+
+/// The commands that look at runs.
+pub(crate) const LOOKING: [CommandRow; 8] = [
     CommandRow {
         name: "state",
         about: "Say what everything holds after the first entries of a history",
@@ -393,9 +436,38 @@ pub(crate) const COMMANDS: [CommandRow; 12] = [
         ],
     },
     CommandRow {
+        name: "picture",
+        about: "Draw a run as lanes of processes, in SVG",
+        example: PICTURE_EXAMPLE,
+        words: &[
+            SOURCE,
+            PICTURE_OR_HISTORY,
+            PICTURE_LAST,
+            VIEWED_CHOICES,
+            VIEWED_SEED,
+            ARENA,
+            STEPS,
+            LONG,
+        ],
+    },
+    CommandRow {
         name: "why",
         about: "Say why processes wait after a history, and who waits in a circle",
         example: WHY_EXAMPLE,
+        words: &[
+            SOURCE,
+            VIEWED_HISTORY,
+            VIEWED_CHOICES,
+            VIEWED_SEED,
+            ARENA,
+            STEPS,
+            LONG,
+        ],
+    },
+    CommandRow {
+        name: "races",
+        about: "Say which accesses of processes to plain variables race",
+        example: RACES_EXAMPLE,
         words: &[
             SOURCE,
             VIEWED_HISTORY,
@@ -416,6 +488,7 @@ pub(crate) const COMMANDS: [CommandRow; 12] = [
             VIEWED_CHOICES,
             COVERED_SEED,
             COVERED_RUNS,
+            COVER_FORMAT,
             ARENA,
             STEPS,
             LONG,
@@ -436,6 +509,10 @@ pub(crate) const COMMANDS: [CommandRow; 12] = [
             LONG,
         ],
     },
+];
+
+/// The commands that list and explain.
+pub(crate) const SAYING: [CommandRow; 2] = [
     CommandRow {
         name: "list",
         about: "List the units and common blocks of a source with their cells",

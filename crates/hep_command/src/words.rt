@@ -5,14 +5,14 @@ ghost use Rattle.hep_command.specs.Program.{IsAskedBy, IsMistaken, IsStatusFor, 
 ghost use Rattle.std.specs.Option.{unwrap_or};
 ghost use Rattle.hep_command.specs.Numbers.{number_within, option_number};
 ghost use Rattle.hep_command.specs.Asked.{asked_by, arena_in, check_in, command_in, command_place, explain_in, heard, is_given, is_help_of_help, is_version};
-ghost use Rattle.hep_command.specs.Asked.{entries_in, is_long_in, is_word, job_in, cover_in, diff_in, histories_in, list_in, ordinal_in, replay_in, run_in, state_in, steps_in, trace_in, why_in, word_of, words_found};
-ghost use Rattle.hep_command.specs.Asked.{covered_in, other_seed_in, page_in, viewed_by, viewed_in};
+ghost use Rattle.hep_command.specs.Asked.{entries_in, is_long_in, is_word, job_in, cover_in, diff_in, histories_in, list_in, ordinal_in, replay_in, run_in, state_in, steps_in, trace_in, why_in, races_in, word_of, words_found};
+ghost use Rattle.hep_command.specs.Asked.{covered_in, format_in, other_seed_in, page_in, viewed_by, viewed_in};
 ghost use Rattle.hep_command.specs.Asked.{first_seed_in, runs_in, sample_in, seed_in, workers_in};
 ghost use Rattle.hep_command.specs.Jobs.{IsInRange, IsNoPath, IsOneOrder, IsOneRun, IsUsage, IsViewInRange, IsWant, IsWrittenApart, usage_status};
 
 use crate::job::{
-    ARENA, FIRST_SEED, Job, MOST_ARENA, MOST_RUNS, MOST_SEED, MOST_STEPS, MOST_WORKERS, RUNS,
-    Request, STEPS, Usage, ViewedRun,
+    ARENA, FIRST_SEED, Job, MOST_ARENA, MOST_RUNS, MOST_SEED, MOST_STEPS, MOST_WORKERS, PageForm,
+    RUNS, Request, STEPS, Usage, ViewedRun,
 };
 use crate::program::program;
 use crate::usage_mistakes::said;
@@ -21,15 +21,21 @@ use clap::{ArgMatches, Command, Error};
 use std::alloc::{AllocError, Global};
 use std::convert::AsStr;
 
-// What is said of words that `clap` took and that have no meaning here: more than two seeds of `diff`. No others are known: `clap` has
-// checked what a command needs, but promises it of a program without commands only.
+// What is said of words that `clap` took and that have no meaning here: more than two seeds of `diff`. But for names of formats no others
+// are known: `clap` has checked what a command needs, but promises it of a program without commands only.
 const MISTAKE: &str = "error: these words have no meaning\n";
+
+// The message where the format of a command has another name.
+const NO_FORMAT: &str = "error: --format takes gnu for check, and lcov for cover\n";
 
 /// The message where the history would be written to a file that is read.
 pub const SAME_FILE: &str = "error: --history names a file that is read\n";
 
 /// The message where the page would be written to one.
 pub const SAME_PAGE: &str = "error: the page would be written to a file that is read\n";
+
+/// The message where the picture would be written to one.
+pub const SAME_PICTURE: &str = "error: the picture would be written to a file that is read\n";
 
 /// The message where both choices and workers are given, since both decide which process comes next.
 pub const TWO_ORDERS: &str = "USAGE: --choices excludes --workers\n";
@@ -129,6 +135,17 @@ fn runs_of(found: &ArgMatches<'_>) -> Option<u32>
     Some(runs as u32)
 }
 
+// Whether the format of a command, which has this name, is given; none where another name is.
+fn format_of(found: &ArgMatches<'_>, name: &str) -> Option<bool>
+    ensures { result ≡ format_in name.now (words_found found.now) }
+{
+    match word_of(found, "format") {
+        None => Some(false),
+        Some(word) if word == name => Some(true),
+        Some(_) => None,
+    }
+}
+
 fn check_job<'a>(found: &ArgMatches<'a>) -> Option<Job<'a>>
     ensures range { IfSome result IsInRange }
     ensures job { option_map asked_by result ≡ check_in (words_found found.now) }
@@ -136,6 +153,7 @@ fn check_job<'a>(found: &ArgMatches<'a>) -> Option<Job<'a>>
     Some(Job::Check {
         file: word_of(found, "file")?,
         warn: is_given(found, "warn"),
+        gnu: format_of(found, "gnu")?,
     })
 }
 
@@ -240,16 +258,22 @@ fn trace_job<'a>(found: &ArgMatches<'a>) -> Option<Job<'a>>
     })
 }
 
-// Of two words after the source the second one names the file that gets the page; of one word alone it is that one.
-fn page_job<'a>(found: &ArgMatches<'a>) -> Option<Job<'a>>
+// Of two words after the source the second one names the file that gets the page or the picture; of one word alone it is that one.
+fn page_job<'a>(found: &ArgMatches<'a>, form: PageForm) -> Option<Job<'a>>
     ensures range { IfSome result IsInRange }
-    ensures job { option_map asked_by result ≡ page_in (words_found found.now) }
+    ensures job { option_map asked_by result ≡ page_in form (words_found found.now) }
 {
     let file = word_of(found, "file")?;
     let run = viewed_of(found, "history")?;
     match word_of(found, "page") {
-        Some(page) => Some(Job::Page { file, run, page }),
+        Some(page) => Some(Job::Page {
+            form,
+            file,
+            run,
+            page,
+        }),
         None => Some(Job::Page {
+            form,
             file,
             run: ViewedRun {
                 history: None,
@@ -265,6 +289,16 @@ fn why_job<'a>(found: &ArgMatches<'a>) -> Option<Job<'a>>
     ensures job { option_map asked_by result ≡ why_in (words_found found.now) }
 {
     Some(Job::Why {
+        file: word_of(found, "file")?,
+        run: viewed_of(found, "history")?,
+    })
+}
+
+fn races_job<'a>(found: &ArgMatches<'a>) -> Option<Job<'a>>
+    ensures range { IfSome result IsInRange }
+    ensures job { option_map asked_by result ≡ races_in (words_found found.now) }
+{
+    Some(Job::Races {
         file: word_of(found, "file")?,
         run: viewed_of(found, "history")?,
     })
@@ -289,6 +323,7 @@ fn cover_job<'a>(found: &ArgMatches<'a>) -> Option<Job<'a>>
         file: word_of(found, "file")?,
         run: viewed_of(found, "histories")?,
         runs: covered_of(found)?,
+        lcov: format_of(found, "lcov")?,
     })
 }
 
@@ -363,10 +398,16 @@ fn command_job<'a>(command: &str, found: &ArgMatches<'a>) -> Option<Job<'a>>
         return trace_job(found);
     }
     if command == "page" {
-        return page_job(found);
+        return page_job(found, PageForm::Html);
+    }
+    if command == "picture" {
+        return page_job(found, PageForm::Svg);
     }
     if command == "why" {
         return why_job(found);
+    }
+    if command == "races" {
+        return races_job(found);
     }
     if command == "cover" {
         return cover_job(found);
@@ -427,7 +468,15 @@ fn is_path(path: Option<&str>, other: &str) -> bool
     }
 }
 
-// What is said where a history or a page would be written to a file that is read.
+/// What is said where a page or a picture would be written to a file that is read.
+pub fn same_page(form: PageForm) -> &'static str {
+    match form {
+        PageForm::Html => SAME_PAGE,
+        PageForm::Svg => SAME_PICTURE,
+    }
+}
+
+// What is said where a history, a page or a picture would be written to a file that is read.
 fn overwriting(job: &Job<'_>) -> Option<&'static str>
     ensures apart { IfNone result (IsWrittenApart job.now) }
     ensures over { IfSome result (λ _. ¬ (IsWrittenApart job.now)) }
@@ -448,12 +497,17 @@ fn overwriting(job: &Job<'_>) -> Option<&'static str>
             }
             None
         }
-        Job::Page { file, run, page } => {
+        Job::Page {
+            form,
+            file,
+            run,
+            page,
+        } => {
             if is_path(Some(*file), page)
                 || is_path(run.history, page)
                 || is_path(run.choices, page)
             {
-                return Some(SAME_PAGE);
+                return Some(same_page(*form));
             }
             None
         }
@@ -497,6 +551,7 @@ fn two_orders(job: &Job<'_>) -> Option<&'static str>
         Job::Trace { run, .. } => return two_runs(run, None),
         Job::Page { run, .. } => return two_runs(run, None),
         Job::Why { run, .. } => return two_runs(run, None),
+        Job::Races { run, .. } => return two_runs(run, None),
         Job::Cover { run, runs, .. } => return two_runs(run, *runs),
         Job::Diff { run, .. } => return two_runs(run, None),
         _ => return None,
@@ -610,6 +665,14 @@ fn histories_of<'a>(alloc: Global, matches: &ArgMatches<'a>) -> Result<Vec<&'a s
     }
 }
 
+// What is said of words that `clap` accepted and that ask for no job.
+fn meaningless(matches: &ArgMatches<'_>) -> &'static str {
+    match matches.subcommand() {
+        Some((_, found)) if word_of(found, "format").is_some() => NO_FORMAT,
+        _ => MISTAKE,
+    }
+}
+
 // The request of words that `clap` accepted, or what is wrong with them.
 fn request_of<'a>(alloc: Global, matches: &ArgMatches<'a>) -> Result<Request<'a>, Usage>
     ensures job { IfOk result (λ request. IsInRange request.job) }
@@ -621,7 +684,7 @@ fn request_of<'a>(alloc: Global, matches: &ArgMatches<'a>) -> Result<Request<'a>
         ⊎ ((usage.status ≡ 2) × IsMistaken (job_in (subcommand_rows_of matches.now)))) }
 {
     let Some(job) = job_of(matches) else {
-        return Err(Usage::of_text(alloc, 2, MISTAKE));
+        return Err(Usage::of_text(alloc, 2, meaningless(matches)));
     };
     if let Some(text) = overwriting(&job) {
         return Err(Usage::of_text(alloc, 2, text));

@@ -8,3 +8,4 @@ pub mod StartMarks
 pub mod CountedRuns
 pub mod Coverage
 pub mod Lines
+pub mod Lcov

@@ -120,8 +120,8 @@ fn append_lines(
     Ok(())
 }
 
-// The number of lines with a statement that can begin, and of those whose statement began.
-fn totals(counts: &[Option<u64>]) -> (usize, usize)
+/// The number of lines with a statement that can begin, and of those whose statement began.
+pub(crate) fn totals(counts: &[Option<u64>]) -> (usize, usize)
     ensures all { result.0 ≡ words.can_begin_in counts.now }
     ensures began { result.1 ≡ words.begun_in counts.now }
     ensures few { result.1 ≤ result.0 }

@@ -12,6 +12,7 @@ pub mod counted_turns;
 pub mod coverage;
 pub mod coverage_text;
 pub mod laws;
+pub mod lcov;
 pub mod line_counts;
 pub mod operation_counts;
 pub mod remaining_operations;
@@ -20,11 +21,12 @@ pub mod unbegun_lines;
 
 pub use counted_turns::{begun, count_on};
 pub use coverage::count_history;
-pub use coverage_text::{append_coverage, line_count};
+pub use coverage_text::line_count;
 pub use hep_why::{
     Choices, HistFault, History, HistoryPrefix, ReplayFault, read_text, replay, replay_first,
     why_text,
 };
+pub use lcov::append_counts;
 pub use line_counts::{count, set_line};
 pub use operation_counts::operations_by_line;
 pub use remaining_operations::operations_ahead;

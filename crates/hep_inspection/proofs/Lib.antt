@@ -2,3 +2,4 @@ mod Remaking
 mod InspectedStates
 mod CountedHistories
 mod ComparedRuns
+mod RaceStatuses

@@ -1,11 +1,9 @@
 -- Histories that are made again, and what is refused of them.
-use Rattle.std.proofs.Common.{◌≡◌, ℕ, ◌≤◌, ◌∙◌, List, Bool, false, inr, IsSome, ap, subst, sym}
+use Rattle.std.proofs.Common.{◌≡◌, ℕ, List, Bool, false, inr, subst, sym}
 use Rattle.std.specs.Borrow.{Bor}
 use Rattle.hep_cover.specs.WhyWatches.{IsReplayed}
-use Rattle.hep_core.specs.CoreValues.{CoreValue}
-use Rattle.hep_replay.specs.Replays.{replayed}
 use Rattle.hep_machine.specs.declared.event.Entry.{Entry}
-use Rattle.hep_machine.specs.Words.{Units, opening_layout}
+use Rattle.hep_machine.specs.Words.{Units}
 use Rattle.hep_outcome.specs.Outcome.{IsProgramOutcome, Outcome}
 use Rattle.hep_outcome.specs.declared.options.Options.{Options}
 use Rattle.hep_inspection.specs.Covers.{IsHistory}

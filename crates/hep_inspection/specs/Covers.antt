@@ -3,12 +3,13 @@ use Rattle.std.specs.Prelude.{◌≡◌, ◌⊎◌, ℕ, Bool, List, [], ◌∷�
 use Rattle.hep_machine.specs.declared.event.Entry.{Entry}
 use Rattle.hep_machine.specs.Words.{Units, opening_layout}
 use Rattle.hep_replay.specs.Replays.{ArePossible, IsFirstImpossible}
-use Rattle.hep_cover.specs.Lines.{cover_text}
+use Rattle.hep_cover.specs.Lcov.{covered_text}
 use Rattle.hep_run.specs.Checks.{outcome_of_text}
 use Rattle.hep_outcome.specs.Outcome.{Outcome, outcome_of_full_arena}
 use Rattle.hep_run.specs.Outcome.{RunsTo}
 use Rattle.hep_outcome.specs.Replay.{outcome_of_refused_history}
 use Rattle.hep_inspection.specs.Origins.{HasEntries, HasNoEntries}
+use Rattle.hep_inspection.specs.declared.cover_options.CoverOptions.{CoverOptions}
 use Rattle.hep_inspection.specs.declared.origin.Origin.{Origin}
 
 -- the main program's frame has a gap in an arena of `cells` cells, and each of these entries is possible after those
@@ -32,18 +33,19 @@ IsRefusedHistory long cells program o origin =
 abbrev pub IsHistory : ℕ → Units → Origin → List Entry → Type 0
 IsHistory cells program origin entries = HasEntries program origin entries × CanBeMade program cells entries
 
-module _ (long : Bool) (cells : ℕ) (source : List ℕ) (program : Units) (o : Outcome) where
+module _ (long : Bool) (options : CoverOptions) (source : List ℕ) (program : Units) (o : Outcome) where
   -- what is written of origins, before which these histories stand: of the first one that has no history that can be made its refusal, and else the lines of
-  -- the source with how often each one's statement began in all of them
+  -- the source with how often each one's statement began in all of them, or the tracefile of these counts
   abbrev pub CoversFrom : List (List Entry) → List Origin → Type 0
-  CoversFrom before [] = o ≡ outcome_of_text (cover_text program source before)
+  CoversFrom before [] = o ≡ outcome_of_text (covered_text options.tracefile program source before)
   CoversFrom before (origin ∷ origins) =
-      IsRefusedHistory long cells program o origin ⊎ ((entries : List Entry) × IsHistory cells program origin entries × CoversFrom (before ++ entries ∷ []) origins)
+      IsRefusedHistory long options.arena program o origin
+      ⊎ ((entries : List Entry) × IsHistory options.arena program origin entries × CoversFrom (before ++ entries ∷ []) origins)
 
 -- of histories of an accepted program
-abbrev pub IsCovered : Bool → ℕ → List Origin → List ℕ → Units → Outcome → Type 0
-IsCovered long cells origins source program o = CoversFrom long cells source program o [] origins
+abbrev pub IsCovered : Bool → CoverOptions → List ℕ → Units → Outcome → Type 0
+IsCovered long options source program o = CoversFrom long options source program o [] options.origins.now
 
 -- of a source
-abbrev pub IsSourceCovered : Bool → ℕ → List Origin → List ℕ → Outcome → Type 0
-IsSourceCovered long cells origins source o = RunsTo long (IsCovered long cells origins source) source o
+abbrev pub IsSourceCovered : Bool → CoverOptions → List ℕ → Outcome → Type 0
+IsSourceCovered long options source o = RunsTo long (IsCovered long options source) source o

@@ -1,5 +1,5 @@
 -- Texts about the first entries of a history: docs/RUNS.md, "What everything holds", "What each step did", "Why processes
--- wait" and "A page".
+-- wait", "A page" and "A picture".
 use Rattle.std.specs.Prelude.{◌≡◌, ◌⊎◌, ℕ, Bool, List, length, take}
 use Rattle.hep_machine.specs.declared.event.Entry.{Entry}
 use Rattle.hep_machine.specs.Words.{Units}
@@ -8,22 +8,23 @@ use Rattle.hep_state_text.specs.States.{state_text}
 use Rattle.hep_state_text.specs.LineDisplay.{line_shown}
 use Rattle.hep_text.specs.Line.{lines}
 use Rattle.hep_diff.specs.EventTraces.{trace_text}
-use Rattle.hep_page.specs.Pages.{page_text}
+use Rattle.hep_page.specs.Pages.{page_text, picture_text}
 use Rattle.hep_trace.specs.LineFilters.{shown_on}
 use Rattle.hep_inspection.specs.Covers.{AreRefused, CanBeMade}
 use Rattle.hep_inspection.specs.Origins.{HasEntries, HasNoEntries}
 use Rattle.hep_inspection.specs.declared.origin.Origin.{Origin}
 use Rattle.hep_inspection.specs.declared.inspection.Inspection.{Inspection}
-use Rattle.hep_inspection.specs.declared.inspection.Inspection.TheVariants.{Page, State, Trace, Why}
+use Rattle.hep_inspection.specs.declared.inspection.Inspection.TheVariants.{Page, Picture, State, Trace, Why}
 use Rattle.hep_run.specs.Checks.{outcome_of_text}
 use Rattle.hep_outcome.specs.Outcome.{Outcome}
 use Rattle.hep_run.specs.Outcome.{RunsTo}
 
--- the text about entries of a source: the state after them, a line for each step, a page, or why processes wait
+-- the text about entries of a source: the state after them, a line for each step, a page, a picture, or why processes wait
 abbrev pub told : Inspection → List ℕ → Units → List Entry → List ℕ
 told State source program entries = state_text (line_shown (lines source)) program (length entries) entries
 told (Trace page) source program entries = trace_text program (shown_on page) entries
 told Page source program entries = page_text source program entries
+told Picture source program entries = picture_text program entries
 told Why source program entries = why_text program entries
 
 -- what is written about these entries: the text; or why they can't be made

@@ -6,3 +6,4 @@ pub mod Covers
 pub mod CountedHistories
 pub mod Diffs
 pub mod ReplayResults
+pub mod Races

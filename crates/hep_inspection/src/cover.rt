@@ -1,5 +1,5 @@
 //! The bytes of a source and histories to how often the statement of each line began in them.
-ghost use Rattle.std.specs.Prelude.{◌≡◌, ◌≤◌, [], IfOk};
+ghost use Rattle.std.specs.Prelude.{◌≡◌, [], IfOk};
 ghost use Rattle.hep_cover.specs.StatementStarts.{operations_by_line};
 ghost use Rattle.hep_cover.specs.Coverage.{unbegun};
 ghost use Rattle.hep_inspection.specs.Covers.{IsCovered, IsSourceCovered};
@@ -8,26 +8,16 @@ ghost use Rattle.hep_outcome.specs.Transcripts.{outcome_of};
 ghost use Rattle.hep_run.specs.Delivery.{LeavesOfSource};
 ghost use Rattle.hep_run.specs.Memory.{RefusesLargeSource};
 
+use crate::cover_options::CoverOptions;
 use crate::origin::Origin;
 use crate::replay_result::{ReplayResult, make_again};
-use hep_cover::{append_coverage, count_history, line_count, operations_by_line, unbegun};
+use hep_cover::{append_counts, count_history, line_count, operations_by_line, unbegun};
 use hep_image::Image;
 use hep_run::Run;
 use hep_run::command::{Command, CommandRequest, deliver_source};
 use hep_run::transcript::{Transcript, text_transcript};
 use std::alloc::{AllocError, Global};
 use std::io::{Read, Write};
-
-/// The histories and the options of `cover`.
-#[derive(Clone, Copy)]
-pub struct CoverOptions<'a> {
-    /// Where the histories come from.
-    pub origins: &'a [Origin<'a>],
-    /// The arena's size in cells, 1 to 16,777,216.
-    pub arena: u32,
-    ghost some: { 1 ≤ arena },
-    ghost few: { arena ≤ 16777216 },
-}
 
 /// The number of operations of each line's statement, and the number of times that it began so far.
 #[derive(Drop)]
@@ -80,7 +70,7 @@ fn image_cover(
     asked: &CommandRequest<'_, CoverOptions<'_>>,
 ) -> Result<Transcript, AllocError>
     ensures { IfOk result (λ r.
-        IsCovered asked.now.long asked.now.options.now.arena asked.now.options.now.origins.now source.now image.now (outcome_of r)) }
+        IsCovered asked.now.long asked.now.options.now source.now image.now (outcome_of r)) }
 {
     let mut counting = uncounted(alloc, image, line_count(source))?;
     for index in 0..asked.options.origins.len() {
@@ -91,7 +81,13 @@ fn image_cover(
         }
     }
     let mut text = Vec::new(alloc);
-    append_coverage(alloc, &mut text, source, &counting.counts)?;
+    append_counts(
+        alloc,
+        &mut text,
+        asked.options.tracefile,
+        source,
+        &counting.counts,
+    )?;
     Ok(text_transcript(alloc, text))
 }
 
@@ -100,7 +96,7 @@ impl Command for CoverOptions<'_> {
 
     type Front = Image;
 
-    ghost gives = { λ options long. IsCovered long options.arena options.origins.now };
+    ghost gives = { λ options long. IsCovered long options };
 
     fn transcript(
         alloc: Global,
@@ -113,7 +109,7 @@ impl Command for CoverOptions<'_> {
 }
 
 /// Reads a source, makes histories of it again, and writes to `output` the lines of the source, each with the number
-/// of times that its statement began; or to `messages` why something is refused.
+/// of times that its statement began, or these numbers as a tracefile; or to `messages` why something is refused.
 ///
 /// The bytes or the choices of the histories were read before. The run's status is the code of a `Status`.
 pub fn cover_noted<R: Read, W: Write, E: Write>(
@@ -123,7 +119,7 @@ pub fn cover_noted<R: Read, W: Write, E: Write>(
     output: &mut W,
     messages: &mut E,
 ) -> Run
-    ensures left { LeavesOfSource (IsSourceCovered asked.now.long asked.now.options.now.arena asked.now.options.now.origins.now)
+    ensures left { LeavesOfSource (IsSourceCovered asked.now.long asked.now.options.now)
         (R.remaining source.old) (R.remaining source.new)
         result (W.contents output.old) (W.contents output.new)
         (E.contents messages.old) (E.contents messages.new) }

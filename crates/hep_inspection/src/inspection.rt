@@ -19,7 +19,7 @@ use crate::origin::{Origin, Recorded, entries_of};
 use hep_core::Core;
 use hep_cover::{History, HistoryPrefix, ReplayFault, replay_first, why_text};
 use hep_image::Image;
-use hep_page::{page_text, state_text};
+use hep_page::{page_text, picture_text, state_text};
 use hep_run::Run;
 use hep_run::command::{Command, CommandRequest, deliver_source};
 use hep_run::transcript::{
@@ -39,6 +39,8 @@ pub enum Inspection<'a> {
     Trace(LineFilter<'a>),
     /// A page that shows their steps in a browser.
     Page,
+    /// A picture of them.
+    Picture,
     /// Why processes wait after them.
     Why,
 }
@@ -125,6 +127,7 @@ fn told_text(
             trace_history(alloc, image, asked.options.arena, entries, &page)
         }
         Inspection::Page => page_text(alloc, image, asked.options.arena, entries, source),
+        Inspection::Picture => picture_text(alloc, image, asked.options.arena, entries),
         Inspection::Why => why_told(alloc, image, asked.options.arena, entries),
     }
 }
@@ -189,8 +192,8 @@ impl Command for InspectionOptions<'_> {
 
 /// Reads a source, makes the first entries of a history of it again, and writes a text about them to `output`; or to
 /// `messages` why there is no such state. The text is the state after them (the place of each process, with the line
-/// of the source, and the values of COMMON and of the held activations), or a line for each step, or a page of them, or
-/// why processes wait.
+/// of the source, and the values of COMMON and of the held activations), or a line for each step, a page or a picture of
+/// them, or why processes wait.
 ///
 /// The bytes or the choices of the history were read before. The run's status is the code of a `Status`.
 pub fn state_noted<R: Read, W: Write, E: Write>(

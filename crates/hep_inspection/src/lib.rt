@@ -1,27 +1,31 @@
-//! From the bytes of a source and of histories to the texts about their runs: `state`, `trace`, `page` and `why`
-//! ([`state_noted`](state::state_noted)), `diff` ([`diff_noted`](diff::diff_noted)), and `cover`
-//! ([`cover_noted`](cover::cover_noted)).
+//! From the bytes of a source and of histories to the texts about their runs: `state`, `trace`, `page`, `picture` and `why`
+//! ([`state_noted`](state::state_noted)), `diff` ([`diff_noted`](diff::diff_noted)), `cover`
+//! ([`cover_noted`](cover::cover_noted)), and `races` ([`races_noted`](races::races_noted)).
 #![tactic(auto)]
 
 pub mod cover;
+pub mod cover_options;
 pub mod diff;
 pub mod inspection;
 pub mod origin;
+pub mod races;
 mod replay_result;
 
-pub use cover::{CoverOptions, cover_noted};
+pub use cover::cover_noted;
+pub use cover_options::CoverOptions;
 pub use diff::{DiffOptions, diff_noted};
 pub use hep_core::Core;
 pub use hep_cover::{Choices, HistFault, read_text};
 pub use hep_outcome::nth_options;
 pub use hep_page::state_text;
 pub use hep_run::{
-    Check, Command, CommandRequest, List, LotOptions, NoGate, Options, ReadFault, ReplayOptions,
-    Run, SampleOptions, Warn, WorkOptions, WorkRequest, answer, choices_of, deliver_source,
-    followed_of, history_text, lots_history, put_text, read_text_file, sample_bytes, say_unread,
-    say_unwritten, work_noted,
+    Check, Command, CommandRequest, GnuRequest, List, LotOptions, NoGate, Options, ReadFault,
+    ReplayOptions, Run, SampleOptions, Warn, WorkOptions, WorkRequest, answer, choices_of,
+    deliver_source, followed_of, gnu_source, history_text, lots_history, put_text, read_text_file,
+    sample_bytes, say_unread, say_unwritten, work_noted,
 };
 pub use hep_state_text::Listing;
 pub use hep_trace::LineFilter;
 pub use inspection::{Inspection, InspectionOptions, state_noted, state_source};
 pub use origin::Origin;
+pub use races::{RacesOptions, races_noted};

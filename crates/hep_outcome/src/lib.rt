@@ -22,9 +22,7 @@ pub use hep_replay::{
     replay as history_replay, write_text,
 };
 pub use lines::Lines;
-pub use options::{
-    LotOptions, LotsRequest, Options, ReplayRequest, RunRequest, SampleOptions, SampleRequest,
-};
+pub use options::{LotOptions, Options, ReplayOptions, SampleOptions};
 pub use random::Lots;
 pub use refusal_text::put_refusal;
 pub use run_by_history::image_transcript as replay_transcript;

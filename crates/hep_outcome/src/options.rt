@@ -33,23 +33,13 @@ impl Options {
     }
 }
 
-/// The options of a run of a source.
-#[derive(Clone, Copy)]
-pub struct RunRequest<'a> {
-    pub options: &'a Options,
-    /// Whether notes are written besides the lines of the standard form.
-    pub long: bool,
-}
-
 /// The options of a replay of a history.
 #[derive(Clone, Copy)]
-pub struct ReplayRequest<'a> {
+pub struct ReplayOptions<'a> {
     /// The text of the history.
     pub history: &'a [u8],
     /// The arena's size in cells, 1 to 16,777,216.
     pub arena: u32,
-    /// Whether notes are written besides the lines of the standard form.
-    pub long: bool,
     ghost some: { 1 ≤ arena },
     ghost few: { arena ≤ 16777216 },
 }
@@ -82,20 +72,4 @@ pub struct SampleOptions {
     ghost few: { arena ≤ 16777216 },
     ghost one: { 1 ≤ seed },
     ghost seeds: { seed ≤ 4294967296 },
-}
-
-/// The options of a run of a source by lots.
-#[derive(Clone, Copy)]
-pub struct LotsRequest<'a> {
-    pub options: &'a LotOptions,
-    /// Whether notes are written besides the lines of the standard form.
-    pub long: bool,
-}
-
-/// The options of a sample of a source.
-#[derive(Clone, Copy)]
-pub struct SampleRequest<'a> {
-    pub options: &'a SampleOptions,
-    /// Whether notes are written besides the lines of the standard form.
-    pub long: bool,
 }

@@ -7,3 +7,6 @@ mod StateViews
 mod NextTurns
 mod NotedTurns
 pub mod PagesOfCores
+pub mod Ranges
+pub mod Products
+pub mod Reversed

@@ -8,3 +8,9 @@ pub mod Pages
 pub mod Worked
 pub mod Frames
 pub mod ChangeLogs
+pub mod TurnMarks
+pub mod LaneSpots
+pub mod PictureShapes
+pub mod PicturePaths
+pub mod Pictures
+pub mod WorkedPictures

@@ -1,9 +1,10 @@
--- The page of a run: docs/page/README.md.
+-- The page of a run: docs/page/README.md; and its picture: docs/RUNS.md, "A picture".
 use Rattle.std.specs.Prelude.{ℕ, List, [], length, None}
 use Rattle.hep_event.specs.Traces.{LineSelection, trace_text}
 use Rattle.hep_machine.specs.declared.event.Entry.{Entry}
 use Rattle.hep_machine.specs.Words.{Units}
 use Rattle.hep_page.specs.Changes.{changes_text}
+use Rattle.hep_page.specs.Pictures.{picture_of}
 use Rattle.hep_page.specs.SourceLines.{source_text}
 use Rattle.hep_page.specs.Templates.{RunTexts, page_with, template_pieces}
 use Rattle.hep_state_text.specs.LineDisplay.{line_shown}
@@ -28,3 +29,7 @@ run_texts source program history = record {
 -- the page of the run of a program, of this source, with this history
 abbrev pub page_text : List ℕ → Units → List Entry → List ℕ
 page_text source program history = page_with template_pieces (run_texts source program history)
+
+-- the picture of the run of a program with this history, by the lines of its trace
+abbrev pub picture_text : Units → List Entry → List ℕ
+picture_text program history = picture_of (trace_text program (all_shown (length history)) history)

@@ -18,3 +18,13 @@ pub mod KeptNames
 pub mod PurgedUnits
 pub mod PurgedPlaces
 pub mod NamedThere
+pub mod BegunSteps
+pub mod PurgedThere
+pub mod LaterStates
+pub mod ActualsGiven
+pub mod BlocksNamed
+pub mod ReadBounds
+pub mod RenamedSteps
+pub mod ObservedTurns
+pub mod DistinctSites
+pub mod RunRaces

@@ -9,7 +9,7 @@ use Rattle.hep_accesses.specs.RunEvents.{Event, event_of, event_of_top, process_
 use Rattle.hep_accesses.specs.Exchanges.{next_on_top, top_with}
 use Rattle.hep_views.specs.ListedProcesses.{place_of}
 use Rattle.hep_races.specs.StepChanges.{accesses_of_fault, accesses_unless_fault, changes_on_top, has_failed}
-use Rattle.hep_races.specs.StepEvents.{AreThere, IsLookedAt, IsObserved, access_seen, made_since}
+use Rattle.hep_races.specs.StepEvents.{AreThere, AreUnitsThere, IsLookedAt, IsObserved, access_seen, made_since}
 use Rattle.hep_races.specs.declared.step_event.ObservedStep.{ObservedStep}
 use Rattle.hep_races.proofs.NamedThere.{fault-there}
 use Rattle.hep_races.proofs.ChangedUnits.{accessed-units, changed-units}
@@ -46,8 +46,8 @@ module _ (program : Units) (p : ℕ) (s u : State) (top : Level × Process) (liv
   pub observed : (old new : ObservedStep) (failed : Bool) → IsLookedAt program t old → has_failed s u ≡ failed
       → new.process ≡ old.process → new.makes ≡ process_made s u → new.needs ≡ old.needs
       → new.changes.items ≡ (if failed then [] else old.changes.items)
-      → new.access ≡ (if failed then old.fault_access else old.access) → IsObserved program t u new
-  observed old new failed h is process makes needs changes access =
+      → new.access ≡ (if failed then old.fault_access else old.access) → new.bounds.items ≡ old.bounds.items → IsObserved program t u new
+  observed old new failed h is process makes needs changes access bounds =
       record {
         process = process ∙ h.process ∙ sym (ap (λ (e : Event). e.process) event-is);
         makes = makes ∙ sym (ap (λ (e : Event). e.makes) event-is);
@@ -55,13 +55,14 @@ module _ (program : Units) (p : ℕ) (s u : State) (top : Level × Process) (liv
         changes = (
           if failed then [] else changes_on_top program t,
           changes ∙ in-changes failed h.changes,
+          units-after failed,
           changed failed is,
         );
-        accesses = λ begins.
-            ap option_to_list access ∙ in-accesses failed (h.access begins) (h.fault_access begins)
+        accesses =
+            (λ i. option_to_list (access i) ++ bounds i) ∙ in-accesses failed h.accesses h.fault_accesses
             ∙ sym (ap (map (access_seen program s)) (accessed failed is));
         needs_there = λ at e. h.needs_there at (sym (ap (λ (e : Event). e.needs) event-is) ∙ e);
-        accesses_there = λ begins. subst (AreThere program s) (sym (accessed failed is)) (there-after failed (h.accesses_there begins));
+        accesses_there = subst (AreThere program s) (sym (accessed failed is)) (there-after failed h.accesses_there);
       }
     where
       there-after : (b : Bool) → AreThere program s (accesses_unless_fault program t (next_on_top program t))
@@ -71,16 +72,20 @@ module _ (program : Units) (p : ℕ) (s u : State) (top : Level × Process) (liv
       there-after true r = fault-there program s (next_on_top program t) (accesses_unless_fault program t (next_on_top program t)) r
       there-after false r = r
 
+      units-after : (b : Bool) → AreUnitsThere program s (if b then [] else changes_on_top program t)
+      units-after true = tt
+      units-after false = h.changes_there
+
       in-changes : (b : Bool) → old.changes.items ≡ map (place_of program s) (changes_on_top program t)
           → (if b then [] else old.changes.items) ≡ map (place_of program s) (if b then [] else changes_on_top program t)
       in-changes true e = refl
       in-changes false e = e
 
       in-accesses : (b : Bool)
-          → option_to_list old.access ≡ map (access_seen program s) (accesses_unless_fault program t (next_on_top program t))
-          → option_to_list old.fault_access ≡ map (access_seen program s)
+          → option_to_list old.access ++ old.bounds.items ≡ map (access_seen program s) (accesses_unless_fault program t (next_on_top program t))
+          → option_to_list old.fault_access ++ old.bounds.items ≡ map (access_seen program s)
           (accesses_of_fault (next_on_top program t) (accesses_unless_fault program t (next_on_top program t)))
-          → option_to_list (if b then old.fault_access else old.access)
+          → option_to_list (if b then old.fault_access else old.access) ++ old.bounds.items
           ≡ map (access_seen program s) (if b then accesses_of_fault (next_on_top program t)
           (accesses_unless_fault program t (next_on_top program t)) else accesses_unless_fault program t (next_on_top program t))
       in-accesses true e f = f

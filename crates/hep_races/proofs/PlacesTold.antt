@@ -134,6 +134,7 @@ module _ (program : Units) (s t : State) (more : IsSameOrOneMore s.activations t
         omega (arith, h.1, longer s.activations t.activations more),
         subst (λ u. is_among x (names_of (unit_at program u)) ≡ true) unit h.2,
         subst (λ u. (is_array (unit_at program u) x ≡ false → i ≡ 1)) unit h.3,
+        h.4,
       )
   there-kept (common b i) h = h
 

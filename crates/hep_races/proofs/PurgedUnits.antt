@@ -61,7 +61,7 @@ sought-out program cells choices m key cell at h =
 
 module _ (s : State) (a : ℕ) where
   -- of the same owner as one before it
-  owned-behind : (at : Location) (k : ℕ) → IsOwnedAbove s a at → IsOwnedAbove s a (further at k)
+  pub owned-behind : (at : Location) (k : ℕ) → IsOwnedAbove s a at → IsOwnedAbove s a (further at k)
   owned-behind (local b x i) k above = above
   owned-behind (common b i) k above = tt
 
@@ -70,7 +70,7 @@ module _ (program : Units) (s : State) (a : ℕ) (above : (k : ℕ) → IsOwnedA
   scope = scope_of program s a
 
   -- the first one of a name
-  start-above : (x : Name) → IsOwnedAbove s a (storage_of scope x).start
+  pub start-above : (x : Name) → IsOwnedAbove s a (storage_of scope x).start
   start-above x = by (index_among x (dummies_of scope.unit)) (common_block scope.unit x) refl
     where
       own : (b : Option BlockName) → IsOwnedAbove s a (start_by_block scope x b)

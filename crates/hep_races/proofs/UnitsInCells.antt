@@ -129,7 +129,8 @@ module _ (program : Units) (cells : ℕ) (choices : List ℕ) (layout : Layout)
       by (Some f) (Some n) g h e =
           let both = made a f g in
           let own = named o index kept n h in
-          (both.0, both.1, own.0, own.1)
+          let one : 1 ≤ suc i = omega arith in
+          (both.0, both.1, own.0, own.1, one)
 
   pub there : (at : Location) (c : ℕ) → address program s layout at ≡ Some c → IsThere program s at
   there at c e = by (located program s layout at c e)

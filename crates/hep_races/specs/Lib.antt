@@ -12,4 +12,8 @@ pub mod Races
 pub mod StepChanges
 pub mod StoragePlaces
 pub mod FullUnits
+pub mod NamesInBounds
 pub mod StepEvents
+pub mod BoundReads
+pub mod RunNames
+pub mod ObservedRuns

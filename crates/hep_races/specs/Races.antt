@@ -1,9 +1,12 @@
 -- The races of a run as lines: docs/RUNS.md, "Races of a run".
-use Rattle.std.specs.Prelude.{ℕ, List}
+use Rattle.std.specs.Prelude.{ℕ, List, length}
 use Rattle.hep_accesses.specs.Accesses.{Site}
 use Rattle.hep_accesses.specs.RunEvents.{races_of}
+use Rattle.hep_fold.specs.Folds.{CanBeMade}
 use Rattle.hep_machine.specs.declared.event.Entry.{Entry}
 use Rattle.hep_machine.specs.Words.{Location, Units, schedule_of, spelling, state_after, unit_at, unit_name}
+use Rattle.hep_replay.specs.HistoryPrefix.{first_of}
+use Rattle.hep_replay.specs.declared.history_prefix.HistoryPrefix.{HistoryPrefix}
 use Rattle.hep_state_text.specs.States.{place_text}
 use Rattle.hep_races.specs.EntryNumbers.{entry_of}
 use Rattle.hep_races.specs.RaceLines.{RowWords, SiteWords, ends_loop, rows_text}
@@ -30,3 +33,8 @@ words_after shown program entries =
 -- the races of these entries
 unfoldable pub races_text : (ℕ → List ℕ) → Units → List Entry → List ℕ
 races_text shown program entries = rows_text (words_after shown program entries) (races_of program (schedule_of entries))
+
+-- the first entries of a history can be made again in an arena of this many cells
+abbrev pub CanBeListed : Units → ℕ → HistoryPrefix → Type 0
+CanBeListed program cells first =
+    CanBeMade program cells (record { history = first.history; start = 0; end = length (first_of first) })

@@ -1,5 +1,6 @@
 -- The event of a step, as it is read from a machine before the step and after it: docs/MACHINE.md, "The order of steps".
-use Rattle.std.specs.Prelude.{◌≡◌, ℕ, suc, nat_lt, Bool, true, false, ◌&&◌, if◌then◌else◌, List, [], ◌∷◌, length, map, Option, Some, None}
+use Rattle.std.specs.Prelude.{◌≡◌, ◌<◌, ℕ, suc, nat_lt, Bool, true, false, ◌&&◌, if◌then◌else◌, List, [], ◌∷◌, ◌++◌, length, map}
+use Rattle.std.specs.Prelude.{Option, Some, None}
 use Rattle.std.specs.Prelude.{Result}
 use Rattle.std.specs.Prelude.{Ok, Err}
 use Rattle.std.specs.List.{list_any}
@@ -12,11 +13,12 @@ use Rattle.hep_code.specs.declared.instruction.Operation.TheVariants.{Answer, En
 use Rattle.hep_code.specs.Words.{is_asynchronous}
 use Rattle.hep_image.specs.Places.{variable_of as place_of_variable}
 use Rattle.hep_machine.specs.declared.event.Kind.{Kind}
-use Rattle.hep_machine.specs.Words.{Location, Name, Reference, State, Store, Top, Units}
-use Rattle.hep_machine.specs.Words.{location_of_name, names_of, run, same_location, scope_of, unit_on_top}
-use Rattle.hep_accesses.specs.Accesses.{Access, need_on_top}
+use Rattle.hep_machine.specs.Words.{Location, Name, Next, Reference, State, Store, Top, Units}
+use Rattle.hep_machine.specs.Words.{calling, creating, does, function_unit, location_of_name, names_of, referring, run, same_location}
+use Rattle.hep_machine.specs.Words.{scope_of, unit_called, unit_on_top, wants}
+use Rattle.hep_accesses.specs.Accesses.{Access, binding_accesses, need_on_top}
 use Rattle.hep_accesses.specs.RunEvents.{event_of}
-use Rattle.hep_accesses.specs.Exchanges.{BeginsNoActivation, next_on_top}
+use Rattle.hep_accesses.specs.Exchanges.{next_on_top}
 use Rattle.hep_event.specs.NamedVariables.{IsNamed}
 use Rattle.hep_event.specs.Sites.{IsSiteAfter, IsSomeSite}
 use Rattle.hep_event.specs.declared.sites.Site.{Site}
@@ -152,28 +154,49 @@ fault_access o a = a
 abbrev pub made_since : ℕ → ℕ → Option ℕ
 made_since before after = if nat_lt before after then Some (suc before) else None
 
--- the storage units of accesses are there
+-- its storage unit is there, and it is made from a unit of the program
+pub record IsAccessThere (program : Units) (s : State) (a : Access) : Type 0 where
+  pub at : IsThere program s a.at
+  pub unit : a.site.unit < length program
+
 abbrev pub AreThere : Units → State → List Access → Type 0
 AreThere program s [] = Unit {0}
-AreThere program s (a ∷ rest) = IsThere program s a.at × AreThere program s rest
+AreThere program s (a ∷ rest) = IsAccessThere program s a × AreThere program s rest
 
--- a step as it is observed before it; its access where it begins no activation
+abbrev pub AreUnitsThere : Units → State → List Location → Type 0
+AreUnitsThere program s [] = Unit {0}
+AreUnitsThere program s (at ∷ rest) = IsThere program s at × AreUnitsThere program s rest
+
+-- ---- what is read of the names in bounds of adjustable dummy arrays
+
+abbrev pub bounds_of_next : Units → Top → Next → List Access
+bounds_of_next program t (wants (referring x actuals)) = binding_accesses program t (function_unit program x) actuals
+bounds_of_next program t (does (calling x actuals)) = binding_accesses program t (unit_called program x) actuals
+bounds_of_next program t (does (creating x actuals)) = binding_accesses program t (unit_called program x) actuals
+bounds_of_next program t _ = []
+
+-- the next step of a process on top reads just these
+pub record AreBoundsRead (program : Units) (t : Top) (reads : List SitedAccess) : Type 0 where
+  pub seen : reads ≡ map (access_seen program t.state) (bounds_of_next program t (next_on_top program t))
+  pub there : AreThere program t.state (bounds_of_next program t (next_on_top program t))
+
+-- ---- a step
+
+-- a step as it is observed before it
 pub record IsLookedAt (program : Units) (t : Top) (b : ObservedStep) : Type 0 where
   pub process : b.process ≡ t.process
   pub made : b.made ≡ length t.state.processes
   pub faults : b.faults ≡ length t.state.faults
   pub needs : b.needs ≡ option_map (place_of program t.state) (need_on_top program t)
-  pub changes : b.changes.items ≡ map (place_of program t.state) (changes_on_top program t)
-  pub access :
-      BeginsNoActivation (next_on_top program t)
-      → option_to_list b.access ≡ map (access_seen program t.state) (accesses_unless_fault program t (next_on_top program t))
   pub needs_there : (at : Location) → need_on_top program t ≡ Some at → IsThere program t.state at
-  pub accesses_there :
-      BeginsNoActivation (next_on_top program t)
-      → AreThere program t.state (accesses_unless_fault program t (next_on_top program t))
-  pub fault_access :
-      BeginsNoActivation (next_on_top program t)
-      → option_to_list b.fault_access
+  pub changes : b.changes.items ≡ map (place_of program t.state) (changes_on_top program t)
+  pub changes_there : AreUnitsThere program t.state (changes_on_top program t)
+  pub accesses :
+      option_to_list b.access ++ b.bounds.items
+      ≡ map (access_seen program t.state) (accesses_unless_fault program t (next_on_top program t))
+  pub accesses_there : AreThere program t.state (accesses_unless_fault program t (next_on_top program t))
+  pub fault_accesses :
+      option_to_list b.fault_access ++ b.bounds.items
       ≡ map (access_seen program t.state) (accesses_of_fault (next_on_top program t)
       (accesses_unless_fault program t (next_on_top program t)))
 
@@ -182,13 +205,10 @@ pub record IsObserved (program : Units) (t : Top) (u : State) (b : ObservedStep)
   pub process : b.process ≡ (event_of program t.process t.state u).process
   pub makes : b.makes ≡ (event_of program t.process t.state u).makes
   pub needs : b.needs ≡ option_map (place_of program t.state) (event_of program t.process t.state u).needs
+  pub needs_there : (at : Location) → (event_of program t.process t.state u).needs ≡ Some at → IsThere program t.state at
   pub changes :
-      (units : List Location) × (b.changes.items ≡ map (place_of program t.state) units)
+      (units : List Location) × (b.changes.items ≡ map (place_of program t.state) units) × AreUnitsThere program t.state units
       × ((at : Location) → (event_of program t.process t.state u).changes at ≡ list_any (same_location at) units)
   pub accesses :
-      BeginsNoActivation (next_on_top program t)
-      → option_to_list b.access ≡ map (access_seen program t.state) (event_of program t.process t.state u).accesses
-  -- what it needs and accesses is there
-  pub needs_there : (at : Location) → (event_of program t.process t.state u).needs ≡ Some at → IsThere program t.state at
-  pub accesses_there :
-      BeginsNoActivation (next_on_top program t) → AreThere program t.state (event_of program t.process t.state u).accesses
+      option_to_list b.access ++ b.bounds.items ≡ map (access_seen program t.state) (event_of program t.process t.state u).accesses
+  pub accesses_there : AreThere program t.state (event_of program t.process t.state u).accesses

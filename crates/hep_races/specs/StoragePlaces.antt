@@ -8,7 +8,7 @@ use Rattle.hep_views.specs.declared.place.Place.{Place}
 abbrev pub IsThere : Units → State → Location → Type 0
 IsThere program s (local a x i) =
     (1 ≤ a) × (a ≤ length s.activations) × (is_among x (names_of (unit_at program (unit_of s a))) ≡ true)
-    × (is_array (unit_at program (unit_of s a)) x ≡ false → i ≡ 1)
+    × (is_array (unit_at program (unit_of s a)) x ≡ false → i ≡ 1) × (1 ≤ i)
 IsThere program s (common b i) = is_block_among b (blocks_of program) ≡ true
 
 abbrev pub same_place : Place → Place → Bool

@@ -5,6 +5,8 @@
 //! where none is.
 #![tactic(auto)]
 
+pub mod bound_names;
+mod bound_reads;
 mod clock;
 mod clocks;
 mod detector;
@@ -16,18 +18,24 @@ mod numbers;
 pub mod place_laws;
 mod purged_places;
 pub mod race_lines;
+pub mod race_observer;
 mod races;
 mod rows;
+pub mod run_races;
+pub mod site_table;
 pub mod step_access;
 pub mod step_event;
 mod storage_unit;
 mod table;
 pub mod unit_names;
 
+pub use bound_names::BoundNames;
 pub use detector::Detector;
 pub use event::{Access, StepAccess, StepEvent};
 pub use race_lines::{RaceSources, append_rows};
 pub use rows::Row;
+pub use run_races::{RaceReport, history_races};
+pub use site_table::SiteTable;
 pub use step_access::{AccessSite, SitedAccess};
 pub use step_event::{ObservedStep, look_ahead};
 pub use storage_unit::StorageUnit;

@@ -2,6 +2,7 @@
 ghost use Rattle.std.specs.Prelude.{◌≡◌, ◌++◌, ◌∷◌, [], ℕ, IfOk, List, OnOk, drop, length, take};
 ghost use Rattle.std.specs.List.{flat_map};
 ghost use Rattle.std.specs.Option.{option_to_list};
+ghost use Rattle.hep_accesses.specs.Exchanges.{next_on_top};
 ghost use Rattle.hep_event.specs.Sites.{IsVariableOf};
 ghost use Rattle.hep_machine.specs.Words.{Level, Location, Process as SourceProcess, Reference as SourceReference};
 ghost use Rattle.hep_machine.specs.Words.{does, next_of, purging, run, unit_on_top};
@@ -9,6 +10,7 @@ ghost use Rattle.hep_trace.specs.References.{IsAhead, IsEntryOf, top_after};
 ghost use Rattle.hep_views.specs.CellOwners.{CanBeSought, IsSought};
 ghost use Rattle.hep_races.specs.FullUnits.{AreUnitsAt, full_places};
 ghost use Rattle.hep_races.specs.StepChanges.{units_of_target};
+ghost use Rattle.hep_races.specs.StepEvents.{AreUnitsThere};
 
 use hep_code::{Argument, Instruction, Variable};
 use hep_image::Image;
@@ -180,4 +182,20 @@ pub(crate) fn append_purged(
         rest = append_entry(places, ahead, entry, rest)?;
     }
     Ok(())
+}
+
+/// States that the storage units which the targets of a PURGE name are there, where it comes next of a process.
+pub(crate) fn purged_units_are_there(ahead: &LiveProcess<'_>)
+    ensures { (cells : ℕ) (choices : List ℕ) (top : Level × SourceProcess) → IsAhead cells choices ahead.now top
+        → (targets : List SourceReference)
+        → next_on_top ahead.now.image.now (top_after ahead.now.image.now choices ahead.now.process top) ≡ does (purging targets)
+        → AreUnitsThere ahead.now.image.now (run ahead.now.image.now choices)
+        (flat_map (units_of_target ahead.now.image.now (top_after ahead.now.image.now choices ahead.now.process top)) targets) }
+{
+    ahead.image.is_runnable();
+    tops_are_running();
+    programs_are_closed();
+    units_are_there();
+    activations_are_bound_in_runs();
+    variables_of_the_code_are_placed();
 }

@@ -6,11 +6,14 @@ ghost use Rattle.hep_event.specs.Sites.{IsSomeSite};
 ghost use Rattle.hep_state.specs.Words.{IsMachineAfter};
 ghost use Rattle.hep_trace.specs.References.{IsAhead, top_after};
 ghost use Rattle.hep_views.specs.ListedProcesses.{place_of};
+ghost use Rattle.hep_races.specs.NamesInBounds.{AreBoundsOf};
 ghost use Rattle.hep_races.specs.StepChanges.{changes_on_top};
 ghost use Rattle.hep_races.specs.StepEvents as events;
 ghost use Rattle.hep_races.specs.StepEvents.{AreNamesOf, HasState, IsLookedAt, IsNamedAhead, IsObserved};
 
-use crate::purged_places::append_purged;
+use crate::bound_names::BoundNames;
+use crate::bound_reads::bounds_ahead;
+use crate::purged_places::{append_purged, purged_units_are_there};
 use crate::step_access::{NamedUnit, SitedAccess, access_by, change_by, fault_access, need_by};
 use crate::unit_names::UnitNames;
 use hep_code::Operation;
@@ -24,13 +27,15 @@ use hep_views::lookup::{top_level, whereabouts};
 use std::alloc::{AllocError, Global};
 
 /// A step of a process, observed before it and after it: the process, the one that it makes, the full/empty storage unit
-/// whose state it needs, those whose state it changes, and its plain access.
+/// whose state it needs, those whose state it changes, its plain access, and what it reads of the names in bounds of
+/// adjustable dummy arrays.
 pub struct ObservedStep {
     pub process: u64,
     pub makes: Option<u64>,
     pub needs: Option<Place>,
     pub changes: Vec<Place>,
     pub access: Option<SitedAccess>,
+    pub bounds: Vec<SitedAccess>,
     /// The access where the step is a fault.
     pub(crate) fault_access: Option<SitedAccess>,
     /// The numbers of processes that were made before the step, and of faults.
@@ -47,6 +52,7 @@ impl Drop for ObservedStep {
             needs,
             changes,
             access,
+            bounds,
             fault_access,
             made,
             faults,
@@ -161,20 +167,24 @@ pub fn look_ahead(
     alloc: Global,
     ahead: &LiveProcess<'_>,
     names: &UnitNames,
+    bounds: &BoundNames,
 ) -> Result<ObservedStep, AllocError>
     requires names { AreNamesOf ahead.now.image.now names.now }
+    requires bounds { AreBoundsOf ahead.now.image.now bounds.now }
     requires ahead { (cells : ℕ) × (choices : List ℕ) × (top : Level × SourceProcess) × IsAhead cells choices ahead.now top }
     ensures { IfOk result (λ observed. (cells : ℕ) (choices : List ℕ) (top : Level × SourceProcess) → IsAhead cells choices ahead.now top
         → IsLookedAt ahead.now.image.now (top_after ahead.now.image.now choices ahead.now.process top) observed) }
 {
     ahead.image.is_runnable();
     operations_come_next();
+    purged_units_are_there(ahead);
     let machine = ahead.machine;
     let operation = ahead.coming.operation;
     let place = whereabouts(machine, ahead.image, ahead.process);
     let named = named_ahead(ahead, names);
     let full = is_named_full(machine, named);
     let changes = changed_ahead(alloc, ahead, named, full)?;
+    let bounds = bounds_ahead(alloc, ahead, bounds)?;
     let access = access_by(operation, named, place.unit, place.line);
     Ok(ObservedStep {
         process: ahead.process,
@@ -182,6 +192,7 @@ pub fn look_ahead(
         needs: need_by(operation, named),
         changes,
         access,
+        bounds,
         fault_access: fault_access(operation, access),
         made: machine.made,
         faults: machine.faults.as_slice().len(),

@@ -22,7 +22,7 @@ too_long : (s : List ℕ) → 4194304 < length s → statements_of s ≡ refusal
 unfolding statements_of
 too_long s h = rw (over (length s) h) refl
 
-refused_too : (Is : Units → ℕ → ℕ → List ℕ → Type 0) (s t : List ℕ) (number line : ℕ) (name : List ℕ) → statements_of s ≡ statements_of t → IsRefusedFor Is t number line name → IsRefusedFor Is s number line name
+pub refused_too : (Is : Units → ℕ → ℕ → List ℕ → Type 0) (s t : List ℕ) (number line : ℕ) (name : List ℕ) → statements_of s ≡ statements_of t → IsRefusedFor Is t number line name → IsRefusedFor Is s number line name
 refused_too Is s t number line name same (inl (e, none)) = inl (same ∙ e, none)
 refused_too Is s t number line name same (inr (inl (ss, e, first))) = inr (inl (ss, same ∙ e, first))
 refused_too Is s t number line name same (inr (inr (ss, p, e, program, so))) = inr (inr (ss, p, same ∙ e, program, so))
@@ -46,7 +46,7 @@ notes_alike s t number line name none = subst (λ (l : ℕ). line_notes t number
 pub unread : {P : Type 0} (t : List ℕ) (statements : List Stmt) → statements_of t ≡ refusal 107 0 → statements_of t ≡ Ok statements → P
 unread t statements refused read = let bad : refusal {A = List Stmt} 107 0 ≡ Ok statements = sym refused ∙ read in cc
 
-refused_at_0 : (Is : Units → ℕ → ℕ → List ℕ → Type 0) (t : List ℕ) (number line : ℕ) (name : List ℕ) → statements_of t ≡ refusal 107 0 → IsRefusedFor Is t number line name → line ≡ 0
+pub refused_at_0 : (Is : Units → ℕ → ℕ → List ℕ → Type 0) (t : List ℕ) (number line : ℕ) (name : List ℕ) → statements_of t ≡ refusal 107 0 → IsRefusedFor Is t number line name → line ≡ 0
 unfolding line_in
 refused_at_0 Is t number line name refused (inl (e, none)) = ap line_in (sym e ∙ refused)
 refused_at_0 Is t number line name refused (inr (inl (ss, e, first))) = unread t ss refused e

@@ -5,5 +5,6 @@ pub mod NoHistory
 pub mod Outcomes
 pub mod LargeSources
 mod RefusalNotes
+mod GnuErrors
 mod Worked
 pub mod Wanted

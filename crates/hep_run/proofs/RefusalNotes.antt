@@ -11,12 +11,12 @@ use Rattle.hep_run.specs.Refusals.{IsRefusal, IsSourceRefusal, noted}
 use Rattle.hep_run.specs.Sources.{IsAcceptedSource, IsRefusedFor, IsRefusedProgram, IsUnrunnableProgram}
 
 -- what a refusal says holds
-abbrev Says : (ℕ → ℕ → List ℕ → Type 0) → Refusal → Type 0
+abbrev pub Says : (ℕ → ℕ → List ℕ → Type 0) → Refusal → Type 0
 Says Is NoMemory = Unit {0}
 Says Is (Refused number line name) = Is number line name
 
 -- it is so, and would be where no program violated a condition
-abbrev IsByLine : (Units → ℕ → ℕ → List ℕ → Type 0) → List ℕ → Refusal → Type 0
+abbrev pub IsByLine : (Units → ℕ → ℕ → List ℕ → Type 0) → List ℕ → Refusal → Type 0
 IsByLine Is bytes refusal = Says (λ number line name. IsRefusedFor Is bytes number line name × IsRefusedFor IsUnrunnableProgram bytes number line name) refusal
 
 -- the notes are those by the line
@@ -27,13 +27,13 @@ by_line false Is bytes (Refused number line name) h = (h.0, refl)
 by_line true Is bytes (Refused number line name) h = (h.0, inl (h.1, refl))
 
 -- a limit would refuse the program whatever conditions there were
-of_limit : (bytes : List ℕ) (program : Units) (refusal : Refusal) → IsAcceptedSource bytes program → lower.Refuses program refusal → IsByLine IsRefusedProgram bytes refusal
+pub of_limit : (bytes : List ℕ) (program : Units) (refusal : Refusal) → IsAcceptedSource bytes program → lower.Refuses program refusal → IsByLine IsRefusedProgram bytes refusal
 of_limit bytes program NoMemory h e = tt
 of_limit bytes program (Refused number line name) (statements, read, is, accepted) (why, none) =
     (inr (inr (statements, program, read, is, inr (accepted, why, none))), inr (inr (statements, program, read, is, (accepted, why, none))))
 
 -- a fault that is noted so, or want of memory
-either : (P : SourceFault → Type 0) (fault like : SourceFault) → P source.NoMemory → P like → (fault ≡ source.NoMemory) ⊎ (fault ≡ like) → P fault
+pub either : (P : SourceFault → Type 0) (fault like : SourceFault) → P source.NoMemory → P like → (fault ≡ source.NoMemory) ⊎ (fault ≡ like) → P fault
 either P fault like none is (inl e) = subst P (sym e) none
 either P fault like none is (inr e) = subst P (sym e) is
 

@@ -8,6 +8,8 @@ pub mod command;
 pub mod companion_files;
 pub mod delivery;
 pub mod front_end;
+pub mod gnu;
+mod gnu_lines;
 pub mod input;
 pub mod options;
 pub mod refusal;
@@ -23,10 +25,12 @@ pub use companion_files::{
     answer, choices_of, followed_of, history_text, read_text_file, say_unread, say_unwritten,
 };
 pub use delivery::put_text;
+pub use gnu::{GnuRequest, gnu_source};
 pub use hep_check::{Checked, check};
 pub use hep_lower::lower;
 pub use hep_outcome::{
-    LotOptions, MOST_SEED, Options, ReplayFault, SampleOptions, dump_text, read_text, write_text,
+    LotOptions, MOST_SEED, Options, ReplayFault, ReplayOptions, SampleOptions, dump_text,
+    read_text, write_text,
 };
 pub use hep_replay::replay as history_replay;
 pub use hep_workers::{
@@ -35,7 +39,7 @@ pub use hep_workers::{
     WorkFault, WorkOptions, close, compute, run_workers, worker_turn,
 };
 pub use input::ReadFault;
-pub use options::{ReplayOptions, Run, WorkRequest};
+pub use options::{Run, WorkRequest};
 pub use run_by_workers::{work_noted, work_source};
 pub use sample::{Sample, lots_history, sample_bytes};
 pub use source::{check_source, list_source, lots_noted, replay_source, run_source, warn_source};

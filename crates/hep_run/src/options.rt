@@ -1,21 +1,10 @@
-//! The options of a replay and of a run by workers, and the result of a run.
-ghost use Rattle.std.specs.Prelude.{◌≡◌, ◌≤◌};
+//! The options of a run by workers, and the result of a run.
+ghost use Rattle.std.specs.Prelude.{◌≡◌};
 ghost use Rattle.hep_outcome.specs.Statuses.{status_code};
 
 use hep_history::History;
 use hep_outcome::Status;
 use hep_workers::WorkOptions;
-
-/// The options of a replay of a history.
-#[derive(Clone, Copy)]
-pub struct ReplayOptions<'a> {
-    /// The text of the history.
-    pub history: &'a [u8],
-    /// The arena's size in cells, 1 to 16,777,216.
-    pub arena: u32,
-    ghost some: { 1 ≤ arena },
-    ghost few: { arena ≤ 16777216 },
-}
 
 /// The options of a run by workers, and what makes their steps.
 #[derive(Drop)]

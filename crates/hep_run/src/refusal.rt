@@ -19,7 +19,7 @@ pub enum SourceFault {
         line: u32,
         /// The name that the rule is about, empty where it is about none.
         name: Text,
-        /// The notes after the line of the refusal.
+        /// The notes after the line of the refusal; or, for editors, its lines.
         notes: Text,
     },
 }

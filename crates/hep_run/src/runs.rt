@@ -1,11 +1,10 @@
 //! The commands that run a source in one thread: by choices, by lots, or by a history.
 
 use crate::command::{Command, CommandRequest};
-use crate::options::ReplayOptions;
 use crate::transcript::Transcript;
 use hep_image::Image;
 use hep_outcome::{
-    LotOptions, Options, ReplayRequest, lots_transcript, replay_transcript, run_by_choices,
+    LotOptions, Options, ReplayOptions, lots_transcript, replay_transcript, run_by_choices,
 };
 use std::alloc::{AllocError, Global};
 
@@ -56,11 +55,6 @@ impl Command for ReplayOptions<'_> {
         image: Image,
         asked: &CommandRequest<'_, Self>,
     ) -> Result<Transcript, AllocError> {
-        let replay = ReplayRequest {
-            history: asked.options.history,
-            arena: asked.options.arena,
-            long: asked.long,
-        };
-        replay_transcript(alloc, image, &replay)
+        replay_transcript(alloc, image, asked.options, asked.long)
     }
 }

@@ -8,8 +8,8 @@ ghost use Rattle.hep_run.specs.Outcome.{IsLotOutcome, IsOutcome, IsReplayOutcome
 
 use crate::checks::{Check, List, Warn};
 use crate::command::{CommandRequest, deliver_source};
-use crate::options::{ReplayOptions, Run};
-use hep_outcome::{LotOptions, Options};
+use crate::options::Run;
+use hep_outcome::{LotOptions, Options, ReplayOptions};
 use std::alloc::Global;
 use std::io::{Read, Write};
 

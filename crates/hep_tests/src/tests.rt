@@ -8,6 +8,7 @@ mod growths;
 mod histories;
 mod lowering;
 mod parts;
+mod races;
 mod segments;
 mod streams;
 mod workers;
@@ -185,6 +186,8 @@ fn calls(rt: HostRuntime) {
     parts::held_by_the_resumed(&rt, alloc);
     parts::waiting_processes(&rt, alloc);
     parts::three_blocks(&rt, alloc);
+    races::two_stores(&rt, alloc);
+    races::handed_over(&rt, alloc);
     segments::steps_of_a_loop(&rt, alloc);
     segments::first_reads(&rt, alloc);
     segments::longest_segment(&rt, alloc);

@@ -18,4 +18,4 @@ mod used_names;
 pub mod warning;
 
 pub use all_warnings::warnings;
-pub use warning::{Warning, WarningKind, warning_text};
+pub use warning::{Warning, WarningKind, append_kind, warning_text};

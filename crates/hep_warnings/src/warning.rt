@@ -92,8 +92,12 @@ fn append_label(text: &mut Vec<u8>, label: u32) -> Result<(), AllocError>
     Ok(())
 }
 
-// Appends the text of a kind of warning.
-fn append_kind(text: &mut Vec<u8>, kind: &WarningKind) -> Result<(), AllocError>
+/// Appends the text of a kind of warning.
+///
+/// # Errors
+///
+/// Only where memory was refused.
+pub fn append_kind(text: &mut Vec<u8>, kind: &WarningKind) -> Result<(), AllocError>
     ensures { OnOk result (text.new.items ≡ text.old.items ++ lines.kind_text kind.now) }
 {
     match kind {

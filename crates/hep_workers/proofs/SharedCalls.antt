@@ -1,5 +1,5 @@
 -- What a call makes of a core that is shared.
-use Rattle.std.proofs.Common.{◌≡◌, ◌≢◌, ℕ, zero, suc, false, Option, Some, None, Result, Ok, Err, IfOk, IfErr, inl, inr, refl, sym, ap, ◌∙◌, subst}
+use Rattle.std.proofs.Common.{◌≡◌, ℕ, zero, suc, false, Result, Ok, Err, IfOk, IfErr, inl, inr, sym, ap, ◌∙◌, subst}
 use Rattle.hep_private.specs.declared.ticket.TicketId.{TicketId}
 use Rattle.hep_private.specs.Segments.{SegmentValue, TicketValue, most_records}
 use Rattle.hep_core.specs.Commits.{AreTurnsAtOnce, IsCancelled, IsCheckedOut, IsCommitted, IsTurnAtOnce}
@@ -16,7 +16,7 @@ use Rattle.hep_machine.specs.Words.{last_process}
 use Rattle.hep_workers.proofs.Committed.{one-entry}
 use Rattle.hep_workers.proofs.SharedCores.{by-commit}
 use Rattle.hep_workers.specs.Turns.{HasCommitted}
-use Rattle.hep_workers.specs.LockedCalls.{IsAnswered, IsTurned}
+use Rattle.hep_workers.specs.LockedCalls.{IsTurned}
 
 abbrev pub AreTold : PlacedCore → PlacedCore → SegmentValue → Result Receipt CommitFault → Type 0
 AreTold old new s r = IfOk r (λ receipt. HasCommitted old s receipt new) × IfErr r (λ fault. IsCommitted old s (Err fault) new)

@@ -1,5 +1,5 @@
 -- Each call that is made of a core that workers share leaves it one of the same run.
-use Rattle.std.proofs.Common.{◌≡◌, ℕ, zero, suc, Bool, true, false, List, [], ◌∷◌, Result, Ok, Err, inl, inr, refl, sym, ap, ◌∙◌, subst}
+use Rattle.std.proofs.Common.{◌≡◌, ℕ, zero, suc, Bool, true, false, List, [], ◌∷◌, Result, Ok, Err, inl, inr, refl, ap, ◌∙◌}
 use Rattle.hep_private.specs.declared.record.Record.{Record}
 use Rattle.hep_private.specs.declared.ticket.TicketId.{TicketId}
 use Rattle.hep_private.specs.Segments.{SegmentValue, Start, TicketValue, most_records}

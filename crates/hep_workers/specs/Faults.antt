@@ -4,9 +4,8 @@ use Rattle.std.specs.List.{list_all}
 use Rattle.hep_machine.specs.Words.{opening_layout, Units}
 use Rattle.hep_core.specs.declared.core_fault.NewFault.{NewFault}
 use Rattle.hep_core.specs.declared.core_fault.NewFault.TheVariants as new
-use Rattle.hep_core.specs.ProcessPlaces.{PlacedCore, ProcessPlace}
+use Rattle.hep_core.specs.ProcessPlaces.{ProcessPlace}
 use Rattle.hep_core.specs.CoreValues.{CoreValue, opening_of}
-use Rattle.hep_workers.specs.declared.close_fault.CloseFault.{CloseFault}
 use Rattle.hep_workers.specs.declared.close_fault.CloseFault.TheVariants as close
 use Rattle.hep_workers.specs.declared.options.WorkOptions.{WorkOptions}
 use Rattle.hep_workers.specs.SharedCores.{IsSharedFrom}

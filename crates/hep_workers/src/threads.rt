@@ -1,5 +1,5 @@
 //! The workers at their work: threads that share a core under a lock.
-ghost use Rattle.std.specs.Prelude.{◌≡◌, ◌≢◌, ◌≤◌, ◌<◌, IfErr, IfOk, IsSome, Ok, OnOk, is_ok, true, vec_len};
+ghost use Rattle.std.specs.Prelude.{◌≡◌, ◌≢◌, ◌≤◌, ◌<◌, IfErr, IfOk, IsSome, Ok, OnOk, is_ok, take, true, vec_len};
 ghost use Rattle.std.specs.List.{list_all};
 ghost use Rattle.hep_core.specs.Offers.{IsKnownOffer, offered};
 ghost use Rattle.hep_core.specs.CoreValues.{opening_of, verdict_of};
@@ -56,6 +56,10 @@ const FEWEST: u32 = 4;
 // held the lock. A worker that has just called this one gives way sooner than that.
 const MEETING: u64 = 512;
 
+// The number of long turns after which a worker hands its process on, where no other process is free. Every thousand of
+// them take some milliseconds, and to hand a process on takes some ten microseconds.
+const QUANTUM: u64 = 512;
+
 // What the workers share.
 #[derive(Drop)]
 struct WorkerPool<K: RunBrand> {
@@ -96,8 +100,19 @@ struct WorkerState {
     ticket: Ticket,
 }
 
-// A worker makes at most this many batches before it takes the lock: enough that it spends little of its time there.
-const MOST_BATCHES: usize = 16;
+// A worker: the image of the run, the gate that makes its private steps, and its number.
+#[derive(Drop)]
+struct Worker<'a, 'b, K: RunBrand, G: Gate> {
+    known: &'a RunImage<'b, K>,
+    gate: &'a G,
+    seat: WorkerNumber<K>,
+}
+
+// A worker makes this many batches before it tries the lock: enough that it spends little of its time there.
+const ENOUGH_BATCHES: usize = 16;
+
+// A worker makes at most this many batches before it waits for the lock, where another worker has it.
+const MOST_BATCHES: usize = 32;
 
 // What a worker makes of its ticket: a segment; or a batch, and further ones, each of which follows the one before it. They have the room of
 // those of earlier turns.
@@ -270,7 +285,8 @@ fn finish<K: RunBrand, R: Wait, G: Gate>(
             return Ok(left.into_parts());
         }
         let floor = WorkerPool::new(left);
-        floor.work(rt, alloc, known, WorkerNumber::new(1), gate)?;
+        let seat = WorkerNumber::new(1);
+        floor.work(rt, alloc, Worker { known, gate, seat })?;
         left = floor.into_inner();
     }
     unreachable!()
@@ -298,7 +314,7 @@ fn work_all<K: RunBrand + Send + Sync, R: Threads + Wait + Sync, G: Gate + Sync>
                 started = Err(CrewFault::NoMemory);
                 break;
             }
-            match scope.spawn(move || floor.work(rt, alloc, known, seat, gate)) {
+            match scope.spawn(move || floor.work(rt, alloc, Worker { known, gate, seat })) {
                 Ok(handle) => handles.push_reserved(handle),
                 Err(_) => {
                     started = Err(CrewFault::NoThread);
@@ -346,79 +362,75 @@ impl WorkBuffers {
     // Empty buffers for the steps of a worker.
     fn new(alloc: Global) -> Result<WorkBuffers, AllocError> {
         let mut batches = Vec::new(alloc);
-        for _made in 0..MOST_BATCHES {
-            batches.push(Batch::new(alloc)?)?;
-        }
+        batches.push(Batch::new(alloc)?)?;
         Ok(WorkBuffers {
             batches,
             segment: Segment::new(),
         })
     }
 
-    // Makes the private steps of a ticket, and returns the number of batches: 0 where the steps are a segment.
+    // Makes the private steps of a ticket, and returns the number of batches: 0 where the steps are a segment. There are
+    // more than `ENOUGH_BATCHES` where another worker has the lock meanwhile.
     fn make<K: RunBrand, G: Gate>(
         &mut self,
-        known: &RunImage<'_, K>,
-        worker: u32,
+        pool: &WorkerPool<K>,
+        worker: &Worker<'_, '_, K, G>,
         stand: &WorkerState,
-        gate: &G,
     ) -> usize
         ensures { HasMade K.opening.program result self.new.batches.items self.new.segment }
     {
         let WorkBuffers { batches, segment } = self;
+        let (gate, ahead, number) = (worker.gate, &worker.known.ahead, worker.seat.number);
         let (turn, ticket) = (stand.turn, &stand.ticket);
-        if !gate.batch_into(worker, turn, &known.ahead, ticket, &mut batches[0]) {
-            gate.segment_into(worker, turn, known.ahead.image(), ticket, segment);
+        if !gate.batch_into(number, turn, ahead, ticket, &mut batches[0]) {
+            gate.segment_into(number, turn, ahead.image(), ticket, segment);
             return 0;
         }
-        let call = GateCall { worker, turn };
-        for made in 1..batches.len() {
+        for made in 1..MOST_BATCHES {
+            if pool.is_enough(made) {
+                return made;
+            }
+            if !has_room(stand.alloc, batches, made) {
+                return made;
+            }
             let (before, rest) = batches.split_at_mut(made);
-            if !follows(
-                known,
-                gate,
-                call.after(made as u64),
-                &before[made - 1],
-                &mut rest[0],
-            ) {
+            let turn = turn.saturating_add(made as u64);
+            if !worker.follows(turn, &before[made - 1], &mut rest[0]) {
                 return made;
             }
         }
-        batches.len()
+        MOST_BATCHES
     }
 }
 
-// A call of a gate: the number of the worker, and that of its turn.
-#[derive(Clone, Copy)]
-struct GateCall {
-    worker: u32,
-    turn: u64,
-}
-
-impl GateCall {
-    // The call for the worker's turn after `turns` more.
-    fn after(self, turns: u64) -> GateCall {
-        GateCall {
-            worker: self.worker,
-            turn: self.turn.saturating_add(turns),
-        }
-    }
-}
-
-// Makes the batch that follows another one, where that one is full. False where there is none or it has no step. The
-// commit makes the next step after private ones anyway, where that step isn't private.
-fn follows<K: RunBrand, G: Gate>(
-    known: &RunImage<'_, K>,
-    gate: &G,
-    call: GateCall,
-    before: &Batch,
-    batch: &mut Batch,
-) -> bool
-    ensures { result ≡ true → IsBatchOf K.opening.program before.now.id.process batch.new }
+// Whether there is a buffer after the first `made` ones. Where there is none, it adds one. False where memory was refused.
+fn has_room(alloc: Global, batches: &mut Vec<Batch>, made: usize) -> bool
+    requires { made ≤ vec_len batches.old }
+    ensures room { result ≡ true → made < vec_len batches.new }
+    ensures kept { take made batches.new.items ≡ take made batches.old.items }
+    ensures long { vec_len batches.old ≤ vec_len batches.new }
 {
-    before.is_full()
-        && gate.batch_behind(call.worker, call.turn, &known.ahead, before, batch)
-        && 0 < batch.steps()
+    if made < batches.len() {
+        return true;
+    }
+    match Batch::new(alloc) {
+        Ok(batch) => batches.push(batch).is_ok(),
+        Err(_) => false,
+    }
+}
+
+impl<K: RunBrand, G: Gate> Worker<'_, '_, K, G> {
+    // Makes the batch of the worker's turn with this number, which follows another one, where that one is full. False
+    // where there is none or it has no step. The commit makes the next step after private ones anyway, where that
+    // step isn't private.
+    fn follows(&self, turn: u64, before: &Batch, batch: &mut Batch) -> bool
+        ensures { result ≡ true → IsBatchOf K.opening.program before.now.id.process batch.new }
+    {
+        let (number, ahead) = (self.seat.number, &self.known.ahead);
+        before.is_full()
+            && self.gate.batch_behind(number, turn, ahead, before, batch)
+            && 0 < batch.steps()
+    }
 }
 
 impl<K: RunBrand> WorkerPool<K> {
@@ -451,15 +463,13 @@ impl<K: RunBrand> WorkerPool<K> {
         &self,
         rt: &R,
         alloc: Global,
-        known: &RunImage<'_, K>,
-        seat: WorkerNumber<K>,
-        gate: &G,
+        worker: Worker<'_, '_, K, G>,
     ) -> Result<(), AllocError> {
         let stand = WorkerState::new(alloc);
         let outcome = match WorkBuffers::new(alloc) {
             Ok(hand) => {
                 let mut hand = hand;
-                self.work_with(rt, known, gate, &seat, &mut hand, stand)
+                self.work_with(rt, &worker, &mut hand, stand)
             }
             Err(refused) => Err(refused),
         };
@@ -473,9 +483,7 @@ impl<K: RunBrand> WorkerPool<K> {
     fn work_with<R: Wait, G: Gate>(
         &self,
         rt: &R,
-        known: &RunImage<'_, K>,
-        gate: &G,
-        seat: &WorkerNumber<K>,
+        worker: &Worker<'_, '_, K, G>,
         hand: &mut WorkBuffers,
         stand: WorkerState,
     ) -> Result<(), AllocError> {
@@ -486,7 +494,7 @@ impl<K: RunBrand> WorkerPool<K> {
             return Ok(());
         }
         for _ in rt.forever() {
-            if !self.turn(rt, known, gate, seat, hand, &mut stand)? {
+            if !self.turn(rt, worker, hand, &mut stand)? {
                 return Ok(());
             }
         }
@@ -497,19 +505,17 @@ impl<K: RunBrand> WorkerPool<K> {
     fn turn<R: Wait, G: Gate>(
         &self,
         rt: &R,
-        known: &RunImage<'_, K>,
-        gate: &G,
-        seat: &WorkerNumber<K>,
+        worker: &Worker<'_, '_, K, G>,
         hand: &mut WorkBuffers,
         stand: &mut WorkerState,
     ) -> Result<bool, AllocError> {
-        let made = hand.make(known, seat.number, stand, gate);
+        let made = hand.make(self, worker, stand);
         let long = made != 0 && LONG <= hand.batches[0].steps();
         let (mut core, waited) = self.lock(rt);
-        if !self.commit_all(&mut core, seat, hand, stand, made)? {
+        if !self.commit_all(&mut core, &worker.seat, hand, stand, made)? {
             return Ok(false);
         }
-        let at_once = !gate.is_asked() && self.turns_at_once(&mut core, known, seat, stand, long);
+        let at_once = !worker.gate.is_asked() && self.turns_at_once(&mut core, worker, stand, long);
         let pace = if made == 0 || long || at_once {
             TurnPace::Apart
         } else if waited {
@@ -518,6 +524,11 @@ impl<K: RunBrand> WorkerPool<K> {
             TurnPace::Locked
         };
         self.check_out(rt, core, stand, pace)
+    }
+
+    // Whether a worker with this many batches makes no further one: they are enough, and no other worker has the lock.
+    fn is_enough(&self, made: usize) -> bool {
+        ENOUGH_BATCHES <= made && self.core.try_lock().is_some()
     }
 
     // Takes the lock, and says whether another worker had it. A worker tries for a while before it falls asleep,
@@ -570,11 +581,10 @@ impl<K: RunBrand> WorkerPool<K> {
     // and returns whether one of them was long. While no other worker is busy, a turn may have 1,023 private steps.
     // While others are busy, a worker that has just made a long batch makes no such turn, since another long batch is
     // better made without the lock. No process that is ready ceases to be so.
-    fn turns_at_once(
+    fn turns_at_once<G: Gate>(
         &self,
         core: &mut SharedCore<K>,
-        known: &RunImage<'_, K>,
-        seat: &WorkerNumber<K>,
+        worker: &Worker<'_, '_, K, G>,
         stand: &mut WorkerState,
         after_long: bool,
     ) -> bool {
@@ -585,13 +595,13 @@ impl<K: RunBrand> WorkerPool<K> {
         let most = if alone { MOST_RECORDS as u32 } else { SHORT };
         let mut long = false;
         for _ in 0..MOST_AT_ONCE {
-            let steps = core.turn_at_once(seat, known, most);
+            let steps = core.turn_at_once(&worker.seat, worker.known, most);
             if steps == 0 {
                 return long;
             }
             stand.turn = stand.turn.saturating_add(1);
             if steps == MOST_RECORDS as u32 {
-                self.run_on(core, known, seat, stand);
+                self.run_on(core, worker, stand);
             }
             long = long || LONG <= steps;
         }
@@ -601,17 +611,16 @@ impl<K: RunBrand> WorkerPool<K> {
     // After a turn of 1,023 private steps, makes more such turns, several at once, as long as there are any and no
     // other worker is busy. Where not all of several can be made, none is, and their steps are made again turn by
     // turn. So at once it makes no more than a quarter of the turns made before, and one.
-    fn run_on(
+    fn run_on<G: Gate>(
         &self,
         core: &mut SharedCore<K>,
-        known: &RunImage<'_, K>,
-        seat: &WorkerNumber<K>,
+        worker: &Worker<'_, '_, K, G>,
         stand: &mut WorkerState,
     ) {
         let mut made: u32 = 1;
         for _ in 0..MOST_AT_ONCE {
             let turns = (1 + made / 4).min(MOST_IN_A_RUN);
-            if !self.is_alone() || !core.turns_at_once(seat, known, turns) {
+            if !self.is_alone() || !core.turns_at_once(&worker.seat, worker.known, turns) {
                 return;
             }
             stand.turn = stand.turn.saturating_add(turns as u64);
@@ -681,13 +690,14 @@ impl<K: RunBrand> WorkerPool<K> {
 
     // Waits for a process that comes next and takes a ticket for it, with the buffers of the last ticket. False where
     // the run is over.
-    fn check_out<R: Wait>(
-        &self,
+    fn check_out<'a, R: Wait>(
+        &'a self,
         rt: &R,
-        core: MutexGuard<'_, SharedCore<K>>,
+        core: MutexGuard<'a, SharedCore<K>>,
         stand: &mut WorkerState,
         pace: TurnPace,
     ) -> Result<bool, AllocError> {
+        let core = self.hand_on(rt, core, stand, pace);
         let mut core = self.wait(rt, core, stand, pace);
         let used = stand.take_ticket();
         let ticket = self.next_ticket(&mut core, used);
@@ -699,6 +709,39 @@ impl<K: RunBrand> WorkerPool<K> {
             }
             None => Ok(false),
         }
+    }
+
+    // Hands a worker's process on after its quantum, where no other process is free: releases the lock until another
+    // worker has committed its turns and taken this process, but for a short time at most. So no process falls behind
+    // the others because its worker is slower.
+    fn hand_on<'a, R: Wait>(
+        &'a self,
+        rt: &R,
+        core: MutexGuard<'a, SharedCore<K>>,
+        stand: &mut WorkerState,
+        pace: TurnPace,
+    ) -> MutexGuard<'a, SharedCore<K>> {
+        let own = Some(stand.ticket.id().process);
+        if !self.ends_quantum(stand, pace) || core.next_ready() != own {
+            return core;
+        }
+        stand.begin();
+        drop(core);
+        for _ in 0..LOOKS {
+            spin_loop();
+            if let Some(core) = self.core.try_lock() {
+                if core.next_ready() != own {
+                    return core;
+                }
+            }
+        }
+        self.core.lock(rt)
+    }
+
+    // Whether a worker with long turns has made a quantum of them, and another worker is busy.
+    fn ends_quantum(&self, stand: &WorkerState, pace: TurnPace) -> bool {
+        let made = stand.turn.saturating_sub(stand.began);
+        pace == TurnPace::Apart && QUANTUM <= made && 1 < self.busy.load(Ordering::SeqCst)
     }
 
     // Waits until a process is free or the run is over. A worker that gives the processes up first waits until it is

@@ -6,13 +6,14 @@
 
 ghost use Rattle.hep_command.specs.Jobs.{IsArena, IsInRange, IsSeed, IsViewInRange};
 
-use hep_command::{Job, Request, SAME_FILE, SAME_PAGE, ViewedRun, explain, read_request};
+use hep_command::{Job, PageForm, Request, SAME_FILE, ViewedRun, explain, read_request, same_page};
 use hep_inspection::{
-    Check, Choices, Command, CommandRequest, CoverOptions, DiffOptions, HistFault, Inspection,
-    InspectionOptions, LineFilter, List, LotOptions, NoGate, Options, Origin, ReadFault,
-    ReplayOptions, Run, SampleOptions, Warn, WorkOptions, WorkRequest, answer, choices_of,
-    deliver_source, followed_of, history_text, lots_history, nth_options, put_text, read_text,
-    read_text_file, sample_bytes, say_unread, say_unwritten, work_noted,
+    Check, Choices, Command, CommandRequest, CoverOptions, DiffOptions, GnuRequest, HistFault,
+    Inspection, InspectionOptions, LineFilter, List, LotOptions, NoGate, Options, Origin,
+    RacesOptions, ReadFault, ReplayOptions, Run, SampleOptions, Warn, WorkOptions, WorkRequest,
+    answer, choices_of, deliver_source, followed_of, gnu_source, history_text, lots_history,
+    nth_options, put_text, read_text, read_text_file, sample_bytes, say_unread, say_unwritten,
+    work_noted,
 };
 use std::fs::File;
 use std::io::{ErrorKind, Read, Stdin};
@@ -68,7 +69,7 @@ struct Plan<'a> {
     schedule: Schedule,
 }
 
-/// A file that is to get a history or a page, and whether it was made for that.
+/// A file that is to get a history, a page or a picture, and whether it was made for that.
 #[derive(Drop)]
 struct Kept {
     file: File,
@@ -279,6 +280,23 @@ fn deliver_file<C: Command>(
 ) -> Result<u8, u8> {
     let mut source = source_of(rt, file, long)?;
     Ok(deliver(rt, &mut source, options, long).status)
+}
+
+// Writes the lines of a source for an editor.
+fn check_for_editor(rt: &HostRuntime, file: &str, warn: bool, long: bool) -> Result<u8, u8> {
+    let mut source = source_of(rt, file, long)?;
+    let asked = GnuRequest {
+        file: file.as_bytes(),
+        warn,
+    };
+    let run = gnu_source(
+        rt.alloc(),
+        &mut source,
+        &asked,
+        &mut rt.stdout(),
+        &mut rt.stderr(),
+    );
+    Ok(run.status)
 }
 
 // Runs a source. `threads` is the runtime itself, which may start threads where it is passed as such.
@@ -652,7 +670,15 @@ fn replay_file(
     deliver_file(rt, file, &ReplayOptions { history, arena }, long)
 }
 
-// Makes the page of a source by these options, and writes it to a file, which keeps what it has where there is no page.
+// What is asked of a run for a page or a picture.
+fn telling_of(form: PageForm) -> Inspection<'static> {
+    match form {
+        PageForm::Html => Inspection::Page,
+        PageForm::Svg => Inspection::Picture,
+    }
+}
+
+// Makes the page or the picture of a source by these options, and writes it to a file, which keeps what it has where there is none.
 fn write_page(
     rt: &HostRuntime,
     file: &str,
@@ -678,22 +704,23 @@ fn write_page(
     Ok(status)
 }
 
-// Writes the page of a run to a file that isn't read.
+// Writes the page or the picture of a run to a file that isn't read.
 fn page_file(
     rt: &HostRuntime,
     file: &str,
     run: &ViewedRun<'_>,
-    path: &str,
+    written: (PageForm, &str),
     long: bool,
 ) -> Result<u8, u8>
     requires { IsViewInRange run.now }
 {
+    let (form, path) = written;
     if is_over_read(rt, Some(path), file, run.history.or(run.choices)) {
-        return Err(answered(rt, 2, SAME_PAGE.as_bytes()));
+        return Err(answered(rt, 2, same_page(form).as_bytes()));
     }
     let viewed = viewed_run(rt, run, long)?;
     let options = InspectionOptions {
-        telling: Inspection::Page,
+        telling: telling_of(form),
         origin: origin_of(&viewed),
         entries: u64::MAX,
         arena: run.arena,
@@ -701,22 +728,27 @@ fn page_file(
     write_page(rt, file, path, &options, long)
 }
 
+// Lists the races of a run.
+fn races_file(rt: &HostRuntime, file: &str, run: &ViewedRun<'_>, long: bool) -> Result<u8, u8>
+    requires { IsViewInRange run.now }
+{
+    let viewed = viewed_run(rt, run, long)?;
+    let options = RacesOptions {
+        origin: origin_of(&viewed),
+        arena: run.arena,
+    };
+    deliver_file(rt, file, &options, long)
+}
+
 // Says how often the statement of each line began in runs.
 fn cover_file(
     rt: &HostRuntime,
     file: &str,
     all: &[Viewed<'_>],
-    arena: u32,
+    options: &CoverOptions<'_>,
     long: bool,
-) -> Result<u8, u8>
-    requires { IsArena arena }
-{
-    let origins = origins_of(rt, all)?;
-    let options = CoverOptions {
-        origins: &origins,
-        arena,
-    };
-    let status = deliver_file(rt, file, &options, long)?;
+) -> Result<u8, u8> {
+    let status = deliver_file(rt, file, options, long)?;
     Ok(several_status(rt, all, status, long))
 }
 
@@ -758,11 +790,28 @@ fn view_job(rt: &HostRuntime, job: Job<'_>, histories: &[&str], long: bool) -> R
             let page = page_of(first, last.unwrap_or(u64::MAX), process, cell);
             inspect(rt, file, &run, (Inspection::Trace(page), last), long)
         }
-        Job::Page { file, run, page } => page_file(rt, file, &run, page, long),
+        Job::Page {
+            form,
+            file,
+            run,
+            page,
+        } => page_file(rt, file, &run, (form, page), long),
         Job::Why { file, run } => inspect(rt, file, &run, (Inspection::Why, None), long),
-        Job::Cover { file, run, runs } => {
+        Job::Races { file, run } => races_file(rt, file, &run, long),
+        Job::Cover {
+            file,
+            run,
+            runs,
+            lcov,
+        } => {
             let all = covered(rt, &run, runs, histories, long)?;
-            cover_file(rt, file, &all, run.arena, long)
+            let origins = origins_of(rt, &all)?;
+            let options = CoverOptions {
+                origins: &origins,
+                tracefile: bytes_of(lcov.then_some(file)),
+                arena: run.arena,
+            };
+            cover_file(rt, file, &all, &options, long)
         }
         Job::Diff {
             file,
@@ -798,8 +847,21 @@ fn done<H: Threads + Wait + Sync>(
     } = request;
     match job {
         Job::Standard | Job::Run { .. } => run_file(rt, threads, &plan_of(rt, job, long)?, long),
-        Job::Check { file, warn: false } => deliver_file(rt, file, &Check, long),
-        Job::Check { file, warn: true } => deliver_file(rt, file, &Warn, long),
+        Job::Check {
+            file,
+            warn,
+            gnu: true,
+        } => check_for_editor(rt, file, warn, long),
+        Job::Check {
+            file,
+            warn: false,
+            ..
+        } => deliver_file(rt, file, &Check, long),
+        Job::Check {
+            file,
+            warn: true,
+            ..
+        } => deliver_file(rt, file, &Warn, long),
         Job::List { file } => deliver_file(rt, file, &List, long),
         Job::Sample {
             file,
@@ -834,6 +896,7 @@ fn done<H: Threads + Wait + Sync>(
         | Job::Trace { .. }
         | Job::Page { .. }
         | Job::Why { .. }
+        | Job::Races { .. }
         | Job::Cover { .. }
         | Job::Diff { .. } => view_job(rt, job, &histories, long),
     }

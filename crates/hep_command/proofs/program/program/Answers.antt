@@ -1,7 +1,7 @@
 use Rattle.std.proofs.Common.{◌≡◌, ◌∙◌, ap, true}
 use Rattle.clap.specs.Simple.{app_of_fields}
 use Rattle.clap.specs.Words.{App, app_of}
-use Rattle.hep_command.specs.Program.{bare_program, named_program}
+use Rattle.hep_command.specs.Program.{bare_program, looking, named_program, running, with_apps}
 use Rattle.hep_command.proofs.program.program.Goals as goal
 
 -- with a version
@@ -12,4 +12,5 @@ pub returns : goal.returns
 returns c =
     let named : app_of c.about-bare.result ≡ named_program =
     ap app_of_fields c.about-bare.ensures ∙ ap app_of_fields c.version.ensures ∙ ap versioned c.new.ensures.app in
-    c.with_commands.ensures bare_program (c.with_words.ensures named_program named)
+    c.with_saying.ensures (with_apps (with_apps bare_program running) looking)
+    (c.with_looking.ensures (with_apps bare_program running) (c.with_running-running.ensures bare_program (c.with_words.ensures named_program named)))

@@ -1,4 +1,4 @@
-use Rattle.std.proofs.Common.{◌≡◌, ◌⊎◌, ◌∙◌, ℕ, Bool, List, [], Option, Some, Result, Ok, Err, IfOk, IfErr, map, inl, inr, sym}
+use Rattle.std.proofs.Common.{◌≡◌, ◌⊎◌, ◌∙◌, ℕ, Bool, List, Option, Some, Result, Ok, Err, IfOk, IfErr, map, inl, inr, sym}
 use Rattle.clap.specs.Words.{Text, subcommand_rows_of}
 use Rattle.hep_command.specs.Asked.{RequestedJob, asked_by, is_long_in, job_in, words_found, histories_in}
 use Rattle.hep_command.specs.Jobs.{IsWant}

@@ -11,7 +11,7 @@ pub loop-index-init : goal.loop-index-init
 loop-index-init c =
     let program = c.args.image.now in
     let options = c.args.asked.now.options.now in
-    along-begins c.args.asked.now.long options.arena c.args.source.now program options.origins.now c.in_ok-counting.counting
+    along-begins c.args.asked.now.long options c.args.source.now program options.origins.now c.in_ok-counting.counting
     (c.in_ok-counting.ensures.operations ∙ ap (operations_by_line program) c.line_count.ensures)
     (c.in_ok-counting.ensures.counts ∙ ap (unbegun program) c.line_count.ensures)
 
@@ -24,7 +24,7 @@ returns-in-Some c =
     let new = c.count_one.new.counting in
     let origin = c.index-asked-index.result in
     let here = get_or options.origins.now c.loop-index.index origin in
-    step-refused long options.arena c.args.source.now program options.origins.now c.loop-index.index origin old new
+    step-refused long options c.args.source.now program options.origins.now c.loop-index.index origin old new
     c.loop-index-test.true c.index-asked-index.is c.loop-index.invariant c.in-Some.refused
     (subst (λ (o : Origin). IsCountedOrRefused long options.arena program o old new (Some c.in-Some.refused)) (sym c.index-asked-index.is)
     (subst (IsCountedOrRefused long options.arena program here old new) c.in-Some.is c.in_ok-refused.ensures))
@@ -38,7 +38,7 @@ loop-index-preserved c =
     let new = c.count_one.new.counting in
     let origin = c.index-asked-index.result in
     let here = get_or options.origins.now c.loop-index.index origin in
-    step-counted long options.arena c.args.source.now program options.origins.now c.loop-index.index origin old new
+    step-counted long options c.args.source.now program options.origins.now c.loop-index.index origin old new
     c.loop-index-test.true c.index-asked-index.is c.loop-index.invariant
     (subst (λ (o : Origin). IsCountedOrRefused long options.arena program o old new None) (sym c.index-asked-index.is)
     (subst (IsCountedOrRefused long options.arena program here old new) c.in-None.is c.in_ok-refused.ensures))
@@ -49,6 +49,6 @@ returns c =
     let options = c.args.asked.now.options.now in
     let program = c.args.image.now in
     let counted = c.loop-index.counting in
-    along-ends long options.arena c.args.source.now program options.origins.now counted (outcome_of c.text_transcript.result)
-    (all-counted long options.arena c.args.source.now program options.origins.now c.loop-index.index counted c.loop-index-test.false
+    along-ends long options c.args.source.now program options.origins.now counted (outcome_of c.text_transcript.result)
+    (all-counted long options c.args.source.now program options.origins.now c.loop-index.index counted c.loop-index-test.false
     c.loop-index.invariant) (search rules)

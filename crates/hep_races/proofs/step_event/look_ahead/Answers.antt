@@ -17,6 +17,7 @@ returns c cells choices top ahead =
       needs = c.need_by.result;
       changes = c.in_ok-changes.changes;
       access = c.access_by-access.result;
+      bounds = c.in_ok-bounds.bounds;
       fault_access = c.fault_access.result;
       made = m.made;
       faults = length c.as_slice.result.now;
@@ -30,4 +31,4 @@ returns c cells choices top ahead =
           c.is_named_full-full.ensures;
       access = c.access_by-access.ensures;
       fault = c.fault_access.ensures;
-    })
+    }) (c.in_ok-bounds.ensures cells choices top ahead) (c.purged_units_are_there.ensures cells choices top ahead)

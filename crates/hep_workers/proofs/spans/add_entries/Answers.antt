@@ -1,4 +1,4 @@
-use Rattle.std.proofs.Common.{◌≡◌, ℕ, suc, ◌+◌, ◌-◌, ◌<◌, ◌≤◌, List, length, Some, ap, sym, ◌∙◌, subst, arith, slice_get, slice_set}
+use Rattle.std.proofs.Common.{◌≡◌, ℕ, suc, ◌+◌, ◌-◌, ◌<◌, List, length, Some, ap, ◌∙◌, subst, arith, slice_get, slice_set}
 use Rattle.hep_workers.specs.declared.spans.EntrySpan.{EntrySpan}
 use Rattle.hep_workers.specs.Spans.{with_entries, with_entry}
 use Rattle.hep_workers.proofs.GrowingHistories.{last-at}

@@ -1,10 +1,14 @@
 use Rattle.std.proofs.Crossing.{crosses}
-use denote.Enum.Declared.{shape}
-use denote.Param.Send.{IsSend, IsSync, enum_send, enum_sync, sendable, view_send, view_sync}
-use denote.Param.SendFields.{array_field_send, array_field_sync, as_row_send, as_row_sync, declared_send, declared_sync, variants_send, variants_sync}
+use mathlib.Core.List.{List, [], ◌∷◌}
+use denote.Enum.Declared.{Record, declared, row}
+use denote.Hole.{as_row}
+use denote.Struct.Field.{Field}
+use denote.Param.Send.{IsSend, IsSync, sendable, view_send, view_sync}
+use denote.Param.SendFields.{FieldsHave, VariantsHave, as_row_send, as_row_sync, declared_send, declared_sync, variants_send, variants_sync}
 use denote.RattleType.{RattleType}
 use Rattle.hep_base.specs.contracts.sequence.Sequence as sequence
 use denote.Builtin.{u8, u32}
+use Rattle.std.specs.contracts.option.Option as option
 use Rattle.hep_source.specs.contracts.program.Program as program
 use Rattle.hep_source.specs.contracts.program.Program.TheInside as programs
 use Rattle.hep_source.specs.contracts.program.Unit as unit
@@ -33,14 +37,45 @@ use Rattle.hep_source.specs.contracts.statement.Form as form
 use Rattle.hep_source.specs.contracts.statement.Statement as statement
 use Rattle.hep_workers.proofs.thread_safety.programs_cross.Goals as goal
 
+-- each field has it
+data Fields (Has : RattleType → Type 0) : List Field → Type 2 where
+  nil : Fields Has []
+  cons : {F : Field} {Fs : List Field} → Has (as_row F) → Fields Has Fs → Fields Has (F ∷ Fs)
+
+-- each field of each variant has it
+data Variants (Has : RattleType → Type 0) : List (List Field) → Type 2 where
+  none : Variants Has []
+  more : {Fs : List Field} {Fss : List (List Field)} → Fields Has Fs → Variants Has Fss → Variants Has (Fs ∷ Fss)
+
+-- so it is as the kit has it
+fields-have : {Has : RattleType → Type 0} {Fs : List Field} → Fields Has Fs → FieldsHave Has Fs
+fields-have nil = tt
+fields-have (cons h rest) = (h, fields-have rest)
+
+-- and of variants
+variants-have : {Has : RattleType → Type 0} {Fss : List (List Field)} → Variants Has Fss → VariantsHave Has Fss
+variants-have none = tt
+variants-have (more h rest) = (fields-have h, variants-have rest)
+
+-- an enum may be sent where its fields may
+variants-send : (N : Record) → Variants IsSend N.parts → IsSend (row (declared N))
+variants-send N h = variants_send N (variants-have h)
+
+-- and shared
+variants-sync : (N : Record) → Variants IsSync N.parts → IsSync (row (declared N))
+variants-sync N h = variants_sync N (variants-have h)
+
+-- an enum by the fields of its variants, however many it has
+ruleset by_fields = (variants-send, variants-sync, none, more, nil, cons, as_row_send, as_row_sync)
+
 -- may be sent and shared
 abbrev Crosses : RattleType → Type 0
-Crosses row = IsSend row × IsSync row
+Crosses T = IsSend T × IsSync T
 
 name-crosses : Crosses name.the_row
 name-crosses = (
-  search (crosses, sendable, declared_send, as_row_send, array_field_send) depth 30 fits 5000,
-  search (crosses, sendable, declared_sync, as_row_sync, array_field_sync) depth 30 fits 5000,
+  search (crosses, sendable, declared_send, as_row_send) depth 30 fits 5000,
+  search (crosses, sendable, declared_sync, as_row_sync) depth 30 fits 5000,
 )
 
 occurrence-crosses : Crosses occurrence.the_row
@@ -50,21 +85,33 @@ occurrence-crosses = (
 )
 
 value-crosses : Crosses value.the_row
-value-crosses = (search (crosses, sendable, declared_send, variants_send, as_row_send) depth 20, search (crosses, sendable, declared_sync, variants_sync, as_row_sync) depth 20)
+value-crosses = (
+  search (crosses, sendable, variants_send, as_row_send) depth 20,
+  search (crosses, sendable, variants_sync, as_row_sync) depth 20,
+)
 
 u8-crosses : Crosses u8
-u8-crosses = (search sendable depth 20, search sendable depth 20)
+u8-crosses = (
+  search sendable depth 20,
+  search sendable depth 20,
+)
 
 u32-crosses : Crosses u32
-u32-crosses = (search sendable depth 20, search sendable depth 20)
+u32-crosses = (
+  search sendable depth 20,
+  search sendable depth 20,
+)
 
 repeat-crosses : Crosses repeat.the_row
-repeat-crosses = (search (crosses, sendable, variants_send, as_row_send, occurrence-crosses.0) depth 20, search (crosses, sendable, variants_sync, as_row_sync, occurrence-crosses.1) depth 20)
+repeat-crosses = (
+  search (crosses, sendable, variants_send, as_row_send, occurrence-crosses.0) depth 20,
+  search (crosses, sendable, variants_sync, as_row_sync, occurrence-crosses.1) depth 20,
+)
 
 datum-crosses : Crosses datum.the_row
 datum-crosses = (
-  search (crosses, sendable, variants_send, as_row_send, occurrence-crosses.0, value-crosses.0) depth 20,
-  search (crosses, sendable, variants_sync, as_row_sync, occurrence-crosses.1, value-crosses.1) depth 20,
+  search (crosses, sendable, variants_send, occurrence-crosses.0, value-crosses.0) depth 20,
+  search (crosses, sendable, variants_sync, occurrence-crosses.1, value-crosses.1) depth 20,
 )
 
 given-crosses : Crosses given.the_row
@@ -74,28 +121,31 @@ given-crosses = (
 )
 
 range-crosses : Crosses range.the_row
-range-crosses = (search (crosses, sendable, declared_send, as_row_send) depth 20, search (crosses, sendable, declared_sync, as_row_sync) depth 20)
+range-crosses = (
+  search (crosses, sendable, declared_send, as_row_send) depth 20,
+  search (crosses, sendable, declared_sync, as_row_sync) depth 20,
+)
 
 type-crosses : Crosses type.the_row
-type-crosses = (search (crosses, sendable, variants_send, as_row_send) depth 20, search (crosses, sendable, variants_sync, as_row_sync) depth 20)
+type-crosses = (
+  search (crosses, sendable, variants_send) depth 20,
+  search (crosses, sendable, variants_sync) depth 20,
+)
 
 sequence-send : (T : RattleType) → IsSend T → IsSend (sequence.the_row T)
-sequence-send T s = search (crosses, sendable, declared_send, as_row_send) depth 20
+sequence-send T s = search (crosses, sendable, declared_send) depth 20
 
 sequence-sync : (T : RattleType) → IsSync T → IsSync (sequence.the_row T)
-sequence-sync T s = search (crosses, sendable, declared_sync, as_row_sync) depth 20
+sequence-sync T s = search (crosses, sendable, declared_sync) depth 20
 
 signs-crosses : Crosses signs.the_row
-signs-crosses = (search (sendable, declared_send, as_row_send) depth 20, search (sendable, declared_sync, as_row_sync) depth 20)
+signs-crosses = (
+  search (sendable, declared_send, as_row_send) depth 20,
+  search (sendable, declared_sync, as_row_sync) depth 20,
+)
 
 text-crosses : Crosses (sequence.the_row u8)
 text-crosses = (sequence-send u8 u8-crosses.0, sequence-sync u8 u8-crosses.1)
-
-labels-crosses : Crosses (sequence.the_row u32)
-labels-crosses = (sequence-send u32 u32-crosses.0, sequence-sync u32 u32-crosses.1)
-
-names-crosses : Crosses (sequence.the_row occurrence.the_row)
-names-crosses = (sequence-send occurrence.the_row occurrence-crosses.0, sequence-sync occurrence.the_row occurrence-crosses.1)
 
 module _ (expression-crosses : Crosses expression.the_row) where
   target-crosses : Crosses target.the_row
@@ -112,8 +162,8 @@ module _ (expression-crosses : Crosses expression.the_row) where
 
   item-crosses : Crosses item.the_row
   item-crosses = (
-    search (sendable, variants_send, as_row_send, text-crosses.0, expression-crosses.0) depth 20,
-    search (sendable, variants_sync, as_row_sync, text-crosses.1, expression-crosses.1) depth 20,
+    search (sendable, variants_send, text-crosses.0, expression-crosses.0) depth 20,
+    search (sendable, variants_sync, text-crosses.1, expression-crosses.1) depth 20,
   )
 
   group-crosses : Crosses group.the_row
@@ -123,7 +173,10 @@ module _ (expression-crosses : Crosses expression.the_row) where
   )
 
   bound-crosses : Crosses bound.the_row
-  bound-crosses = (search (tt, variants_send, as_row_send, expression-crosses.0) depth 20, search (tt, variants_sync, as_row_sync, expression-crosses.1) depth 20)
+  bound-crosses = (
+    search (tt, variants_send, expression-crosses.0) depth 20,
+    search (tt, variants_sync, expression-crosses.1) depth 20,
+  )
 
   dimension-crosses : Crosses dimension.the_row
   dimension-crosses = (
@@ -151,73 +204,74 @@ module _ (expression-crosses : Crosses expression.the_row) where
 
   constant-crosses : Crosses constant.the_row
   constant-crosses = (
-    search (tt, declared_send, as_row_send, occurrence-crosses.0, expression-crosses.0) depth 20,
-    search (tt, declared_sync, as_row_sync, occurrence-crosses.1, expression-crosses.1) depth 20,
+    search (tt, declared_send, occurrence-crosses.0, expression-crosses.0) depth 20,
+    search (tt, declared_sync, occurrence-crosses.1, expression-crosses.1) depth 20,
   )
 
-  occurrence-part : Crosses (occurrence.the_field).row
-  occurrence-part = (search (crosses, sendable) depth 30 fits 5000, search (crosses, sendable) depth 30 fits 5000)
-
-  type-part : Crosses (type.the_field).row
-  type-part = (search (crosses, sendable) depth 30 fits 5000, search (crosses, sendable) depth 30 fits 5000)
-
-  signs-part : Crosses (signs.the_field).row
-  signs-part = (search (crosses, sendable) depth 30 fits 5000, search (crosses, sendable) depth 30 fits 5000)
-
-  target-part : Crosses (target.the_field).row
-  target-part = (
-    search (crosses, sendable, occurrence-part.0, sequence-send, expression-crosses.0) depth 30 fits 5000,
-    search (crosses, sendable, occurrence-part.1, sequence-sync, expression-crosses.1) depth 30 fits 5000,
+  optional-crosses : Crosses (option.the_row type.the_row)
+  optional-crosses = (
+    search (crosses, sendable, variants_send, type-crosses.0) depth 20,
+    search (crosses, sendable, variants_sync, type-crosses.1) depth 20,
   )
 
-  control-part : Crosses (control.the_field).row
-  control-part = (
-    search (crosses, sendable, variants_send, as_row_send, occurrence-part.0, expression-crosses.0) depth 30 fits 5000,
-    search (crosses, sendable, variants_sync, as_row_sync, occurrence-part.1, expression-crosses.1) depth 30 fits 5000,
+  -- whatever variants it has: each of its types is here
+  -- whatever variants it has, where the types of their fields are here
+  form-crosses : Crosses form.the_row
+  form-crosses = (
+    search (
+      by_fields,
+      sequence-send,
+      expression-crosses.0,
+      occurrence-crosses.0,
+      type-crosses.0,
+      optional-crosses.0,
+      target-crosses.0,
+      control-crosses.0,
+      signs-crosses.0,
+      letters-crosses.0,
+      declarator-crosses.0,
+      block-crosses.0,
+      constant-crosses.0,
+      group-crosses.0,
+      item-crosses.0,
+      u32-crosses.0,
+    ) depth 100 fits 10000,
+    search (
+      by_fields,
+      sequence-sync,
+      expression-crosses.1,
+      occurrence-crosses.1,
+      type-crosses.1,
+      optional-crosses.1,
+      target-crosses.1,
+      control-crosses.1,
+      signs-crosses.1,
+      letters-crosses.1,
+      declarator-crosses.1,
+      block-crosses.1,
+      constant-crosses.1,
+      group-crosses.1,
+      item-crosses.1,
+      u32-crosses.1,
+    ) depth 100 fits 10000,
   )
-
-  form-part : Crosses (form.the_field).row
-  form-part = (of-send, of-share) where
-    of-send : IsSend (form.the_field).row
-    of-send =
-        let actuals = sequence-send expression.the_row expression-crosses.0 in
-        let ranges = sequence-send letters.the_row letters-crosses.0 in
-        let declarators = sequence-send declarator.the_row declarator-crosses.0 in
-        let blocks = sequence-send block.the_row block-crosses.0 in
-        let constants = sequence-send constant.the_row constant-crosses.0 in
-        let groups = sequence-send group.the_row group-crosses.0 in
-        let targets = sequence-send target.the_row target-crosses.0 in
-        let items = sequence-send item.the_row item-crosses.0 in
-        enum_send (shape form.the_type) ((occurrence-part.0, tt), ((occurrence-part.0, (names-crosses.0, tt)), ((search (crosses, sendable, variants_send, as_row_send, type-part.0) depth 30 fits 5000, (occurrence-part.0, (names-crosses.0, tt))), ((ranges, tt), ((type-part.0, (declarators, tt)), ((declarators, tt), ((blocks, tt), ((constants, tt), ((groups, tt), ((target-part.0, (expression-crosses.0, tt)), ((u32-crosses.0, tt), ((labels-crosses.0, (expression-crosses.0, tt)), ((expression-crosses.0, (signs-part.0, tt)), ((expression-crosses.0, tt), ((expression-crosses.0, tt), (tt, (tt, ((control-part.0, tt), ((occurrence-part.0, (actuals, tt)), ((occurrence-part.0, (actuals, tt)), ((targets, tt), ((items, tt), (tt, (tt, (tt, (tt, (tt, tt)))))))))))))))))))))))))))
-
-    of-share : IsSync (form.the_field).row
-    of-share =
-        let actuals = sequence-sync expression.the_row expression-crosses.1 in
-        let ranges = sequence-sync letters.the_row letters-crosses.1 in
-        let declarators = sequence-sync declarator.the_row declarator-crosses.1 in
-        let blocks = sequence-sync block.the_row block-crosses.1 in
-        let constants = sequence-sync constant.the_row constant-crosses.1 in
-        let groups = sequence-sync group.the_row group-crosses.1 in
-        let targets = sequence-sync target.the_row target-crosses.1 in
-        let items = sequence-sync item.the_row item-crosses.1 in
-        enum_sync (shape form.the_type) ((occurrence-part.1, tt), ((occurrence-part.1, (names-crosses.1, tt)), ((search (crosses, sendable, variants_sync, as_row_sync, type-part.1) depth 30 fits 5000, (occurrence-part.1, (names-crosses.1, tt))), ((ranges, tt), ((type-part.1, (declarators, tt)), ((declarators, tt), ((blocks, tt), ((constants, tt), ((groups, tt), ((target-part.1, (expression-crosses.1, tt)), ((u32-crosses.1, tt), ((labels-crosses.1, (expression-crosses.1, tt)), ((expression-crosses.1, (signs-part.1, tt)), ((expression-crosses.1, tt), ((expression-crosses.1, tt), (tt, (tt, ((control-part.1, tt), ((occurrence-part.1, (actuals, tt)), ((occurrence-part.1, (actuals, tt)), ((targets, tt), ((items, tt), (tt, (tt, (tt, (tt, (tt, tt)))))))))))))))))))))))))))
 
   statement-crosses : Crosses statement.the_row
   statement-crosses = (
-    search (crosses, sendable, declared_send, variants_send, as_row_send, sequence-send, expression-crosses.0, form-part.0) depth 30,
-    search (crosses, sendable, declared_sync, variants_sync, as_row_sync, sequence-sync, expression-crosses.1, form-part.1) depth 30,
+    search (crosses, sendable, declared_send, variants_send, as_row_send, sequence-send, expression-crosses.0, form-crosses.0) depth 30,
+    search (crosses, sendable, declared_sync, variants_sync, as_row_sync, sequence-sync, expression-crosses.1, form-crosses.1) depth 30,
   )
 
   unit-crosses : Crosses unit.the_row
   unit-crosses = (
-    view_send (units.the_row) _ _ _ _ (declared_send units.the_type (search (crosses, as_row_send, statement-crosses.0) depth 10, tt)),
-    view_sync (units.the_row) _ _ _ _ (declared_sync units.the_type (search (crosses, as_row_sync, statement-crosses.1) depth 10, tt)),
+    view_send (units.the_row) _ _ _ _ (declared_send units.the_type (search (crosses, statement-crosses.0) depth 10, tt)),
+    view_sync (units.the_row) _ _ _ _ (declared_sync units.the_type (search (crosses, statement-crosses.1) depth 10, tt)),
   )
 
   program-crosses : Crosses program.the_row
   program-crosses = (
-    view_send (programs.the_row) _ _ _ _ (declared_send programs.the_type (search (crosses, as_row_send, unit-crosses.0) depth 10, tt)),
-    view_sync (programs.the_row) _ _ _ _ (declared_sync programs.the_type (search (crosses, as_row_sync, unit-crosses.1) depth 10, tt)),
+    view_send (programs.the_row) _ _ _ _ (declared_send programs.the_type (search (crosses, unit-crosses.0) depth 10, tt)),
+    view_sync (programs.the_row) _ _ _ _ (declared_sync programs.the_type (search (crosses, unit-crosses.1) depth 10, tt)),
   )
 
 pub returns : goal.returns

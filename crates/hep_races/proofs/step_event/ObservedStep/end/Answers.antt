@@ -22,10 +22,11 @@ returns-then-self-faults c program cells choices p top lives steps looked after 
       needs = old.needs;
       changes = c.clear.new.self;
       access = old.fault_access;
+      bounds = old.bounds;
       fault_access = old.fault_access;
       made = old.made;
       faults = old.faults;
-    }) true looked failed refl (c.made_since-self.ensures ∙ made-same s u old.made m.made looked.made more) refl c.clear.ensures.items refl
+    }) true looked failed refl (c.made_since-self.ensures ∙ made-same s u old.made m.made looked.made more) refl c.clear.ensures.items refl refl
 
 pub returns-else-self-faults : goal.returns-else-self-faults
 returns-else-self-faults c program cells choices p top lives steps looked after =
@@ -43,7 +44,8 @@ returns-else-self-faults c program cells choices p top lives steps looked after 
       needs = old.needs;
       changes = old.changes;
       access = old.access;
+      bounds = old.bounds;
       fault_access = old.fault_access;
       made = old.made;
       faults = old.faults;
-    }) false looked failed refl (c.made_since-self.ensures ∙ made-same s u old.made m.made looked.made more) refl refl refl
+    }) false looked failed refl (c.made_since-self.ensures ∙ made-same s u old.made m.made looked.made more) refl refl refl refl

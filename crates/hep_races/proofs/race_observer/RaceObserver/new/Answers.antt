@@ -1,0 +1,13 @@
+use Rattle.std.proofs.Common.{[]}
+use Rattle.hep_races.proofs.race_observer.RaceObserver.new.Goals as goal
+
+pub returns : goal.returns
+returns c replay made =
+    record {
+      variables = c.in_ok-variables.ensures;
+      names = c.in_ok-names.ensures;
+      bounds = c.in_ok-bounds.ensures;
+      events = [];
+      detected = c.new-2.ensures;
+      same = tt;
+    }

@@ -1,0 +1,42 @@
+use Rattle.std.proofs.Common.{◌∙◌, ap, map, refl}
+use Rattle.std.specs.List.{list_any}
+use Rattle.hep_machine.specs.Words.{run}
+use Rattle.hep_races.proofs.ObservedTurns.{had-top, told}
+use Rattle.hep_races.proofs.race_observer.RaceObserverObserver.tell.Goals as goal
+use Rattle.hep_races.specs.Observed.{access_in, event_in, unit_eq}
+use Rattle.hep_races.specs.RunNames.{unit_of_place}
+
+pub returns : goal.returns
+returns c at =
+    let program = c.args.image.now in
+    let old = c.args.self.now in
+    let p = c.args.p in
+    let top = had-top program p (run program at.made) at.stepped in
+    let changed = c.deref-2.ensures.value ∙ c.in_ok-changes.ensures ∙ ap (map unit_of_place) c.deref.ensures.value in
+    told program (c.numbers_rise.ensures.activations program) at.replay at.made p at.left c.args.machine.now at.under_way old (
+    record {
+      alloc = old.alloc;
+      variables = old.variables;
+      names = old.names;
+      bounds = old.bounds;
+      sites = c.numbered.new.sites;
+      detector = c.observe.new.self;
+    }) at.seen at.known c.in_ok-accesses.ensures.kept.0 c.in_ok-accesses.ensures.kept.1 refl refl refl top.0 c.end.new.self (
+    event_in (
+    record {
+      process = c.end.new.self.process;
+      makes = c.end.new.self.makes;
+      needs = c.unit_needed.result;
+      changes = c.deref-2.result;
+      accesses = c.deref-3.result;
+    })) (
+    c.end.ensures program at.replay.cells at.made p top.0 top.1 at.stepped (at.noted top.0 top.1) at.under_way.after) (
+    record {
+      process = refl;
+      makes = refl;
+      needs = c.unit_needed.ensures;
+      changes = λ i at. list_any (λ v. unit_eq v at) (changed i);
+      numbered = c.in_ok-accesses.accesses.items;
+      accesses = ap (map access_in) c.deref-3.ensures.value;
+      are = c.in_ok-accesses.ensures.numbered;
+    }) (c.in_ok-observe.ensures at.known.events at.known.detected)

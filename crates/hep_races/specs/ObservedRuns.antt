@@ -1,0 +1,55 @@
+-- The events of a run, as an observer of its turns knows them: docs/MACHINE.md, "The order of steps".
+use Rattle.std.specs.Prelude.{◌≡◌, ℕ, List, [], ◌∷◌, ◌++◌, Some, slice_get}
+use Rattle.std.specs.List.{AllZip}
+use Rattle.hep_accesses.specs.RunEvents.{Event, event_of}
+use Rattle.hep_event.specs.Variables.{AreVariablesOf}
+use Rattle.hep_fold.specs.Observers.{Replay}
+use Rattle.hep_fold.specs.Turns.{processes}
+use Rattle.hep_machine.specs.Words.{Level, Process, State, Units, living, run, state_after_turn}
+use Rattle.hep_accesses.specs.Events.{Event as AnEvent}
+use Rattle.hep_trace.specs.References.{top_after}
+use Rattle.hep_races.specs.NamesInBounds.{AreBoundsOf}
+use Rattle.hep_races.specs.Detectors.{IsDetectorOf}
+use Rattle.hep_races.specs.Renamings.{IsRenamedEvent}
+use Rattle.hep_races.specs.RunNames.{run_names, unit_of_place}
+use Rattle.hep_races.specs.StepEvents.{AreNamesOf, IsLookedAt}
+use Rattle.hep_races.specs.declared.event.Access.{Access}
+use Rattle.hep_races.specs.declared.race_observer.RaceObserver.{RaceObserver}
+use Rattle.hep_races.specs.declared.step_access.AccessSite.{AccessSite}
+use Rattle.hep_races.specs.declared.step_access.SitedAccess.{SitedAccess}
+use Rattle.hep_races.specs.declared.step_event.ObservedStep.{ObservedStep}
+use Rattle.hep_races.specs.declared.storage_unit.StorageUnit.{StorageUnit}
+
+-- ---- accesses with the numbers of their sites
+
+-- the index of its site is its number
+pub record IsNumbered (sites : List AccessSite) (a : SitedAccess) (n : Access) : Type 0 where
+  pub at : n.at ≡ unit_of_place a.at
+  pub stores : n.stores ≡ a.stores
+  pub site : slice_get sites n.site ≡ Some a.site
+
+abbrev pub AreNumbered : List AccessSite → List SitedAccess → List Access → Type 0
+AreNumbered sites accesses numbered = AllZip (IsNumbered sites) accesses numbered
+
+-- ---- events
+
+abbrev pub Events : Type 0
+Events = List Event
+
+-- with the step of process p from this state
+abbrev pub with_step : Units → ℕ → State → Events → Events
+with_step program p s es = es ++ event_of program p s (state_after_turn program p s) ∷ []
+
+-- it has observed just these events, under the names that the whole run has
+pub record AreObserved (program : Units) (replay : Replay) (made : List ℕ) (o : RaceObserver) (es : Events) : Type 0 where
+  pub variables : AreVariablesOf program o.variables
+  pub names : AreNamesOf program o.names
+  pub bounds : AreBoundsOf program o.bounds
+  pub events : List (AnEvent StorageUnit ℕ)
+  pub detected : IsDetectorOf events o.detector
+  pub same : AllZip (IsRenamedEvent (run_names program (run program (processes replay.turns)) o.sites)) es events
+
+-- a process is observed before its step
+abbrev pub IsNoted : Units → List ℕ → ℕ → ObservedStep → Type 0
+IsNoted program made p look =
+    (top : Level × Process) → living (run program made) p ≡ Some top → IsLookedAt program (top_after program made p top) look

@@ -1,0 +1,232 @@
+//! An observer of a history's turns that finds the races.
+ghost use Rattle.std.specs.Prelude.{◌≡◌, ◌++◌, ◌∷◌, [], ℕ, IfOk, List, OnOk, map};
+ghost use Rattle.std.specs.Option.{option_map, option_to_list};
+ghost use Rattle.hep_fold.specs.Observers.{Replay};
+ghost use Rattle.hep_races.specs.ObservedRuns.{AreNumbered, AreObserved};
+ghost use Rattle.hep_races.specs.RunNames.{unit_of_place};
+ghost use Rattle.hep_races.specs.declared.step_access.AccessSite.{AccessSite as Site};
+ghost use Rattle.hep_races.specs.declared.step_access.SitedAccess.{SitedAccess as Accessed};
+
+use crate::bound_names::BoundNames;
+use crate::detector::Detector;
+use crate::event::{Access, StepEvent};
+use crate::site_table::SiteTable;
+use crate::step_access::SitedAccess;
+use crate::step_event::{ObservedStep, look_ahead};
+use crate::storage_unit::StorageUnit;
+use crate::unit_names::UnitNames;
+use hep_event::{Variables, coming_of};
+use hep_fold::{DecodedImage, Observer, TurnRow};
+use hep_image::Image;
+use hep_machine::laws::numbers_rise;
+use hep_state::CoreState;
+use hep_trace::LiveProcess;
+use hep_views::Place;
+use std::alloc::{AllocError, Global};
+
+/// Finds the races of a history while its turns are made.
+pub struct RaceObserver {
+    alloc: Global,
+    variables: Variables,
+    names: UnitNames,
+    bounds: BoundNames,
+    pub(crate) sites: SiteTable,
+    pub(crate) detector: Detector,
+}
+
+// Written out, so that a caller's proof has one call of it at each exit.
+impl Drop for RaceObserver {
+    fn drop(self) {
+        let RaceObserver {
+            alloc,
+            variables,
+            names,
+            bounds,
+            sites,
+            detector,
+        } = self;
+    }
+}
+
+// The storage unit of a place.
+fn unit_of(place: Place) -> StorageUnit
+    ensures { result ≡ unit_of_place place }
+{
+    StorageUnit {
+        owner: place.owner,
+        name: place.name,
+        element: place.element,
+    }
+}
+
+// The storage unit of a place, if there is one.
+fn unit_needed(place: Option<Place>) -> Option<StorageUnit>
+    ensures { result ≡ option_map unit_of_place place }
+{
+    match place {
+        Some(place) => Some(unit_of(place)),
+        None => None,
+    }
+}
+
+// The storage units of places.
+fn units_of(alloc: Global, places: &[Place]) -> Result<Vec<StorageUnit>, AllocError>
+    ensures { IfOk result (λ units. units.items ≡ map unit_of_place places.now) }
+{
+    let mut units = Vec::new(alloc);
+    for place in places {
+        units.push(unit_of(*place))?;
+    }
+    Ok(units)
+}
+
+// Appends an access with the number of its site.
+fn append_access(
+    sites: &mut SiteTable,
+    numbered: &mut Vec<Access>,
+    access: &SitedAccess,
+) -> Result<(), AllocError>
+    ensures numbered { OnOk result ((xs : List Accessed) → AreNumbered sites.old xs numbered.old.items
+        → AreNumbered sites.new (xs ++ access.now ∷ []) numbered.new.items) }
+    ensures kept { OnOk result ((more : List Site) × (sites.new ≡ sites.old ++ more)) }
+{
+    let site = sites.number(access.site)?;
+    numbered.push(Access {
+        at: unit_of(access.at),
+        stores: access.stores,
+        site,
+    })?;
+    Ok(())
+}
+
+// Appends an access with the number of its site, if there is one.
+fn append_named(
+    sites: &mut SiteTable,
+    numbered: &mut Vec<Access>,
+    access: Option<SitedAccess>,
+) -> Result<(), AllocError>
+    ensures numbered { OnOk result ((xs : List Accessed) → AreNumbered sites.old xs numbered.old.items
+        → AreNumbered sites.new (xs ++ option_to_list access) numbered.new.items) }
+    ensures kept { OnOk result ((more : List Site) × (sites.new ≡ sites.old ++ more)) }
+{
+    match access {
+        Some(access) => append_access(sites, numbered, &access),
+        None => Ok(()),
+    }
+}
+
+// Appends accesses with the numbers of their sites.
+fn append_accesses(
+    sites: &mut SiteTable,
+    numbered: &mut Vec<Access>,
+    accesses: &[SitedAccess],
+) -> Result<(), AllocError>
+    ensures numbered { OnOk result ((xs : List Accessed) → AreNumbered sites.old xs numbered.old.items
+        → AreNumbered sites.new (xs ++ accesses.now) numbered.new.items) }
+    ensures kept { OnOk result ((more : List Site) × (sites.new ≡ sites.old ++ more)) }
+{
+    for access in accesses {
+        append_access(sites, numbered, access)?;
+    }
+    Ok(())
+}
+
+// The accesses of a step with the numbers of their sites.
+fn numbered(
+    alloc: Global,
+    sites: &mut SiteTable,
+    step: &ObservedStep,
+) -> Result<Vec<Access>, AllocError>
+    ensures numbered { IfOk result (λ numbered.
+        AreNumbered sites.new (option_to_list step.now.access ++ step.now.bounds.items) numbered.items) }
+    ensures kept { OnOk result ((more : List Site) × (sites.new ≡ sites.old ++ more)) }
+{
+    let mut numbered = Vec::new(alloc);
+    append_named(sites, &mut numbered, step.access)?;
+    append_accesses(sites, &mut numbered, &step.bounds)?;
+    Ok(numbered)
+}
+
+impl RaceObserver {
+    /// An observer that has observed no turn of an image's program.
+    ///
+    /// # Errors
+    ///
+    /// Only where memory was refused.
+    pub fn new(alloc: Global, image: &Image) -> Result<RaceObserver, AllocError>
+        ensures { IfOk result (λ observer. (replay : Replay) (made : List ℕ) → AreObserved image.now replay made observer []) }
+    {
+        let variables = Variables::of_image(alloc, image)?;
+        let names = UnitNames::of_image(alloc, image)?;
+        let bounds = BoundNames::of_image(alloc, image)?;
+        Ok(RaceObserver {
+            alloc,
+            variables,
+            names,
+            bounds,
+            sites: SiteTable::new(alloc),
+            detector: Detector::new(alloc),
+        })
+    }
+}
+
+impl Observer for RaceObserver {
+    ghost use Rattle.hep_races.specs.ObservedRuns.{AreObserved, Events, IsNoted, with_step};
+
+    ghost Seen = { Events };
+
+    ghost knows = { AreObserved };
+
+    ghost see = { λ program entry. with_step program };
+
+    type Look = ObservedStep;
+
+    ghost notes = { λ program replay made entry p o look. IsNoted program made p look };
+
+    fn look(
+        &self,
+        machine: &CoreState,
+        image: &Image,
+        entry: u64,
+        p: u64,
+    ) -> Result<ObservedStep, AllocError> {
+        let coming = coming_of(self.alloc, machine, image, p)?;
+        let ahead = LiveProcess {
+            machine,
+            image,
+            variables: &self.variables,
+            process: p,
+            coming: &coming,
+        };
+        let observed = look_ahead(self.alloc, &ahead, &self.names, &self.bounds)?;
+        Ok(observed)
+    }
+
+    fn tell(
+        &mut self,
+        machine: &CoreState,
+        image: &Image,
+        entry: u64,
+        p: u64,
+        look: ObservedStep,
+    ) -> Result<(), AllocError> {
+        numbers_rise();
+        let mut step = look;
+        step.end(machine);
+        let changes = units_of(self.alloc, &step.changes)?;
+        let accesses = numbered(self.alloc, &mut self.sites, &step)?;
+        let event = StepEvent {
+            process: step.process,
+            makes: step.makes,
+            needs: unit_needed(step.needs),
+            changes: &changes,
+            accesses: &accesses,
+        };
+        self.detector.observe(&event)?;
+        Ok(())
+    }
+
+    fn go_on(&mut self, machine: &mut CoreState, tabled: &DecodedImage<'_>, row: TurnRow) -> u64 {
+        0
+    }
+}
