@@ -64,9 +64,10 @@ function variables(ls) {
   return found
 }
 function numberIn(v, subscripts) { let k = 1, stride = 1; subscripts.forEach((s, i) => { k += (s - v.lower[i]) * stride; stride *= v.upper[i] - v.lower[i] + 1 }); return k }
-// Names, bounds and what arguments stand for don't change while a section is there.
+// Names and bounds don't change while a section is there. What arguments are associated with goes when the activation ends.
 const shapes = {}
-const shapeOf = (kind, n) => shapes[kind + n] ??= state[kind][n]?.length ? variables(state[kind][n]) : undefined
+const associated = ls => / IS /.test(ls?.[ls.length - 1] ?? '')
+const shapeOf = (kind, n) => shapes[`${kind}${n}${associated(state[kind][n])}`] ??= state[kind][n]?.length ? variables(state[kind][n]) : undefined
 // A table's elements one by one, in their order: the first subscript goes fastest.
 function singles(v) {
   const all = []

@@ -81,8 +81,9 @@ def lines_of_block(run, block):
     return lines
 
 
-def lines_of_activation(activation):
-    """An activation: its local variables, and the dummy arguments that stand for expressions."""
+def lines_of_activation(activation, lives):
+    """An activation: its local variables, the dummy arguments that stand for expressions, and what the others are associated
+    with as long as it lives."""
     lines = [f"ACTIVATION {activation.number} {activation.unit.name}\n"]
     for variable in activation.unit.locals:
         lines += lines_of(variable.name, variable.dimensions if variable.bounds else [], activation.names[variable.name].cells())
@@ -90,6 +91,16 @@ def lines_of_activation(activation):
         sequence = activation.names[dummy]
         if sequence.row.shown == f"{dummy} OF {activation.number}":
             lines += lines_of(dummy, [], [sequence.cell()])
+    return lines + (associations_of(activation) if lives else [])
+
+
+def associations_of(activation):
+    """What the dummy arguments that stand for no expression are associated with: the first cell of each."""
+    lines = []
+    for dummy in activation.unit.dummies:
+        sequence = activation.names[dummy]
+        if sequence.row.shown != f"{dummy} OF {activation.number}":
+            lines.append(f"  {dummy} IS {sequence.shown()}\n")
     return lines
 
 
@@ -108,6 +119,7 @@ def text_of(program, source, arena, entries, count):
         lines += lines_of_process(run.living[number], source)
     for block in program.common_cells:
         lines += lines_of_block(run, block)
+    living = {activation.number for process in run.living.values() for activation in process.stack}
     for number in sorted(run.held):
-        lines += lines_of_activation(run.held[number])
+        lines += lines_of_activation(run.held[number], number in living)
     return machine.Outcome("".join(lines).encode(), b"", 0, b"")

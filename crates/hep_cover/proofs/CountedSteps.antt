@@ -1,5 +1,5 @@
 -- Steps that were counted, and the turns that they are.
-use Rattle.std.proofs.Common.{◌≡◌, ℕ, suc, ◌+◌, List, [], ◌∷◌, drop, Option, refl, sym, ap, ◌∙◌, subst, arith}
+use Rattle.std.proofs.Common.{◌≡◌, ℕ, suc, ◌+◌, Bool, List, [], ◌∷◌, drop, Option, refl, sym, ap, ◌∙◌, subst, arith}
 use Rattle.hep_code.specs.declared.instruction.Instruction.{Instruction}
 use Rattle.hep_image.specs.declared.array.Array.{Array}
 use Rattle.hep_machine.specs.Words.{State, Units, run, state_after_turn}
@@ -13,7 +13,7 @@ use Rattle.hep_state.specs.declared.core_state.CoreState.{CoreState}
 use Rattle.hep_advance.specs.SilentRuns.{MakesMoves}
 use Rattle.hep_advance.proofs.KeptTurns.{HasLaws, come-so, here, turn_at}
 use Rattle.hep_advance.proofs.RunsToBreakpoint.{state-on}
-use Rattle.hep_fold.specs.Turns.{seen_along, turns_in_row}
+use Rattle.hep_fold.specs.Turns.{number_after, seen_along, turns_in_row}
 use Rattle.hep_fold.proofs.Folding.{seen-none, seen-one, seen-row, seen-row-next}
 use Rattle.hep_cover.specs.Counts.{counted, counted_after, counts_after}
 use Rattle.hep_cover.specs.StartMarks.{mark}
@@ -58,13 +58,13 @@ module _ (operations : List ℕ) (code : List Instruction) (arrays : List Array)
 -- ---- turns of a process
 
 -- what was counted of a process on its way is what its turns begin
-module _ (t : TurnOf) (operations : List ℕ) (known : HasLaws t) (turns : IsTurning t) (entry : ℕ) where
+module _ (t : TurnOf) (operations : List ℕ) (known : HasLaws t) (turns : IsTurning t) (apart : Bool) (entry : ℕ) where
   abbrev Tallied : List (Option ℕ) → ℕ → Snapshot → List (Option ℕ) → Type 0
   Tallied counts n u now =
       Tallies operations (unit_code t.program t.level.unit) (unit_arrays t.program t.level.unit) (top_frame t).first (here t) counts n u now
 
   pub tallied-so : (counts : List (Option ℕ)) (n : ℕ) (u : Snapshot) (now : List (Option ℕ)) → Tallied counts n u now
-      → now ≡ seen_along t.program (counted_after t.program operations) (run t.program t.choices) (turns_in_row entry t.process n) counts
+      → now ≡ seen_along t.program (counted_after t.program operations) (run t.program t.choices) (turns_in_row apart entry t.process n) counts
   tallied-so counts _ _ _ (stays _ _) = sym (seen-none t.program (counted_after t.program operations) (run t.program t.choices) counts)
   tallied-so counts _ _ _ (settles _ _ n s now u tallied is) = tallied-so counts n s now tallied
   tallied-so counts _ _ _ (steps _ _ n s now u tallied is) =
@@ -76,7 +76,7 @@ module _ (t : TurnOf) (operations : List ℕ) (known : HasLaws t) (turns : IsTur
       begun-is (turn_at t come.after come.top s) come.turns operations in
       let state = state-on t.program t.cells p t.choices n come.after come.gone in
       (λ i. counted ((line ∙ ap (begun t.program operations p) state) i) (tallied-so counts n s now tallied i))
-      ∙ sym (seen-row-next t.program (counted_after t.program operations) (run t.program t.choices) entry p n counts)
+      ∙ sym (seen-row-next t.program (counted_after t.program operations) (run t.program t.choices) apart entry p n counts)
 
 -- ---- turns one after the other
 
@@ -90,19 +90,19 @@ module _ (program : Units) (operations : List ℕ) where
 
   module _ (p : ℕ) where
     pub counts-none : (m : CoreState) (counts : List (Option ℕ)) → CountsTurns program operations p m counts 0 counts
-    counts-none m counts cells choices h entry = sym (seen-none program (counted_after program operations) (run program choices) counts)
+    counts-none m counts cells choices h apart entry = sym (seen-none program (counted_after program operations) (run program choices) counts)
 
     -- turns in a row, and more of them
     pub counts-more : (old mid : CoreState) (n m : ℕ) (before between now : List (Option ℕ)) → MakesMoves program p old n mid
         → CountsTurns program operations p old before n between → CountsTurns program operations p mid between m now
         → CountsTurns program operations p old before (n + m) now
-    counts-more old mid n m before between now gone first then cells choices h entry =
+    counts-more old mid n m before between now gone first then cells choices h apart entry =
         let a = gone cells choices h in
         let state = state-on program cells p choices n a.0 a.1 in
         let see = counted_after program operations in
-        then cells a.0 a.2 (entry + n)
-        ∙ (λ i. seen_along program see (state i) (turns_in_row (entry + n) p m) (first cells choices h entry i))
-        ∙ sym (seen-row program see (run program choices) entry p n m before)
+        then cells a.0 a.2 apart (number_after apart entry n)
+        ∙ (λ i. seen_along program see (state i) (turns_in_row apart (number_after apart entry n) p m) (first cells choices h apart entry i))
+        ∙ sym (seen-row program see (run program choices) apart entry p n m before)
 
   -- ---- what an observer knows
 

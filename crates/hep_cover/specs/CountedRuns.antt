@@ -1,6 +1,6 @@
 -- Steps of one activation, and turns of one process, that only move it, with the counts of the statements that they
 -- begin.
-use Rattle.std.specs.Prelude.{◌≡◌, ℕ, suc, ◌<◌, ◌≤◌, List, drop, Option}
+use Rattle.std.specs.Prelude.{◌≡◌, ℕ, suc, Bool, ◌<◌, ◌≤◌, List, drop, Option}
 use Rattle.hep_arena.specs.Space.{Space}
 use Rattle.hep_code.specs.declared.instruction.Instruction.{Instruction}
 use Rattle.hep_image.specs.declared.array.Array.{Array}
@@ -55,5 +55,5 @@ TalliesTop program operations old frames counts most made new after now =
 -- lead from some counts to others
 abbrev pub CountsTurns : Units → List ℕ → ℕ → CoreState → List (Option ℕ) → ℕ → List (Option ℕ) → Type 0
 CountsTurns program operations p old counts made now =
-    AfterTurns program old (λ cells choices. (entry : ℕ)
-    → now ≡ seen_along program (counted_after program operations) (run program choices) (turns_in_row entry p made) counts)
+    AfterTurns program old (λ cells choices. (apart : Bool) (entry : ℕ)
+    → now ≡ seen_along program (counted_after program operations) (run program choices) (turns_in_row apart entry p made) counts)

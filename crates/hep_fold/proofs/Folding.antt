@@ -1,5 +1,5 @@
 -- Turns that are made for an observer: what is left of them, and what it knows.
-use Rattle.std.proofs.Common.{◌≡◌, ℕ, suc, ◌+◌, ◌-◌, ◌≤◌, List, [], ◌∷◌, ◌++◌, drop, length, length-append, replicate, take, IsSome, refl, sym, ap, ◌∙◌, subst, arith, append_assoc}
+use Rattle.std.proofs.Common.{◌≡◌, ℕ, suc, ◌+◌, ◌-◌, ◌≤◌, Bool, List, [], ◌∷◌, ◌++◌, drop, length, length-append, replicate, take, IsSome, refl, sym, ap, ◌∙◌, subst, arith, append_assoc}
 use Rattle.std.proofs.lemmas.List.{length-map}
 use Rattle.hep_advance.proofs.RunsToBreakpoint.{run-on, turns-are}
 use Rattle.hep_advance.specs.SilentRuns.{MakesMoves}
@@ -14,9 +14,9 @@ use Rattle.hep_fold.specs.declared.replay_machine.ReplayMachine.{ReplayMachine}
 use Rattle.hep_fold.specs.declared.turn_row.TurnRow.{TurnRow}
 use Rattle.hep_fold.specs.declared.history_range.HistoryRange.{HistoryRange}
 use Rattle.hep_fold.specs.Folds.{CanFold, Folds, IsFolding, entries_before, entries_until, seen_within}
-use Rattle.hep_fold.specs.Observers.{AreTurnsAhead, IsMade, IsUnderWay, Replay, row_turns}
+use Rattle.hep_fold.specs.Observers.{AreTurnsAhead, IsMade, IsUnderWay, Replay, later_row, row_turns}
 use Rattle.hep_fold.specs.ReplayMachines.{CanGoAgain, CanTurnAgain, HasGoneAgain, made_by}
-use Rattle.hep_fold.specs.Turns.{processes, seen_along, turns_from, turns_in_row}
+use Rattle.hep_fold.specs.Turns.{number_after, processes, seen_along, turns_from, turns_in_row}
 use Rattle.hep_fold.proofs.TurnRows.{processes-append, row-processes, row-split, schedule-many}
 
 -- ---- turns after others
@@ -46,28 +46,29 @@ module _ (program : Units) where
   seen-none see s seen = refl
 
   -- along turns in a row, and more of them
-  pub seen-row : {S : Type 0} (see : ℕ → ℕ → State → S → S) (s : State) (entry p n m : ℕ) (seen : S)
-      → seen_along program see s (turns_in_row entry p (n + m)) seen
-      ≡ seen_along program see (run_from program s (replicate n p)) (turns_in_row (entry + n) p m)
-      (seen_along program see s (turns_in_row entry p n) seen)
-  seen-row see s entry p n m seen =
+  pub seen-row : {S : Type 0} (see : ℕ → ℕ → State → S → S) (s : State) (apart : Bool) (entry p n m : ℕ) (seen : S)
+      → seen_along program see s (turns_in_row apart entry p (n + m)) seen
+      ≡ seen_along program see (run_from program s (replicate n p)) (turns_in_row apart (number_after apart entry n) p m)
+      (seen_along program see s (turns_in_row apart entry p n) seen)
+  seen-row see s apart entry p n m seen =
       let left : n + m - n ≡ m = omega arith in
-      let first = turns_in_row entry p n in
-      let more = turns_in_row (entry + n) p m in
-      ap (λ ts. seen_along program see s ts seen)
-      (row-split n (n + m) entry p (omega arith) ∙ ap (λ k. first ++ turns_in_row (entry + n) p k) left)
+      let first = turns_in_row apart entry p n in
+      let more = turns_in_row apart (number_after apart entry n) p m in
+      ap (λ ts. seen_along program see s ts seen) (
+      row-split apart n (n + m) entry p (omega arith) ∙ ap (λ k. first ++ turns_in_row apart (number_after apart entry n) p k) left)
       ∙ seen-behind see s first more seen
-      ∙ ap (λ ps. seen_along program see (run_from program s ps) more (seen_along program see s first seen)) (row-processes n entry p)
+      ∙ ap (λ ps. seen_along program see (run_from program s ps) more (seen_along program see s first seen)) (row-processes apart n entry p)
 
   -- and the next one
-  pub seen-row-next : {S : Type 0} (see : ℕ → ℕ → State → S → S) (s : State) (entry p n : ℕ) (seen : S)
-      → seen_along program see s (turns_in_row entry p (suc n)) seen
-      ≡ see (entry + n) p (run_from program s (replicate n p)) (seen_along program see s (turns_in_row entry p n) seen)
-  seen-row-next see s entry p n seen =
+  pub seen-row-next : {S : Type 0} (see : ℕ → ℕ → State → S → S) (s : State) (apart : Bool) (entry p n : ℕ) (seen : S)
+      → seen_along program see s (turns_in_row apart entry p (suc n)) seen
+      ≡ see (number_after apart entry n) p (run_from program s (replicate n p)) (seen_along program see s (turns_in_row apart entry p n) seen)
+  seen-row-next see s apart entry p n seen =
       let one : suc n ≡ n + 1 = omega arith in
-      ap (λ k. seen_along program see s (turns_in_row entry p k) seen) one
-      ∙ seen-row see s entry p n 1 seen
-      ∙ seen-one see (run_from program s (replicate n p)) (entry + n) p (seen_along program see s (turns_in_row entry p n) seen)
+      ap (λ k. seen_along program see s (turns_in_row apart entry p k) seen) one
+      ∙ seen-row see s apart entry p n 1 seen
+      ∙ seen-one see (run_from program s (replicate n p)) (number_after apart entry n) p
+      (seen_along program see s (turns_in_row apart entry p n) seen)
 
   -- a machine after the first turns that were left
   pub under-behind : (replay : Replay) (made : List ℕ) (all front left : List (ℕ × ℕ)) (m n : CoreState) → all ≡ front ++ left
@@ -89,12 +90,12 @@ module _ (program : Units) where
 module _ (row : TurnRow) (left : List (ℕ × ℕ)) where
   -- those after the first n, and the turns after the row
   abbrev pub left_of_row : ℕ → List (ℕ × ℕ)
-  left_of_row n = turns_in_row (row.entry + n) row.process (row.count - n) ++ left
+  left_of_row n = row_turns (later_row row n) ++ left
 
-  pub row-parts : (n : ℕ) → n ≤ row.count → row_turns row ++ left ≡ turns_in_row row.entry row.process n ++ left_of_row n
+  pub row-parts : (n : ℕ) → n ≤ row.count → row_turns row ++ left ≡ turns_in_row row.apart row.entry row.process n ++ left_of_row n
   row-parts n few =
-      ap (λ ts. ts ++ left) (row-split n row.count row.entry row.process few)
-      ∙ append_assoc (turns_in_row row.entry row.process n) (turns_in_row (row.entry + n) row.process (row.count - n)) left
+      ap (λ ts. ts ++ left) (row-split row.apart n row.count row.entry row.process few)
+      ∙ append_assoc (turns_in_row row.apart row.entry row.process n) (row_turns (later_row row n)) left
 
   -- where none was made, the first one comes next
   pub row-unmade : (n : ℕ) → n ≡ 0 → 1 ≤ row.count → left_of_row n ≡ (row.entry, row.process) ∷ left_of_row 1
@@ -106,9 +107,9 @@ module _ (row : TurnRow) (left : List (ℕ × ℕ)) where
       → IsUnderWay program replay (made ++ replicate n row.process) (left_of_row n) new
   row-under-way program replay made old new n few h gone =
       let p = row.process in
-      let front = turns_in_row row.entry p n in
+      let front = turns_in_row row.apart row.entry p n in
       let there = gone replay.cells made h.after in
-      let same : made ++ processes front ≡ made ++ replicate n p = ap (λ ps. made ++ ps) (row-processes n row.entry p) in
+      let same : made ++ processes front ≡ made ++ replicate n p = ap (λ ps. made ++ ps) (row-processes row.apart n row.entry p) in
       let after : IsMachineAfter program replay.cells (made ++ replicate n p) new =
       subst (λ ps. IsMachineAfter program replay.cells ps new) (turns-are program replay.cells p made n there.0 there.1) there.2 in
       subst (λ ps. IsUnderWay program replay ps (left_of_row n) new) same (
@@ -228,17 +229,17 @@ module _ {O S : Type 0} (knows : Units → Replay → List ℕ → O → S → T
       pub folded-row : (n : ℕ) → n ≤ row.count → (new : ReplayMachine) (now : O) → made_by new ≡ made_by old ++ replicate n row.process
           → IsMachineAfter program replay.cells (made_by old ++ replicate n row.process) new.machine → new.machine.made ≤ new.roster.room
           → knows program replay (made_by old ++ replicate n row.process) now
-          (seen_along program (see program) (run program (made_by old)) (turns_in_row row.entry row.process n) h.seen)
+          (seen_along program (see program) (run program (made_by old)) (turns_in_row row.apart row.entry row.process n) h.seen)
           → IsFolding knows see tabled replay total (left_of_row row left n) new now
       folded-row n few new now made after room known =
-          let of-row : made_by old ++ replicate n row.process ≡ made_by old ++ processes (turns_in_row row.entry row.process n) =
-          ap (λ ps. made_by old ++ ps) (sym (row-processes n row.entry row.process)) in
-          folding-behind (row_turns row ++ left) (turns_in_row row.entry row.process n)
+          let of-row : made_by old ++ replicate n row.process ≡ made_by old ++ processes (turns_in_row row.apart row.entry row.process n) =
+          ap (λ ps. made_by old ++ ps) (sym (row-processes row.apart n row.entry row.process)) in
+          folding-behind (row_turns row ++ left) (turns_in_row row.apart row.entry row.process n)
           (left_of_row row left n) (row-parts row left n few) h new now
           (made ∙ of-row)
           (subst (λ ps. IsMachineAfter program replay.cells ps new.machine) (sym made) after)
           room
-          (subst (λ ps. knows program replay ps now (seen_along program (see program) (run program (made_by old)) (turns_in_row row.entry row.process n) h.seen)) of-row known)
+          (subst (λ ps. knows program replay ps now (seen_along program (see program) (run program (made_by old)) (turns_in_row row.apart row.entry row.process n) h.seen)) of-row known)
 
 -- ---- turns in parts
 

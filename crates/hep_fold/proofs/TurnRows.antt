@@ -1,58 +1,74 @@
 -- Turns in a row, turns of entries, and the processes of turns.
-use Rattle.std.proofs.Common.{◌≡◌, ℕ, zero, suc, ◌+◌, ◌-◌, ◌<◌, ◌≤◌, List, [], ◌∷◌, ◌++◌, length, replicate, refl, sym, ap, ◌∙◌, arith, append_assoc}
+use Rattle.std.proofs.Common.{◌≡◌, ℕ, zero, suc, ◌+◌, ◌-◌, ◌<◌, ◌≤◌, Bool, true, false, List, [], ◌∷◌, ◌++◌, length, replicate, refl, sym, ap, ◌∙◌, arith, append_assoc}
 use Rattle.std.proofs.lemmas.List.{map-append}
 use Rattle.hep_history.specs.declared.run.Run.{Run}
 use Rattle.hep_history.specs.Runs.{entry_of}
 use Rattle.hep_machine.specs.declared.event.Entry.{Entry}
 use Rattle.hep_machine.specs.Words.{schedule_of}
-use Rattle.hep_fold.specs.Turns.{processes, turns_from, turns_in_row, turns_of}
+use Rattle.hep_fold.specs.declared.turn_row.TurnRow.{TurnRow}
+use Rattle.hep_fold.specs.Observers.{later_row, row_turns}
+use Rattle.hep_fold.specs.Turns.{next_number, number_after, processes, turns_from, turns_in_row, turns_of}
+
+-- ---- the numbers of entries
+
+-- no turn later
+number-here : (apart : Bool) (number : ℕ) → number ≡ number_after apart number 0
+number-here true number = omega arith
+number-here false number = refl
+
+-- some turns after the next one
+number-next : (apart : Bool) (number m : ℕ) → number_after apart (next_number apart number) m ≡ number_after apart number (suc m)
+number-next true number m = omega arith
+number-next false number m = refl
+
+-- some turns later, and then more
+number-later : (apart : Bool) (number m n : ℕ) → number_after apart (number_after apart number m) n ≡ number_after apart number (m + n)
+number-later true number m n = omega arith
+number-later false number m n = refl
 
 -- ---- turns in a row
 
--- the first ones, and those behind them
-pub row-split : (m n number p : ℕ) → m ≤ n → turns_in_row number p n ≡ turns_in_row number p m ++ turns_in_row (number + m) p (n - m)
-row-split zero n number p few =
-    let at : number ≡ number + 0 = omega arith in
+-- the first ones, and those after them
+pub row-split : (apart : Bool) (m n number p : ℕ) → m ≤ n
+    → turns_in_row apart number p n ≡ turns_in_row apart number p m ++ turns_in_row apart (number_after apart number m) p (n - m)
+row-split apart zero n number p few =
     let all : n ≡ n - 0 = omega arith in
-    (λ i. turns_in_row (at i) p (all i))
-row-split (suc m) zero number p few = absurd (omega (arith, few))
-row-split (suc m) (suc n) number p few =
-    let at : suc number + m ≡ number + suc m = omega arith in
+    (λ i. turns_in_row apart (number-here apart number i) p (all i))
+row-split apart (suc m) zero number p few = absurd (omega (arith, few))
+row-split apart (suc m) (suc n) number p few =
+    let next = next_number apart number in
     let left : n - m ≡ suc n - suc m = omega arith in
-    ap (λ ts. (number, p) ∷ ts)
-    (row-split m n (suc number) p (omega (arith, few)) ∙ (λ i. turns_in_row (suc number) p m ++ turns_in_row (at i) p (left i)))
-
--- one turn more of those that are left
-pub one-more : (n i : ℕ) (t : ℕ × ℕ) (left : List (ℕ × ℕ)) → i < n → replicate (n - i) t ++ left ≡ t ∷ (replicate (n - (i + 1)) t ++ left)
-one-more n i t left less =
-    let count : n - i ≡ suc (n - (i + 1)) = omega (arith, less) in
-    ap (λ k. replicate k t ++ left) count
+    ap (λ ts. (number, p) ∷ ts) (
+    row-split apart m n next p (omega (arith, few))
+    ∙ (λ i. turns_in_row apart next p m ++ turns_in_row apart (number-next apart number m i) p (left i)))
 
 -- none was made
-pub row-whole : (n number p : ℕ) → turns_in_row number p n ≡ turns_in_row (number + 0) p (n - 0)
-row-whole n number p =
-    let at : number ≡ number + 0 = omega arith in
-    let count : n ≡ n - 0 = omega arith in
-    (λ i. turns_in_row (at i) p (count i))
+pub row-whole : (row : TurnRow) → row_turns row ≡ row_turns (later_row row 0)
+row-whole row =
+    let count : row.count ≡ row.count - 0 = omega arith in
+    (λ i. turns_in_row row.apart (number-here row.apart row.entry i) row.process (count i))
 
 -- some were made, and more of them
-pub row-further : (n made more number p : ℕ)
-    → turns_in_row (number + made + more) p (n - made - more) ≡ turns_in_row (number + (made + more)) p (n - (made + more))
-row-further n made more number p =
-    let at : number + made + more ≡ number + (made + more) = omega arith in
-    let count : n - made - more ≡ n - (made + more) = omega arith in
-    (λ i. turns_in_row (at i) p (count i))
+pub row-further : (row : TurnRow) (made more : ℕ) → row_turns (later_row (later_row row made) more) ≡ row_turns (later_row row (made + more))
+row-further row made more =
+    let count : row.count - made - more ≡ row.count - (made + more) = omega arith in
+    (λ i. turns_in_row row.apart (number-later row.apart row.entry made more i) row.process (count i))
+
+-- those of one entry
+pub row-alike : (n number p : ℕ) → turns_in_row false number p n ≡ replicate n (number, p)
+row-alike zero number p = refl
+row-alike (suc n) number p = ap (λ ts. (number, p) ∷ ts) (row-alike n number p)
 
 -- ---- turns of entries
 
 -- of entries of one step each
-pub row-of : (n number : ℕ) (e : Entry) → e.steps ≡ 1 → turns_from number (replicate n e) ≡ turns_in_row number e.process n
+pub row-of : (n number : ℕ) (e : Entry) → e.steps ≡ 1 → turns_from number (replicate n e) ≡ turns_in_row true number e.process n
 row-of zero number e one = refl
 row-of (suc n) number e one = (λ i. replicate (one i) (number, e.process) ++ row-of n (suc number) e one i)
 
 -- of a run of them
 pub row-of-run : (run : Run) (number : ℕ) → run.steps ≡ 1
-    → turns_from number (replicate run.count (entry_of run)) ≡ turns_in_row number run.process run.count
+    → turns_from number (replicate run.count (entry_of run)) ≡ turns_in_row true number run.process run.count
 row-of-run run number one = row-of run.count number (entry_of run) one
 
 -- of equal entries, none of which was made
@@ -102,9 +118,9 @@ processes-all k (e ∷ es) =
     ∙ (λ i. processes-alike e.steps k e.process i ++ processes-all (suc k) es i)
 
 -- of a row
-pub row-processes : (n number p : ℕ) → processes (turns_in_row number p n) ≡ replicate n p
-row-processes zero number p = refl
-row-processes (suc n) number p = ap (λ ps. p ∷ ps) (row-processes n (suc number) p)
+pub row-processes : (apart : Bool) (n number p : ℕ) → processes (turns_in_row apart number p n) ≡ replicate n p
+row-processes apart zero number p = refl
+row-processes apart (suc n) number p = ap (λ ps. p ∷ ps) (row-processes apart n (next_number apart number) p)
 
 -- ---- the turns of more entries
 

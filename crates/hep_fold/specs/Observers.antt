@@ -1,12 +1,12 @@
 -- What an observer of turns is given, and what it knows after them: docs/ARCHITECTURE.md, "Forms".
-use Rattle.std.specs.Prelude.{◌≡◌, ◌≢◌, ◌+◌, ◌^◌, ◌<◌, ◌≤◌, ℕ, List, [], ◌∷◌, ◌++◌, length, IsSome, None}
+use Rattle.std.specs.Prelude.{◌≡◌, ◌≢◌, ◌+◌, ◌-◌, ◌^◌, ◌<◌, ◌≤◌, ℕ, List, [], ◌∷◌, ◌++◌, length, IsSome, None}
 use Rattle.hep_machine.specs.Words.{AreSteps, Units, is_held, layout_of, run, step}
 use Rattle.hep_advance.specs.SilentRuns.{CanTakeTurns}
 use Rattle.hep_fast.specs.declared.decoded_image.DecodedImage.{DecodedImage}
 use Rattle.hep_state.specs.declared.core_state.CoreState.{CoreState}
 use Rattle.hep_state.specs.Words.{IsMachineAfter}
 use Rattle.hep_fold.specs.declared.turn_row.TurnRow.{TurnRow}
-use Rattle.hep_fold.specs.Turns.{processes, turns_in_row}
+use Rattle.hep_fold.specs.Turns.{number_after, processes, turns_in_row}
 use Rattle.hep_fold.specs.ReplayMachines.{most_turns}
 
 -- the number of cells of an arena, and all turns that are made, each with the number of its entry
@@ -44,9 +44,13 @@ module _ {O S : Type 0} (knows : Units → Replay → List ℕ → O → S → T
     pub known : knows program replay made o seen
     pub noted : notes program replay made entry p o look
 
--- the turns of a row, each of an entry of its own
+-- the turns of a row
 abbrev pub row_turns : TurnRow → List (ℕ × ℕ)
-row_turns row = turns_in_row row.entry row.process row.count
+row_turns row = turns_in_row row.apart row.entry row.process row.count
+
+-- the row after its first n turns
+abbrev pub later_row : TurnRow → ℕ → TurnRow
+later_row row n = record row { entry = number_after row.apart row.entry n; count = row.count - n }
 
 -- turns of a process can be made at once, as many as are in the row
 pub record CanGoAtOnce (tabled : DecodedImage) (row : TurnRow) (m : CoreState) : Type 0 where

@@ -1,5 +1,5 @@
 -- The turns of a history, and what is known after them: docs/ARCHITECTURE.md, "Forms".
-use Rattle.std.specs.Prelude.{ℕ, zero, suc, List, [], ◌∷◌, ◌++◌, map, replicate}
+use Rattle.std.specs.Prelude.{ℕ, zero, suc, ◌+◌, Bool, true, false, List, [], ◌∷◌, ◌++◌, map, replicate}
 use Rattle.hep_machine.specs.declared.event.Entry.{Entry}
 use Rattle.hep_machine.specs.Words.{State, Units, state_after_turn}
 
@@ -12,10 +12,20 @@ abbrev pub turns_from : ℕ → List Entry → List (ℕ × ℕ)
 turns_from entry [] = []
 turns_from entry (e ∷ es) = turns_of entry e ++ turns_from (suc entry) es
 
--- the turns of n entries of one step of process p, from the entry with this number on
-abbrev pub turns_in_row : ℕ → ℕ → ℕ → List (ℕ × ℕ)
-turns_in_row number p zero = []
-turns_in_row number p (suc n) = (number, p) ∷ turns_in_row (suc number) p n
+-- the number of the entry of the next turn, where each turn is an entry of its own, or all are part of one
+abbrev pub next_number : Bool → ℕ → ℕ
+next_number true number = suc number
+next_number false number = number
+
+-- that of the turn after n turns
+abbrev pub number_after : Bool → ℕ → ℕ → ℕ
+number_after true number n = number + n
+number_after false number n = number
+
+-- n turns of process p, from the entry with this number on
+abbrev pub turns_in_row : Bool → ℕ → ℕ → ℕ → List (ℕ × ℕ)
+turns_in_row apart number p zero = []
+turns_in_row apart number p (suc n) = (number, p) ∷ turns_in_row apart (next_number apart number) p n
 
 -- the processes of turns
 abbrev pub processes : List (ℕ × ℕ) → List ℕ

@@ -1,8 +1,8 @@
 //! The turns of a history, made again for an observer.
-ghost use Rattle.std.specs.Prelude.{◌≡◌, ◌+◌, ◌-◌, ◌^◌, ◌<◌, ◌≤◌, ◌∷◌, ℕ, [], IfOk, OnOk, drop, length, replicate, take};
+ghost use Rattle.std.specs.Prelude.{◌≡◌, ◌+◌, ◌-◌, ◌^◌, ◌<◌, ◌≤◌, ◌∷◌, ℕ, [], true, IfOk, OnOk, drop, length, replicate, take};
 ghost use Rattle.hep_fold.specs.Folds.{CanBeMade, CanFold, Folds, KnowsAll, KnowsBefore, entries_before, entries_until, replay_of, seen_within, turns_within};
-ghost use Rattle.hep_fold.specs.Observers.{row_turns};
-ghost use Rattle.hep_fold.specs.Turns.{seen_along, turns_from, turns_in_row, turns_of};
+ghost use Rattle.hep_fold.specs.Observers.{later_row, row_turns};
+ghost use Rattle.hep_fold.specs.Turns.{seen_along, turns_from};
 ghost use Rattle.hep_history.specs.Runs.{entry_of};
 ghost use Rattle.hep_machine.specs.Words.{run, schedule_of};
 ghost use Rattle.hep_state.specs.Words.{IsMachineAfter};
@@ -36,23 +36,6 @@ fn make_turn<O: Observer>(
     Ok(())
 }
 
-// Makes the turns of the entry with this number.
-fn make_entry<O: Observer>(
-    again: &mut ReplayMachine,
-    tabled: &DecodedImage<'_>,
-    observer: &mut O,
-    number: u64,
-    entry: Entry,
-) -> Result<(), AllocError>
-    requires { CanFold O.knows O.see tabled.now (turns_of number entry) again.old observer.old }
-    ensures { OnOk result (Folds O.knows O.see tabled.now (turns_of number entry) again.old observer.old [] again.new observer.new) }
-{
-    for _ in 0..entry.steps {
-        make_turn(again, tabled, observer, number, entry.process)?;
-    }
-    Ok(())
-}
-
 // Makes the first turns of a row that the observer makes at once, and returns their number.
 fn make_at_once<O: Observer>(
     again: &mut ReplayMachine,
@@ -63,7 +46,7 @@ fn make_at_once<O: Observer>(
     requires ahead { CanFold O.knows O.see tabled.now (row_turns row) again.old observer.old }
     requires some { 1 ≤ row.count }
     ensures made { IfOk result (λ made. Folds O.knows O.see tabled.now (row_turns row) again.old observer.old
-        (turns_in_row (row.entry + made) row.process (row.count - made)) again.new observer.new) }
+        (row_turns (later_row row made)) again.new observer.new) }
     ensures few { IfOk result (λ made. made ≤ row.count) }
 {
     activations_are_few();
@@ -72,6 +55,7 @@ fn make_at_once<O: Observer>(
         entry: row.entry,
         process: row.process,
         count: few,
+        apart: row.apart,
     };
     again.history.reserve(few as u32)?;
     let made = observer.go_on(&mut again.machine, tabled, first);
@@ -93,7 +77,7 @@ fn make_turns<O: Observer>(
     requires ahead { CanFold O.knows O.see tabled.now (row_turns row) again.old observer.old }
     requires some { 1 ≤ row.count }
     ensures made { IfOk result (λ made. Folds O.knows O.see tabled.now (row_turns row) again.old observer.old
-        (turns_in_row (row.entry + made) row.process (row.count - made)) again.new observer.new) }
+        (row_turns (later_row row made)) again.new observer.new) }
     ensures some { IfOk result (λ made. 1 ≤ made) }
     ensures few { IfOk result (λ made. made ≤ row.count) }
 {
@@ -113,17 +97,12 @@ fn make_row<O: Observer>(
     row: TurnRow,
 ) -> Result<(), AllocError>
     requires ahead { CanFold O.knows O.see tabled.now (row_turns row) again.old observer.old }
-    requires few { row.entry + row.count < 2 ^ 64 }
+    requires few { row.apart ≡ true → row.entry + row.count < 2 ^ 64 }
     ensures { OnOk result (Folds O.knows O.see tabled.now (row_turns row) again.old observer.old [] again.new observer.new) }
 {
     let mut made = 0;
     while made < row.count {
-        let left = TurnRow {
-            entry: row.entry + made,
-            process: row.process,
-            count: row.count - made,
-        };
-        made += make_turns(again, tabled, observer, left)?;
+        made += make_turns(again, tabled, observer, row.after(made))?;
     }
     Ok(())
 }
@@ -145,12 +124,19 @@ fn make_run<O: Observer>(
             entry: number,
             process: run.process,
             count: run.count as u64,
+            apart: true,
         };
         make_row(again, tabled, observer, row)?;
         return Ok(());
     }
     for before in 0..run.count {
-        make_entry(again, tabled, observer, number + before as u64, run.entry())?;
+        let row = TurnRow {
+            entry: number + before as u64,
+            process: run.process,
+            count: run.steps as u64,
+            apart: false,
+        };
+        make_row(again, tabled, observer, row)?;
     }
     Ok(())
 }

@@ -75,5 +75,5 @@ pub trait Observer: Drop {
         ensures made { machine.new.made ≡ machine.old.made }
         ensures seen { (at : AreTurnsAhead knows tabled.now.image.now machine.old self.old (row_turns row))
             → knows tabled.now.image.now at.replay (at.made ++ replicate result row.process) self.new
-            (seen_along tabled.now.image.now (see tabled.now.image.now) (run tabled.now.image.now at.made) (turns_in_row row.entry row.process result) at.seen) };
+            (seen_along tabled.now.image.now (see tabled.now.image.now) (run tabled.now.image.now at.made) (turns_in_row row.apart row.entry row.process result) at.seen) };
 }

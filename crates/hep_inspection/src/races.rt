@@ -37,7 +37,8 @@ pub struct RacesOptions<'a> {
 
 // What is written about races.
 fn races_transcript(alloc: Global, report: RaceReport) -> Transcript
-    ensures { outcome_of result ≡ record { output = report.text.items; messages = []; status = if report.found then Raced else Done; history = [] } }
+    ensures { outcome_of result
+        ≡ record { output = report.text.items; messages = []; status = if report.found then Raced else Done; history = [] } }
 {
     let RaceReport { text, found } = report;
     let mut transcript = text_transcript(alloc, text);

@@ -2,7 +2,6 @@ pub mod Joined
 pub mod Edits
 pub mod Same
 pub mod Lead
-mod FrameLines
 mod StateViews
 mod NextTurns
 mod NotedTurns

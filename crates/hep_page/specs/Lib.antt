@@ -6,7 +6,6 @@ pub mod SourceLines
 pub mod Templates
 pub mod Pages
 pub mod Worked
-pub mod Frames
 pub mod ChangeLogs
 pub mod TurnMarks
 pub mod LaneSpots

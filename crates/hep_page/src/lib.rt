@@ -9,7 +9,6 @@
 //! reads a mark of each line, and draws lanes of processes by these marks.
 #![tactic(auto)]
 
-mod activation_lines;
 mod change_log;
 pub mod changes;
 mod edit;

@@ -7,11 +7,11 @@ ghost use Rattle.hep_machine.specs.Words.{Process, is_number_among, numbered, pr
 ghost use Rattle.hep_state_text.specs.Lines.{head_text};
 ghost use Rattle.hep_state_text.specs.States as words;
 
-use crate::activation_lines::append_activations;
 use hep_core::Core;
 use hep_names::ProgramSymbols;
 use hep_state_text::{
-    Listing, SourceImage, StateStorage, append_common, append_head, append_process, waiting_text,
+    Listing, SourceImage, StateStorage, append_activations, append_common, append_head,
+    append_process, waiting_text,
 };
 use std::alloc::{AllocError, Global};
 

@@ -6,7 +6,7 @@ pub const BEFORE_SOURCE: &str = r##"<!doctype html>
 <head>
 <meta charset="utf-8">
 <meta name="viewport" content="width=device-width, initial-scale=1">
-<meta http-equiv="Content-Security-Policy" content="default-src 'none'; style-src 'unsafe-inline'; script-src 'sha256-kuibr3JNkC3xwJaCpvuTu9WQJWDDXkkvn2+JqFzE+mA='">
+<meta http-equiv="Content-Security-Policy" content="default-src 'none'; style-src 'unsafe-inline'; script-src 'sha256-URuM3pWrP8ExNIkJmLpNMBai/m59ozSiQmh6/mUSuYw='">
 <meta name="color-scheme" content="light dark">
 <title>A run, step by step</title>
 <style>
@@ -227,9 +227,10 @@ function variables(ls) {
   return found
 }
 function numberIn(v, subscripts) { let k = 1, stride = 1; subscripts.forEach((s, i) => { k += (s - v.lower[i]) * stride; stride *= v.upper[i] - v.lower[i] + 1 }); return k }
-// Names, bounds and what arguments stand for don't change while a section is there.
+// Names and bounds don't change while a section is there. What arguments are associated with goes when the activation ends.
 const shapes = {}
-const shapeOf = (kind, n) => shapes[kind + n] ??= state[kind][n]?.length ? variables(state[kind][n]) : undefined
+const associated = ls => / IS /.test(ls?.[ls.length - 1] ?? '')
+const shapeOf = (kind, n) => shapes[`${kind}${n}${associated(state[kind][n])}`] ??= state[kind][n]?.length ? variables(state[kind][n]) : undefined
 // A table's elements one by one, in their order: the first subscript goes fastest.
 function singles(v) {
   const all = []

@@ -29,7 +29,8 @@ use Rattle.hep_state.proofs.SilentTurns.{unit-is}
 use Rattle.hep_state.proofs.TopActivations.{dropped-behind}
 use Rattle.hep_state.specs.declared.core_state.CoreState.{CoreState}
 use Rattle.hep_state.specs.declared.next_step.NextCall.{NextCall}
-use Rattle.hep_state.specs.Words.{AreRunning, HasLevels, IsAtCall, IsAtStep, IsTurning, TurnOf, given_of, running_top, snapshot_of, top_before}
+use Rattle.hep_state.specs.Words.{AreRunning, HasLevels, IsAtCall, IsAtStep, IsTurning, TurnOf, given_of, running_top, snapshot_of}
+use Rattle.hep_state.specs.Words.{top_before}
 use Rattle.hep_step.specs.ArgumentAgreement.{AreGivenAs, ArePlaced, CallerOf, IsCaller, given_passed, passed_by_entries, scope_calling}
 use Rattle.hep_step.specs.ArgumentAgreement.{variables_calling}
 use Rattle.hep_step.specs.ArgumentPassing.{given_by}
@@ -188,7 +189,8 @@ module _ (cells : ℕ) (choices : List ℕ) (ahead : LiveProcess) (top : Level �
         (sym (laws.counted t q.call refl q.step) ∙ calls.counted) in
         let passed : passed_by_entries caller calls.actuals calls.more
         ≡ passed_from q.call.count q.step.step.behind (last_operands q.call.count q.step.step.behind t.operands) =
-        λ i. passed_from (sym calls.counted i) (sym calls.entries i) (sym (laws.last q.call.way program (top_before t) t.operands q.call.unit
+        λ i. passed_from (sym calls.counted i) (sym calls.entries i)
+        (sym (laws.last q.call.way program (top_before t) t.operands q.call.unit
         q.call.count q.call.next q.step.step.behind calls) i) in
         subst (λ ps. AreGivenAs program s q.step.step.turning.after.layout (next_activation s) xs calls.actuals
         (given_by (cells_in m.frames.arena.contents) caller.frame.first (unit_arrays program levels.level.unit) ps)
@@ -206,10 +208,12 @@ module _ (cells : ℕ) (choices : List ℕ) (ahead : LiveProcess) (top : Level �
     pub given-ahead : (r : Result (List DummyStorage) Kind) → r ≡ given_of q.call q.step
         → IsGivenAhead cells choices ahead top h u (given_in r)
     given-ahead r is =
-        let moved = subst (λ (z : Level × Process). AreGivenAs program s q.step.step.turning.after.layout (next_activation s) xs calls.actuals
+        let moved = subst (λ (z : Level × Process). AreGivenAs program s q.step.step.turning.after.layout
+        (next_activation s) xs calls.actuals
         (given_of q.call q.step) (dummies_for (scope_of program s z.0.activation) (next_activation s) xs calls.actuals)) same given-there in
         let laid = subst (λ (l : Layout). AreGivenAs program s l (next_activation s) xs calls.actuals
-        (given_of q.call q.step) (dummies_for (scope_of program s top.0.activation) (next_activation s) xs calls.actuals)) same-layout moved in
+        (given_of q.call q.step) (dummies_for (scope_of program s top.0.activation) (next_activation s) xs calls.actuals)) same-layout
+        moved in
         let own = given-or program s h.lives.after.after.layout xs calls.actuals r
         (dummies_for (scope_of program s top.0.activation) (next_activation s) xs calls.actuals) (
         subst (λ g. AreGivenAs program s h.lives.after.after.layout (next_activation s) xs calls.actuals g
@@ -218,9 +222,11 @@ module _ (cells : ℕ) (choices : List ℕ) (ahead : LiveProcess) (top : Level �
           way = q.call.way;
           name = calls.name;
           actuals = calls.actuals;
-          does_so = ap (λ (z : Level × Process). next_on_top program (top_after program choices ahead.process z)) (sym same) ∙ calls.does_so;
+          does_so = ap (λ (z : Level × Process). next_on_top program (top_after program choices ahead.process z)) (sym same)
+              ∙ calls.does_so;
           unit = sym q.unit ∙ calls.unit;
           inside = subst (λ v. v < length program) q.unit (laws.inside t q.call refl q.step);
           bound = subst (λ v. AreGivenOr program s h.lives.after.after.layout (dummies_of (unit_at program v)) calls.actuals (given_in r)
-              (dummies_for (scope_of program s top.0.activation) (next_activation s) (dummies_of (unit_at program v)) calls.actuals)) q.unit own;
+              (dummies_for (scope_of program s top.0.activation) (next_activation s) (dummies_of (unit_at program v)) calls.actuals))
+              q.unit own;
         }

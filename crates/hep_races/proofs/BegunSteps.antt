@@ -75,7 +75,8 @@ module _ (addressed : AddressedUnit) (statement : ℕ) (work : Work) (operands :
   fault-begun _ is a e = absurd (false≢true e)
 
   -- where it does neither, no bound is read
-  pub uncalled-reads : (program : Units) (t : Top) (x : Next) → IsNext addressed statement work operands index x o behind → called_by o ≡ None
+  pub uncalled-reads : (program : Units) (t : Top) (x : Next) → IsNext addressed statement work operands index x o behind
+      → called_by o ≡ None
       → bounds_of_next program t x ≡ []
   uncalled-reads program t x is none = by (begins x) refl
     where

@@ -25,7 +25,8 @@ holding-among x b bs (c ∷ cs) e =
     by false f rest = rest f
 
 -- so it is among those of a program that has the unit
-unit-among : (x : Name) (b : BlockName) (unit : List Statement) (bs : List BlockName) (program : Units) (u : ℕ) → slice_get program u ≡ Some unit
+unit-among : (x : Name) (b : BlockName) (unit : List Statement) (bs : List BlockName) (program : Units) (u : ℕ)
+    → slice_get program u ≡ Some unit
     → common_block unit x ≡ Some b → is_block_among b (with_blocks bs (flat_map blocks_of_unit program)) ≡ true
 unit-among x b unit bs [] u e h = absurd (none-some unit e)
 unit-among x b unit bs (v ∷ vs) zero e h =

@@ -1,5 +1,6 @@
 -- What is observed of a step before it.
-use Rattle.std.proofs.Common.{◌≡◌, ℕ, ◌<◌, Bool, true, false, List, [], ◌++◌, append-nil, length, map, Option, Some, None, IsSome, refl, sym, ap, ◌∙◌, subst}
+use Rattle.std.proofs.Common.{◌≡◌, ℕ, ◌<◌, Bool, true, false, List, [], ◌++◌, append-nil, length, map, Option, Some, None, IsSome, refl}
+use Rattle.std.proofs.Common.{sym, ap, ◌∙◌, subst}
 use Rattle.std.proofs.lemmas.Option.{same_Some}
 use Rattle.std.specs.List.{flat_map}
 use Rattle.std.specs.Option.{option_to_list}
@@ -74,7 +75,8 @@ module _ (cells : ℕ) (choices : List ℕ) (ahead : LiveProcess) (top : Level �
     plain-seen : begins next ≡ false → option_to_list b.access ≡ map seen all
     plain-seen e =
         ap option_to_list by.access
-        ∙ accesses-seen cells choices ahead top ahead.coming.now.operands.items index o ahead.coming.now.behind.now n w.unit w.line from at_line
+        ∙ accesses-seen cells choices ahead top ahead.coming.now.operands.items index o ahead.coming.now.behind.now n w.unit w.line from
+        at_line
         next (begins-none next e) is named
 
     none-read : begins next ≡ false → b.bounds.items ≡ []

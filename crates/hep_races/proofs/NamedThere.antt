@@ -1,5 +1,6 @@
 -- What a step needs and accesses is there before it.
-use Rattle.std.proofs.Common.{◌≡◌, ℕ, ◌<◌, Bool, true, false, List, [], ◌∷◌, ◌++◌, length, map, Option, Some, None, Result, Ok, Err, refl, ap, ◌∙◌, subst}
+use Rattle.std.proofs.Common.{◌≡◌, ℕ, ◌<◌, Bool, true, false, List, [], ◌∷◌, ◌++◌, length, map, Option, Some, None, Result, Ok, Err, refl}
+use Rattle.std.proofs.Common.{ap, ◌∙◌, subst}
 use Rattle.std.proofs.Common.{if◌then◌else◌}
 use Rattle.std.proofs.lemmas.Option.{none-some, same_Some}
 use Rattle.std.specs.List.{filter, flat_map}
@@ -12,7 +13,8 @@ use Rattle.hep_layout.specs.Words.{address}
 use Rattle.hep_machine.specs.Evaluation.{reading}
 use Rattle.hep_machine.specs.Words.{Level, Location, Name, Next, Process, Reference, State, Statement, Top, Units, function_name, run}
 use Rattle.hep_machine.specs.Words.{unit_on_top}
-use Rattle.hep_machine.specs.Words.{assigning, does, ending_loop, entering_loop, evaluating, leaving, purging, referring, testing, unit_of, variable_of}
+use Rattle.hep_machine.specs.Words.{assigning, does, ending_loop, entering_loop, evaluating, leaving, purging, referring, testing, unit_of}
+use Rattle.hep_machine.specs.Words.{variable_of}
 use Rattle.hep_machine.specs.Words.{wants}
 use Rattle.hep_machine.specs.Words.{calling, creating}
 use Rattle.hep_machine.specs.declared.event.Kind.{Kind}

@@ -82,7 +82,8 @@ module _ (program : Units) (p : ℕ) (s u : State) (top : Level × Process) (liv
       in-changes false e = e
 
       in-accesses : (b : Bool)
-          → option_to_list old.access ++ old.bounds.items ≡ map (access_seen program s) (accesses_unless_fault program t (next_on_top program t))
+          → option_to_list old.access ++ old.bounds.items ≡ map (access_seen program s)
+          (accesses_unless_fault program t (next_on_top program t))
           → option_to_list old.fault_access ++ old.bounds.items ≡ map (access_seen program s)
           (accesses_of_fault (next_on_top program t) (accesses_unless_fault program t (next_on_top program t)))
           → option_to_list (if b then old.fault_access else old.access) ++ old.bounds.items

@@ -1,5 +1,6 @@
 -- What an observer of turns knows after one turn more, and after all turns of a history.
-use Rattle.std.proofs.Common.{◌≡◌, ◌≢◌, ◌+◌, ℕ, List, [], ◌∷◌, ◌++◌, append_assoc, append-nil, drop, length, take, zero, suc, Option, Some, None, refl, sym, ap, ◌∙◌, subst, arith}
+use Rattle.std.proofs.Common.{◌≡◌, ◌≢◌, ◌+◌, ℕ, List, [], ◌∷◌, ◌++◌, append_assoc, append-nil, drop, length, take, zero, suc, Option, Some}
+use Rattle.std.proofs.Common.{None, refl, sym, ap, ◌∙◌, subst, arith}
 use Rattle.std.specs.List.{AllZip}
 use Rattle.std.specs.Option.{unwrap_or}
 use Rattle.hep_accesses.specs.RunEvents.{Event, event_of, events_from, events_of, with_event}
@@ -50,7 +51,8 @@ pub had-top : (program : Units) (p : ℕ) (s : State) → step program p s ≢ N
 had-top program p s stepped = some_of (living s p) (who-steps-lives program p s stepped)
 
 module _ (program : Units) (rise : (p : ℕ) (s : State) → IsSameOrOneMore s.activations (state_after_turn program p s).activations)
-    (replay : Replay) (made : List ℕ) (p : ℕ) (left : List (ℕ × ℕ)) (m : CoreState) (way : IsUnderWay program replay (made ++ p ∷ []) left m) where
+    (replay : Replay) (made : List ℕ) (p : ℕ) (left : List (ℕ × ℕ)) (m : CoreState)
+    (way : IsUnderWay program replay (made ++ p ∷ []) left m) where
   abbrev s : State
   s = run program made
 
@@ -107,10 +109,12 @@ module _ (program : Units) where
       ∙ ap (λ (xs : Events). es ++ xs) (first-step t.1 s (processes ts) (step program t.1 s) h.0)
 
   pub all-events : (k : ℕ) (entries : List Entry) → AreSteps program (opening program) (schedule_of entries)
-      → seen_along program (λ entry. with_step program) (opening program) (turns_from k entries) [] ≡ events_of program (schedule_of entries)
+      → seen_along program (λ entry. with_step program) (opening program) (turns_from k entries) [] ≡ events_of program
+      (schedule_of entries)
   unfolding events_of
   all-events k entries h =
-      events-along (opening program) (turns_from k entries) [] (subst (AreSteps program (opening program)) (sym (processes-all k entries)) h)
+      events-along (opening program) (turns_from k entries) []
+      (subst (AreSteps program (opening program)) (sym (processes-all k entries)) h)
       ∙ ap (events_from program (opening program)) (processes-all k entries)
 
 -- the first elements of a list, as many as these are
@@ -155,15 +159,18 @@ pub named-last : (program : Units) (cells : ℕ) (range : HistoryRange) (made : 
 named-last program cells range made o es k all =
     subst (λ (ps : List ℕ). AllZip (IsRenamedEvent (run_names program (run program ps) o.sites))
     (events_of program (schedule_of (entries_until range))) k.events) (processes-all 1 (entries_until range)) (
-    subst (λ (ds : Events). AllZip (IsRenamedEvent (run_names program (run program (processes (turns_from 1 (entries_until range)))) o.sites))
+    subst (λ (ds : Events). AllZip (IsRenamedEvent
+    (run_names program (run program (processes (turns_from 1 (entries_until range)))) o.sites))
     ds k.events) all k.same)
 
 -- the events of the first entries of a history, under the names after them
-pub run-events : (program : Units) (cells : ℕ) (range : HistoryRange) (made : List ℕ) (o : RaceObserver) (entries : List Entry) → range.start ≡ 0
+pub run-events : (program : Units) (cells : ℕ) (range : HistoryRange) (made : List ℕ) (o : RaceObserver) (entries : List Entry)
+    → range.start ≡ 0
     → entries_until range ≡ entries → AreSteps program (opening program) (schedule_of (entries_until range))
     → (k : AreObserved program (replay_of cells range) made o (seen_along program (λ entry. with_step program)
     (run program (schedule_of (entries_before range))) (turns_within range) []))
-    → AllZip (IsRenamedEvent (run_names program (run program (schedule_of entries)) o.sites)) (events_of program (schedule_of entries)) k.events
+    → AllZip (IsRenamedEvent (run_names program (run program (schedule_of entries)) o.sites))
+    (events_of program (schedule_of entries)) k.events
 run-events program cells range made o entries start all steps k =
     subst (λ (es : List Entry). AllZip (IsRenamedEvent (run_names program (run program (schedule_of es)) o.sites))
     (events_of program (schedule_of es)) k.events) all (

@@ -75,7 +75,8 @@ module _ (cells : ℕ) (choices : List ℕ) (ahead : LiveProcess) (top : Level �
         range-there program cells choices ahead.machine.now (levels-of h.lives).level.key r units by
     one-there x (Err k) units named by = subst (AreUnitsThere program s) (sym by) tt
 
-    pub purged-there : (targets : List Reference) → next_on_top program (top_after program choices ahead.process top) ≡ does (purging targets)
+    pub purged-there : (targets : List Reference) → next_on_top program (top_after program choices ahead.process top) ≡ does
+        (purging targets)
         → AreUnitsThere program s (flat_map (units_of_target program (top_after program choices ahead.process top)) targets)
     purged-there targets next =
         let are = targets-are cells choices ahead top h targets laws.accepted laws.main laws.running laws.placed next in

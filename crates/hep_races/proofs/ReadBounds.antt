@@ -1,13 +1,16 @@
 -- What a CALL, CREATE or reference reads of the names in bounds, by what its actual arguments give.
-use Rattle.std.proofs.Common.{◌≡◌, ℕ, zero, suc, ◌+◌, ◌-◌, ◌<◌, ◌≤◌, Bool, true, false, ◌&&◌, ◌||◌, nat_eq, List, [], ◌∷◌, ◌++◌, append-nil, length, map}
-use Rattle.std.proofs.Common.{Option, Some, None, Result, Ok, Err, is_none, is_some, refl, sym, ap, ◌∙◌, subst, arith, if◌then◌else◌, slice_get}
+use Rattle.std.proofs.Common.{◌≡◌, ℕ, zero, suc, ◌+◌, ◌-◌, ◌<◌, ◌≤◌, Bool, true, false, ◌&&◌, ◌||◌, nat_eq, List, [], ◌∷◌, ◌++◌, append-nil}
+use Rattle.std.proofs.Common.{length, map}
+use Rattle.std.proofs.Common.{Option, Some, None, Result, Ok, Err, is_none, is_some, refl, sym, ap, ◌∙◌, subst, arith, if◌then◌else◌}
+use Rattle.std.proofs.Common.{slice_get}
 use Rattle.std.proofs.lemmas.Bool.{eq-eqb, eqb-true}
 use Rattle.std.proofs.lemmas.Grind.{flat_map-append}
 use Rattle.std.proofs.lemmas.Option.{none-some, same_Some}
 use Rattle.std.specs.List.{filter, flat_map}
 use Rattle.std.specs.Option.{option_map, unwrap_or}
 use Rattle.hep_accesses.specs.Exchanges.{next_on_top}
-use Rattle.hep_accesses.specs.Accesses.{Access, access_at, binding_accesses, bound_access, bound_accesses, bound_names, is_new, scope_on_top, site_of}
+use Rattle.hep_accesses.specs.Accesses.{Access, access_at, binding_accesses, bound_access, bound_accesses, bound_names, is_new}
+use Rattle.hep_accesses.specs.Accesses.{scope_on_top, site_of}
 use Rattle.hep_image.proofs.Numbers.{unit-there}
 use Rattle.hep_image.proofs.Variables.{further-none}
 use Rattle.hep_layout.proofs.References.{references}
@@ -15,16 +18,19 @@ use Rattle.hep_layout.specs.Words.{IsOwnedAbove, address}
 use Rattle.hep_machine.specs.Defaults.{no_dummy}
 use Rattle.hep_machine.specs.Locations.{start_by_block}
 use Rattle.hep_machine.specs.declared.event.Kind.{Kind}
-use Rattle.hep_machine.specs.Words.{Actual, BlockName, Dummy, Layout, Level, Location, Name, Occurrence, Process, Scope, State, Statement, StorageSequence}
+use Rattle.hep_machine.specs.Words.{Actual, BlockName, Dummy, Layout, Level, Location, Name, Occurrence, Process, Scope, State, Statement}
+use Rattle.hep_machine.specs.Words.{StorageSequence}
 use Rattle.hep_machine.specs.Words.{Top, Units, Value, cells_before, common, common_block, constant_value, dummies_for, dummies_of}
-use Rattle.hep_machine.specs.Words.{dummy_before, dummy_for, evaluated, from_element, further, index_among, is_common, is_dummy, local, names_in_block}
+use Rattle.hep_machine.specs.Words.{dummy_before, dummy_for, evaluated, from_element, further, index_among, is_common, is_dummy, local}
+use Rattle.hep_machine.specs.Words.{names_in_block}
 use Rattle.hep_machine.specs.Words.{next_activation, referred, run, same_name, storage_by_dummy, storage_of, unit_at, unit_of}
 use Rattle.hep_races.proofs.BlocksNamed.{block-named}
 use Rattle.hep_races.proofs.LookedAhead.{inside-top}
 use Rattle.hep_races.proofs.NamedThere.{accesses-there}
 use Rattle.hep_races.proofs.PurgedUnits.{owned-behind, start-above}
 use Rattle.hep_races.proofs.UnitsInCells.{there}
-use Rattle.hep_races.specs.BoundReads.{AreGivenOr, IsGivenAhead, IsReading, dummies_bound, dummies_in, first_cell, read_bound, start_bound, top_reading}
+use Rattle.hep_races.specs.BoundReads.{AreGivenOr, IsGivenAhead, IsReading, dummies_bound, dummies_in, first_cell, read_bound, start_bound}
+use Rattle.hep_races.specs.BoundReads.{top_reading}
 use Rattle.hep_races.specs.NamesInBounds.{bound_named, bounds_of_unit, named_with, occurrences_in_bounds, source_by, source_of}
 use Rattle.hep_races.specs.StepEvents.{AreBoundsRead, AreThere, access_seen, bounds_of_next}
 use Rattle.hep_races.specs.StoragePlaces.{IsThere}
@@ -176,11 +182,13 @@ module _ {ahead : LiveProcess} {here : Whereabouts} {u : ℕ} {given : List Dumm
   argument k less =
       by (dummies_for (scope_on_top program t) (next_activation s) (dummies_of unit) r.given_is.actuals) refl r.given_is.bound
     where
-      by : (o : Result (List Dummy) Kind) → dummies_for (scope_on_top program t) (next_activation s) (dummies_of unit) r.given_is.actuals ≡ o
+      by : (o : Result (List Dummy) Kind) → dummies_for (scope_on_top program t) (next_activation s)
+          (dummies_of unit) r.given_is.actuals ≡ o
           → AreGivenOr program s layout (dummies_of unit) r.given_is.actuals (Some given) o
           → HasGiven program s layout (scope_on_top program t) act (next_activation s) above given (dummies_in o) k
       by (Ok ds) e h =
-          all-stored program s layout (scope_on_top program t) act (next_activation s) above (dummies_of unit) r.given_is.actuals given ds e h k
+          all-stored program s layout (scope_on_top program t) act (next_activation s) above
+          (dummies_of unit) r.given_is.actuals given ds e h k
           less
       by (Err l) e h = absurd h
 
@@ -255,7 +263,8 @@ module _ {ahead : LiveProcess} {here : Whereabouts} {u : ℕ} {given : List Dumm
           by (giving.Units first count) f = absurd (none-some first (sym e ∙ ap first_cell (one.given ∙ ap (λ g. Some g) f)))
 
       -- storage units are sought from the process's top level
-      pub reading-units : (first : ℕ) → first_cell (slice_get given k) ≡ Some first → (l : Local) → IsTopLevel ahead.machine.now ahead.process l
+      pub reading-units : (first : ℕ) → first_cell (slice_get given k) ≡ Some first → (l : Local)
+          → IsTopLevel ahead.machine.now ahead.process l
           → (at : Location) × (read_bound r x ≡ read_at at ∷ []) × IsSought program r.cells r.choices ahead.machine.now l.key first at
       reading-units first e l is = by one.storage refl
         where
@@ -314,7 +323,8 @@ module _ {ahead : LiveProcess} {here : Whereabouts} {u : ℕ} {given : List Dumm
   one-named : (x : Name) → flat_map read_named (bound_named program unit x) ≡ (if is_bound x then read_bound r x else [])
   one-named x =
       by (constant_value unit x) (index_among x (dummies_of unit)) (common_block unit x)
-      ∙ ap (λ d. if is_none (constant_value unit x) && (d || is_common unit x) then read_bound r x else []) (index_there x (dummies_of unit))
+      ∙ ap (λ d. if is_none (constant_value unit x) && (d || is_common unit x) then read_bound r x else [])
+      (index_there x (dummies_of unit))
     where
       by : (v : Option Value) (o : Option ℕ) (c : Option BlockName)
           → flat_map read_named (named_with program unit x (source_by program unit x v o c))
@@ -351,7 +361,8 @@ module _ {ahead : LiveProcess} {here : Whereabouts} {u : ℕ} {given : List Dumm
   all-there-named [] = tt
   all-there-named (o ∷ os) = by (is_bound o.name) (one-there-named o.name) (all-there-named os)
     where
-      by : (b : Bool) → AreThere program s (if b then read_bound r o.name else []) → AreThere program s (flat_map (read_bound r) (names_at os))
+      by : (b : Bool) → AreThere program s (if b then read_bound r o.name else [])
+          → AreThere program s (flat_map (read_bound r) (names_at os))
           → AreThere program s (flat_map (read_bound r) (if b then o.name ∷ names_at os else names_at os))
       by true h rest = accesses-there program s (read_bound r o.name) (flat_map (read_bound r) (names_at os)) h rest
       by false h rest = rest
@@ -363,7 +374,8 @@ module _ {ahead : LiveProcess} {here : Whereabouts} {u : ℕ} {given : List Dumm
       all-named (occurrences_in_bounds unit)
       ∙ by (dummies_for (scope_on_top program t) (next_activation s) (dummies_of unit) r.given_is.actuals) refl r.given_is.bound
     where
-      by : (o : Result (List Dummy) Kind) → dummies_for (scope_on_top program t) (next_activation s) (dummies_of unit) r.given_is.actuals ≡ o
+      by : (o : Result (List Dummy) Kind) → dummies_for (scope_on_top program t) (next_activation s)
+          (dummies_of unit) r.given_is.actuals ≡ o
           → AreGivenOr program s layout (dummies_of unit) r.given_is.actuals (Some given) o
           → flat_map (read_bound r) (bound_names program t unit) ≡ bound_accesses program t unit o
       by (Ok ds) e h =
@@ -412,8 +424,10 @@ range-reads cells choices ahead top h u g =
     by : (way : CallKind) → u ≡ unit_by way ahead.image.now g.name
         → bounds_of_next ahead.image.now (top_after ahead.image.now choices ahead.process top) (comes_by way g.name g.actuals) ≡ []
     by Calls e = ap (λ v. binding_accesses ahead.image.now (top_after ahead.image.now choices ahead.process top) v g.actuals) (sym e) ∙ none
-    by Creates e = ap (λ v. binding_accesses ahead.image.now (top_after ahead.image.now choices ahead.process top) v g.actuals) (sym e) ∙ none
-    by Refers e = ap (λ v. binding_accesses ahead.image.now (top_after ahead.image.now choices ahead.process top) v g.actuals) (sym e) ∙ none
+    by Creates e = ap (λ v. binding_accesses ahead.image.now (top_after ahead.image.now choices ahead.process top) v g.actuals) (sym e)
+        ∙ none
+    by Refers e = ap (λ v. binding_accesses ahead.image.now (top_after ahead.image.now choices ahead.process top) v g.actuals) (sym e)
+        ∙ none
 
 -- ---- the rows of the table
 
@@ -487,7 +501,8 @@ module _ {ahead : LiveProcess} {here : Whereabouts} {u : ℕ} {given : List Dumm
           } ∷ []
 
   pub one-seen : (place : Place) → place ∷ [] ≡ map placed (read_bound r x)
-      → record { at = place; stores = false; site = record { unit = here.unit; line = here.line; name = x } } ∷ [] ≡ map seen (read_bound r x)
+      → record { at = place; stores = false; site = record { unit = here.unit; line = here.line; name = x } } ∷ [] ≡ map seen
+      (read_bound r x)
   one-seen place e = seen-by (start_bound r x) place e
 
   pub none-seen : [] ≡ map placed (read_bound r x) → [] ≡ map seen (read_bound r x)

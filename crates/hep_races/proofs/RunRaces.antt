@@ -1,5 +1,6 @@
 -- The lines of a run's races under the names that the run has are those of the definition.
-use Rattle.std.proofs.Common.{◌≡◌, ℕ, ◌<◌, ◌&&◌, true, List, [], ◌∷◌, ◌++◌, length, map, zero, suc, Option, Some, refl, sym, ap, ◌∙◌, subst, arith, is_some, nat_eq, slice_get}
+use Rattle.std.proofs.Common.{◌≡◌, ℕ, ◌<◌, ◌&&◌, true, List, [], ◌∷◌, ◌++◌, length, map, zero, suc, Option, Some, refl, sym, ap, ◌∙◌, subst}
+use Rattle.std.proofs.Common.{arith, is_some, nat_eq, slice_get}
 use Rattle.std.proofs.lemmas.Bool.{and_parts, eqb-true}
 use Rattle.std.specs.Cmp.{both_ways}
 use Rattle.std.proofs.lemmas.Bool.Decides.{nat_tests}
@@ -13,7 +14,8 @@ use Rattle.hep_conditions.specs.Words.{IsAccepted}
 use Rattle.hep_event.specs.Names.{name_found}
 use Rattle.hep_image.specs.Names.{names_in_order, spellings_of}
 use Rattle.hep_machine.specs.declared.event.Entry.{Entry}
-use Rattle.hep_machine.specs.Words.{Location, State, Units, block_spelling, blocks_of, common, local, main_among, run, same_location, same_name, schedule_of, state_after, unit_at, unit_name, unit_of}
+use Rattle.hep_machine.specs.Words.{Location, State, Units, block_spelling, blocks_of, common, local, main_among, run, same_location}
+use Rattle.hep_machine.specs.Words.{same_name, schedule_of, state_after, unit_at, unit_name, unit_of}
 use Rattle.hep_accesses.proofs.SiteTests.{site-equivalence}
 use Rattle.hep_accesses.proofs.SameRows.{same-rows}
 use Rattle.hep_accesses.specs.Detector.{rows_by_clocks}
@@ -68,9 +70,13 @@ module _ (program : Units) (entries : List Entry) (sites : List AccessSite) (sho
   site-words : (a : Site) (n : ℕ) → r.site a n → site_seen program (site_at sites n) ≡ site_words program a
   site-words a n h =
       ap (λ (found : Option AccessSite). site_seen program (unwrap_or found (site_at [] n))) h.0
-      ∙ (λ i. record (site_words program a) { unit = unit-found program (flat_map spellings_of program ++ map block_spelling (blocks_of program)) a.unit h.1 i })
+      ∙ (λ i. record (site_words program a) {
+        unit = unit-found program
+            (flat_map spellings_of program ++ map block_spelling (blocks_of program)) a.unit h.1 i;
+      })
 
-  unit-words : (at : Location) (u : StorageUnit) → r.unit at u → place_seen (names_in_order program) (place_of_unit u) ≡ place_text program s at
+  unit-words : (at : Location) (u : StorageUnit) → r.unit at u
+      → place_seen (names_in_order program) (place_of_unit u) ≡ place_text program s at
   unit-words (common b i) u h =
       ap (λ (v : StorageUnit). place_seen (names_in_order program) (place_of_unit v)) h.1 ∙ block-words program s b i h.0
   unit-words (local a x i) u h =

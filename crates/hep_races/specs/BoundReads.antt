@@ -77,7 +77,8 @@ module _ {ahead : LiveProcess} {here : Whereabouts} {u : ℕ} {given : List Dumm
   -- the storage unit of a name
   abbrev pub start_bound : Name → Location
   start_bound x =
-      (storage_of (record { unit = unit_at ahead.image.now u; number = next_activation top_reading.state; dummies = dummies_bound }) x).start
+      (storage_of (record { unit = unit_at ahead.image.now u; number = next_activation top_reading.state; dummies = dummies_bound })
+      x).start
 
   -- what is read of it
   abbrev pub read_bound : Name → List Access

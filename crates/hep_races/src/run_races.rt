@@ -38,7 +38,8 @@ pub fn history_races(
     requires possible { CanBeListed image.now cells entries }
     ensures text { IfOk result (λ report. report.text.items
         ≡ races_text (source_seen (option_map (λ l. l.now) lines.entry)) image.now (first_of entries.entry)) }
-    ensures found { IfOk result (λ report. report.found ≡ not (nat_eq (length (races_of image.now (schedule_of (first_of entries.entry)))) 0)) }
+    ensures found { IfOk result (λ report. report.found
+        ≡ not (nat_eq (length (races_of image.now (schedule_of (first_of entries.entry)))) 0)) }
 {
     image.is_runnable();
     let mut observer = RaceObserver::new(alloc, image)?;

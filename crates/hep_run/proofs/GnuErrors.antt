@@ -17,64 +17,84 @@ use Rattle.hep_run.proofs.Fronts.{refused_at_0, refused_too, unread}
 use Rattle.hep_run.proofs.RefusalNotes.{IsByLine, either, of_limit}
 
 -- the line of a refusal by its line
-by_line : (Is : Units → ℕ → ℕ → List ℕ → Type 0) (file bytes : List ℕ) (r : Refusal) → IsByLine Is bytes r → IsGnuRefusal Is file bytes (noted (line_error file bytes) r)
+by_line : (Is : Units → ℕ → ℕ → List ℕ → Type 0) (file bytes : List ℕ) (r : Refusal) → IsByLine Is bytes r
+    → IsGnuRefusal Is file bytes (noted (line_error file bytes) r)
 by_line Is file bytes NoMemory h = tt
 by_line Is file bytes (Refused number line name) h = (h.0, inl (h.1, refl))
 
 -- that of a limit
-pub limit_error : (file bytes : List ℕ) (program : Units) (r : Refusal) (fault : SourceFault) → IsAcceptedSource bytes program → lower.Refuses program r
-    → (fault ≡ source.NoMemory) ⊎ (fault ≡ noted (line_error file bytes) r) → IsGnuRefusal IsRefusedProgram file bytes fault
+pub limit_error : (file bytes : List ℕ) (program : Units) (r : Refusal) (fault : SourceFault)
+    → IsAcceptedSource bytes program → lower.Refuses program r → (fault ≡ source.NoMemory) ⊎ (fault ≡ noted (line_error file bytes) r)
+    → IsGnuRefusal IsRefusedProgram file bytes fault
 limit_error file bytes program r fault accepted refuses is =
     either (IsGnuRefusal IsRefusedProgram file bytes) fault (noted (line_error file bytes) r) tt
     (by_line IsRefusedProgram file bytes r (of_limit bytes program r accepted refuses)) is
 
 -- a fault of the statements
-of_statements : (bytes : List ℕ) (statements : List Stmt) (r : Refusal) → statements_of bytes ≡ Ok statements → IsTrueFault statements r
-    → IsByLine IsViolatingProgram bytes r
+of_statements : (bytes : List ℕ) (statements : List Stmt) (r : Refusal) → statements_of bytes ≡ Ok statements
+    → IsTrueFault statements r → IsByLine IsViolatingProgram bytes r
 of_statements bytes statements NoMemory read is = tt
 of_statements bytes statements (Refused number line name) read is = (inr (inl (statements, read, is)), inr (inl (statements, read, is)))
 
 -- its line
-pub statements_error : (file bytes : List ℕ) (statements : List Stmt) (r : Refusal) (fault : SourceFault) → statements_of bytes ≡ Ok statements
-    → IsTrueFault statements r → (fault ≡ source.NoMemory) ⊎ (fault ≡ noted (line_error file bytes) r) → IsGnuRefusal IsViolatingProgram file bytes fault
+pub statements_error : (file bytes : List ℕ) (statements : List Stmt) (r : Refusal) (fault : SourceFault)
+    → statements_of bytes ≡ Ok statements → IsTrueFault statements r
+    → (fault ≡ source.NoMemory) ⊎ (fault ≡ noted (line_error file bytes) r) → IsGnuRefusal IsViolatingProgram file bytes fault
 statements_error file bytes statements r fault read is same =
     either (IsGnuRefusal IsViolatingProgram file bytes) fault (noted (line_error file bytes) r) tt
     (by_line IsViolatingProgram file bytes r (of_statements bytes statements r read is)) same
 
 -- why a source isn't accepted is why it isn't run
-not_run : (bytes : List ℕ) (number line : ℕ) (name : List ℕ) → IsRefusedFor IsViolatingProgram bytes number line name → IsRefusedFor IsRefusedProgram bytes number line name
+not_run : (bytes : List ℕ) (number line : ℕ) (name : List ℕ) → IsRefusedFor IsViolatingProgram bytes number line name
+    → IsRefusedFor IsRefusedProgram bytes number line name
 not_run bytes number line name (inl text) = inl text
 not_run bytes number line name (inr (inl first)) = inr (inl first)
 not_run bytes number line name (inr (inr (statements, program, read, is, so))) = inr (inr (statements, program, read, is, inl so))
 
 -- and so are its lines
-unaccepted : (file bytes : List ℕ) (fault : SourceFault) → IsGnuRefusal IsViolatingProgram file bytes fault → IsGnuRefusal IsRefusedProgram file bytes fault
+unaccepted : (file bytes : List ℕ) (fault : SourceFault) → IsGnuRefusal IsViolatingProgram file bytes fault
+    → IsGnuRefusal IsRefusedProgram file bytes fault
 unaccepted file bytes source.NoMemory is = tt
 unaccepted file bytes (source.Refused number line name text) (refused, are) = (not_run bytes number line name refused, are)
 
 -- also where `?` hands them on
-pub handed_on : {T : Type 0} (file bytes : List ℕ) (r : Result T SourceFault) (fault : SourceFault) → IsErr r × IsErrAnd r (λ other. other ≡ fault)
+pub handed_on : {T : Type 0} (file bytes : List ℕ) (r : Result T SourceFault) (fault : SourceFault)
+    → IsErr r × IsErrAnd r (λ other. other ≡ fault)
     → IsGnuRefusal IsViolatingProgram file bytes fault → IfErr r (IsGnuRefusal IsRefusedProgram file bytes)
 handed_on file bytes (Ok x) fault is refused = tt
-handed_on file bytes (Err other) fault is refused = subst (IsGnuRefusal IsRefusedProgram file bytes) (sym is.1) (unaccepted file bytes fault refused)
+handed_on file bytes (Err other) fault is refused =
+    subst (IsGnuRefusal IsRefusedProgram file bytes) (sym is.1) (unaccepted file bytes fault refused)
 
 -- the line of a refusal at line 0 shows nothing of the source
-errors_alike : (file s t : List ℕ) (number line : ℕ) (name : List ℕ) → line ≡ 0 → line_error file t number line name ≡ line_error file s number line name
-errors_alike file s t number line name none = subst (λ (l : ℕ). line_error file t number l name ≡ line_error file s number l name) (sym none) refl
+errors_alike : (file s t : List ℕ) (number line : ℕ) (name : List ℕ) → line ≡ 0
+    → line_error file t number line name ≡ line_error file s number line name
+errors_alike file s t number line name none =
+    subst (λ (l : ℕ). line_error file t number l name ≡ line_error file s number l name) (sym none) refl
 
 -- the lines of one source that is too long are those of another
-errors_too : (file s t : List ℕ) (number line : ℕ) (name text : List ℕ) → statements_of s ≡ refusal 107 0 → statements_of t ≡ refusal 107 0
+errors_too : (file s t : List ℕ) (number line : ℕ) (name text : List ℕ)
+    → statements_of s ≡ refusal 107 0 → statements_of t ≡ refusal 107 0
     → AreErrors file t number line name text → AreErrors file s number line name text
 errors_too file s t number line name text short refused (inl (r, e)) =
     inl (
       refused_too IsUnrunnableProgram s t number line name (short ∙ sym refused) r,
       e ∙ errors_alike file s t number line name (refused_at_0 IsUnrunnableProgram t number line name refused r),
     )
-errors_too file s t number line name text short refused (inr (statements, program, v, read, is, first, same)) = unread t statements refused read
+errors_too file s t number line name text short refused (inr (statements, program, v, read, is, first, same)) =
+    unread t statements refused read
 
 -- and its outcome is that of each
-pub same_lines : (warn : Bool) (file s t : List ℕ) (o : Outcome) → statements_of s ≡ refusal 107 0 → statements_of t ≡ refusal 107 0
+pub same_lines : (warn : Bool) (file s t : List ℕ) (o : Outcome)
+    → statements_of s ≡ refusal 107 0 → statements_of t ≡ refusal 107 0
     → IsGnuOutcome warn file t o → IsGnuOutcome warn file s o
 same_lines warn file s t o short refused (inl (number, line, name, text, r, are, is)) =
-    inl (number, line, name, text, refused_too IsRefusedProgram s t number line name (short ∙ sym refused) r, errors_too file s t number line name text short refused are, is)
+    inl (
+      number,
+      line,
+      name,
+      text,
+      refused_too IsRefusedProgram s t number line name (short ∙ sym refused) r,
+      errors_too file s t number line name text short refused are,
+      is,
+    )
 same_lines warn file s t o short refused (inr (p, (ss, e, program, holds), is)) = unread t ss refused e

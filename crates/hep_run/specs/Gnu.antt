@@ -1,6 +1,7 @@
 -- The outcome of `check --format gnu`: refusals and warnings as GNU compilers write them, for editors (GNU Coding Standards, 4.4):
 -- docs/MACHINE.md, "Lines for editors".
-use Rattle.std.specs.Prelude.{◌≡◌, ◌⊎◌, ℕ, Bool, true, false, nat_eq, if◌then◌else◌, List, [], ◌∷◌, ◌++◌, codes, map, Ok, Option, Some, None}
+use Rattle.std.specs.Prelude.{◌≡◌, ◌⊎◌, ℕ, Bool, true, false, nat_eq, if◌then◌else◌}
+use Rattle.std.specs.Prelude.{List, [], ◌∷◌, ◌++◌, codes, map, Ok, Option, Some, None}
 use Rattle.std.specs.Fmt.{decimal}
 use Rattle.std.specs.List.{flat_map}
 use Rattle.hep_text.specs.Places.{place_in, place_of_line}
@@ -38,7 +39,8 @@ place_text file line (Some span) = line_place file span.line ++ decimal span.col
 
 -- a refusal: its place, its number, and the words of its note
 abbrev pub error_text : List ℕ → ℕ → ℕ → List ℕ → Option Span → List ℕ
-error_text file number line about place = place_text file line place ++ codes " error: " ++ decimal number ++ codes " " ++ words_of number about ++ codes "\n"
+error_text file number line about place =
+    place_text file line place ++ codes " error: " ++ decimal number ++ codes " " ++ words_of number about ++ codes "\n"
 
 -- a warning: its line and its kind
 abbrev pub gnu_warning : List ℕ → Warning → List ℕ

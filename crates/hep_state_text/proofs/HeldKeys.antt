@@ -21,7 +21,8 @@ use Rattle.hep_state.proofs.TopActivations.{numbered-there}
 
 -- ---- levels that stand the other way round
 
-turned : {A : Type 0} (xs : List A) (i : ℕ) (x : A) → slice_get (reverse xs) i ≡ Some x → (j : ℕ) × (slice_get xs j ≡ Some x)
+-- an element of the turned list is one of the list
+pub turned : {A : Type 0} (xs : List A) (i : ℕ) (x : A) → slice_get (reverse xs) i ≡ Some x → (j : ℕ) × (slice_get xs j ≡ Some x)
 turned xs i x e =
     let less : i < length xs = omega (arith, slice_get_within (reverse xs) i x e, length-reverse xs) in
     let j = length xs - 1 - i in
@@ -73,6 +74,19 @@ module _ (program : Units) (cells : ℕ) (choices : List ℕ) (m : CoreState) (k
       let it = there-at program nodes (reverse q.levels.items) back.0 l there back.1 in
       (node_under nodes l.key, it.1)
 
+  -- the levels of each stack are noted, where those of all processes are
+  pub noted-stack : (keys : List (Option ℕ)) → ((i : ℕ) (q : Process) → slice_get m.processes.items i ≡ Some q → AreNoted nodes q.levels.items keys)
+      → (i : ℕ) (k : Stack) → slice_get (snapshot_of m).processes i ≡ Some k → AreNoted nodes k.levels keys
+  noted-stack keys noted i k e = by_kept (stack-from m.processes.items (suc i)) where
+    is : stack_numbered m.processes.items (suc i) ≡ k
+    is = (made-there m.processes.items m.made (suc i) k e).2
+
+    by_kept : IsFrom m.processes.items (stack_numbered m.processes.items (suc i)) → AreNoted nodes k.levels keys
+    by_kept (inl none) = subst (λ (z : Stack). AreNoted nodes z.levels keys) (sym none ∙ is) (λ j l n f g. absurd (none-some l f))
+    by_kept (inr found) =
+        subst (λ (z : Stack). AreNoted nodes z.levels keys) (sym found.3 ∙ is) (
+        λ j l n f g. let back = turned found.1.levels.items j l f in noted found.0 found.1 found.2 back.0 l n back.1 g)
+
   -- all that is held is noted
   pub all-noted : (keys : List (Option ℕ)) → length keys ≡ m.activations → AreKeys nodes keys → ((i : ℕ) → IsClosedAt nodes keys i)
       → ((i : ℕ) (q : Process) → slice_get m.processes.items i ≡ Some q → AreNoted nodes q.levels.items keys) → AreHeldKeys (snapshot_of m) keys
@@ -82,21 +96,10 @@ module _ (program : Units) (cells : ℕ) (choices : List ℕ) (m : CoreState) (k
         noted = are;
         others = λ i none. among-noted nodes m.activations forest keys are closed after.shows.keeps.tree.single (suc i) (suc m.activations)
             (flat_map (λ (k : Stack). keys_of k.levels) (snapshot_of m).processes)
-            (noted-stacks nodes m.activations forest keys are closed after.shows.keeps.tree.single (suc i) (snapshot_of m).processes each) (λ h. absent i none h);
+            (noted-stacks nodes m.activations forest keys are closed after.shows.keeps.tree.single (suc i) (snapshot_of m).processes (noted-stack keys noted)) (λ h. absent i none h);
       }
     where
       absent : (i : ℕ) → slice_get keys i ≡ Some None → IsNoted keys (suc i - 1) → ⊥
       absent i none h =
           let same : suc i - 1 ≡ i = omega arith in
           none-some h.0 (same_Some None (Some h.0) (sym none ∙ ap (slice_get keys) (sym same) ∙ h.1))
-
-      each : (i : ℕ) (k : Stack) → slice_get (snapshot_of m).processes i ≡ Some k → AreNoted nodes k.levels keys
-      each i k e = by_kept (stack-from m.processes.items (suc i)) where
-        is : stack_numbered m.processes.items (suc i) ≡ k
-        is = (made-there m.processes.items m.made (suc i) k e).2
-
-        by_kept : IsFrom m.processes.items (stack_numbered m.processes.items (suc i)) → AreNoted nodes k.levels keys
-        by_kept (inl none) = subst (λ (z : Stack). AreNoted nodes z.levels keys) (sym none ∙ is) (λ j l n f g. absurd (none-some l f))
-        by_kept (inr found) =
-            subst (λ (z : Stack). AreNoted nodes z.levels keys) (sym found.3 ∙ is) (
-            λ j l n f g. let back = turned found.1.levels.items j l f in noted found.0 found.1 found.2 back.0 l n back.1 g)

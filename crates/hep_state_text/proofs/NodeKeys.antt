@@ -10,9 +10,8 @@ use Rattle.hep_layout.specs.Words.{FrameNode, Nodes}
 use Rattle.hep_proc.specs.declared.process.Local.{Local}
 use Rattle.hep_proc.specs.declared.process.Process.{Process}
 use Rattle.hep_proc.specs.Stacks.{keys_of, Stack}
-use Rattle.hep_state.specs.Words.{Snapshot}
 use Rattle.hep_views.specs.Nodes.{is_of, node_above, node_among, parent_in}
-use Rattle.hep_state_text.specs.NodeKeys.{AreKeys, AreNoted, HaveNodes, IsClosedAt, IsForest, IsNoted, StayNoted}
+use Rattle.hep_state_text.specs.NodeKeys.{AreFrom, AreKeys, AreNoted, IsClosedAt, IsForest, IsNoted, IsOnFirst, StayNoted}
 
 -- ---- one key more
 
@@ -39,6 +38,29 @@ module _ (keys : List (Option ℕ)) (j key : ℕ) where
         (n, ap nodes (sym (same_Some key k same)) ∙ there, is ∙ ap suc (sym here))
     | inr t ↦ are i k (sym (get-set_other keys j i (Some key) (eqb-false i j t)) ∙ e)
   ]
+
+  -- what is noted then was noted before, or it is this key
+  pub set-from : (i k : ℕ) → slice_get with_key i ≡ Some (Some k) → j < length keys → (slice_get keys i ≡ Some (Some k)) ⊎ (key ≡ k)
+  set-from i k e less = elim (cases_Bool (nat_eq i j)) [
+    | inl t ↦ inr (same_Some key k (same_Some (Some key) (Some k) (sym (get-set_same keys j (Some key) less) ∙ ap (slice_get with_key) (sym (eqb-true i j t)) ∙ e)))
+    | inr t ↦ inl (sym (get-set_other keys j i (Some key) (eqb-false i j t)) ∙ e)
+  ]
+
+-- it is the key of one of the levels
+pub from-next : (old : List (Option ℕ)) (levels : List Local) (keys : List (Option ℕ)) (j index : ℕ) (l : Local) → slice_get levels index ≡ Some l → j < length keys
+    → AreFrom old levels keys → AreFrom old levels (slice_set keys j (Some l.key))
+from-next old levels keys j index l here less from i key e = elim (set-from keys j l.key i key e less) [
+  | inl was ↦ from i key was
+  | inr same ↦ inr (index, l, here, same)
+]
+
+-- and so of one of the processes so far
+pub on-next : (processes : List Process) (n : ℕ) (q : Process) (old new : List (Option ℕ)) → slice_get processes n ≡ Some q → AreFrom old q.levels.items new
+    → ((i key : ℕ) → slice_get old i ≡ Some (Some key) → IsOnFirst processes n key) → (i key : ℕ) → slice_get new i ≡ Some (Some key) → IsOnFirst processes (n + 1) key
+on-next processes n q old new there from so i key e = elim (from i key e) [
+  | inl was ↦ let it = so i key was in (it.0, it.1, omega (arith, it.2), it.3, it.4)
+  | inr own ↦ (n, q, omega arith, there, own)
+]
 
 pub stay-both : (a b c : List (Option ℕ)) → StayNoted a b → StayNoted b c → StayNoted a c
 stay-both a b c h k = record { count = k.count ∙ h.count; still = λ i n. k.still i (h.still i n) }

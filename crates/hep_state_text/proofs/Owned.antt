@@ -3,14 +3,16 @@ use Rattle.std.proofs.Common.{◌≡◌, ℕ, zero, suc, ◌+◌, ◌≤◌, Boo
 use Rattle.std.specs.Option.{option_map, unwrap_or}
 use Rattle.std.proofs.lemmas.List.{length-map}
 use Rattle.std.proofs.lemmas.Option.{same_Some, none-some, slice_get-map}
-use Rattle.hep_machine.specs.Words.{Name, Statement, BlockName, Dummy, Units, Layout, State, activation_of, cells_of, common_block, dummies_of, dummy_at, frame_cells, index_among, is_among, is_owned, local, locals_of, same_name, scope_of, spelling, start_by_block, storage_by_dummy, storage_of, unit_at, unit_of, unset_cell}
+use Rattle.hep_machine.specs.Words.{Name, Statement, BlockName, Dummy, Units, Layout, State, activation_of, cells_of, common_block, common_cells, dummies_of, dummy_at, frame_cells, frame_of, index_among, is_among, is_owned, local, locals_of, same_name, scope_of, spelling, start_by_block, storage_by_dummy, storage_of, unit_at, unit_of, unset_cell}
 use Rattle.hep_machine.specs.declared.slot.Slot.{Slot}
 use Rattle.hep_arena.specs.Space.{Space}
 use Rattle.hep_source.proofs.NameTests.{same_name-self}
 use Rattle.hep_source.proofs.Tests.{at-front}
 use Rattle.hep_layout.specs.Words.{FramePart, RunsFrom, argument, first_of_part, number, variable}
 use Rattle.hep_layout.specs.Rows.{frame_row, same_part}
-use Rattle.hep_layout.proofs.FrameRows.{first-size, frame_row-cells}
+use Rattle.hep_layout.proofs.FrameRows.{argument-first, first-size, frame_row-cells}
+use Rattle.hep_layout.proofs.Frames.{among}
+use Rattle.hep_layout.proofs.Memory.{frame-is-out}
 use Rattle.hep_layout.proofs.Runs.{runs-local, runs-value}
 use Rattle.hep_layout.proofs.Telling.{tells-rest, tells-value}
 use Rattle.hep_image.specs.Addressing.{cells_in}
@@ -19,7 +21,7 @@ use Rattle.hep_state_text.specs.Contents.{variable_text}
 use Rattle.hep_state_text.specs.States as words
 use Rattle.hep_state_text.specs.States.{slots_at}
 use Rattle.hep_state_text.specs.declared.variable.DisplayedVariable.{DisplayedVariable}
-use Rattle.hep_state_text.specs.StoredVariables.{AreKeptFrom, IsFrameOf}
+use Rattle.hep_state_text.specs.StoredVariables.{AreKeptFrom, AreOut, IsFrameOf}
 use Rattle.hep_state_text.specs.Variables.{IsOwn, value_line, value_seen}
 use Rattle.hep_layout.proofs.Storages.{local-block}
 
@@ -82,6 +84,23 @@ module _ (program : Units) (s : State) (layout : Layout) (a first : ℕ) (arena 
         is_of = frame.is_of;
         runs = subst (λ n. RunsFrom program s layout (local a x 1) (cells_of (unit_at program (unit_of s a)) x) (n + first_of_part (unit_at program (unit_of s a)) (variable x))) frame.first_is
             (runs-local program s layout a x frame.frame frame.framed h);
+      }
+
+  -- the two cells of a dummy argument are in the frame
+  pub dummy-out : (k : ℕ) (x : Name) → slice_get (dummies_of (unit_at program (unit_of s a))) k ≡ Some x
+      → AreOut (first + first_of_part (unit_at program (unit_of s a)) (argument x)) 2 arena
+  dummy-out k x named =
+      let own = unit_at program (unit_of s a) in
+      let f = frame.frame in
+      let entry = argument-first own x k (frame.dummies.once k x named) in
+      let within : first_of_part own (argument x) + 2 ≤ frame_cells own = omega (arith, entry.sized, first-size (same_part (argument x)) (frame_row own), frame_row-cells own) in
+      let inside = (among (length arena.contents) (common_cells program) a layout f frame.is_of.memory.laid.apart frame.framed).inside in
+      let size : f.cells ≡ frame_of program s a = frame.is_of.memory.laid.sized a f frame.framed in
+      record {
+        few = frame.is_of.few;
+        inside = omega (arith, inside, size, within, frame.first_is);
+        out = λ p low high.
+            frame-is-out program s layout arena.contents arena.holes a p f frame.is_of.memory frame.framed (omega (arith, low, frame.first_is)) (omega (arith, high, size, within, frame.first_is));
       }
 
   -- a dummy argument, by its two cells

@@ -12,4 +12,6 @@ pub mod WaitTexts
 pub mod NodeKeys
 pub mod Storage
 pub mod Activations
+pub mod Associations
+pub mod Frames
 pub mod Blocks

@@ -56,3 +56,7 @@ name_text unit = codes " " ++ unit ++ codes "\n"
 
 abbrev pub activation_text : ℕ → List ℕ → List ℕ
 activation_text activation unit = codes "ACTIVATION " ++ decimal activation ++ name_text unit
+
+-- a dummy argument, and the storage unit that it is associated with, or the first of them
+abbrev pub association_text : List ℕ → List ℕ → List ℕ
+association_text name place = codes "  " ++ name ++ codes " IS " ++ place ++ codes "\n"

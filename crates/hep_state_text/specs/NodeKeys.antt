@@ -1,8 +1,11 @@
 -- The keys under which the nodes of activations are: docs/ARCHITECTURE.md, "Forms".
-use Rattle.std.specs.Prelude.{◌≡◌, ◌≤◌, ◌<◌, ◌-◌, ℕ, suc, List, length, Option, Some, None, slice_get}
+use Rattle.std.specs.Prelude.{◌≡◌, ◌⊎◌, ◌≤◌, ◌<◌, ◌-◌, ℕ, suc, List, length, Option, Some, None, slice_get}
 use Rattle.hep_layout.specs.Words.{FrameNode, Nodes}
+use Rattle.hep_proc.specs.Nodes.{nodes_of}
 use Rattle.hep_proc.specs.declared.process.Local.{Local}
+use Rattle.hep_proc.specs.declared.process.Process.{Process}
 use Rattle.hep_state.specs.Words.{Snapshot}
+use Rattle.hep_state.specs.declared.core_state.CoreState.{CoreState}
 use Rattle.hep_views.specs.Nodes.{node_of}
 
 -- each node is of one of `count` activations, and the node of its parent, if it has one, of an activation with a
@@ -45,3 +48,24 @@ pub record AreHeldKeys (m : Snapshot) (keys : List (Option ℕ)) : Type 0 where
   pub count : length keys ≡ m.activations
   pub noted : AreKeys m.nodes keys
   pub others : (i : ℕ) → slice_get keys i ≡ Some None → node_of m (suc i) ≡ None
+
+-- ---- stacks
+
+-- one of these levels has this key
+abbrev pub HasKey : List Local → ℕ → Type 0
+HasKey levels key = (j : ℕ) × (l : Local) × (slice_get levels j ≡ Some l) × (l.key ≡ key)
+
+-- each key that is noted was noted there, or is that of one of these levels
+abbrev pub AreFrom : List (Option ℕ) → List Local → List (Option ℕ) → Type 0
+AreFrom old levels new = (i key : ℕ) → slice_get new i ≡ Some (Some key) → (slice_get old i ≡ Some (Some key)) ⊎ HasKey levels key
+
+-- one of the first n processes has a level with this key
+abbrev pub IsOnFirst : List Process → ℕ → ℕ → Type 0
+IsOnFirst processes n key = (j : ℕ) × (q : Process) × (j < n) × (slice_get processes j ≡ Some q) × HasKey q.levels.items key
+
+-- the keys of the activations on stacks, and no others
+pub record AreStackedKeys (m : CoreState) (keys : List (Option ℕ)) : Type 0 where
+  pub count : length keys ≡ m.activations
+  pub noted : AreKeys (nodes_of m.frames.nodes) keys
+  pub all : (i : ℕ) (q : Process) → slice_get m.processes.items i ≡ Some q → AreNoted (nodes_of m.frames.nodes) q.levels.items keys
+  pub only : (i key : ℕ) → slice_get keys i ≡ Some (Some key) → IsOnFirst m.processes.items (length m.processes.items) key

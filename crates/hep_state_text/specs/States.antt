@@ -6,6 +6,7 @@ use Rattle.hep_machine.specs.declared.slot.Slot.{Slot}
 use Rattle.hep_machine.specs.Words.{Name, Statement, block_spelling, spelling, Units, unit_at, unit_name, function_name, line_at, dummies_of, locals_of, is_array, BlockName, blocks_of, block_cells, cells_of_all, names_in_block}
 use Rattle.hep_machine.specs.Words.{Activation, Level, Process, State, Location, local, common, Store, unit_of, Wanted, wanted_by, level_after_statement, is_held, is_number_among}
 use Rattle.hep_machine.specs.Words.{Scope, StorageSequence, own_storage, storage_of, scope_of, CellView, cells_at, is_owned, progress_after, state_after}
+use Rattle.hep_layout.specs.Words.{is_stacked}
 use Rattle.hep_state_text.specs.Lines as lines
 use Rattle.hep_state_text.specs.Lines.{LevelText}
 use Rattle.hep_state_text.specs.Contents.{variable_text}
@@ -88,10 +89,23 @@ module _ (program : Units) (s : State) where
       then variable_text (spelling x) x.asynchronous [] (s.store (storage_of scope x).start ∷ [])
       else []
 
-  abbrev pub activation_text : ℕ → List ℕ
-  activation_text a =
+  -- another one is associated with storage units, of which the first one is named (15.9.3)
+  abbrev pub association_text : Scope → Name → List ℕ
+  association_text scope x =
+      if is_owned scope.number (storage_of scope x).start then [] else lines.association_text (spelling x) (place_text (storage_of scope x).start)
+
+  -- the association ends with the activation (15.8)
+  abbrev pub associations_text : ℕ → List ℕ
+  associations_text a = if is_stacked s a then flat_map (association_text (scope_of program s a)) (dummies_of (unit_in a)) else []
+
+  -- the variables of an activation
+  abbrev pub frame_text : ℕ → List ℕ
+  frame_text a =
       lines.activation_text a (unit_name (unit_in a))
       ++ flat_map (own_text (scope_of program s a)) (locals_of (unit_in a)) ++ flat_map (value_text (scope_of program s a)) (dummies_of (unit_in a))
+
+  abbrev pub activation_text : ℕ → List ℕ
+  activation_text a = frame_text a ++ associations_text a
 
   -- the held ones of n activations from this number on
   abbrev pub activations_text : ℕ → List Activation → List ℕ

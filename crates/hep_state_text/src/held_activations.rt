@@ -3,7 +3,7 @@ ghost use Rattle.std.specs.Prelude.{◌≡◌, ◌<◌, ℕ, List, IfOk, length,
 ghost use Rattle.hep_machine.specs.Words.{Units};
 ghost use Rattle.hep_proc.specs.Nodes.{nodes_of};
 ghost use Rattle.hep_state.specs.Words.{IsMachineAfter, snapshot_of};
-ghost use Rattle.hep_state_text.specs.NodeKeys.{AreHeldKeys, AreKeys, AreNoted, HaveNodes, IsClosedAt, IsForest, StayNoted};
+ghost use Rattle.hep_state_text.specs.NodeKeys.{AreFrom, AreHeldKeys, AreKeys, AreNoted, AreStackedKeys, HaveNodes, IsClosedAt, IsForest, StayNoted};
 
 use hep_proc::{Frames, Local};
 use hep_views::CoreState;
@@ -17,6 +17,7 @@ fn note_levels(keys: &mut Vec<Option<usize>>, frames: &Frames, levels: &[Local])
     ensures keys { AreKeys (nodes_of frames.now.nodes) keys.new.items }
     ensures still { StayNoted keys.old.items keys.new.items }
     ensures noted { AreNoted (nodes_of frames.now.nodes) levels.now keys.new.items }
+    ensures only { AreFrom keys.old.items levels.now keys.new.items }
 {
     for level in levels {
         keys[(frames.activation(level.key) - 1) as usize] = Some(level.key);
@@ -56,6 +57,22 @@ fn note_parents(keys: &mut Vec<Option<usize>>, frames: &Frames)
     }
 }
 
+/// The keys of the nodes of the activations on the stacks of processes, by the numbers of activations; none for others.
+///
+/// # Errors
+///
+/// Only where memory was refused.
+pub fn stacked_keys(alloc: Global, machine: &CoreState) -> Result<Vec<Option<usize>>, AllocError>
+    requires { (program : Units) × (cells : ℕ) × (choices : List ℕ) × IsMachineAfter program cells choices machine.now }
+    ensures { IfOk result (λ keys. AreStackedKeys machine.now keys.items) }
+{
+    let mut keys = Vec::from_elem(alloc, None, machine.activations as usize)?;
+    for process in &machine.processes {
+        note_levels(&mut keys, &machine.frames, &process.levels);
+    }
+    Ok(keys)
+}
+
 /// The keys of the nodes of all activations, by their numbers; none for those that aren't held.
 ///
 /// # Errors
@@ -65,10 +82,7 @@ pub fn held_keys(alloc: Global, machine: &CoreState) -> Result<Vec<Option<usize>
     requires { (program : Units) × (cells : ℕ) × (choices : List ℕ) × IsMachineAfter program cells choices machine.now }
     ensures { IfOk result (λ keys. AreHeldKeys (snapshot_of machine.now) keys.items) }
 {
-    let mut keys = Vec::from_elem(alloc, None, machine.activations as usize)?;
-    for process in &machine.processes {
-        note_levels(&mut keys, &machine.frames, &process.levels);
-    }
+    let mut keys = stacked_keys(alloc, machine)?;
     note_parents(&mut keys, &machine.frames);
     Ok(keys)
 }

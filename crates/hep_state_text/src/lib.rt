@@ -3,7 +3,9 @@
 //! this crate has the lines in parts, read from a core's machine. Begin with `src/lines.rt` and `src/variable.rt`.
 #![tactic(auto)]
 
+pub mod activation_lines;
 pub mod activations;
+pub mod associations;
 pub mod block_names;
 mod cell_slots;
 pub mod common_variables;
@@ -19,16 +21,18 @@ pub mod variable;
 mod variables;
 pub mod wait_text;
 
+pub use activation_lines::append_activations;
 pub use activations::{NamedUnit, append_locals, append_values, unit_name};
+pub use associations::{StackedFrame, append_associations};
 pub use block_names::{longest, names_in_block};
 pub use common_variables::append_common;
-pub use held_activations::held_keys;
+pub use held_activations::{held_keys, stacked_keys};
 pub use hep_text::Listing;
 pub use hep_views::Place;
 pub use hep_views::lookup::listed;
 pub use lines::{
-    append_activation, append_block, append_block_name, append_element, append_head, append_level,
-    append_owner, append_waiting,
+    append_activation, append_association, append_block, append_block_name, append_element,
+    append_head, append_level, append_owner, append_waiting,
 };
 pub use names::UnitSymbols;
 pub use process_lines::{SourceImage, append_process};

@@ -135,3 +135,19 @@ pub fn append_waiting(text: &mut Vec<u8>, full: bool, place: &[u8]) -> Result<()
     text.extend_from_slice(place)?;
     Ok(())
 }
+
+/// Appends a dummy argument, and the words for the storage unit that it is associated with, or for the first of them.
+///
+/// # Errors
+///
+/// Only where memory was refused.
+pub fn append_association(text: &mut Vec<u8>, name: &[u8], place: &[u8]) -> Result<(), AllocError>
+    ensures { OnOk result (text.new.items ≡ text.old.items ++ words.association_text name.now place.now) }
+{
+    text.extend_from_slice(b"  ")?;
+    text.extend_from_slice(name)?;
+    text.extend_from_slice(b" IS ")?;
+    text.extend_from_slice(place)?;
+    text.extend_from_slice(b"\n")?;
+    Ok(())
+}

@@ -308,10 +308,6 @@ module _ (nexts : List (Option ℕ)) where
     pub visited : (noted : List Bool) → AreNoted nexts old noted → IsNoted nexts noted at → AreNoted nexts visits noted
     pub begun : (noted : List Bool) → AreNoted nexts old noted → IsNoted nexts noted at → IsNoted nexts noted first
 
-  pub walking-first : (old : List (Option ℕ)) (first : ℕ) → length old ≡ length nexts → IsWalking old old first first
-  walking-first old first room =
-      record { room = room; whose = λ i w there. inr there; visited = λ noted before so. before; begun = λ noted before so. so }
-
   pub walking-on : (old visits : List (Option ℕ)) (first at next : ℕ) → IsWalking old visits first at → next_at nexts at ≡ Some next
       → at < length visits
       → IsWalking old (set visits at (Some first)) first next

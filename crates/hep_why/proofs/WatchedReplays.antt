@@ -5,7 +5,7 @@ use Rattle.std.proofs.lemmas.Bool.Decides.{nat_tests}
 use Rattle.std.proofs.lemmas.Option.{same_Some}
 use Rattle.hep_fold.specs.declared.turn_row.TurnRow.{TurnRow}
 use Rattle.hep_fold.specs.Observers.{IsUnderWay, Replay, row_turns}
-use Rattle.hep_fold.specs.Turns.{processes, seen_along, turns_in_row}
+use Rattle.hep_fold.specs.Turns.{number_after, processes, seen_along, turns_in_row}
 use Rattle.hep_fold.proofs.Folding.{left_of_row, row-under-way, seen-none, seen-row-next}
 use Rattle.hep_fold.proofs.RunsToBreakpoint.{state-on, turns-are}
 use Rattle.hep_fold.specs.SilentRuns as gone
@@ -83,15 +83,17 @@ module _ (program : Units) (cells : ℕ) (turns : List ℕ) (laid : IsSome (layo
 
   -- its latest change stays
   quiet-latest : (choices : List ℕ) (n : ℕ) (after rest : List ℕ) → HasGone program cells p choices n after → turns ≡ after ++ rest
-      → (entry : ℕ) (o : Option Change) → seen_along program (latest_after program at) (run program choices) (turns_in_row entry p n) o ≡ o
-  quiet-latest _ _ _ rest (gone.none choices) split entry o = seen-none program (latest_after program at) (run program choices) o
-  quiet-latest _ _ _ rest (gone.more choices n after going plain) split entry o =
+      → (apart : Bool) (entry : ℕ) (o : Option Change)
+      → seen_along program (latest_after program at) (run program choices) (turns_in_row apart entry p n) o ≡ o
+  quiet-latest _ _ _ rest (gone.none choices) split apart entry o = seen-none program (latest_after program at) (run program choices) o
+  quiet-latest _ _ _ rest (gone.more choices n after going plain) split apart entry o =
       let same = split ∙ append_assoc after (p ∷ []) rest in
       let s = run program after in
-      let change = change_by program (entry + n) p s in
+      let number = number_after apart entry n in
+      let change = change_by program number p s in
       let state = state-on program cells p choices n after going in
-      seen-row-next program (latest_after program at) (run program choices) entry p n o
-      ∙ (λ i. latest_after program at (entry + n) p (sym state i) (quiet-latest choices n after (p ∷ rest) going same entry o i))
+      seen-row-next program (latest_after program at) (run program choices) apart entry p n o
+      ∙ (λ i. latest_after program at number p (sym state i) (quiet-latest choices n after (p ∷ rest) going same apart entry o i))
       ∙ ap (λ (t : State). if has_changed at s t then change else o) (sym (run-last program after p))
       ∙ ap (λ b. if b then change else o) (
       unchanged-so at s (run program (after ++ p ∷ [])) (λ there. quiet-turn after (p ∷ rest) same plain.unchanged there))
@@ -213,7 +215,7 @@ module _ (program : Units) (replay : Replay) where
     last = run program behind
 
     abbrev known_then : KnownChanges → KnownChanges
-    known_then known = seen_along program (changes_after program) first (turns_in_row row.entry row.process n) known
+    known_then known = seen_along program (changes_after program) first (turns_in_row row.apart row.entry row.process n) known
 
     under-way : IsUnderWay program replay behind rest new
     under-way = row-under-way row left program replay made old new n few h moves
@@ -231,9 +233,9 @@ module _ (program : Units) (replay : Replay) where
       latest-then =
           a.latest
           ∙ sym (
-          changes-at program at first (turns_in_row row.entry row.process n) known
+          changes-at program at first (turns_in_row row.apart row.entry row.process n) known
           ∙ quiet-latest program replay.cells turns h.laid at w.cell a.watch.kept row.process made n behind (processes rest)
-          going under-way.turns row.entry (known.1 at))
+          going under-way.turns row.apart row.entry (known.1 at))
 
       as-full : is_there first at ≡ true → (last.store at).full ≡ (first.store at).full
       as-full there =
@@ -283,7 +285,7 @@ module _ (program : Units) (replay : Replay) where
         → AreAlongReplay program replay behind now (known_then known)
     along-row activations counted ws now known along (inl looks) =
         record {
-          same = subst (λ vs. WaitTheSame vs now) (sym (first-kept program first (turns_in_row row.entry row.process n) known)) (
+          same = subst (λ vs. WaitTheSame vs now) (sym (first-kept program first (turns_in_row row.apart row.entry row.process n) known)) (
               same-both known.0 ws now along.same all.same);
           each = each;
         }
@@ -304,7 +306,7 @@ module _ (program : Units) (replay : Replay) where
             )
     along-row activations counted ws now known along (inr (none, same)) =
         record {
-          same = subst (λ vs. WaitTheSame vs now) (sym (first-kept program first (turns_in_row row.entry row.process n) known)) (
+          same = subst (λ vs. WaitTheSame vs now) (sym (first-kept program first (turns_in_row row.apart row.entry row.process n) known)) (
               λ i. ap (λ vs. option_map (λ (w : Watch). w.listed) (slice_get vs i)) same ∙ along.same i);
           each = each;
         }

@@ -120,14 +120,14 @@ KnownChanges = List Watch × (Location → Option Change)
 abbrev pub changes_after : Units → ℕ → ℕ → State → KnownChanges → KnownChanges
 changes_after program entry p s known = (known.0, λ at. latest_after program at entry p s (known.1 at))
 
--- a watch has noted whether its storage unit is full after these turns, and the latest change; all turns that are made
--- again lead to what its process waits for
+-- a watch, whose process waits for a storage unit after all turns that are made again, has noted after the first ones
+-- whether that is full, and its latest change
 pub record IsAlong (t : TurnsMade) (turns : List ℕ) (changes : Location → Option Change) (w : Watch) (at : Location) : Type 0 where
   pub watch : IsWatch t.program t.cells turns w at
   pub full : is_there (state_at t) at ≡ true → w.full ≡ ((state_at t).store at).full
   pub latest : w.latest ≡ changes at
 
--- the same for each of these watches, which wait for the same as the first ones
+-- the same for each of these watches; their processes are those of the first watches
 pub record AreAlong (t : TurnsMade) (turns : List ℕ) (ws : List Watch) (known : KnownChanges) : Type 0 where
   pub same : WaitTheSame known.0 ws
   pub each : (i : ℕ) (w : Watch) → slice_get ws i ≡ Some w → (at : Location) × IsAlong t turns known.1 w at

@@ -97,7 +97,7 @@ returns-clause-gone c cells choices h =
     )
 
 pub returns-clause-counted : goal.returns-clause-counted
-returns-clause-counted c cells choices h entry =
+returns-clause-counted c cells choices h apart entry =
     let program = c.args.marked.now.tabled.image.now in
     let old = c.args.machine.now in
     let p = c.args.p in
@@ -107,7 +107,7 @@ returns-clause-counted c cells choices h entry =
     let t = turn_with program cells choices e turn.0 in
     let a = c.count_top.ensures.tallied e.level e.below e.operands e.pending it.stack in
     tallied-so t c.args.marked.now.operations.now
-    (known (goal.at.returns-clause-counted c).After-tops_are_running t refl h.few) turn.1 entry
+    (known (goal.at.returns-clause-counted c).After-tops_are_running t refl h.few) turn.1 apart entry
     c.args.counts.now.items c.count_top.result
     (step.snapshot c.count_top.new.frames.arena.contents a.left a.next) c.count_top.new.counts.items a.tallied
 

@@ -178,7 +178,7 @@ loop-made-preserved c =
     record {
       gone = more-made program p old mid new n 1 (moved before)
           (one-made program p mid new (lives.running ∙ c.requires.turn.turn.running) steps);
-      counted = counts-more program operations p old mid n 1 c.args.counts.now.items c.count_moves-made.new.counts.items c.count.new.counts.items (moved before) (counted before) (λ cells choices h entry.
+      counted = counts-more program operations p old mid n 1 c.args.counts.now.items c.count_moves-made.new.counts.items c.count.new.counts.items (moved before) (counted before) (λ cells choices h apart entry.
           counted-one program operations (run program choices) entry p
           c.count_moves-made.new.counts.items c.count.new.counts.items c.begun-line.result
           (c.begun-line.ensures operations c.requires.marks cells choices h) c.count.ensures);

@@ -35,7 +35,7 @@ go_on-made-requires-clause-ahead g c =
     let row = c.args.row in
     let few : c.min-few.result ≤ row.count = omega (arith, c.min-few.ensures) in
     ahead g.O.Observer.knows g.O.Observer.see c.args.tabled.now there.0 there.1 c.args.again.now c.args.observer.now
-    (row_turns row ++ there.2) (turns_in_row row.entry row.process c.min-few.result) (left_of_row row there.2 c.min-few.result)
+    (row_turns row ++ there.2) (turns_in_row row.apart row.entry row.process c.min-few.result) (left_of_row row there.2 c.min-few.result)
     (row-parts row there.2 c.min-few.result few) there.3
 
 pub push_many-requires-clause-few : goal.push_many-requires-clause-few
@@ -60,7 +60,7 @@ returns-clause-made g c replay total left h =
     (omega (arith, h.numbers, c.go_on-made.ensures.made))
     (c.go_on-made.ensures.seen (
     ahead g.O.Observer.knows g.O.Observer.see tabled replay total again c.args.observer.now
-    (row_turns row ++ left) (turns_in_row row.entry p c.min-few.result)
+    (row_turns row ++ left) (turns_in_row row.apart row.entry p c.min-few.result)
     (left_of_row row left c.min-few.result) (row-parts row left c.min-few.result few) h))
 
 pub returns-clause-few : goal.returns-clause-few

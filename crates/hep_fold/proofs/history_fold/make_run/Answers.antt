@@ -1,8 +1,8 @@
-use Rattle.std.proofs.Common.{◌≡◌, ◌+◌, ◌-◌, [], ap, replicate, sym, arith}
+use Rattle.std.proofs.Common.{◌≡◌, ◌+◌, ◌-◌, ◌++◌, [], ℕ, List, ap, replicate, sym, refl, ◌∙◌, arith}
 use Rattle.hep_history.specs.Runs.{entry_of}
 use Rattle.hep_fold.specs.Turns.{turns_from, turns_of}
 use Rattle.hep_fold.proofs.Folding.{first-part, fold-both, fold-on, part-made, same-before, same-behind, same-first}
-use Rattle.hep_fold.proofs.TurnRows.{row-of-run, run-next, run-whole}
+use Rattle.hep_fold.proofs.TurnRows.{row-alike, row-of-run, run-next, run-whole}
 use Rattle.hep_fold.proofs.history_fold.make_run.Goals as goal
 
 pub make_row-requires-clause-ahead : goal.make_row-requires-clause-ahead
@@ -21,15 +21,15 @@ loop-before-init g c =
       folds = same-behind (turns_from c.args.number (replicate n e)) all (λ replay total left h. h);
     }
 
-pub make_entry-requires : goal.make_entry-requires
-make_entry-requires g c =
+pub make_row-requires-in-loop-before-clause-ahead : goal.make_row-requires-in-loop-before-clause-ahead
+make_row-requires-in-loop-before-clause-ahead g c =
     let e = entry_of c.args.run in
     let n = c.args.run.count in
     let i = c.loop-before.before in
     let number = c.args.number in
-    first-part (turns_from (number + i) (replicate (n - i) e)) (turns_of (number + i) c.entry.result)
-    (turns_from (number + (i + 1)) (replicate (n - (i + 1)) e))
-    (λ left. run-next n i number e c.entry.result left c.loop-before-test.true c.entry.ensures) c.loop-before.invariant.there
+    same-first (sym (row-alike c.args.run.steps (number + i) c.args.run.process)) (
+    first-part (turns_from (number + i) (replicate (n - i) e)) (turns_of (number + i) e) (turns_from (number + (i + 1)) (replicate (n - (i + 1)) e))
+    (λ left. run-next n i number e e left c.loop-before-test.true refl) c.loop-before.invariant.there)
 
 pub loop-before-preserved : goal.loop-before-preserved
 loop-before-preserved g c =
@@ -40,8 +40,8 @@ loop-before-preserved g c =
     let now = turns_from (number + i) (replicate (n - i) e) in
     let then = turns_from (number + (i + 1)) (replicate (n - (i + 1)) e) in
     let next =
-    part-made now (turns_of (number + i) c.entry.result) then
-    (λ left. run-next n i number e c.entry.result left c.loop-before-test.true c.entry.ensures) c.in_ok-make_entry.ensures in
+    part-made now (turns_of (number + i) e) then (λ left. run-next n i number e e left c.loop-before-test.true refl) (
+    same-before [] (row-alike c.args.run.steps (number + i) c.args.run.process) c.in_ok-make_row-2.ensures) in
     record {
       there = fold-on now then next c.loop-before.invariant.there;
       folds = fold-both (turns_from number (replicate n e)) now then c.loop-before.invariant.folds next;

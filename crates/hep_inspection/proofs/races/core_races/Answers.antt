@@ -8,7 +8,11 @@ use Rattle.hep_replay.specs.declared.history_prefix.HistoryPrefix.{HistoryPrefix
 use Rattle.hep_inspection.proofs.races.core_races.Goals as goal
 
 pub history_races-requires-clause-size : goal.history_races-requires-clause-size
-history_races-requires-clause-size c = (omega (arith, c.requires.some, c.cells-cells.ensures), omega (arith, c.requires.few, c.cells-cells.ensures))
+history_races-requires-clause-size c = (
+  omega (arith, c.requires.some, c.cells-cells.ensures),
+  omega
+      (arith, c.requires.few, c.cells-cells.ensures),
+)
 
 pub history_races-requires-clause-possible : goal.history_races-requires-clause-possible
 history_races-requires-clause-possible c =

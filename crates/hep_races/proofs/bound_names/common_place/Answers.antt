@@ -11,5 +11,6 @@ block_number-requires c =
     let tables = c.requires.tables in
     let inside = block-inside program c.args.block (
     block-named program c.args.unit.now.symbols.now tables.among c.args.name c.args.block c.requires.held) in
-    subst (λ n. n < length (blocks_of program)) (sym (c.index-index.ensures ∙ ap (λ bs. unwrap_or (index_where (same_block c.args.block) bs) 0)
+    subst (λ n. n < length (blocks_of program)) (sym
+    (c.index-index.ensures ∙ ap (λ bs. unwrap_or (index_where (same_block c.args.block) bs) 0)
     tables.blocks.blocks_are)) inside

@@ -7,4 +7,5 @@ abbrev pub invariant-loop-dummy : goal.invariant-loop-dummy
 invariant-loop-dummy l =
     l.found.items ++ flat_map (λ (x : Name). flat_map (occurrences_in_dimension l.symbols) (dimensions_of l.symbols x))
     (names_of_occurrences (drop l.dummy-index l.dummy-items))
-    ≡ flat_map (λ (x : Name). flat_map (occurrences_in_dimension l.symbols) (dimensions_of l.symbols x)) (names_of_occurrences l.dummy-items)
+    ≡ flat_map (λ (x : Name). flat_map (occurrences_in_dimension l.symbols) (dimensions_of l.symbols x))
+    (names_of_occurrences l.dummy-items)

@@ -14,7 +14,9 @@ pub place_at-requires : goal.place_at-requires
 place_at-requires c =
     let r = c.requires.reading in
     let found = sym c.first_cell.ensures ∙ c.in-Some.is in
-    let it = reading-units r c.args.bound.now.name c.in-Dummy.index (sourced c.args.ahead.now.image.now (unit_at c.args.ahead.now.image.now c.args.unit) c.args.bound.now.name (source.Dummy c.in-Dummy.index)
+    let it = reading-units r c.args.bound.now.name c.in-Dummy.index
+    (sourced c.args.ahead.now.image.now (unit_at c.args.ahead.now.image.now c.args.unit) c.args.bound.now.name
+    (source.Dummy c.in-Dummy.index)
     (c.requires.bound ∙ ap (λ s. Some s) c.in-Dummy.is)) c.in-Some.first found
     c.top_level-key.result c.top_level-key.ensures in
     (r.cells, r.choices, it.0, it.2)
@@ -23,7 +25,9 @@ pub returns-in-Some : goal.returns-in-Some
 returns-in-Some c r =
     let program = c.args.ahead.now.image.now in
     let found = sym c.first_cell.ensures ∙ c.in-Some.is in
-    let it = reading-units r c.args.bound.now.name c.in-Dummy.index (sourced c.args.ahead.now.image.now (unit_at c.args.ahead.now.image.now c.args.unit) c.args.bound.now.name (source.Dummy c.in-Dummy.index)
+    let it = reading-units r c.args.bound.now.name c.in-Dummy.index
+    (sourced c.args.ahead.now.image.now (unit_at c.args.ahead.now.image.now c.args.unit) c.args.bound.now.name
+    (source.Dummy c.in-Dummy.index)
     (c.requires.bound ∙ ap (λ s. Some s) c.in-Dummy.is)) c.in-Some.first found
     c.top_level-key.result c.top_level-key.ensures in
     ap (λ p. p ∷ []) (c.place_at.ensures r.cells r.choices it.0 it.2)
@@ -32,7 +36,9 @@ returns-in-Some c r =
 pub returns-in-None : goal.returns-in-None
 returns-in-None c r =
     let program = c.args.ahead.now.image.now in
-    let none = first-of-value r c.args.bound.now.name c.in-Dummy.index (sourced c.args.ahead.now.image.now (unit_at c.args.ahead.now.image.now c.args.unit) c.args.bound.now.name (source.Dummy c.in-Dummy.index)
+    let none = first-of-value r c.args.bound.now.name c.in-Dummy.index
+    (sourced c.args.ahead.now.image.now (unit_at c.args.ahead.now.image.now c.args.unit) c.args.bound.now.name
+    (source.Dummy c.in-Dummy.index)
     (c.requires.bound ∙ ap (λ s. Some s) c.in-Dummy.is)) (sym c.first_cell.ensures ∙ c.in-None.is) in
     ap (map (λ (a : Access). place_of program (run program r.choices) a.at)) (sym none)
 

@@ -23,7 +23,8 @@ returns-in_default c cells choices top h =
     let t = top_after program choices a.process top in
     let come = c.operations_come_next.ensures program cells choices a.machine.now a.process top a.coming.now
     c.is_runnable.ensures.accepted c.is_runnable.ensures.main h.lives h.coming in
-    let none = uncalled-reads (unit_addressed program (unit_of s top.0.activation)) top.0.statement top.0.work a.coming.now.operands.items come.0
+    let none = uncalled-reads (unit_addressed program (unit_of s top.0.activation)) top.0.statement top.0.work a.coming.now.operands.items
+    come.0
     a.coming.now.operation a.coming.now.behind.now program t (next_on_top program t) come.1 (sym c.called_by.ensures ∙ c.in_default.is) in
     record {
       seen = c.new.ensures.items ∙ ap (map (access_seen program s)) (sym none);
@@ -75,4 +76,5 @@ returns c =
     let a = c.args.ahead.now in
     let given = subst (λ o. IsGivenAhead cells choices a top h c.in-Some.unit (option_map (λ gs. gs.items) o)) c.in-Some-2.is (
     c.in_ok-given.ensures cells choices top h) in
-    read cells choices top h (subst (λ gs. IsGivenAhead cells choices a top h c.in-Some.unit (Some gs)) (sym c.deref.ensures.value) given)) c.reads_of.ensures
+    read cells choices top h (subst (λ gs. IsGivenAhead cells choices a top h c.in-Some.unit (Some gs)) (sym c.deref.ensures.value) given))
+    c.reads_of.ensures

@@ -45,7 +45,8 @@ returns-clause-text c =
     let own = subst (λ (xs : List AccessSite). AllZip (IsRenamedEvent (run_names program (run program (schedule_of entries)) xs))
     (events_of program (schedule_of entries)) seen.events) (sym c.as_slice-sites.ensures.all) renamed in
     c.in_ok-append_rows.ensures
-    ∙ ap (λ (xs : List ℕ). xs ++ rows_text (words_in program sites entries shown) (map row_in c.rows-rows.result.now)) c.new-text.ensures.items
+    ∙ ap (λ (xs : List ℕ). xs ++ rows_text (words_in program sites entries shown) (map row_in c.rows-rows.result.now))
+    c.new-text.ensures.items
     ∙ ap (rows_text (words_in program sites entries shown)) (c.rows-rows.ensures seen.events seen.detected)
     ∙ text-of-rows program entries sites shown c.is_runnable.ensures.accepted c.is_runnable.ensures.main
     (subst AreUnique (sym c.as_slice-sites.ensures.all) c.as_slice-sites.ensures.unique) seen.events own

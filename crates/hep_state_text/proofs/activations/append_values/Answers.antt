@@ -1,7 +1,7 @@
 use Rattle.std.proofs.Common.{◌+◌, ◌++◌, ◌∙◌, List, [], ℕ, false, ap, sym, drop, length, append-nil, arith}
 use Rattle.std.specs.List.{flat_map}
 use Rattle.std.proofs.lemmas.List.{drop_all, length-map}
-use Rattle.hep_machine.specs.Words.{Name, Occurrence, dummies_of, scope_of, spelling}
+use Rattle.hep_machine.specs.Words.{Name, Occurrence, dummies_of, scope_of}
 use Rattle.hep_names.proofs.Firsts.{grow}
 use Rattle.hep_image.specs.declared.owners.FrameVariable.{FrameVariable}
 use Rattle.hep_state_text.specs.States as words

@@ -2,7 +2,6 @@ use Rattle.std.proofs.Common.{◌≡◌, ◌<◌, ◌++◌, ◌∙◌, ℕ, List
 use Rattle.std.specs.List.{flat_map}
 use Rattle.std.proofs.lemmas.Option.{slice_get-get_or}
 use Rattle.hep_machine.specs.Words.{Statement, Units, names_in_block, run, unit_at, unit_name}
-use Rattle.hep_state_text.specs.Lines as lines
 use Rattle.hep_state_text.specs.States as words
 use Rattle.hep_state_text.proofs.FirstUnits.{unit-is}
 use Rattle.hep_state_text.proofs.Extents.{block-at, get_or-same, lines-are}

@@ -1,7 +1,7 @@
-use Rattle.std.proofs.Common.{◌≡◌, ◌+◌, ◌++◌, ◌∙◌, List, [], ℕ, false, ap, sym, drop, take, length, append-nil, arith}
+use Rattle.std.proofs.Common.{◌+◌, ◌++◌, ◌∙◌, List, [], ℕ, false, ap, sym, drop, append-nil, arith}
 use Rattle.std.specs.List.{flat_map}
 use Rattle.std.proofs.lemmas.List.{drop_all}
-use Rattle.hep_machine.specs.Words.{Name, cells_of_all, common_block, start_by_block}
+use Rattle.hep_machine.specs.Words.{Name}
 use Rattle.hep_names.proofs.Firsts.{grow}
 use Rattle.hep_state_text.specs.States as words
 use Rattle.hep_state_text.proofs.Commons.{kept, line-is, next-fits, next-is, taken-next}

@@ -1,4 +1,4 @@
-use Rattle.std.proofs.Common.{◌≡◌, ◌+◌, ℕ, ◌++◌, drop, take}
+use Rattle.std.proofs.Common.{◌≡◌, ◌+◌, ◌++◌, drop, take}
 use Rattle.std.specs.List.{flat_map}
 use Rattle.hep_machine.specs.Words.{Layout, State, Units, cells_of_all}
 use Rattle.hep_state_text.specs.States as words

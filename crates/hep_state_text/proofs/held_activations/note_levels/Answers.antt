@@ -1,9 +1,9 @@
-use Rattle.std.proofs.Common.{◌≡◌, ◌-◌, ◌<◌, suc, length, subst, sym, ap, arith, slice_get, Some, get_or}
+use Rattle.std.proofs.Common.{◌≡◌, ◌-◌, ◌<◌, suc, length, subst, ap, arith, get_or}
 use Rattle.std.proofs.lemmas.Option.{slice_get-get_or, slice_get_within}
 use Rattle.hep_proc.specs.Nodes.{nodes_of}
 use Rattle.hep_proc.specs.declared.process.Local.{Local}
 use Rattle.hep_state_text.specs.NodeKeys.{IsNoted}
-use Rattle.hep_state_text.proofs.NodeKeys.{levels-next, set-keys, set-noted, set-still, stay-both}
+use Rattle.hep_state_text.proofs.NodeKeys.{from-next, levels-next, set-keys, set-noted, set-still, stay-both}
 use Rattle.hep_state_text.proofs.held_activations.note_levels.Goals as goal
 
 pub loop-level-preserved : goal.loop-level-preserved
@@ -26,6 +26,7 @@ loop-level-preserved c =
     record {
       keys = set-keys keys j l.key (nodes_of c.args.frames.now.nodes) n there.1 next inside c.loop-level.invariant.keys;
       still = stay-both c.args.keys.now.items keys _ c.loop-level.invariant.still still;
+      only = from-next c.args.keys.now.items levels keys j i l here inside c.loop-level.invariant.only;
       noted = levels-next (nodes_of c.args.frames.now.nodes) levels keys _ i l n here there.1 still (subst (IsNoted _) same (set-noted keys j l.key inside)) c.loop-level.invariant.noted;
     }
 

@@ -1,4 +1,4 @@
-use Rattle.std.proofs.Common.{◌≡◌, ◌≤◌, ◌+◌, ℕ, length}
+use Rattle.std.proofs.Common.{◌≤◌, ◌+◌, ℕ, length}
 use Rattle.hep_proc.specs.Nodes.{nodes_of}
 use Rattle.hep_state_text.specs.NodeKeys.{AreKeys, IsClosedAt, StayNoted}
 use Rattle.hep_state_text.proofs.held_activations.note_parents.Given as goal

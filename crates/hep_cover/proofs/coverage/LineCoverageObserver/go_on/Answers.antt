@@ -16,12 +16,12 @@ returns-clause-seen c at =
     let program = c.args.tabled.now.image.now in
     let row = c.args.row in
     let s = run program at.made in
-    let turns = turns_in_row row.entry row.process c.count_on.result in
+    let turns = turns_in_row row.apart row.entry row.process c.count_on.result in
     let operations = c.args.self.now.operations.now in
     let kept = operations-kept program operations s turns at.seen in (
       subst (λ os. AreMarks program os c.args.self.now.marks.now) (sym kept) at.known.0,
       at.known.1 ∙ sym kept,
-      c.count_on.ensures.counted at.replay.cells at.made at.under_way.after row.entry
+      c.count_on.ensures.counted at.replay.cells at.made at.under_way.after row.apart row.entry
           ∙ sym (counts-along program operations s turns c.args.self.now.counts.items)
           ∙ (λ i. (seen_along program (counts_after program) s turns (at.known.1 i, at.known.2 i)).1),
     )

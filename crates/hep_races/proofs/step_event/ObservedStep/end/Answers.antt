@@ -26,7 +26,8 @@ returns-then-self-faults c program cells choices p top lives steps looked after 
       fault_access = old.fault_access;
       made = old.made;
       faults = old.faults;
-    }) true looked failed refl (c.made_since-self.ensures ∙ made-same s u old.made m.made looked.made more) refl c.clear.ensures.items refl refl
+    }) true looked failed refl (c.made_since-self.ensures
+    ∙ made-same s u old.made m.made looked.made more) refl c.clear.ensures.items refl refl
 
 pub returns-else-self-faults : goal.returns-else-self-faults
 returns-else-self-faults c program cells choices p top lives steps looked after =
