@@ -81,7 +81,7 @@ _hepf() {
             ;;
         from) options="--fixed --free --capitals --help" ;;
         help)
-            _hepf_offer -W "check run sample replay state trace page picture why races cover diff list explain"
+            _hepf_offer -W "check run sample replay state trace page picture why races cover diff list explain from"
             return
             ;;
         *) return ;;

@@ -105,7 +105,7 @@ _hepf_words() {
                 '--capitals[write small letters as capitals]' '--help[show help]' '1:listing:_files'
             ;;
         help)
-            _arguments '1:command:(check run sample replay state trace page picture why races cover diff list explain)'
+            _arguments '1:command:(check run sample replay state trace page picture why races cover diff list explain from)'
             ;;
     esac
 }
