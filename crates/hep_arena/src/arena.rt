@@ -81,8 +81,8 @@ impl Arena {
 
     /// Makes an arena of `cells` cells, all of them free.
     ///
-    /// There is at least one cell, and at most 16,777,216. The call takes time linear in the number of cells. No other
-    /// call allocates memory.
+    /// There is at least one cell, and at most 16,777,216. The call takes time linear in the number of cells. Only
+    /// this call and `copy` allocate memory.
     ///
     /// # Errors
     ///
@@ -103,6 +103,29 @@ impl Arena {
             lease,
             holes,
             used: 0,
+        })
+    }
+
+    /// The same arena, in memory of its own. The call takes time linear in the number of cells.
+    ///
+    /// # Errors
+    ///
+    /// `AllocError` where memory was refused.
+    pub fn copy(&self, alloc: Global) -> Result<Arena, AllocError>
+        ensures { IfOk result (λ copy. copy ≡ self.now) }
+    {
+        let holes = self.holes.copy(alloc)?;
+        let slots = self.region.slots();
+        let mut vec = Vec::with_capacity(alloc, slots.len().max(1))?;
+        vec.extend_from_slice(slots)?;
+        let memory = vec.as_mut_ptr();
+        let len = vec.len();
+        let (region, lease) = parted(vec, memory, len);
+        Ok(Arena {
+            region,
+            lease,
+            holes,
+            used: self.used,
         })
     }
 

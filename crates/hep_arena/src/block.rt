@@ -1,12 +1,28 @@
 //! Blocks of cells.
 ghost use Rattle.std.specs.Prelude.{◌≡◌, ◌<◌};
 
-/// A block of cells that was taken from an arena. A block can't be copied. Dropping it doesn't free its cells.
+use std::alloc::AllocError;
+
+/// A block of cells that was taken from an arena. A clone of it is for a copy of the arena. Dropping it doesn't free its
+/// cells.
 #[derive(Drop)]
 pub struct Block {
     at: u32,
     len: u32,
     ghost some: { 0 < len },
+}
+
+impl Clone for Block {
+    ghost use Rattle.std.specs.Prelude.{◌≡◌};
+
+    ghost is_clone = { λ block clone. clone ≡ block };
+
+    fn clone(&self) -> Result<Block, AllocError> {
+        Ok(Block {
+            at: self.at,
+            len: self.len,
+        })
+    }
 }
 
 impl Block {

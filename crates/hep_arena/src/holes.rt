@@ -31,6 +31,17 @@ impl Holes {
         Ok(Holes { lengths, limit: 0 })
     }
 
+    /// The same holes, in memory of their own. Fails only where memory was refused.
+    pub(crate) fn copy(&self, alloc: Global) -> Result<Holes, AllocError>
+        ensures { IfOk result (λ copy. copy ≡ self.now) }
+    {
+        let lengths = self.lengths.copy(alloc)?;
+        Ok(Holes {
+            lengths,
+            limit: self.limit,
+        })
+    }
+
     /// Whether some hole has n cells.
     pub(crate) fn fits(&self, n: u32) -> bool
         requires limited { IsLimited self.now }

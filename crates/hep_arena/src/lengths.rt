@@ -30,8 +30,8 @@ impl Model for Lengths {
 }
 
 impl Lengths {
-    /// Makes a list of `places` places, all with the number 0, in linear time. No other call allocates
-    /// memory.
+    /// Makes a list of `places` places, all with the number 0, in linear time. Only this call and `copy`
+    /// allocate memory.
     ///
     /// # Errors
     ///
@@ -43,6 +43,21 @@ impl Lengths {
         let mut tree = Tree::new(alloc);
         tree.reserve(alloc, places as usize)?;
         Ok(Lengths { tree, places })
+    }
+
+    /// The same list, in memory of its own.
+    ///
+    /// # Errors
+    ///
+    /// Only where memory was refused.
+    pub fn copy(&self, alloc: Global) -> Result<Lengths, AllocError>
+        ensures { IfOk result (λ copy. copy ≡ self.now) }
+    {
+        let tree = self.tree.copy(alloc)?;
+        Ok(Lengths {
+            tree,
+            places: self.places,
+        })
     }
 
     /// The number of places, in constant time.

@@ -73,7 +73,7 @@ impl Tree {
         }
     }
 
-    /// Makes room for `leaves` leaves. The added leaves are 0. No other call allocates memory.
+    /// Makes room for `leaves` leaves. The added leaves are 0. Only this call and `copy` allocate memory.
     ///
     /// Where there is too little room, the number of leaves at least doubles, in linear time.
     ///
@@ -117,6 +117,25 @@ impl Tree {
             greatest,
             size,
             levels,
+        })
+    }
+
+    /// The same tree, in memory of its own.
+    ///
+    /// # Errors
+    ///
+    /// Only where memory was refused.
+    pub fn copy(&self, alloc: Global) -> Result<Tree, AllocError>
+        requires { IsTree self.now }
+        ensures tree { IfOk result (λ copy. IsTree copy) }
+        ensures leaves { IfOk result (λ copy. leaves_of copy ≡ leaves_of self.now) }
+        ensures size { IfOk result (λ copy. copy.size ≡ self.now.size) }
+    {
+        let greatest = self.greatest.as_slice().to_vec(alloc)?;
+        Ok(Tree {
+            greatest,
+            size: self.size,
+            levels: self.levels,
         })
     }
 

@@ -1,6 +1,7 @@
 //! Copies of code, and of lists besides it.
 ghost use Rattle.std.specs.Prelude.{◌≡◌, IfOk};
 
+use hep_machine::Item;
 use hep_source::Sequence;
 use std::alloc::{AllocError, Global};
 
@@ -15,8 +16,12 @@ pub trait Duplicate: Drop {
         ensures { IfOk result (λ copy. copy ≡ self.now) };
 }
 
-// Copies of the items of a list.
-fn copy_all<T: Duplicate>(alloc: Global, items: &[T]) -> Result<Vec<T>, AllocError>
+/// Copies of the items of a list.
+///
+/// # Errors
+///
+/// Only where memory was refused.
+pub fn copy_all<T: Duplicate>(alloc: Global, items: &[T]) -> Result<Vec<T>, AllocError>
     ensures { IfOk result (λ copies. copies.items ≡ items.now) }
 {
     let mut copies = Vec::new(alloc);
@@ -41,5 +46,15 @@ impl Duplicate for u8 {
 impl Duplicate for u32 {
     fn copy(&self, _alloc: Global) -> Result<u32, AllocError> {
         Ok(*self)
+    }
+}
+
+impl Duplicate for Item {
+    fn copy(&self, alloc: Global) -> Result<Item, AllocError> {
+        Ok(match self {
+            Item::Int(number) => Item::Int(*number),
+            Item::Truth(truth) => Item::Truth(*truth),
+            Item::Text(text) => Item::Text(text.copy(alloc)?),
+        })
     }
 }

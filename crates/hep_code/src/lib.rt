@@ -18,7 +18,7 @@ pub mod variable;
 
 pub use bound::BoundOperation;
 pub use boxed_text::BoxedText;
-pub use duplicate::Duplicate;
+pub use duplicate::{Duplicate, copy_all};
 pub use instruction::{
     Argument, Depth, Evaluation, Instruction, MOST_OPERANDS, Operation, Printed, depth_of,
     operands_of_entry,

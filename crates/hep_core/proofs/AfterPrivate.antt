@@ -18,7 +18,6 @@ use Rattle.hep_state.specs.declared.turn.TurnOutcome.TheVariants.{Stepped, Purge
 use Rattle.hep_state.specs.Words.{CanTurn, HasLevels, HasTurned, IsAfter, IsItsTurn, IsMachineAfter, IsSameButTop, LeavesOthers, Snapshot, snapshot_of}
 use Rattle.hep_state.proofs.OtherProcesses.{beside-again, beside-with}
 use Rattle.hep_commit.specs.declared.undo_log.UndoLog.{UndoLog}
-use Rattle.hep_state.proofs.Histories.{after-history}
 use Rattle.hep_state.proofs.ProcessNumbers.{length-stacks}
 use Rattle.hep_commit.specs.SegmentStarts.{snapshot_taken, start_in}
 use Rattle.hep_commit.specs.OwnCells.{own_cells_of}
@@ -94,13 +93,11 @@ module _ (law : GoAlong) (i : Inside) (k : CoreInvariant i) (p n : ℕ) (m : Cor
   behind = kept-after law i k p n t.turns t.gone lt few m t.kept t.activations t.made es is
 
   -- its next turn can be taken
-  pub can-turn : (roster : RosterValue) → m.made ≤ roster.room → length es ≤ 2 ^ 63 → CanTurn i.image es p m roster
+  pub can-turn : (roster : RosterValue) → m.made ≤ roster.room → length es ≤ 2 ^ 63 → CanTurn i.image p m roster
   can-turn roster room short =
       let fewer = few-now law i k p n t.turns t.gone lt few m t.kept t.activations t.made es is in
       record {
-        after = after-history i.image i.cells es m behind;
-        running = t.running;
-        living = t.living;
+        turn = record { after = (i.cells, schedule_of es, behind); running = t.running; living = t.living };
         countable = omega (arith, activations-are i.image i.cells es (snapshot_of m) behind.after, fewer.activations, short);
         numerable = omega (arith, processes-are i.image i.cells es (snapshot_of m) behind.after, length-stacks m.processes.items 1 m.made, fewer.processes, short);
         numbers = room;

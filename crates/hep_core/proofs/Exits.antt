@@ -142,9 +142,9 @@ module _ (go : GoAlong) (i : Inside) (k : CoreInvariant i) (s : SegmentValue) (o
 
   -- ---- all was put back
 
-  module _ (as_before : AreAsBefore) (taken : HasTakenIn s first m) (machine : CoreState) (alone : LeavesAlone i.image es p m machine) where
+  module _ (as_before : AreAsBefore) (taken : HasTakenIn s first m) (machine : CoreState) (alone : LeavesAlone i.image p m machine) where
     still : IsMachineAfter i.image i.cells (schedule_of es) machine
-    still = subst (λ c. IsMachineAfter i.image c (schedule_of es) machine) noted-after.after.size alone.after
+    still = alone.after i.cells (schedule_of es) noted-after
 
     there : HasLevels (snapshot_of machine) p
     there = levels-undone as_before i.image p s first m machine at.is.turn.living at.made (taken at.is.turn.living) alone.top

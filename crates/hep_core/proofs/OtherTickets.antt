@@ -1,5 +1,5 @@
 -- What comes next of a process is left by the turns of others, and so each segment that is out stays good.
-use Rattle.std.proofs.Common.{◌≡◌, ◌≢◌, ℕ, zero, suc, ◌+◌, Bool, true, false, true≢false, ◌||◌, ◌&&◌, nat_eq, OnOk, List, [], ◌∷◌, ◌++◌, map, length, Option, Some, None, Result, Ok, Err, inl, inr, refl, sym, ap, ◌∙◌, subst, replicate, eq-eqb, ne_eqb}
+use Rattle.std.proofs.Common.{◌≡◌, ◌≢◌, ℕ, zero, suc, ◌+◌, Bool, true, false, true≢false, ◌||◌, ◌&&◌, nat_eq, OnOk, List, [], ◌∷◌, ◌++◌, length, Some, None, Result, Ok, Err, inl, inr, refl, sym, ap, ◌∙◌, subst, replicate, eq-eqb, ne_eqb}
 use Rattle.std.specs.Result.{IsErr}
 use Rattle.std.proofs.lemmas.Option.{none-some, same_Some}
 use Rattle.hep_machine.specs.declared.event.Entry.{Entry}
@@ -24,6 +24,7 @@ use Rattle.hep_state.specs.declared.core_state.CoreState.{CoreState}
 use Rattle.hep_state.specs.declared.turn.TurnOutcome.{TurnOutcome}
 use Rattle.hep_state.specs.declared.turn.TurnOutcome.TheVariants.{Stepped, Purged, Waits}
 use Rattle.hep_state.specs.Words.{HasLevels, IsAfter, IsMachineAfter, IsTurning, LeavesOthers, LeavesRest, Snapshot, TurnOf, frame_under, snapshot_of, turn_settled, turn_with}
+use Rattle.hep_state.proofs.ProcessNumbers.{numbered-mapped}
 use Rattle.hep_state.proofs.TopActivations.{settled, turning}
 use Rattle.hep_state.proofs.UnchangedStates.{carry}
 use Rattle.hep_core.specs.Commits.{AreGoodStill, ComesNext, IsCommitted, IsFresh, IsGivenTo, IsGood, IsTakenBy, LeavesNext, core_after_return, core_after_ticket, next_id}
@@ -43,12 +44,6 @@ use Rattle.hep_core.proofs.ProcessesOut.{out-by, out-still}
 use Rattle.hep_core.proofs.SettledMachines.{place-at, place_in}
 
 -- ---- which stack is at a place
-
-numbered-mapped : {A B : Type 0} (f : A → B) (xs : List A) (p : ℕ) (y : B) → numbered (map f xs) p ≡ Some y → (x : A) × (numbered xs p ≡ Some x) × (f x ≡ y)
-numbered-mapped f xs zero y e = absurd (none-some y e)
-numbered-mapped f [] (suc i) y e = absurd (none-some y e)
-numbered-mapped f (x ∷ xs) (suc zero) y e = (x, refl, same_Some (f x) y e)
-numbered-mapped f (x ∷ xs) (suc (suc i)) y e = numbered-mapped f xs (suc i) y e
 
 -- the process has levels, and it is theirs
 record IsPlacedAt (program : Units) (m : Snapshot) (q : ℕ) (place : ProcessPlace) : Type 0 where

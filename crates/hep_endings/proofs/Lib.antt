@@ -5,6 +5,7 @@ pub mod Closed
 pub mod Bounded
 pub mod Cycles
 pub mod Rooms
+pub mod LargerArenas
 pub mod Tables
 pub mod Stacks
 pub mod Pure
@@ -12,3 +13,4 @@ pub mod Finished
 pub mod Texts
 pub mod Outcomes
 mod Worked
+mod WorkedTexts

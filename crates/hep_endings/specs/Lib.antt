@@ -5,3 +5,4 @@ pub mod Pure
 pub mod Finished
 pub mod Texts
 pub mod Possible
+pub mod Explored

@@ -1,5 +1,5 @@
 -- Which outcomes are possible: docs/MACHINE.md, "Endings".
-use Rattle.std.specs.Prelude.{◌≡◌, ◌≢◌, ℕ, false}
+use Rattle.std.specs.Prelude.{◌≡◌, ◌≢◌, ℕ, false, List}
 use Rattle.hep_machine.specs.Words.{Units}
 use Rattle.hep_outcome.specs.Outcome.{IsProgramOutcome, Outcome}
 use Rattle.hep_outcome.specs.declared.options.Options.{Options}
@@ -13,3 +13,8 @@ pub record IsPossible (program : Units) (cells : ℕ) (o : Outcome) : Type 0 whe
   pub outcome : IsProgramOutcome false program options o
   pub unlimited : o.status ≢ StepLimit
   pub accepted : o.status ≢ Usage
+
+-- these choices and some limit of the history do so
+pub record IsPossibleBy (program : Units) (cells : ℕ) (choices : List ℕ) (o : Outcome) : Type 0 where
+  pub possible : IsPossible program cells o
+  pub by : possible.options.choices ≡ choices

@@ -18,6 +18,12 @@ pub fn endings_fit_some_arena()
     ensures { (program : Units) (e : Ending) → IsEnding program e ↔ ((cells : ℕ) × IsEndingWithin program cells e) }
 {}
 
+/// As a program may end in an arena, it may end in each larger one.
+pub fn endings_fit_larger_arenas()
+    ensures { (program : Units) (small large : ℕ) → small ≤ large → (e : Ending) → IsEndingWithin program small e
+        → IsEndingWithin program large e }
+{}
+
 /// A closed set has every reachable state.
 pub fn closed_sets_have_reachable_states()
     ensures { (program : Units) (states : List State) → IsClosed program states → (s : State) → IsReachable program s → Contains states s }

@@ -1,9 +1,11 @@
 -- What the calls of a slab make of the nodes that it shows.
-use Rattle.std.proofs.Common.{◌≡◌, ℕ, Bool, true, false, Option, Some, None, refl, sym, ap, ◌∙◌, if◌then◌else◌, nat_eq, IsSome}
+use Rattle.std.proofs.Common.{◌≡◌, ℕ, Bool, true, false, List, [], ◌∷◌, Option, Some, None, if◌then◌else◌, nat_eq, IsSome, slice_index_or}
+use Rattle.std.proofs.Common.{refl, sym, ap, ◌∙◌}
+use Rattle.std.specs.List.{AllZip}
 use Rattle.std.specs.Option.{option_map}
 use Rattle.std.proofs.lemmas.Bool.{eqb-true, eqb-false}
 use Rattle.std.proofs.lemmas.Option.{same_Some, none-some}
-use Rattle.slab.specs.Slab.{Slab, get, Updates}
+use Rattle.slab.specs.Slab.{IsSlabClone, IsSlotClone, Slab, get, Updates}
 use Rattle.hep_layout.specs.Words.{first_nodes, is_just, Nodes, with_node, with_one_less, with_one_more, without_node, FrameNode}
 use Rattle.hep_proc.specs.declared.nodes.Node.{Node}
 use Rattle.hep_proc.specs.Nodes.{HasChildren, IsCountedAbove, nodes_of, shown, with_more}
@@ -21,6 +23,21 @@ node-there s k h = by_node (get s k) h where
   by_node : (o : Option Node) → IsSome o → (n : FrameNode) × (option_map shown o ≡ Some n)
   by_node None g = absurd cc
   by_node (Some r) g = (shown r, refl)
+
+-- ---- the slab is cloned
+
+-- so are its slots
+slots-cloned : (slots clones : List (Option Node)) → AllZip (IsSlotClone (λ node clone. clone ≡ node)) slots clones → clones ≡ slots
+slots-cloned [] [] h = refl
+slots-cloned (None ∷ slots) (clone ∷ clones) h = λ i. h.0 i ∷ slots-cloned slots clones h.1 i
+slots-cloned (Some node ∷ slots) (Some clone ∷ clones) h = λ i. Some (h.0 i) ∷ slots-cloned slots clones h.1 i
+slots-cloned (Some node ∷ slots) (None ∷ clones) h = absurd h.0
+slots-cloned [] (clone ∷ clones) h = absurd h
+slots-cloned (slot ∷ slots) [] h = absurd h
+
+-- the same nodes are under the same keys
+pub nodes-cloned : (s clone : Slab Node) → IsSlabClone (λ node clone. clone ≡ node) s clone → nodes_of clone ≡ nodes_of s
+nodes-cloned s clone h = λ i key. option_map shown (slice_index_or (slots-cloned s.slots clone.slots h.slots i) key None)
 
 -- ---- a node is removed
 

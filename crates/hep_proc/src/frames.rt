@@ -62,6 +62,18 @@ impl Frames {
         })
     }
 
+    /// The same frames under the same keys, in memory of their own.
+    ///
+    /// Fails only where memory was refused.
+    pub fn copy(&self, alloc: Global) -> Result<Frames, AllocError>
+        ensures arena { IfOk result (λ copy. copy.arena ≡ self.now.arena) }
+        ensures nodes { IfOk result (λ copy. nodes_of copy.nodes ≡ nodes_of self.now.nodes) }
+    {
+        let nodes = self.nodes.clone()?;
+        let arena = self.arena.copy(alloc)?;
+        Ok(Frames { nodes, arena })
+    }
+
     /// The number of taken cells.
     pub fn used(&self) -> u32
         ensures cells { result + free_cells self.now.arena.holes ≡ length self.now.arena.contents }

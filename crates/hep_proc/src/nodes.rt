@@ -6,6 +6,7 @@ ghost use Rattle.hep_proc.specs.Nodes.{CanCount, HasChildren, nodes_of, with_few
 
 use hep_arena::Block;
 use slab::Slab;
+use std::alloc::AllocError;
 
 /// A frame in the arena: its activation and the unit of that, its cells, the key of its parent's node, the number of
 /// its children in the arena, and whether its activation has ended.
@@ -17,6 +18,23 @@ pub(crate) struct Node {
     pub(crate) parent: Option<usize>,
     pub(crate) children: u64,
     pub(crate) finished: bool,
+}
+
+impl Clone for Node {
+    ghost use Rattle.std.specs.Prelude.{◌≡◌};
+
+    ghost is_clone = { λ node clone. clone ≡ node };
+
+    fn clone(&self) -> Result<Node, AllocError> {
+        Ok(Node {
+            activation: self.activation,
+            unit: self.unit,
+            block: self.block.clone()?,
+            parent: self.parent,
+            children: self.children,
+            finished: self.finished,
+        })
+    }
 }
 
 // Notes that the activation under a key has ended.

@@ -1,10 +1,10 @@
 //! Processes: the activations on a stack, each with its place in the code, and their operands (docs/MACHINE.md, "Steps").
-ghost use Rattle.std.specs.Prelude.{◌≡◌, ◌+◌, ◌<◌, ◌≤◌, ◌++◌, ◌∷◌, [], OnOk, vec_len, vec_capacity};
+ghost use Rattle.std.specs.Prelude.{◌≡◌, ◌+◌, ◌<◌, ◌≤◌, ◌++◌, ◌∷◌, [], IfOk, OnOk, vec_len, vec_capacity};
 ghost use Rattle.hep_proc.specs.Stacks.{EndsTop, GoesOnAt, HasTop, PutsAbove, PutsTop, StandsAt, is_left};
 
 use crate::pending_operands::keep_back;
 use hep_source::Value;
-use std::alloc::AllocError;
+use std::alloc::{AllocError, Global};
 
 /// An activation on a stack: the key of its node, the index of its unit in the program, and its index in the unit's
 /// code, both counted from 0.
@@ -37,6 +37,27 @@ impl Process {
         ensures { result ≡ is_left self.now }
     {
         !(self.levels.is_empty() && self.operands.is_empty() && self.pending.is_empty())
+    }
+
+    /// The same process, in memory of its own, with as much room for operands.
+    ///
+    /// Fails only where memory was refused.
+    pub fn copy(&self, alloc: Global) -> Result<Process, AllocError>
+        ensures number { IfOk result (λ copy. copy.number ≡ self.now.number) }
+        ensures same { IfOk result (λ copy. (copy.levels.items ≡ self.now.levels.items) × (copy.operands.items ≡ self.now.operands.items)
+            × (copy.pending.items ≡ self.now.pending.items)) }
+        ensures room { IfOk result (λ copy. vec_capacity self.now.operands ≤ vec_capacity copy.operands) }
+    {
+        let levels = self.levels.as_slice().to_vec(alloc)?;
+        let mut operands = Vec::with_capacity(alloc, self.operands.capacity())?;
+        operands.extend_from_slice(&self.operands)?;
+        let pending = self.pending.as_slice().to_vec(alloc)?;
+        Ok(Process {
+            number: self.number,
+            levels,
+            operands,
+            pending,
+        })
     }
 
     /// The level of its top activation.

@@ -22,4 +22,6 @@ pub mod OtherProcesses
 pub mod RoomToPass
 pub mod Purging
 pub mod Subroutines
-pub mod Histories
+pub mod AlikeMachines
+pub mod EqualLayouts
+pub mod Copies

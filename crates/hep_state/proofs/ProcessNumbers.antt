@@ -1,6 +1,6 @@
 -- Which stack has a number among the processes that are kept: once one of them is another, once there is one more, and where those are left of
 -- which something is left.
-use Rattle.std.proofs.Common.{◌≡◌, ◌≢◌, ◌⊎◌, ℕ, zero, suc, ◌+◌, ◌-◌, ◌<◌, ◌≤◌, ◌||◌, Bool, true, false, true≢false, List, [], ◌∷◌, ◌++◌, length, reverse, Some, None, refl, sym, ap, ◌∙◌, inl, inr, arith, if◌then◌else◌, nat_eq, slice_get, slice_set, vec_len}
+use Rattle.std.proofs.Common.{◌≡◌, ◌≢◌, ◌⊎◌, ℕ, zero, suc, ◌+◌, ◌-◌, ◌<◌, ◌≤◌, ◌||◌, Bool, true, false, true≢false, List, [], ◌∷◌, ◌++◌, length, map, reverse, Some, None, refl, sym, ap, ◌∙◌, inl, inr, arith, if◌then◌else◌, nat_eq, slice_get, slice_set, vec_len}
 use Rattle.std.specs.List.{filter}
 use Rattle.std.proofs.lemmas.Bool.{cases_Bool, cases_eq, eq-eqb, ne_eqb}
 use Rattle.std.proofs.lemmas.Bool.Decides.{nat_tests}
@@ -10,6 +10,15 @@ use Rattle.hep_proc.specs.declared.process.Process.{Process}
 use Rattle.hep_proc.specs.Stacks.{Stack, is_left, no_stack, stack_of}
 use Rattle.hep_blocked.specs.Numbers.{AreRising}
 use Rattle.hep_state.specs.Words.{numbers_of, stack_numbered, stacks_from, stacks_of}
+
+-- ---- elements by their numbers
+
+-- what a mapped list has under a number
+pub numbered-mapped : {A B : Type 0} (f : A → B) (xs : List A) (p : ℕ) (y : B) → numbered (map f xs) p ≡ Some y → (x : A) × (numbered xs p ≡ Some x) × (f x ≡ y)
+numbered-mapped f xs zero y e = absurd (none-some y e)
+numbered-mapped f [] (suc i) y e = absurd (none-some y e)
+numbered-mapped f (x ∷ xs) (suc zero) y e = (x, refl, same_Some (f x) y e)
+numbered-mapped f (x ∷ xs) (suc (suc i)) y e = numbered-mapped f xs (suc i) y e
 
 -- ---- numbers that rise
 

@@ -18,11 +18,12 @@ use Rattle.hep_step.specs.Resume.{IsResumeAhead}
 use Rattle.hep_step.specs.Simulation.{unit_addressed}
 use Rattle.hep_proc.specs.declared.process.Local.{Local}
 use Rattle.hep_proc.specs.Stacks.{Stack}
-use Rattle.hep_state.specs.Words.{HasGaps, HasMadeTurn, IsTurning, TurnOf, running_top, snapshot_resumed, state_before, top_before}
+use Rattle.hep_state.specs.Words.{HasGaps, HasMadeTurn, HasResumeAhead, IsAfter, IsTurning, Snapshot, TurnOf, running_top, snapshot_resumed, state_before, top_before}
 use Rattle.hep_code.specs.Words.{Stands}
 use Rattle.hep_state.proofs.LeftActivations.{AreOf, alone-of, caller-of, kept-same, no-more-parted}
 use Rattle.hep_state.proofs.SilentTurns.{standing-before, step-made, unit-is}
 use Rattle.hep_state.proofs.Runs.{all-remain, layout-left, standing-more, stepped-after, there}
+use Rattle.hep_state.proofs.TopActivations.{turning}
 use Rattle.hep_state.proofs.SettledPositions.{AreOn, AreStanding, AreStandingBelow, caller-stands, made-same, standing-still, top-stands}
 
 -- an activation that was taken away is where it was once it is added
@@ -158,3 +159,12 @@ pub resumed-gap : {t : TurnOf} (h : IsTurning t) (index : ℕ) → IsResumeAhead
 resumed-gap {t} h index resumes none =
     let after = state_resumed t.program (top_before t) t.top.1 in
     none-some _ (sym none ∙ layout-left t.program t.cells t.choices t.process h.after.layout after h.after.laid (step-made h after resumes.made) (resumed-activations t.program (top_before t) t.top.1))
+
+-- ---- whichever turns there were
+
+-- a RESUME is ahead after others too
+pub resume-after : {program : Units} {cells later : ℕ} {choices turns : List ℕ} {p : ℕ} {m : Snapshot} {next : ℕ} → HasResumeAhead program cells choices p m next → IsAfter program later turns m → HasResumeAhead program later turns p m next
+resume-after {p = p} at after =
+    let was = at.holds.1.turning in
+    let turn = turning p after at.levels (was.after.shows.halted ∙ was.running) in
+    record { levels = at.levels; top = turn.0; holds = (at.holds.0, record { turning = turn.1; behind = at.holds.1.behind; ahead = at.holds.1.ahead }) }

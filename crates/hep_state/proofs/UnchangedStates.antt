@@ -4,9 +4,7 @@ use Rattle.std.specs.List.{filter}
 use Rattle.std.specs.Result.{IsErr, IsErrAnd}
 use Rattle.std.proofs.lemmas.Option.{same_Some}
 use Rattle.std.proofs.lemmas.Result.{err_from_is_err_and}
-use Rattle.hep_machine.specs.declared.event.Entry.{Entry}
-use Rattle.hep_machine.specs.Words.{Units, Value, numbered, schedule_of}
-use Rattle.hep_arena.specs.Space.{Space}
+use Rattle.hep_machine.specs.Words.{Units, Value, numbered}
 use Rattle.hep_binding.proofs.Calls.{set-numbered}
 use Rattle.hep_blocked.specs.Numbers.{AreRising}
 pub use Rattle.hep_state.proofs.CarriedOperands.{carry}
@@ -17,7 +15,7 @@ use Rattle.hep_proc.specs.Stacks.{Stack, is_left, stack_with}
 use Rattle.hep_state.specs.declared.turn.TurnOutcome.TheVariants.{Stepped}
 use Rattle.hep_state.specs.declared.turn.TurnFault.{TurnFault}
 use Rattle.hep_state.specs.declared.turn.TurnFault.TheVariants.{NoMemory}
-use Rattle.hep_state.specs.Words.{AreNumbered, Changes, HasStepped, HasLevels, HasSettledTop, HasTurned, HasRoom, HasRoomToPass, HaveRoom, IsMachineAfter, ShowsSame, Snapshot, numbers_of, snapshot_of, stacks_of, IsAfter, IsAfterHistory, IsSameButTop, IsSeenSame, IsSettled, LeavesAlone, LeavesSame, cells_of, with_stack}
+use Rattle.hep_state.specs.Words.{AreNumbered, Changes, HasStepped, HasLevels, HasSettledTop, HasTurned, HasRoom, HasRoomToPass, HaveRoom, IsMachineAfter, ShowsSame, Snapshot, numbers_of, snapshot_of, stacks_of, IsAfter, IsSameButTop, IsSeenSame, IsSettled, KeepsRoomOf, KeepsState, LeavesAlone, LeavesSame, with_stack}
 use Rattle.hep_state.proofs.ProcessNumbers.{got-left, left-stacks, length-stacks, numbers-left, numbers-more}
 use Rattle.hep_state.proofs.Processes.{IsAt, all-more, all-set, numbered-set, numbers-still}
 use Rattle.hep_state.proofs.Runs.{set-again, set-same}
@@ -211,35 +209,27 @@ module _ (p : ℕ) where
 pub as-many : (old new : CoreState) → IsSeenSame (snapshot_of old) (snapshot_of new) → new.made ≡ old.made
 as-many old new h = sym (length-stacks new.processes.items 1 new.made) ∙ (h.processes ∙ length-stacks old.processes.items 1 old.made)
 
--- as large an arena
-pub as-large : (old new : CoreState) → IsSeenSame (snapshot_of old) (snapshot_of new) → cells_of new ≡ cells_of old
-as-large old new h = ap (λ (a : Space). length a.contents) h.arena
-
 -- one that shows the same, with the room that there was
-pub alone : (program : Units) (history : List Entry) (p : ℕ) (old new : CoreState) → snapshot_of new ≡ snapshot_of old → (HaveRoom program (cells_of old) old → HaveRoom program (cells_of old) new) → IsAfterHistory program history old → LeavesAlone program history p old new
-alone program history p old new shown rooms h =
+pub alone : (program : Units) (p : ℕ) (old new : CoreState) → snapshot_of new ≡ snapshot_of old → KeepsRoomOf program old new → LeavesAlone program p old new
+alone program p old new shown rooms =
     let same = seen-shown (snapshot_of old) (snapshot_of new) shown in
     record {
-      after = machine-reserved program (cells_of old) (schedule_of history) old new shown rooms h;
+      after = λ cells choices h. machine-reserved program cells choices old new shown (rooms cells) h;
       same = same;
       top = top-shown p program (snapshot_of old) (snapshot_of new) shown;
       made = as-many old new same;
     }
 
 -- one that is left alone after it was seen the same, but for the top of a process
-pub alone-after : (program : Units) (history : List Entry) (p : ℕ) (old mid new : CoreState) → IsSeenSame (snapshot_of old) (snapshot_of mid) → IsSameButTop program p (snapshot_of old) (snapshot_of mid)
-    → LeavesAlone program history p mid new → LeavesAlone program history p old new
-alone-after program history p old mid new same top h =
+pub alone-after : (program : Units) (p : ℕ) (old mid new : CoreState) → KeepsState program old mid → IsSeenSame (snapshot_of old) (snapshot_of mid) → IsSameButTop program p (snapshot_of old) (snapshot_of mid)
+    → LeavesAlone program p mid new → LeavesAlone program p old new
+alone-after program p old mid new keeps same top h =
     record {
-      after = subst (λ n. IsMachineAfter program n (schedule_of history) new) (as-large old mid same) h.after;
+      after = λ cells choices before. h.after cells choices (keeps cells choices before);
       same = seen-again (snapshot_of old) (snapshot_of mid) (snapshot_of new) same h.same;
       top = top-again p program (snapshot_of old) (snapshot_of mid) (snapshot_of new) top h.top;
       made = h.made ∙ as-many old mid same;
     }
-
--- by the size of its own arena
-pub own-size : (program : Units) (cells : ℕ) (choices : List ℕ) (m : CoreState) → IsMachineAfter program cells choices m → IsMachineAfter program (cells_of m) choices m
-own-size program cells choices m h = subst (λ n. IsMachineAfter program n choices m) (sym h.after.size) h
 
 -- ---- a step that filled and emptied nothing
 

@@ -16,6 +16,7 @@ pub mod AcceptedCalls
 pub mod SettledStacks
 pub mod TurnParts
 pub mod Room
-pub mod Histories
+pub mod WholeTurns
+pub mod AlikeMachines
 pub mod CallsAndReturns
 pub mod Words

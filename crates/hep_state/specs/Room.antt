@@ -60,3 +60,9 @@ pub record IsEmptyProcess (number deep : ℕ) (q : Process) : Type 0 where
   pub empty : (q.levels.items ≡ []) × (q.operands.items ≡ []) × (q.pending.items ≡ [])
   pub level : (vec_len q.levels ≡ 0) × (vec_capacity q.levels ≡ 1)
   pub operands : vec_capacity q.operands ≡ deep
+
+-- a process is a copy of another one, with as much room for operands at least
+pub record IsProcessCopy (q copy : Process) : Type 0 where
+  pub number : copy.number ≡ q.number
+  pub same : (copy.levels.items ≡ q.levels.items) × (copy.operands.items ≡ q.operands.items) × (copy.pending.items ≡ q.pending.items)
+  pub room : vec_capacity q.operands ≤ vec_capacity copy.operands

@@ -33,7 +33,7 @@ use Rattle.hep_state.specs.declared.turn.TurnOutcome.TheVariants.{Purged}
 use Rattle.hep_state.specs.declared.next_step.NextCall.{NextCall}
 use Rattle.hep_state.specs.declared.next_step.NextPurge.{NextPurge}
 use Rattle.hep_state.specs.Calls.{HasEntered, IsMaking, Makes, state_made}
-use Rattle.hep_state.specs.NextSteps.{HasCallAhead, HasPurgeAhead, IsWithoutCall, ranges_ahead}
+use Rattle.hep_state.specs.NextSteps.{HasCallAhead, HasPurgeAhead, HasResumeAhead, IsWithoutCall, ranges_ahead}
 use Rattle.hep_state.specs.TurnOutcomes.{Changes, HasTurned, StaysWaiting}
 use Rattle.hep_state.specs.OperandRoom.{HasRoomAt, HaveRoom, HoldsOfProcess, IsMachineAfter}
 use Rattle.hep_state.specs.Snapshots.{AreNumbered, snapshot_of}
@@ -237,6 +237,11 @@ KeepsRoomWith made unit old new =
     → HaveRoom program cells new
 
 -- ---- RESUME
+
+-- process p is at one, after which it goes on at an index
+abbrev pub IsAtResumeAhead : Units → ℕ → CoreState → ℕ → Type 0
+IsAtResumeAhead program p m next =
+    (cells : ℕ) × (choices : List ℕ) × IsMachineAfter program cells choices m × HasResumeAhead program cells choices p (snapshot_of m) next
 
 -- the top activation of process p can become a process of its own, which is empty so far and has the next number
 pub record CanPart (p : ℕ) (m : CoreState) (made : Process) : Type 0 where

@@ -31,15 +31,17 @@ pub use Rattle.hep_state.specs.TurnOutcomes.{Changes, HasPurged}
 pub use Rattle.hep_state.specs.AcceptedCalls.{AreRunning, IsKnown, IsMadeOf}
 unfoldable pub use Rattle.hep_state.specs.SettledStacks.{CanSettle, HasBehind, IsInCode, Settles}
 unfoldable pub use Rattle.hep_state.specs.TurnParts.{AfterTurns, Begins, CanEndTurn, ChangesNext, EmptiesTargets, EndsBy, FailsAtCall, FailsAtPurge}
-unfoldable pub use Rattle.hep_state.specs.TurnParts.{HaveFramesLeft, IsAtCallAhead, IsAtPurgeAhead, IsEndingBy, IsEndingWithRoom, IsGivenBy}
+unfoldable pub use Rattle.hep_state.specs.TurnParts.{HaveFramesLeft, IsAtCallAhead, IsAtPurgeAhead, IsAtResumeAhead, IsEndingBy, IsEndingWithRoom, IsGivenBy}
 unfoldable pub use Rattle.hep_state.specs.TurnParts.{IsLeftWithRoom, IsReached, IsWhetherLives, KeepsRoomAt, KeepsRoomOf, KeepsRoomParting}
 unfoldable pub use Rattle.hep_state.specs.TurnParts.{KeepsRoomWith, KeepsState, LeavesBy, NamesRanges, PartsAt, Performs, StepsAfter, StepsByCall}
 unfoldable pub use Rattle.hep_state.specs.TurnParts.{StepsByCreation, TurnsByPurge, WaitsAfter}
 pub use Rattle.hep_state.specs.TurnParts.{CanBegin, CanCall, CanCreate, CanEmpty, CanPart, IsAtOperation, IsItsTurn, KeepsWritten}
 unfoldable pub use Rattle.hep_state.specs.Room.{KeepsRoom}
 pub use Rattle.hep_state.specs.Room.{CanBeMore, HasRoomForCreation, HasRoomForEntry, HasRoomForLevel, HasRoomForProcess, IsEmptyProcess, KeepsRollFor}
-pub use Rattle.hep_state.specs.Room.{ShowsSame}
-unfoldable pub use Rattle.hep_state.specs.Histories.{IsAfterHistory, IsRefused, IsTurn, IsUntaken, cells_of}
-pub use Rattle.hep_state.specs.Histories.{CanTakeCall, CanTakeOperation, CanTakeResume, CanTurn, LeavesAlone}
+pub use Rattle.hep_state.specs.Room.{IsProcessCopy, ShowsSame}
+unfoldable pub use Rattle.hep_state.specs.WholeTurns.{IsRefused, IsTurn, IsUntaken}
+pub use Rattle.hep_state.specs.WholeTurns.{CanTakeCall, CanTakeResume, CanTurn, LeavesAlone}
 unfoldable pub use Rattle.hep_state.specs.CallsAndReturns.{HasLivedOn, IsToEndBy, LivesOnBelow, StepsBy}
 pub use Rattle.hep_state.specs.CallsAndReturns.{CanAnswer, CanBeginCall, CanLiveOn, CanMakeCall, CanReturn, IsSettledTurn, LivesOn, StaysShown, StepsOn}
+unfoldable pub use Rattle.hep_state.specs.AlikeMachines.{level_renamed, node_renamed, stack_renamed}
+pub use Rattle.hep_state.specs.AlikeMachines.{AreAlike, AreRenamed, IsSameOutside}

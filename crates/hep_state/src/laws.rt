@@ -33,6 +33,7 @@ ghost use Rattle.hep_step.specs.Effects.{answers, fails, moves, prints, returns,
 ghost use Rattle.hep_step.specs.Simulation.{unit_addressed, unit_arrays, unit_code};
 ghost use Rattle.hep_binding.specs.Calling.{state_made_by};
 ghost use Rattle.hep_proc.specs.declared.process.Local.{Local};
+ghost use Rattle.hep_state.specs.Words.{AreAlike, AreRenamed};
 ghost use Rattle.hep_state.specs.Words.{Changes, HasEntered, HasGaps, HasLevels, HasMadeTurn, HasNoGap, HasPurged, HasWaited, HaveLeft, IsAbsent};
 ghost use Rattle.hep_state.specs.Words.{IsAfter, IsAfterCall, IsAtCall, IsAtPurge, IsAtResume, IsEffectOf, IsEnding, IsEntered, IsGiven, IsKnown};
 ghost use Rattle.hep_state.specs.Words.{IsMaking, IsTopRunning, IsTurning, IsUnit, IsWithoutCall, Snapshot, TurnOf, given_of};
@@ -80,6 +81,18 @@ pub fn activations_are_few()
         → m.activations ≤ 1 + length choices }
     ensures processes { (program : Units) (cells : ℕ) (choices : List ℕ) (m : Snapshot) → IsAfter program cells choices m
         → length m.processes ≤ 1 + length choices }
+{}
+
+/// Two machines that are alike keep the same states: neither what a hole's cells hold nor the key of a node tells them apart.
+pub fn alike_machines_keep_the_same_states()
+    ensures { (program : Units) (cells : ℕ) (choices : List ℕ) (old new : Snapshot) → AreAlike old new
+        → IsAfter program cells choices old → IsAfter program cells choices new }
+{}
+
+/// Two machines that keep states of a program in arenas of the same size have the same holes, if they have the same nodes.
+pub fn machines_with_the_same_nodes_have_the_same_holes()
+    ensures { (program : Units) (cells : ℕ) (choices turns : List ℕ) (m n : Snapshot) (rename : ℕ → ℕ) → AreRenamed rename m.nodes n.nodes
+        → IsAfter program cells choices m → IsAfter program cells turns n → n.arena.holes ≡ m.arena.holes }
 {}
 
 /// After the leading constants are pushed the machine shows the same state.

@@ -9,6 +9,7 @@
 mod actual_arguments;
 mod calling;
 mod calls_and_returns;
+mod copy;
 mod core_state;
 mod function_return;
 pub mod laws;

@@ -38,9 +38,9 @@ impl CoreState {
         history: &mut History,
         roster: &mut Roster,
     ) -> Result<(), AllocError>
-        requires { CanTakeResume image.now history.old.items p self.old next roster.old }
-        ensures turned { OnOk result (IsTurn image.now history.old.items p self.old (Stepped None) self.new) }
-        ensures refused { OnErr result (LeavesAlone image.now history.old.items p self.old self.new) }
+        requires { CanTakeResume image.now p self.old next roster.old }
+        ensures turned { OnOk result (IsTurn image.now p self.old (Stepped None) self.new) }
+        ensures refused { OnErr result (LeavesAlone image.now p self.old self.new) }
         ensures others { LeavesOthers p (snapshot_of self.old) (snapshot_of self.new) }
         ensures entry { HasRoomForEntry history.old result history.new }
         ensures roster { KeepsRollFor self.new roster.old roster.new }

@@ -8,7 +8,7 @@ ghost use Rattle.hep_step.specs.declared.effect.Effect.TheVariants.{Waits};
 ghost use Rattle.hep_step.specs.Effects.{answers, fails, returns};
 ghost use Rattle.hep_step.specs.PerformedSteps.{changed_in};
 ghost use Rattle.hep_blocked.specs.Rosters.{KeepsRoll};
-ghost use Rattle.hep_state.specs.Words.{AreNumbered, CanBeMore, CanEndTurn, CanTakeCall, CanTakeOperation, CanTurn, ChangesNext, EndsBy};
+ghost use Rattle.hep_state.specs.Words.{AreNumbered, CanBeMore, CanEndTurn, CanTakeCall, CanTurn, ChangesNext, EndsBy};
 ghost use Rattle.hep_state.specs.Words.{HasLevels, HasRoomForCreation, HasRoomForEntry, HasRoomForLevel, HasRoomForProcess, HaveFramesLeft};
 ghost use Rattle.hep_state.specs.Words.{IsAtOperation, IsEmptyProcess, IsEndingBy, IsEndingWithRoom, IsRefused, IsTurn, KeepsRollFor};
 ghost use Rattle.hep_state.specs.Words.{KeepsRoom, KeepsWritten, LeavesAlone, LeavesOthers, LeavesRest, LivesOnBelow, Performs, ShowsSame};
@@ -261,9 +261,9 @@ impl CoreState {
         p: u64,
         history: &mut History,
     ) -> Result<TurnOutcome, AllocError>
-        requires { CanTakeOperation image.now history.old.items p self.old }
-        ensures turned { IfOk result (λ turned. IsTurn image.now history.old.items p self.old turned self.new) }
-        ensures refused { OnErr result (LeavesAlone image.now history.old.items p self.old self.new) }
+        requires { IsAtOperation image.now p self.old }
+        ensures turned { IfOk result (λ turned. IsTurn image.now p self.old turned self.new) }
+        ensures refused { OnErr result (LeavesAlone image.now p self.old self.new) }
         ensures rest { IfOk result (λ turned. LeavesRest turned image.now p (snapshot_of self.old) (snapshot_of self.new)) }
         ensures made { self.new.made ≡ self.old.made }
         ensures entry { HasRoomForEntry history.old result history.new }
@@ -289,9 +289,9 @@ impl CoreState {
         history: &mut History,
         roster: &mut Roster,
     ) -> Result<TurnOutcome, TurnFault>
-        requires { CanTakeCall image.now history.old.items p self.old call roster.old }
-        ensures turned { IfOk result (λ turned. IsTurn image.now history.old.items p self.old turned self.new) }
-        ensures unturned { IfErr result (IsRefused image.now history.old.items p self.old self.new) }
+        requires { CanTakeCall image.now p self.old call roster.old }
+        ensures turned { IfOk result (λ turned. IsTurn image.now p self.old turned self.new) }
+        ensures unturned { IfErr result (IsRefused image.now p self.old self.new) }
         ensures rest { IfOk result (λ turned. LeavesRest turned image.now p (snapshot_of self.old) (snapshot_of self.new)) }
         ensures entry { HasRoomForEntry history.old result history.new }
         ensures roster { KeepsRollFor self.new roster.old roster.new }
@@ -343,9 +343,9 @@ impl CoreState {
         history: &mut History,
         roster: &mut Roster,
     ) -> Result<TurnOutcome, TurnFault>
-        requires { CanTurn image.now history.old.items p self.old roster.old }
-        ensures turned { IfOk result (λ turned. IsTurn image.now history.old.items p self.old turned self.new) }
-        ensures unturned { IfErr result (IsRefused image.now history.old.items p self.old self.new) }
+        requires { CanTurn image.now p self.old roster.old }
+        ensures turned { IfOk result (λ turned. IsTurn image.now p self.old turned self.new) }
+        ensures unturned { IfErr result (IsRefused image.now p self.old self.new) }
         ensures rest { IfOk result (λ turned. LeavesRest turned image.now p (snapshot_of self.old) (snapshot_of self.new)) }
         ensures entry { HasRoomForEntry history.old result history.new }
         ensures roster { KeepsRollFor self.new roster.old roster.new }

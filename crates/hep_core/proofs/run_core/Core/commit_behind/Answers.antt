@@ -25,7 +25,6 @@ use Rattle.hep_core.proofs.Histories.{schedule-several}
 use Rattle.hep_core.proofs.Private.{further-after}
 use Rattle.hep_core.proofs.Committing.{DependOnReads, IsSettledIn, tops-of, turns-of, whether-next}
 use Rattle.hep_core.proofs.Exits.{left-answer, left-invariant, left-room, made-answer, made-invariant, more-is, noted-after, popped, restored-after, restored-places, room-there, turn-there}
-use Rattle.hep_state.proofs.Histories.{still-after, turned-at, unturned-at}
 use Rattle.hep_core.specs.Waking.{GoAlongTurn}
 use Rattle.hep_core.proofs.GoodTickets.{AreSeen, in-arena, made-step, risen}
 use Rattle.hep_core.proofs.Returning.{not-good}
@@ -299,7 +298,7 @@ turn-requires c =
     let m = c.is_next_private.new.machine in
     let t = asked z m c.is_next_private.ensures.same in
     let long = ap (λ es. length es) (entry z) ∙ length-append i.history.items _ in
-    subst (λ p. CanTurn i.image c.note.new.history.items p m i.roster) (sym (own b)) (
+    subst (λ p. CanTurn i.image p m i.roster) (sym (own b)) (
     can-turn c.lists_go_along_with_steps.ensures i k q _ m t (room at.After-keep) (omega (arith, few-enough z)) c.note.new.history.items (entry z) i.roster (omega (arith, t.made, k.room.room)) (
     omega (arith, long, c.in_ok-reserve.ensures.few, ap (λ es. length es) c.reserve.ensures.items)))
 
@@ -314,7 +313,7 @@ invariant_of-self-in-Waits c =
     let m = c.is_next_private.new.machine in
     let t = asked z m c.is_next_private.ensures.same in
     let es = c.note.new.history.items in
-    let done = turned-at i.image i.cells es m (noted z m c.is_next_private.ensures.same) c.ticket-p.result.process c.in-Ok.turned c.turn.new.self c.in-Ok.ensures.turned in
+    let done = c.in-Ok.ensures.turned i.cells (schedule_of es) (noted z m c.is_next_private.ensures.same) in
     let waited = subst (λ turned. HasTurned i.image i.cells (schedule_of es) c.ticket-p.result.process turned c.turn.new.self) c.in-Waits.is done in
     let k = c.self.invariant in
     let noted-room = left-room c.lists_go_along_with_steps.ensures i k (offered c.self.inside.image c.args.offer.now) (out b) c.keep.new.machine (kept-underway at.After-keep) (tops b) (reads b) _ (many b) (room at.After-keep) (few-enough z) m t es (entry z) c.turn.new.self waited.1 c.turn.new.roster c.turn.ensures.roster in
@@ -331,7 +330,7 @@ returns-in-Waits-clause-committed c =
     let m = c.is_next_private.new.machine in
     let t = asked z m c.is_next_private.ensures.same in
     let es = c.note.new.history.items in
-    let done = turned-at i.image i.cells es m (noted z m c.is_next_private.ensures.same) c.ticket-p.result.process c.in-Ok.turned c.turn.new.self c.in-Ok.ensures.turned in
+    let done = c.in-Ok.ensures.turned i.cells (schedule_of es) (noted z m c.is_next_private.ensures.same) in
     let waited = subst (λ turned. HasTurned i.image i.cells (schedule_of es) c.ticket-p.result.process turned c.turn.new.self) c.in-Waits.is done in
     let waiting = subst (λ p. is_waiting i.image (run i.image (schedule_of es)) p ≡ true) (own b) (ap is_some waited.0.waits) in
     let answer =
@@ -351,7 +350,7 @@ invariant_of-self-in-Err-ArenaFull c =
     let m = c.is_next_private.new.machine in
     let t = asked z m c.is_next_private.ensures.same in
     let es = c.note.new.history.items in
-    let after = still-after i.image i.cells es m (noted z m c.is_next_private.ensures.same) c.ticket-p.result.process c.turn.new.self c.in-Err-ArenaFull.ensures.unturned.1 in
+    let after = c.in-Err-ArenaFull.ensures.unturned.1.after i.cells (schedule_of es) (noted z m c.is_next_private.ensures.same) in
     let noted-room = left-room c.lists_go_along_with_steps.ensures i k (offered c.self.inside.image c.args.offer.now) (out b) c.keep.new.machine (kept-underway at.After-keep) (tops b) (reads b) _ (many b) (room at.After-keep) (few-enough z) m t es (entry z) c.turn.new.self after c.turn.new.roster c.turn.ensures.roster in
     left-invariant c.lists_go_along_with_steps.ensures i k (offered c.self.inside.image c.args.offer.now) (out b) c.keep.new.machine (kept-underway at.After-keep) (tops b) (reads b) _ (many b) (room at.After-keep) (few-enough z) m t es (entry z) c.turn.new.self after c.turn.new.history
     c.turn.ensures.entry.entries c.come_back-in-Err-ArenaFull.new.out (backs z c.come_back-in-Err-ArenaFull.new.out.items c.come_back-in-Err-ArenaFull.ensures) c.turn.new.roster c.turn.ensures.roster.kept noted-room c.keep.new.self
@@ -367,8 +366,8 @@ returns-in-Err-ArenaFull-clause-committed c =
     let t = asked z m c.is_next_private.ensures.same in
     let es = c.note.new.history.items in
     let before = noted z m c.is_next_private.ensures.same in
-    let after = still-after i.image i.cells es m before c.ticket-p.result.process c.turn.new.self c.in-Err-ArenaFull.ensures.unturned.1 in
-    let gap = subst (λ e. IsUnturned e i.image i.cells (schedule_of es) c.ticket-p.result.process) c.in-Err-ArenaFull.field-0-is (unturned-at i.image i.cells es m before c.ticket-p.result.process c.in-Err-ArenaFull.field-0 c.in-Err-ArenaFull.ensures.unturned.0) in
+    let after = c.in-Err-ArenaFull.ensures.unturned.1.after i.cells (schedule_of es) before in
+    let gap = subst (λ e. IsUnturned e i.image i.cells (schedule_of es) c.ticket-p.result.process) c.in-Err-ArenaFull.field-0-is (c.in-Err-ArenaFull.ensures.unturned.0 i.cells (schedule_of es) before) in
     let answer =
     left-answer c.lists_go_along_with_steps.ensures i c.self.invariant s (out b) c.keep.new.machine (kept-underway at.After-keep) (tops b) (reads b) _ (many b) (room at.After-keep) (few-enough z) m t es (entry z) c.turn.new.self after c.turn.new.history
     c.turn.ensures.entry.entries c.come_back-in-Err-ArenaFull.new.out (backs z c.come_back-in-Err-ArenaFull.new.out.items c.come_back-in-Err-ArenaFull.ensures) (seen b) c.turn.new.roster c.keep.new.self (inr (inr (subst (HasNoGap i.image i.cells (schedule_of es)) (own b) gap))) c.made_steps-in-Err-ArenaFull.result (c.made_steps-in-Err-ArenaFull.ensures ∙ λ j. record { steps = many-noted z j; blocked = false }) in
@@ -393,7 +392,7 @@ note_step-requires-clause-made c =
     let t = asked z m c.is_next_private.ensures.same in
     let es = c.note.new.history.items in
     let before = noted z m c.is_next_private.ensures.same in
-    let done = turned-at i.image i.cells es m before c.ticket-p.result.process c.in-Ok.turned c.turn.new.self c.in-Ok.ensures.turned in
+    let done = c.in-Ok.ensures.turned i.cells (schedule_of es) before in
     let no_wait = c.in_default.not-Waits in
     let risen-so = risen i.image i.cells (schedule_of es) c.ticket-p.result.process c.in-Ok.turned m c.turn.new.self before.after no_wait done in
     record {
@@ -410,7 +409,7 @@ note_step-requires-clause-few c =
     let z = at.After-is_next_private-arg-1 in
     let m = c.is_next_private.new.machine in
     let es = c.note.new.history.items in
-    in-arena i.image i.cells (schedule_of es) c.ticket-p.result.process c.in-Ok.turned c.turn.new.self (turned-at i.image i.cells es m (noted z m c.is_next_private.ensures.same) c.ticket-p.result.process c.in-Ok.turned c.turn.new.self c.in-Ok.ensures.turned)
+    in-arena i.image i.cells (schedule_of es) c.ticket-p.result.process c.in-Ok.turned c.turn.new.self (c.in-Ok.ensures.turned i.cells (schedule_of es) (noted z m c.is_next_private.ensures.same))
 
 pub invariant_of-self-in_default : goal.invariant_of-self-in_default
 invariant_of-self-in_default c =
@@ -424,7 +423,7 @@ invariant_of-self-in_default c =
     let t = asked z m c.is_next_private.ensures.same in
     let es = c.note.new.history.items in
     let before = noted z m c.is_next_private.ensures.same in
-    let done = subst (λ p. HasTurned i.image i.cells (schedule_of es) p c.in-Ok.turned c.turn.new.self) (own b) (turned-at i.image i.cells es m before c.ticket-p.result.process c.in-Ok.turned c.turn.new.self c.in-Ok.ensures.turned) in
+    let done = subst (λ p. HasTurned i.image i.cells (schedule_of es) p c.in-Ok.turned c.turn.new.self) (own b) (c.in-Ok.ensures.turned i.cells (schedule_of es) before) in
     let made = (kept-underway at.After-keep).is.made ∙ sym t.made in
     let along = subst (λ n. GoAlongTurn s.id.process n c.in-Ok.turned c.turn.new.self c.turn.new.roster c.note_step.new.roster) made (subst (λ p. GoAlongTurn p c.keep.new.machine.made c.in-Ok.turned c.turn.new.self c.turn.new.roster c.note_step.new.roster) (own b) c.note_step.ensures.lists) in
     let entries = more-is i.history.items c.turn.new.history.items c.note_more.new.history.items s.id.process _ _ (c.turn.ensures.entry.entries ∙ entry z) (more-of z c.note_more.ensures) in
@@ -444,7 +443,7 @@ returns-in_default-clause-committed c =
     let t = asked z m c.is_next_private.ensures.same in
     let es = c.note.new.history.items in
     let before = noted z m c.is_next_private.ensures.same in
-    let done = subst (λ p. HasTurned i.image i.cells (schedule_of es) p c.in-Ok.turned c.turn.new.self) (own b) (turned-at i.image i.cells es m before c.ticket-p.result.process c.in-Ok.turned c.turn.new.self c.in-Ok.ensures.turned) in
+    let done = subst (λ p. HasTurned i.image i.cells (schedule_of es) p c.in-Ok.turned c.turn.new.self) (own b) (c.in-Ok.ensures.turned i.cells (schedule_of es) before) in
     let made = (kept-underway at.After-keep).is.made ∙ sym t.made in
     let along = subst (λ n. GoAlongTurn s.id.process n c.in-Ok.turned c.turn.new.self c.turn.new.roster c.note_step.new.roster) made (subst (λ p. GoAlongTurn p c.keep.new.machine.made c.in-Ok.turned c.turn.new.self c.turn.new.roster c.note_step.new.roster) (own b) c.note_step.ensures.lists) in
     let entries = more-is i.history.items c.turn.new.history.items c.note_more.new.history.items s.id.process _ _ (c.turn.ensures.entry.entries ∙ entry z) (more-of z c.note_more.ensures) in
@@ -465,7 +464,7 @@ put_back-requires c =
     let m = c.is_next_private.new.machine in
     let now = kept-underway at.After-keep in
     let t = asked z m c.is_next_private.ensures.same in
-    let left-alone = subst (λ p. LeavesAlone i.image c.note.new.history.items p m c.turn.new.self) (own b) c.in-Err-NoMemory.ensures.unturned.1 in
+    let left-alone = subst (λ p. LeavesAlone i.image p m c.turn.new.self) (own b) c.in-Err-NoMemory.ensures.unturned.1 in
     let from = subst (HasTakenIn (offered c.self.inside.image c.args.offer.now) c.keep.new.machine) (sym c.is_next_private.ensures.same) c.take_private.ensures.taken in
     let kept = saved-for i.image c.ticket-p.result.process (offered c.self.inside.image c.args.offer.now).id.process c.comes_next.new.machine c.keep.new.machine (saved_in c.keep.new.self) (own b) c.keep.ensures.same c.in_ok-keep.ensures.kept now.is.turn.living in
     let turn = turn-there c.lists_go_along_with_steps.ensures i c.self.invariant (offered c.self.inside.image c.args.offer.now) (out b) c.keep.new.machine now (tops b) (reads b) _ (many b) (room at.After-keep) (few-enough z) m t c.note.new.history.items (entry z) c.restored_machines_are_as_before.ensures from c.turn.new.self left-alone in
@@ -484,7 +483,7 @@ invariant_of-self-in-Err-NoMemory c =
     let m = c.is_next_private.new.machine in
     let now = kept-underway at.After-keep in
     let t = asked z m c.is_next_private.ensures.same in
-    let left-alone = subst (λ p. LeavesAlone i.image c.note.new.history.items p m c.turn.new.self) (own b) c.in-Err-NoMemory.ensures.unturned.1 in
+    let left-alone = subst (λ p. LeavesAlone i.image p m c.turn.new.self) (own b) c.in-Err-NoMemory.ensures.unturned.1 in
     let from = subst (HasTakenIn s c.keep.new.machine) (sym c.is_next_private.ensures.same) c.take_private.ensures.taken in
     let kept = saved-for i.image c.ticket-p.result.process s.id.process c.comes_next.new.machine c.keep.new.machine (saved_in c.keep.new.self) (own b) c.keep.ensures.same c.in_ok-keep.ensures.kept now.is.turn.living in
     let put = subst (λ p. HasRestored i.image p (saved_in c.keep.new.self) c.turn.new.self c.put_back.new.machine) (own b) c.put_back.ensures.restored in
@@ -504,7 +503,7 @@ returns-in-Err-NoMemory-clause-committed c =
     let m = c.is_next_private.new.machine in
     let now = kept-underway at.After-keep in
     let t = asked z m c.is_next_private.ensures.same in
-    let left-alone = subst (λ p. LeavesAlone i.image c.note.new.history.items p m c.turn.new.self) (own b) c.in-Err-NoMemory.ensures.unturned.1 in
+    let left-alone = subst (λ p. LeavesAlone i.image p m c.turn.new.self) (own b) c.in-Err-NoMemory.ensures.unturned.1 in
     let from = subst (HasTakenIn s c.keep.new.machine) (sym c.is_next_private.ensures.same) c.take_private.ensures.taken in
     let kept = saved-for i.image c.ticket-p.result.process s.id.process c.comes_next.new.machine c.keep.new.machine (saved_in c.keep.new.self) (own b) c.keep.ensures.same c.in_ok-keep.ensures.kept now.is.turn.living in
     let put = subst (λ p. HasRestored i.image p (saved_in c.keep.new.self) c.turn.new.self c.put_back.new.machine) (own b) c.put_back.ensures.restored in
@@ -557,7 +556,7 @@ returns-in-Waits-clause-others c =
     let same = c.is_next_private.ensures.same in
     let es = c.note.new.history.items in
     let p = c.ticket-p.result.process in
-    let waited = subst (λ turned. HasTurned i.image i.cells (schedule_of es) p turned c.turn.new.self) c.in-Waits.is (turned-at i.image i.cells es m (noted z m same) p c.in-Ok.turned c.turn.new.self c.in-Ok.ensures.turned) in
+    let waited = subst (λ turned. HasTurned i.image i.cells (schedule_of es) p turned c.turn.new.self) c.in-Waits.is (c.in-Ok.ensures.turned i.cells (schedule_of es) (noted z m same)) in
     let top = subst (λ turned. LeavesRest turned i.image p (snapshot_of m) (snapshot_of c.turn.new.self)) c.in-Waits.is c.in-Ok.ensures.rest in
     rw (← c.self.view_is) (noted-next z _ es (entry z) c.turn.new.self waited.1 (left-beside z m c.turn.new.self same top) (core_value (record i { history = c.turn.new.history; machine = c.turn.new.self; out = c.come_back-in-Waits.new.out })) (ap (state_after i.image) c.turn.ensures.entry.entries))
 
@@ -568,7 +567,7 @@ returns-in-Err-ArenaFull-clause-others c =
     let m = c.is_next_private.new.machine in
     let same = c.is_next_private.ensures.same in
     let es = c.note.new.history.items in
-    let after = still-after i.image i.cells es m (noted z m same) c.ticket-p.result.process c.turn.new.self c.in-Err-ArenaFull.ensures.unturned.1 in
+    let after = c.in-Err-ArenaFull.ensures.unturned.1.after i.cells (schedule_of es) (noted z m same) in
     rw (← c.self.view_is) (noted-next z _ es (entry z) c.turn.new.self after (left-beside z m c.turn.new.self same c.in-Err-ArenaFull.ensures.unturned.1.top) (core_value (record i { history = c.turn.new.history; machine = c.turn.new.self; out = c.come_back-in-Err-ArenaFull.new.out })) (ap (state_after i.image) c.turn.ensures.entry.entries))
 
 pub returns-in_default-clause-others : goal.returns-in_default-clause-others
@@ -585,7 +584,7 @@ returns-in_default-clause-others c =
     let t = asked z m same in
     let es = c.note.new.history.items in
     let before = noted z m same in
-    let done = subst (λ p. HasTurned i.image i.cells (schedule_of es) p c.in-Ok.turned c.turn.new.self) (own b) (turned-at i.image i.cells es m before c.ticket-p.result.process c.in-Ok.turned c.turn.new.self c.in-Ok.ensures.turned) in
+    let done = subst (λ p. HasTurned i.image i.cells (schedule_of es) p c.in-Ok.turned c.turn.new.self) (own b) (c.in-Ok.ensures.turned i.cells (schedule_of es) before) in
     let stepped = made-step i.image i.cells (schedule_of es) q c.in-Ok.turned c.turn.new.self c.in_default.not-Waits done in
     let entries = more-is i.history.items c.turn.new.history.items c.note_more.new.history.items q _ _ (c.turn.ensures.entry.entries ∙ entry z) (more-of z c.note_more.ensures) in
     let after =

@@ -12,7 +12,6 @@ use Rattle.hep_state.specs.Words.{HasTurned, IsAfter, IsMachineAfter, IsSameButT
 use Rattle.hep_state.proofs.UnchangedStates.{on-err}
 use Rattle.hep_core.specs.ProcessPlaces.{places_of}
 use Rattle.hep_core.proofs.SettledMachines.{places-same}
-use Rattle.hep_state.proofs.Histories.{after-history, still-after, turned-at, unturned-at}
 use Rattle.hep_state.proofs.ProcessNumbers.{length-stacks}
 use Rattle.hep_core.specs.Invariant.{CoreInvariant, core_value, placed_value}
 use Rattle.hep_core.specs.declared.run_core.Core.TheInside.{Inside}
@@ -89,9 +88,11 @@ turn-requires c =
     let going = going-on (goal.at.turn-requires c).After-lives in
     let lives : c.lives.result ≡ true = search rules in
     record {
-      after = after-history i.image i.cells h i.machine k.after;
-      running = halted-is i.image i.cells h (snapshot_of i.machine) k.after.after ∙ going.1;
-      living = c.lives.ensures.levels lives;
+      turn = record {
+        after = (i.cells, schedule_of h, k.after);
+        running = halted-is i.image i.cells h (snapshot_of i.machine) k.after.after ∙ going.1;
+        living = c.lives.ensures.levels lives;
+      };
       countable = omega (arith, activations-are i.image i.cells h (snapshot_of i.machine) k.after.after, k.few.activations, c.len.ensures.count, c.len.ensures.few);
       numerable = omega (arith, processes-are i.image i.cells h (snapshot_of i.machine) k.after.after, length-stacks i.machine.processes.items 1 i.machine.made, k.few.processes, c.len.ensures.count, c.len.ensures.few);
       numbers = k.room.room;
@@ -129,15 +130,15 @@ pub invariant_of-self-in-Err-NoMemory : goal.invariant_of-self-in-Err-NoMemory
 invariant_of-self-in-Err-NoMemory c =
     let i = c.self.inside in
     let k = c.self.invariant in
-    unturned (goal.at.invariant_of-self-in-Err-NoMemory c).After-turn (still-after i.image i.cells i.history.items i.machine k.after c.args.p c.turn.new.self c.in-Err-NoMemory.ensures.unturned.1) i.stop k.named
+    unturned (goal.at.invariant_of-self-in-Err-NoMemory c).After-turn (c.in-Err-NoMemory.ensures.unturned.1.after i.cells (schedule_of i.history.items) k.after) i.stop k.named
 
 pub returns-in-Err-NoMemory-clause-chosen : goal.returns-in-Err-NoMemory-clause-chosen
 returns-in-Err-NoMemory-clause-chosen c =
     let at = goal.at.returns-in-Err-NoMemory-clause-chosen c in
     let i = c.self.inside in
     let h = i.history.items in
-    let after = still-after i.image i.cells h i.machine c.self.invariant.after c.args.p c.turn.new.self c.in-Err-NoMemory.ensures.unturned.1 in
-    let gapped = subst (λ e. IsUnturned e i.image i.cells (schedule_of h) c.args.p) c.in-Err-NoMemory.field-0-is (unturned-at i.image i.cells h i.machine c.self.invariant.after c.args.p c.in-Err-NoMemory.field-0 c.in-Err-NoMemory.ensures.unturned.0) in
+    let after = c.in-Err-NoMemory.ensures.unturned.1.after i.cells (schedule_of h) c.self.invariant.after in
+    let gapped = subst (λ e. IsUnturned e i.image i.cells (schedule_of h) c.args.p) c.in-Err-NoMemory.field-0-is (c.in-Err-NoMemory.ensures.unturned.0 i.cells (schedule_of h) c.self.invariant.after) in
     rw (← c.self.view_is) ((going-on at.After-lives, is-alive at.After-len, at-home at.After-lives), is-asked at.After-turn, (λ gap. gapped gap.full), unturned-value at.After-turn after i.stop)
 
 pub invariant_of-self-in-Err-ArenaFull : goal.invariant_of-self-in-Err-ArenaFull
@@ -146,16 +147,16 @@ invariant_of-self-in-Err-ArenaFull c =
     let i = c.self.inside in
     let h = i.history.items in
     let k = c.self.invariant in
-    let gap = subst (λ e. IsUnturned e i.image i.cells (schedule_of h) c.args.p) c.in-Err-ArenaFull.field-0-is (unturned-at i.image i.cells h i.machine k.after c.args.p c.in-Err-ArenaFull.field-0 c.in-Err-ArenaFull.ensures.unturned.0) in
-    unturned at.After-turn (still-after i.image i.cells h i.machine k.after c.args.p c.turn.new.self c.in-Err-ArenaFull.ensures.unturned.1) (Some ArenaFull) ((going-on at.After-lives).1, (c.args.p, gap))
+    let gap = subst (λ e. IsUnturned e i.image i.cells (schedule_of h) c.args.p) c.in-Err-ArenaFull.field-0-is (c.in-Err-ArenaFull.ensures.unturned.0 i.cells (schedule_of h) k.after) in
+    unturned at.After-turn (c.in-Err-ArenaFull.ensures.unturned.1.after i.cells (schedule_of h) k.after) (Some ArenaFull) ((going-on at.After-lives).1, (c.args.p, gap))
 
 pub returns-in-Err-ArenaFull-clause-chosen : goal.returns-in-Err-ArenaFull-clause-chosen
 returns-in-Err-ArenaFull-clause-chosen c =
     let at = goal.at.returns-in-Err-ArenaFull-clause-chosen c in
     let i = c.self.inside in
     let h = i.history.items in
-    let after = still-after i.image i.cells h i.machine c.self.invariant.after c.args.p c.turn.new.self c.in-Err-ArenaFull.ensures.unturned.1 in
-    let gap = subst (λ e. IsUnturned e i.image i.cells (schedule_of h) c.args.p) c.in-Err-ArenaFull.field-0-is (unturned-at i.image i.cells h i.machine c.self.invariant.after c.args.p c.in-Err-ArenaFull.field-0 c.in-Err-ArenaFull.ensures.unturned.0) in
+    let after = c.in-Err-ArenaFull.ensures.unturned.1.after i.cells (schedule_of h) c.self.invariant.after in
+    let gap = subst (λ e. IsUnturned e i.image i.cells (schedule_of h) c.args.p) c.in-Err-ArenaFull.field-0-is (c.in-Err-ArenaFull.ensures.unturned.0 i.cells (schedule_of h) c.self.invariant.after) in
     rw (← c.self.view_is) (inr (inr ((going-on at.After-lives, is-alive at.After-len, at-home at.After-lives), is-asked at.After-turn, gap, refl, unturned-value at.After-turn after (Some ArenaFull))))
 
 -- ---- a turn that made a step
@@ -164,7 +165,7 @@ returns-in-Err-ArenaFull-clause-chosen c =
 turned-now : (c : After-wake_after) → HasTurned c.self.inside.image c.self.inside.cells (schedule_of c.self.inside.history.items) c.args.p c.in-Ok.turned c.turn.new.self
 turned-now c =
     let i = c.self.inside in
-    turned-at i.image i.cells i.history.items i.machine c.self.invariant.after c.args.p c.in-Ok.turned c.turn.new.self c.in-Ok.ensures.turned
+    c.in-Ok.ensures.turned i.cells (schedule_of i.history.items) c.self.invariant.after
 
 no-wait : (c : After-wake_after) → IsNoWait c.in-Ok.turned
 no-wait c = c.in_default-turned.not-Waits
@@ -306,7 +307,7 @@ wake_after-requires c =
     let i = c.self.inside in
     record {
       few = subst (AreInArena c.in-Ok.turned) (sym c.deref.ensures.value) (
-          in-arena i.image i.cells (schedule_of i.history.items) c.args.p c.in-Ok.turned c.turn.new.self (turned-at i.image i.cells i.history.items i.machine c.self.invariant.after c.args.p c.in-Ok.turned c.turn.new.self c.in-Ok.ensures.turned));
+          in-arena i.image i.cells (schedule_of i.history.items) c.args.p c.in-Ok.turned c.turn.new.self (c.in-Ok.ensures.turned i.cells (schedule_of i.history.items) c.self.invariant.after));
     }
 
 pub note_ready-requires : goal.note_ready-requires
@@ -314,7 +315,7 @@ note_ready-requires c =
     let i = c.self.inside in
     let h = i.history.items in
     let k = c.self.invariant in
-    let turned = turned-at i.image i.cells h i.machine k.after c.args.p c.in-Ok.turned c.turn.new.self c.in-Ok.ensures.turned in
+    let turned = c.in-Ok.ensures.turned i.cells (schedule_of h) k.after in
     let no_wait = c.in_default-turned.not-Waits in
     record {
       last = omega (arith, c.turn.ensures.roster.kept.last, k.room.last);
@@ -340,7 +341,7 @@ block-requires c =
 waited-now : (c : After-block) → HasTurned c.self.inside.image c.self.inside.cells (schedule_of c.self.inside.history.items) c.args.p (Waits c.in-Waits.want) c.turn.new.self
 waited-now c =
     let i = c.self.inside in
-    subst (λ turned. HasTurned i.image i.cells (schedule_of i.history.items) c.args.p turned c.turn.new.self) c.in-Waits.is (turned-at i.image i.cells i.history.items i.machine c.self.invariant.after c.args.p c.in-Ok.turned c.turn.new.self c.in-Ok.ensures.turned)
+    subst (λ turned. HasTurned i.image i.cells (schedule_of i.history.items) c.args.p turned c.turn.new.self) c.in-Waits.is (c.in-Ok.ensures.turned i.cells (schedule_of i.history.items) c.self.invariant.after)
 
 is-blocked : (c : After-block) → IsBlocked c.self.inside.image c.self.inside.cells (schedule_of c.self.inside.history.items) c.args.p c.in-Waits.want
 is-blocked c =

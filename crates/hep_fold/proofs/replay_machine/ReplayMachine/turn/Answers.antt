@@ -1,7 +1,6 @@
 use Rattle.std.proofs.Common.{List, [], ◌∷◌, ◌++◌, ap, ◌∙◌, subst, sym, arith}
 use Rattle.hep_machine.specs.declared.event.Entry.{Entry}
 use Rattle.hep_machine.specs.Words.{schedule_of}
-use Rattle.hep_state.proofs.Histories.{after-history, turned-at, unturned-at}
 use Rattle.hep_state.proofs.ProcessNumbers.{length-stacks}
 use Rattle.hep_state.specs.declared.turn.TurnFault.{TurnFault}
 use Rattle.hep_state.specs.declared.turn.TurnOutcome.{TurnOutcome}
@@ -18,9 +17,11 @@ turn-requires c =
     let program = c.args.image.now in
     let choices = made_by self in
     record {
-      after = after-history program h.cells self.history.items self.machine h.after;
-      running = running-now program c.args.p self h;
-      living = living-now program c.args.p self h;
+      turn = record {
+        after = (h.cells, choices, h.after);
+        running = running-now program c.args.p self h;
+        living = living-now program c.args.p self h;
+      };
       countable = omega (
         arith,
         c.activations_are_few.ensures.activations program h.cells choices (snapshot_of self.machine) h.after.after,
@@ -42,7 +43,7 @@ unreachable-requires c =
     let program = c.args.image.now in
     not-waiting program c.args.p self h _ c.turn.new.self (
     subst (λ (t : TurnOutcome). HasTurned program h.cells (made_by self) c.args.p t c.turn.new.self) c.in-Waits.is (
-    turned-at program h.cells self.history.items self.machine h.after c.args.p c.in-Ok.turned c.turn.new.self c.in-Ok.ensures.turned))
+    c.in-Ok.ensures.turned h.cells (made_by self) h.after))
 
 pub unreachable-requires-in-Err-ArenaFull : goal.unreachable-requires-in-Err-ArenaFull
 unreachable-requires-in-Err-ArenaFull c =
@@ -51,8 +52,7 @@ unreachable-requires-in-Err-ArenaFull c =
     let program = c.args.image.now in
     not-full program c.args.p self h (
     subst (λ (e : TurnFault). IsUnturned e program h.cells (made_by self) c.args.p) c.in-Err-ArenaFull.field-0-is (
-    unturned-at program h.cells self.history.items self.machine h.after c.args.p
-    c.in-Err-ArenaFull.field-0 c.in-Err-ArenaFull.ensures.unturned.0))
+    c.in-Err-ArenaFull.ensures.unturned.0 h.cells (made_by self) h.after))
 
 pub returns-in_default : goal.returns-in_default
 returns-in_default c =
@@ -66,6 +66,6 @@ returns-in_default c =
       after = λ cells after.
           subst (λ cs. IsMachineAfter program cells cs c.turn.new.self) (sym (ap schedule_of more ∙ schedule-many self.history.items p 1)) (
           stepped program cells (made_by self) p c.in-Ok.turned c.turn.new.self c.in_default.not-Waits (
-          turned-at program cells self.history.items self.machine after p c.in-Ok.turned c.turn.new.self c.in-Ok.ensures.turned));
+          c.in-Ok.ensures.turned cells (made_by self) after));
       numbers = c.turn.ensures.roster.numbers;
     }
