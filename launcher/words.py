@@ -25,8 +25,8 @@ FLAGS = ("--long",)
 HELPS = ("-h", "--help")
 # What the program says of words that `explain` doesn't take, and of files and orders that exclude each other: of orders by the
 # first of these that is given.
-NO_NUMBER = "error: no refusal has this number\n"
-NO_NAME = "error: nothing has this name; `hepf explain --help` says what is explained\n"
+NO_NUMBER = "error: no refusal or status has this number\n"
+NO_NAME = "error: nothing has this name; `hepf explain` says what is explained\n"
 SAME_FILE = "error: --history names a file that is read\n"
 SAME_PAGE = "error: the {} would be written to a file that is read\n"
 TWO_ORDERS = {
@@ -132,22 +132,25 @@ def refusals():
 
 
 def meanings():
-    """By name, what docs/FAULTS.md says of faults, other ends of a run and statuses."""
+    """By name, what docs/FAULTS.md says of faults, other ends of a run, statuses and other words."""
     return {name: text for heading, text in sections_of("FAULTS.md", "##").items() for name in heading.split(", ")}
 
 
 def explanation(name):
-    """What a name or a number means, and what to do."""
+    """What a name or a number means, and what to do. A number that no refusal has is that of a status."""
     if not re.fullmatch(r"\+?[0-9]+", name):
         found = meanings().get(name.upper())
         if not found:
             raise Mistake(NO_NAME)
         return found
-    found = refusals().get(str(int(name)))
+    number = str(int(name))
+    if number in refusals():
+        *sentences, more = refusals()[number]
+        return "".join(textwrap.fill(it, COLUMNS) + "\n" for it in sentences) + (f"\n{more}" if more else "")
+    found = meanings().get(f"STATUS {number}")
     if not found:
         raise Mistake(NO_NUMBER)
-    *sentences, more = found
-    return "".join(textwrap.fill(it, COLUMNS) + "\n" for it in sentences) + (f"\n{more}" if more else "")
+    return found
 
 
 # ---- words
@@ -261,7 +264,7 @@ def read(words, of):
     job.flags = [*dict.fromkeys(before + job.flags)]
     judge(job, FORMS[first])
     if first == "explain":
-        return explanation(" ".join(job.operands))
+        return explanation(" ".join(job.operands or ["WORDS"]))
     return job
 
 

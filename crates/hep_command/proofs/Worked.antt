@@ -197,6 +197,10 @@ explain_by_words : asked (codes "hepf" ∷ codes "explain" ∷ codes "arena" ∷
 unfolding asked clap_on_literals
 explain_by_words = refl
 
+explain_alone : asked (codes "hepf" ∷ codes "explain" ∷ []) ≡ Some (explain (codes "WORDS") None None)
+unfolding asked clap_on_literals
+explain_alone = refl
+
 long_before : is_long (codes "hepf" ∷ codes "--long" ∷ codes "check" ∷ codes "a.f" ∷ []) ≡ true
 unfolding is_long clap_on_literals
 long_before = refl
@@ -264,5 +268,14 @@ explained_refusal = refl
 no_status : is_explained (codes "STATUS 10") ≡ false
 no_status = refl
 
-no_refusal : is_explained (codes "70") ≡ false
-no_refusal = refl
+explained_status : is_explained (codes "70") ≡ true
+explained_status = refl
+
+explained_race : is_explained (codes "RACE") ≡ true
+explained_race = refl
+
+explained_words : is_explained (codes "WORDS") ≡ true
+explained_words = refl
+
+no_number : is_explained (codes "71") ≡ false
+no_number = refl

@@ -225,10 +225,11 @@ diff_in rows =
 abbrev pub list_in : ListOf Row → Option RequestedJob
 list_in rows = option_map list (first_of (codes "file") rows)
 
+-- without a word the list of all words is explained
 abbrev pub explain_in : ListOf Row → Option RequestedJob
 explain_in rows =
-    option_map (λ first. explain first (first_of (codes "second") rows) (first_of (codes "third") rows))
-    (first_of (codes "first") rows)
+    Some (explain (unwrap_or (first_of (codes "first") rows) (codes "WORDS"))
+    (first_of (codes "second") rows) (first_of (codes "third") rows))
 
 -- the job of the command with this name
 abbrev pub command_in : Text → ListOf Row → Option RequestedJob

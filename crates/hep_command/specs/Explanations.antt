@@ -33,6 +33,17 @@ statuses =
     codes "STATUS" ∷ codes "STATUS 0" ∷ codes "STATUS 1" ∷ codes "STATUS 2" ∷ codes "STATUS 3" ∷ codes "STATUS 4"
     ∷ codes "STATUS 5" ∷ codes "STATUS 6" ∷ codes "STATUS 7" ∷ codes "STATUS 8" ∷ codes "STATUS 9" ∷ codes "STATUS 70" ∷ []
 
+-- other words for what a run shows, and the list of all names and numbers
+abbrev pub terms : List Text
+terms = codes "DEADLOCK" ∷ codes "CIRCLE" ∷ codes "SEED" ∷ codes "WORDS" ∷ []
+
+-- the numbers of the statuses
+abbrev pub status_numbers : List ℕ
+status_numbers = 0 ∷ 1 ∷ 2 ∷ 3 ∷ 4 ∷ 5 ∷ 6 ∷ 7 ∷ 8 ∷ 9 ∷ 70 ∷ []
+
+abbrev pub is_status : ℕ → Bool
+is_status number = list_any (nat_eq number) status_numbers
+
 abbrev pub is_among : List Text → Text → Bool
 is_among names name = list_any (bytes_eq name) names
 
@@ -45,14 +56,17 @@ with_word name (Some word) = (name ++ 32 ∷ []) ++ word
 abbrev pub name_of : Text → Option Text → Option Text → Text
 name_of first second third = map to_ascii_uppercase (with_word (with_word first second) third)
 
-abbrev pub is_refusal_in : Option ℕ → Bool
-is_refusal_in None = false
-is_refusal_in (Some number) = is_refusal number
+abbrev pub is_explained_number : Option ℕ → Bool
+is_explained_number None = false
+is_explained_number (Some number) = is_refusal number || is_status number
 
--- the name is the number of a refusal
-abbrev pub is_number_of_refusal : Text → Bool
-is_number_of_refusal name = is_refusal_in (number_within 0 65535 name)
+-- the name is the number of a refusal or of a status
+abbrev pub is_number : Text → Bool
+is_number name = is_explained_number (number_within 0 65535 name)
+
+-- the name is that of a fault, of another end of a run, of a status or of a term
+abbrev pub has_meaning : Text → Bool
+has_meaning name = is_among faults name || (is_among ends name || (is_among statuses name || is_among terms name))
 
 abbrev pub is_explained : Text → Bool
-is_explained name =
-    is_among faults name || (is_among ends name || (is_among statuses name || is_number_of_refusal name))
+is_explained name = has_meaning name || is_number name

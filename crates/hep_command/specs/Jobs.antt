@@ -1,11 +1,13 @@
 -- The jobs that a command line may ask for: docs/MACHINE.md, "The program".
-use Rattle.std.specs.Prelude.{◌≡◌, ◌≢◌, ◌⊎◌, ℕ, ◌+◌, ◌≤◌, List as ListOf, [], Option, Some, None}
+use Rattle.std.specs.Prelude.{◌≡◌, ◌≢◌, ◌⊎◌, ℕ, ◌+◌, ◌≤◌, List as ListOf, [], Option, Some, None, codes}
 use Rattle.std.specs.Borrow.{Bor}
 use Rattle.clap.specs.declared.error.kind.ErrorKind.{ErrorKind}
 use Rattle.clap.specs.declared.error.kind.ErrorKind.TheVariants.{DisplayHelp, DisplayVersion, OutOfMemory}
 use Rattle.hep_command.specs.declared.job.Job.{Job}
 use Rattle.hep_command.specs.declared.job.ViewedRun.{ViewedRun}
 use Rattle.hep_command.specs.declared.job.Usage.{Usage}
+use Rattle.hep_command.specs.declared.job.PageForm.{PageForm}
+use Rattle.hep_command.specs.declared.job.PageForm.TheVariants.{Html, Svg}
 use Rattle.hep_command.specs.declared.job.Job.TheVariants.{Standard, Check, Run, Sample, Replay, State, Trace, Page, Why, Races, Cover, Diff, List, Explain}
 
 abbrev pub IsArena : ℕ → Type 0
@@ -58,6 +60,11 @@ abbrev pub IsWrittenApart : Job → Type 0
 IsWrittenApart (Run file arena steps workers seed choices follow (Some history)) = (file.now ≢ history.now) × IsNoPath choices history × IsNoPath follow history
 IsWrittenApart (Page form file run page) = (file.now ≢ page.now) × IsNoPath run.history page × IsNoPath run.choices page
 IsWrittenApart _ = Unit {0}
+
+-- what is said where a page or a picture would be written to a file that is read
+abbrev pub page_mistake : PageForm → ListOf ℕ
+page_mistake Html = codes "error: the page would be written to a file that is read\n"
+page_mistake Svg = codes "error: the picture would be written to a file that is read\n"
 
 -- 1 if it is given, otherwise 0
 abbrev pub count_of : {A : Type 0} → Option A → ℕ

@@ -28,12 +28,12 @@ source_word = required_word (codes "file")
 abbrev pub history_word : Rule
 history_word = required_word (codes "history")
 
-abbrev pub name_word : Rule
-name_word = required_word (codes "first")
-
 -- an optional word
 abbrev pub optional_word : Text → Rule
 optional_word id = record (new_rule id) { value_names = 1 }
+
+abbrev pub name_word : Rule
+name_word = optional_word (codes "first")
 
 abbrev pub arena_option : Rule
 arena_option = number_option (codes "arena") 16777216

@@ -1,20 +1,19 @@
 //! The output of `hepf explain WORD..`.
 ghost use Rattle.std.specs.Prelude.{◌≡◌, ◌⊎◌, IfOk, false, is_some, string_bytes, true};
 ghost use Rattle.hep_command.specs.Asked.{texts};
-ghost use Rattle.hep_command.specs.Explanations.{is_explained, is_number_of_refusal, name_of, with_word};
+ghost use Rattle.hep_command.specs.Explanations.{is_explained, is_number, name_of, with_word};
 ghost use Rattle.hep_command.specs.Jobs.{IsWant};
 
-use crate::fault_texts::meaning;
+use crate::fault_texts::{meaning, status_meaning};
 use crate::job::Usage;
 use crate::refusal_texts::explanation;
 use crate::words::number_within;
 use std::alloc::{AllocError, Global};
 use std::num::IntErrorKind;
 
-const NO_NUMBER: &str = "error: no refusal has this number\n";
+const NO_NUMBER: &str = "error: no refusal or status has this number\n";
 
-const NO_NAME: &str =
-    "error: nothing has this name; `hepf explain --help` says what is explained\n";
+const NO_NAME: &str = "error: nothing has this name; `hepf explain` says what is explained\n";
 
 // A name with one more word, after a blank.
 fn with_word(name: String, word: Option<&str>) -> Result<String, AllocError>
@@ -43,13 +42,14 @@ fn name_of(
     name.as_str().to_ascii_uppercase(alloc)
 }
 
-// The explanation of the refusal whose number the name is.
+// The explanation of the refusal whose number the name is, or else of the status.
 fn explanation_of_number(name: &str) -> Option<&'static str>
-    ensures { is_some result ≡ is_number_of_refusal name.now }
+    ensures { is_some result ≡ is_number name.now }
 {
-    match number_within(name, 0, u64::from(u16::MAX)) {
-        Some(number) => explanation(number as u16),
-        None => None,
+    let number = number_within(name, 0, u64::from(u16::MAX))? as u16;
+    match explanation(number) {
+        Some(text) => Some(text),
+        None => status_meaning(number),
     }
 }
 

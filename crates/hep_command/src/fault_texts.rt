@@ -1,7 +1,9 @@
-//! What faults, other ends of a run and statuses mean, by their names. docs/FAULTS.md has the same
+//! What faults, other ends of a run, statuses and other words mean, by their names. docs/FAULTS.md has the same
 //! texts.
-ghost use Rattle.std.specs.Prelude.{◌≡◌, ◌||◌, is_some, map};
-ghost use Rattle.hep_command.specs.Explanations.{ends, faults, is_among, statuses};
+ghost use Rattle.std.specs.Prelude.{◌≡◌, is_some, map};
+ghost use Rattle.hep_command.specs.Explanations.{has_meaning, is_among, is_status};
+
+use crate::refusal_texts::explanation_among;
 
 const OVERFLOW: &str = "FAULT process unit LINE n OVERFLOW: a value is below -9223372036854775808 or
 above 9223372036854775807. It may be that of an operator, a sign or a function,
@@ -418,6 +420,67 @@ const STATUS: &str = "The exit status of hepf says how the run, or what was aske
 `hepf explain status 4` says more of one.
 ";
 
+const DEADLOCK: &str =
+    "DEADLOCK: all processes that live wait, each with a line WAITING, and the run is
+over. `hepf why FILE` says who was the last to change what each waits for.
+CIRCLE p WAITS FOR WHAT WAS CHANGED BY q, p: p waits for a variable that q was
+the last to change, and q for one that p was. Without a CIRCLE a process waits
+for a variable that nobody changed, or it or an ended process changed last.
+Let all take variables in one order, and store anew for each further read.
+
+Wrong: WAITING 1 MAIN LINE 3 FOR EMPTY $A OF 1
+
+      INTEGER $A
+      $A = 1
+      $A = 2
+      I = $A
+      END
+
+Right:
+
+      INTEGER $A
+      $A = 1
+      I = $A
+      $A = 2
+      END
+";
+
+const SEED: &str = "SEED: the number that decides who comes next in a run by lots, 1 to 4294967296.
+`hepf run FILE --seed N` makes the same run each time. `hepf sample FILE` makes
+one by each seed from 1 to 100 and counts what comes; FIRST BY SEED n names the
+first run that ended so. What no seed shows isn't shown never to happen. This
+program has a race: by one seed it prints 1, by another it ends in a fault.
+
+Wrong, by run a.f --seed 2: FAULT 1 MAIN LINE 2 UNDEFINED
+
+      CREATE S(N)
+      PRINT *, N
+      END
+      SUBROUTINE S(M)
+      M = 1
+      END
+
+Right, by run a.f --seed 1:
+
+      CREATE S(N)
+      PRINT *, N
+      END
+      SUBROUTINE S(M)
+      M = 1
+      END
+";
+
+const WORDS: &str = "`hepf explain WORD..` says what each of these means, in small letters too.
+Refusals    101 to 107, 201 to 205, 301 to 312, 401, 402, 501, 506, 601 to 603,
+            701 to 705
+Faults      FAULT, OVERFLOW, DIVIDE, RANGE, UNDEFINED, SHAPE, STEP
+Other ends  WAITING, STOPPED ARENA FULL, STOPPED STEP LIMIT, NO MEMORY,
+            WORKERS REFUSED, READ FAULT, WRITE FAULT, REFUSED, STILL RUNNING
+Statuses    STATUS, STATUS 0 to STATUS 9, STATUS 70; or the number alone
+Other words WARNING, RACE, DEADLOCK, CIRCLE, SEED, WORDS
+STOPPED may be left out. Without a word WORDS is explained.
+";
+
 // The names of faults, each with its meaning and advice.
 const FAULTS: [(&str, &str); 6] = [
     ("OVERFLOW", OVERFLOW),
@@ -461,6 +524,29 @@ const STATUSES: [(&str, &str); 12] = [
     ("STATUS 70", UNBUILT),
 ];
 
+// The statuses by their numbers.
+const STATUS_NUMBERS: [(u16, &str); 11] = [
+    (0, DONE),
+    (1, REFUSED),
+    (2, UNUSABLE),
+    (3, FAULT),
+    (4, WAITING),
+    (5, STOPPED_ARENA_FULL),
+    (6, STOPPED_STEP_LIMIT),
+    (7, NO_MEMORY),
+    (8, READ_FAULT),
+    (9, RACE),
+    (70, UNBUILT),
+];
+
+// Other words for what a run shows, and the list of all words.
+const TERMS: [(&str, &str); 4] = [
+    ("DEADLOCK", DEADLOCK),
+    ("CIRCLE", DEADLOCK),
+    ("SEED", SEED),
+    ("WORDS", WORDS),
+];
+
 // The meaning of a name, if it is among these.
 fn meaning_among(meanings: &[(&'static str, &'static str)], name: &str) -> Option<&'static str>
     ensures { is_some result ≡ is_among (map (λ meaning. meaning.0.now) meanings.now) name.now }
@@ -477,9 +563,9 @@ fn meaning_among(meanings: &[(&'static str, &'static str)], name: &str) -> Optio
     }
 }
 
-/// The meaning of a fault, another end of a run or an exit status with this name, and advice.
+/// The meaning of a fault, another end of a run, an exit status or a term with this name, and advice.
 pub fn meaning(name: &str) -> Option<&'static str>
-    ensures { is_some result ≡ (is_among faults name.now || (is_among ends name.now || is_among statuses name.now)) }
+    ensures { is_some result ≡ has_meaning name.now }
 {
     if let Some(text) = meaning_among(&FAULTS, name) {
         return Some(text);
@@ -487,5 +573,15 @@ pub fn meaning(name: &str) -> Option<&'static str>
     if let Some(text) = meaning_among(&ENDS, name) {
         return Some(text);
     }
-    meaning_among(&STATUSES, name)
+    if let Some(text) = meaning_among(&STATUSES, name) {
+        return Some(text);
+    }
+    meaning_among(&TERMS, name)
+}
+
+/// The meaning of the exit status with this number, and advice.
+pub(crate) fn status_meaning(number: u16) -> Option<&'static str>
+    ensures { is_some result ≡ is_status number }
+{
+    explanation_among(&STATUS_NUMBERS, number)
 }

@@ -8,21 +8,21 @@ const NO_READING: &str = "The statement has no reading: it is no statement of th
 Look at its spelling, its parentheses and commas, and that names have at most
 six characters. A decimal point makes a constant real; there are integers only.
 
-The operators ==, /=, <, <=, > and >= are .EQ., .NE., .LT., .LE., .GT. and .GE.
-Small letters are fine. Free form, or a !, in columns 1 to 5 is 103. Each line
-on the left has a habit of later FORTRAN; on the right is what to write.
+Write .EQ., .NE., .LT., .LE., .GT. and .GE. for ==, /=, <, <=, > and >=. Small
+letters are fine. A mark in column 6 continues a statement, and & doesn't; no ;
+and no ! is in one. On the left are such habits, on the right what to write.
 
 Wrong: REFUSED 201                 Right:
 
       IMPLICIT NONE                C     LEAVE IT OUT
-      INTEGER*8 LAST                     INTEGER LAST
-      INTEGER :: LIST(9)                 INTEGER LIST(9)
+      INTEGER*8 :: LIST(2)               INTEGER LIST(2)
       NUMBERS = 9                        NUMBER = 9
-      I = 1  ! THE FIRST           C     THE FIRST
-                                         I = 1
+      I = 2*-3                           I = 2*(-3)
       IF (I == 1) LAST = NUMBER          IF (I .EQ. 1) LAST = NUMBER
       PRINT *, \"LAST\"                    PRINT *, 'LAST'
-      DO WHILE (I .LT. LAST)          10 IF (I .LT. LAST) THEN
+      PRINT '(I5)', I                    PRINT *, I
+      PRINT *, (I, K = 1, 2)             PRINT *, I, I
+      DO WHILE (I .LT. 9)             10 IF (I .LT. 9) THEN
                                             I = I+1
                                             GO TO 10
                                          END IF
@@ -573,8 +573,11 @@ Report it: this is a mistake in hepf, or of the machine below.
     ),
 ];
 
-// The explanation of the refusal with this number, if it is among these.
-fn explanation_among(explanations: &[(u16, &'static str)], number: u16) -> Option<&'static str>
+// The explanation with this number, if it is among these.
+pub(crate) fn explanation_among(
+    explanations: &[(u16, &'static str)],
+    number: u16,
+) -> Option<&'static str>
     ensures { is_some result ≡ list_any (nat_eq number) (map (λ explanation. explanation.0) explanations.now) }
 {
     match explanations {

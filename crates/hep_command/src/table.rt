@@ -76,12 +76,14 @@ const DIFF_EXAMPLE: &str = "Example: hepf diff examples/race.f --seed 1 --seed 2
 const LIST_EXAMPLE: &str = "Example: hepf list examples/sort.f";
 
 const EXPLAIN_EXAMPLES: &str =
-    "Of refusals the number: hepf explain 304. Of the rest, in small letters too:
+    "Of refusals and statuses the number. Of the rest, in small letters too:
 OVERFLOW, DIVIDE, RANGE, UNDEFINED, SHAPE, STEP, FAULT, WAITING, ARENA FULL,
 STEP LIMIT, NO MEMORY, WORKERS REFUSED, READ FAULT, WRITE FAULT, REFUSED,
-STILL RUNNING, WARNING, RACE, STATUS, STATUS 0 to STATUS 9 and STATUS 70.
+STILL RUNNING, WARNING, DEADLOCK, CIRCLE, RACE, SEED, STATUS, STATUS 0 to
+STATUS 9 and STATUS 70. WORDS lists them all.
 
-Example: hepf explain arena full";
+Example: hepf explain 304
+         hepf explain arena full";
 
 const SOURCE: WordRow = WordRow {
     id: "file",
@@ -328,9 +330,9 @@ const CELL: WordRow = WordRow {
 // The first word of an explained name.
 const NAME: WordRow = WordRow {
     id: "first",
-    kind: WordKind::Required,
+    kind: WordKind::Optional,
     value: "WORD..",
-    help: "The number of a refusal, or one of the names below",
+    help: "A number of a refusal or a status, or a name below [default: WORDS]",
 };
 
 const SECOND: WordRow = WordRow {

@@ -8,7 +8,7 @@ ghost use Rattle.hep_command.specs.Asked.{asked_by, arena_in, check_in, command_
 ghost use Rattle.hep_command.specs.Asked.{entries_in, is_long_in, is_word, job_in, cover_in, diff_in, histories_in, list_in, ordinal_in, replay_in, run_in, state_in, steps_in, trace_in, why_in, races_in, word_of, words_found};
 ghost use Rattle.hep_command.specs.Asked.{covered_in, format_in, other_seed_in, page_in, viewed_by, viewed_in};
 ghost use Rattle.hep_command.specs.Asked.{first_seed_in, runs_in, sample_in, seed_in, workers_in};
-ghost use Rattle.hep_command.specs.Jobs.{IsInRange, IsNoPath, IsOneOrder, IsOneRun, IsUsage, IsViewInRange, IsWant, IsWrittenApart, usage_status};
+ghost use Rattle.hep_command.specs.Jobs.{IsInRange, IsNoPath, IsOneOrder, IsOneRun, IsUsage, IsViewInRange, IsWant, IsWrittenApart, page_mistake, usage_status};
 
 use crate::job::{
     ARENA, FIRST_SEED, Job, MOST_ARENA, MOST_RUNS, MOST_SEED, MOST_STEPS, MOST_WORKERS, PageForm,
@@ -48,6 +48,9 @@ pub const FOLLOW_TOO: &str = "USAGE: --follow excludes --choices, --seed and --w
 
 /// What is said where two of a history, choices and lots say which run is looked at.
 pub const TWO_RUNS: &str = "USAGE: HISTORY, --choices and --seed or --runs exclude each other\n";
+
+// The name that `explain` explains where no word is given.
+const ALL_WORDS: &str = "WORDS";
 
 // What `version` is heard as.
 const VERSION_WORDS: &[&str] = &["hepf", "--version"];
@@ -368,7 +371,7 @@ fn explain_job<'a>(found: &ArgMatches<'a>) -> Option<Job<'a>>
     ensures job { option_map asked_by result ≡ explain_in (words_found found.now) }
 {
     Some(Job::Explain {
-        first: word_of(found, "first")?,
+        first: word_of(found, "first").unwrap_or(ALL_WORDS),
         second: word_of(found, "second"),
         third: word_of(found, "third"),
     })
@@ -469,7 +472,9 @@ fn is_path(path: Option<&str>, other: &str) -> bool
 }
 
 /// What is said where a page or a picture would be written to a file that is read.
-pub fn same_page(form: PageForm) -> &'static str {
+pub fn same_page(form: PageForm) -> &'static str
+    ensures { result.now ≡ page_mistake form }
+{
     match form {
         PageForm::Html => SAME_PAGE,
         PageForm::Svg => SAME_PICTURE,

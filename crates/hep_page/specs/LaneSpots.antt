@@ -24,7 +24,8 @@ pub record Scale : Type 0 where
   pub folded : Bool
 
 abbrev pub fields_of : PictureScale → Scale
-fields_of s = record { turns = s.turns; step = s.step; tick = s.tick; tick_turns = s.tick_turns; row = s.row; wide = s.wide; folded = s.folded }
+fields_of s =
+    record { turns = s.turns; step = s.step; tick = s.tick; tick_turns = s.tick_turns; row = s.row; wide = s.wide; folded = s.folded }
 
 -- up to 50 turns are wide, and up to 1,000 narrow, 100 to a row; more are folded into up to 400 columns
 abbrev pub scale_of : ℕ → Scale
@@ -62,7 +63,8 @@ shown spot = if is_idle spot.strong then [] else spot ∷ []
 abbrev pub lane_from : ℕ → ℕ → ℕ → LaneSpot → List TurnMark → List LaneSpot
 lane_from turns columns filled spot [] = shown spot ++ idle_spot columns spot.lane ∷ []
 lane_from turns columns filled spot (mark ∷ marks) =
-    if nat_eq (filled + 1) turns then shown (spot_after spot mark) ++ lane_from turns columns 0 (idle_spot (spot.column + 1) spot.lane) marks
+    if nat_eq (filled + 1) turns
+    then shown (spot_after spot mark) ++ lane_from turns columns 0 (idle_spot (spot.column + 1) spot.lane) marks
     else lane_from turns columns (filled + 1) (spot_after spot mark) marks
 
 abbrev pub lane_spots : ℕ → ℕ → List TurnMark → ℕ → List LaneSpot

@@ -1,17 +1,20 @@
 -- The picture of a run: docs/RUNS.md, "A picture".
-use Rattle.std.specs.Prelude.{ℕ, ◌+◌, ◌-◌, ◌*◌, ◌/◌, ◌%◌, Bool, nat_eq, nat_le, if◌then◌else◌, List, [], ◌∷◌, ◌++◌, codes, length, map, reverse}
+use Rattle.std.specs.Prelude.{ℕ, ◌+◌, ◌-◌, ◌*◌, ◌/◌, ◌%◌, Bool, nat_eq, nat_le, if◌then◌else◌, List, [], ◌∷◌, ◌++◌, codes, length, map}
+use Rattle.std.specs.Prelude.{reverse}
 use Rattle.std.specs.Fmt.{decimal}
 use Rattle.std.specs.List.{flat_map, range_with_len}
 use Rattle.hep_text.specs.Line as text
 use Rattle.hep_page.specs.Html.{html}
 use Rattle.hep_page.specs.LaneSpots.{Scale, fields_of, parts, scale_of, spots_of}
 use Rattle.hep_page.specs.PicturePaths.{run_text}
-use Rattle.hep_page.specs.TurnMarks.{after_blank, deed_of, first_word, from_unit, higher, highest_process, kind_of, mark_of, process_of, rank}
+use Rattle.hep_page.specs.TurnMarks.{after_blank, deed_of, first_word, from_unit, higher, highest_process, kind_of, mark_of, process_of}
+use Rattle.hep_page.specs.TurnMarks.{rank}
 use Rattle.hep_page.specs.declared.lane_lines.LaneLines.{LaneLines}
 use Rattle.hep_page.specs.declared.lane_spot.LaneSpot.{LaneSpot}
 use Rattle.hep_page.specs.declared.picture_frame.PictureFrame.{PictureFrame}
 use Rattle.hep_page.specs.declared.picture_parts.PictureParts.{PictureParts}
-use Rattle.hep_page.specs.declared.picture_template.TheConstants.{ALL_NAMES, BEGINS, COLUMNS, DEFINED, DESCRIPTION, FOLDED, HEADING, LEGEND, NAME, NAMES}
+use Rattle.hep_page.specs.declared.picture_template.TheConstants.{ALL_NAMES, BEGINS, COLUMNS, DEFINED, DESCRIPTION, FOLDED, HEADING}
+use Rattle.hep_page.specs.declared.picture_template.TheConstants.{LEGEND, NAME, NAMES}
 use Rattle.hep_page.specs.declared.picture_template.TheConstants.{ROLE, SHOWN, STYLE, TITLE, WANT}
 use Rattle.hep_page.specs.declared.turn_mark.TurnMark.{TurnMark}
 
@@ -137,7 +140,8 @@ row_view scale frame width row =
     ++ SHOWN.now
 
 unfoldable pub row_text : Scale → PictureFrame → ℕ → List ℕ
-row_text scale frame row = row_names frame row ++ row_place frame (width_and scale frame 0) row ++ row_view scale frame (width_and scale frame 0) row
+row_text scale frame row =
+    row_names frame row ++ row_place frame (width_and scale frame 0) row ++ row_view scale frame (width_and scale frame 0) row
 
 abbrev pub rows_text : Scale → PictureFrame → List ℕ
 rows_text scale frame = flat_map (row_text scale frame) (range_with_len 0 frame.rows)
@@ -192,7 +196,8 @@ form_text folded = if folded then codes "\" class=\"folded\">" else codes "\" cl
 
 unfoldable pub run_group : Picture → List ℕ
 run_group p =
-    codes "<g id=\"run" ++ form_text p.scale.folded ++ ticks_text p.scale p.frame ++ run_text p.scale p.frame.lanes p.marks p.spots ++ codes "</g>"
+    codes "<g id=\"run" ++ form_text p.scale.folded ++ ticks_text p.scale p.frame ++ run_text p.scale p.frame.lanes p.marks p.spots
+    ++ codes "</g>"
 
 unfoldable pub names_group : List Lane → List ℕ
 names_group lanes = ALL_NAMES.now ++ flat_map name_text lanes ++ DEFINED.now
@@ -204,14 +209,15 @@ heading title =
 -- at the end of the last row
 unfoldable pub end_place : Scale → PictureFrame → List ℕ
 end_place scale frame =
-    codes "<svg x=\"" ++ decimal (scale.step * last_columns scale frame + 132) ++ codes "\" y=\"" ++ decimal (frame.high * (frame.rows - 1) + 40)
-    ++ codes "\">"
+    codes "<svg x=\"" ++ decimal (scale.step * last_columns scale frame + 132) ++ codes "\" y=\""
+    ++ decimal (frame.high * (frame.rows - 1) + 40) ++ codes "\">"
 
 unfoldable pub ends_group : Picture → List ℕ
 ends_group p = end_place p.scale p.frame ++ flat_map end_text p.lanes ++ codes "</svg>"
 
 unfoldable pub legend_group : Picture → List ℕ
-legend_group p = codes "<svg y=\"" ++ decimal (p.frame.high * p.frame.rows + 48) ++ form_text p.scale.folded ++ LEGEND.now ++ codes "</svg></svg>\n"
+legend_group p =
+    codes "<svg y=\"" ++ decimal (p.frame.high * p.frame.rows + 48) ++ form_text p.scale.folded ++ LEGEND.now ++ codes "</svg></svg>\n"
 
 unfoldable pub front_text : Picture → List ℕ
 front_text p =

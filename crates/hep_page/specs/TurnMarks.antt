@@ -3,7 +3,8 @@ use Rattle.std.specs.Prelude.{ℕ, ◌+◌, ◌-◌, ◌*◌, Bool, not, nat_eq,
 use Rattle.std.specs.List.{fold, prefix_len}
 use Rattle.std.specs.Str.{bytes_eq}
 use Rattle.hep_page.specs.declared.turn_mark.TurnKind.{TurnKind}
-use Rattle.hep_page.specs.declared.turn_mark.TurnKind.TheVariants.{Begins, Call, Create, End, Fault, Fill, Idle, Other, Print, Read, Store, Take, Wait}
+use Rattle.hep_page.specs.declared.turn_mark.TurnKind.TheVariants.{Begins, Call, Create, End, Fault, Fill, Idle, Other, Print, Read}
+use Rattle.hep_page.specs.declared.turn_mark.TurnKind.TheVariants.{Store, Take, Wait}
 use Rattle.hep_page.specs.declared.turn_mark.TurnMark.{TurnMark}
 
 -- ---- the words of a line

@@ -13,7 +13,7 @@ use Rattle.hep_replay.specs.CoreValues.{CoreValue}
 use Rattle.hep_state.proofs.UnchangedStates.{carry}
 use Rattle.hep_state.specs.declared.core_state.CoreState.{CoreState}
 use Rattle.hep_why.specs.declared.watch.Watch.{Watch}
-use Rattle.hep_why.specs.LatestChanges.{is_there, latest_after, latest_change}
+use Rattle.hep_why.specs.LatestChanges.{is_there, latest_after, latest_changes, no_changes, with_change}
 use Rattle.hep_why.specs.Watches.{AreAlongReplay, AreFound, AreKeptOnceThere, AreNewWatches, CanLook, HaveLooked, IsAlong, IsReplayed, IsWatch, KnownChanges, Looks, WaitTheSame, changes_after, location_of, looked, noted}
 use Rattle.hep_why.proofs.ReplayedRanges.{same-schedule}
 use Rattle.hep_why.proofs.WatchUpdates.{same-there}
@@ -21,7 +21,7 @@ use Rattle.hep_why.proofs.WatchedReplays.{after_turns, changes-at, first-kept, k
 
 -- nothing is known of any storage unit
 abbrev pub unknown : List Watch → KnownChanges
-unknown old = (old, λ at. None)
+unknown old = (old, λ at. no_changes)
 
 module _ (core : CoreValue) (entries : List Entry) (r : IsReplayed core entries) (program : Units) (cells : ℕ) (range : HistoryRange)
     (is : program ≡ core.program) (sized : cells ≡ core.cells) (all : entries_until range ≡ entries) where
@@ -53,15 +53,15 @@ module _ (core : CoreValue) (entries : List Entry) (r : IsReplayed core entries)
     pub can-look-first : CanLook m old
     can-look-first = (after_turns program replay before, h.after, are-kept)
 
-    first-look : (w : Watch) (at : Location) → w.latest ≡ None → IsWatch program cells turns w at
+    first-look : (w : Watch) (at : Location) → w.latest ≡ no_changes → IsWatch program cells turns w at
         → IsAlong (after_turns program replay before) turns (unknown old).1 (looked (run program before) at 0 None w) at
     first-look w at none a = by (is_there (run program before) at) refl
       where
         full : Bool
         full = ((run program before).store at).full
 
-        nothing : (b : Bool) → (if b then None else w.latest) ≡ None
-        nothing true = refl
+        nothing : (b : Bool) → (if b then with_change None w.latest else w.latest) ≡ no_changes
+        nothing true = ap (with_change None) none
         nothing false = none
 
         by : (b : Bool) → is_there (run program before) at ≡ b
@@ -104,8 +104,8 @@ module _ (core : CoreValue) (entries : List Entry) (r : IsReplayed core entries)
           carry (λ i. location_of (is i) (sym same-turns i) w.listed.process ≡ Some at) a.1.watch.located,
           a.1.latest
               ∙ changes-at program at (run program before) (turns_within range) (unknown old)
-              ∙ seen-whole program (latest_after program at) range entries None first all
-              ∙ ap (λ (us : Units). latest_change us entries at) is,
+              ∙ seen-whole program (latest_after program at) range entries no_changes first all
+              ∙ ap (λ (us : Units). latest_changes us entries at) is,
         )
 
     pub found-same : WaitTheSame old ws

@@ -8,9 +8,9 @@ use Rattle.hep_replay.specs.CoreValues.{CoreValue, listed_after, state_of}
 use Rattle.hep_replay.proofs.ReplayTurns.{state_singles, one}
 use Rattle.hep_replay.specs.Replays.{most_entries, single_entries, single_steps}
 use Rattle.hep_machine.specs.declared.event.Entry.{Entry}
-use Rattle.hep_machine.specs.Words.{Location, Progress, State, Units, Wanted, is_number_among, opening, progress_after_entry, progress_after_steps, progress_from, schedule_of, state_after, wanted_by}
-use Rattle.hep_why.specs.LatestChanges.{latest_change}
-use Rattle.hep_why.specs.Reasons.{reason_by, reason_of, reason_with, reasons_from, reasons_of}
+use Rattle.hep_machine.specs.Words.{Location, Progress, State, Units, Wanted, is_number_among, opening, progress_after_entry, progress_after_steps, progress_from, ready_in, schedule_of, state_after, wanted_by}
+use Rattle.hep_why.specs.LatestChanges.{latest_changes}
+use Rattle.hep_why.specs.Reasons.{able_of, reason_by, reason_of, reason_with, reasons_from, reasons_of}
 use Rattle.hep_views.specs.declared.listed.Listed.{Listed}
 use Rattle.hep_views.specs.ListedProcesses.{listed_by}
 use Rattle.hep_why.specs.declared.watch.Watch.{Watch}
@@ -42,6 +42,12 @@ module _ (program : Units) where
   listed-singles es p =
       let listed = progress-singles (record { state = opening program; listed = [] }) es in
       λ i. if is_number_among p (listed i).listed then listed_by program p (state_singles program es i) else None
+
+  -- and as many can go on
+  pub able-singles : (es : List Entry) → able_of program (single_entries es) ≡ able_of program es
+  able-singles es =
+      let same = progress-singles (record { state = opening program; listed = [] }) es in
+      λ i. if (state_singles program es i).halted then 0 else length (ready_in (same i))
 
   all-listed : (es : List Entry) (p n : ℕ) → listed_from program (single_entries es) p n ≡ listed_from program es p n
   all-listed es p zero = refl
@@ -75,6 +81,9 @@ module _ (core : CoreValue) (entries : List Entry) (h : IsReplayed core entries)
   pub state-is-so : state_of core ≡ state_after core.program entries
   state-is-so = ap (state_after core.program) history-is ∙ state_singles core.program entries
 
+  pub able-is : able_of core.program core.history ≡ able_of core.program entries
+  able-is = ap (able_of core.program) history-is ∙ able-singles core.program entries
+
   -- ---- reasons
 
   some-wanted : (o : Option Wanted) (at : Location) → option_map (λ (x : Wanted). x.at) o ≡ Some at → IsSome o
@@ -106,7 +115,7 @@ module _ (core : CoreValue) (entries : List Entry) (h : IsReplayed core entries)
 
   abbrev HasReason : Watch → Type 0
   HasReason w =
-      (at : Location) × (option_map (λ (x : Wanted). x.at) (wanted_by core.program w.listed.process s) ≡ Some at) × (w.latest ≡ latest_change core.program entries at)
+      (at : Location) × (option_map (λ (x : Wanted). x.at) (wanted_by core.program w.listed.process s) ≡ Some at) × (w.latest ≡ latest_changes core.program entries at)
 
   -- the reason of one that is listed
   one-reason : (p : ℕ) (l : Listed) (w : Watch) → listed_after core.program entries p ≡ Some l → w.listed ≡ l → HasReason w
@@ -121,7 +130,7 @@ module _ (core : CoreValue) (entries : List Entry) (h : IsReplayed core entries)
       by (Some x) e f =
           let at : x.at ≡ has.0 = same_Some x.at has.0 f in
           (λ i. reason_by core.program entries (there i) (e i))
-          ∙ (λ i. reason_with core.program s (sym same i) ((ap (latest_change core.program entries) at ∙ sym has.2) i) ∷ [])
+          ∙ (λ i. reason_with core.program s (sym same i) ((ap (latest_changes core.program entries) at ∙ sym has.2) i) ∷ [])
 
   all-reasons : (p n : ℕ) (ws : List Watch) → listed ws ≡ listed_from core.program entries p n
       → ((i : ℕ) (w : Watch) → slice_get ws i ≡ Some w → HasReason w)

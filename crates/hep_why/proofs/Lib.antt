@@ -4,6 +4,7 @@ pub mod WaitNames
 mod ProcessCycles
 mod OrderedReasons
 mod ReasonLines
+mod ReadyCounts
 mod RotatedCycles
 mod CycleWalks
 mod KeptUnits

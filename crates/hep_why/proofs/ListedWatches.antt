@@ -10,7 +10,7 @@ use Rattle.hep_replay.specs.CoreValues.{CoreValue, listed_after}
 use Rattle.hep_machine.specs.declared.event.Entry.{Entry}
 use Rattle.hep_machine.specs.Words.{Layout, Location, State, Units, Wanted, common, is_number_among, local, progress_after, run, schedule_of, wanted_by}
 use Rattle.hep_layout.specs.Words.{address}
-use Rattle.hep_why.specs.LatestChanges.{owner_of}
+use Rattle.hep_why.specs.LatestChanges.{no_changes, owner_of}
 use Rattle.hep_state.specs.declared.core_state.CoreState.{CoreState}
 use Rattle.hep_state.specs.Words.{IsMachineAfter}
 use Rattle.hep_views.specs.declared.listed.Listed.{Listed}
@@ -31,7 +31,7 @@ pub new-watch : (core : CoreValue) (image : Units) (p : ℕ) (m : CoreState) (wa
     → IsMachineAfter core.program core.cells (schedule_of core.history) m
     → IsBlocked core.program core.cells (schedule_of core.history) p want
     → true ≡ is_number_among p (progress_after core.program core.history).listed → IsListedAs image m p want l
-    → IsWatchOf core p (Some (record { listed = l; cell = want.cell; full = false; latest = None }))
+    → IsWatchOf core p (Some (record { listed = l; cell = want.cell; full = false; latest = no_changes }))
 new-watch core image p m want l same after blocked found as_listed =
     let program = core.program in
     let turns = schedule_of core.history in

@@ -1,5 +1,5 @@
 -- Watches along a history that is made again.
-use Rattle.std.proofs.Common.{◌≡◌, ◌⊎◌, inl, inr, ℕ, ◌+◌, ◌&&◌, ◌≤◌, Bool, true, false, true≢false, List, [], ◌∷◌, ◌++◌, length, not, replicate, Option, Some, None, refl, sym, ap, ◌∙◌, subst, arith, append_assoc, IsSome, if◌then◌else◌, nat_le, slice_get}
+use Rattle.std.proofs.Common.{◌≡◌, ◌⊎◌, inl, inr, ℕ, ◌&&◌, ◌≤◌, Bool, true, false, true≢false, List, [], ◌∷◌, ◌++◌, length, not, replicate, Option, Some, None, refl, sym, ap, ◌∙◌, subst, arith, append_assoc, IsSome, if◌then◌else◌, nat_le, slice_get}
 use Rattle.std.specs.Option.{option_map}
 use Rattle.std.proofs.lemmas.Bool.Decides.{nat_tests}
 use Rattle.std.proofs.lemmas.Option.{same_Some}
@@ -17,9 +17,10 @@ use Rattle.hep_state.proofs.Runs.{laid-before}
 use Rattle.hep_state.specs.declared.core_state.CoreState.{CoreState}
 use Rattle.hep_state.specs.Words.{Changes}
 use Rattle.hep_why.specs.declared.reason.Change.{Change}
+use Rattle.hep_why.specs.declared.reason.LatestChanges.{LatestChanges}
 use Rattle.hep_why.specs.declared.watch.ChangeAhead.{ChangeAhead}
 use Rattle.hep_why.specs.declared.watch.Watch.{Watch}
-use Rattle.hep_why.specs.LatestChanges.{change_by, has_changed, is_there, latest_after}
+use Rattle.hep_why.specs.LatestChanges.{change_by, has_changed, is_there, latest_after, with_change}
 use Rattle.hep_why.specs.Watches.{AreAlongReplay, AreKeptOnceThere, CanLook, HaveLooked, IsAlong, IsChangeAhead, IsKeptAfter, IsKeptOnceThere, IsWatch, KnownChanges, Looks, TurnsMade, WaitTheSame, changes_after, looked, noted}
 use Rattle.hep_why.proofs.KeptUnits.{kept-then, there-next}
 use Rattle.hep_why.proofs.WatchUpdates.{same-both, same-there}
@@ -83,7 +84,7 @@ module _ (program : Units) (cells : ℕ) (turns : List ℕ) (laid : IsSome (layo
 
   -- its latest change stays
   quiet-latest : (choices : List ℕ) (n : ℕ) (after rest : List ℕ) → HasGone program cells p choices n after → turns ≡ after ++ rest
-      → (apart : Bool) (entry : ℕ) (o : Option Change)
+      → (apart : Bool) (entry : ℕ) (o : LatestChanges)
       → seen_along program (latest_after program at) (run program choices) (turns_in_row apart entry p n) o ≡ o
   quiet-latest _ _ _ rest (gone.none choices) split apart entry o = seen-none program (latest_after program at) (run program choices) o
   quiet-latest _ _ _ rest (gone.more choices n after going plain) split apart entry o =
@@ -94,8 +95,8 @@ module _ (program : Units) (cells : ℕ) (turns : List ℕ) (laid : IsSome (layo
       let state = state-on program cells p choices n after going in
       seen-row-next program (latest_after program at) (run program choices) apart entry p n o
       ∙ (λ i. latest_after program at number p (sym state i) (quiet-latest choices n after (p ∷ rest) going same apart entry o i))
-      ∙ ap (λ (t : State). if has_changed at s t then change else o) (sym (run-last program after p))
-      ∙ ap (λ b. if b then change else o) (
+      ∙ ap (λ (t : State). if has_changed at s t then with_change change o else o) (sym (run-last program after p))
+      ∙ ap (λ b. if b then with_change change o else o) (
       unchanged-so at s (run program (after ++ p ∷ [])) (λ there. quiet-turn after (p ∷ rest) same plain.unchanged there))
 
 -- ---- watches
@@ -144,20 +145,20 @@ module _ (program : Units) (replay : Replay) where
         full = (t.store at).full
 
         noted-so : (b : Bool) → is_there s at ≡ b
-            → (if b && not (same_logical w.full full) then change else w.latest)
-            ≡ (if b && not (same_logical (s.store at).full full) then change_by program entry p s else w.latest)
-        noted-so true e = λ i. if not (same_logical (a.full e i) full) then change_is i else w.latest
+            → (if b && not (same_logical w.full full) then with_change change w.latest else w.latest)
+            ≡ (if b && not (same_logical (s.store at).full full) then with_change (change_by program entry p s) w.latest else w.latest)
+        noted-so true e = λ i. if not (same_logical (a.full e i) full) then with_change (change_is i) w.latest else w.latest
         noted-so false e = refl
 
         seen : (noted full activations change w).latest ≡ latest_after program at entry p s w.latest
         seen =
-            (λ i. if nat_le (sym a.watch.owner i) (counted i) && not (same_logical w.full full) then change else w.latest)
+            (λ i. if nat_le (sym a.watch.owner i) (counted i) && not (same_logical w.full full) then with_change change w.latest else w.latest)
             ∙ noted-so (is_there s at) refl
-            ∙ ap (λ (u : State). if has_changed at s u then change_by program entry p s else w.latest) (run-last program made p)
+            ∙ ap (λ (u : State). if has_changed at s u then with_change (change_by program entry p s) w.latest else w.latest) (run-last program made p)
 
         unmade : (b : Bool) → is_there s at ≡ b → is_there t at ≡ false
             → w.latest
-            ≡ (if b && not (same_logical (s.store at).full ((state_after_turn program p s).store at).full) then change_by program entry p s else w.latest)
+            ≡ (if b && not (same_logical (s.store at).full ((state_after_turn program p s).store at).full) then with_change (change_by program entry p s) w.latest else w.latest)
         unmade true e f = absurd (true≢false (sym (there-next program made p at e) ∙ f))
         unmade false e f = refl
 
@@ -250,15 +251,15 @@ module _ (program : Units) (replay : Replay) where
           full : Bool
           full = (last.store at).full
 
-          seen : (b : Bool) → is_there first at ≡ b → (if b && not (same_logical w.full full) then None else w.latest) ≡ w.latest
+          seen : (b : Bool) → is_there first at ≡ b → (if b && not (same_logical w.full full) then with_change None w.latest else w.latest) ≡ w.latest
           seen true e =
-              ap (λ f. if not (same_logical f full) then None else w.latest) (a.full e ∙ sym (as-full e))
-              ∙ ap (λ b. if not b then None else w.latest) (same_logical-self full)
+              ap (λ f. if not (same_logical f full) then with_change None w.latest else w.latest) (a.full e ∙ sym (as-full e))
+              ∙ ap (λ b. if not b then with_change None w.latest else w.latest) (same_logical-self full)
           seen false e = refl
 
           same : (noted full activations None w).latest ≡ w.latest
           same =
-              (λ i. if nat_le (sym a.watch.owner i) (counted i) && not (same_logical w.full full) then None else w.latest)
+              (λ i. if nat_le (sym a.watch.owner i) (counted i) && not (same_logical w.full full) then with_change None w.latest else w.latest)
               ∙ seen (is_there first at) refl
 
           by : (b : Bool) → is_there last at ≡ b

@@ -1,4 +1,4 @@
--- The step of a history that filled or emptied a storage unit last: docs/RUNS.md, "Why processes wait".
+-- The steps of a history that filled or emptied a storage unit last: docs/RUNS.md, "Why processes wait".
 use Rattle.std.specs.Prelude.{ℕ, Bool, ◌&&◌, not, nat_le, if◌then◌else◌, List, length, Option, None}
 use Rattle.std.specs.Option.{option_map}
 use Rattle.hep_machine.specs.declared.event.Entry.{Entry}
@@ -6,6 +6,7 @@ use Rattle.hep_machine.specs.Words.{Location, State, Units, common, local, openi
 use Rattle.hep_views.specs.declared.whereabouts.Whereabouts.{Whereabouts}
 use Rattle.hep_event.specs.CoreStanding.{whereabouts_by}
 use Rattle.hep_why.specs.declared.reason.Change.{Change}
+use Rattle.hep_why.specs.declared.reason.LatestChanges.{LatestChanges}
 unfoldable pub use Rattle.hep_fold.specs.Turns.{seen_along}
 pub use Rattle.hep_fold.specs.Turns.{turns_from}
 
@@ -28,13 +29,21 @@ has_changed at s t = is_there s at && not (same_logical (s.store at).full (t.sto
 abbrev pub change_by : Units → ℕ → ℕ → State → Option Change
 change_by program entry p s = option_map (λ (w : Whereabouts). record { entry = entry; place = w }) (whereabouts_by program p s)
 
--- the latest change after that step, by the one before it
-abbrev pub latest_after : Units → Location → ℕ → ℕ → State → Option Change → Option Change
+-- the latest two changes, after one more
+abbrev pub with_change : Option Change → LatestChanges → LatestChanges
+with_change change latest = record { last = change; before = latest.last }
+
+-- the latest two changes after that step, by those before it
+abbrev pub latest_after : Units → Location → ℕ → ℕ → State → LatestChanges → LatestChanges
 latest_after program at entry p s latest =
-    if has_changed at s (state_after_turn program p s) then change_by program entry p s else latest
+    if has_changed at s (state_after_turn program p s) then with_change (change_by program entry p s) latest else latest
 
 -- ---- a history
 
--- the latest change in a whole history
-abbrev pub latest_change : Units → List Entry → Location → Option Change
-latest_change program entries at = seen_along program (latest_after program at) (opening program) (turns_from 1 entries) None
+-- there was none
+abbrev pub no_changes : LatestChanges
+no_changes = record { last = None; before = None }
+
+-- the latest two changes in a whole history
+abbrev pub latest_changes : Units → List Entry → Location → LatestChanges
+latest_changes program entries at = seen_along program (latest_after program at) (opening program) (turns_from 1 entries) no_changes

@@ -9,9 +9,10 @@ use Rattle.hep_fold.specs.Turns.{processes}
 use Rattle.hep_layout.specs.Words.{address}
 use Rattle.hep_machine.specs.declared.event.Entry.{Entry}
 use Rattle.hep_machine.specs.Words.{Layout, Location, State, Units, Wanted, is_held, layout_of, opening_layout, run, same_logical, schedule_of, wanted_by}
-use Rattle.hep_why.specs.LatestChanges.{change_by, is_there, latest_after, latest_change, owner_of}
+use Rattle.hep_why.specs.LatestChanges.{change_by, is_there, latest_after, latest_changes, no_changes, owner_of, with_change}
 use Rattle.hep_why.specs.Reasons.{reason_with}
 use Rattle.hep_why.specs.declared.reason.Change.{Change}
+use Rattle.hep_why.specs.declared.reason.LatestChanges.{LatestChanges}
 use Rattle.hep_why.specs.declared.reason.Reason.{Reason}
 use Rattle.hep_state.specs.declared.core_state.CoreState.{CoreState}
 use Rattle.hep_state.specs.Words.{IsMachineAfter}
@@ -43,7 +44,7 @@ pub record IsWatch (program : Units) (cells : ℕ) (turns : List ℕ) (w : Watch
 
 -- one for which no change is known yet
 abbrev pub IsNewWatch : Units → ℕ → List ℕ → Watch → Type 0
-IsNewWatch program cells turns w = (w.latest ≡ None) × ((at : Location) × IsWatch program cells turns w at)
+IsNewWatch program cells turns w = (w.latest ≡ no_changes) × ((at : Location) × IsWatch program cells turns w at)
 
 abbrev pub AreNewWatches : Units → ℕ → List ℕ → List Watch → Type 0
 AreNewWatches program cells turns ws = (i : ℕ) (w : Watch) → slice_get ws i ≡ Some w → IsNewWatch program cells turns w
@@ -90,7 +91,7 @@ AreKeptOnceThere t ws = (i : ℕ) (w : Watch) → slice_get ws i ≡ Some w → 
 -- which is this change
 abbrev pub noted : Bool → ℕ → Option Change → Watch → Watch
 noted full made change w =
-    record w { full = full; latest = if nat_le w.listed.owner made && not (same_logical w.full full) then change else w.latest }
+    record w { full = full; latest = if nat_le w.listed.owner made && not (same_logical w.full full) then with_change change w.latest else w.latest }
 
 -- it looks, if the storage unit exists
 abbrev pub looked : State → Location → ℕ → Option Change → Watch → Watch
@@ -112,17 +113,17 @@ Looks m made change old new = (t : TurnsMade) → IsMachineOf t m → AreKeptOnc
 
 -- ---- a history made again
 
--- the first watches, and the latest change of each storage unit
+-- the first watches, and the latest changes of each storage unit
 abbrev pub KnownChanges : Type 0
-KnownChanges = List Watch × (Location → Option Change)
+KnownChanges = List Watch × (Location → LatestChanges)
 
 -- with the step of process p from a state, in the entry with this number
 abbrev pub changes_after : Units → ℕ → ℕ → State → KnownChanges → KnownChanges
 changes_after program entry p s known = (known.0, λ at. latest_after program at entry p s (known.1 at))
 
 -- a watch, whose process waits for a storage unit after all turns that are made again, has noted after the first ones
--- whether that is full, and its latest change
-pub record IsAlong (t : TurnsMade) (turns : List ℕ) (changes : Location → Option Change) (w : Watch) (at : Location) : Type 0 where
+-- whether that is full, and its latest changes
+pub record IsAlong (t : TurnsMade) (turns : List ℕ) (changes : Location → LatestChanges) (w : Watch) (at : Location) : Type 0 where
   pub watch : IsWatch t.program t.cells turns w at
   pub full : is_there (state_at t) at ≡ true → w.full ≡ ((state_at t).store at).full
   pub latest : w.latest ≡ changes at
@@ -151,12 +152,12 @@ pub record IsReplayed (core : CoreValue) (entries : List Entry) : Type 0 where
   pub some : 1 ≤ core.cells
   pub few : core.cells ≤ 16777216
 
--- each of these watches has the latest change of what its process waits for after these entries
+-- each of these watches has the latest changes of what its process waits for after these entries
 abbrev pub AreFound : CoreValue → List Entry → List Watch → Type 0
 AreFound core entries ws =
     (i : ℕ) (w : Watch) → slice_get ws i ≡ Some w
     → (at : Location)
-    × (location_of core.program (schedule_of core.history) w.listed.process ≡ Some at) × (w.latest ≡ latest_change core.program entries at)
+    × (location_of core.program (schedule_of core.history) w.listed.process ≡ Some at) × (w.latest ≡ latest_changes core.program entries at)
 
 -- each of their processes waits after a core's history
 abbrev pub AreWaiting : CoreValue → List Watch → Type 0

@@ -1,13 +1,13 @@
 //! The lines of processes that wait and why.
-ghost use Rattle.std.specs.Prelude.{◌≡◌, ◌++◌, OnOk, map};
+ghost use Rattle.std.specs.Prelude.{◌≡◌, ◌++◌, OnOk, codes, map};
 ghost use Rattle.std.specs.List.{flat_map};
 ghost use Rattle.hep_image.specs.Names.{names_in_order};
 ghost use Rattle.hep_why.specs.WaitCycles as circles;
 ghost use Rattle.hep_why.specs.Lines as words;
 
-use crate::reason::Reason;
-use crate::wait_cycles::{circles_of, next_at};
-use crate::wait_graph::nexts_of;
+use crate::reason::{Change, MakersWait, Reason};
+use crate::wait_cycles::circles_of;
+use crate::wait_graph::{makers_of, nexts_of};
 use hep_event::{append_waiting, name_of};
 use hep_image::Image;
 use hep_output::append_number;
@@ -91,20 +91,75 @@ fn append_latest(
     )
 }
 
-// The lines of a waiting process; the process that made the change waits itself, or doesn't.
+// Who brought what a process waits for, and what has become of that process.
+fn append_bringer(
+    text: &mut Vec<u8>,
+    image: &Image,
+    change: Change,
+    fate: &[u8],
+    full: bool,
+) -> Result<(), AllocError>
+    ensures { OnOk result (text.new.items
+        ≡ text.old.items ++ words.change_words (names_in_order image.now) full (codes "it last,") fate.now change) }
+{
+    let place = change.place;
+    append_maker(text, place.process, fate, full)?;
+    append_step(
+        text,
+        b"it last,",
+        name_of(image, place.unit),
+        place.line,
+        change.entry,
+    )
+}
+
+// The line for the change before, which brought what a process waits for, if there was one.
+fn append_brought(
+    alloc: Global,
+    text: &mut Vec<u8>,
+    image: &Image,
+    reason: &Reason,
+    fate: &[u8],
+) -> Result<(), AllocError>
+    ensures { OnOk result (text.new.items
+        ≡ text.old.items ++ words.brought_text (names_in_order image.now) reason.now.listed.full fate.now reason.now.brought) }
+{
+    match reason.brought {
+        Some(change) => {
+            let mut line = Vec::new(alloc);
+            append_bringer(&mut line, image, change, fate, !reason.listed.full)?;
+            append_words(text, &line)
+        }
+        None => Ok(()),
+    }
+}
+
+// The lines of a waiting process; the processes that made the changes wait themselves, or don't.
 fn append_reason(
     alloc: Global,
     text: &mut Vec<u8>,
     image: &Image,
     reason: &Reason,
-    waits: bool,
+    wait: &MakersWait,
 ) -> Result<(), AllocError>
-    ensures { OnOk result (text.new.items ≡ text.old.items ++ words.reason_lines image.now reason.now waits) }
+    ensures { OnOk result (text.new.items ≡ text.old.items ++ words.reason_lines image.now reason.now wait.now) }
 {
     let mut line = Vec::new(alloc);
-    append_latest(&mut line, image, reason, fate_text(waits, reason.lives))?;
+    append_latest(
+        &mut line,
+        image,
+        reason,
+        fate_text(wait.latest, reason.lives),
+    )?;
     append_waiting(text, image, &reason.listed)?;
-    append_words(text, &line)
+    append_words(text, &line)?;
+    append_brought(
+        alloc,
+        text,
+        image,
+        reason,
+        fate_text(wait.brought, reason.bringer_lives),
+    )
 }
 
 // The process at an index.
@@ -158,7 +213,7 @@ fn append_end(text: &mut Vec<u8>, process: u64) -> Result<(), AllocError>
     Ok(())
 }
 
-// The line of a cycle.
+// The line of a cycle, unless it is one process alone.
 fn append_circle(
     text: &mut Vec<u8>,
     reasons: &[Reason],
@@ -169,6 +224,9 @@ fn append_circle(
     let [first, behind @ ..] = indexes else {
         return Ok(());
     };
+    if behind.is_empty() {
+        return Ok(());
+    }
     let process = process_at(reasons, *first);
     append_front(text, process)?;
     append_members(text, reasons, behind)?;
@@ -197,14 +255,13 @@ fn append_each(
     text: &mut Vec<u8>,
     image: &Image,
     reasons: &[Reason],
-    nexts: &[Option<usize>],
+    makers: &[MakersWait],
 ) -> Result<(), AllocError>
-    requires { nexts.now ≡ circles.nexts_of reasons.now }
+    requires { makers.now ≡ map (words.makers_wait reasons.now) reasons.now }
     ensures { OnOk result (text.new.items ≡ text.old.items ++ flat_map (words.reason_text image.now reasons.now) reasons.now) }
 {
     for index in 0..reasons.len() {
-        let waits = next_at(nexts, index).is_some();
-        append_reason(alloc, text, image, &reasons[index], waits)?;
+        append_reason(alloc, text, image, &reasons[index], &makers[index])?;
     }
     Ok(())
 }
@@ -225,9 +282,33 @@ pub fn append_reasons(
 ) -> Result<(), AllocError>
     ensures { OnOk result (text.new.items ≡ text.old.items ++ words.reasons_text image.now reasons.now) }
 {
+    let makers = makers_of(alloc, reasons)?;
+    append_each(alloc, text, image, reasons, &makers)?;
     let nexts = nexts_of(alloc, reasons)?;
-    append_each(alloc, text, image, reasons, &nexts)?;
     let circles = circles_of(alloc, &nexts)?;
     append_circles(text, reasons, &circles)?;
+    Ok(())
+}
+
+/// Appends how many processes can go on, where some do and others wait.
+///
+/// # Errors
+///
+/// Only where memory was refused.
+pub fn append_able(text: &mut Vec<u8>, reasons: &[Reason], able: u64) -> Result<(), AllocError>
+    ensures { OnOk result (text.new.items ≡ text.old.items ++ words.able_text reasons.now able) }
+{
+    let [_, ..] = reasons else {
+        return Ok(());
+    };
+    if able == 0 {
+        return Ok(());
+    }
+    text.extend_from_slice(b"AND ")?;
+    append_number(text, able)?;
+    text.extend_from_slice(match able {
+        1 => b" PROCESS CAN GO ON\n",
+        _ => b" PROCESSES CAN GO ON\n",
+    })?;
     Ok(())
 }

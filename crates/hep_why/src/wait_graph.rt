@@ -1,10 +1,11 @@
 //! For each waiting process, the process that made the latest change of what it waits for, by indexes.
-ghost use Rattle.std.specs.Prelude.{◌≡◌, ℕ, List, Some, if◌then◌else◌, IfOk, OnOk, nat_eq};
+ghost use Rattle.std.specs.Prelude.{◌≡◌, ℕ, List, Some, if◌then◌else◌, IfOk, OnOk, map, nat_eq};
 ghost use Rattle.indexmap.specs.IndexMap.{get};
+ghost use Rattle.hep_why.specs.Lines.{makers_wait};
 ghost use Rattle.hep_why.specs.WaitCycles as words;
 ghost use Rattle.hep_why.specs.declared.reason.Reason.{Reason as AReason};
 
-use crate::reason::Reason;
+use crate::reason::{Change, MakersWait, Reason};
 use indexmap::IndexMap;
 use std::alloc::{AllocError, Global};
 
@@ -40,16 +41,16 @@ fn indexes_of(alloc: Global, reasons: &[Reason]) -> Result<ProcessIndexes, Alloc
     Ok(indexes)
 }
 
-// The index of the process that changed last what this one waits for, if it waits itself.
-fn next_of(indexes: &ProcessIndexes, reason: &Reason) -> Option<usize>
+// The index of the process that made a change, if there was one and that process waits itself.
+fn next_of_change(indexes: &ProcessIndexes, change: Option<Change>) -> Option<usize>
     ensures { (reasons : List AReason) → ((p : ℕ) → get nat_eq indexes.now.map p ≡ words.index_of reasons p)
-        → result ≡ words.next_of reasons reason.now }
+        → result ≡ words.next_of_change reasons change }
 {
-    let change = reason.latest?;
+    let change = change?;
     indexes.map.get(&change.place.process).copied()
 }
 
-/// The same for each of them.
+/// For each waiting process, the index of the one that changed last what it waits for, if that waits itself.
 ///
 /// # Errors
 ///
@@ -60,7 +61,26 @@ pub(crate) fn nexts_of(alloc: Global, reasons: &[Reason]) -> Result<Vec<Option<u
     let indexes = indexes_of(alloc, reasons)?;
     let mut nexts = Vec::new(alloc);
     for reason in reasons {
-        nexts.push(next_of(&indexes, reason))?;
+        nexts.push(next_of_change(&indexes, reason.latest))?;
     }
     Ok(nexts)
+}
+
+/// For each waiting process, whether those wait that made the changes of what it waits for.
+///
+/// # Errors
+///
+/// Only where memory was refused.
+pub(crate) fn makers_of(alloc: Global, reasons: &[Reason]) -> Result<Vec<MakersWait>, AllocError>
+    ensures { IfOk result (λ makers. makers.items ≡ map (makers_wait reasons.now) reasons.now) }
+{
+    let indexes = indexes_of(alloc, reasons)?;
+    let mut makers = Vec::new(alloc);
+    for reason in reasons {
+        makers.push(MakersWait {
+            latest: next_of_change(&indexes, reason.latest).is_some(),
+            brought: next_of_change(&indexes, reason.brought).is_some(),
+        })?;
+    }
+    Ok(makers)
 }

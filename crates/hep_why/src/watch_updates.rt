@@ -7,7 +7,7 @@ ghost use Rattle.hep_why.specs.LatestChanges as words;
 ghost use Rattle.hep_state.specs.Words.{IsMachineAfter};
 ghost use Rattle.hep_why.specs.Watches.{AreNewWatches, CanLook, IsKeptIn, IsKeptOnceThere, IsMachineOf, IsWatchOf, Looks, TurnsMade, listed_from, looked, state_at};
 
-use crate::reason::Change;
+use crate::reason::{Change, LatestChanges};
 use crate::watch::Watch;
 use hep_event::{CoreState, listed, whereabouts};
 use hep_image::Image;
@@ -23,7 +23,10 @@ fn watch_of(core: &Core, p: u64) -> Option<Watch>
             listed: listed(core.machine(), core.image(), p, want),
             cell: want.cell,
             full: false,
-            latest: None,
+            latest: LatestChanges {
+                last: None,
+                before: None,
+            },
         }),
         None => None,
     }
@@ -83,12 +86,15 @@ fn is_full(machine: &CoreState, cell: u32) -> bool
     machine.frames.get(cell).full
 }
 
-// The latest change of a watch, where its storage unit is full or not after a step, which is `change`.
-fn latest(watch: Watch, made: u64, full: bool, change: Option<Change>) -> Option<Change>
-    ensures { result ≡ (if nat_le watch.listed.owner made && not (same_logical watch.full full) then change else watch.latest) }
+// The latest changes of a watch, where its storage unit is full or not after a step, which is `change`.
+fn latest(watch: Watch, made: u64, full: bool, change: Option<Change>) -> LatestChanges
+    ensures { result ≡ (if nat_le watch.listed.owner made && not (same_logical watch.full full) then words.with_change change watch.latest else watch.latest) }
 {
     if watch.listed.owner <= made && watch.full != full {
-        change
+        LatestChanges {
+            last: change,
+            before: watch.latest.last,
+        }
     } else {
         watch.latest
     }

@@ -1,14 +1,14 @@
 //! Why processes wait after a history.
-ghost use Rattle.std.specs.Prelude.{◌≡◌, IfOk, IsSome};
+ghost use Rattle.std.specs.Prelude.{◌≡◌, ◌&&◌, IfOk, IsSome, is_some, not};
 ghost use Rattle.hep_replay.specs.CoreValues.{state_of};
 ghost use Rattle.hep_replay.specs.HistoryPrefix.{first_of};
-ghost use Rattle.hep_machine.specs.Words.{schedule_of, wanted_by};
+ghost use Rattle.hep_machine.specs.Words.{is_number_among, living, progress_after, schedule_of, wanted_by};
 ghost use Rattle.hep_why.specs.Reasons as words;
 ghost use Rattle.hep_event.specs.Variables.{AreVariablesOf};
 ghost use Rattle.hep_why.specs.Watches.{AreFound, AreNewWatches, AreWaiting, IsReplayed, WaitTheSame, reasons_for as all_reasons};
 
-use crate::reason::Reason;
-use crate::reason_text::append_reasons;
+use crate::reason::{Change, Reason};
+use crate::reason_text::{append_able, append_reasons};
 use crate::wait_names::called;
 use crate::watch::Watch;
 use crate::watch_list::WatchList;
@@ -55,6 +55,16 @@ fn find_changes(
     Ok(list.watches)
 }
 
+// Whether the process that made a change lives.
+fn maker_lives(core: &Core, change: Option<Change>) -> bool
+    ensures { result ≡ words.maker_lives (state_of core.now.core) change }
+{
+    match change {
+        Some(change) => core.lives(change.place.process),
+        None => false,
+    }
+}
+
 // Why the process of a watch waits.
 fn reason_for(
     alloc: Global,
@@ -67,16 +77,14 @@ fn reason_for(
     ensures { IfOk result (λ reason. reason
         ≡ words.reason_with core.now.core.program (state_of core.now.core) watch.now.listed watch.now.latest) }
 {
-    let lives = match watch.latest {
-        Some(change) => core.lives(change.place.process),
-        None => false,
-    };
     let called = called(alloc, core, variables, watch.listed.process)?;
     Ok(Reason {
         listed: watch.listed,
         called,
-        latest: watch.latest,
-        lives,
+        latest: watch.latest.last,
+        lives: maker_lives(core, watch.latest.last),
+        brought: watch.latest.before,
+        bringer_lives: maker_lives(core, watch.latest.before),
     })
 }
 
@@ -107,6 +115,30 @@ fn find_reasons(
     reasons_for(alloc, core, &found)
 }
 
+// Whether process p lives and wasn't found waiting.
+fn is_ready(core: &Core, p: u64) -> bool
+    ensures { result
+        ≡ (not (is_number_among p (progress_after core.now.core.program core.now.core.history).listed) && is_some (living (state_of core.now.core) p)) }
+{
+    core.want(p).is_none() && core.lives(p)
+}
+
+// How many processes live and weren't found waiting, unless a STOP has ended the run.
+fn able_of(core: &Core) -> u64
+    ensures { result ≡ words.able_of core.now.core.program core.now.core.history }
+{
+    if core.machine().halted {
+        return 0;
+    }
+    let mut able = 0;
+    for index in 0..core.made() {
+        if is_ready(core, index + 1) {
+            able += 1;
+        }
+    }
+    able
+}
+
 /// Why processes wait after the history of a core, which has made these entries, as a text. The entries are made
 /// again for it, unless no process waits.
 ///
@@ -125,5 +157,6 @@ pub fn why_text(
     let mut text = Vec::new(alloc);
     append_head(&mut text, entries.len())?;
     append_reasons(alloc, &mut text, core.image(), &reasons)?;
+    append_able(&mut text, &reasons, able_of(core))?;
     Ok(text)
 }

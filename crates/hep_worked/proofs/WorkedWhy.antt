@@ -74,20 +74,28 @@ waits_for_each_other : why both (steps 1 3 ∷ steps 1 1 ∷ steps 2 1 ∷ steps
     "AFTER 5 ENTRIES"
     ∷ "WAITING 1 MAIN LINE 5 FOR FULL $A OF 1"
     ∷ "      | process 2, which waits, emptied $A at S LINE 9 in entry 3"
+    ∷ "      | process 1, which waits, filled it last, at MAIN LINE 2 in entry 1"
     ∷ "WAITING 2 S LINE 9 FOR FULL $B OF 1"
     ∷ "      | process 1, which waits, emptied $Y at MAIN LINE 5 in entry 2"
+    ∷ "      | process 1, which waits, filled it last, at MAIN LINE 3 in entry 1"
     ∷ "CIRCLE 1 WAITS FOR WHAT WAS CHANGED BY 2, 1"
     ∷ [])
 unfolding why both
 waits_for_each_other = refl
 
--- a process that wasn't found waiting isn't told of
+-- a process that wasn't found waiting has no line, and can go on
 not_found : why both (steps 1 3 ∷ steps 1 1 ∷ steps 2 1 ∷ steps 2 0 ∷ [])
-    ≡ text_of ("AFTER 4 ENTRIES" ∷ "WAITING 2 S LINE 9 FOR FULL $B OF 1" ∷ "      | process 1, which lives, emptied $Y at MAIN LINE 5 in entry 2" ∷ [])
+    ≡ text_of (
+    "AFTER 4 ENTRIES"
+    ∷ "WAITING 2 S LINE 9 FOR FULL $B OF 1"
+    ∷ "      | process 1, which lives, emptied $Y at MAIN LINE 5 in entry 2"
+    ∷ "      | process 1, which lives, filled it last, at MAIN LINE 3 in entry 1"
+    ∷ "AND 1 PROCESS CAN GO ON"
+    ∷ [])
 unfolding why both
 not_found = refl
 
--- places in COMMON, by the names of two units
+-- places in COMMON, by the names of two units; one process that waits for what it changed itself is no circle
 common : List String
 common =
     "      COMMON /B/ N,$C(2)"
@@ -110,7 +118,6 @@ by_its_own_names : why common (steps 1 2 ∷ steps 2 0 ∷ steps 1 0 ∷ [])
     ∷ "      | process 1, which waits, filled $C(2) at MAIN LINE 4 in entry 1"
     ∷ "WAITING 2 S LINE 10 FOR FULL /B/#2"
     ∷ "      | nobody has filled or emptied $D(1)"
-    ∷ "CIRCLE 1 WAITS FOR WHAT WAS CHANGED BY 1"
     ∷ [])
 unfolding why common
 by_its_own_names = refl
@@ -142,6 +149,7 @@ by_dummies : why passed (steps 1 1 ∷ steps 2 3 ∷ steps 2 0 ∷ steps 3 0 ∷
     ∷ "      | nobody has filled or emptied $R(1,2)"
     ∷ "WAITING 3 T LINE 14 FOR FULL /B/#1"
     ∷ "      | nobody has filled or emptied $Q"
+    ∷ "AND 1 PROCESS CAN GO ON"
     ∷ [])
 unfolding why passed
 by_dummies = refl

@@ -3,6 +3,7 @@ use Rattle.std.proofs.lemmas.Bool.Decides.{nat_tests}
 use Rattle.hep_machine.specs.Words.{Location, State}
 use Rattle.hep_why.specs.LatestChanges.{is_there}
 use Rattle.hep_why.specs.declared.reason.Change.{Change}
+use Rattle.hep_why.specs.declared.reason.LatestChanges.{LatestChanges}
 use Rattle.hep_why.specs.declared.watch.Watch.{Watch}
 use Rattle.hep_why.specs.Watches.{IsKeptOnceThere, TurnsMade, looked, noted, state_at}
 use Rattle.hep_why.proofs.watch_updates.look_once.Goals as goal
@@ -22,7 +23,7 @@ unlooked : (s : State) (at : Location) (made : ℕ) (change : Option Change) (w 
     → w ≡ looked s at made change w
 unlooked s at made change w e = λ i. if sym e i then noted (s.store at).full made change w else w
 
-looked-so : (s : State) (at : Location) (made : ℕ) (change : Option Change) (w : Watch) (full : Bool) (latest : Option Change)
+looked-so : (s : State) (at : Location) (made : ℕ) (change : Option Change) (w : Watch) (full : Bool) (latest : LatestChanges)
     → is_there s at ≡ true → full ≡ (s.store at).full → latest ≡ (noted full made change w).latest
     → (let v : Watch = record { listed = w.listed; cell = w.cell; full = full; latest = latest } in v) ≡ looked s at made change w
 looked-so s at made change w full latest e full_is latest_is =
