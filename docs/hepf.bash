@@ -64,7 +64,8 @@ _hepf() {
         run) options="--arena --steps --workers --seed --choices --follow --history --long --help" ;;
         sample) options="--runs --seed --arena --steps --keep --long --help" ;;
         replay) options="--arena --long --help" ;;
-        page | picture | why | races | diff) options="--choices --seed --arena --steps --long --help" ;;
+        page) options="--from --to --choices --seed --arena --steps --long --help" ;;
+        picture | why | races | diff) options="--choices --seed --arena --steps --long --help" ;;
         cover) options="--choices --seed --runs --format --arena --steps --long --help" ;;
         state) options="--at --choices --seed --arena --steps --long --help" ;;
         trace) options="--from --to --process --cell --choices --seed --arena --steps --long --help" ;;

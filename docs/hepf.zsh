@@ -56,7 +56,7 @@ _hepf_words() {
                 '2:history:_files'
             ;;
         page)
-            _arguments '--choices=[choices of a run that is looked at]:choices:_files' '--seed=[lots of a run that is looked at]:seed:' '--arena=[cells of storage]:cells:' \
+            _arguments '--from=[first entry]:entry:' '--to=[last entry]:entry:' '--choices=[choices of a run that is looked at]:choices:_files' '--seed=[lots of a run that is looked at]:seed:' '--arena=[cells of storage]:cells:' \
                 '--steps=[entries of the history]:entries:' '--long[say more of what went wrong]' '--help[show help]' '1:source:_files -g "*.(f|for|hep)"' \
                 '2:history or page:_files' '3:page:_files'
             ;;

@@ -1,10 +1,11 @@
 'use strict'
 // A run that was made: its source, what everything held at first, what each step did, and what that changed. All of it stands in this
-// page as text. The script takes no step of the program: it makes edits of that text, forwards and backwards, and draws.
+// page as text. The script takes no step of the program: it makes edits of that text, forwards and backwards, and draws. Where the page doesn't begin
+// with the first entry, what everything held is what it held before the first one that is shown.
 const $ = id => document.getElementById(id)
 const textOf = id => $(id).textContent, linesOf = id => textOf(id).split('\n').slice(0, -1)
 const esc = s => String(s).replace(/[&<>"]/g, c => ({'&': '&amp;', '<': '&lt;', '>': '&gt;', '"': '&quot;'})[c])
-const source = linesOf('source')
+const source = linesOf('source'), first = +textOf('opening').split(' ')[1] + 1, later = first > 1
 
 // ---- the parts of what everything holds: the lines of processes (P), of common blocks (B) and of activations (A)
 
@@ -102,8 +103,8 @@ function placesOf(t, a) {
 
 const KIND = {take: 'take', fill: 'fill', read: 'read', store: 'store', ask: 'ask', purge: 'take', print: 'print', creates: 'make', resumes: 'make', calls: 'call', returns: 'call', ends: 'end', stop: 'end', FAULT: 'fault', waits: 'wait'}
 const shows = new Set(['take', 'fill', 'ask', 'print', 'make', 'end', 'fault', 'wait'])
-const waits = [], flows = [], born = {1: -1}, gone = {}, unitOf = {1: turns[0]?.unit}, records = [], changed = {}, filled = {}, open = {}
-for (const ls of state.P) if (ls) { const h = head(ls[0]); born[h.p] = -1; unitOf[h.p] = h.unit; if (h.place) wait(h, -1) }
+const waits = [], flows = [], born = {}, gone = {}, unitOf = {}, records = [], changed = {}, filled = {}, open = {}
+for (const ls of state.P) if (ls) { const h = head(ls[0]); born[h.p] = -1; unitOf[h.p] = backs(ls).pop()?.unit ?? h.unit; if (h.place) wait(h, -1) }
 function wait(h, i) { waits.push(open[h.p] = {p: h.p, from: i, to: turns.length, full: h.full, place: h.place, since: changed[h.place]}) }
 turns.forEach((t, i) => {
   const h = head(state.P[t.p][0])
@@ -177,7 +178,7 @@ function boxes(kind, n, ls, old) {
 }
 function why(w) {
   const t = turns[w.since]
-  if (!t) return `nobody has ${w.full === 'FULL' ? 'filled' : 'emptied'} it`
+  if (!t) return `nobody has ${w.full === 'FULL' ? 'filled' : 'emptied'} it${later ? ` from entry ${first} on` : ''}`
   return `process ${t.p}${t.p === w.p ? ' itself' : waitAt(t.p) ? ', which waits,' : gone[t.p] < at ? ', which has ended,' : ''} ${w.full === 'FULL' ? 'emptied' : 'filled'} it at ${t.unit} line ${t.line}, entry ${t.entry}`
 }
 function circle(p) {                    // of those that wait for what the next one changed last
@@ -206,7 +207,7 @@ function showSide() {
   $('out').innerHTML = so.map(([i, r]) => i === at - 1 ? `<span class="new">${esc(r)}</span>` : esc(r)).concat(faults.map(f => `<span class="err">${f}</span>`)).join('\n') || '<span class="is">nothing yet</span>'
   const lo = Math.max(0, Math.min(at - 7, turns.length - 15)), some = turns.slice(lo, lo + 15)
   $('steps').innerHTML = some.map((x, i) => `<li data-at="${lo + i + 1}" class="${lo + i === at - 1 ? 'now' : ''}"${lo + i === at - 1 ? ' aria-current="step"' : ''}>${x.entry} ${chip(x.p)} ${x.line} ${esc(x.deed)}</li>`).join('')
-  $('story').innerHTML = `<span class="step">Step ${at} of ${turns.length}${t && t.entry !== at ? `, entry ${t.entry}` : ''}</span>` + (t ? `${chip(t.p, 'now')}<span>${esc(t.unit)} line ${t.line}</span><span class="deed mono">${esc(t.act)}</span><span class="more">${t.wakes.length ? 'wakes ' + t.wakes.join(', ') : ''}</span>` : '<span class="deed">before the first step</span>')
+  $('story').innerHTML = `<span class="step">Step ${at} of ${turns.length}${t && t.entry !== at ? `, entry ${t.entry}` : ''}</span>` + (t ? `${chip(t.p, 'now')}<span>${esc(t.unit)} line ${t.line}</span><span class="deed mono">${esc(t.act)}</span><span class="more">${t.wakes.length ? 'wakes ' + t.wakes.join(', ') : ''}</span>` : `<span class="deed">before ${later ? `entry ${first}` : 'the first step'}</span>`)
 }
 
 // ---- lanes: a window of turns around this one, in which processes go from left to right
@@ -322,8 +323,10 @@ addEventListener('keydown', e => {
   if (act && !(e.key === ' ' && e.target.matches?.('button'))) { e.preventDefault(); act() }
 })
 addEventListener('resize', () => { drawStrip(); go(at, true) }); addEventListener('beforeprint', () => showLanes(720)); addEventListener('hashchange', () => go(+location.hash.slice(1) || 0, true))
-$('about-line').textContent = `${turns.length} steps, ${processes.length} process${processes.length > 1 ? 'es' : ''}, ${ends}`
-$('name').textContent = unitOf[1]; document.title = `${unitOf[1]}: a run, step by step`
+$('about-line').textContent = `${later ? `from entry ${first} on: ` : ''}${turns.length} steps, ${processes.length} process${processes.length === 1 ? '' : 'es'}, ${ends}`
+if (later) $('h-out').textContent = `Output from entry ${first} on`
+const program = unitOf[1] ?? /^ +PROGRAM +(\w+)/im.exec(source.join('\n'))?.[1] ?? 'MAIN'
+$('name').textContent = program; document.title = `${program}: a run, step by step`
 document.documentElement.style.setProperty('--lanes', Math.min(processes.length * row + 26, innerHeight * .3) + 'px')
 document.documentElement.dataset.theme = dark.matches ? 'dark' : 'light'; drawStrip()
 go(location.hash ? +location.hash.slice(1) : 0, true); paint(); play(false)

@@ -115,17 +115,22 @@ unfolding asked clap_on_literals
 trace_with_all = refl
 
 page_alone : asked (codes "hepf" ∷ codes "page" ∷ codes "a.f" ∷ codes "--seed=9" ∷ codes "a.html" ∷ [])
-    ≡ Some (page Html (codes "a.f") (record serial { seed = Some 9 }) (codes "a.html"))
+    ≡ Some (page Html (codes "a.f") (record serial { seed = Some 9 }) None None (codes "a.html"))
 unfolding asked clap_on_literals
 page_alone = refl
 
 page_of_history : asked (codes "hepf" ∷ codes "page" ∷ codes "a.f" ∷ codes "h" ∷ codes "a.html" ∷ codes "--arena=9" ∷ [])
-    ≡ Some (page Html (codes "a.f") (of_h 9) (codes "a.html"))
+    ≡ Some (page Html (codes "a.f") (of_h 9) None None (codes "a.html"))
 unfolding asked clap_on_literals
 page_of_history = refl
 
+page_of_some : asked (codes "hepf" ∷ codes "page" ∷ codes "a.f" ∷ codes "a.html" ∷ codes "--from=2" ∷ codes "--to" ∷ codes "9" ∷ [])
+    ≡ Some (page Html (codes "a.f") serial (Some 2) (Some 9) (codes "a.html"))
+unfolding asked clap_on_literals
+page_of_some = refl
+
 picture_of_history : asked (codes "hepf" ∷ codes "picture" ∷ codes "a.f" ∷ codes "h" ∷ codes "a.svg" ∷ [])
-    ≡ Some (page Svg (codes "a.f") (of_h 65536) (codes "a.svg"))
+    ≡ Some (page Svg (codes "a.f") (of_h 65536) None None (codes "a.svg"))
 unfolding asked clap_on_literals
 picture_of_history = refl
 

@@ -36,7 +36,7 @@ pub data RequestedJob : Type 0 where
   replay : Text → Text → ℕ → RequestedJob
   state : Text → Viewed → Option ℕ → RequestedJob
   trace : Text → Viewed → Option ℕ → Option ℕ → Option ℕ → Option Text → RequestedJob
-  page : PageForm → Text → Viewed → Text → RequestedJob
+  page : PageForm → Text → Viewed → Option ℕ → Option ℕ → Text → RequestedJob
   why : Text → Viewed → RequestedJob
   races : Text → Viewed → RequestedJob
   cover : Text → Viewed → Option ℕ → Bool → RequestedJob
@@ -52,7 +52,7 @@ asked_by (Sample file runs seed arena steps keep) = sample file.now runs seed ar
 asked_by (Replay file history arena) = replay file.now history.now arena
 asked_by (State file view at) = state file.now (viewed_by view) at
 asked_by (Trace file view first last process cell) = trace file.now (viewed_by view) first last process (texts cell)
-asked_by (Page form file view out) = page form file.now (viewed_by view) out.now
+asked_by (Page form file view first last out) = page form file.now (viewed_by view) first last out.now
 asked_by (Why file view) = why file.now (viewed_by view)
 asked_by (Races file view) = races file.now (viewed_by view)
 asked_by (Cover file view runs lcov) = cover file.now (viewed_by view) runs lcov
@@ -183,14 +183,15 @@ trace_in rows =
     (viewed_in (codes "history") rows)) (first_of (codes "file") rows)
 
 -- of two words the second one names the file that gets the page or the picture; of one word alone it is that one, and there is no history
-abbrev pub page_by : PageForm → Text → Viewed → Option Text → Option RequestedJob
-page_by form file view (Some out) = Some (page form file view out)
-page_by form file view None = option_map (page form file (record view { history = None })) view.history
+abbrev pub page_by : (Viewed → Text → RequestedJob) → Viewed → Option Text → Option RequestedJob
+page_by whole view (Some out) = Some (whole view out)
+page_by whole view None = option_map (whole (record view { history = None })) view.history
 
 abbrev pub page_in : PageForm → ListOf Row → Option RequestedJob
 page_in form rows =
-    option_and_then (λ file. option_and_then (λ view. page_by form file view (first_of (codes "page") rows))
-    (viewed_in (codes "history") rows)) (first_of (codes "file") rows)
+    option_and_then (λ file. option_and_then (λ view. option_and_then (λ first. option_and_then
+    (λ last. page_by (λ run out. page form file run first last out) view (first_of (codes "page") rows))
+    (ordinal_in (codes "to") rows)) (ordinal_in (codes "from") rows)) (viewed_in (codes "history") rows)) (first_of (codes "file") rows)
 
 abbrev pub why_in : ListOf Row → Option RequestedJob
 why_in rows = option_and_then (λ file. option_map (why file) (viewed_in (codes "history") rows)) (first_of (codes "file") rows)

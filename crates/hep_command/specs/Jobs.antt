@@ -43,7 +43,7 @@ IsInRange (Sample file runs seed arena steps keep) = AreSampled runs × IsSeed s
 IsInRange (Replay file history arena) = IsArena arena
 IsInRange (State file run at) = IsViewInRange run
 IsInRange (Trace file run first last process cell) = IsViewInRange run
-IsInRange (Page form file run page) = IsViewInRange run
+IsInRange (Page form file run first last page) = IsViewInRange run
 IsInRange (Why file run) = IsViewInRange run
 IsInRange (Races file run) = IsViewInRange run
 IsInRange (Cover file run runs lcov) = IsViewInRange run
@@ -58,7 +58,7 @@ IsNoPath (Some path) other = path.now ≢ other.now
 
 abbrev pub IsWrittenApart : Job → Type 0
 IsWrittenApart (Run file arena steps workers seed choices follow (Some history)) = (file.now ≢ history.now) × IsNoPath choices history × IsNoPath follow history
-IsWrittenApart (Page form file run page) = (file.now ≢ page.now) × IsNoPath run.history page × IsNoPath run.choices page
+IsWrittenApart (Page form file run first last page) = (file.now ≢ page.now) × IsNoPath run.history page × IsNoPath run.choices page
 IsWrittenApart _ = Unit {0}
 
 -- what is said where a page or a picture would be written to a file that is read
@@ -86,7 +86,7 @@ abbrev pub IsOneOrder : Job → Type 0
 IsOneOrder (Run file arena steps workers seed choices follow history) = count_of workers + count_of seed + count_of choices + count_of follow ≤ 1
 IsOneOrder (State file run at) = IsOneRun run None
 IsOneOrder (Trace file run first last process cell) = IsOneRun run None
-IsOneOrder (Page form file run page) = IsOneRun run None
+IsOneOrder (Page form file run first last page) = IsOneRun run None
 IsOneOrder (Why file run) = IsOneRun run None
 IsOneOrder (Races file run) = IsOneRun run None
 IsOneOrder (Cover file run runs lcov) = IsOneRun run runs

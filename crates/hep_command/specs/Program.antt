@@ -75,23 +75,29 @@ warn_flag = record (new_rule (codes "warn")) { long = Some (codes "warn"); actio
 abbrev pub format_option : Rule
 format_option = file_option (codes "format")
 
+-- a command with these arguments too
+abbrev pub with_rules : App → List Rule → App
+with_rules app [] = app
+with_rules app (rule ∷ rules) = with_rules (with_rule app rule) rules
+
+-- the command of this name, with these arguments
+abbrev pub command_with : Text → List Rule → App
+command_with name rules = with_rules (new_app name) rules
+
 abbrev pub check_command : App
-check_command = with_rule (with_rule (with_rule (with_rule (new_app (codes "check")) source_word) warn_flag) format_option) long_flag
+check_command = command_with (codes "check") (source_word ∷ warn_flag ∷ format_option ∷ long_flag ∷ [])
 
 abbrev pub run_command : App
 run_command =
-    with_rule (with_rule (with_rule (with_rule (with_rule (with_rule (with_rule (with_rule (with_rule (new_app (codes "run")) source_word)
-    arena_option) steps_option) workers_option) seed_option) choices_option) follow_option) history_option) long_flag
+    command_with (codes "run") (source_word ∷ arena_option ∷ steps_option ∷ workers_option ∷ seed_option
+    ∷ choices_option ∷ follow_option ∷ history_option ∷ long_flag ∷ [])
 
 abbrev pub sample_command : App
 sample_command =
-    with_rule (with_rule (with_rule (with_rule (with_rule (with_rule (with_rule (new_app (codes "sample")) source_word)
-    runs_option) seed_option) arena_option) steps_option) keep_option) long_flag
+    command_with (codes "sample") (source_word ∷ runs_option ∷ seed_option ∷ arena_option ∷ steps_option ∷ keep_option ∷ long_flag ∷ [])
 
 abbrev pub replay_command : App
-replay_command =
-    with_rule (with_rule (with_rule (with_rule (new_app (codes "replay")) source_word) history_word) arena_option)
-    long_flag
+replay_command = command_with (codes "replay") (source_word ∷ history_word ∷ arena_option ∷ long_flag ∷ [])
 
 -- a number from 0 on
 abbrev pub entries_option : Rule
@@ -101,12 +107,10 @@ entries_option = record (file_option (codes "at")) { parser = Some (Unsigned 0 4
 abbrev pub viewed_word : Rule
 viewed_word = optional_word (codes "history")
 
--- a view with the options of the run that is made for it, and of its arena
-abbrev pub viewing : App → Rule → App
-viewing view seeds = with_rule (with_rule (with_rule (with_rule (with_rule view choices_option) seeds) arena_option) steps_option) long_flag
-
 abbrev pub state_command : App
-state_command = viewing (with_rule (with_rule (with_rule (new_app (codes "state")) source_word) viewed_word) entries_option) seed_option
+state_command =
+    command_with (codes "state") (source_word ∷ viewed_word ∷ entries_option ∷ choices_option
+    ∷ seed_option ∷ arena_option ∷ steps_option ∷ long_flag ∷ [])
 
 -- a number from 1 on
 abbrev pub ordinal_option : Text → Rule
@@ -127,23 +131,32 @@ cell_option = file_option (codes "cell")
 
 abbrev pub trace_command : App
 trace_command =
-    viewing (with_rule (with_rule (with_rule (with_rule (with_rule (with_rule (new_app (codes "trace")) source_word) viewed_word)
-    first_option) last_option) process_option) cell_option) seed_option
+    command_with (codes "trace") (source_word ∷ viewed_word ∷ first_option ∷ last_option ∷ process_option ∷ cell_option
+    ∷ choices_option ∷ seed_option ∷ arena_option ∷ steps_option ∷ long_flag ∷ [])
+
+-- the file that gets a page, where there is a history
+abbrev pub page_word : Rule
+page_word = optional_word (codes "page")
 
 -- the file that gets the page, or a history; and the file where there is a history
 abbrev pub page_command : App
-page_command = viewing (with_rule (with_rule (with_rule (new_app (codes "page")) source_word) history_word) (optional_word (codes "page"))) seed_option
+page_command =
+    command_with (codes "page") (source_word ∷ history_word ∷ page_word ∷ first_option ∷ last_option ∷ choices_option
+    ∷ seed_option ∷ arena_option ∷ steps_option ∷ long_flag ∷ [])
 
--- the same words for a picture
+-- the same files for a picture
 abbrev pub picture_command : App
 picture_command =
-    viewing (with_rule (with_rule (with_rule (new_app (codes "picture")) source_word) history_word) (optional_word (codes "page"))) seed_option
+    command_with (codes "picture") (source_word ∷ history_word ∷ page_word ∷ choices_option
+    ∷ seed_option ∷ arena_option ∷ steps_option ∷ long_flag ∷ [])
 
 abbrev pub why_command : App
-why_command = viewing (with_rule (with_rule (new_app (codes "why")) source_word) viewed_word) seed_option
+why_command =
+    command_with (codes "why") (source_word ∷ viewed_word ∷ choices_option ∷ seed_option ∷ arena_option ∷ steps_option ∷ long_flag ∷ [])
 
 abbrev pub races_command : App
-races_command = viewing (with_rule (with_rule (new_app (codes "races")) source_word) viewed_word) seed_option
+races_command =
+    command_with (codes "races") (source_word ∷ viewed_word ∷ choices_option ∷ seed_option ∷ arena_option ∷ steps_option ∷ long_flag ∷ [])
 
 -- as many words as there are, or none
 abbrev pub histories_word : Rule
@@ -151,8 +164,8 @@ histories_word = record (optional_word (codes "histories")) { range = Some (reco
 
 abbrev pub cover_command : App
 cover_command =
-    with_rule (with_rule (with_rule (with_rule (with_rule (with_rule (with_rule (with_rule (with_rule (new_app (codes "cover")) source_word) histories_word)
-    choices_option) seed_option) runs_option) format_option) arena_option) steps_option) long_flag
+    command_with (codes "cover") (source_word ∷ histories_word ∷ choices_option ∷ seed_option ∷ runs_option
+    ∷ format_option ∷ arena_option ∷ steps_option ∷ long_flag ∷ [])
 
 -- a second history
 abbrev pub other_word : Rule
@@ -163,15 +176,16 @@ abbrev pub seeds_option : Rule
 seeds_option = record seed_option { action = Some Append }
 
 abbrev pub diff_command : App
-diff_command = viewing (with_rule (with_rule (with_rule (new_app (codes "diff")) source_word) viewed_word) other_word) seeds_option
+diff_command =
+    command_with (codes "diff") (source_word ∷ viewed_word ∷ other_word ∷ choices_option
+    ∷ seeds_option ∷ arena_option ∷ steps_option ∷ long_flag ∷ [])
 
 abbrev pub list_command : App
-list_command = with_rule (with_rule (new_app (codes "list")) source_word) long_flag
+list_command = command_with (codes "list") (source_word ∷ long_flag ∷ [])
 
 abbrev pub explain_command : App
 explain_command =
-    with_rule (with_rule (with_rule (with_rule (new_app (codes "explain")) name_word)
-    (optional_word (codes "second"))) (optional_word (codes "third"))) long_flag
+    command_with (codes "explain") (name_word ∷ optional_word (codes "second") ∷ optional_word (codes "third") ∷ long_flag ∷ [])
 
 abbrev pub named_program : App
 named_program = record (new_app (codes "hepf")) { top = record (new_app (codes "hepf")).top { has_version = true } }

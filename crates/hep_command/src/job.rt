@@ -132,6 +132,10 @@ pub enum Job<'a> {
         form: PageForm,
         file: &'a str,
         run: ViewedRun<'a>,
+        /// The first entry whose steps are shown, counted from 1; the first one where none is said, as of a picture.
+        first: Option<u64>,
+        /// The last entry that is made; the last one of all where it isn't given.
+        last: Option<u64>,
         /// The file to which it is written.
         page: &'a str,
     },

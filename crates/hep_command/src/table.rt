@@ -430,6 +430,8 @@ pub(crate) const LOOKING: [CommandRow; 8] = [
             SOURCE,
             PAGE_OR_HISTORY,
             PAGE_LAST,
+            FIRST_ENTRY,
+            LAST_ENTRY,
             VIEWED_CHOICES,
             VIEWED_SEED,
             ARENA,

@@ -268,11 +268,15 @@ fn page_job<'a>(found: &ArgMatches<'a>, form: PageForm) -> Option<Job<'a>>
 {
     let file = word_of(found, "file")?;
     let run = viewed_of(found, "history")?;
+    let first = ordinal_of(found, "from")?;
+    let last = ordinal_of(found, "to")?;
     match word_of(found, "page") {
         Some(page) => Some(Job::Page {
             form,
             file,
             run,
+            first,
+            last,
             page,
         }),
         None => Some(Job::Page {
@@ -282,6 +286,8 @@ fn page_job<'a>(found: &ArgMatches<'a>, form: PageForm) -> Option<Job<'a>>
                 history: None,
                 ..run
             },
+            first,
+            last,
             page: run.history?,
         }),
     }
@@ -507,6 +513,7 @@ fn overwriting(job: &Job<'_>) -> Option<&'static str>
             file,
             run,
             page,
+            ..
         } => {
             if is_path(Some(*file), page)
                 || is_path(run.history, page)

@@ -23,7 +23,7 @@ use Rattle.hep_run.specs.Outcome.{RunsTo}
 abbrev pub told : Inspection → List ℕ → Units → List Entry → List ℕ
 told State source program entries = state_text (line_shown (lines source)) program (length entries) entries
 told (Trace page) source program entries = trace_text program (shown_on page) entries
-told Page source program entries = page_text source program entries
+told (Page first) source program entries = page_text source program first entries
 told Picture source program entries = picture_text program entries
 told Why source program entries = why_text program entries
 

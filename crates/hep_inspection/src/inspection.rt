@@ -19,7 +19,7 @@ use crate::origin::{Origin, Recorded, entries_of};
 use hep_core::Core;
 use hep_cover::{History, HistoryPrefix, ReplayFault, replay_first, why_text};
 use hep_image::Image;
-use hep_page::{page_text, picture_text, state_text};
+use hep_page::{ShownEntries, page_text, picture_text, state_text};
 use hep_run::Run;
 use hep_run::command::{Command, CommandRequest, deliver_source};
 use hep_run::transcript::{
@@ -37,8 +37,8 @@ pub enum Inspection<'a> {
     State,
     /// A line for each of their steps, as far as these are shown.
     Trace(LineFilter<'a>),
-    /// A page that shows their steps in a browser.
-    Page,
+    /// A page that shows their steps in a browser, from the entry with this number on, counted from 1.
+    Page(u64),
     /// A picture of them.
     Picture,
     /// Why processes wait after them.
@@ -126,7 +126,13 @@ fn told_text(
         Inspection::Trace(page) => {
             trace_history(alloc, image, asked.options.arena, entries, &page)
         }
-        Inspection::Page => page_text(alloc, image, asked.options.arena, entries, source),
+        Inspection::Page(first) => {
+            let shown = ShownEntries {
+                entries: *entries,
+                first,
+            };
+            page_text(alloc, image, asked.options.arena, &shown, source)
+        }
         Inspection::Picture => picture_text(alloc, image, asked.options.arena, entries),
         Inspection::Why => why_told(alloc, image, asked.options.arena, entries),
     }

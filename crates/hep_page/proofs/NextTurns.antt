@@ -62,17 +62,14 @@ module _ (program : Units) (cells : ℕ) where
   entry-at [] es e = refl
   entry-at (x ∷ before) es e = entry-at before es e
 
-  entries-next : (before es : List Entry) → ArePossible program cells (before ++ es) (length (before ++ es)) → AreNext program cells (single_entries before) (single_entries es)
+  -- the turns of entries that are possible come next
+  pub entries-next : (before es : List Entry) → ArePossible program cells (before ++ es) (length (before ++ es)) → AreNext program cells (single_entries before) (single_entries es)
   entries-next before [] possible = tt
   entries-next before (e ∷ es) possible =
       let here : IsPossible program cells before e = subst (λ xs. IsPossible program cells xs e) (take-append_seam before (e ∷ es))
       (possible (length before) e (omega (arith, length-append before (e ∷ es))) (entry-at before es e)) in
       entry-next before e.process e.steps (single_entries es) here
       (entries-next (before ++ e ∷ []) es (subst (λ xs. ArePossible program cells xs (length xs)) (sym (append_assoc before (e ∷ []) es)) possible))
-
-  -- the turns of entries that are possible come next
-  pub turns-next : (entries : List Entry) → ArePossible program cells entries (length entries) → AreNext program cells [] (single_entries entries)
-  turns-next entries possible = entries-next [] entries possible
 
 -- ---- a turn that comes next
 

@@ -30,8 +30,9 @@ AreNext program cells before (turn ∷ turns) = IsNext program cells before turn
 abbrev pub turns_text_from : Units → (ℕ → List ℕ) → Progress → List Entry → List ℕ
 turns_text_from program shown x turns = flat_map change_text (changes_from program shown x turns)
 
-abbrev pub turns_text : Units → (ℕ → List ℕ) → List Entry → List ℕ
-turns_text program shown turns = turns_text_from program shown (progress_after program []) turns
+-- after entries
+abbrev pub turns_text : Units → (ℕ → List ℕ) → List Entry → List Entry → List ℕ
+turns_text program shown before turns = turns_text_from program shown (progress_after program before) turns
 
 -- after the turns so far
 abbrev pub changes_in : SourceNames → ChangeLog → List Entry → List ℕ

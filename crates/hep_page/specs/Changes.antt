@@ -68,6 +68,6 @@ module _ (program : Units) (shown : ℕ → List ℕ) where
       change_between (parts_of x) (parts_of (progress_after_entry program x e e.steps))
       ∷ changes_from (progress_after_entry program x e e.steps) es
 
-  -- what each turn of a history changes
-  abbrev pub changes_text : List Entry → List ℕ
-  changes_text history = flat_map change_text (changes_from (progress_after program []) (single_entries history))
+  -- what each turn of entries changes, after others
+  abbrev pub changes_text : List Entry → List Entry → List ℕ
+  changes_text before entries = flat_map change_text (changes_from (progress_after program before) (single_entries entries))

@@ -1,5 +1,5 @@
 //! The turns of a history, made again, and what each of them changes.
-ghost use Rattle.std.specs.Prelude.{◌≡◌, ◌++◌, ◌∷◌, [], List, OnOk};
+ghost use Rattle.std.specs.Prelude.{◌≡◌, ◌++◌, ◌∷◌, [], List, OnOk, drop, length};
 ghost use Rattle.hep_machine.specs.declared.event.Entry.{Entry};
 ghost use Rattle.hep_page.specs.ChangeLogs.{IsNext, IsNoting, changes_in};
 ghost use Rattle.hep_replay.specs.Progress.{IsStanding, longer};
@@ -53,7 +53,7 @@ fn note_turn(
     Ok(())
 }
 
-/// Makes all turns of a history, which come next, and notes what each of them changes.
+/// Makes the turns of a history after those that were made, which come next, and notes what each of them changes.
 ///
 /// # Errors
 ///
@@ -64,10 +64,12 @@ pub(crate) fn note_turns(
     known: &SourceNames<'_>,
     history: &History,
 ) -> Result<(), AllocError>
-    requires { IsNoting known.now log.old history.now.items }
-    ensures { OnOk result (log.new.text.items ≡ log.old.text.items ++ changes_in known.now log.old history.now.items) }
+    requires { IsNoting known.now log.old (drop (length log.old.core.core.history) history.now.items) }
+    ensures { OnOk result (log.new.text.items
+        ≡ log.old.text.items ++ changes_in known.now log.old (drop (length log.old.core.core.history) history.now.items)) }
 {
     let mut turns = history.iter();
+    turns.pass(log.core.history().len());
     while let Some(turn) = turns.next() {
         note_turn(alloc, log, known, turn)?;
     }

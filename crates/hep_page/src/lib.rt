@@ -36,6 +36,6 @@ pub use edit::append_edit;
 pub use html::append_html;
 pub use page::{Template, Texts, page_of, page_template};
 pub use picture::picture_of;
-pub use run_page::page_text;
+pub use run_page::{ShownEntries, page_text};
 pub use run_picture::picture_text;
 pub use state_view::{Parts, SourceNames, append_state, state_text, survey};

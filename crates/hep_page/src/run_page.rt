@@ -1,11 +1,11 @@
 //! From the entries of a history to the page of its run.
-ghost use Rattle.std.specs.Prelude.{◌≡◌, ◌≤◌, [], IfErr, IfOk, IsSome, OnOk, length};
+ghost use Rattle.std.specs.Prelude.{◌≡◌, ◌≤◌, IfErr, IfOk, IsSome, OnOk, drop, length};
 ghost use Rattle.hep_event.specs.Traces as traces;
 ghost use Rattle.hep_machine.specs.Words.{opening_layout};
 ghost use Rattle.hep_page.specs.ChangeLogs.{AreNext, turns_text};
 ghost use Rattle.hep_page.specs.Pages as words;
 ghost use Rattle.hep_replay.specs.HistoryPrefix.{first_of};
-ghost use Rattle.hep_replay.specs.Replays.{ArePossible, IsUnmade, standing};
+ghost use Rattle.hep_replay.specs.Replays.{ArePossible, IsUnmade, replayed, standing};
 ghost use Rattle.hep_state_text.specs.LineDisplay.{line_shown};
 ghost use Rattle.hep_state_text.specs.States.{state_text};
 ghost use Rattle.hep_why.specs.Watches.{IsReplayed};
@@ -22,7 +22,14 @@ use hep_text::Listing;
 use hep_trace::{LineFilter, trace_history};
 use std::alloc::{AllocError, Global};
 
-// What everything holds before the first turn, and what each turn changes.
+/// The first entries of a history, of which those from the one with the number `first` on are shown, counted from 1.
+#[derive(Clone, Copy)]
+pub struct ShownEntries<'a> {
+    pub entries: HistoryPrefix<'a>,
+    pub first: u64,
+}
+
+// What everything holds before the first turn that is shown, and what each turn from it on changes.
 struct TurnTexts {
     opening: Vec<u8>,
     changes: Vec<u8>,
@@ -35,25 +42,21 @@ impl Drop for TurnTexts {
     }
 }
 
-// What each turn of a core did, which has made these entries.
-fn trace_again(
-    alloc: Global,
-    core: &Core,
-    entries: &HistoryPrefix<'_>,
-) -> Result<Vec<u8>, AllocError>
-    requires replayed { IsReplayed core.now.core (first_of entries.now) }
-    requires possible { ArePossible core.now.core.program core.now.core.cells (first_of entries.now) (length (first_of entries.now)) }
+// What each turn of a core did that is shown. The core has made these entries.
+fn trace_again(alloc: Global, core: &Core, shown: &ShownEntries<'_>) -> Result<Vec<u8>, AllocError>
+    requires replayed { IsReplayed core.now.core (first_of shown.now.entries) }
+    requires possible { ArePossible core.now.core.program core.now.core.cells (first_of shown.now.entries) (length (first_of shown.now.entries)) }
     ensures { IfOk result (λ text. text.items
-        ≡ traces.trace_text core.now.core.program (words.all_shown (length (first_of entries.now))) (first_of entries.now)) }
+        ≡ traces.trace_text core.now.core.program (words.shown_from shown.now.first (length (first_of shown.now.entries))) (first_of shown.now.entries)) }
 {
     let image = core.image().copy(alloc)?;
-    let all = LineFilter {
-        first: 1,
-        last: entries.len(),
+    let lines = LineFilter {
+        first: shown.first,
+        last: shown.entries.len(),
         process: None,
         cell: None,
     };
-    match trace_history(alloc, image, core.cells(), entries, &all) {
+    match trace_history(alloc, image, core.cells(), &shown.entries, &lines) {
         Ok(text) => Ok(text),
         Err(ReplayFault::NoMemory) => Err(AllocError),
         Err(ReplayFault::ArenaFull) => unreachable!(),
@@ -61,17 +64,26 @@ fn trace_again(
     }
 }
 
-// A core of the same image and arena that has made no turn.
-fn open_again(alloc: Global, core: &Core, entries: &HistoryPrefix<'_>) -> Result<Core, AllocError>
-    requires { IsReplayed core.now.core (first_of entries.now) }
-    ensures { IfOk result (λ again. again.core ≡ standing core.now.core.program core.now.core.cells []) }
+// The entries before the first one that is shown.
+fn entries_before<'a>(shown: &ShownEntries<'a>) -> HistoryPrefix<'a>
+    ensures { first_of result ≡ words.entries_before shown.now.first (first_of shown.now.entries) }
 {
-    let none = HistoryPrefix {
-        history: entries.history,
-        count: 0,
-    };
+    HistoryPrefix {
+        history: shown.entries.history,
+        count: shown.first.saturating_sub(1).min(shown.entries.len()),
+    }
+}
+
+// A core of the same image and arena that has made the entries before the first one that is shown.
+fn begin_again(alloc: Global, core: &Core, shown: &ShownEntries<'_>) -> Result<Core, AllocError>
+    requires replayed { IsReplayed core.now.core (first_of shown.now.entries) }
+    requires possible { ArePossible core.now.core.program core.now.core.cells (first_of shown.now.entries) (length (first_of shown.now.entries)) }
+    ensures { IfOk result (λ again. again.core
+        ≡ replayed core.now.core.program core.now.core.cells (words.entries_before shown.now.first (first_of shown.now.entries))) }
+{
+    let before = entries_before(shown);
     let image = core.image().copy(alloc)?;
-    match replay_first(alloc, image, core.cells(), &none) {
+    match replay_first(alloc, image, core.cells(), &before) {
         Ok(again) => Ok(again),
         Err(ReplayFault::NoMemory) => Err(AllocError),
         Err(ReplayFault::ArenaFull) => unreachable!(),
@@ -79,17 +91,21 @@ fn open_again(alloc: Global, core: &Core, entries: &HistoryPrefix<'_>) -> Result
     }
 }
 
-// What everything holds before the turns of a core, and what each of them changes, while another core makes them again.
+// What everything holds after these entries, which a core has made, and what each further turn of another core changes, while the first one
+// makes them.
 fn turn_texts(
     alloc: Global,
     core: &Core,
     again: Core,
     lines: &Listing<'_>,
+    entries: u64,
 ) -> Result<TurnTexts, AllocError>
-    requires next { AreNext core.now.core.program core.now.core.cells [] core.now.core.history }
-    requires opened { again.core ≡ standing core.now.core.program core.now.core.cells [] }
-    ensures opening { IfOk result (λ texts. texts.opening.items ≡ state_text (line_shown lines.now) core.now.core.program 0 []) }
-    ensures changes { IfOk result (λ texts. texts.changes.items ≡ turns_text core.now.core.program (line_shown lines.now) core.now.core.history) }
+    requires next { AreNext core.now.core.program core.now.core.cells again.core.history (drop (length again.core.history) core.now.core.history) }
+    requires standing { again.core ≡ standing core.now.core.program core.now.core.cells again.core.history }
+    ensures opening { IfOk result (λ texts. texts.opening.items
+        ≡ state_text (line_shown lines.now) core.now.core.program entries again.core.history) }
+    ensures changes { IfOk result (λ texts. texts.changes.items
+        ≡ turns_text core.now.core.program (line_shown lines.now) again.core.history (drop (length again.core.history) core.now.core.history)) }
 {
     let symbols = ProgramSymbols::new(alloc, core.image().program().as_slice())?;
     let known = SourceNames {
@@ -98,7 +114,7 @@ fn turn_texts(
     };
     let parts = survey(alloc, &again, &known)?;
     let mut opening = Vec::new(alloc);
-    append_state(&mut opening, 0, &parts)?;
+    append_state(&mut opening, entries, &parts)?;
     let mut log = ChangeLog {
         core: again,
         parts,
@@ -115,17 +131,18 @@ fn turn_texts(
 fn page_again(
     alloc: Global,
     core: &Core,
-    entries: &HistoryPrefix<'_>,
+    shown: &ShownEntries<'_>,
     source: &[u8],
 ) -> Result<Vec<u8>, AllocError>
-    requires replayed { IsReplayed core.now.core (first_of entries.now) }
-    requires possible { ArePossible core.now.core.program core.now.core.cells (first_of entries.now) (length (first_of entries.now)) }
-    ensures { IfOk result (λ page. page.items ≡ words.page_text source.now core.now.core.program (first_of entries.now)) }
+    requires replayed { IsReplayed core.now.core (first_of shown.now.entries) }
+    requires possible { ArePossible core.now.core.program core.now.core.cells (first_of shown.now.entries) (length (first_of shown.now.entries)) }
+    ensures { IfOk result (λ page. page.items ≡ words.page_text source.now core.now.core.program shown.now.first (first_of shown.now.entries)) }
 {
-    let trace = trace_again(alloc, core, entries)?;
-    let again = open_again(alloc, core, entries)?;
+    let trace = trace_again(alloc, core, shown)?;
+    let again = begin_again(alloc, core, shown)?;
     let unshown = Listing::new(alloc, b"")?;
-    let turns = turn_texts(alloc, core, again, &unshown)?;
+    let before = entries_before(shown).len();
+    let turns = turn_texts(alloc, core, again, &unshown, before)?;
     let source = source_text(alloc, source)?;
     page_of(
         alloc,
@@ -140,7 +157,8 @@ fn page_again(
 }
 
 /// The page of the run that the first entries of a history make of an image with this source, in an arena of `cells` cells, 1 to 16,777,216.
-/// The entries are made three times for it. After each turn all that is held is read.
+/// It begins before the entry with the number `first`. The entries are made three times for it. After each turn that the page has all that
+/// is held is read.
 ///
 /// # Errors
 ///
@@ -149,18 +167,18 @@ pub fn page_text(
     alloc: Global,
     image: Image,
     cells: u32,
-    entries: &HistoryPrefix<'_>,
+    shown: &ShownEntries<'_>,
     source: &[u8],
 ) -> Result<Vec<u8>, ReplayFault>
     requires some { 1 ≤ cells }
     requires few { cells ≤ 16777216 }
-    ensures told { IfOk result (λ page. page.items ≡ words.page_text source.now image (first_of entries.now)) }
+    ensures told { IfOk result (λ page. page.items ≡ words.page_text source.now image shown.now.first (first_of shown.now.entries)) }
     ensures fits { OnOk result (IsSome (opening_layout image cells)) }
-    ensures possible { OnOk result (ArePossible image cells (first_of entries.now) (length (first_of entries.now))) }
-    ensures unmade { IfErr result (IsUnmade image cells (first_of entries.now)) }
+    ensures possible { OnOk result (ArePossible image cells (first_of shown.now.entries) (length (first_of shown.now.entries))) }
+    ensures unmade { IfErr result (IsUnmade image cells (first_of shown.now.entries)) }
 {
-    let core = replay_first(alloc, image, cells, entries)?;
-    match page_again(alloc, &core, entries, source) {
+    let core = replay_first(alloc, image, cells, &shown.entries)?;
+    match page_again(alloc, &core, shown, source) {
         Ok(page) => Ok(page),
         Err(_) => Err(ReplayFault::NoMemory),
     }

@@ -69,6 +69,13 @@ struct Plan<'a> {
     schedule: Schedule,
 }
 
+/// The entries of a page: the first one whose steps are shown, counted from 1, and the last one that is made.
+#[derive(Clone, Copy)]
+struct EntryRange {
+    first: u64,
+    last: u64,
+}
+
 /// A file that is to get a history, a page or a picture, and whether it was made for that.
 #[derive(Drop)]
 struct Kept {
@@ -671,9 +678,9 @@ fn replay_file(
 }
 
 // What is asked of a run for a page or a picture.
-fn telling_of(form: PageForm) -> Inspection<'static> {
+fn telling_of(form: PageForm, first: u64) -> Inspection<'static> {
     match form {
-        PageForm::Html => Inspection::Page,
+        PageForm::Html => Inspection::Page(first),
         PageForm::Svg => Inspection::Picture,
     }
 }
@@ -709,20 +716,20 @@ fn page_file(
     rt: &HostRuntime,
     file: &str,
     run: &ViewedRun<'_>,
-    written: (PageForm, &str),
+    written: (PageForm, &str, EntryRange),
     long: bool,
 ) -> Result<u8, u8>
     requires { IsViewInRange run.now }
 {
-    let (form, path) = written;
+    let (form, path, shown) = written;
     if is_over_read(rt, Some(path), file, run.history.or(run.choices)) {
         return Err(answered(rt, 2, same_page(form).as_bytes()));
     }
     let viewed = viewed_run(rt, run, long)?;
     let options = InspectionOptions {
-        telling: telling_of(form),
+        telling: telling_of(form, shown.first),
         origin: origin_of(&viewed),
-        entries: u64::MAX,
+        entries: shown.last,
         arena: run.arena,
     };
     write_page(rt, file, path, &options, long)
@@ -794,8 +801,16 @@ fn view_job(rt: &HostRuntime, job: Job<'_>, histories: &[&str], long: bool) -> R
             form,
             file,
             run,
+            first,
+            last,
             page,
-        } => page_file(rt, file, &run, (form, page), long),
+        } => {
+            let shown = EntryRange {
+                first: first.unwrap_or(1),
+                last: last.unwrap_or(u64::MAX),
+            };
+            page_file(rt, file, &run, (form, page, shown), long)
+        }
         Job::Why { file, run } => inspect(rt, file, &run, (Inspection::Why, None), long),
         Job::Races { file, run } => races_file(rt, file, &run, long),
         Job::Cover {

@@ -24,7 +24,9 @@ returns-in-Why-clause-told c =
 
 pub returns-in-Page-clause-told : goal.returns-in-Page-clause-told
 returns-in-Page-clause-told c =
-    subst (λ (t : Inspection). IfOk c.page_text.result (λ text. text.items ≡ told t c.args.source.now c.args.image (first_of c.args.entries.now))) (sym c.in-Page.is) c.page_text.ensures.told
+    let entries = first_of c.args.entries.now in
+    subst (λ (t : Inspection). IfOk c.page_text.result (λ text. text.items ≡ told t c.args.source.now c.args.image entries))
+    (sym c.in-Page.is) c.page_text.ensures.told
 
 pub returns-in-Picture-clause-told : goal.returns-in-Picture-clause-told
 returns-in-Picture-clause-told c =

@@ -5,7 +5,7 @@ use Rattle.hep_replay.specs.declared.replay_fault.ReplayFault.{ReplayFault}
 use Rattle.hep_replay.specs.declared.replay_fault.ReplayFault.TheVariants.{Refused}
 use Rattle.hep_replay.specs.HistoryPrefix.{first_of}
 use Rattle.hep_replay.specs.Replays.{IsUnmade}
-use Rattle.hep_page.specs.Pages.{all_shown}
+use Rattle.hep_page.specs.Pages.{shown_from}
 use Rattle.hep_page.proofs.PagesOfCores.{never-refused}
 use Rattle.hep_page.proofs.run_page.trace_again.Goals as goal
 
@@ -17,13 +17,14 @@ trace_history-requires-clause-few c = omega (arith, c.requires.replayed.few, c.c
 
 pub returns-in-Ok : goal.returns-in-Ok
 returns-in-Ok c =
+    let shown = c.args.shown.now in
     let program = c.in_ok-image.ensures ∙ c.image.ensures in
-    c.in-Ok.ensures.told ∙ (λ i. trace_text (program i) (all_shown (c.len.ensures.count i)) (first_of c.args.entries.now))
+    c.in-Ok.ensures.told ∙ (λ i. trace_text (program i) (shown_from shown.first (c.len.ensures.count i)) (first_of shown.entries))
 
 pub unreachable-requires-in-Err-Refused : goal.unreachable-requires-in-Err-Refused
 unreachable-requires-in-Err-Refused c =
     let core = c.args.core.now.core in
-    let entries = first_of c.args.entries.now in
+    let entries = first_of c.args.shown.now.entries in
     let refused = c.in-Err-Refused in
     never-refused core.program core.cells entries refused.field-0-0 refused.field-0-1 c.requires.possible (
     subst (λ (us : Units). IsUnmade us core.cells entries (Refused refused.field-0-0 refused.field-0-1)) (c.in_ok-image.ensures ∙ c.image.ensures) (
