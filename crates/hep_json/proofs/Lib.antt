@@ -1,0 +1,2 @@
+mod Worked
+pub mod Strings

@@ -1,0 +1,4 @@
+pub mod LineWords
+pub mod Members
+pub mod StateObjects
+pub mod WhyObjects
