@@ -20,7 +20,7 @@ _hepf_has_file() {
     local index
     for ((index = $1 + 1; index < COMP_CWORD; index++)); do
         case ${COMP_WORDS[index]} in
-            --long | --warn | --fixed | --free | --capitals | --help) ;;
+            --long | --warn | --lanes | --fixed | --free | --capitals | --help) ;;
             --*)
                 ((index += 1))
                 [[ ${COMP_WORDS[index]} != = ]] || ((index += 1))
@@ -38,12 +38,17 @@ _hepf() {
     [[ $before != = ]] || before=${COMP_WORDS[COMP_CWORD - 2]}
     [[ $word != = ]] || word=
     case $before in
-        --arena | --at | --from | --to | --process | --cell | --steps | --workers | --seed | --runs) return ;;
+        --arena | --at | --from | --to | --process | --cell | --width | --steps | --workers | --seed | --runs) return ;;
         --format)
             case " ${COMP_WORDS[*]} " in
                 *" cover "*) _hepf_offer -W lcov ;;
-                *) _hepf_offer -W gnu ;;
+                *" check "*) _hepf_offer -W "gnu json" ;;
+                *) _hepf_offer -W json ;;
             esac
+            return
+            ;;
+        --color)
+            _hepf_offer -W "auto always never"
             return
             ;;
         --choices | --follow | --history | --keep | -o)
@@ -59,16 +64,18 @@ _hepf() {
         return
     fi
     case ${COMP_WORDS[at]} in
-        check) options="--warn --format --long --help" ;;
-        list) options="--long --help" ;;
-        run) options="--arena --steps --workers --seed --choices --follow --history --long --help" ;;
-        sample) options="--runs --seed --arena --steps --keep --long --help" ;;
-        replay) options="--arena --long --help" ;;
+        check) options="--warn --format --color --long --help" ;;
+        list) options="--color --long --help" ;;
+        run) options="--arena --steps --workers --seed --choices --follow --history --color --long --help" ;;
+        sample) options="--runs --seed --arena --steps --keep --format --color --long --help" ;;
+        replay) options="--arena --color --long --help" ;;
         page) options="--from --to --choices --seed --arena --steps --long --help" ;;
-        picture | why | races | diff) options="--choices --seed --arena --steps --long --help" ;;
-        cover) options="--choices --seed --runs --format --arena --steps --long --help" ;;
-        state) options="--at --choices --seed --arena --steps --long --help" ;;
-        trace) options="--from --to --process --cell --choices --seed --arena --steps --long --help" ;;
+        picture) options="--choices --seed --arena --steps --long --help" ;;
+        races | diff) options="--choices --seed --arena --steps --color --long --help" ;;
+        cover) options="--choices --seed --runs --format --arena --steps --color --long --help" ;;
+        why) options="--choices --seed --format --arena --steps --color --long --help" ;;
+        state) options="--at --choices --seed --format --arena --steps --color --long --help" ;;
+        trace) options="--from --to --process --cell --lanes --width --format --choices --seed --arena --steps --color --long --help" ;;
         explain)
             if ((COMP_CWORD == at + 1)); then
                 options="--long --help 101 102 103 104 105 106 107 201 202 203 204 205 301 302 303 304 305 306 307 308 309 310 311 312 401 402 501 506 601 602 603 701 702 703 704 705 OVERFLOW DIVIDE RANGE UNDEFINED SHAPE STEP FAULT WAITING STOPPED ARENA NO WORKERS READ WRITE REFUSED STILL WARNING RACE DEADLOCK CIRCLE SEED STATUS WORDS"

@@ -34,25 +34,25 @@ _hepf() {
 _hepf_words() {
     case $words[1] in
         check)
-            _arguments '--warn[say what may well be a mistake]' '--format=[how to write it]:format:(gnu)' '--long[say more of what went wrong]' '--help[show help]' \
+            _arguments '--warn[say what may well be a mistake]' '--format=[how to write it]:format:((gnu\:lines json\:objects))' '--color=[when lines have colors]:when:((auto\:terminals always\:always never\:never))' '--long[say more of what went wrong]' '--help[show help]' \
                 '1:source:_files -g "*.(f|for|hep)"'
             ;;
         list)
-            _arguments '--long[say more of what went wrong]' '--help[show help]' '1:source:_files -g "*.(f|for|hep)"'
+            _arguments '--color=[when lines have colors]:when:((auto\:terminals always\:always never\:never))' '--long[say more of what went wrong]' '--help[show help]' '1:source:_files -g "*.(f|for|hep)"'
             ;;
         run)
             _arguments '--arena=[cells of storage]:cells:' '--steps=[entries of the history]:entries:' \
                 '--workers=[threads, 1 to 16]:threads:' '--seed=[what lots are drawn by]:seed:' '--choices=[processes that are chosen first]:choices:_files' \
                 '--follow=[history whose steps are made first]:history:_files' '--history=[file that gets the history]:history:_files' \
-                '--long[say more of what went wrong]' '--help[show help]' '1:source:_files -g "*.(f|for|hep)"'
+                '--color=[when lines have colors]:when:((auto\:terminals always\:always never\:never))' '--long[say more of what went wrong]' '--help[show help]' '1:source:_files -g "*.(f|for|hep)"'
             ;;
         sample)
             _arguments '--runs=[runs, 1 to 1000000]:runs:' '--seed=[seed of the first run]:seed:' '--arena=[cells of storage]:cells:' \
-                '--steps=[entries of the history]:entries:' '--keep=[how the files of histories begin]:prefix:_files' \
-                '--long[say more of what went wrong]' '--help[show help]' '1:source:_files -g "*.(f|for|hep)"'
+                '--steps=[entries of the history]:entries:' '--keep=[how the files of histories begin]:prefix:_files' '--format=[how to write it]:format:(json)' \
+                '--color=[when lines have colors]:when:((auto\:terminals always\:always never\:never))' '--long[say more of what went wrong]' '--help[show help]' '1:source:_files -g "*.(f|for|hep)"'
             ;;
         replay)
-            _arguments '--arena=[cells of storage]:cells:' '--long[say more of what went wrong]' '--help[show help]' '1:source:_files -g "*.(f|for|hep)"' \
+            _arguments '--arena=[cells of storage]:cells:' '--color=[when lines have colors]:when:((auto\:terminals always\:always never\:never))' '--long[say more of what went wrong]' '--help[show help]' '1:source:_files -g "*.(f|for|hep)"' \
                 '2:history:_files'
             ;;
         page)
@@ -66,34 +66,35 @@ _hepf_words() {
                 '2:history or picture:_files' '3:picture:_files'
             ;;
         why)
-            _arguments '--choices=[choices of a run that is looked at]:choices:_files' '--seed=[lots of a run that is looked at]:seed:' '--arena=[cells of storage]:cells:' \
-                '--steps=[entries of the history]:entries:' '--long[say more of what went wrong]' '--help[show help]' '1:source:_files -g "*.(f|for|hep)"' \
+            _arguments '--choices=[choices of a run that is looked at]:choices:_files' '--seed=[lots of a run that is looked at]:seed:' '--format=[how to write it]:format:(json)' '--arena=[cells of storage]:cells:' \
+                '--steps=[entries of the history]:entries:' '--color=[when lines have colors]:when:((auto\:terminals always\:always never\:never))' '--long[say more of what went wrong]' '--help[show help]' '1:source:_files -g "*.(f|for|hep)"' \
                 '2:history:_files'
             ;;
         races)
             _arguments '--choices=[choices of a run that is looked at]:choices:_files' '--seed=[lots of a run that is looked at]:seed:' '--arena=[cells of storage]:cells:' \
-                '--steps=[entries of the history]:entries:' '--long[say more of what went wrong]' '--help[show help]' '1:source:_files -g "*.(f|for|hep)"' \
+                '--steps=[entries of the history]:entries:' '--color=[when lines have colors]:when:((auto\:terminals always\:always never\:never))' '--long[say more of what went wrong]' '--help[show help]' '1:source:_files -g "*.(f|for|hep)"' \
                 '2:history:_files'
             ;;
         cover)
             _arguments '--runs=[runs by lots, 1 to 1000000]:runs:' '--format=[how to write it]:format:(lcov)' '--choices=[choices of a run that is looked at]:choices:_files' '--seed=[lots of a run that is looked at]:seed:' '--arena=[cells of storage]:cells:' \
-                '--steps=[entries of the history]:entries:' '--long[say more of what went wrong]' '--help[show help]' '1:source:_files -g "*.(f|for|hep)"' \
+                '--steps=[entries of the history]:entries:' '--color=[when lines have colors]:when:((auto\:terminals always\:always never\:never))' '--long[say more of what went wrong]' '--help[show help]' '1:source:_files -g "*.(f|for|hep)"' \
                 '*:history:_files'
             ;;
         diff)
             _arguments '--choices=[choices of a run that is looked at]:choices:_files' '*--seed=[lots of a run that is looked at]:seed:' '--arena=[cells of storage]:cells:' \
-                '--steps=[entries of the history]:entries:' '--long[say more of what went wrong]' '--help[show help]' '1:source:_files -g "*.(f|for|hep)"' \
+                '--steps=[entries of the history]:entries:' '--color=[when lines have colors]:when:((auto\:terminals always\:always never\:never))' '--long[say more of what went wrong]' '--help[show help]' '1:source:_files -g "*.(f|for|hep)"' \
                 '2:history:_files' '3:history:_files'
             ;;
         state)
-            _arguments '--at=[after how many entries]:entries:' '--choices=[choices of a run that is looked at]:choices:_files' '--seed=[lots of a run that is looked at]:seed:' '--arena=[cells of storage]:cells:' \
-                '--steps=[entries of the history]:entries:' '--long[say more of what went wrong]' '--help[show help]' '1:source:_files -g "*.(f|for|hep)"' \
+            _arguments '--at=[after how many entries]:entries:' '--choices=[choices of a run that is looked at]:choices:_files' '--seed=[lots of a run that is looked at]:seed:' '--format=[how to write it]:format:(json)' '--arena=[cells of storage]:cells:' \
+                '--steps=[entries of the history]:entries:' '--color=[when lines have colors]:when:((auto\:terminals always\:always never\:never))' '--long[say more of what went wrong]' '--help[show help]' '1:source:_files -g "*.(f|for|hep)"' \
                 '2:history:_files'
             ;;
         trace)
             _arguments '--from=[first entry]:entry:' '--to=[last entry]:entry:' '--process=[process by its number]:process:' \
-                '--cell=[name of a variable]:name:' '--choices=[choices of a run that is looked at]:choices:_files' '--seed=[lots of a run that is looked at]:seed:' '--arena=[cells of storage]:cells:' \
-                '--steps=[entries of the history]:entries:' '--long[say more of what went wrong]' '--help[show help]' '1:source:_files -g "*.(f|for|hep)"' \
+                '--cell=[name of a variable]:name:' '--lanes[draw lanes of processes]' '--width=[columns of the lanes]:columns:' \
+                '--format=[how to write it]:format:(json)' '--choices=[choices of a run that is looked at]:choices:_files' '--seed=[lots of a run that is looked at]:seed:' '--arena=[cells of storage]:cells:' \
+                '--steps=[entries of the history]:entries:' '--color=[when lines have colors]:when:((auto\:terminals always\:always never\:never))' '--long[say more of what went wrong]' '--help[show help]' '1:source:_files -g "*.(f|for|hep)"' \
                 '2:history:_files'
             ;;
         explain)

@@ -20,6 +20,8 @@ FILES = ("FILE", "HISTORY", "OUT", "PREFIX")
 STANDARD = ("FILE", "-")
 # Behind what stands there for as many words as there are, and behind an option that may be given twice.
 MORE = ".."
+# By what stands for a word of a few, which these are.
+FEW = {"WHEN": ("auto", "always", "never")}
 # What every command takes, before it or behind it, and what asks for help.
 FLAGS = ("--long",)
 HELPS = ("-h", "--help")
@@ -38,7 +40,10 @@ TWO_ORDERS = {
 # What it says of a history and of options that say which run is looked at, and of an option that is given too often.
 TWO_RUNS = "USAGE: HISTORY, --choices and --seed or --runs exclude each other\n"
 NO_MEANING = "error: these words have no meaning\n"
-NO_FORMAT = "error: --format takes gnu for check, and lcov for cover\n"
+LANES_TOO = "USAGE: --lanes excludes --format\n"
+NO_LANES = "USAGE: --width needs --lanes\n"
+NO_COLOR = "error: --color takes auto, always or never\n"
+NO_FORMAT = "error: --format takes gnu or json for check, lcov for cover, and json for sample, state, trace and why\n"
 
 
 class Mistake(Exception):
@@ -90,9 +95,9 @@ FORMS = {
         operands.split(),
         re.findall(r"\[([A-Z]\S*)\]", line),
         re.findall(r"(?<=\] )([A-Z]+)(?= \[)", line),
-        dict(re.findall(r"\[(--\w+) (\w+)\]", line)),
+        dict(re.findall(r"\[(--\w+) ([\w|]+)\]", line)),
         re.findall(r"\[(--\w+)\]", line),
-        re.findall(r"\[(--\w+) \w+\]\.\.", line),
+        re.findall(r"\[(--\w+) [\w|]+\]\.\.", line),
     )
     for line, name, operands in re.findall(r"^(hepf (\w+) ([^[]*).*)$", TABLE, re.M)
 }
@@ -221,10 +226,17 @@ def judge(job, form):
         least, most = NUMBERS.get(name, (0, 0))
         if name in NUMBERS and not (re.fullmatch(r"\+?[0-9]+", value) and least <= int(value) <= most):
             raise Mistake(f"error: {name} takes a number, {least} to {most}, and not {value}\n")
-        # What is in small letters is the word itself.
-        if form.options[name].islower() and value != form.options[name]:
-            raise Mistake(NO_FORMAT)
     given = dict(job.options)
+    if "--lanes" in job.flags and "--format" in given:
+        raise Mistake(LANES_TOO)
+    if "--lanes" not in job.flags and "--width" in given:
+        raise Mistake(NO_LANES)
+    for name, value in job.options:
+        # What is in small letters is the word itself, or one of them.
+        if form.options[name].islower() and value not in form.options[name].split("|"):
+            raise Mistake(NO_FORMAT)
+        if value not in FEW.get(form.options[name], (value,)):
+            raise Mistake(NO_COLOR)
     if len(job.options) > len(given) + 1:
         raise Mistake(NO_MEANING)
     if form.last and job.operands[-1] in (given.get("--choices"), *job.operands[:-1]):

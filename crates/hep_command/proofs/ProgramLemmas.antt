@@ -7,8 +7,8 @@ use Rattle.clap.specs.declared.builder.command.Command.{Command}
 use Rattle.clap.specs.declared.parser.matches.ArgMatches.{ArgMatches}
 use Rattle.clap.specs.declared.error.Error.{Error}
 use Rattle.clap.proofs.OnLiterals.{clap_on_literals}
-use Rattle.hep_command.specs.Asked.{RequestedJob, heard, is_long_in, job_in, words_found, histories_in}
-use Rattle.hep_command.specs.Program.{IsCommand, IsMistaken, IsStatusFor, asked, hepf, is_long, histories}
+use Rattle.hep_command.specs.Asked.{RequestedJob, color_in, heard, is_long_in, job_in, words_found, histories_in}
+use Rattle.hep_command.specs.Program.{IsCommand, IsMistaken, IsStatusFor, asked, color, hepf, is_long, histories}
 use Rattle.hep_command.specs.Jobs.{usage_status}
 
 hepf_is_simple : is_simple hepf ≡ true
@@ -35,6 +35,13 @@ pub histories_in-histories : (command : Command) (matches : ArgMatches) (words :
 unfolding histories
 histories_in-histories command matches words is found =
     ap histories_in ((found (ap is_simple is ∙ hepf_is_simple)).1 ∙ ap (λ (app : App). subcommand_of app (heard words)) is)
+
+-- the colors that a parse finds are those that the words ask for
+pub color_in-color : (command : Command) (matches : ArgMatches) (words : List Text) → IsCommand hepf command
+    → HasMatchesOf (app_of command) (heard words) matches → color_in (subcommand_rows_of matches) ≡ color words
+unfolding color
+color_in-color command matches words is found =
+    ap color_in ((found (ap is_simple is ∙ hepf_is_simple)).1 ∙ ap (λ (app : App). subcommand_of app (heard words)) is)
 
 hepf_is_free : is_simple_and_free hepf ≡ true
 unfolding clap_on_literals

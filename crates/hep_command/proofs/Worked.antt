@@ -2,10 +2,13 @@
 use Rattle.std.proofs.Common.{◌≡◌, ◌∷◌, [], ℕ, Some, None, false, refl, true, codes}
 use Rattle.clap.proofs.OnLiterals.{clap_on_literals}
 use Rattle.hep_command.specs.Asked.{Viewed, check, cover, diff, explain, heard, page, races, replay, run, sample, standard, state, trace, why}
+use Rattle.hep_command.specs.declared.job.CheckForm.TheVariants.{Lines, Gnu, Json}
+use Rattle.hep_command.specs.declared.job.TraceForm.TheVariants.{Lines as TraceLines, Lanes, Json as TraceJson}
+use Rattle.hep_command.specs.declared.job.ColorWhen.TheVariants.{Auto, Never}
 use Rattle.hep_command.specs.declared.job.PageForm.TheVariants.{Html, Svg}
 use Rattle.hep_command.specs.Explanations.{is_explained, name_of}
 use Rattle.hep_command.specs.Numbers.{number_within}
-use Rattle.hep_command.specs.Program.{asked, histories, is_long}
+use Rattle.hep_command.specs.Program.{asked, color, histories, is_long}
 
 least : number_within 1 16777216 (codes "1") ≡ Some 1
 least = refl
@@ -66,12 +69,13 @@ unfolding asked clap_on_literals
 run_behind_a_history = refl
 
 sample_with_defaults : asked (codes "hepf" ∷ codes "sample" ∷ codes "a.f" ∷ [])
-    ≡ Some (sample (codes "a.f") 100 1 65536 10000000 None)
+    ≡ Some (sample (codes "a.f") 100 1 65536 10000000 None false)
 unfolding asked clap_on_literals
 sample_with_defaults = refl
 
-sample_with_all : asked (codes "hepf" ∷ codes "sample" ∷ codes "--runs" ∷ codes "9" ∷ codes "a.f" ∷ codes "--keep" ∷ codes "k" ∷ codes "--seed=4" ∷ [])
-    ≡ Some (sample (codes "a.f") 9 4 65536 10000000 (Some (codes "k")))
+sample_with_all : asked (codes "hepf" ∷ codes "sample" ∷ codes "--runs" ∷ codes "9" ∷ codes "a.f" ∷ codes "--keep" ∷ codes "k" ∷ codes "--seed=4"
+    ∷ codes "--format=json" ∷ [])
+    ≡ Some (sample (codes "a.f") 9 4 65536 10000000 (Some (codes "k")) true)
 unfolding asked clap_on_literals
 sample_with_all = refl
 
@@ -84,35 +88,63 @@ abbrev serial : Viewed
 serial = record { history = None; choices = None; seed = None; arena = 65536; steps = 10000000 }
 
 state_at : asked (codes "hepf" ∷ codes "state" ∷ codes "a.f" ∷ codes "h" ∷ codes "--at" ∷ codes "0" ∷ [])
-    ≡ Some (state (codes "a.f") (of_h 65536) (Some 0))
+    ≡ Some (state (codes "a.f") (of_h 65536) (Some 0) false)
 unfolding asked clap_on_literals
 state_at = refl
 
 state_of_all : asked (codes "hepf" ∷ codes "state" ∷ codes "a.f" ∷ codes "h" ∷ codes "--arena" ∷ codes "9" ∷ [])
-    ≡ Some (state (codes "a.f") (of_h 9) None)
+    ≡ Some (state (codes "a.f") (of_h 9) None false)
 unfolding asked clap_on_literals
 state_of_all = refl
 
 state_by_choices : asked (codes "hepf" ∷ codes "state" ∷ codes "a.f" ∷ codes "--choices" ∷ codes "c" ∷ codes "--steps=9" ∷ [])
-    ≡ Some (state (codes "a.f") (record serial { choices = Some (codes "c"); steps = 9 }) None)
+    ≡ Some (state (codes "a.f") (record serial { choices = Some (codes "c"); steps = 9 }) None false)
 unfolding asked clap_on_literals
 state_by_choices = refl
 
+state_as_objects : asked (codes "hepf" ∷ codes "state" ∷ codes "a.f" ∷ codes "--format=json" ∷ [])
+    ≡ Some (state (codes "a.f") serial None true)
+unfolding asked clap_on_literals
+state_as_objects = refl
+
 trace_of_all : asked (codes "hepf" ∷ codes "trace" ∷ codes "a.f" ∷ codes "h" ∷ [])
-    ≡ Some (trace (codes "a.f") (of_h 65536) None None None None)
+    ≡ Some (trace (codes "a.f") (of_h 65536) None None None None TraceLines)
 unfolding asked clap_on_literals
 trace_of_all = refl
 
 trace_by_lots : asked (codes "hepf" ∷ codes "trace" ∷ codes "a.f" ∷ codes "--seed" ∷ codes "9" ∷ codes "--cell" ∷ codes "N" ∷ [])
-    ≡ Some (trace (codes "a.f") (record serial { seed = Some 9 }) None None None (Some (codes "N")))
+    ≡ Some (trace (codes "a.f") (record serial { seed = Some 9 }) None None None (Some (codes "N")) TraceLines)
 unfolding asked clap_on_literals
 trace_by_lots = refl
 
 trace_with_all : asked (codes "hepf" ∷ codes "trace" ∷ codes "a.f" ∷ codes "--from=2" ∷ codes "h" ∷ codes "--to" ∷ codes "9" ∷ codes "--process=3"
     ∷ codes "--cell" ∷ codes "$X" ∷ codes "--arena" ∷ codes "7" ∷ [])
-    ≡ Some (trace (codes "a.f") (of_h 7) (Some 2) (Some 9) (Some 3) (Some (codes "$X")))
+    ≡ Some (trace (codes "a.f") (of_h 7) (Some 2) (Some 9) (Some 3) (Some (codes "$X")) TraceLines)
 unfolding asked clap_on_literals
 trace_with_all = refl
+
+trace_as_lanes : asked (codes "hepf" ∷ codes "trace" ∷ codes "a.f" ∷ codes "--lanes" ∷ []) ≡ Some (trace (codes "a.f") serial None None None None (Lanes 80))
+unfolding asked clap_on_literals
+trace_as_lanes = refl
+
+trace_as_wide_lanes : asked (codes "hepf" ∷ codes "trace" ∷ codes "a.f" ∷ codes "--width=400" ∷ codes "--lanes" ∷ [])
+    ≡ Some (trace (codes "a.f") serial None None None None (Lanes 400))
+unfolding asked clap_on_literals
+trace_as_wide_lanes = refl
+
+trace_as_objects : asked (codes "hepf" ∷ codes "trace" ∷ codes "a.f" ∷ codes "--format=json" ∷ [])
+    ≡ Some (trace (codes "a.f") serial None None None None TraceJson)
+unfolding asked clap_on_literals
+trace_as_objects = refl
+
+-- no lanes have this width
+width_alone : asked (codes "hepf" ∷ codes "trace" ∷ codes "a.f" ∷ codes "--width=80" ∷ []) ≡ None
+unfolding asked clap_on_literals
+width_alone = refl
+
+lanes_as_objects : asked (codes "hepf" ∷ codes "trace" ∷ codes "a.f" ∷ codes "--lanes" ∷ codes "--format=json" ∷ []) ≡ None
+unfolding asked clap_on_literals
+lanes_as_objects = refl
 
 page_alone : asked (codes "hepf" ∷ codes "page" ∷ codes "a.f" ∷ codes "--seed=9" ∷ codes "a.html" ∷ [])
     ≡ Some (page Html (codes "a.f") (record serial { seed = Some 9 }) None None (codes "a.html"))
@@ -135,7 +167,7 @@ unfolding asked clap_on_literals
 picture_of_history = refl
 
 why_with_arena : asked (codes "hepf" ∷ codes "why" ∷ codes "a.f" ∷ codes "h" ∷ codes "--arena=9" ∷ [])
-    ≡ Some (why (codes "a.f") (of_h 9))
+    ≡ Some (why (codes "a.f") (of_h 9) false)
 unfolding asked clap_on_literals
 why_with_arena = refl
 
@@ -148,9 +180,14 @@ races_of_history : asked (codes "hepf" ∷ codes "races" ∷ codes "a.f" ∷ cod
 unfolding asked clap_on_literals
 races_of_history = refl
 
-why_alone : asked (codes "hepf" ∷ codes "why" ∷ codes "a.f" ∷ []) ≡ Some (why (codes "a.f") serial)
+why_alone : asked (codes "hepf" ∷ codes "why" ∷ codes "a.f" ∷ []) ≡ Some (why (codes "a.f") serial false)
 unfolding asked clap_on_literals
 why_alone = refl
+
+why_as_objects : asked (codes "hepf" ∷ codes "why" ∷ codes "--format" ∷ codes "json" ∷ codes "a.f" ∷ [])
+    ≡ Some (why (codes "a.f") serial true)
+unfolding asked clap_on_literals
+why_as_objects = refl
 
 cover_two : asked (codes "hepf" ∷ codes "cover" ∷ codes "a.f" ∷ codes "h" ∷ codes "--arena=9" ∷ codes "g" ∷ []) ≡ Some (cover (codes "a.f") (of_h 9) None false)
 unfolding asked clap_on_literals
@@ -219,27 +256,44 @@ no_long : is_long (codes "hepf" ∷ codes "check" ∷ codes "--" ∷ codes "--lo
 unfolding is_long clap_on_literals
 no_long = refl
 
-check_long : asked (codes "hepf" ∷ codes "--long" ∷ codes "check" ∷ codes "a.f" ∷ []) ≡ Some (check (codes "a.f") false false)
+check_long : asked (codes "hepf" ∷ codes "--long" ∷ codes "check" ∷ codes "a.f" ∷ []) ≡ Some (check (codes "a.f") false Lines)
 unfolding asked clap_on_literals
 check_long = refl
 
-check_warn : asked (codes "hepf" ∷ codes "check" ∷ codes "--warn" ∷ codes "a.f" ∷ []) ≡ Some (check (codes "a.f") true false)
+check_warn : asked (codes "hepf" ∷ codes "check" ∷ codes "--warn" ∷ codes "a.f" ∷ []) ≡ Some (check (codes "a.f") true Lines)
 unfolding asked clap_on_literals
 check_warn = refl
 
-check_warn_long : asked (codes "hepf" ∷ codes "--long" ∷ codes "check" ∷ codes "a.f" ∷ codes "--warn" ∷ []) ≡ Some (check (codes "a.f") true false)
+check_warn_long : asked (codes "hepf" ∷ codes "--long" ∷ codes "check" ∷ codes "a.f" ∷ codes "--warn" ∷ []) ≡ Some (check (codes "a.f") true Lines)
 unfolding asked clap_on_literals
 check_warn_long = refl
 
 check_for_editors : asked (codes "hepf" ∷ codes "check" ∷ codes "a.f" ∷ codes "--warn" ∷ codes "--format=gnu" ∷ [])
-    ≡ Some (check (codes "a.f") true true)
+    ≡ Some (check (codes "a.f") true Gnu)
 unfolding asked clap_on_literals
 check_for_editors = refl
+
+check_as_objects : asked (codes "hepf" ∷ codes "check" ∷ codes "--format" ∷ codes "json" ∷ codes "a.f" ∷ []) ≡ Some (check (codes "a.f") false Json)
+unfolding asked clap_on_literals
+check_as_objects = refl
 
 -- the format of another command
 check_as_tracefile : asked (codes "hepf" ∷ codes "check" ∷ codes "a.f" ∷ codes "--format=lcov" ∷ []) ≡ None
 unfolding asked clap_on_literals
 check_as_tracefile = refl
+
+color_never : color (codes "hepf" ∷ codes "check" ∷ codes "a.f" ∷ codes "--color=never" ∷ []) ≡ Never
+unfolding color clap_on_literals
+color_never = refl
+
+no_color_said : color (codes "hepf" ∷ codes "check" ∷ codes "a.f" ∷ []) ≡ Auto
+unfolding color clap_on_literals
+no_color_said = refl
+
+-- no colors are of this name
+unknown_color : asked (codes "hepf" ∷ codes "check" ∷ codes "a.f" ∷ codes "--color=red" ∷ []) ≡ None
+unfolding asked clap_on_literals
+unknown_color = refl
 
 long_behind_warn : is_long (codes "hepf" ∷ codes "check" ∷ codes "--warn" ∷ codes "--long" ∷ codes "a.f" ∷ []) ≡ true
 unfolding is_long clap_on_literals

@@ -10,6 +10,12 @@ use Rattle.hep_command.specs.Numbers.{number_within, option_number}
 use Rattle.hep_command.specs.declared.job.Job.{Job}
 use Rattle.hep_command.specs.declared.job.ViewedRun.{ViewedRun}
 use Rattle.hep_command.specs.declared.job.Job.TheVariants.{Standard, Check, Run, Sample, Replay, State, Trace, Page, Why, Races, Cover, Diff, List, Explain}
+use Rattle.hep_command.specs.declared.job.CheckForm.{CheckForm}
+use Rattle.hep_command.specs.declared.job.CheckForm.TheVariants.{Lines, Gnu, Json}
+use Rattle.hep_command.specs.declared.job.TraceForm.{TraceForm}
+use Rattle.hep_command.specs.declared.job.TraceForm.TheVariants.{Lines as TraceLines, Lanes, Json as TraceJson}
+use Rattle.hep_command.specs.declared.job.ColorWhen.{ColorWhen}
+use Rattle.hep_command.specs.declared.job.ColorWhen.TheVariants.{Auto, Always, Never}
 use Rattle.hep_command.specs.declared.job.PageForm.{PageForm}
 use Rattle.hep_command.specs.declared.job.PageForm.TheVariants.{Html, Svg}
 
@@ -30,14 +36,14 @@ viewed_by view = record { history = texts view.history; choices = texts view.cho
 -- a job with the texts of its paths
 pub data RequestedJob : Type 0 where
   standard : RequestedJob
-  check : Text → Bool → Bool → RequestedJob
+  check : Text → Bool → CheckForm → RequestedJob
   run : Text → ℕ → ℕ → Option ℕ → Option ℕ → Option Text → Option Text → Option Text → RequestedJob
-  sample : Text → ℕ → ℕ → ℕ → ℕ → Option Text → RequestedJob
+  sample : Text → ℕ → ℕ → ℕ → ℕ → Option Text → Bool → RequestedJob
   replay : Text → Text → ℕ → RequestedJob
-  state : Text → Viewed → Option ℕ → RequestedJob
-  trace : Text → Viewed → Option ℕ → Option ℕ → Option ℕ → Option Text → RequestedJob
+  state : Text → Viewed → Option ℕ → Bool → RequestedJob
+  trace : Text → Viewed → Option ℕ → Option ℕ → Option ℕ → Option Text → TraceForm → RequestedJob
   page : PageForm → Text → Viewed → Option ℕ → Option ℕ → Text → RequestedJob
-  why : Text → Viewed → RequestedJob
+  why : Text → Viewed → Bool → RequestedJob
   races : Text → Viewed → RequestedJob
   cover : Text → Viewed → Option ℕ → Bool → RequestedJob
   diff : Text → Viewed → Option Text → Option ℕ → RequestedJob
@@ -46,14 +52,14 @@ pub data RequestedJob : Type 0 where
 
 abbrev pub asked_by : Job → RequestedJob
 asked_by Standard = standard
-asked_by (Check file warn gnu) = check file.now warn gnu
+asked_by (Check file warn form) = check file.now warn form
 asked_by (Run file arena steps workers seed choices follow history) = run file.now arena steps workers seed (texts choices) (texts follow) (texts history)
-asked_by (Sample file runs seed arena steps keep) = sample file.now runs seed arena steps (texts keep)
+asked_by (Sample file runs seed arena steps keep json) = sample file.now runs seed arena steps (texts keep) json
 asked_by (Replay file history arena) = replay file.now history.now arena
-asked_by (State file view at) = state file.now (viewed_by view) at
-asked_by (Trace file view first last process cell) = trace file.now (viewed_by view) first last process (texts cell)
+asked_by (State file view at json) = state file.now (viewed_by view) at json
+asked_by (Trace file view first last process cell form) = trace file.now (viewed_by view) first last process (texts cell) form
 asked_by (Page form file view first last out) = page form file.now (viewed_by view) first last out.now
-asked_by (Why file view) = why file.now (viewed_by view)
+asked_by (Why file view json) = why file.now (viewed_by view) json
 asked_by (Races file view) = races file.now (viewed_by view)
 asked_by (Cover file view runs lcov) = cover file.now (viewed_by view) runs lcov
 asked_by (Diff file view other other_seed) = diff file.now (viewed_by view) (texts other) other_seed
@@ -129,10 +135,18 @@ format_by name (Some word) = if bytes_eq word name then Some true else None
 abbrev pub format_in : Text → ListOf Row → Option Bool
 format_in name rows = format_by name (first_of (codes "format") rows)
 
+-- how `check` writes, by the name of its format; another name has no meaning
+abbrev pub check_form_by : Option Text → Option CheckForm
+check_form_by None = Some Lines
+check_form_by (Some word) = if bytes_eq word (codes "gnu") then Some Gnu else (if bytes_eq word (codes "json") then Some Json else None)
+
+abbrev pub check_form_in : ListOf Row → Option CheckForm
+check_form_in rows = check_form_by (first_of (codes "format") rows)
+
 abbrev pub check_in : ListOf Row → Option RequestedJob
 check_in rows =
     option_and_then (λ file. option_map (check file (is_given (codes "warn") rows))
-    (format_in (codes "gnu") rows)) (first_of (codes "file") rows)
+    (check_form_in rows)) (first_of (codes "file") rows)
 
 abbrev pub run_in : ListOf Row → Option RequestedJob
 run_in rows =
@@ -142,8 +156,8 @@ run_in rows =
 
 abbrev pub sample_in : ListOf Row → Option RequestedJob
 sample_in rows =
-    option_and_then (λ file. option_and_then (λ runs. option_and_then (λ seed. option_and_then (λ arena. option_map
-    (λ steps. sample file runs seed arena steps (first_of (codes "keep") rows))
+    option_and_then (λ file. option_and_then (λ runs. option_and_then (λ seed. option_and_then (λ arena. option_and_then
+    (λ steps. option_map (sample file runs seed arena steps (first_of (codes "keep") rows)) (format_in (codes "json") rows))
     (steps_in rows)) (arena_in rows)) (first_seed_in rows)) (runs_in rows)) (first_of (codes "file") rows)
 
 abbrev pub replay_in : ListOf Row → Option RequestedJob
@@ -168,17 +182,37 @@ viewed_in id rows =
 
 abbrev pub state_in : ListOf Row → Option RequestedJob
 state_in rows =
-    option_and_then (λ file. option_and_then (λ view. option_map (state file view)
-    (entries_in rows)) (viewed_in (codes "history") rows)) (first_of (codes "file") rows)
+    option_and_then (λ file. option_and_then (λ view. option_and_then (λ at. option_map (state file view at)
+    (format_in (codes "json") rows)) (entries_in rows)) (viewed_in (codes "history") rows)) (first_of (codes "file") rows)
 
 -- the number of an entry or a process, where its option is given
 abbrev pub ordinal_in : Text → ListOf Row → Option (Option ℕ)
 ordinal_in id rows = number_by 4294967296 (first_of id rows)
 
+-- the columns of lanes, where their option is given
+abbrev pub width_by : Option Text → Option (Option ℕ)
+width_by None = Some None
+width_by (Some text) = option_map Some (number_within 40 400 text)
+
+abbrev pub width_in : ListOf Row → Option (Option ℕ)
+width_in rows = width_by (first_of (codes "width") rows)
+
+-- how `trace` writes: as lanes, in so many columns, or in a format; a width without lanes has no meaning, nor have lanes in a format
+abbrev pub trace_form_by : Bool → Bool → Option ℕ → Option TraceForm
+trace_form_by false false None = Some TraceLines
+trace_form_by false true None = Some TraceJson
+trace_form_by true false width = Some (Lanes (unwrap_or width 80))
+trace_form_by _ _ _ = None
+
+abbrev pub trace_form_in : ListOf Row → Option TraceForm
+trace_form_in rows =
+    option_and_then (λ width. option_and_then (λ json. trace_form_by (is_given (codes "lanes") rows) json width)
+    (format_in (codes "json") rows)) (width_in rows)
+
 abbrev pub trace_in : ListOf Row → Option RequestedJob
 trace_in rows =
-    option_and_then (λ file. option_and_then (λ view. option_and_then (λ first. option_and_then (λ last. option_map
-    (λ process. trace file view first last process (first_of (codes "cell") rows))
+    option_and_then (λ file. option_and_then (λ view. option_and_then (λ first. option_and_then (λ last. option_and_then
+    (λ process. option_map (trace file view first last process (first_of (codes "cell") rows)) (trace_form_in rows))
     (ordinal_in (codes "process") rows)) (ordinal_in (codes "to") rows)) (ordinal_in (codes "from") rows))
     (viewed_in (codes "history") rows)) (first_of (codes "file") rows)
 
@@ -194,7 +228,9 @@ page_in form rows =
     (ordinal_in (codes "to") rows)) (ordinal_in (codes "from") rows)) (viewed_in (codes "history") rows)) (first_of (codes "file") rows)
 
 abbrev pub why_in : ListOf Row → Option RequestedJob
-why_in rows = option_and_then (λ file. option_map (why file) (viewed_in (codes "history") rows)) (first_of (codes "file") rows)
+why_in rows =
+    option_and_then (λ file. option_and_then (λ view. option_map (why file view)
+    (format_in (codes "json") rows)) (viewed_in (codes "history") rows)) (first_of (codes "file") rows)
 
 abbrev pub races_in : ListOf Row → Option RequestedJob
 races_in rows = option_and_then (λ file. option_map (races file) (viewed_in (codes "history") rows)) (first_of (codes "file") rows)
@@ -250,10 +286,26 @@ command_in command rows =
     else (if bytes_eq command (codes "list") then list_in rows
     else (if bytes_eq command (codes "explain") then explain_in rows else None)))))))))))))
 
+-- when lines have colors; a word of another name has no meaning
+abbrev pub color_by : Option Text → Option ColorWhen
+color_by None = Some Auto
+color_by (Some word) =
+    if bytes_eq word (codes "auto") then Some Auto
+    else (if bytes_eq word (codes "always") then Some Always else (if bytes_eq word (codes "never") then Some Never else None))
+
+-- .. where they go to a terminal, if nothing else is said
+abbrev pub color_in : Option (Text × ListOf Row) → ColorWhen
+color_in None = Auto
+color_in (Some found) = unwrap_or (color_by (first_of (codes "color") found.1)) Auto
+
+-- the job of a command, where its colors have a meaning
+abbrev pub colored_in : Text → ListOf Row → Option RequestedJob
+colored_in command rows = option_and_then (λ color. command_in command rows) (color_by (first_of (codes "color") rows))
+
 -- without a command the source on standard input is run
 abbrev pub job_in : Option (Text × ListOf Row) → Option RequestedJob
 job_in None = Some standard
-job_in (Some found) = command_in found.0 found.1
+job_in (Some found) = colored_in found.0 found.1
 
 -- `--long` is given, before the command or after it
 abbrev pub is_long_in : ListOf Row → Option (Text × ListOf Row) → Bool

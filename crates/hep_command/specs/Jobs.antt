@@ -8,6 +8,8 @@ use Rattle.hep_command.specs.declared.job.ViewedRun.{ViewedRun}
 use Rattle.hep_command.specs.declared.job.Usage.{Usage}
 use Rattle.hep_command.specs.declared.job.PageForm.{PageForm}
 use Rattle.hep_command.specs.declared.job.PageForm.TheVariants.{Html, Svg}
+use Rattle.hep_command.specs.declared.job.TraceForm.{TraceForm}
+use Rattle.hep_command.specs.declared.job.TraceForm.TheVariants.{Lanes}
 use Rattle.hep_command.specs.declared.job.Job.TheVariants.{Standard, Check, Run, Sample, Replay, State, Trace, Page, Why, Races, Cover, Diff, List, Explain}
 
 abbrev pub IsArena : ℕ → Type 0
@@ -30,6 +32,11 @@ HasSeed (Some seed) = IsSeed seed
 abbrev pub AreSampled : ℕ → Type 0
 AreSampled runs = (1 ≤ runs) × (runs ≤ 1000000)
 
+-- the columns of lanes
+abbrev pub IsTraceForm : TraceForm → Type 0
+IsTraceForm (Lanes width) = (40 ≤ width) × (width ≤ 400)
+IsTraceForm _ = Unit {0}
+
 -- the numbers of the run that is looked at are those that its options allow
 abbrev pub IsViewInRange : ViewedRun → Type 0
 IsViewInRange run = IsArena run.arena × IsSteps run.steps × HasSeed run.seed
@@ -37,14 +44,14 @@ IsViewInRange run = IsArena run.arena × IsSteps run.steps × HasSeed run.seed
 -- the numbers of the job are those that its options allow
 abbrev pub IsInRange : Job → Type 0
 IsInRange Standard = Unit {0}
-IsInRange (Check file warn gnu) = Unit {0}
+IsInRange (Check file warn form) = Unit {0}
 IsInRange (Run file arena steps workers seed choices follow history) = IsArena arena × IsSteps steps × AreWorkers workers × HasSeed seed
-IsInRange (Sample file runs seed arena steps keep) = AreSampled runs × IsSeed seed × IsArena arena × IsSteps steps
+IsInRange (Sample file runs seed arena steps keep json) = AreSampled runs × IsSeed seed × IsArena arena × IsSteps steps
 IsInRange (Replay file history arena) = IsArena arena
-IsInRange (State file run at) = IsViewInRange run
-IsInRange (Trace file run first last process cell) = IsViewInRange run
+IsInRange (State file run at json) = IsViewInRange run
+IsInRange (Trace file run first last process cell form) = IsViewInRange run × IsTraceForm form
 IsInRange (Page form file run first last page) = IsViewInRange run
-IsInRange (Why file run) = IsViewInRange run
+IsInRange (Why file run json) = IsViewInRange run
 IsInRange (Races file run) = IsViewInRange run
 IsInRange (Cover file run runs lcov) = IsViewInRange run
 IsInRange (Diff file run other other_seed) = IsViewInRange run × HasSeed other_seed
@@ -84,10 +91,10 @@ IsOneRun run runs = count_of run.history + count_of run.choices + count_of_eithe
 -- who comes when is said once at most: by choices, by a history that is followed or looked at, by workers or by lots
 abbrev pub IsOneOrder : Job → Type 0
 IsOneOrder (Run file arena steps workers seed choices follow history) = count_of workers + count_of seed + count_of choices + count_of follow ≤ 1
-IsOneOrder (State file run at) = IsOneRun run None
-IsOneOrder (Trace file run first last process cell) = IsOneRun run None
+IsOneOrder (State file run at json) = IsOneRun run None
+IsOneOrder (Trace file run first last process cell form) = IsOneRun run None
 IsOneOrder (Page form file run first last page) = IsOneRun run None
-IsOneOrder (Why file run) = IsOneRun run None
+IsOneOrder (Why file run json) = IsOneRun run None
 IsOneOrder (Races file run) = IsOneRun run None
 IsOneOrder (Cover file run runs lcov) = IsOneRun run runs
 IsOneOrder (Diff file run other other_seed) = IsOneRun run None

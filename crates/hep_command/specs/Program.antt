@@ -7,7 +7,8 @@ use Rattle.clap.specs.declared.builder.arg.Arg.{Arg}
 use Rattle.clap.specs.declared.builder.command.Command.{Command}
 use Rattle.clap.specs.declared.error.kind.ErrorKind.{ErrorKind}
 use Rattle.clap.specs.declared.builder.value_parser.ValueParser.TheVariants.{Unsigned}
-use Rattle.hep_command.specs.Asked.{RequestedJob, asked_by, heard, is_long_in, job_in, histories_in}
+use Rattle.hep_command.specs.Asked.{RequestedJob, asked_by, color_in, heard, is_long_in, job_in, histories_in}
+use Rattle.hep_command.specs.declared.job.ColorWhen.{ColorWhen}
 use Rattle.hep_command.specs.Jobs.{IsOneOrder, IsWrittenApart, usage_status}
 use Rattle.hep_command.specs.declared.job.Job.{Job}
 use Rattle.hep_command.specs.declared.job.Request.{Request}
@@ -63,15 +64,22 @@ follow_option = file_option (codes "follow")
 abbrev pub history_option : Rule
 history_option = file_option (codes "history")
 
--- an option without a value, before the command or after it
+-- an option without a value
+abbrev pub flag : Text → Rule
+flag id = record (new_rule id) { long = Some id; action = Some SetTrue }
+
+-- it may come before the command too
 abbrev pub long_flag : Rule
-long_flag = record (new_rule (codes "long")) { long = Some (codes "long"); action = Some SetTrue }
+long_flag = flag (codes "long")
 
--- an option without a value, after `check`
+-- when lines have colors
+abbrev pub color_option : Rule
+color_option = file_option (codes "color")
+
 abbrev pub warn_flag : Rule
-warn_flag = record (new_rule (codes "warn")) { long = Some (codes "warn"); action = Some SetTrue }
+warn_flag = flag (codes "warn")
 
--- the name of a format, after `check` and `cover`
+-- the name of a format
 abbrev pub format_option : Rule
 format_option = file_option (codes "format")
 
@@ -85,19 +93,20 @@ abbrev pub command_with : Text → List Rule → App
 command_with name rules = with_rules (new_app name) rules
 
 abbrev pub check_command : App
-check_command = command_with (codes "check") (source_word ∷ warn_flag ∷ format_option ∷ long_flag ∷ [])
+check_command = command_with (codes "check") (source_word ∷ warn_flag ∷ format_option ∷ color_option ∷ long_flag ∷ [])
 
 abbrev pub run_command : App
 run_command =
-    command_with (codes "run") (source_word ∷ arena_option ∷ steps_option ∷ workers_option ∷ seed_option
-    ∷ choices_option ∷ follow_option ∷ history_option ∷ long_flag ∷ [])
+    command_with (codes "run") (source_word ∷ arena_option ∷ steps_option ∷ workers_option ∷ seed_option ∷ choices_option
+    ∷ follow_option ∷ history_option ∷ color_option ∷ long_flag ∷ [])
 
 abbrev pub sample_command : App
 sample_command =
-    command_with (codes "sample") (source_word ∷ runs_option ∷ seed_option ∷ arena_option ∷ steps_option ∷ keep_option ∷ long_flag ∷ [])
+    command_with (codes "sample") (source_word ∷ runs_option ∷ seed_option ∷ arena_option ∷ steps_option ∷ keep_option ∷ format_option
+    ∷ color_option ∷ long_flag ∷ [])
 
 abbrev pub replay_command : App
-replay_command = command_with (codes "replay") (source_word ∷ history_word ∷ arena_option ∷ long_flag ∷ [])
+replay_command = command_with (codes "replay") (source_word ∷ history_word ∷ arena_option ∷ color_option ∷ long_flag ∷ [])
 
 -- a number from 0 on
 abbrev pub entries_option : Rule
@@ -109,8 +118,8 @@ viewed_word = optional_word (codes "history")
 
 abbrev pub state_command : App
 state_command =
-    command_with (codes "state") (source_word ∷ viewed_word ∷ entries_option ∷ choices_option
-    ∷ seed_option ∷ arena_option ∷ steps_option ∷ long_flag ∷ [])
+    command_with (codes "state") (source_word ∷ viewed_word ∷ entries_option ∷ choices_option ∷ seed_option ∷ format_option
+    ∷ arena_option ∷ steps_option ∷ color_option ∷ long_flag ∷ [])
 
 -- a number from 1 on
 abbrev pub ordinal_option : Text → Rule
@@ -129,10 +138,16 @@ process_option = ordinal_option (codes "process")
 abbrev pub cell_option : Rule
 cell_option = file_option (codes "cell")
 
+abbrev pub lanes_flag : Rule
+lanes_flag = flag (codes "lanes")
+
+abbrev pub width_option : Rule
+width_option = record (file_option (codes "width")) { parser = Some (Unsigned 40 400) }
+
 abbrev pub trace_command : App
 trace_command =
-    command_with (codes "trace") (source_word ∷ viewed_word ∷ first_option ∷ last_option ∷ process_option ∷ cell_option
-    ∷ choices_option ∷ seed_option ∷ arena_option ∷ steps_option ∷ long_flag ∷ [])
+    command_with (codes "trace") (source_word ∷ viewed_word ∷ first_option ∷ last_option ∷ process_option ∷ cell_option ∷ lanes_flag
+    ∷ width_option ∷ format_option ∷ choices_option ∷ seed_option ∷ arena_option ∷ steps_option ∷ color_option ∷ long_flag ∷ [])
 
 -- the file that gets a page, where there is a history
 abbrev pub page_word : Rule
@@ -141,22 +156,24 @@ page_word = optional_word (codes "page")
 -- the file that gets the page, or a history; and the file where there is a history
 abbrev pub page_command : App
 page_command =
-    command_with (codes "page") (source_word ∷ history_word ∷ page_word ∷ first_option ∷ last_option ∷ choices_option
-    ∷ seed_option ∷ arena_option ∷ steps_option ∷ long_flag ∷ [])
+    command_with (codes "page") (source_word ∷ history_word ∷ page_word ∷ first_option ∷ last_option ∷ choices_option ∷ seed_option
+    ∷ arena_option ∷ steps_option ∷ long_flag ∷ [])
 
 -- the same files for a picture
 abbrev pub picture_command : App
 picture_command =
-    command_with (codes "picture") (source_word ∷ history_word ∷ page_word ∷ choices_option
-    ∷ seed_option ∷ arena_option ∷ steps_option ∷ long_flag ∷ [])
+    command_with (codes "picture") (source_word ∷ history_word ∷ page_word ∷ choices_option ∷ seed_option ∷ arena_option ∷ steps_option
+    ∷ long_flag ∷ [])
 
 abbrev pub why_command : App
 why_command =
-    command_with (codes "why") (source_word ∷ viewed_word ∷ choices_option ∷ seed_option ∷ arena_option ∷ steps_option ∷ long_flag ∷ [])
+    command_with (codes "why") (source_word ∷ viewed_word ∷ choices_option ∷ seed_option ∷ format_option ∷ arena_option ∷ steps_option
+    ∷ color_option ∷ long_flag ∷ [])
 
 abbrev pub races_command : App
 races_command =
-    command_with (codes "races") (source_word ∷ viewed_word ∷ choices_option ∷ seed_option ∷ arena_option ∷ steps_option ∷ long_flag ∷ [])
+    command_with (codes "races") (source_word ∷ viewed_word ∷ choices_option ∷ seed_option ∷ arena_option ∷ steps_option ∷ color_option
+    ∷ long_flag ∷ [])
 
 -- as many words as there are, or none
 abbrev pub histories_word : Rule
@@ -164,8 +181,8 @@ histories_word = record (optional_word (codes "histories")) { range = Some (reco
 
 abbrev pub cover_command : App
 cover_command =
-    command_with (codes "cover") (source_word ∷ histories_word ∷ choices_option ∷ seed_option ∷ runs_option
-    ∷ format_option ∷ arena_option ∷ steps_option ∷ long_flag ∷ [])
+    command_with (codes "cover") (source_word ∷ histories_word ∷ choices_option ∷ seed_option ∷ runs_option ∷ format_option
+    ∷ arena_option ∷ steps_option ∷ color_option ∷ long_flag ∷ [])
 
 -- a second history
 abbrev pub other_word : Rule
@@ -177,11 +194,11 @@ seeds_option = record seed_option { action = Some Append }
 
 abbrev pub diff_command : App
 diff_command =
-    command_with (codes "diff") (source_word ∷ viewed_word ∷ other_word ∷ choices_option
-    ∷ seeds_option ∷ arena_option ∷ steps_option ∷ long_flag ∷ [])
+    command_with (codes "diff") (source_word ∷ viewed_word ∷ other_word ∷ choices_option ∷ seeds_option ∷ arena_option ∷ steps_option
+    ∷ color_option ∷ long_flag ∷ [])
 
 abbrev pub list_command : App
-list_command = command_with (codes "list") (source_word ∷ long_flag ∷ [])
+list_command = command_with (codes "list") (source_word ∷ color_option ∷ long_flag ∷ [])
 
 abbrev pub explain_command : App
 explain_command =
@@ -231,10 +248,15 @@ is_long words = is_long_in (matches_of hepf (heard words)) (subcommand_of hepf (
 unfoldable pub histories : List Text → List Text
 histories words = histories_in (subcommand_of hepf (heard words))
 
+-- when lines have colors
+unfoldable pub color : List Text → ColorWhen
+color words = color_in (subcommand_of hepf (heard words))
+
 -- the request of the words
 abbrev pub IsAskedBy : List Text → Request → Type 0
 IsAskedBy words request =
-    (asked words ≡ Some (asked_by request.job)) × (request.long ≡ is_long words) × (map (λ h. h.now) request.histories.items ≡ histories words)
+    (asked words ≡ Some (asked_by request.job)) × (request.long ≡ is_long words) × (request.color ≡ color words)
+    × (map (λ h. h.now) request.histories.items ≡ histories words)
 
 -- the words have no meaning; or their job would write the history to a file that is read; or they decide the next
 -- process in two ways

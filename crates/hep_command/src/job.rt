@@ -31,6 +31,15 @@ pub const RUNS: u64 = 100;
 /// The greatest number of runs of a sample.
 pub const MOST_RUNS: u64 = 1_000_000;
 
+/// The columns of lanes, where no option gives them.
+pub const WIDTH: u32 = 80;
+
+/// The fewest columns that lanes may have.
+pub const LEAST_WIDTH: u64 = 40;
+
+/// The most.
+pub const MOST_WIDTH: u64 = 400;
+
 /// Which run is looked at: the one of a history, where its file is named; else one that is made for it, by choices, by lots or serial.
 #[derive(Clone, Copy)]
 pub struct ViewedRun<'a> {
@@ -44,6 +53,28 @@ pub struct ViewedRun<'a> {
     pub arena: u32,
     /// The entries that the history of a run that is made may have, 1 to 4,294,967,296.
     pub steps: u64,
+}
+
+/// How what is wrong with a source is written.
+#[derive(Clone, Copy)]
+pub enum CheckForm {
+    /// Lines of the standard form.
+    Lines,
+    /// The lines that GNU compilers write, for editors.
+    Gnu,
+    /// An object of JSON a line.
+    Json,
+}
+
+/// How the steps of a history are written.
+#[derive(Clone, Copy)]
+pub enum TraceForm {
+    /// A line a step.
+    Lines,
+    /// As lanes of processes, in so many columns, 40 to 400.
+    Lanes(u32),
+    /// An object of JSON a step.
+    Json,
 }
 
 /// What is written of a run for a browser.
@@ -65,8 +96,7 @@ pub enum Job<'a> {
         file: &'a str,
         /// Whether probable mistakes are reported too.
         warn: bool,
-        /// Whether the lines are those that GNU compilers write.
-        gnu: bool,
+        form: CheckForm,
     },
     /// Run a source.
     Run {
@@ -99,6 +129,8 @@ pub enum Job<'a> {
         steps: u64,
         /// The prefix of the files to which the histories of the first runs are written.
         keep: Option<&'a str>,
+        /// Whether the outcomes are objects of JSON.
+        json: bool,
     },
     /// Make the steps of a history again.
     Replay {
@@ -113,6 +145,8 @@ pub enum Job<'a> {
         run: ViewedRun<'a>,
         /// After how many entries; after all of them where none is said.
         at: Option<u64>,
+        /// Whether processes and variables are objects of JSON.
+        json: bool,
     },
     /// Show what each step of a history did, or some of them.
     Trace {
@@ -126,6 +160,7 @@ pub enum Job<'a> {
         process: Option<u64>,
         /// The name of the variable whose accesses are shown; all steps where it isn't given.
         cell: Option<&'a str>,
+        form: TraceForm,
     },
     /// Write a page that shows each step of a run, or its picture.
     Page {
@@ -143,6 +178,8 @@ pub enum Job<'a> {
     Why {
         file: &'a str,
         run: ViewedRun<'a>,
+        /// Whether those that wait and their circles are objects of JSON.
+        json: bool,
     },
     /// List the races of a history.
     Races {
@@ -181,7 +218,16 @@ pub enum Job<'a> {
     },
 }
 
-/// A job, with its options that all commands have.
+/// When lines have colors.
+#[derive(Clone, Copy)]
+pub enum ColorWhen {
+    /// Where they go to a terminal.
+    Auto,
+    Always,
+    Never,
+}
+
+/// A job, with the options that most commands have.
 #[derive(Drop)]
 pub struct Request<'a> {
     pub job: Job<'a>,
@@ -189,6 +235,7 @@ pub struct Request<'a> {
     pub histories: Vec<&'a str>,
     /// Whether notes are written besides the lines of the standard form.
     pub long: bool,
+    pub color: ColorWhen,
 }
 
 /// A text for the user of the command line, and an exit status.

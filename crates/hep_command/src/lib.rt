@@ -13,7 +13,7 @@ pub mod words;
 
 pub use explanations::explain;
 pub use fault_texts::meaning;
-pub use job::{Job, PageForm, Request, Usage, ViewedRun};
+pub use job::{CheckForm, ColorWhen, Job, PageForm, Request, TraceForm, Usage, ViewedRun};
 pub use refusal_texts::explanation;
 pub use words::{
     FOLLOW_TOO, LOTS_TOO, SAME_FILE, SAME_PAGE, SAME_PICTURE, TWO_ORDERS, TWO_RUNS, read_request,

@@ -1,6 +1,8 @@
 //! The commands and their words, as a table.
 
-use crate::job::{MOST_ARENA, MOST_RUNS, MOST_SEED, MOST_STEPS, MOST_WORKERS};
+use crate::job::{
+    LEAST_WIDTH, MOST_ARENA, MOST_RUNS, MOST_SEED, MOST_STEPS, MOST_WIDTH, MOST_WORKERS,
+};
 
 /// The kinds of words of a command.
 #[derive(Clone, Copy)]
@@ -100,6 +102,14 @@ pub(crate) const LONG: WordRow = WordRow {
     help: "Say more of what went wrong: which file, line and name",
 };
 
+// Whether lines have colors.
+const COLOR: WordRow = WordRow {
+    id: "color",
+    kind: WordKind::Text,
+    value: "WHEN",
+    help: "Color the lines: auto, always, never [default: auto]",
+};
+
 // The warnings of a source that isn't refused.
 const WARN: WordRow = WordRow {
     id: "warn",
@@ -108,12 +118,20 @@ const WARN: WordRow = WordRow {
     help: "Say too what may well be a mistake, a line for each",
 };
 
-// The lines of a compiler, for editors.
+// The lines of a compiler for editors, or objects.
 const CHECK_FORMAT: WordRow = WordRow {
     id: "format",
     kind: WordKind::Text,
     value: "FORMAT",
-    help: "How to write it: gnu, as FILE:LINE:COLUMN: error: ..",
+    help: "How to write it: gnu, for editors, or json",
+};
+
+// Objects of JSON, for programs.
+const JSON_FORMAT: WordRow = WordRow {
+    id: "format",
+    kind: WordKind::Text,
+    value: "FORMAT",
+    help: "How to write it: json",
 };
 
 // The counts of lines, for programs that show them.
@@ -327,6 +345,20 @@ const CELL: WordRow = WordRow {
     help: "Show the accesses to variables of this name alone",
 };
 
+const LANES: WordRow = WordRow {
+    id: "lanes",
+    kind: WordKind::Flag,
+    value: "",
+    help: "Draw the steps as lanes of processes, side by side",
+};
+
+const LANES_WIDTH: WordRow = WordRow {
+    id: "width",
+    kind: WordKind::Number(LEAST_WIDTH, MOST_WIDTH),
+    value: "W",
+    help: "Columns of the lanes, 40 to 400 [default: 80]",
+};
+
 // The first word of an explained name.
 const NAME: WordRow = WordRow {
     id: "first",
@@ -355,7 +387,7 @@ pub(crate) const RUNNING: [CommandRow; 4] = [
         name: "check",
         about: "Say why a source can't run, and nothing if it can",
         example: CHECK_EXAMPLE,
-        words: &[SOURCE, WARN, CHECK_FORMAT, LONG],
+        words: &[SOURCE, WARN, CHECK_FORMAT, COLOR, LONG],
     },
     CommandRow {
         name: "run",
@@ -370,6 +402,7 @@ pub(crate) const RUNNING: [CommandRow; 4] = [
             CHOICES,
             FOLLOW,
             WRITTEN_HISTORY,
+            COLOR,
             LONG,
         ],
     },
@@ -377,13 +410,23 @@ pub(crate) const RUNNING: [CommandRow; 4] = [
         name: "sample",
         about: "Run a source by lots many times and count what comes",
         example: SAMPLE_EXAMPLE,
-        words: &[SOURCE, RUNS, FIRST_SEED, ARENA, STEPS, KEEP, LONG],
+        words: &[
+            SOURCE,
+            RUNS,
+            FIRST_SEED,
+            ARENA,
+            STEPS,
+            KEEP,
+            JSON_FORMAT,
+            COLOR,
+            LONG,
+        ],
     },
     CommandRow {
         name: "replay",
         about: "Make the steps of a history again",
         example: REPLAY_EXAMPLE,
-        words: &[SOURCE, HISTORY, ARENA, LONG],
+        words: &[SOURCE, HISTORY, ARENA, COLOR, LONG],
     },
 ];
 
@@ -399,8 +442,10 @@ pub(crate) const LOOKING: [CommandRow; 8] = [
             ENTRIES,
             VIEWED_CHOICES,
             VIEWED_SEED,
+            JSON_FORMAT,
             ARENA,
             STEPS,
+            COLOR,
             LONG,
         ],
     },
@@ -415,10 +460,14 @@ pub(crate) const LOOKING: [CommandRow; 8] = [
             LAST_ENTRY,
             PROCESS,
             CELL,
+            LANES,
+            LANES_WIDTH,
+            JSON_FORMAT,
             VIEWED_CHOICES,
             VIEWED_SEED,
             ARENA,
             STEPS,
+            COLOR,
             LONG,
         ],
     },
@@ -463,8 +512,10 @@ pub(crate) const LOOKING: [CommandRow; 8] = [
             VIEWED_HISTORY,
             VIEWED_CHOICES,
             VIEWED_SEED,
+            JSON_FORMAT,
             ARENA,
             STEPS,
+            COLOR,
             LONG,
         ],
     },
@@ -479,6 +530,7 @@ pub(crate) const LOOKING: [CommandRow; 8] = [
             VIEWED_SEED,
             ARENA,
             STEPS,
+            COLOR,
             LONG,
         ],
     },
@@ -495,6 +547,7 @@ pub(crate) const LOOKING: [CommandRow; 8] = [
             COVER_FORMAT,
             ARENA,
             STEPS,
+            COLOR,
             LONG,
         ],
     },
@@ -510,6 +563,7 @@ pub(crate) const LOOKING: [CommandRow; 8] = [
             COMPARED_SEEDS,
             ARENA,
             STEPS,
+            COLOR,
             LONG,
         ],
     },
@@ -521,7 +575,7 @@ pub(crate) const SAYING: [CommandRow; 2] = [
         name: "list",
         about: "List the units and common blocks of a source with their cells",
         example: LIST_EXAMPLE,
-        words: &[SOURCE, LONG],
+        words: &[SOURCE, COLOR, LONG],
     },
     CommandRow {
         name: "explain",

@@ -50,6 +50,9 @@ fn range_of(option: &str) -> &'static str {
     if option == "runs" {
         return "1 to 1000000";
     }
+    if option == "width" {
+        return "40 to 400";
+    }
     if option == "at" {
         return "0 to 4294967296";
     }

@@ -6,13 +6,14 @@ ghost use Rattle.std.specs.Option.{unwrap_or};
 ghost use Rattle.hep_command.specs.Numbers.{number_within, option_number};
 ghost use Rattle.hep_command.specs.Asked.{asked_by, arena_in, check_in, command_in, command_place, explain_in, heard, is_given, is_help_of_help, is_version};
 ghost use Rattle.hep_command.specs.Asked.{entries_in, is_long_in, is_word, job_in, cover_in, diff_in, histories_in, list_in, ordinal_in, replay_in, run_in, state_in, steps_in, trace_in, why_in, races_in, word_of, words_found};
-ghost use Rattle.hep_command.specs.Asked.{covered_in, format_in, other_seed_in, page_in, viewed_by, viewed_in};
+ghost use Rattle.hep_command.specs.Asked.{check_form_in, color_by, color_in, colored_in, covered_in, format_in, other_seed_in, page_in, trace_form_in, viewed_by, viewed_in, width_in};
 ghost use Rattle.hep_command.specs.Asked.{first_seed_in, runs_in, sample_in, seed_in, workers_in};
-ghost use Rattle.hep_command.specs.Jobs.{IsInRange, IsNoPath, IsOneOrder, IsOneRun, IsUsage, IsViewInRange, IsWant, IsWrittenApart, page_mistake, usage_status};
+ghost use Rattle.hep_command.specs.Jobs.{IsInRange, IsNoPath, IsOneOrder, IsOneRun, IsUsage, IsViewInRange, IsWant, IsTraceForm, IsWrittenApart, page_mistake, usage_status};
 
 use crate::job::{
-    ARENA, FIRST_SEED, Job, MOST_ARENA, MOST_RUNS, MOST_SEED, MOST_STEPS, MOST_WORKERS, PageForm,
-    RUNS, Request, STEPS, Usage, ViewedRun,
+    ARENA, CheckForm, ColorWhen, FIRST_SEED, Job, LEAST_WIDTH, MOST_ARENA, MOST_RUNS, MOST_SEED,
+    MOST_STEPS, MOST_WIDTH, MOST_WORKERS, PageForm, RUNS, Request, STEPS, TraceForm, Usage,
+    ViewedRun, WIDTH,
 };
 use crate::program::program;
 use crate::usage_mistakes::said;
@@ -26,7 +27,17 @@ use std::convert::AsStr;
 const MISTAKE: &str = "error: these words have no meaning\n";
 
 // The message where the format of a command has another name.
-const NO_FORMAT: &str = "error: --format takes gnu for check, and lcov for cover\n";
+const NO_FORMAT: &str =
+    "error: --format takes gnu or json for check, lcov for cover, and json for sample, state, trace and why\n";
+
+// The message where lines would have colors at another time.
+const NO_COLOR: &str = "error: --color takes auto, always or never\n";
+
+// The message where lanes are to be written in a format, which have none.
+const LANES_TOO: &str = "USAGE: --lanes excludes --format\n";
+
+// The message where a width is given and no lanes.
+const NO_LANES: &str = "USAGE: --width needs --lanes\n";
 
 /// The message where the history would be written to a file that is read.
 pub const SAME_FILE: &str = "error: --history names a file that is read\n";
@@ -149,6 +160,18 @@ fn format_of(found: &ArgMatches<'_>, name: &str) -> Option<bool>
     }
 }
 
+// How `check` writes, by the name of its format; none where it has another name.
+fn check_form_of(found: &ArgMatches<'_>) -> Option<CheckForm>
+    ensures { result ≡ check_form_in (words_found found.now) }
+{
+    match word_of(found, "format") {
+        None => Some(CheckForm::Lines),
+        Some(word) if word == "gnu" => Some(CheckForm::Gnu),
+        Some(word) if word == "json" => Some(CheckForm::Json),
+        Some(_) => None,
+    }
+}
+
 fn check_job<'a>(found: &ArgMatches<'a>) -> Option<Job<'a>>
     ensures range { IfSome result IsInRange }
     ensures job { option_map asked_by result ≡ check_in (words_found found.now) }
@@ -156,7 +179,7 @@ fn check_job<'a>(found: &ArgMatches<'a>) -> Option<Job<'a>>
     Some(Job::Check {
         file: word_of(found, "file")?,
         warn: is_given(found, "warn"),
-        gnu: format_of(found, "gnu")?,
+        form: check_form_of(found)?,
     })
 }
 
@@ -187,6 +210,7 @@ fn sample_job<'a>(found: &ArgMatches<'a>) -> Option<Job<'a>>
         arena: arena_of(found)?,
         steps: steps_of(found)?,
         keep: word_of(found, "keep"),
+        json: format_of(found, "json")?,
     })
 }
 
@@ -234,6 +258,7 @@ fn state_job<'a>(found: &ArgMatches<'a>) -> Option<Job<'a>>
         file: word_of(found, "file")?,
         run: viewed_of(found, "history")?,
         at: entries_of(found)?,
+        json: format_of(found, "json")?,
     })
 }
 
@@ -247,6 +272,34 @@ fn ordinal_of(found: &ArgMatches<'_>, id: &str) -> Option<Option<u64>>
     Some(Some(number_within(text, 1, MOST_STEPS)?))
 }
 
+// The columns of lanes, if the option is given.
+fn width_of(found: &ArgMatches<'_>) -> Option<Option<u32>>
+    ensures range { IfSome result (λ width. IfSome width (λ n. (40 ≤ n) × (n ≤ 400))) }
+    ensures number { result ≡ width_in (words_found found.now) }
+{
+    let Some(text) = word_of(found, "width") else {
+        return Some(None);
+    };
+    let width = number_within(text, LEAST_WIDTH, MOST_WIDTH)?;
+    Some(Some(width as u32))
+}
+
+// How `trace` writes. A width without lanes has no meaning, nor have lanes in a format.
+fn trace_form_of(found: &ArgMatches<'_>) -> Option<TraceForm>
+    ensures range { IfSome result IsTraceForm }
+    ensures form { result ≡ trace_form_in (words_found found.now) }
+{
+    let width = width_of(found)?;
+    let json = format_of(found, "json")?;
+    match (is_given(found, "lanes"), json, width) {
+        (false, false, None) => Some(TraceForm::Lines),
+        (false, true, None) => Some(TraceForm::Json),
+        (true, false, None) => Some(TraceForm::Lanes(WIDTH)),
+        (true, false, Some(width)) => Some(TraceForm::Lanes(width)),
+        (true, true, _) | (false, _, Some(_)) => None,
+    }
+}
+
 fn trace_job<'a>(found: &ArgMatches<'a>) -> Option<Job<'a>>
     ensures range { IfSome result IsInRange }
     ensures job { option_map asked_by result ≡ trace_in (words_found found.now) }
@@ -258,6 +311,7 @@ fn trace_job<'a>(found: &ArgMatches<'a>) -> Option<Job<'a>>
         last: ordinal_of(found, "to")?,
         process: ordinal_of(found, "process")?,
         cell: word_of(found, "cell"),
+        form: trace_form_of(found)?,
     })
 }
 
@@ -300,6 +354,7 @@ fn why_job<'a>(found: &ArgMatches<'a>) -> Option<Job<'a>>
     Some(Job::Why {
         file: word_of(found, "file")?,
         run: viewed_of(found, "history")?,
+        json: format_of(found, "json")?,
     })
 }
 
@@ -433,6 +488,40 @@ fn command_job<'a>(command: &str, found: &ArgMatches<'a>) -> Option<Job<'a>>
     None
 }
 
+// When the lines of a command have colors; none where the word is another one.
+fn color_of(found: &ArgMatches<'_>) -> Option<ColorWhen>
+    ensures { result ≡ color_by (word_of found.now (codes "color")) }
+{
+    match word_of(found, "color") {
+        None => Some(ColorWhen::Auto),
+        Some(word) if word == "auto" => Some(ColorWhen::Auto),
+        Some(word) if word == "always" => Some(ColorWhen::Always),
+        Some(word) if word == "never" => Some(ColorWhen::Never),
+        Some(_) => None,
+    }
+}
+
+// When lines have colors: where they go to a terminal, if nothing else is said.
+fn color_asked(matches: &ArgMatches<'_>) -> ColorWhen
+    ensures { result ≡ color_in (subcommand_rows_of matches.now) }
+{
+    match matches.subcommand() {
+        Some((_, found)) => color_of(found).unwrap_or(ColorWhen::Auto),
+        None => ColorWhen::Auto,
+    }
+}
+
+// The job of a command, if its colors have a meaning.
+fn colored_job<'a>(command: &str, found: &ArgMatches<'a>) -> Option<Job<'a>>
+    ensures range { IfSome result IsInRange }
+    ensures job { option_map asked_by result ≡ colored_in command.now (words_found found.now) }
+{
+    match color_of(found) {
+        Some(_) => command_job(command, found),
+        None => None,
+    }
+}
+
 // The job of words that `clap` accepted.
 fn job_of<'a>(matches: &ArgMatches<'a>) -> Option<Job<'a>>
     ensures range { IfSome result IsInRange }
@@ -441,7 +530,7 @@ fn job_of<'a>(matches: &ArgMatches<'a>) -> Option<Job<'a>>
     let Some((command, found)) = matches.subcommand() else {
         return Some(Job::Standard);
     };
-    command_job(command, found)
+    colored_job(command, found)
 }
 
 // Whether a flag is given.
@@ -679,10 +768,20 @@ fn histories_of<'a>(alloc: Global, matches: &ArgMatches<'a>) -> Result<Vec<&'a s
 
 // What is said of words that `clap` accepted and that ask for no job.
 fn meaningless(matches: &ArgMatches<'_>) -> &'static str {
-    match matches.subcommand() {
-        Some((_, found)) if word_of(found, "format").is_some() => NO_FORMAT,
-        _ => MISTAKE,
+    let Some((_, found)) = matches.subcommand() else {
+        return MISTAKE;
+    };
+    let has_format = word_of(found, "format").is_some();
+    if has_format && is_given(found, "lanes") {
+        return LANES_TOO;
     }
+    if word_of(found, "width").is_some() && !is_given(found, "lanes") {
+        return NO_LANES;
+    }
+    if color_of(found).is_none() {
+        return NO_COLOR;
+    }
+    if has_format { NO_FORMAT } else { MISTAKE }
 }
 
 // The request of words that `clap` accepted, or what is wrong with them.
@@ -690,6 +789,7 @@ fn request_of<'a>(alloc: Global, matches: &ArgMatches<'a>) -> Result<Request<'a>
     ensures job { IfOk result (λ request. IsInRange request.job) }
     ensures asked { IfOk result (λ request. job_in (subcommand_rows_of matches.now) ≡ Some (asked_by request.job)) }
     ensures long { IfOk result (λ request. request.long ≡ is_long_in (words_found matches.now) (subcommand_rows_of matches.now)) }
+    ensures color { IfOk result (λ request. request.color ≡ color_in (subcommand_rows_of matches.now)) }
     ensures histories { IfOk result (λ request. map (λ history. history.now) request.histories.items ≡ histories_in (subcommand_rows_of matches.now)) }
     ensures sound { IfOk result (λ request. IsWrittenApart request.job × IsOneOrder request.job) }
     ensures mistake { IfErr result (λ usage. IsWant usage
@@ -712,6 +812,7 @@ fn request_of<'a>(alloc: Global, matches: &ArgMatches<'a>) -> Result<Request<'a>
         job,
         histories,
         long,
+        color: color_asked(matches),
     })
 }
 

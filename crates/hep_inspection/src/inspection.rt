@@ -1,7 +1,8 @@
 //! The bytes of a source and a history to what everything holds after the history's first entries.
 ghost use Rattle.std.specs.Prelude.{◌≡◌, ◌≤◌, false, IfErr, IfOk, OnErr, OnOk, take};
 ghost use Rattle.hep_inspection.specs.declared.origin.Origin.TheVariants.{Text};
-ghost use Rattle.hep_inspection.specs.declared.inspection.Inspection.TheVariants.{State};
+ghost use Rattle.hep_inspection.specs.declared.inspection.Inspection.TheVariants.{State, StateJson};
+ghost use Rattle.hep_objects.specs.WhyObjects as objects;
 ghost use Rattle.hep_replay.specs.HistoryPrefix.{first_of};
 ghost use Rattle.hep_replay.specs.Replays.{IsUnmade};
 ghost use Rattle.hep_run.specs.Delivery.{LeavesOfSource};
@@ -16,9 +17,11 @@ ghost use Rattle.hep_outcome.specs.Memory.{MayOpen};
 ghost use Rattle.hep_outcome.specs.Transcripts.{outcome_of};
 
 use crate::origin::{Origin, Recorded, entries_of};
+use crate::timeline::{events_told, lanes_told};
 use hep_core::Core;
 use hep_cover::{History, HistoryPrefix, ReplayFault, replay_first, why_text};
 use hep_image::Image;
+use hep_objects::{state_objects, why_objects};
 use hep_page::{ShownEntries, page_text, picture_text, state_text};
 use hep_run::Run;
 use hep_run::command::{Command, CommandRequest, deliver_source};
@@ -35,14 +38,22 @@ use std::io::{Read, Write};
 pub enum Inspection<'a> {
     /// The state after them: the places of processes, and the values of variables.
     State,
+    /// The same as objects of JSON.
+    StateJson,
     /// A line for each of their steps, as far as these are shown.
     Trace(LineFilter<'a>),
+    /// These lines as lanes of processes, in rows of so many columns.
+    Lanes(LineFilter<'a>, u32),
+    /// These lines as the events of a timeline, in JSON.
+    TraceJson(LineFilter<'a>),
     /// A page that shows their steps in a browser, from the entry with this number on, counted from 1.
     Page(u64),
     /// A picture of them.
     Picture,
     /// Why processes wait after them.
     Why,
+    /// The same as objects of JSON.
+    WhyJson,
 }
 
 /// A history, and what is to be written about its first entries.
@@ -89,6 +100,27 @@ fn state_told(
     }
 }
 
+// The same as objects.
+fn state_objects_told(
+    alloc: Global,
+    source: &[u8],
+    image: Image,
+    arena: u32,
+    entries: &HistoryPrefix<'_>,
+) -> Result<Vec<u8>, ReplayFault>
+    requires some { 1 ≤ arena }
+    requires few { arena ≤ 16777216 }
+    ensures told { IfOk result (λ text. text.items ≡ told StateJson source.now image (first_of entries.now)) }
+    ensures possible { OnOk result (CanBeMade image arena (first_of entries.now)) }
+    ensures unmade { IfErr result (IsUnmade image arena (first_of entries.now)) }
+{
+    let state = state_told(alloc, source, image, arena, entries)?;
+    match state_objects(alloc, &state) {
+        Ok(text) => Ok(text),
+        Err(_) => Err(ReplayFault::NoMemory),
+    }
+}
+
 // Why processes wait after entries, which are made for it.
 fn why_told(
     alloc: Global,
@@ -109,6 +141,26 @@ fn why_told(
     }
 }
 
+// The same as objects.
+fn why_objects_told(
+    alloc: Global,
+    image: Image,
+    arena: u32,
+    entries: &HistoryPrefix<'_>,
+) -> Result<Vec<u8>, ReplayFault>
+    requires some { 1 ≤ arena }
+    requires few { arena ≤ 16777216 }
+    ensures told { IfOk result (λ text. text.items ≡ objects.why_objects (reasons.why_text image (first_of entries.now))) }
+    ensures possible { OnOk result (CanBeMade image arena (first_of entries.now)) }
+    ensures unmade { IfErr result (IsUnmade image arena (first_of entries.now)) }
+{
+    let why = why_told(alloc, image, arena, entries)?;
+    match why_objects(alloc, &why) {
+        Ok(text) => Ok(text),
+        Err(_) => Err(ReplayFault::NoMemory),
+    }
+}
+
 // The text about entries, which are made once for it.
 fn told_text(
     alloc: Global,
@@ -123,8 +175,19 @@ fn told_text(
 {
     match asked.options.telling {
         Inspection::State => state_told(alloc, source, image, asked.options.arena, entries),
+        Inspection::StateJson => {
+            state_objects_told(alloc, source, image, asked.options.arena, entries)
+        }
         Inspection::Trace(page) => {
             trace_history(alloc, image, asked.options.arena, entries, &page)
+        }
+        Inspection::Lanes(page, columns) => {
+            let trace = trace_history(alloc, image, asked.options.arena, entries, &page)?;
+            lanes_told(alloc, columns, &trace)
+        }
+        Inspection::TraceJson(page) => {
+            let trace = trace_history(alloc, image, asked.options.arena, entries, &page)?;
+            events_told(alloc, &trace)
         }
         Inspection::Page(first) => {
             let shown = ShownEntries {
@@ -135,6 +198,7 @@ fn told_text(
         }
         Inspection::Picture => picture_text(alloc, image, asked.options.arena, entries),
         Inspection::Why => why_told(alloc, image, asked.options.arena, entries),
+        Inspection::WhyJson => why_objects_told(alloc, image, asked.options.arena, entries),
     }
 }
 

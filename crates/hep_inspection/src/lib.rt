@@ -10,6 +10,7 @@ pub mod inspection;
 pub mod origin;
 pub mod races;
 mod replay_result;
+mod timeline;
 
 pub use cover::cover_noted;
 pub use cover_options::CoverOptions;
@@ -19,10 +20,10 @@ pub use hep_cover::{Choices, HistFault, read_text};
 pub use hep_outcome::nth_options;
 pub use hep_page::state_text;
 pub use hep_run::{
-    Check, Command, CommandRequest, GnuRequest, List, LotOptions, NoGate, Options, ReadFault,
-    ReplayOptions, Run, SampleOptions, Warn, WorkOptions, WorkRequest, answer, choices_of,
-    deliver_source, followed_of, gnu_source, history_text, lots_history, put_text, read_text_file,
-    sample_bytes, say_unread, say_unwritten, work_noted,
+    Check, Command, CommandRequest, DiagnosticFormat, DiagnosticsRequest, List, LotOptions, NoGate,
+    Options, ReadFault, ReplayOptions, Run, Sample, SampleOptions, Warn, WorkOptions, WorkRequest,
+    answer, choices_of, deliver_source, diagnostics_source, followed_of, history_text,
+    lots_history, put_text, read_text_file, sample_bytes, say_unread, say_unwritten, work_noted,
 };
 pub use hep_state_text::Listing;
 pub use hep_trace::LineFilter;

@@ -3,6 +3,7 @@ pub use Rattle.hep_replay.proofs.SilentChoices
 pub mod RunsByLots
 mod MadeTranscripts
 mod Worked
+mod WorkedTallies
 pub mod Schedules
 pub mod Outcomes
 mod LotDraws

@@ -1,8 +1,10 @@
 -- The outcomes of many runs by lots, counted: docs/RUNS.md, "Lots".
-use Rattle.std.specs.Prelude.{◌≡◌, ℕ, suc, ◌+◌, ◌-◌, ◌%◌, ◌&&◌, Bool, nat_eq, if◌then◌else◌, List, [], ◌∷◌, ◌++◌, codes}
+use Rattle.std.specs.Prelude.{◌≡◌, ℕ, suc, ◌+◌, ◌-◌, ◌%◌, ◌&&◌, Bool, nat_eq, if◌then◌else◌, List, [], ◌∷◌, ◌++◌, codes, length}
 use Rattle.std.specs.Fmt.{decimal}
 use Rattle.std.specs.List.{flat_map}
 use Rattle.std.specs.Str.{bytes_eq}
+use Rattle.hep_json.specs.Strings.{json_strings}
+use Rattle.hep_text.specs.Line.{lines}
 use Rattle.hep_outcome.specs.declared.options.LotOptions.{LotOptions}
 use Rattle.hep_outcome.specs.declared.options.SampleOptions.{SampleOptions}
 use Rattle.hep_outcome.specs.Outcome.{Outcome}
@@ -67,3 +69,27 @@ tally_text runs t = count_text runs t ++ (seed_text t.seed ++ t.lines)
 -- an outcome that no lot shows may still be possible
 abbrev pub sample_text : ℕ → List Tally → List ℕ
 sample_text runs ts = flat_map (tally_text runs) ts ++ codes "OTHER OUTCOMES MAY BE POSSIBLE\n"
+
+-- ---- objects of JSON, one a line: docs/RUNS.md, "JSON"
+
+-- the front of an object: the status, the number of the runs and the seed of the first one
+abbrev pub tally_members : ℕ → ℕ → ℕ → List ℕ
+tally_members status count seed =
+    codes "{\"status\":" ++ decimal status ++ codes ",\"count\":" ++ decimal count ++ codes ",\"first_seed\":" ++ decimal seed ++ codes ",\"lines\":"
+
+-- an outcome, with its lines
+abbrev pub tally_object : Tally → List ℕ
+tally_object t = tally_members t.status t.count t.seed ++ json_strings (lines t.lines) ++ codes "}\n"
+
+-- how many runs and how many outcomes there are; an outcome that no lot shows may still be possible
+abbrev pub totals_object : ℕ → ℕ → List ℕ
+totals_object runs outcomes =
+    codes "{\"runs\":" ++ decimal runs ++ codes ",\"outcomes\":" ++ decimal outcomes ++ codes ",\"others_possible\":true}\n"
+
+abbrev pub sample_objects : ℕ → List Tally → List ℕ
+sample_objects runs ts = flat_map tally_object ts ++ totals_object runs (length ts)
+
+-- ---- by what is asked for
+
+abbrev pub sample_by : Bool → ℕ → List Tally → List ℕ
+sample_by json runs ts = if json then sample_objects runs ts else sample_text runs ts

@@ -68,6 +68,8 @@ pub struct SampleOptions {
     pub seed: u64,
     /// The number of runs.
     pub runs: u32,
+    /// Whether the outcomes are written as objects of JSON.
+    pub json: bool,
     ghost some: { 1 ≤ arena },
     ghost few: { arena ≤ 16777216 },
     ghost one: { 1 ≤ seed },

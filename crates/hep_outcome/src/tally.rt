@@ -1,12 +1,16 @@
 //! Tallies of many runs by lots.
 ghost use Rattle.std.specs.Prelude.{◌≡◌, ◌≤◌, ◌+◌, ◌++◌, map, IfOk, OnOk};
+ghost use Rattle.hep_json.specs.Strings.{json_strings};
+ghost use Rattle.hep_text.specs.Line.{lines};
 ghost use Rattle.hep_outcome.specs.Tallies as spec;
 ghost use Rattle.hep_outcome.specs.Tallies.{IsNth, Tally as Counted, counted, sample_text, tally_text};
 ghost use Rattle.hep_outcome.specs.Transcripts.{outcome_of};
 
 use crate::options::{LotOptions, SampleOptions};
 use crate::transcript::Transcript;
+use hep_json::append_json_item;
 use hep_output::append_number;
+use hep_text::line::next_line;
 use std::alloc::{AllocError, Global};
 use std::marker::Model;
 
@@ -38,6 +42,46 @@ fn append_seed(text: &mut Vec<u8>, seed: u64) -> Result<(), AllocError>
     append_number(text, seed)?;
     text.extend_from_slice(b"\n")?;
     Ok(())
+}
+
+// Appends the front of the object of an outcome.
+fn append_members(text: &mut Vec<u8>, status: u8, count: u64, seed: u64) -> Result<(), AllocError>
+    ensures { OnOk result (text.new.items ≡ text.old.items ++ spec.tally_members status count seed) }
+{
+    text.extend_from_slice(b"{\"status\":")?;
+    append_number(text, status)?;
+    text.extend_from_slice(b",\"count\":")?;
+    append_number(text, count)?;
+    text.extend_from_slice(b",\"first_seed\":")?;
+    append_number(text, seed)?;
+    text.extend_from_slice(b",\"lines\":")
+}
+
+// Appends the lines of a text as an array of strings.
+fn append_line_strings(text: &mut Vec<u8>, bytes: &[u8]) -> Result<(), AllocError>
+    ensures { OnOk result (text.new.items ≡ text.old.items ++ json_strings (lines bytes.now)) }
+{
+    text.extend_from_slice(b"[")?;
+    let mut rest = bytes;
+    let mut follows = false;
+    while !rest.is_empty() {
+        let (line, after) = next_line(rest);
+        append_json_item(text, follows, line)?;
+        rest = after;
+        follows = true;
+    }
+    text.extend_from_slice(b"]")
+}
+
+// Appends the object with the numbers of runs and of outcomes.
+fn append_totals(text: &mut Vec<u8>, runs: u32, outcomes: usize) -> Result<(), AllocError>
+    ensures { OnOk result (text.new.items ≡ text.old.items ++ spec.totals_object runs outcomes) }
+{
+    text.extend_from_slice(b"{\"runs\":")?;
+    append_number(text, runs)?;
+    text.extend_from_slice(b",\"outcomes\":")?;
+    append_number(text, outcomes)?;
+    text.extend_from_slice(b",\"others_possible\":true}\n")
 }
 
 impl Tally {
@@ -103,6 +147,15 @@ impl Tally {
         text.extend_from_slice(&self.lines)?;
         Ok(())
     }
+
+    // Appends it as an object.
+    fn append_object(&self, text: &mut Vec<u8>) -> Result<(), AllocError>
+        ensures { OnOk result (text.new.items ≡ text.old.items ++ spec.tally_object self.now) }
+    {
+        append_members(text, self.status, self.count, self.seed)?;
+        append_line_strings(text, &self.lines)?;
+        text.extend_from_slice(b"}\n")
+    }
 }
 
 /// Counts a run.
@@ -142,12 +195,8 @@ pub fn nth_options(options: &SampleOptions, run: u32) -> LotOptions
     }
 }
 
-/// The text of tallies of `runs` runs.
-///
-/// # Errors
-///
-/// Only where memory was refused.
-pub fn text_of(alloc: Global, runs: u32, tallies: &[Tally]) -> Result<Vec<u8>, AllocError>
+// The lines of tallies of `runs` runs.
+fn lines_of(alloc: Global, runs: u32, tallies: &[Tally]) -> Result<Vec<u8>, AllocError>
     ensures { IfOk result (λ text. text.items ≡ sample_text runs tallies.now) }
 {
     let mut text = Vec::new(alloc);
@@ -156,6 +205,37 @@ pub fn text_of(alloc: Global, runs: u32, tallies: &[Tally]) -> Result<Vec<u8>, A
     }
     text.extend_from_slice(b"OTHER OUTCOMES MAY BE POSSIBLE\n")?;
     Ok(text)
+}
+
+// The objects of tallies of `runs` runs.
+fn objects_of(alloc: Global, runs: u32, tallies: &[Tally]) -> Result<Vec<u8>, AllocError>
+    ensures { IfOk result (λ text. text.items ≡ spec.sample_objects runs tallies.now) }
+{
+    let mut text = Vec::new(alloc);
+    for tally in tallies {
+        tally.append_object(&mut text)?;
+    }
+    append_totals(&mut text, runs, tallies.len())?;
+    Ok(text)
+}
+
+/// The text of tallies of all runs: lines, or objects of JSON.
+///
+/// # Errors
+///
+/// Only where memory was refused.
+pub fn text_of(
+    alloc: Global,
+    options: &SampleOptions,
+    tallies: &[Tally],
+) -> Result<Vec<u8>, AllocError>
+    ensures { IfOk result (λ text. text.items ≡ spec.sample_by options.now.json options.now.runs tallies.now) }
+{
+    if options.json {
+        objects_of(alloc, options.runs, tallies)
+    } else {
+        lines_of(alloc, options.runs, tallies)
+    }
 }
 
 /// The seeds of the first runs.

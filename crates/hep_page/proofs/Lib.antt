@@ -6,6 +6,5 @@ mod StateViews
 mod NextTurns
 mod NotedTurns
 pub mod PagesOfCores
-pub mod Ranges
 pub mod Products
 pub mod Reversed

@@ -7,7 +7,6 @@ pub mod Templates
 pub mod Pages
 pub mod Worked
 pub mod ChangeLogs
-pub mod TurnMarks
 pub mod LaneSpots
 pub mod PictureShapes
 pub mod PicturePaths

@@ -7,8 +7,8 @@ use Rattle.hep_text.specs.Line as text
 use Rattle.hep_page.specs.Html.{html}
 use Rattle.hep_page.specs.LaneSpots.{Scale, fields_of, parts, scale_of, spots_of}
 use Rattle.hep_page.specs.PicturePaths.{run_text}
-use Rattle.hep_page.specs.TurnMarks.{after_blank, deed_of, first_word, from_unit, higher, highest_process, kind_of, mark_of, process_of}
-use Rattle.hep_page.specs.TurnMarks.{rank}
+use Rattle.hep_timeline.specs.TurnMarks.{after_blank, deed_of, first_word, from_unit, higher, highest_process, mark_of}
+use Rattle.hep_timeline.specs.TraceLines.{line_of, waits}
 use Rattle.hep_page.specs.declared.lane_lines.LaneLines.{LaneLines}
 use Rattle.hep_page.specs.declared.lane_spot.LaneSpot.{LaneSpot}
 use Rattle.hep_page.specs.declared.picture_frame.PictureFrame.{PictureFrame}
@@ -16,7 +16,7 @@ use Rattle.hep_page.specs.declared.picture_parts.PictureParts.{PictureParts}
 use Rattle.hep_page.specs.declared.picture_template.TheConstants.{ALL_NAMES, BEGINS, COLUMNS, DEFINED, DESCRIPTION, FOLDED, HEADING}
 use Rattle.hep_page.specs.declared.picture_template.TheConstants.{LEGEND, NAME, NAMES}
 use Rattle.hep_page.specs.declared.picture_template.TheConstants.{ROLE, SHOWN, STYLE, TITLE, WANT}
-use Rattle.hep_page.specs.declared.turn_mark.TurnMark.{TurnMark}
+use Rattle.hep_timeline.specs.declared.turn_mark.TurnMark.{TurnMark}
 
 -- ---- lanes
 
@@ -29,20 +29,11 @@ pub record Lane : Type 0 where
 abbrev pub lane_of : LaneLines → Lane
 lane_of lane = record { number = lane.number; first = lane.first.now; last = lane.last.now }
 
--- the first of some lines that is of this process, or nothing
-abbrev pub line_of : ℕ → List (List ℕ) → List ℕ
-line_of p [] = []
-line_of p (line ∷ lines) = if nat_eq (process_of line) p then line else line_of p lines
-
 abbrev pub lane_in : List (List ℕ) → List (List ℕ) → ℕ → Lane
 lane_in lines back p = record { number = p; first = line_of p lines; last = line_of p back }
 
 abbrev pub lanes_of : List (List ℕ) → List ℕ → List Lane
 lanes_of lines numbers = map (lane_in lines (reverse lines)) numbers
-
--- whether the turn of a line found its process waiting
-abbrev pub waits : List ℕ → Bool
-waits line = nat_eq (rank (kind_of (first_word (deed_of line)))) 5
 
 -- ---- the frame
 

@@ -1,14 +1,12 @@
 //! The first line and the last one of each process.
 ghost use Rattle.std.specs.Prelude.{◌≡◌, ◌++◌, ◌+◌, ◌*◌, IfOk, OnOk, map, reverse};
 ghost use Rattle.std.specs.List.{flat_map};
-ghost use Rattle.hep_text.specs.Line as lines_of_text;
 ghost use Rattle.hep_page.specs.Pictures as words;
 
 use crate::html::append_html;
 use crate::picture_paths::{append_with, times_and};
 use crate::picture_template::{NAME, WANT};
-use crate::turn_mark::{after_blank, deed_of, first_word, from_unit, kind_of, process_of, rank};
-use hep_text::line::next_line;
+use hep_timeline::{after_blank, deed_of, first_word, from_unit, line_of, waits};
 use std::alloc::{AllocError, Global};
 
 /// A process, and the lines of its first turn and of its last one.
@@ -17,36 +15,6 @@ pub struct LaneLines<'a> {
     pub number: u64,
     pub first: &'a [u8],
     pub last: &'a [u8],
-}
-
-/// The lines of a text.
-///
-/// # Errors
-///
-/// Only where memory was refused.
-pub(crate) fn lines_of(alloc: Global, text: &[u8]) -> Result<Vec<&[u8]>, AllocError>
-    ensures { IfOk result (λ found. map (λ line. line.now) found.items ≡ lines_of_text.lines text.now) }
-{
-    let mut found = Vec::new(alloc);
-    let mut rest = text;
-    while !rest.is_empty() {
-        let (line, after) = next_line(rest);
-        found.push(line)?;
-        rest = after;
-    }
-    Ok(found)
-}
-
-// The first of some lines that is of process p, or nothing.
-fn line_of<'a>(p: u64, lines: &[&'a [u8]]) -> &'a [u8]
-    ensures { result.now ≡ words.line_of p (map (λ line. line.now) lines.now) }
-{
-    for line in lines {
-        if process_of(line) == p {
-            return line;
-        }
-    }
-    b""
 }
 
 // The lines of processes, by all lines in order, and from the last one on.
@@ -95,13 +63,6 @@ pub(crate) fn lanes_of<'a>(
 {
     let back = reversed(alloc, lines)?;
     lanes_by(alloc, lines, &back, numbers)
-}
-
-// Whether the turn of a line found its process waiting.
-fn waits(line: &[u8]) -> bool
-    ensures { result ≡ words.waits line.now }
-{
-    rank(kind_of(first_word(deed_of(line)))) == 5
 }
 
 // Appends who waits, where and for what.

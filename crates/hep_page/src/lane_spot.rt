@@ -1,10 +1,9 @@
 //! What the lane of a process shows in each column of a picture.
 ghost use Rattle.std.specs.Prelude.{◌≡◌, ◌++◌, ◌^◌, ◌<◌, ◌≤◌, IfOk, OnOk, length};
-ghost use Rattle.std.specs.List.{range_with_len};
 ghost use Rattle.hep_page.specs.LaneSpots as words;
 
 use crate::picture_scale::PictureScale;
-use crate::turn_mark::{TurnKind, TurnMark, rank};
+use hep_timeline::{TurnKind, TurnMark, rank};
 use std::alloc::{AllocError, Global};
 
 /// What a lane shows in a column.
@@ -171,22 +170,4 @@ pub(crate) fn spots_of(
         append_lane(&mut spots, marks, scale.turns, *p)?;
     }
     Ok(spots)
-}
-
-/// Numbers in a row, from 0 or 1 on.
-///
-/// # Errors
-///
-/// Only where memory was refused.
-#[tactic(auto, using(crate::proofs::Ranges::range_cut))]
-pub(crate) fn numbers(alloc: Global, first: u64, count: u64) -> Result<Vec<u64>, AllocError>
-    requires first { first ≤ 1 }
-    requires few { count < 2 ^ 63 }
-    ensures { IfOk result (λ numbers. numbers.items ≡ range_with_len first count) }
-{
-    let mut numbers = Vec::new(alloc);
-    for before in 0..count {
-        numbers.push(first + before)?;
-    }
-    Ok(numbers)
 }

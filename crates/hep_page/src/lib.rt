@@ -29,7 +29,6 @@ pub mod run_picture;
 mod source_lines;
 pub mod state_view;
 mod template;
-mod turn_mark;
 
 pub use changes::append_change;
 pub use edit::append_edit;

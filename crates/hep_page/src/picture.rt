@@ -3,10 +3,8 @@ ghost use Rattle.std.specs.Prelude.{◌≡◌, ◌++◌, IfOk, OnOk, map};
 ghost use Rattle.hep_page.specs.LaneSpots.{fields_of};
 ghost use Rattle.hep_page.specs.Pictures as words;
 
-use crate::lane_lines::{
-    LaneLines, append_description, append_ends, append_names, lanes_of, lines_of,
-};
-use crate::lane_spot::{numbers, scale_of, spots_of};
+use crate::lane_lines::{LaneLines, append_description, append_ends, append_names, lanes_of};
+use crate::lane_spot::{scale_of, spots_of};
 use crate::picture_frame::{
     PictureFrame, append_end_place, append_rows, append_ticks, append_title, frame_of, height_of,
     main_unit, width_of,
@@ -17,7 +15,7 @@ use crate::picture_scale::PictureScale;
 use crate::picture_template::{
     ALL_NAMES, BEGINS, DEFINED, DESCRIPTION, HEADING, LEGEND, ROLE, STYLE, TITLE,
 };
-use crate::turn_mark::marks_of;
+use hep_timeline::{lines_of, marks_of, numbers};
 use std::alloc::{AllocError, Global};
 
 fn title_of(

@@ -4,11 +4,11 @@ ghost use Rattle.hep_page.specs.LaneSpots.{fields_of};
 ghost use Rattle.hep_page.specs.Pictures as words;
 
 use crate::html::append_html;
-use crate::lane_spot::{numbers, parts};
+use crate::lane_spot::parts;
 use crate::picture_paths::{append_with, times_and};
 use crate::picture_scale::PictureScale;
 use crate::picture_template::{COLUMNS, FOLDED, NAMES, SHOWN};
-use crate::turn_mark::{TurnMark, first_word, from_unit, highest_process};
+use hep_timeline::{TurnMark, first_word, from_unit, highest_process, numbers};
 use std::alloc::{AllocError, Global};
 
 /// How much a picture has.

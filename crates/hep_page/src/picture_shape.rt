@@ -2,7 +2,7 @@
 ghost use Rattle.std.specs.Prelude.{◌≡◌, ◌++◌, OnOk};
 ghost use Rattle.hep_page.specs.PictureShapes as words;
 
-use crate::turn_mark::TurnKind;
+use hep_timeline::TurnKind;
 use std::alloc::AllocError;
 
 /// The kinds, those that matter more over the others.

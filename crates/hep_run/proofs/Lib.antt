@@ -5,6 +5,7 @@ pub mod NoHistory
 pub mod Outcomes
 pub mod LargeSources
 mod RefusalNotes
-mod GnuErrors
+mod DiagnosedRefusals
 mod Worked
+mod WorkedDiagnostics
 pub mod Wanted

@@ -3,7 +3,7 @@ pub mod Notes
 pub mod Outcome
 pub mod Workers
 pub mod Checks
-pub mod Gnu
+pub mod Diagnostics
 pub mod Refusals
 pub mod Memory
 pub mod Transcripts

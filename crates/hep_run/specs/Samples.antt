@@ -5,7 +5,7 @@ use Rattle.hep_outcome.specs.Histories.{history_text}
 use Rattle.hep_outcome.specs.declared.options.LotOptions.{LotOptions}
 use Rattle.hep_outcome.specs.declared.options.SampleOptions.{SampleOptions}
 use Rattle.hep_outcome.specs.Outcome.{Outcome}
-use Rattle.hep_outcome.specs.Tallies.{IsNth, Tally, sample_text, tallied}
+use Rattle.hep_outcome.specs.Tallies.{IsNth, Tally, sample_by, tallied}
 use Rattle.hep_run.specs.Checks.{outcome_of_text}
 use Rattle.hep_run.specs.Outcome.{IsLotOutcome, RunsTo}
 use Rattle.hep_run.specs.Sources.{IsRunnableSource}
@@ -27,7 +27,7 @@ IsTallied long options source runs ts = (outcomes : List Outcome) × AreRuns lon
 abbrev pub IsSampled : Bool → SampleOptions → List ℕ → List ℕ → Outcome → Type 0
 IsSampled long options source seeds o =
     (ts : List Tally) × IsTallied long options source options.runs ts × (seeds ≡ map (λ (t : Tally). t.seed) ts)
-    × (o ≡ outcome_of_text (sample_text options.runs ts))
+    × (o ≡ outcome_of_text (sample_by options.json options.runs ts))
 
 -- the outcome of a sample of a source: why it isn't run, or its runs, counted
 abbrev pub IsSampleOutcome : Bool → SampleOptions → List ℕ → List ℕ → Outcome → Type 0

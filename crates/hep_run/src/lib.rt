@@ -7,9 +7,9 @@ pub mod checks;
 pub mod command;
 pub mod companion_files;
 pub mod delivery;
+mod diagnostic_lines;
+pub mod diagnostics;
 pub mod front_end;
-pub mod gnu;
-mod gnu_lines;
 pub mod input;
 pub mod options;
 pub mod refusal;
@@ -25,7 +25,7 @@ pub use companion_files::{
     answer, choices_of, followed_of, history_text, read_text_file, say_unread, say_unwritten,
 };
 pub use delivery::put_text;
-pub use gnu::{GnuRequest, gnu_source};
+pub use diagnostics::diagnostics_source;
 pub use hep_check::{Checked, check};
 pub use hep_lower::lower;
 pub use hep_outcome::{
@@ -39,7 +39,7 @@ pub use hep_workers::{
     WorkFault, WorkOptions, close, compute, run_workers, worker_turn,
 };
 pub use input::ReadFault;
-pub use options::{Run, WorkRequest};
+pub use options::{DiagnosticFormat, DiagnosticsRequest, Run, WorkRequest};
 pub use run_by_workers::{work_noted, work_source};
 pub use sample::{Sample, lots_history, sample_bytes};
 pub use source::{check_source, list_source, lots_noted, replay_source, run_source, warn_source};

@@ -1,4 +1,4 @@
-//! The options of a run by workers, and the result of a run.
+//! The options of a run by workers and of `check --format`, and the result of a run.
 ghost use Rattle.std.specs.Prelude.{◌≡◌};
 ghost use Rattle.hep_outcome.specs.Statuses.{status_code};
 
@@ -14,6 +14,25 @@ pub struct WorkRequest<'a, H, G> {
     pub options: &'a WorkOptions,
     /// The gate that makes the private steps of workers.
     pub gate: &'a G,
+}
+
+/// How a refusal or a warning is written.
+#[derive(Clone, Copy)]
+pub enum DiagnosticFormat {
+    /// As GNU compilers write it, to standard error.
+    Gnu,
+    /// As an object of JSON, to standard output.
+    Json,
+}
+
+/// What `check --format` is asked for.
+#[derive(Clone, Copy)]
+pub struct DiagnosticsRequest<'a> {
+    /// The name of the file that has the source, as each line has it.
+    pub file: &'a [u8],
+    pub format: DiagnosticFormat,
+    /// Whether warnings are written too.
+    pub warn: bool,
 }
 
 /// The result of a run.

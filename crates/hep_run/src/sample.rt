@@ -57,7 +57,7 @@ fn counted_transcript(
     ensures { IfOk result (λ made. IsSampled long options.now source.now made.1.items (outcome_of made.0)) }
 {
     let tallies = tallies_of(alloc, source, options, long)?;
-    let text = text_of(alloc, options.runs, &tallies)?;
+    let text = text_of(alloc, options, &tallies)?;
     let seeds = seeds_of(alloc, &tallies)?;
     Ok((text_transcript(alloc, text), seeds))
 }

@@ -6,17 +6,22 @@
 
 ghost use Rattle.hep_command.specs.Jobs.{IsArena, IsInRange, IsSeed, IsViewInRange};
 
-use hep_command::{Job, PageForm, Request, SAME_FILE, ViewedRun, explain, read_request, same_page};
-use hep_inspection::{
-    Check, Choices, Command, CommandRequest, CoverOptions, DiffOptions, GnuRequest, HistFault,
-    Inspection, InspectionOptions, LineFilter, List, LotOptions, NoGate, Options, Origin,
-    RacesOptions, ReadFault, ReplayOptions, Run, SampleOptions, Warn, WorkOptions, WorkRequest,
-    answer, choices_of, deliver_source, followed_of, gnu_source, history_text, lots_history,
-    nth_options, put_text, read_text, read_text_file, sample_bytes, say_unread, say_unwritten,
-    work_noted,
+use hep_color::{TextKind, color_text};
+use hep_command::{
+    CheckForm, ColorWhen, Job, PageForm, Request, SAME_FILE, TraceForm, ViewedRun, explain,
+    read_request, same_page,
 };
+use hep_inspection::{
+    Check, Choices, Command, CommandRequest, CoverOptions, DiagnosticFormat, DiagnosticsRequest,
+    DiffOptions, HistFault, Inspection, InspectionOptions, LineFilter, List, LotOptions, NoGate,
+    Options, Origin, RacesOptions, ReadFault, ReplayOptions, Run, Sample, SampleOptions, Warn,
+    WorkOptions, WorkRequest, answer, choices_of, deliver_source, diagnostics_source, followed_of,
+    history_text, lots_history, nth_options, put_text, read_text, read_text_file, sample_bytes,
+    say_unread, say_unwritten, work_noted,
+};
+use std::env::VarError;
 use std::fs::File;
-use std::io::{ErrorKind, Read, Stdin};
+use std::io::{ErrorKind, IsTerminal, Read, Stdin, Write};
 use std::os::unix::fs::MetadataExt;
 use std::process::ExitCode;
 use std::sync::Wait;
@@ -61,12 +66,33 @@ enum Schedule {
     Workers(WorkOptions),
 }
 
-/// A run of a source, and the file to which its history is written.
+/// Which streams get marks of color.
+#[derive(Clone, Copy)]
+struct Screen {
+    output: bool,
+    messages: bool,
+}
+
+/// Of what kind the text on standard output is, where it gets marks of color; and whether standard error does.
+#[derive(Clone, Copy)]
+struct Marks {
+    output: Option<TextKind>,
+    messages: bool,
+}
+
+// No marks.
+const UNMARKED: Marks = Marks {
+    output: None,
+    messages: false,
+};
+
+/// A run of a source, the file to which its history is written, and marks for what it writes.
 #[derive(Drop)]
 struct Plan<'a> {
     file: &'a str,
     history: Option<&'a str>,
     schedule: Schedule,
+    marks: Marks,
 }
 
 /// The entries of a page: the first one whose steps are shown, counted from 1, and the last one that is made.
@@ -266,16 +292,97 @@ fn add<T: Drop>(rt: &HostRuntime, all: &mut Vec<T>, item: T) -> Result<(), u8> {
     }
 }
 
-// Writes what a command gives of a source.
-fn deliver<C: Command>(rt: &HostRuntime, source: &mut Source, options: &C, long: bool) -> Run {
+// Whether an environment variable is set, and isn't empty.
+fn is_set(rt: &HostRuntime, name: &str) -> bool {
+    match env::var(rt, name) {
+        Ok(text) => !text.as_str().is_empty(),
+        Err(VarError::NotPresent) => false,
+        Err(_) => true,
+    }
+}
+
+// Whether the terminal is one that shows no color.
+fn is_dumb(rt: &HostRuntime) -> bool {
+    match env::var(rt, "TERM") {
+        Ok(text) => text.as_str() == "dumb",
+        Err(_) => false,
+    }
+}
+
+// Whether a stream gets marks of color.
+fn is_marked(rt: &HostRuntime, when: ColorWhen, is_terminal: bool) -> bool {
+    match when {
+        ColorWhen::Always => true,
+        ColorWhen::Never => false,
+        ColorWhen::Auto => is_terminal && !is_set(rt, "NO_COLOR") && !is_dumb(rt),
+    }
+}
+
+fn screen_of(rt: &HostRuntime, when: ColorWhen) -> Screen {
+    Screen {
+        output: is_marked(rt, when, rt.stdout().is_terminal()),
+        messages: is_marked(rt, when, rt.stderr().is_terminal()),
+    }
+}
+
+// The marks of a text of this kind on a screen.
+fn marks_of(screen: Screen, kind: Option<TextKind>) -> Marks {
+    Marks {
+        output: if screen.output { kind } else { None },
+        messages: screen.messages,
+    }
+}
+
+// Writes a text to a stream, with marks where it is of a kind that gets them; without them where memory is refused.
+fn put_marked<W: Write>(
+    rt: &HostRuntime,
+    text: &[u8],
+    kind: Option<TextKind>,
+    status: u8,
+    stream: &mut W,
+) -> u8 {
+    if let Some(kind) = kind {
+        if let Ok(colored) = color_text(rt.alloc(), text, kind) {
+            return put_text(&colored, status, stream, &mut rt.stderr());
+        }
+    }
+    put_text(text, status, stream, &mut rt.stderr())
+}
+
+// Writes what was made for both streams, with marks.
+fn put_streams(rt: &HostRuntime, output: &[u8], messages: &[u8], marks: Marks, status: u8) -> u8 {
+    let written = put_marked(rt, output, marks.output, status, &mut rt.stdout());
+    if written != status {
+        return written;
+    }
+    let kind = marks.messages.then_some(TextKind::Outcome);
+    put_marked(rt, messages, kind, status, &mut rt.stderr())
+}
+
+// Writes what a command gives of a source. Only where there are marks is it kept until all is made.
+fn deliver<C: Command>(
+    rt: &HostRuntime,
+    source: &mut Source,
+    options: &C,
+    marks: Marks,
+    long: bool,
+) -> Run {
     let asked = CommandRequest { options, long };
-    deliver_source(
-        rt.alloc(),
-        source,
-        &asked,
-        &mut rt.stdout(),
-        &mut rt.stderr(),
-    )
+    if marks.output.is_none() && !marks.messages {
+        return deliver_source(
+            rt.alloc(),
+            source,
+            &asked,
+            &mut rt.stdout(),
+            &mut rt.stderr(),
+        );
+    }
+    let (mut output, mut messages) = (Vec::new(rt.alloc()), Vec::new(rt.alloc()));
+    let run = deliver_source(rt.alloc(), source, &asked, &mut output, &mut messages);
+    Run {
+        status: put_streams(rt, &output, &messages, marks, run.status),
+        history: run.history,
+    }
 }
 
 // Writes what a command gives of the source in a file.
@@ -283,20 +390,28 @@ fn deliver_file<C: Command>(
     rt: &HostRuntime,
     file: &str,
     options: &C,
+    marks: Marks,
     long: bool,
 ) -> Result<u8, u8> {
     let mut source = source_of(rt, file, long)?;
-    Ok(deliver(rt, &mut source, options, long).status)
+    Ok(deliver(rt, &mut source, options, marks, long).status)
 }
 
-// Writes the lines of a source for an editor.
-fn check_for_editor(rt: &HostRuntime, file: &str, warn: bool, long: bool) -> Result<u8, u8> {
+// Writes what is wrong with a source in a format for other programs.
+fn check_in_format(
+    rt: &HostRuntime,
+    file: &str,
+    format: DiagnosticFormat,
+    warn: bool,
+    long: bool,
+) -> Result<u8, u8> {
     let mut source = source_of(rt, file, long)?;
-    let asked = GnuRequest {
+    let asked = DiagnosticsRequest {
         file: file.as_bytes(),
+        format,
         warn,
     };
-    let run = gnu_source(
+    let run = diagnostics_source(
         rt.alloc(),
         &mut source,
         &asked,
@@ -306,35 +421,53 @@ fn check_for_editor(rt: &HostRuntime, file: &str, warn: bool, long: bool) -> Res
     Ok(run.status)
 }
 
-// Runs a source. `threads` is the runtime itself, which may start threads where it is passed as such.
+// Runs a source by workers. `threads` is the runtime itself, which may start threads where it is passed as such.
+fn work<H: Threads + Wait + Sync>(
+    rt: &HostRuntime,
+    threads: &H,
+    source: &mut Source,
+    asked: (&WorkOptions, Marks),
+    long: bool,
+) -> Run {
+    let (options, marks) = asked;
+    let request = WorkRequest {
+        threads,
+        options,
+        gate: &NoGate,
+    };
+    let asked = CommandRequest {
+        options: &request,
+        long,
+    };
+    if !marks.messages {
+        return work_noted(
+            rt.alloc(),
+            source,
+            &asked,
+            &mut rt.stdout(),
+            &mut rt.stderr(),
+        );
+    }
+    let (mut output, mut messages) = (Vec::new(rt.alloc()), Vec::new(rt.alloc()));
+    let run = work_noted(rt.alloc(), source, &asked, &mut output, &mut messages);
+    Run {
+        status: put_streams(rt, &output, &messages, marks, run.status),
+        history: run.history,
+    }
+}
+
+// Runs a source by a plan.
 fn run_by<H: Threads + Wait + Sync>(
     rt: &HostRuntime,
     threads: &H,
     source: &mut Source,
-    schedule: &Schedule,
+    plan: &Plan<'_>,
     long: bool,
 ) -> Run {
-    match schedule {
-        Schedule::Choices(options) => deliver(rt, source, options, long),
-        Schedule::Lots(options) => deliver(rt, source, options, long),
-        Schedule::Workers(options) => {
-            let request = WorkRequest {
-                threads,
-                options,
-                gate: &NoGate,
-            };
-            let asked = CommandRequest {
-                options: &request,
-                long,
-            };
-            work_noted(
-                rt.alloc(),
-                source,
-                &asked,
-                &mut rt.stdout(),
-                &mut rt.stderr(),
-            )
-        }
+    match &plan.schedule {
+        Schedule::Choices(options) => deliver(rt, source, options, plan.marks, long),
+        Schedule::Lots(options) => deliver(rt, source, options, plan.marks, long),
+        Schedule::Workers(options) => work(rt, threads, source, (options, plan.marks), long),
     }
 }
 
@@ -382,14 +515,39 @@ fn look_at_first(
     Ok(())
 }
 
+// Writes the sample of a source. Only where there are marks is it kept until all is made.
+fn sampled(
+    rt: &HostRuntime,
+    source: &[u8],
+    asked: &CommandRequest<'_, SampleOptions>,
+    marks: Marks,
+) -> Sample {
+    if marks.output.is_none() && !marks.messages {
+        return sample_bytes(
+            rt.alloc(),
+            source,
+            asked,
+            &mut rt.stdout(),
+            &mut rt.stderr(),
+        );
+    }
+    let (mut output, mut messages) = (Vec::new(rt.alloc()), Vec::new(rt.alloc()));
+    let sample = sample_bytes(rt.alloc(), source, asked, &mut output, &mut messages);
+    Sample {
+        status: put_streams(rt, &output, &messages, marks, sample.status),
+        seeds: sample.seeds,
+    }
+}
+
 // Samples a source. If all was written and histories have to be kept, writes those of the first runs.
 fn sample_file(
     rt: &HostRuntime,
     file: &str,
-    options: &SampleOptions,
+    asked: &CommandRequest<'_, SampleOptions>,
     keep: Option<&str>,
-    long: bool,
+    screen: Screen,
 ) -> Result<u8, u8> {
+    let (options, long) = (asked.options, asked.long);
     let source = read_text_file(
         rt.alloc(),
         &mut source_of(rt, file, long)?,
@@ -398,14 +556,8 @@ fn sample_file(
     if let Some(prefix) = keep {
         look_at_first(rt, file, prefix, options.seed, long)?;
     }
-    let asked = CommandRequest { options, long };
-    let sample = sample_bytes(
-        rt.alloc(),
-        &source,
-        &asked,
-        &mut rt.stdout(),
-        &mut rt.stderr(),
-    );
+    let marks = marks_of(screen, Some(TextKind::Outcome));
+    let sample = sampled(rt, &source, asked, marks);
     if sample.status != 0 {
         return Ok(sample.status);
     }
@@ -526,6 +678,7 @@ fn covered<'a>(
         steps: run.steps,
         seed: first_seed(run),
         runs: runs.unwrap_or(1),
+        json: false,
     };
     viewed_lots(rt, &options)
 }
@@ -567,9 +720,10 @@ fn several_status(rt: &HostRuntime, all: &[Viewed<'_>], status: u8, long: bool) 
 
 // The run that a job asks for, with the choices of its files; without words it is that of standard input with the
 // defaults.
-fn plan_of<'a>(rt: &HostRuntime, job: Job<'a>, long: bool) -> Result<Plan<'a>, u8>
+fn plan_of<'a>(rt: &HostRuntime, job: Job<'a>, screen: Screen, long: bool) -> Result<Plan<'a>, u8>
     requires { IsInRange job }
 {
+    let marks = marks_of(screen, None);
     let Job::Run {
         file,
         arena,
@@ -585,6 +739,7 @@ fn plan_of<'a>(rt: &HostRuntime, job: Job<'a>, long: bool) -> Result<Plan<'a>, u
             file: STANDARD_INPUT,
             history: None,
             schedule: Schedule::Choices(Options::defaults(rt.alloc())),
+            marks,
         });
     };
     if is_over_read(rt, history, file, choices.or(follow)) {
@@ -608,6 +763,7 @@ fn plan_of<'a>(rt: &HostRuntime, job: Job<'a>, long: bool) -> Result<Plan<'a>, u
         file,
         history,
         schedule,
+        marks,
     })
 }
 
@@ -620,10 +776,10 @@ fn run_file<H: Threads + Wait + Sync>(
 ) -> Result<u8, u8> {
     let source = &mut source_of(rt, plan.file, long)?;
     let Some(path) = plan.history else {
-        return Ok(run_by(rt, threads, source, &plan.schedule, long).status);
+        return Ok(run_by(rt, threads, source, plan, long).status);
     };
     let mut kept = kept_file(rt, path, long)?;
-    let run = run_by(rt, threads, source, &plan.schedule, long);
+    let run = run_by(rt, threads, source, plan, long);
     Ok(write_history(rt, &run, path, &mut kept, long))
 }
 
@@ -642,39 +798,58 @@ fn page_of<'a>(
     }
 }
 
+// The kind of the text that is asked for.
+fn kind_of(telling: &Inspection<'_>) -> Option<TextKind> {
+    match telling {
+        Inspection::State | Inspection::Why => Some(TextKind::State),
+        Inspection::Trace(_) => Some(TextKind::Trace),
+        _ => None,
+    }
+}
+
+// What is asked of a run for its steps in a form.
+fn steps_in<'a>(form: TraceForm, page: LineFilter<'a>) -> Inspection<'a> {
+    match form {
+        TraceForm::Lines => Inspection::Trace(page),
+        TraceForm::Lanes(columns) => Inspection::Lanes(page, columns),
+        TraceForm::Json => Inspection::TraceJson(page),
+    }
+}
+
 // Says what is asked of the first entries of a run, up to the last one that is named.
 fn inspect(
     rt: &HostRuntime,
     file: &str,
     run: &ViewedRun<'_>,
-    asked: (Inspection<'_>, Option<u64>),
+    asked: (Inspection<'_>, Option<u64>, Screen),
     long: bool,
 ) -> Result<u8, u8>
     requires { IsViewInRange run.now }
 {
     let viewed = viewed_run(rt, run, long)?;
-    let (telling, last) = asked;
+    let (telling, last, screen) = asked;
+    let marks = marks_of(screen, kind_of(&telling));
     let options = InspectionOptions {
         telling,
         origin: origin_of(&viewed),
         entries: last.unwrap_or(u64::MAX),
         arena: run.arena,
     };
-    deliver_file(rt, file, &options, long)
+    deliver_file(rt, file, &options, marks, long)
 }
 
 // Makes the steps of the history in a file again.
 fn replay_file(
     rt: &HostRuntime,
     file: &str,
-    history: &str,
-    arena: u32,
+    asked: (&str, u32, Marks),
     long: bool,
 ) -> Result<u8, u8>
-    requires { IsArena arena }
+    requires { IsArena asked.1 }
 {
+    let (history, arena, marks) = asked;
     let history = &file_bytes(rt, history, long)?;
-    deliver_file(rt, file, &ReplayOptions { history, arena }, long)
+    deliver_file(rt, file, &ReplayOptions { history, arena }, marks, long)
 }
 
 // What is asked of a run for a page or a picture.
@@ -744,7 +919,7 @@ fn races_file(rt: &HostRuntime, file: &str, run: &ViewedRun<'_>, long: bool) -> 
         origin: origin_of(&viewed),
         arena: run.arena,
     };
-    deliver_file(rt, file, &options, long)
+    deliver_file(rt, file, &options, UNMARKED, long)
 }
 
 // Says how often the statement of each line began in runs.
@@ -755,7 +930,7 @@ fn cover_file(
     options: &CoverOptions<'_>,
     long: bool,
 ) -> Result<u8, u8> {
-    let status = deliver_file(rt, file, options, long)?;
+    let status = deliver_file(rt, file, options, UNMARKED, long)?;
     Ok(several_status(rt, all, status, long))
 }
 
@@ -776,16 +951,45 @@ fn diff_file(
         second: origin_of(&both[1]),
         arena: run.arena,
     };
-    let status = deliver_file(rt, file, &options, long)?;
+    let status = deliver_file(rt, file, &options, UNMARKED, long)?;
     Ok(several_status(rt, &both, status, long))
 }
 
+// The state, as lines or as objects.
+fn state_telling<'a>(json: bool) -> Inspection<'a> {
+    if json {
+        Inspection::StateJson
+    } else {
+        Inspection::State
+    }
+}
+
+// Why processes wait, as lines or as objects.
+fn why_telling<'a>(json: bool) -> Inspection<'a> {
+    if json {
+        Inspection::WhyJson
+    } else {
+        Inspection::Why
+    }
+}
+
 // Does a job that looks at runs; no other one is passed.
-fn view_job(rt: &HostRuntime, job: Job<'_>, histories: &[&str], long: bool) -> Result<u8, u8>
+fn view_job(
+    rt: &HostRuntime,
+    job: Job<'_>,
+    histories: &[&str],
+    screen: Screen,
+    long: bool,
+) -> Result<u8, u8>
     requires { IsInRange job }
 {
     match job {
-        Job::State { file, run, at } => inspect(rt, file, &run, (Inspection::State, at), long),
+        Job::State {
+            file,
+            run,
+            at,
+            json,
+        } => inspect(rt, file, &run, (state_telling(json), at, screen), long),
         Job::Trace {
             file,
             run,
@@ -793,9 +997,10 @@ fn view_job(rt: &HostRuntime, job: Job<'_>, histories: &[&str], long: bool) -> R
             last,
             process,
             cell,
+            form,
         } => {
             let page = page_of(first, last.unwrap_or(u64::MAX), process, cell);
-            inspect(rt, file, &run, (Inspection::Trace(page), last), long)
+            inspect(rt, file, &run, (steps_in(form, page), last, screen), long)
         }
         Job::Page {
             form,
@@ -811,7 +1016,9 @@ fn view_job(rt: &HostRuntime, job: Job<'_>, histories: &[&str], long: bool) -> R
             };
             page_file(rt, file, &run, (form, page, shown), long)
         }
-        Job::Why { file, run } => inspect(rt, file, &run, (Inspection::Why, None), long),
+        Job::Why { file, run, json } => {
+            inspect(rt, file, &run, (why_telling(json), None, screen), long)
+        }
         Job::Races { file, run } => races_file(rt, file, &run, long),
         Job::Cover {
             file,
@@ -859,25 +1066,42 @@ fn done<H: Threads + Wait + Sync>(
         job,
         histories,
         long,
+        color,
+        ..
     } = request;
+    let screen = screen_of(rt, color);
+    let marks = marks_of(screen, None);
     match job {
-        Job::Standard | Job::Run { .. } => run_file(rt, threads, &plan_of(rt, job, long)?, long),
+        Job::Standard | Job::Run { .. } => {
+            run_file(rt, threads, &plan_of(rt, job, screen, long)?, long)
+        }
         Job::Check {
             file,
             warn,
-            gnu: true,
-        } => check_for_editor(rt, file, warn, long),
+            form: CheckForm::Gnu,
+        } => check_in_format(rt, file, DiagnosticFormat::Gnu, warn, long),
+        Job::Check {
+            file,
+            warn,
+            form: CheckForm::Json,
+        } => check_in_format(rt, file, DiagnosticFormat::Json, warn, long),
         Job::Check {
             file,
             warn: false,
             ..
-        } => deliver_file(rt, file, &Check, long),
+        } => deliver_file(rt, file, &Check, marks, long),
         Job::Check {
             file,
             warn: true,
             ..
-        } => deliver_file(rt, file, &Warn, long),
-        Job::List { file } => deliver_file(rt, file, &List, long),
+        } => deliver_file(
+            rt,
+            file,
+            &Warn,
+            marks_of(screen, Some(TextKind::Outcome)),
+            long,
+        ),
+        Job::List { file } => deliver_file(rt, file, &List, marks, long),
         Job::Sample {
             file,
             runs,
@@ -885,20 +1109,27 @@ fn done<H: Threads + Wait + Sync>(
             arena,
             steps,
             keep,
+            json,
+            ..
         } => {
             let options = SampleOptions {
                 arena,
                 steps,
                 seed,
                 runs,
+                json,
             };
-            sample_file(rt, file, &options, keep, long)
+            let asked = CommandRequest {
+                options: &options,
+                long,
+            };
+            sample_file(rt, file, &asked, keep, screen)
         }
         Job::Replay {
             file,
             history,
             arena,
-        } => replay_file(rt, file, history, arena, long),
+        } => replay_file(rt, file, (history, arena, marks), long),
         Job::Explain {
             first,
             second,
@@ -913,7 +1144,7 @@ fn done<H: Threads + Wait + Sync>(
         | Job::Why { .. }
         | Job::Races { .. }
         | Job::Cover { .. }
-        | Job::Diff { .. } => view_job(rt, job, &histories, long),
+        | Job::Diff { .. } => view_job(rt, job, &histories, screen, long),
     }
 }
 

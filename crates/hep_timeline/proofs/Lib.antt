@@ -1,0 +1,5 @@
+pub mod Ranges
+pub mod Ends
+pub mod Effects
+pub mod Fronts
+mod Worked
