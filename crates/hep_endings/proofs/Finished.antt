@@ -108,7 +108,7 @@ module _ (program : Units) where
       entries_wait history (record { state = opening program; listed = [] }) (λ w among. absurd cc) legal.entries
 
   -- after a legal history that is over
-  idle_after : (cells limit : ℕ) (history : List Entry) → IsLegal program cells limit history → IsFinished program history
+  pub idle_after : (cells limit : ℕ) (history : List Entry) → IsLegal program cells limit history → IsFinished program history
       → IsTerminal program (state_after program history)
   idle_after cells limit history legal (inl halted) q = halted_stays program q (state_after program history) halted
   idle_after cells limit history legal (inr none) q =

@@ -61,7 +61,7 @@ module _ (program : Units) (small large : ℕ) (le : small ≤ large) where
       ∙ (sym (ap (option_map (remaining_layout is_held t)) new.1) ∙ e)
 
   -- where a frame had no gap, there is no layout from there on
-  none_stays : (ps : List ℕ) (s : State) → (placing_from program small is_held (record { state = s; layout = None }) ps).layout ≡ None
+  pub none_stays : (ps : List ℕ) (s : State) → (placing_from program small is_held (record { state = s; layout = None }) ps).layout ≡ None
   unfolding placing_from
   none_stays [] s = refl
   none_stays (p ∷ ps) s = none_stays ps (state_after_turn program p s)
@@ -94,7 +94,7 @@ module _ (program : Units) (small large : ℕ) (le : small ≤ large) where
           absurd (none-some after (sym (none_stays ps t) ∙ (sym (ap (small_after ps t) is) ∙ e)))
 
   -- the layout after these turns is the same
-  same_layout : (choices : List ℕ) (after : Layout) → layout_of program small is_held choices ≡ Some after
+  pub same_layout : (choices : List ℕ) (after : Layout) → layout_of program small is_held choices ≡ Some after
       → layout_of program large is_held choices ≡ Some after
   same_layout choices after e = by_opening (opening_layout program small) refl where
     by_opening : (o : Option Layout) → opening_layout program small ≡ o → layout_of program large is_held choices ≡ Some after

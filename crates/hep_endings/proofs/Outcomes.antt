@@ -36,12 +36,12 @@ above_some n p (q ∷ ps) e = by_place (nat_lt n q) (above_some n p ps) e where
   by_place false rest f = rest f
 
 -- where no process comes next by itself, none is ready
-none_ready : (n : ℕ) (ready : List ℕ) → next_of_ready n ready ≡ None → ready ≡ []
+pub none_ready : (n : ℕ) (ready : List ℕ) → next_of_ready n ready ≡ None → ready ≡ []
 none_ready n [] e = refl
 none_ready n (p ∷ ps) e = absurd (above_some n p (p ∷ ps) e)
 
 -- where no process comes next, none does by itself
-none_first : (o ready : Option ℕ) → first_choice o ready ≡ None → ready ≡ None
+pub none_first : (o ready : Option ℕ) → first_choice o ready ≡ None → ready ≡ None
 none_first None ready e = e
 none_first (Some p) ready e = absurd cc
 
@@ -149,14 +149,14 @@ none_next program history going none =
     ∙ ap (next_of_ready (last_process history)) none
 
 -- done, or all that live wait, or a process ended by a fault
-abbrev IsOfEnd : Status → Type 0
+abbrev pub IsOfEnd : Status → Type 0
 IsOfEnd statuses.Done = Unit {0}
 IsOfEnd statuses.Waiting = Unit {0}
 IsOfEnd statuses.Faulted = Unit {0}
 IsOfEnd _ = ⊥
 
 -- an ending has one of these statuses
-of_end : (faults : List Fault) (blocked : List Blocked) → IsOfEnd (status_by_blocked faults blocked)
+pub of_end : (faults : List Fault) (blocked : List Blocked) → IsOfEnd (status_by_blocked faults blocked)
 of_end [] [] = tt
 of_end (f ∷ fs) [] = tt
 of_end [] (b ∷ bs) = tt

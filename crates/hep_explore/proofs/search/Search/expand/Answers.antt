@@ -1,0 +1,60 @@
+use Rattle.std.proofs.Common.{◌≡◌, ◌+◌, ◌≤◌, length, refl, arith, subst, sym}
+use Rattle.std.proofs.lemmas.Option.{slice_get_within}
+use Rattle.hep_state.proofs.ProcessNumbers.{length-stacks}
+use Rattle.hep_state.specs.Words.{snapshot_of}
+use Rattle.hep_explore.specs.Searching.{AreExpanded, IsSearch, IsWholeTry, Known, known_of}
+use Rattle.hep_explore.proofs.Paths.{reached_soon}
+use Rattle.hep_explore.proofs.SearchedStates.{ended_is_search, expanded_on, numbered_on}
+use Rattle.hep_explore.proofs.TriedSteps.{expanded_no, expanded_yes}
+use Rattle.hep_explore.proofs.search.Search.expand.Goals as goal
+
+pub has_steps-requires : goal.has_steps-requires
+has_steps-requires c =
+    let program = c.args.image.now in
+    let s = known_of c.args.self.now in
+    let m = c.args.machine.now in
+    let alike = c.machines_with_equal_keys_keep_the_same_states.ensures program in
+    let soon = reached_soon program alike s c.requires.search c.args.from m c.requires.numbered in
+    let less = slice_get_within s.states c.args.from c.requires.numbered.key c.requires.numbered.numbered in
+    let origins = c.requires.search.origins in
+    let activations = c.activations_are_few.ensures.activations program s.cells soon.0 (snapshot_of m) soon.1.after in
+    let processes = c.activations_are_few.ensures.processes program s.cells soon.0 (snapshot_of m) soon.1.after in
+    let made = length-stacks m.processes.items 1 m.made in
+    record { search = c.requires.search; numbered = c.requires.numbered; countable = omega arith; numerable = omega arith }
+
+pub returns-then-moved : goal.returns-then-moved
+returns-then-moved c =
+    let program = c.args.image.now in
+    let s = known_of c.args.self.now in
+    let new = known_of c.has_steps-moved.new.self in
+    let m = c.args.machine.now in
+    let on = c.in_ok-moved.ensures.goes_on in
+    let less = slice_get_within s.states c.args.from c.requires.numbered.key c.requires.numbered.numbered in
+    let still = expanded_on program s new on c.args.from (omega arith) c.requires.expanded in
+    let numbered = numbered_on program s new on.kept c.args.from m c.requires.numbered in
+    let alike = c.machines_with_equal_keys_keep_the_same_states.ensures program in
+    record {
+      search = c.in_ok-moved.ensures.search;
+      expanded = expanded_yes program alike new c.args.from m numbered still (
+          subst (λ b. IsWholeTry program m b new) c.if-moved.true c.in_ok-moved.ensures.tried);
+      same = (on.kept.cells, c.in_ok-moved.ensures.same);
+    }
+
+pub returns : goal.returns
+returns c =
+    let program = c.args.image.now in
+    let s = known_of c.args.self.now in
+    let new = known_of c.has_steps-moved.new.self in
+    let m = c.args.machine.now in
+    let on = c.in_ok-moved.ensures.goes_on in
+    let less = slice_get_within s.states c.args.from c.requires.numbered.key c.requires.numbered.numbered in
+    let still = expanded_on program s new on c.args.from (omega arith) c.requires.expanded in
+    let numbered = numbered_on program s new on.kept c.args.from m c.requires.numbered in
+    let alike = c.machines_with_equal_keys_keep_the_same_states.ensures program in
+    let tried = subst (λ b. IsWholeTry program m b new) c.if-moved.false c.in_ok-moved.ensures.tried in
+    record {
+      search = ended_is_search program new c.push.new.self.items c.in_ok-moved.ensures.search;
+      expanded = subst (λ es. AreExpanded program (c.args.from + 1) (record new { ended = es })) (sym c.in_ok-push.ensures.items) (
+          expanded_no program alike new c.args.from m numbered still tried);
+      same = (on.kept.cells, c.in_ok-moved.ensures.same);
+    }

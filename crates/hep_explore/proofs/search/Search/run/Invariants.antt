@@ -1,0 +1,13 @@
+use Rattle.std.proofs.Common.{◌≡◌, ◌+◌, ◌-◌}
+use Rattle.hep_explore.specs.Searching.{AreExpanded, IsSearch, known_of}
+use Rattle.hep_explore.proofs.search.Search.run.Given as goal
+
+abbrev pub invariant-loop-self : goal.invariant-loop-self
+invariant-loop-self l = record {
+  search : IsSearch l.fn.image (known_of l.self);
+  expanded : AreExpanded l.fn.image l.self.expanded (known_of l.self);
+  cells : l.self.cells ≡ l.fn.self.cells;
+}
+
+abbrev pub decreases-loop-self : goal.decreases-loop-self
+decreases-loop-self l = l.fn.most + 1 - l.self.expanded

@@ -1,0 +1,58 @@
+use Rattle.std.proofs.Common.{◌≡◌, refl, subst}
+use Rattle.hep_explore.specs.Searching.{known_of}
+use Rattle.hep_explore.specs.Successors.{IsSuccessor}
+use Rattle.hep_explore.specs.declared.successor.Successor.{Successor}
+use Rattle.hep_explore.proofs.SearchedStates.{stays_on}
+use Rattle.hep_explore.proofs.TriedSteps.{full_step, tried_full, tried_made, tried_none, visit_of}
+use Rattle.hep_explore.proofs.search.Search.try_step.Goals as goal
+
+pub successor-requires : goal.successor-requires
+successor-requires c =
+    record {
+      reached = (c.args.self.now.cells, c.requires.numbered.choices, c.requires.numbered.after);
+      running = c.requires.running;
+      countable = c.requires.countable;
+      numerable = c.requires.numerable;
+    }
+
+pub visit-requires-clause-visit : goal.visit-requires-clause-visit
+visit-requires-clause-visit c =
+    visit_of c.args.image.now c.args.machine.now (c.machines_with_equal_keys_keep_the_same_states.ensures c.args.image.now)
+    (known_of c.args.self.now) c.args.origin c.in-Machine.next c.requires.numbered (
+    subst (IsSuccessor c.args.image.now c.args.origin.process c.args.machine.now) c.in-Machine.is c.in_ok-successor.ensures)
+
+pub returns-in-Machine : goal.returns-in-Machine
+returns-in-Machine c =
+    record {
+      search = c.in_ok-visit.ensures.search;
+      goes_on = c.in_ok-visit.ensures.goes_on;
+      same = c.in_ok-visit.ensures.same;
+      tried = tried_made c.args.image.now c.args.machine.now (known_of c.visit.new.self) c.args.origin.process c.in-Machine.next
+          c.in_ok-visit.ensures.found (
+          subst (IsSuccessor c.args.image.now c.args.origin.process c.args.machine.now) c.in-Machine.is c.in_ok-successor.ensures);
+    }
+
+pub returns-in-Full : goal.returns-in-Full
+returns-in-Full c =
+    let is = subst (IsSuccessor c.args.image.now c.args.origin.process c.args.machine.now) c.in-Full.is c.in_ok-successor.ensures in
+    let step =
+    full_step c.args.image.now c.args.machine.now (c.machines_with_equal_keys_keep_the_same_states.ensures c.args.image.now)
+    (known_of c.args.self.now) c.args.origin c.requires.numbered is
+    in
+    record {
+      search = c.note_full.ensures.search c.args.image.now c.requires.search step;
+      goes_on = c.note_full.ensures.goes_on;
+      same = c.note_full.ensures.same;
+      tried = tried_full c.args.image.now c.args.machine.now (known_of c.note_full.new.self) c.args.origin.process
+          c.note_full.ensures.full is;
+    }
+
+pub returns-in-Nothing : goal.returns-in-Nothing
+returns-in-Nothing c =
+    record {
+      search = c.requires.search;
+      goes_on = stays_on (known_of c.args.self.now);
+      same = refl;
+      tried = tried_none c.args.image.now c.args.machine.now (known_of c.args.self.now) c.args.origin.process (
+          subst (IsSuccessor c.args.image.now c.args.origin.process c.args.machine.now) c.in-Nothing.is c.in_ok-successor.ensures);
+    }

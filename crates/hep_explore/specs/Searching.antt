@@ -1,0 +1,208 @@
+-- A search of the states of a program, breadth first: docs/MACHINE.md, "Endings".
+use Rattle.std.specs.Prelude.{◌≡◌, ◌≢◌, ◌⊎◌, ◌<◌, ◌≤◌, ◌+◌, ℕ, Bool, true, false, List, [], ◌∷◌, ◌++◌, length, slice_get, Option, Some}
+use Rattle.std.specs.Prelude.{None}
+use Rattle.hep_machine.specs.Words.{AreSteps, Units, opening, run, step}
+use Rattle.hep_endings.specs.Endings.{IsTerminal}
+use Rattle.hep_state.specs.declared.core_state.CoreState.{CoreState}
+use Rattle.hep_state.specs.Words.{HasNoGap, IsAfter, IsMachineAfter, Snapshot, snapshot_of}
+use Rattle.hep_explore.specs.Keys.{IsKeyOf}
+use Rattle.hep_explore.specs.Successors.{StepsTo}
+use Rattle.hep_explore.specs.declared.search.Origin.{Origin}
+use Rattle.hep_explore.specs.declared.search.Search.{Search}
+
+-- what a search knows: the keys of states by number, how each was found, the machines of those that aren't expanded, how many are, those of
+-- them in which no process has a step, and the first step that was left out since a frame had no gap, if one was
+pub record Known : Type 0 where
+  pub cells : ℕ
+  pub states : List (List ℕ)
+  pub origins : List Origin
+  pub queue : List CoreState
+  pub expanded : ℕ
+  pub ended : List ℕ
+  pub full : Option Origin
+
+abbrev pub known_of : Search → Known
+known_of s =
+    record {
+      cells = s.cells;
+      states = s.states;
+      origins = s.origins.items;
+      queue = s.queue.items;
+      expanded = s.expanded;
+      ended = s.ended.items;
+      full = s.full;
+    }
+
+-- ---- states by their keys
+
+-- a machine with this key keeps the state after these choices
+pub record IsKept (program : Units) (cells : ℕ) (before key : List ℕ) : Type 0 where
+  pub machine : Snapshot
+  pub is_key : IsKeyOf program machine key
+  pub after : IsAfter program cells before machine
+
+-- the state after these choices is one of those that were found
+pub record IsFound (program : Units) (s : Known) (before : List ℕ) : Type 0 where
+  pub number : ℕ
+  pub key : List ℕ
+  pub numbered : slice_get s.states number ≡ Some key
+  pub kept : IsKept program s.cells before key
+
+-- a machine keeps the state with a number, and the turns of some choices led to it
+pub record IsNumbered (program : Units) (s : Known) (i : ℕ) (m : CoreState) : Type 0 where
+  pub key : List ℕ
+  pub numbered : slice_get s.states i ≡ Some key
+  pub is_key : IsKeyOf program (snapshot_of m) key
+  pub choices : List ℕ
+  pub after : IsMachineAfter program s.cells choices m
+
+-- a step leads from the state of one key to that of another one
+abbrev pub Leads : Units → ℕ → ℕ → List ℕ → List ℕ → Type 0
+Leads program cells p from to =
+    (before : List ℕ) → IsKept program cells before from
+    → (step program p (run program before) ≢ None) × IsKept program cells (before ++ p ∷ []) to
+
+-- the state with a number was found by a step from an earlier one
+pub record IsOrigin (program : Units) (s : Known) (i : ℕ) (o : Origin) : Type 0 where
+  pub earlier : o.from < i
+  pub from : List ℕ
+  pub to : List ℕ
+  pub from_is : slice_get s.states o.from ≡ Some from
+  pub to_is : slice_get s.states i ≡ Some to
+  pub leads : Leads program s.cells o.process from to
+
+-- a step in the state with a number makes an activation for whose frame there is no gap
+pub record IsFullStep (program : Units) (s : Known) (o : Origin) : Type 0 where
+  pub from : List ℕ
+  pub from_is : slice_get s.states o.from ≡ Some from
+  pub full : (before : List ℕ) → IsKept program s.cells before from → HasNoGap program s.cells before o.process
+
+-- ---- what is found
+
+-- the opening is state 0, each other one has its origin, and the machines of those that aren't expanded are queued in order
+pub record IsSearch (program : Units) (s : Known) : Type 0 where
+  pub opening : List ℕ
+  pub opening_is : slice_get s.states 0 ≡ Some opening
+  pub begins : IsKept program s.cells [] opening
+  pub origins : length s.origins ≡ length s.states
+  pub origin : (i : ℕ) (o : Origin) → 1 ≤ i → slice_get s.origins i ≡ Some o → IsOrigin program s i o
+  pub counted : s.expanded + length s.queue ≡ length s.states
+  pub full : (o : Origin) → s.full ≡ Some o → IsFullStep program s o
+  pub queued : (k : ℕ) (m : CoreState) → slice_get s.queue k ≡ Some m → IsNumbered program s (s.expanded + k) m
+
+-- a state is among those in which no process has a step
+abbrev pub IsEnded : Known → ℕ → Type 0
+IsEnded s i = (k : ℕ) × (slice_get s.ended k ≡ Some i)
+
+-- each step of the first states leads to one that was found, unless one was left out; and in just those of them that are told to have ended
+-- no process has a step
+pub record AreExpanded (program : Units) (n : ℕ) (s : Known) : Type 0 where
+  pub closed : s.full ≡ None → (i p : ℕ) (key before : List ℕ) → i < n → slice_get s.states i ≡ Some key
+      → IsKept program s.cells before key → step program p (run program before) ≢ None → IsFound program s (before ++ p ∷ [])
+  pub ended : (i : ℕ) → IsEnded s i → i < n
+  pub terminal : (i : ℕ) (key before : List ℕ) → IsEnded s i → slice_get s.states i ≡ Some key
+      → IsKept program s.cells before key → IsTerminal program (run program before)
+  pub all : (i : ℕ) (key before : List ℕ) → i < n → slice_get s.states i ≡ Some key
+      → IsKept program s.cells before key → IsTerminal program (run program before) → IsEnded s i
+
+-- no state is lost, and each has its number
+pub record KeepsStates (old new : Known) : Type 0 where
+  pub cells : new.cells ≡ old.cells
+  pub states : (i : ℕ) (key : List ℕ) → slice_get old.states i ≡ Some key → slice_get new.states i ≡ Some key
+
+-- nor is what is said of states that are expanded
+pub record GoesOn (old new : Known) : Type 0 where
+  pub kept : KeepsStates old new
+  pub ended : new.ended ≡ old.ended
+  pub whole : new.full ≡ None → old.full ≡ None
+
+-- ---- one step
+
+-- a step in the state with a number leads to what a machine keeps
+pub record IsVisit (program : Units) (s : Known) (m : CoreState) (o : Origin) : Type 0 where
+  pub from : List ℕ
+  pub from_is : slice_get s.states o.from ≡ Some from
+  pub leads : (before : List ℕ) → IsKept program s.cells before from → StepsTo program s.cells before o.process m
+  pub choices : List ℕ
+  pub after : IsMachineAfter program s.cells choices m
+
+-- the state that a machine keeps was found
+pub record HasKey (program : Units) (s : Known) (m : CoreState) : Type 0 where
+  pub number : ℕ
+  pub key : List ℕ
+  pub numbered : slice_get s.states number ≡ Some key
+  pub is_key : IsKeyOf program (snapshot_of m) key
+
+-- process p has a step after all turns that lead to a machine
+abbrev pub HasStep : Units → ℕ → CoreState → ℕ → Type 0
+HasStep program cells m p = (before : List ℕ) → IsMachineAfter program cells before m → step program p (run program before) ≢ None
+
+-- the step of process p after all turns that lead to a machine: whether there is one, and if so, where it leads, unless it was left out
+pub record IsTried (program : Units) (m : CoreState) (p : ℕ) (moved : Bool) (s : Known) : Type 0 where
+  pub found : s.full ≡ None → (before : List ℕ) → IsMachineAfter program s.cells before m → step program p (run program before) ≢ None
+      → IsFound program s (before ++ p ∷ [])
+  pub some : moved ≡ true → HasStep program s.cells m p
+  pub none : moved ≡ false → (before : List ℕ) → IsMachineAfter program s.cells before m → step program p (run program before) ≡ None
+
+-- the steps of the first processes: whether there is one, and if so, where each leads, unless one was left out
+pub record AreTried (program : Units) (m : CoreState) (n : ℕ) (moved : Bool) (s : Known) : Type 0 where
+  pub found : s.full ≡ None → (p : ℕ) (before : List ℕ) → p ≤ n → IsMachineAfter program s.cells before m
+      → step program p (run program before) ≢ None → IsFound program s (before ++ p ∷ [])
+  pub some : moved ≡ true → (p : ℕ) × HasStep program s.cells m p
+  pub none : moved ≡ false → (p : ℕ) (before : List ℕ) → p ≤ n → IsMachineAfter program s.cells before m
+      → step program p (run program before) ≡ None
+
+-- all steps in a machine: whether there is one, and if so, where each leads, unless one was left out
+pub record IsWholeTry (program : Units) (m : CoreState) (moved : Bool) (s : Known) : Type 0 where
+  pub found : s.full ≡ None → (p : ℕ) (before : List ℕ) → IsMachineAfter program s.cells before m
+      → step program p (run program before) ≢ None → IsFound program s (before ++ p ∷ [])
+  pub some : moved ≡ true → (p : ℕ) × HasStep program s.cells m p
+  pub none : moved ≡ false → (before : List ℕ) → IsMachineAfter program s.cells before m → IsTerminal program (run program before)
+
+-- ---- paths
+
+-- the steps of these processes lead from the state of one key to that of another one
+pub record LeadOn (program : Units) (cells : ℕ) (from to steps : List ℕ) : Type 0 where
+  pub made : (before : List ℕ) → IsKept program cells before from → AreSteps program (run program before) steps
+  pub kept : (before : List ℕ) → IsKept program cells before from → IsKept program cells (before ++ steps) to
+
+-- the steps of these choices lead from the opening to the state with a number
+pub record IsPathTo (program : Units) (s : Known) (i : ℕ) (choices : List ℕ) : Type 0 where
+  pub key : List ℕ
+  pub numbered : slice_get s.states i ≡ Some key
+  pub made : AreSteps program (opening program) choices
+  pub kept : IsKept program s.cells choices key
+
+-- choices that all make steps, but that the last one makes an activation for whose frame there is no gap
+pub record IsFullPath (program : Units) (cells : ℕ) (choices : List ℕ) : Type 0 where
+  pub before : List ℕ
+  pub last : ℕ
+  pub parts : choices ≡ before ++ last ∷ []
+  pub made : AreSteps program (opening program) before
+  pub full : HasNoGap program cells before last
+
+-- ---- where a search ends
+
+-- all states are expanded, or there are more than `most`, or a step was left out and that ends the search
+abbrev pub IsDone : ℕ → Bool → Known → Type 0
+IsDone most until_full s = (s.queue ≡ []) ⊎ ((most < length s.states) ⊎ ((until_full ≡ true) × (s.full ≢ None)))
+
+-- a search in an arena of so many cells, or of fewer where each frame has its gap, that has expanded all states or found more than `most`
+pub record IsSearchWithin (program : Units) (cells most : ℕ) (s : Known) : Type 0 where
+  pub search : IsSearch program s
+  pub expanded : AreExpanded program s.expanded s
+  pub within : s.cells ≤ cells
+  pub done : (s.queue ≡ []) ⊎ (most < length s.states)
+  pub full : (s.full ≡ None) ⊎ (s.cells ≡ cells)
+
+-- why a search is cut short: there are more than `most` states, or a run finds no gap for a frame
+abbrev pub IsCutBy : Units → ℕ → ℕ → ℕ → Type 0
+IsCutBy program cells most states = (most < states) ⊎ ((choices : List ℕ) × IsFullPath program cells choices)
+
+-- ---- keys
+
+-- machines of a program with the same key keep the same states
+abbrev pub AreAlikeByKeys : Units → Type 0
+AreAlikeByKeys program =
+    (cells : ℕ) (before turns key : List ℕ) (a b : Snapshot) → IsKeyOf program a key → IsKeyOf program b key
+    → IsAfter program cells before a → IsAfter program cells turns b → IsAfter program cells before b

@@ -1,0 +1,17 @@
+//! All outcomes of a program: a search of its states, which are compared by keys.
+#![tactic(auto)]
+
+pub mod exploration;
+pub mod found;
+pub mod key;
+pub mod key_laws;
+mod key_parts;
+mod key_processes;
+pub mod search;
+pub mod states;
+pub mod successor;
+
+pub use exploration::{Exploration, explore};
+pub use found::{Found, MOST_STEPS, text_of};
+pub use key::{Key, key_of};
+pub use states::States;
