@@ -6,7 +6,7 @@
 
 ghost use Rattle.hep_command.specs.Jobs.{IsArena, IsInRange, IsSeed, IsViewInRange};
 
-use hep_color::{TextKind, color_text};
+use hep_formats::{TextKind, color_text};
 use hep_command::{
     CheckForm, ColorWhen, Job, PageForm, Request, SAME_FILE, TraceForm, ViewedRun, explain,
     read_request, same_page,
