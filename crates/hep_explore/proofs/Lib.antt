@@ -14,5 +14,5 @@ mod SearchedStates
 mod TriedSteps
 mod Paths
 mod ListedOutcomes
-mod WaitingLines
+mod AppendedItems
 mod NoOther
