@@ -389,11 +389,11 @@ is_opened program s m o key is_key after states origins queue expanded ended ful
     }
 
 -- a key that is inserted where there are no states is the first one
-pub first_inserted : (new : List (List ℕ)) (key : List ℕ) (number : ℕ) (is_new : Bool) → slice_get new number ≡ Some key
-    → (is_new ≡ false → new ≡ []) → (is_new ≡ true → (number ≡ 0) × (new ≡ key ∷ [])) → new ≡ key ∷ []
-first_inserted new key number true there seen added = (added refl).1
-first_inserted new key number false there seen added =
-    absurd (none-some key (sym (ap (λ ks. slice_get ks number) (seen refl)) ∙ there))
+pub first_inserted : (old new : List (List ℕ)) (key : List ℕ) (number : ℕ) (is_new : Bool) → old ≡ [] → slice_get new number ≡ Some key
+    → (is_new ≡ false → new ≡ old) → (is_new ≡ true → (number ≡ length old) × (new ≡ old ++ key ∷ [])) → new ≡ key ∷ []
+first_inserted old new key number true none there seen added = (added refl).1 ∙ ap (λ ks. ks ++ key ∷ []) none
+first_inserted old new key number false none there seen added =
+    absurd (none-some key (sym (ap (λ ks. slice_get ks number) (seen refl ∙ none)) ∙ there))
 
 -- no state is expanded yet
 pub none_expanded : (program : Units) (s : Known) → s.ended ≡ [] → AreExpanded program 0 s

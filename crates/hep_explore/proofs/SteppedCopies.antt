@@ -42,21 +42,25 @@ module _ (program : Units) (p : ℕ) (old copy : CoreState) (shown : snapshot_of
       }
 
   -- a process that waits has no step
-  pub waiting_successor : (turned : TurnOutcome) (new : CoreState) → IsTurn program p copy turned new → (want : Want) → turned ≡ Waits want
+  pub waiting_successor : (taken : TurnOutcome) (new : CoreState) → IsTurn program p copy taken new → (want : Want) → taken ≡ Waits want
       → IsSuccessor program p old Nothing
-  waiting_successor turned new is want e cells before after =
+  waiting_successor taken new is want e cells before after =
       let waits = subst (λ t. HasTurned program cells before p t new) e (is cells before (copied cells before after)) in
       waits-idle program p (run program before) (ap is_some waits.0.waits)
 
   -- the machine after its step
-  pub made_successor : (turned : TurnOutcome) (new : CoreState) → IsTurn program p copy turned new
-      → ((want : Want) → turned ≡ Waits want → ⊥) → IsSuccessor program p old (Machine new)
-  made_successor turned new is other cells before after = by turned other (is cells before (copied cells before after)) where
-    by : (t : TurnOutcome) → ((want : Want) → t ≡ Waits want → ⊥) → HasTurned program cells before p t new
-        → StepsTo program cells before p new
-    by (Stepped changed) other h = record { stepped = h.0; after = h.1 }
-    by Purged other h = record { stepped = h.0; after = h.1 }
-    by (Waits want) other h = absurd (other want refl)
+  pub stepped_successor : (taken : TurnOutcome) (new : CoreState) → IsTurn program p copy taken new → (changed : Option Want)
+      → taken ≡ Stepped changed → IsSuccessor program p old (Machine new)
+  stepped_successor taken new is changed e cells before after =
+      let h = subst (λ t. HasTurned program cells before p t new) e (is cells before (copied cells before after)) in
+      record { stepped = h.0; after = h.1 }
+
+  -- or after a PURGE
+  pub purged_successor : (taken : TurnOutcome) (new : CoreState) → IsTurn program p copy taken new → taken ≡ Purged
+      → IsSuccessor program p old (Machine new)
+  purged_successor taken new is e cells before after =
+      let h = subst (λ t. HasTurned program cells before p t new) e (is cells before (copied cells before after)) in
+      record { stepped = h.0; after = h.1 }
 
   -- its step finds no gap
   pub full_successor : (fault : TurnFault) → fault ≡ ArenaFull → IsUntaken program p copy fault → IsSuccessor program p old Full

@@ -126,13 +126,13 @@ module _ (program : Units) (m : CoreState) where
         record {
           found = found_more false tried;
           some = λ yes. let was = before_it.some yes in (was.0, λ before after. was.1 before (old_after before after));
-          none = λ no p before few after. by_place no p before after few (cases_lt n p);
+          none = λ never p before few after. by_place never p before after few (cases_lt n p);
         }
       where
         by_place : moved ≡ false → (p : ℕ) (before : List ℕ) → IsMachineAfter program new.cells before m → p ≤ n + 1 → (n < p) ⊎ (p ≤ n)
             → step program p (run program before) ≡ None
-        by_place no p before after few (inr less) = before_it.none no p before less (old_after before after)
-        by_place no p before after few (inl more) =
+        by_place never p before after few (inr less) = before_it.none never p before less (old_after before after)
+        by_place never p before after few (inl more) =
             let last : n + 1 ≡ p = omega arith in
             subst (λ q. step program q (run program before) ≡ None) last (tried.none refl before after)
 
@@ -164,7 +164,7 @@ module _ (program : Units) (m : CoreState) where
       record {
         found = λ whole p before after some. by_found whole p before after some (cases_lt m.made p);
         some = tried.some;
-        none = λ no before after p. by_none no p before after (cases_lt m.made p);
+        none = λ never before after p. by_none never p before after (cases_lt m.made p);
       }
     where
       by_found : s.full ≡ None → (p : ℕ) (before : List ℕ) → IsMachineAfter program s.cells before m
@@ -174,8 +174,8 @@ module _ (program : Units) (m : CoreState) where
 
       by_none : moved ≡ false → (p : ℕ) (before : List ℕ) → IsMachineAfter program s.cells before m → (m.made < p) ⊎ (p ≤ m.made)
           → step program p (run program before) ≡ None
-      by_none no p before after (inr few) = tried.none no p before few after
-      by_none no p before after (inl past) = not_made s.cells before p after past
+      by_none never p before after (inr few) = tried.none never p before few after
+      by_none never p before after (inl past) = not_made s.cells before p after past
 
   -- after a STOP there is none
   pub halted_try : (s : Known) → m.halted ≡ true → IsWholeTry program m false s

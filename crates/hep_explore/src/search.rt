@@ -175,7 +175,7 @@ impl Search {
                 process: before + 1,
             };
             let tried = self.try_step(image, machine, origin)?;
-            moved = moved || tried;
+            moved |= tried;
         }
         Ok(moved)
     }
@@ -199,7 +199,7 @@ impl Search {
         if machine.halted {
             return Ok(false);
         }
-        self.try_all(image, machine, from)
+        Ok(self.try_all(image, machine, from)?)
     }
 
     // Expands a state.
@@ -224,7 +224,7 @@ impl Search {
     // Takes the first machine that is queued, with the number of its state.
     fn next(&mut self) -> Option<(usize, CoreState)>
         requires { (program : Units) × IsSearch program (known_of self.old) }
-        ensures none { IfNone result (self.new ≡ self.old) }
+        ensures none { IfNone result (known_of self.new ≡ known_of self.old) }
         ensures empty { IfNone result (self.old.queue.items ≡ []) }
         ensures search { IfSome result (λ r. (program : Units) → IsSearch program (known_of self.old)
             → IsSearch program (known_of self.new)) }

@@ -70,8 +70,9 @@ impl Turns {
         let mut next = machine.copy(self.alloc)?;
         self.roster.reserve(next.made)?;
         match next.turn(self.alloc, image, p, &mut self.history, &mut self.roster) {
+            Ok(TurnOutcome::Stepped { .. }) => Ok(Successor::Machine(next)),
+            Ok(TurnOutcome::Purged) => Ok(Successor::Machine(next)),
             Ok(TurnOutcome::Waits(_)) => Ok(Successor::Nothing),
-            Ok(_) => Ok(Successor::Machine(next)),
             Err(TurnFault::ArenaFull) => Ok(Successor::Full),
             Err(TurnFault::NoMemory) => Err(AllocError),
         }

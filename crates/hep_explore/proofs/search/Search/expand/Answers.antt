@@ -26,7 +26,7 @@ pub returns-then-moved : goal.returns-then-moved
 returns-then-moved c =
     let program = c.args.image.now in
     let s = known_of c.args.self.now in
-    let new = known_of c.has_steps-moved.new.self in
+    let new = known_of c.has_steps.new.self in
     let m = c.args.machine.now in
     let on = c.in_ok-moved.ensures.goes_on in
     let less = slice_get_within s.states c.args.from c.requires.numbered.key c.requires.numbered.numbered in
@@ -44,7 +44,7 @@ pub returns : goal.returns
 returns c =
     let program = c.args.image.now in
     let s = known_of c.args.self.now in
-    let new = known_of c.has_steps-moved.new.self in
+    let new = known_of c.has_steps.new.self in
     let m = c.args.machine.now in
     let on = c.in_ok-moved.ensures.goes_on in
     let less = slice_get_within s.states c.args.from c.requires.numbered.key c.requires.numbered.numbered in

@@ -12,3 +12,7 @@ returns-then-machine c =
       same = refl;
       tried = halted_try c.args.image.now c.args.machine.now (known_of c.args.self.now) c.if-machine.true;
     }
+
+pub returns-clause-tried : goal.returns-clause-tried
+returns-clause-tried c =
+    whole_try c.args.image.now c.args.machine.now (known_of c.try_all.new.self) c.in_ok-try_all.field-0 c.in_ok-try_all.ensures.tried

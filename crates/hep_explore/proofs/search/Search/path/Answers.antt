@@ -5,8 +5,8 @@ use Rattle.hep_explore.specs.declared.search.Origin.{Origin}
 use Rattle.hep_explore.proofs.Paths.{none_lead, origin_leads, path_of, reversed_more}
 use Rattle.hep_explore.proofs.search.Search.path.Goals as goal
 
-pub index-requires : goal.index-requires
-index-requires c = let origins = c.requires.search.1.origins in omega (arith, c.loop-at.invariant.found)
+pub index-origin-requires : goal.index-origin-requires
+index-origin-requires c = let origins = c.requires.search.1.origins in omega (arith, c.loop-at.invariant.found)
 
 pub loop-at-init : goal.loop-at-init
 loop-at-init c =
@@ -15,17 +15,17 @@ loop-at-init c =
       found = c.requires.found;
       leads = λ program search key to from_is to_is.
           let same = same_Some key to (sym from_is ∙ to_is) in
-          subst (λ k. LeadOn program s.cells key k (reverse c.new.result.items)) same (
-          subst (λ (ps : _). LeadOn program s.cells key key (reverse ps)) (sym c.new.ensures.items) (none_lead program s s.cells key));
+          subst (λ k. LeadOn program s.cells key k (reverse c.new-choices.result.items)) same (
+          subst (λ (ps : _). LeadOn program s.cells key key (reverse ps)) (sym c.new-choices.ensures.items) (none_lead program s s.cells key));
     }
 
 pub loop-at-preserved : goal.loop-at-preserved
 loop-at-preserved c =
     let s = known_of c.args.self.now in
     let at = c.loop-at.at in
-    let o : Origin = c.index.result.now in
+    let o : Origin = c.index-origin.result.now in
     let origins = c.requires.search.1.origins in
-    let there = slice_get-get_or s.origins at o (omega (arith, c.loop-at.invariant.found)) ∙ ap (λ x. Some x) (sym c.index.ensures) in
+    let there = slice_get-get_or s.origins at o (omega (arith, c.loop-at.invariant.found)) ∙ ap (λ x. Some x) (sym c.index-origin.ensures) in
     let some = c.loop-at-test.true in
     let earlier = (c.requires.search.1.origin at o (omega arith) there).earlier in
     record {
@@ -39,6 +39,18 @@ loop-at-preserved c =
           subst (λ k. LeadOn program s.cells k to (reverse c.push.new.self.items)) same (
           subst (LeadOn program s.cells origin.from to) (sym order) lead);
     }
+
+pub loop-at-smaller : goal.loop-at-smaller
+loop-at-smaller c =
+    let s = known_of c.args.self.now in
+    let at = c.loop-at.at in
+    let o : Origin = c.index-origin.result.now in
+    let origins = c.requires.search.1.origins in
+    let there =
+    slice_get-get_or s.origins at o (omega (arith, c.loop-at.invariant.found)) ∙ ap (λ x. Some x) (sym c.index-origin.ensures)
+    in
+    let some = c.loop-at-test.true in
+    (c.requires.search.1.origin at o (omega arith) there).earlier
 
 pub returns : goal.returns
 returns c = λ program search.

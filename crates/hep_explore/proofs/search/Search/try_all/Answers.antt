@@ -22,7 +22,7 @@ pub loop-before-preserved : goal.loop-before-preserved
 loop-before-preserved c =
     let first = known_of c.args.self.now in
     let old = known_of c.loop-before.self in
-    let new = known_of c.try_step-tried.new.self in
+    let new = known_of c.try_step.new.self in
     let on = c.in_ok-tried.ensures.goes_on in
     record {
       search = c.in_ok-tried.ensures.search;

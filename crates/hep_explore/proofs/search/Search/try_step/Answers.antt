@@ -19,22 +19,22 @@ pub visit-requires-clause-visit : goal.visit-requires-clause-visit
 visit-requires-clause-visit c =
     visit_of c.args.image.now c.args.machine.now (c.machines_with_equal_keys_keep_the_same_states.ensures c.args.image.now)
     (known_of c.args.self.now) c.args.origin c.in-Machine.next c.requires.numbered (
-    subst (IsSuccessor c.args.image.now c.args.origin.process c.args.machine.now) c.in-Machine.is c.in_ok-successor.ensures)
+    subst (IsSuccessor c.args.image.now c.args.origin.process c.args.machine.now) c.in-Machine.is c.in_ok-next.ensures)
 
-pub returns-in-Machine : goal.returns-in-Machine
-returns-in-Machine c =
+pub returns-in_ok-visit-in-Machine : goal.returns-in_ok-visit-in-Machine
+returns-in_ok-visit-in-Machine c =
     record {
-      search = c.in_ok-visit.ensures.search;
-      goes_on = c.in_ok-visit.ensures.goes_on;
-      same = c.in_ok-visit.ensures.same;
+      search = c.in_ok-visit-in-Machine.ensures.search;
+      goes_on = c.in_ok-visit-in-Machine.ensures.goes_on;
+      same = c.in_ok-visit-in-Machine.ensures.same;
       tried = tried_made c.args.image.now c.args.machine.now (known_of c.visit.new.self) c.args.origin.process c.in-Machine.next
-          c.in_ok-visit.ensures.found (
-          subst (IsSuccessor c.args.image.now c.args.origin.process c.args.machine.now) c.in-Machine.is c.in_ok-successor.ensures);
+          c.in_ok-visit-in-Machine.ensures.found (
+          subst (IsSuccessor c.args.image.now c.args.origin.process c.args.machine.now) c.in-Machine.is c.in_ok-next.ensures);
     }
 
 pub returns-in-Full : goal.returns-in-Full
 returns-in-Full c =
-    let is = subst (IsSuccessor c.args.image.now c.args.origin.process c.args.machine.now) c.in-Full.is c.in_ok-successor.ensures in
+    let is = subst (IsSuccessor c.args.image.now c.args.origin.process c.args.machine.now) c.in-Full.is c.in_ok-next.ensures in
     let step =
     full_step c.args.image.now c.args.machine.now (c.machines_with_equal_keys_keep_the_same_states.ensures c.args.image.now)
     (known_of c.args.self.now) c.args.origin c.requires.numbered is
@@ -54,5 +54,5 @@ returns-in-Nothing c =
       goes_on = stays_on (known_of c.args.self.now);
       same = refl;
       tried = tried_none c.args.image.now c.args.machine.now (known_of c.args.self.now) c.args.origin.process (
-          subst (IsSuccessor c.args.image.now c.args.origin.process c.args.machine.now) c.in-Nothing.is c.in_ok-successor.ensures);
+          subst (IsSuccessor c.args.image.now c.args.origin.process c.args.machine.now) c.in-Nothing.is c.in_ok-next.ensures);
     }

@@ -1,4 +1,5 @@
 use Rattle.std.proofs.Common.{◌≡◌, refl}
+use Rattle.std.proofs.lemmas.Bool.{not-false, not-true}
 use Rattle.hep_explore.specs.Searching.{Known, known_of}
 use Rattle.hep_explore.proofs.SearchedStates.{new_visit, same_known, seen_visit}
 use Rattle.hep_explore.proofs.search.Search.visit.Goals as goal
@@ -6,11 +7,11 @@ use Rattle.hep_explore.proofs.search.Search.visit.Goals as goal
 pub key_of-requires : goal.key_of-requires
 key_of-requires c = (c.args.self.now.cells, c.requires.visit.choices, c.requires.visit.after)
 
-pub returns-then : goal.returns-then
-returns-then c =
+pub returns-then-not-found : goal.returns-then-not-found
+returns-then-not-found c =
     let s = known_of c.args.self.now in
-    let new : Known = record s { states = c.insert-found.new.self } in
-    let same : new ≡ s = same_known new s refl (c.in_ok-found.ensures.seen c.if.true) refl refl refl refl refl in
+    let new : Known = record s { states = c.insert.new.self } in
+    let same : new ≡ s = same_known new s refl (c.in_ok-found.ensures.seen (not-true c.in_ok-found.found.1 c.if-not-found.true)) refl refl refl refl refl in
     let v =
     seen_visit c.args.image.now s new c.args.machine c.in_ok-found.found.0 c.in_ok-key.key.words.items c.requires.search c.in_ok-key.ensures
     c.in_ok-found.ensures.there same
@@ -22,13 +23,13 @@ returns c =
     let s = known_of c.args.self.now in
     let m = c.args.machine in
     let new : Known = record s {
-      states = c.insert-found.new.self;
+      states = c.insert.new.self;
       origins = c.push.new.self.items;
       queue = c.push_back.new.self.items;
     } in
     let v =
     new_visit c.args.image.now s new c.requires.search m c.args.origin c.requires.visit c.in_ok-key.key.words.items c.in_ok-key.ensures (
-    same_known new _ refl (c.in_ok-found.ensures.added c.if.false).1 c.in_ok-push.ensures.items c.in_ok-push_back.ensures.items refl refl
+    same_known new _ refl (c.in_ok-found.ensures.added (not-false c.in_ok-found.found.1 c.if-not-found.false)).1 c.in_ok-push.ensures.items c.in_ok-push_back.ensures.items refl refl
     refl)
     in
     record { search = v.search; goes_on = v.goes_on; same = refl; found = v.found }

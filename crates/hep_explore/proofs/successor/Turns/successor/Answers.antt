@@ -1,6 +1,7 @@
 use Rattle.std.proofs.Common.{◌≡◌, ◌∙◌, ap, arith, subst, sym}
 use Rattle.hep_state.specs.Words.{HasLevels, Snapshot}
-use Rattle.hep_explore.proofs.SteppedCopies.{copied, dead_successor, full_successor, made_successor, waiting_successor}
+use Rattle.hep_explore.proofs.SteppedCopies.{copied, dead_successor, full_successor, purged_successor, stepped_successor}
+use Rattle.hep_explore.proofs.SteppedCopies.{waiting_successor}
 use Rattle.hep_explore.proofs.successor.Turns.successor.Goals as goal
 
 pub lives-requires : goal.lives-requires
@@ -33,15 +34,23 @@ turn-requires c =
       numbers = c.in_ok-reserve.ensures.room;
     }
 
+pub returns-in-Ok-Stepped : goal.returns-in-Ok-Stepped
+returns-in-Ok-Stepped c =
+    let arm = c.in-Ok-Stepped in
+    stepped_successor c.args.image.now c.args.p c.args.machine.now c.in_ok-next.next c.in_ok-next.ensures.shown c.in_ok-next.ensures.rooms
+    arm.field-0 c.turn.new.self arm.ensures.turned _ arm.field-0-is
+
+pub returns-in-Ok-Purged : goal.returns-in-Ok-Purged
+returns-in-Ok-Purged c =
+    let arm = c.in-Ok-Purged in
+    purged_successor c.args.image.now c.args.p c.args.machine.now c.in_ok-next.next c.in_ok-next.ensures.shown c.in_ok-next.ensures.rooms
+    arm.field-0 c.turn.new.self arm.ensures.turned arm.field-0-is
+
 pub returns-in-Ok-Waits : goal.returns-in-Ok-Waits
 returns-in-Ok-Waits c =
+    let arm = c.in-Ok-Waits in
     waiting_successor c.args.image.now c.args.p c.args.machine.now c.in_ok-next.next c.in_ok-next.ensures.shown c.in_ok-next.ensures.rooms
-    c.in-Ok-Waits.field-0 c.turn.new.self c.in-Ok-Waits.ensures.turned c.in-Ok-Waits.field-0.field-0 c.in-Ok-Waits.field-0-is
-
-pub returns-in-Ok : goal.returns-in-Ok
-returns-in-Ok c =
-    made_successor c.args.image.now c.args.p c.args.machine.now c.in_ok-next.next c.in_ok-next.ensures.shown c.in_ok-next.ensures.rooms
-    c.in-Ok.field-0 c.turn.new.self c.in-Ok.ensures.turned c.in-Ok.not-Waits
+    arm.field-0 c.turn.new.self arm.ensures.turned _ arm.field-0-is
 
 pub returns-in-Err-ArenaFull : goal.returns-in-Err-ArenaFull
 returns-in-Err-ArenaFull c =
