@@ -1,4 +1,4 @@
-use Rattle.std.proofs.Common.{◌≡◌, ◌++◌, ◌∙◌, IfNone, IfSome, List, OnOk, Some, ap, false, rules, subst, sym}
+use Rattle.std.proofs.Common.{◌≡◌, ◌++◌, ◌∷◌, ◌∙◌, [], IfNone, IfSome, List, OnOk, Some, ap, false, rules, subst, sym}
 use Rattle.std.specs.Option.{option_map}
 use Rattle.std.specs.Result.{result_ok}
 use Rattle.std.proofs.lemmas.List.Sorted.{answers_always}
@@ -13,6 +13,7 @@ use Rattle.hep_state.proofs.ProcessNumbers.{stack-absent, stack-found}
 use Rattle.hep_state.proofs.Searching.{searched-found, searched-none}
 use Rattle.hep_explore.specs.Contents.{held_stack}
 use Rattle.hep_explore.specs.Keys.{stack_words}
+use Rattle.hep_explore.proofs.AppendedItems.{if_appended}
 use Rattle.hep_explore.proofs.KeyReading.{have-nodes}
 use Rattle.hep_explore.proofs.key_processes.append_numbered.Goals as goal
 
@@ -66,6 +67,9 @@ returns-in-Err c =
     subst (λ o. IfNone (result_ok o) (is_number_among c.args.p (numbers_of c.deref.result.now) ≡ false)) c.in-Err.is absent
     in
     let none = subst (λ (qs : List Process). is_number_among c.args.p (numbers_of qs) ≡ false) list other in
-    subst (λ (k : Stack). OnOk c.extend_from_slice.result (c.extend_from_slice.new.self.items
-    ≡ c.args.words.now.items ++ stack_words (held_stack (nodes_of m.frames.nodes) k))) (sym (stack-absent c.args.p qs none))
-    c.extend_from_slice.ensures.items
+    let words = c.args.words.now.items in
+    let nothing = 0 ∷ 0 ∷ 0 ∷ [] in
+    let same =
+    ap (λ (k : Stack). words ++ stack_words (held_stack (nodes_of m.frames.nodes) k)) (sym (stack-absent c.args.p qs none))
+    in
+    if_appended c.extend_from_slice.result c.extend_from_slice.new.self.items words nothing _ c.extend_from_slice.ensures.items same
