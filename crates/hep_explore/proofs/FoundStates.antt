@@ -1,11 +1,11 @@
 -- The states that a search has found: what the index of a key says.
-use Rattle.std.proofs.Common.{◌≡◌, ℕ, Bool, true, false, true≢false, ◌||◌, not, List, [], ◌∷◌, ◌++◌, length, map, slice_get, Some, arith}
+use Rattle.std.proofs.Common.{◌≡◌, ◌≢◌, ℕ, zero, suc, Bool, true, false, true≢false, ◌||◌, not, List, [], ◌∷◌, ◌++◌, length, map, slice_get, Some, arith}
 use Rattle.std.proofs.Common.{refl, sym, ap, ◌∙◌, if◌then◌else◌, nat_eq}
 use Rattle.std.specs.Option.{option_map}
 use Rattle.std.specs.List.{list_any, position_or_len}
-use Rattle.std.specs.Cmp.Lexicographic.{pointwise, same_text}
+use Rattle.std.specs.Cmp.Lexicographic.{other_text, pointwise, same_text}
 use Rattle.std.proofs.lemmas.List.{map-append, length-map}
-use Rattle.std.proofs.lemmas.Option.{slice_get-map}
+use Rattle.std.proofs.lemmas.Option.{none-some, same_Some, slice_get-map}
 use Rattle.hep_explore.specs.declared.key.Key.{Key}
 use Rattle.hep_explore.specs.FoundStates.{words_in}
 
@@ -32,6 +32,20 @@ words-there keys i key there is same =
     ∙ ap (option_map (λ (k : Key). k.words.items)) is
     ∙ ap (λ ws. Some ws) (sym (same_text key.words.items there.words.items (sym same)))
 
+-- where no key is the same, none has its words
+unseen-words : (keys : List Key) (key : Key) → list_any (same_key key) keys ≡ false → (i : ℕ)
+    → slice_get (words_in keys) i ≢ Some key.words.items
+unseen-words [] key none i here = none-some key.words.items here
+unseen-words (k ∷ ks) key none zero here = by_first (same_key key k) refl none where
+  by_first : (b : Bool) → same_key key k ≡ b → (b || list_any (same_key key) ks) ≡ false → ⊥
+  by_first true is e = true≢false e
+  by_first false is e =
+      other_text key.words.items k.words.items (sym is) (sym (same_Some k.words.items key.words.items here))
+unseen-words (k ∷ ks) key none (suc i) here = unseen-words ks key (behind (same_key key k) (list_any (same_key key) ks) none) i here where
+  behind : (b c : Bool) → (b || c) ≡ false → c ≡ false
+  behind true c e = absurd (true≢false e)
+  behind false c e = e
+
 -- a key that isn't there is the last one
 module _ (old new : List Key) (key : Key) (added : true ≡ not (list_any (same_key key) old)) (are : new ≡ with_key old key) where
   none : list_any (same_key key) old ≡ false
@@ -47,3 +61,6 @@ module _ (old new : List Key) (key : Key) (added : true ≡ not (list_any (same_
   words-added =
       ap words_in (are ∙ ap (λ b. if b then old else old ++ key ∷ []) none)
       ∙ map-append (λ (k : Key). k.words.items) old (key ∷ [])
+
+  pub words-unseen : (i : ℕ) → slice_get (words_in old) i ≢ Some key.words.items
+  words-unseen = unseen-words old key none

@@ -16,3 +16,4 @@ mod Paths
 mod ListedOutcomes
 mod AppendedItems
 mod NoOther
+mod CountedStates

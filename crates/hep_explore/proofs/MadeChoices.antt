@@ -43,7 +43,7 @@ module _ (program : Units) where
   pub follows : (ps : List ℕ) (es : List Entry) (s : State) → AreEntries program s es → Follow es ps → AreSteps program s ps
       → MakesAll s es ps ⊎ EndsBefore s es ps
   unfolding run_from schedule_of
-  follows [] es s entries follow made = inl (record { rest = es; count = refl; turns = refl; entries = entries })
+  follows [] es s entries follow made = inl (record { rest = es; count = omega arith; turns = refl; entries = entries })
   follows (p ∷ ps) [] s entries follow made = inr (record { next = p; is_next = refl; stepped = made.0 })
   follows (p ∷ ps) (e ∷ es) s entries follow made =
       let here = follow 0 e refl in
@@ -76,10 +76,10 @@ module _ (program : Units) where
   pub idle : (es : List Entry) (s : State) → IsTerminal program s → AreEntries program s es → schedule_of es ≡ []
   unfolding run_from schedule_of
   idle [] s terminal entries = refl
-  idle (e ∷ es) s terminal entries = by_entry entries.0 where
-    by_entry : IsEntry program s e → schedule_of_entry e ++ schedule_of es ≡ []
-    by_entry (inl found) =
+  idle (e ∷ es) s terminal entries = by_entry (idle es s terminal) entries.0 where
+    by_entry : (AreEntries program s es → schedule_of es ≡ []) → IsEntry program s e → schedule_of_entry e ++ schedule_of es ≡ []
+    by_entry rest (inl found) =
         let none : schedule_of_entry e ≡ [] = ap (λ n. replicate n e.process) found.0 in
         ap (λ qs. qs ++ schedule_of es) none
-        ∙ idle es s terminal (subst (λ qs. AreEntries program (run_from program s qs) es) none entries.1)
-    by_entry (inr made) = absurd (none_made e.steps e.process s made.0 made.2 (terminal e.process))
+        ∙ rest (subst (λ qs. AreEntries program (run_from program s qs) es) none entries.1)
+    by_entry rest (inr made) = absurd (none_made e.steps e.process s made.0 made.2 (terminal e.process))

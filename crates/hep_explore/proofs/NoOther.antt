@@ -137,7 +137,7 @@ pub done_by : (most : ℕ) (until_full : Bool) (s : Known) → (until_full ≡ t
     → (s.queue ≡ []) ⊎ (most < length s.states)
 done_by most until_full s none (inl done) = inl done
 done_by most until_full s none (inr (inl more)) = inr more
-done_by most until_full s none (inr (inr (yes, some))) = absurd (some (none yes))
+done_by most until_full s none (inr (inr (ends, some))) = absurd (some (none ends))
 
 -- what a search shows that has done what it can
 module _ (program : Units) (cells most : ℕ) (s : Known) (within : IsSearchWithin program cells most s) where

@@ -86,7 +86,7 @@ module _ (program : Units) (options : Options) where
   never_full : HaveAllGaps program options.arena → (history : List Entry) → IsHistory program options history
       → IsOver program options history (Some ArenaFull) → ⊥
   unfolding run
-  never_full gaps history is (going, less, p, next, full) =
+  never_full gaps history is (going, (less, p, next, full)) =
       let made = legal_steps program options.arena options.steps history is.legal in
       let all = steps_before program (opening program) (schedule_of history) (p ∷ []) made (full.stepped, tt) in
       true≢false (sym (gaps (schedule_of history ++ p ∷ []) all) ∙ ap is_some full.full)

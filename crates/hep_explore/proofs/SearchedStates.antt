@@ -1,5 +1,5 @@
 -- A search that goes on: it still is one, and its first states stay expanded.
-use Rattle.std.proofs.Common.{◌≡◌, ◌⊎◌, inl, inr, ℕ, zero, suc, true, ◌+◌, ◌<◌, ◌≤◌, false, List, [], ◌∷◌, ◌++◌, length, Bool, Option}
+use Rattle.std.proofs.Common.{◌≡◌, ◌≢◌, ◌⊎◌, inl, inr, ℕ, zero, suc, true, ◌+◌, ◌<◌, ◌≤◌, false, List, [], ◌∷◌, ◌++◌, length, Bool, Option}
 use Rattle.std.proofs.Common.{Some, None, get_or, refl, sym, ap, ◌∙◌, subst, arith, slice_get}
 use Rattle.std.specs.Option.{unwrap_or}
 use Rattle.std.proofs.lemmas.List.{length-append}
@@ -147,7 +147,7 @@ module _ (program : Units) (old new : Known) (on : GoesOn old new) (n : ℕ) (fe
 -- ---- one state more
 
 module _ (program : Units) (s : Known) (search : IsSearch program s) (m : CoreState) (o : Origin) (visit : IsVisit program s m o)
-    (key : List ℕ) (is_key : IsKeyOf program (snapshot_of m) key) where
+    (key : List ℕ) (is_key : IsKeyOf program (snapshot_of m) key) (unseen : (i : ℕ) → slice_get s.states i ≢ Some key) where
   -- what a search knows then
   abbrev pub with_state : Known
   with_state = record s { states = s.states ++ key ∷ []; origins = s.origins ++ o ∷ []; queue = s.queue ++ m ∷ [] }
@@ -188,6 +188,7 @@ module _ (program : Units) (s : Known) (search : IsSearch program s) (m : CoreSt
       record {
         opening = search.opening;
         opening_is = at-front s.states (key ∷ []) 0 search.opening search.opening_is;
+        different = λ i j k here there. by_two i j k (get-one-more s.states key i k here) (get-one-more s.states key j k there);
         begins = search.begins;
         origins =
             let a : length (s.origins ++ o ∷ []) ≡ length s.origins + 1 = simp length-append in
@@ -204,6 +205,13 @@ module _ (program : Units) (s : Known) (search : IsSearch program s) (m : CoreSt
         queued = λ k x here. by_queued k x (get-one-more s.queue m k x here);
       }
     where
+      by_two : (i j : ℕ) (k : List ℕ) → (slice_get s.states i ≡ Some k) ⊎ ((i ≡ length s.states) × (key ≡ k))
+          → (slice_get s.states j ≡ Some k) ⊎ ((j ≡ length s.states) × (key ≡ k)) → i ≡ j
+      by_two i j k (inl here) (inl there) = search.different i j k here there
+      by_two i j k (inl here) (inr new) = absurd (unseen i (here ∙ ap (λ x. Some x) (sym new.1)))
+      by_two i j k (inr new) (inl there) = absurd (unseen j (there ∙ ap (λ x. Some x) (sym new.1)))
+      by_two i j k (inr first) (inr second) = first.0 ∙ sym second.0
+
       by_origin : (i : ℕ) (x : Origin) → 1 ≤ i → (slice_get s.origins i ≡ Some x) ⊎ ((i ≡ length s.origins) × (o ≡ x))
           → IsOrigin program with_state i x
       by_origin i x some (inl was) = origin_on program s with_state more i x (search.origin i x some was)
@@ -227,12 +235,13 @@ pub record HasVisited (program : Units) (old new : Known) (m : CoreState) : Type
 -- a step led to a new state
 pub new_visit : (program : Units) (s new : Known) (search : IsSearch program s) (m : CoreState) (o : Origin)
     → (visit : IsVisit program s m o) → (key : List ℕ) → (is_key : IsKeyOf program (snapshot_of m) key)
-    → new ≡ with_state program s search m o visit key is_key → HasVisited program s new m
-new_visit program s new search m o visit key is_key e =
+    → (unseen : (i : ℕ) → slice_get s.states i ≢ Some key) → new ≡ with_state program s search m o visit key is_key unseen
+    → HasVisited program s new m
+new_visit program s new search m o visit key is_key unseen e =
     subst (λ n. HasVisited program s n m) (sym e) (
     record {
-      search = more_is_search program s search m o visit key is_key;
-      goes_on = more_goes_on program s search m o visit key is_key;
+      search = more_is_search program s search m o visit key is_key unseen;
+      goes_on = more_goes_on program s search m o visit key is_key unseen;
       found = record { number = length s.states; key = key; numbered = at-last s.states key; is_key = is_key };
     })
 
@@ -262,6 +271,7 @@ module _ (s : Known) (o : Origin) where
       record {
         opening = search.opening;
         opening_is = search.opening_is;
+        different = search.different;
         begins = search.begins;
         origins = search.origins;
         origin = λ i x some here. origin_on program s with_full on_full i x (search.origin i x some here);
@@ -297,6 +307,7 @@ module _ (program : Units) (s : Known) (search : IsSearch program s) (m : CoreSt
       record {
         opening = search.opening;
         opening_is = search.opening_is;
+        different = search.different;
         begins = search.begins;
         origins = search.origins;
         origin = λ i o some here. origin_on program s taken same i o (search.origin i o some here);
@@ -314,6 +325,7 @@ ended_is_search program s ended search =
     record {
       opening = search.opening;
       opening_is = search.opening_is;
+      different = search.different;
       begins = search.begins;
       origins = search.origins;
       origin = λ i o some here. origin_on program s told on i o (search.origin i o some here);
@@ -344,6 +356,10 @@ opening_is_search program cells m o key is_key after =
     record {
       opening = key;
       opening_is = refl;
+      different = λ i j k here there. (
+          let a = slice_get_within (key ∷ []) i k here in
+          let b = slice_get_within (key ∷ []) j k there in
+          omega arith);
       begins = machine_kept program cells m key [] is_key after;
       origins = refl;
       origin = λ i x some here. (let one = slice_get_within (o ∷ []) i x here in absurd (omega arith));

@@ -1,7 +1,7 @@
 -- A search of the states of a program, breadth first: docs/MACHINE.md, "Endings".
 use Rattle.std.specs.Prelude.{◌≡◌, ◌≢◌, ◌⊎◌, ◌<◌, ◌≤◌, ◌+◌, ℕ, Bool, true, false, List, [], ◌∷◌, ◌++◌, length, slice_get, Option, Some}
-use Rattle.std.specs.Prelude.{None}
-use Rattle.hep_machine.specs.Words.{AreSteps, Units, opening, run, step}
+use Rattle.std.specs.Prelude.{IsSome, None}
+use Rattle.hep_machine.specs.Words.{AreSteps, Units, is_held, layout_of, opening, run, step}
 use Rattle.hep_endings.specs.Endings.{IsTerminal}
 use Rattle.hep_state.specs.declared.core_state.CoreState.{CoreState}
 use Rattle.hep_state.specs.Words.{HasNoGap, IsAfter, IsMachineAfter, Snapshot, snapshot_of}
@@ -79,10 +79,15 @@ pub record IsFullStep (program : Units) (s : Known) (o : Origin) : Type 0 where
 
 -- ---- what is found
 
+-- no two of these keys are the same
+abbrev pub AreDifferentKeys : List (List ℕ) → Type 0
+AreDifferentKeys keys = (i j : ℕ) (key : List ℕ) → slice_get keys i ≡ Some key → slice_get keys j ≡ Some key → i ≡ j
+
 -- the opening is state 0, each other one has its origin, and the machines of those that aren't expanded are queued in order
 pub record IsSearch (program : Units) (s : Known) : Type 0 where
   pub opening : List ℕ
   pub opening_is : slice_get s.states 0 ≡ Some opening
+  pub different : AreDifferentKeys s.states
   pub begins : IsKept program s.cells [] opening
   pub origins : length s.origins ≡ length s.states
   pub origin : (i : ℕ) (o : Origin) → 1 ≤ i → slice_get s.origins i ≡ Some o → IsOrigin program s i o
@@ -194,6 +199,25 @@ pub record IsSearchWithin (program : Units) (cells most : ℕ) (s : Known) : Typ
   pub within : s.cells ≤ cells
   pub done : (s.queue ≡ []) ⊎ (most < length s.states)
   pub full : (s.full ≡ None) ⊎ (s.cells ≡ cells)
+
+-- ---- how many states there are
+
+-- the state after these choices is kept by one of these keys
+abbrev pub IsAmong : Units → ℕ → List (List ℕ) → List ℕ → Type 0
+IsAmong program cells keys choices = (i : ℕ) × (key : List ℕ) × (slice_get keys i ≡ Some key) × IsKept program cells choices key
+
+-- there are so many different states in an arena of `cells` cells, or of fewer: steps lead to each, and where these are told to be all, to no
+-- other whose frames have their gaps there
+pub record HaveStates (program : Units) (cells n : ℕ) (complete : Bool) : Type 0 where
+  pub arena : ℕ
+  pub within : arena ≤ cells
+  pub keys : List (List ℕ)
+  pub count : length keys ≡ n
+  pub different : AreDifferentKeys keys
+  pub reached : (i : ℕ) (key : List ℕ) → slice_get keys i ≡ Some key
+      → (choices : List ℕ) × AreSteps program (opening program) choices × IsKept program arena choices key
+  pub all : complete ≡ true → (choices : List ℕ) → AreSteps program (opening program) choices
+      → IsSome (layout_of program arena is_held choices) → IsAmong program arena keys choices
 
 -- why a search is cut short: there are more than `most` states, or a run finds no gap for a frame
 abbrev pub IsCutBy : Units → ℕ → ℕ → ℕ → Type 0

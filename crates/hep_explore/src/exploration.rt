@@ -4,7 +4,8 @@ ghost use Rattle.hep_machine.specs.Words.{AreSteps, opening, opening_layout};
 ghost use Rattle.hep_endings.specs.Explored.{IsExplored};
 ghost use Rattle.hep_state.specs.Words.{CanOpen};
 ghost use Rattle.hep_explore.specs.FoundOutcomes.{AreListed, AreOutcomes, IsOutcomeBy, KeepsFound};
-ghost use Rattle.hep_explore.specs.Searching.{AreExpanded, IsCutBy, IsDone, IsFullPath, IsSearch, IsSearchWithin, known_of};
+ghost use Rattle.hep_explore.specs.Searching.{AreExpanded, HaveStates, IsCutBy, IsDone, IsFullPath, IsSearch};
+ghost use Rattle.hep_explore.specs.Searching.{IsSearchWithin, known_of};
 
 use crate::found::{Found, add, found_by};
 use crate::key_laws::{
@@ -141,6 +142,7 @@ fn outcomes_of(
     requires cells { (1 ≤ cells) × (cells ≤ 16777216) }
     requires within { IsSearchWithin image.now cells most (known_of search.now) }
     ensures explored { IfOk result (λ e. IsExplored image.now cells e.found.items e.complete) }
+    ensures states { IfOk result (λ e. HaveStates image.now cells e.states e.complete) }
     ensures cut { IfOk result (λ e. e.complete ≡ false → IsCutBy image.now cells most e.states) }
 {
     image.is_runnable();
@@ -161,6 +163,7 @@ fn full_exploration(alloc: Global, image: &Image, cells: u32) -> Result<Explorat
     requires cells { (1 ≤ cells) × (cells ≤ 16777216) }
     requires full { opening_layout image.now cells ≡ None }
     ensures explored { IfOk result (λ e. IsExplored image.now cells e.found.items e.complete) }
+    ensures states { IfOk result (λ e. HaveStates image.now cells e.states e.complete) }
     ensures complete { IfOk result (λ e. e.complete ≡ true) }
 {
     let mut found = Vec::new(alloc);
@@ -187,6 +190,7 @@ pub fn explore(
 ) -> Result<Exploration, AllocError>
     requires cells { (1 ≤ cells) × (cells ≤ 16777216) }
     ensures explored { IfOk result (λ e. IsExplored image.now cells e.found.items e.complete) }
+    ensures states { IfOk result (λ e. HaveStates image.now cells e.states e.complete) }
     ensures cut { IfOk result (λ e. e.complete ≡ false → IsCutBy image.now cells most e.states) }
 {
     if !fits(image, cells) {

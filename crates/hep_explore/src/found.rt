@@ -122,7 +122,7 @@ pub fn found_by(
     let transcript = image_transcript(alloc, image.copy(alloc)?, &options, false)?;
     // Says that the history has fewer entries than it may have.
     let _ = transcript.history.len();
-    found_of(transcript, choices)
+    Ok(found_of(transcript, choices)?)
 }
 
 // Whether an outcome with the same status and lines is among these.

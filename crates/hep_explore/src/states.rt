@@ -1,5 +1,5 @@
 //! The states that a search has found, each by its key.
-ghost use Rattle.std.specs.Prelude.{◌≡◌, ◌++◌, ◌∷◌, [], IfOk, OnErr, Some, length, slice_get, true, false};
+ghost use Rattle.std.specs.Prelude.{◌≡◌, ◌≢◌, ◌++◌, ◌∷◌, [], ℕ, IfOk, OnErr, Some, length, slice_get, true, false};
 
 use crate::key::Key;
 use indexmap::IndexSet;
@@ -55,6 +55,7 @@ impl States {
         ensures there { IfOk result (λ r. slice_get self.new r.0 ≡ Some key.words.items) }
         ensures seen { IfOk result (λ r. r.1 ≡ false → self.new ≡ self.old) }
         ensures added { IfOk result (λ r. r.1 ≡ true → (r.0 ≡ length self.old) × (self.new ≡ self.old ++ key.words.items ∷ [])) }
+        ensures unseen { IfOk result (λ r. r.1 ≡ true → (i : ℕ) → slice_get self.old i ≢ Some key.words.items) }
         ensures refused { OnErr result (self.new ≡ self.old) }
     {
         Ok(self.keys.insert_full(key)?)

@@ -3,8 +3,8 @@ use Rattle.hep_explore.specs.Searching.{known_of}
 use Rattle.hep_explore.proofs.NoOther.{done_by}
 use Rattle.hep_explore.proofs.exploration.search_within.Goals as goal
 
-pub search_in-requires-then-fits : goal.search_in-requires-then-fits
-search_in-requires-then-fits c = (omega arith, omega arith, sym c.fits.ensures ∙ c.if-fits.true)
+pub search_in-requires : goal.search_in-requires
+search_in-requires c = (omega arith, omega arith, sym c.fits.ensures ∙ c.if-fits.true)
 
 pub returns-then-not-is_full : goal.returns-then-not-is_full
 returns-then-not-is_full c =

@@ -1,4 +1,4 @@
-use Rattle.std.proofs.Common.{◌≡◌, ◌∙◌, ap, arith, length, subst, sym}
+use Rattle.std.proofs.Common.{◌≡◌, ◌<◌, ◌∙◌, ap, arith, false, length, subst, sym}
 use Rattle.hep_machine.specs.Words.{AreSteps, Units, opening}
 use Rattle.hep_outcome.specs.Outcome.{IsProgramOutcome, Outcome}
 use Rattle.hep_outcome.specs.Transcripts.{outcome_of}
@@ -13,7 +13,7 @@ returns-clause-found c =
     let options : Options = c.in_ok-options.options in
     let o : Outcome = outcome_of c.in_ok-transcript.transcript in
     let outcome = subst (λ (us : Units). IsProgramOutcome false us options o) c.in_ok-copy.ensures c.in_ok-transcript.ensures.made in
-    let chosen = c.in_ok-options.ensures.choices in
+    let chosen = c.in_ok-options.ensures.choices ∙ c.deref.ensures.value in
     let made = subst (AreSteps program (opening program)) (sym chosen) c.requires.made in
     let few : length o.history < options.steps = omega (arith, c.len.ensures.few, c.len.ensures.count, c.in_ok-options.ensures.steps) in
     let whole = uncut program options o outcome made few in

@@ -29,6 +29,7 @@ returns c =
     } in
     let v =
     new_visit c.args.image.now s new c.requires.search m c.args.origin c.requires.visit c.in_ok-key.key.words.items c.in_ok-key.ensures (
+    c.in_ok-found.ensures.unseen (not-false c.in_ok-found.found.1 c.if-not-found.false)) (
     same_known new _ refl (c.in_ok-found.ensures.added (not-false c.in_ok-found.found.1 c.if-not-found.false)).1 c.in_ok-push.ensures.items c.in_ok-push_back.ensures.items refl refl
     refl)
     in

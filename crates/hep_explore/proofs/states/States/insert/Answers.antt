@@ -1,6 +1,6 @@
-use Rattle.std.proofs.Common.{◌≡◌, ◌∙◌, ◌∷◌, ◌++◌, [], length, sym, ap, not}
+use Rattle.std.proofs.Common.{◌≡◌, ◌∙◌, ◌∷◌, ◌++◌, [], length, slice_get, sym, ap, not}
 use Rattle.std.specs.List.{list_any}
-use Rattle.hep_explore.proofs.FoundStates.{index-added, words-added, words-there}
+use Rattle.hep_explore.proofs.FoundStates.{index-added, words-added, words-there, words-unseen}
 use Rattle.hep_explore.proofs.states.States.insert.Goals as goal
 
 pub returns-clause-there : goal.returns-clause-there
@@ -18,3 +18,11 @@ returns-clause-added c = λ new.
       ensures.index ∙ index-added old after c.args.key is-new ensures.keys ∙ ap length view,
       words-added old after c.args.key is-new ensures.keys ∙ ap (λ ws. ws ++ c.args.key.words.items ∷ []) view,
     )
+
+pub returns-clause-unseen : goal.returns-clause-unseen
+returns-clause-unseen c = λ new i here.
+    let old = c.self.inside.keys.keys in
+    let after = c.insert_full.new.self.keys in
+    let ensures = c.in_ok-insert_full.ensures in
+    let is-new = sym new ∙ ensures.added in
+    words-unseen old after c.args.key is-new ensures.keys i (ap (λ ws. slice_get ws i) c.self.view_is ∙ here)
