@@ -1,5 +1,6 @@
 -- How many states a search has found: steps lead to each of them, and no two are the same.
-use Rattle.std.proofs.Common.{◌≡◌, ℕ, Bool, true, true≢false, List, [], length, Some, None, is_some, refl, sym, ap, ◌∙◌, subst, arith, slice_get}
+use Rattle.std.proofs.Common.{◌≡◌, ℕ, Bool, true, true≢false, List, [], length, Some, None, is_some, refl, sym, ap, ◌∙◌, subst, arith}
+use Rattle.std.proofs.Common.{slice_get}
 use Rattle.std.proofs.lemmas.Option.{none-some, same_Some, slice_get_within}
 use Rattle.hep_machine.specs.Words.{Units, is_held, layout_of, opening, opening_layout}
 use Rattle.hep_machine.specs.Layout.{placing_from}
@@ -32,7 +33,8 @@ search_states program cells most s within complete is_whole =
     }
 
 -- there are none where the main program's frame doesn't fit the arena
-pub no_states : (program : Units) (cells : ℕ) → opening_layout program cells ≡ None → (complete : Bool) → HaveStates program cells 0 complete
+pub no_states : (program : Units) (cells : ℕ) → opening_layout program cells ≡ None → (complete : Bool)
+    → HaveStates program cells 0 complete
 no_states program cells none complete =
     record {
       arena = cells;

@@ -46,13 +46,15 @@ like_among one (f ∷ fs) any = by_first (is_like one f) refl (like_among one fs
 none_among : (one : Found) (all : List Found) (j : ℕ) (found : Found) → list_any (is_like one) all ≡ false → slice_get all j ≡ Some found
     → is_like one found ≡ false
 none_among one [] j found none here = absurd (none-some found here)
-none_among one (f ∷ fs) j found none here = by_first (λ k any there. none_among one fs k found any there) (is_like one f) refl none j here where
-  by_first : ((k : ℕ) → list_any (is_like one) fs ≡ false → slice_get fs k ≡ Some found → is_like one found ≡ false) → (b : Bool)
-      → is_like one f ≡ b → (b || list_any (is_like one) fs) ≡ false → (j : ℕ) → slice_get (f ∷ fs) j ≡ Some found
-      → is_like one found ≡ false
-  by_first rest true like any j here = absurd (true≢false any)
-  by_first rest false like any zero here = subst (λ x. is_like one x ≡ false) (same_Some f found here) like
-  by_first rest false like any (suc j) here = rest j any here
+none_among one (f ∷ fs) j found none here =
+    by_first (λ k any there. none_among one fs k found any there) (is_like one f) refl none j here
+  where
+    by_first : ((k : ℕ) → list_any (is_like one) fs ≡ false → slice_get fs k ≡ Some found → is_like one found ≡ false) → (b : Bool)
+        → is_like one f ≡ b → (b || list_any (is_like one) fs) ≡ false → (j : ℕ) → slice_get (f ∷ fs) j ≡ Some found
+        → is_like one found ≡ false
+    by_first rest true like any j here = absurd (true≢false any)
+    by_first rest false like any zero here = subst (λ x. is_like one x ≡ false) (same_Some f found here) like
+    by_first rest false like any (suc j) here = rest j any here
 
 -- ---- one more
 

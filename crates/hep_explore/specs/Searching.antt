@@ -206,8 +206,8 @@ pub record IsSearchWithin (program : Units) (cells most : ℕ) (s : Known) : Typ
 abbrev pub IsAmong : Units → ℕ → List (List ℕ) → List ℕ → Type 0
 IsAmong program cells keys choices = (i : ℕ) × (key : List ℕ) × (slice_get keys i ≡ Some key) × IsKept program cells choices key
 
--- there are so many different states in an arena of `cells` cells, or of fewer: steps lead to each, and where these are told to be all, to no
--- other whose frames have their gaps there
+-- there are so many different states in an arena of `cells` cells, or of fewer: steps lead to each, and where these are told to be all, to
+-- no other whose frames have their gaps there
 pub record HaveStates (program : Units) (cells n : ℕ) (complete : Bool) : Type 0 where
   pub arena : ℕ
   pub within : arena ≤ cells

@@ -16,7 +16,8 @@ loop-at-init c =
       leads = λ program search key to from_is to_is.
           let same = same_Some key to (sym from_is ∙ to_is) in
           subst (λ k. LeadOn program s.cells key k (reverse c.new-choices.result.items)) same (
-          subst (λ (ps : _). LeadOn program s.cells key key (reverse ps)) (sym c.new-choices.ensures.items) (none_lead program s s.cells key));
+          subst (λ (ps : _). LeadOn program s.cells key key (reverse ps)) (sym c.new-choices.ensures.items) (
+          none_lead program s s.cells key));
     }
 
 pub loop-at-preserved : goal.loop-at-preserved
@@ -25,7 +26,9 @@ loop-at-preserved c =
     let at = c.loop-at.at in
     let o : Origin = c.index-origin.result.now in
     let origins = c.requires.search.1.origins in
-    let there = slice_get-get_or s.origins at o (omega (arith, c.loop-at.invariant.found)) ∙ ap (λ x. Some x) (sym c.index-origin.ensures) in
+    let there =
+    slice_get-get_or s.origins at o (omega (arith, c.loop-at.invariant.found)) ∙ ap (λ x. Some x) (sym c.index-origin.ensures)
+    in
     let some = c.loop-at-test.true in
     let earlier = (c.requires.search.1.origin at o (omega arith) there).earlier in
     record {

@@ -11,7 +11,8 @@ pub returns-then-not-found : goal.returns-then-not-found
 returns-then-not-found c =
     let s = known_of c.args.self.now in
     let new : Known = record s { states = c.insert.new.self } in
-    let same : new ≡ s = same_known new s refl (c.in_ok-found.ensures.seen (not-true c.in_ok-found.found.1 c.if-not-found.true)) refl refl refl refl refl in
+    let seen = c.in_ok-found.ensures.seen (not-true c.in_ok-found.found.1 c.if-not-found.true) in
+    let same : new ≡ s = same_known new s refl seen refl refl refl refl refl in
     let v =
     seen_visit c.args.image.now s new c.args.machine c.in_ok-found.found.0 c.in_ok-key.key.words.items c.requires.search c.in_ok-key.ensures
     c.in_ok-found.ensures.there same
@@ -27,10 +28,11 @@ returns c =
       origins = c.push.new.self.items;
       queue = c.push_back.new.self.items;
     } in
+    let is_new = not-false c.in_ok-found.found.1 c.if-not-found.false in
+    let states = (c.in_ok-found.ensures.added is_new).1 in
     let v =
     new_visit c.args.image.now s new c.requires.search m c.args.origin c.requires.visit c.in_ok-key.key.words.items c.in_ok-key.ensures (
-    c.in_ok-found.ensures.unseen (not-false c.in_ok-found.found.1 c.if-not-found.false)) (
-    same_known new _ refl (c.in_ok-found.ensures.added (not-false c.in_ok-found.found.1 c.if-not-found.false)).1 c.in_ok-push.ensures.items c.in_ok-push_back.ensures.items refl refl
-    refl)
+    c.in_ok-found.ensures.unseen is_new) (
+    same_known new _ refl states c.in_ok-push.ensures.items c.in_ok-push_back.ensures.items refl refl refl)
     in
     record { search = v.search; goes_on = v.goes_on; same = refl; found = v.found }
