@@ -1,25 +1,24 @@
 -- Machines of a program that have the same contents are alike.
-use Rattle.std.proofs.Common.{◌≡◌, ◌⊎◌, inl, inr, ℕ, zero, suc, ◌+◌, ◌-◌, ◌<◌, ◌≤◌, Bool, true, false, true≢false, not, ◌&&◌, List, [], ◌∷◌}
-use Rattle.std.proofs.Common.{drop, length, map, take, Option, Some, None, refl, sym, ap, ◌∙◌, subst, arith, slice_get, is_some}
+use Rattle.std.proofs.Common.{◌≡◌, inl, inr, ℕ, zero, suc, ◌+◌, ◌-◌, ◌<◌, ◌≤◌, Bool, true, not, ◌&&◌, List, [], ◌∷◌}
+use Rattle.std.proofs.Common.{drop, length, map, Option, Some, None, refl, sym, ap, ◌∙◌, subst, arith, slice_get, is_some}
 use Rattle.std.proofs.Common.{if◌then◌else◌}
 use Rattle.std.specs.Option.{option_map, unwrap_or}
 use Rattle.std.specs.List.{flat_map}
 use Rattle.std.proofs.lemmas.Bool.{cases_Bool}
 use Rattle.std.proofs.lemmas.Bool.Decides.{same_from_decides}
-use Rattle.std.proofs.lemmas.Option.{none-some, same_Some, slice_get-map, slice_get_within}
-use Rattle.hep_machine.specs.Words.{Frame, Layout, State, Units, common_cells, is_held, is_number_among, parent_of, run}
+use Rattle.std.proofs.lemmas.Option.{none-some, same_Some, slice_get-map}
+use Rattle.hep_machine.specs.Words.{Frame, State, Units, common_cells, is_held, is_number_among, parent_of, run}
 use Rattle.hep_machine.specs.declared.slot.Slot.{Slot}
 use Rattle.hep_source.proofs.Tests.{get-drop}
 use Rattle.hep_arena.specs.Gaps.{frame_among}
 use Rattle.hep_arena.specs.Holes.{IsOut}
-use Rattle.hep_layout.specs.Words.{FrameNode, IsFrameNode, IsFrameTree, children_out, count_up_to, is_just, is_stacked}
+use Rattle.hep_layout.specs.Words.{FrameNode, children_out, count_up_to, is_just, is_stacked}
 use Rattle.hep_proc.specs.declared.process.Local.{Local}
 use Rattle.hep_proc.specs.Stacks.{Stack}
-use Rattle.hep_state.specs.AlikeMachines.{AreAlike, AreRenamed, IsSameOutside, level_renamed, node_renamed, stack_renamed}
+use Rattle.hep_state.specs.AlikeMachines.{AreAlike, AreRenamed, level_renamed, node_renamed, stack_renamed}
 use Rattle.hep_state.specs.Words.{AreThere, IsAfter, IsThere, Snapshot, node_under}
 use Rattle.hep_state.proofs.AlikeMachines.{alike-after}
 use Rattle.hep_state.proofs.EqualLayouts.{holes-same}
-use Rattle.hep_state_text.specs.NodeKeys.{AreHeldKeys}
 use Rattle.hep_explore.specs.Contents.{Contents, HeldFrame, HeldLevel, HeldStack, activation_at, cells_from, contents_of, frame_at}
 use Rattle.hep_explore.specs.Contents.{held_stack, keys_among, level_of, number_at}
 use Rattle.hep_explore.proofs.HeldNodes.{IsHeld, activation-at, inside, key-at, levels-there, listed, made, node-listed, node-under}

@@ -1,12 +1,12 @@
 -- States that the same machine keeps end in the same way.
-use Rattle.std.proofs.Common.{◌≡◌, ◌⊎◌, inl, inr, ℕ, zero, suc, ◌-◌, ◌+◌, ◌&&◌, Bool, true, false, List, [], ◌∷◌, ◌++◌, drop, map, Option}
-use Rattle.std.proofs.Common.{Some, None, refl, sym, ap, ◌∙◌, subst, if◌then◌else◌, nat_le, nat_lt, is_some}
+use Rattle.std.proofs.Common.{◌≡◌, inl, inr, ℕ, zero, suc, ◌-◌, ◌+◌, ◌&&◌, List, [], ◌∷◌, ◌++◌, drop, map, Option}
+use Rattle.std.proofs.Common.{Some, None, refl, sym, ap, ◌∙◌, if◌then◌else◌, nat_le, nat_lt}
 use Rattle.std.specs.Option.{option_and_then, option_map, option_or}
 use Rattle.std.proofs.lemmas.Bool.{cases_Bool}
 use Rattle.std.proofs.lemmas.List.{map-append}
 use Rattle.std.proofs.lemmas.Option.{none-some, same_Some}
 use Rattle.hep_machine.specs.Words.{BlockName, Location, Name, ProcessView, State, Units, Value, View, Wanted, common, common_cells}
-use Rattle.hep_machine.specs.Words.{is_held, local, run, unit_at, unit_of, view_of}
+use Rattle.hep_machine.specs.Words.{is_held, local, run, unit_at, view_of}
 use Rattle.hep_machine.specs.Views.{process_views_from}
 use Rattle.hep_code.specs.Words.{line_ahead}
 use Rattle.hep_layout.specs.Words.{FrameNode, FramePart, argument, bounds, common_row, header, iteration, owner_in, frame_row, variable}
@@ -20,7 +20,7 @@ use Rattle.hep_views.specs.Nodes.{node_of}
 use Rattle.hep_views.specs.SeenWaits.{effect_behind, unit_among, unit_in_common, unit_kept_at, unit_of_block, unit_of_part, unit_under}
 use Rattle.hep_views.specs.SeenWaits.{wanted_for, wanted_on}
 use Rattle.hep_views.proofs.Nodes.{unit-at}
-use Rattle.hep_endings.specs.Endings.{Blocked, blocked_of, ending_of, owner_of}
+use Rattle.hep_endings.specs.Endings.{blocked_of, ending_of, owner_of}
 
 -- ---- the variable in a cell is one of an activation that is held
 

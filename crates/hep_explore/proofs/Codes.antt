@@ -7,13 +7,11 @@ use borrow.Author.Tests.{ltb-true}
 use Rattle.std.specs.List.{flat_map}
 use Rattle.hep_source.specs.declared.value.Value.{Value}
 use Rattle.hep_source.specs.declared.value.Value.TheVariants.{Int, Truth}
-use Rattle.hep_machine.specs.declared.event.Fault.{Fault}
 use Rattle.hep_machine.specs.declared.event.Kind.{Kind}
 use Rattle.hep_machine.specs.declared.event.Kind.TheVariants as kind
-use Rattle.hep_machine.specs.declared.record.Item.{Item}
 use Rattle.hep_machine.specs.declared.record.Item.TheVariants as item
 use Rattle.hep_machine.specs.declared.slot.Slot.{Slot}
-use Rattle.hep_explore.specs.Contents.{Contents, HeldFrame, HeldLevel, HeldStack}
+use Rattle.hep_explore.specs.Contents.{Contents}
 use Rattle.hep_explore.specs.Keys.{counted, fault_words, frame_words, halted_word, held_kind, held_number, item_words, kind_word}
 use Rattle.hep_explore.specs.Keys.{level_words, slot_words, stack_words, value_kind, value_number, value_words, words_of}
 

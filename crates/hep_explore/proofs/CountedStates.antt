@@ -1,6 +1,5 @@
 -- How many states a search has found: steps lead to each of them, and no two are the same.
-use Rattle.std.proofs.Common.{◌≡◌, ℕ, Bool, true, true≢false, List, [], length, Some, None, is_some, refl, sym, ap, ◌∙◌, subst, arith}
-use Rattle.std.proofs.Common.{slice_get}
+use Rattle.std.proofs.Common.{◌≡◌, ℕ, Bool, true, true≢false, [], length, None, is_some, refl, sym, ap, ◌∙◌, subst, arith}
 use Rattle.std.proofs.lemmas.Option.{none-some, same_Some, slice_get_within}
 use Rattle.hep_machine.specs.Words.{Units, is_held, layout_of, opening, opening_layout}
 use Rattle.hep_machine.specs.Layout.{placing_from}

@@ -1,6 +1,6 @@
 -- The states that a search has found: what the index of a key says.
 use Rattle.std.proofs.Common.{◌≡◌, ◌≢◌, ℕ, zero, suc, Bool, true, false, true≢false, ◌||◌, not, List, [], ◌∷◌, ◌++◌, length}
-use Rattle.std.proofs.Common.{map, slice_get, Some, arith, refl, sym, ap, ◌∙◌, if◌then◌else◌, nat_eq}
+use Rattle.std.proofs.Common.{slice_get, Some, arith, refl, sym, ap, ◌∙◌, if◌then◌else◌, nat_eq}
 use Rattle.std.specs.Option.{option_map}
 use Rattle.std.specs.List.{list_any, position_or_len}
 use Rattle.std.specs.Cmp.Lexicographic.{other_text, pointwise, same_text}

@@ -1,15 +1,12 @@
 -- What a machine keeps of a state, read by the keys of its nodes.
-use Rattle.std.proofs.Common.{◌≡◌, ℕ, zero, suc, ◌+◌, ◌-◌, ◌<◌, ◌≤◌, Bool, true, false, true≢false, not, ◌&&◌, List, [], ◌∷◌, ◌++◌, length}
-use Rattle.std.proofs.Common.{map, Option, Some, None, refl, sym, ap, ◌∙◌, subst, arith, slice_get, get_or, take}
+use Rattle.std.proofs.Common.{◌≡◌, ℕ, zero, suc, ◌+◌, ◌-◌, ◌<◌, ◌≤◌, true, false, true≢false, List, [], ◌∷◌, ◌++◌, length}
+use Rattle.std.proofs.Common.{map, Option, Some, None, refl, sym, ap, ◌∙◌, arith, slice_get, get_or, take}
 use Rattle.std.specs.Option.{option_map, unwrap_or}
-use Rattle.std.specs.List.{cons_option, filter_map, flat_map}
-use Rattle.std.proofs.lemmas.List.{map-append}
-use Rattle.std.proofs.lemmas.Option.{none-some, same_Some, slice_get-get_or, slice_get_within}
-use Rattle.hep_machine.specs.Words.{Layout, Process, State, Units, Value, activations_on, common_cells, is_held, is_number_among, numbered}
+use Rattle.std.specs.List.{flat_map}
+use Rattle.std.proofs.lemmas.Option.{none-some, same_Some, slice_get-get_or}
+use Rattle.hep_machine.specs.Words.{Process, State, Units, Value, activations_on, common_cells, is_held, is_number_among}
 use Rattle.hep_machine.specs.Words.{parent_of, run}
-use Rattle.hep_machine.specs.State.{Level as SourceLevel}
-use Rattle.hep_arena.specs.Gaps.{frame_among}
-use Rattle.hep_layout.specs.Words.{FrameNode, IsFrameNode, IsFrameTree, Nodes, activation_under, is_stacked}
+use Rattle.hep_layout.specs.Words.{FrameNode, IsFrameTree, activation_under, is_stacked}
 use Rattle.hep_layout.proofs.Frames.{among}
 use Rattle.hep_proc.specs.declared.process.Local.{Local}
 use Rattle.hep_proc.specs.Stacks.{Stack}
@@ -18,7 +15,7 @@ use Rattle.hep_state.proofs.SettledPositions.{AreStanding, AreStandingBelow, IsH
 use Rattle.hep_state.proofs.TopActivations.{numbered-there}
 use Rattle.hep_views.proofs.Nodes.{unheld}
 use Rattle.hep_state_text.specs.NodeKeys.{AreHeldKeys}
-use Rattle.hep_explore.specs.Contents.{HeldFrame, HeldLevel, HeldStack, activation_at, frame_at, held_stack, keys_among, level_of}
+use Rattle.hep_explore.specs.Contents.{HeldLevel, HeldStack, activation_at, held_stack, keys_among, level_of}
 use Rattle.hep_explore.specs.Contents.{number_at}
 
 -- ---- keys that are there

@@ -1,6 +1,6 @@
 -- Lists that are appended to a key one element after the other.
 use Rattle.std.proofs.Common.{◌≡◌, ◌∷◌, ◌++◌, [], ℕ, zero, suc, ◌+◌, ◌-◌, ◌<◌, ◌≤◌, List, length, map, drop, take, reverse, Some, refl, sym}
-use Rattle.std.proofs.Common.{ap, ◌∙◌, arith, append_assoc, append-nil, get_or, slice_get}
+use Rattle.std.proofs.Common.{ap, ◌∙◌, arith, append_assoc, append-nil, slice_get}
 use Rattle.std.specs.List.{flat_map}
 use Rattle.std.proofs.lemmas.List.{drop_more, get_or-reverse, length-drop, length-reverse, length-take-le}
 use Rattle.std.proofs.lemmas.Option.{get_or_from_slice_get}

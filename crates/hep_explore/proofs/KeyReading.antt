@@ -8,7 +8,6 @@ use Rattle.hep_arena.specs.Holes.{IsOut}
 use Rattle.hep_arena.proofs.Gaps.{apart-end, front-out}
 use Rattle.hep_layout.specs.Words.{FrameNode, Nodes}
 use Rattle.hep_layout.proofs.Memory.{frame-is-out}
-use Rattle.hep_image.specs.Image.{most_cells}
 use Rattle.hep_proc.specs.Nodes.{nodes_of}
 use Rattle.hep_proc.specs.declared.process.Local.{Local}
 use Rattle.hep_proc.specs.declared.process.Process.{Process}

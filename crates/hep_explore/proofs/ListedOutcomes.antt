@@ -1,5 +1,5 @@
 -- A list of outcomes with one more, if it isn't there.
-use Rattle.std.proofs.Common.{◌≡◌, ◌⊎◌, inl, inr, ℕ, zero, suc, ◌+◌, ◌<◌, ◌≤◌, Bool, true, false, true≢false, ◌&&◌, ◌||◌, if◌then◌else◌}
+use Rattle.std.proofs.Common.{◌≡◌, ◌⊎◌, inl, inr, ℕ, zero, suc, ◌+◌, ◌<◌, ◌≤◌, Bool, true, false, true≢false, ◌||◌, if◌then◌else◌}
 use Rattle.std.proofs.Common.{nat_eq, List}
 use Rattle.std.proofs.Common.{[], ◌∷◌, ◌++◌, length, Some, refl, sym, ap, ◌∙◌, subst, arith, slice_get}
 use Rattle.std.specs.List.{list_any}
@@ -9,8 +9,7 @@ use Rattle.std.proofs.lemmas.Option.{none-some, same_Some}
 use Rattle.std.proofs.lemmas.Slice.Eq.{bytes_eq-Decides}
 use Rattle.hep_source.proofs.Tests.{at-front, at-last}
 use Rattle.hep_machine.specs.Words.{Units}
-use Rattle.hep_outcome.specs.Outcome.{Outcome}
-use Rattle.hep_endings.specs.Explored.{Found, IsFoundOf}
+use Rattle.hep_endings.specs.Explored.{Found}
 use Rattle.hep_endings.specs.Possible.{IsPossibleBy}
 use Rattle.hep_explore.specs.FoundOutcomes.{AreListed, AreOutcomes, IsFoundBy, IsListed, IsOutcomeBy, KeepsFound, is_like, with_found}
 use Rattle.hep_explore.specs.Searching.{IsPathTo, Known}

@@ -1,7 +1,6 @@
 -- A history whose entries follow choices that all make steps: it makes these, and where no process has a step then, no others.
-use Rattle.std.proofs.Common.{◌≡◌, ◌≢◌, ◌⊎◌, inl, inr, ℕ, zero, suc, ◌+◌, ◌≤◌, List, [], ◌∷◌, ◌++◌, length, Option, Some, None, refl, sym}
+use Rattle.std.proofs.Common.{◌≡◌, ◌≢◌, ◌⊎◌, inl, inr, ℕ, zero, suc, ◌+◌, ◌≤◌, List, [], ◌∷◌, ◌++◌, length, Some, None, refl, sym}
 use Rattle.std.proofs.Common.{ap, ◌∙◌, subst, arith, replicate, slice_get}
-use Rattle.std.proofs.lemmas.List.{append_assoc}
 use Rattle.hep_machine.specs.declared.event.Entry.{Entry}
 use Rattle.hep_machine.specs.Words.{AreEntries, AreSteps, IsEntry, State, Units, run_from, schedule_of, schedule_of_entry, state_after_turn}
 use Rattle.hep_machine.specs.Words.{step}

@@ -9,7 +9,6 @@ use Rattle.hep_machine.proofs.Replays.{legal_steps, run_after}
 use Rattle.hep_outcome.specs.Outcome.{IsProgramOutcome, Outcome, outcome_of_full_arena}
 use Rattle.hep_outcome.specs.declared.options.Options.{Options}
 use Rattle.hep_outcome.specs.Statuses.{status_code}
-use Rattle.hep_outcome.specs.Tallies.{lines_of}
 use Rattle.hep_endings.specs.Endings.{Ending, IsTerminal, ending_of}
 use Rattle.hep_endings.specs.Explored.{Found, IsExplored, IsFoundOf}
 use Rattle.hep_endings.specs.Possible.{IsPossible}

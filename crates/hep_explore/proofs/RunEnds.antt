@@ -1,25 +1,24 @@
 -- How a run ends that no limit stops, and that of choices which all make steps, after which no process has one.
-use Rattle.std.proofs.Common.{◌≡◌, ◌≢◌, ◌⊎◌, inl, inr, ℕ, ◌<◌, ◌≤◌, Bool, true, false, true≢false, List, [], ◌∷◌, ◌++◌, length, take}
+use Rattle.std.proofs.Common.{◌≡◌, ◌≢◌, ◌⊎◌, inl, inr, ℕ, ◌<◌, true, false, true≢false, List, [], ◌∷◌, ◌++◌, length, take}
 use Rattle.std.proofs.Common.{Option}
 use Rattle.std.proofs.Common.{Some, None, IsSome, is_some, refl, sym, ap, ◌∙◌, subst, arith, slice_get, if◌then◌else◌}
 use Rattle.std.proofs.lemmas.List.{append-nil, length-take-le}
 use Rattle.std.proofs.lemmas.Option.{none-some, same_Some, slice_get_past, slice_get_within}
 use Rattle.hep_machine.specs.declared.event.Entry.{Entry}
-use Rattle.hep_machine.specs.Words.{AreSteps, IsLegal, State, Units, first_above, is_held, last_process, layout_of, living, next_of_ready}
+use Rattle.hep_machine.specs.Words.{AreSteps, Units, is_held, last_process, layout_of, living}
 use Rattle.hep_machine.specs.Words.{next_ready}
-use Rattle.hep_machine.specs.Words.{opening, progress_after, ready_in, run, run_from, schedule_of, state_after, step}
+use Rattle.hep_machine.specs.Words.{opening, progress_after, ready_in, run, run_from, schedule_of, state_after}
 use Rattle.hep_machine.specs.Layout.{placing_from}
 use Rattle.hep_machine.proofs.Others.{dead_idle}
-use Rattle.hep_machine.proofs.Replays.{legal_steps, run_after, steps_before}
+use Rattle.hep_machine.proofs.Replays.{legal_steps, steps_before}
 use Rattle.hep_outcome.specs.Outcome.{IsChoiceRefused, IsHistory, IsOver, IsProgramOutcome, Outcome, first_choice, next_process}
-use Rattle.hep_outcome.specs.Outcome.{outcome_of_end, outcome_of_refused_choice}
+use Rattle.hep_outcome.specs.Outcome.{outcome_of_end}
 use Rattle.hep_outcome.specs.declared.options.Options.{Options}
 use Rattle.hep_outcome.specs.declared.status.Status.TheVariants as statuses
 use Rattle.hep_outcome.proofs.Schedules.{choice_is_next, next_is_chosen}
 use Rattle.hep_replay.specs.ChoiceStop.{ChoiceStop}
 use Rattle.hep_replay.specs.ChoiceStop.TheVariants.{ArenaFull, Halted, StepLimit}
 use Rattle.hep_endings.specs.Endings.{IsTerminal, ending_of}
-use Rattle.hep_endings.specs.Possible.{IsPossible}
 use Rattle.hep_endings.specs.Texts.{Shows}
 use Rattle.hep_endings.proofs.Finished.{idle_after, legal_wait}
 use Rattle.hep_endings.proofs.Outcomes.{EndsItself, IsOfEnd, none_first, none_ready, of_end}

@@ -1,7 +1,7 @@
 -- A copy of a machine keeps the same states, and the step of a process in it.
-use Rattle.std.proofs.Common.{◌≡◌, ℕ, Bool, false, true, true≢false, List, [], ◌∷◌, ◌++◌, Option, Some, None, is_some, refl, sym, ap, ◌∙◌}
+use Rattle.std.proofs.Common.{◌≡◌, ℕ, Bool, false, true, true≢false, List, Option, Some, None, is_some, refl, sym, ap, ◌∙◌}
 use Rattle.std.proofs.Common.{subst}
-use Rattle.hep_machine.specs.Words.{Units, living, run, step}
+use Rattle.hep_machine.specs.Words.{Units, living, run}
 use Rattle.hep_machine.proofs.Others.{dead_idle}
 use Rattle.hep_blocked.proofs.LivingProcesses.{waits-idle}
 use Rattle.hep_cells.specs.declared.want.Want.{Want}
@@ -12,7 +12,7 @@ use Rattle.hep_state.specs.declared.turn.TurnOutcome.{TurnOutcome}
 use Rattle.hep_state.specs.declared.turn.TurnOutcome.TheVariants.{Purged, Stepped, Waits}
 use Rattle.hep_state.specs.Words.{HasTurned, HaveRoom, IsAfter, IsMachineAfter, IsTurn, IsUntaken, IsUnturned, IsWhetherLives, KeepsRoom}
 use Rattle.hep_state.specs.Words.{snapshot_of}
-use Rattle.hep_explore.specs.Successors.{IsSuccessor, StepsTo}
+use Rattle.hep_explore.specs.Successors.{IsSuccessor}
 use Rattle.hep_explore.specs.declared.successor.Successor.TheVariants.{Full, Machine, Nothing}
 
 -- a process that doesn't live has no step

@@ -3,15 +3,15 @@ use Rattle.std.proofs.Common.{◌≡◌, ◌≢◌, ◌⊎◌, inl, inr, ℕ, ze
 use Rattle.std.proofs.Common.{◌++◌}
 use Rattle.std.proofs.Common.{length, Some, None, refl, sym, ap, ◌∙◌, subst, arith, slice_get}
 use Rattle.std.proofs.lemmas.Bool.{cases_lt}
-use Rattle.std.proofs.lemmas.Option.{same_Some, slice_get_past, slice_get_within}
+use Rattle.std.proofs.lemmas.Option.{same_Some, slice_get_past}
 use Rattle.hep_source.proofs.Tests.{at-front, at-last}
 use Rattle.hep_fast.proofs.StepRows.{get-one-more}
-use Rattle.hep_machine.specs.Words.{Units, living, run, step, top_of}
+use Rattle.hep_machine.specs.Words.{Units, run, step, top_of}
 use Rattle.hep_machine.proofs.Others.{dead_idle}
 use Rattle.hep_replay.proofs.ReplayTurns.{halted_stays}
 use Rattle.hep_endings.specs.Endings.{IsTerminal}
 use Rattle.hep_state.specs.declared.core_state.CoreState.{CoreState}
-use Rattle.hep_state.specs.Words.{IsMachineAfter, snapshot_of}
+use Rattle.hep_state.specs.Words.{IsMachineAfter}
 use Rattle.hep_state.proofs.ProcessNumbers.{length-stacks}
 use Rattle.hep_explore.specs.Searching.{AreAlikeByKeys, AreExpanded, AreTried, GoesOn, HasKey, IsEnded, IsFound, IsFullStep, IsKept}
 use Rattle.hep_explore.specs.Searching.{IsNumbered, IsTried}

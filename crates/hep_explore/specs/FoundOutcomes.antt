@@ -1,5 +1,5 @@
 -- The outcomes that a search lists: docs/MACHINE.md, "Endings".
-use Rattle.std.specs.Prelude.{◌≡◌, ◌<◌, ◌&&◌, ◌++◌, ℕ, Bool, true, if◌then◌else◌, nat_eq, List, [], ◌∷◌, slice_get, Some}
+use Rattle.std.specs.Prelude.{◌≡◌, ◌<◌, ◌&&◌, ◌++◌, ℕ, Bool, if◌then◌else◌, nat_eq, List, [], ◌∷◌, slice_get, Some}
 use Rattle.std.specs.List.{list_any}
 use Rattle.std.specs.Str.{bytes_eq}
 use Rattle.hep_machine.specs.Words.{Units}

@@ -1,4 +1,4 @@
-use Rattle.std.proofs.Common.{◌≡◌, ◌∙◌, ap, arith, get_or, slice_get, subst, sym}
+use Rattle.std.proofs.Common.{◌∙◌, ap, arith, get_or, slice_get, sym}
 use Rattle.std.proofs.lemmas.Option.{slice_get-get_or}
 use Rattle.hep_explore.specs.Searching.{known_of}
 use Rattle.hep_explore.proofs.ListedOutcomes.{all_more}

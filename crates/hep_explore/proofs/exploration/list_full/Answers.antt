@@ -1,4 +1,4 @@
-use Rattle.std.proofs.Common.{IfSome, List, inr, subst, ℕ}
+use Rattle.std.proofs.Common.{IfSome, inr, subst}
 use Rattle.hep_machine.specs.Words.{Units}
 use Rattle.hep_explore.specs.Searching.{IsFullPath, IsSearch, known_of}
 use Rattle.hep_explore.proofs.Paths.{full_steps}

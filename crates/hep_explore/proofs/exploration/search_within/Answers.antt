@@ -1,4 +1,4 @@
-use Rattle.std.proofs.Common.{◌≡◌, ◌≤◌, ◌∙◌, inl, inr, arith, false, sym, true, true≢false}
+use Rattle.std.proofs.Common.{◌∙◌, inl, inr, arith, false, sym, true, true≢false}
 use Rattle.hep_explore.specs.Searching.{known_of}
 use Rattle.hep_explore.proofs.NoOther.{done_by}
 use Rattle.hep_explore.proofs.exploration.search_within.Goals as goal

@@ -1,4 +1,4 @@
-use Rattle.std.proofs.Common.{◌≡◌, ◌++◌, ◌∙◌, Bool, List, ap, append_assoc, codes, sym, ℕ}
+use Rattle.std.proofs.Common.{◌++◌, ◌∙◌, Bool, List, ap, append_assoc, codes, sym, ℕ}
 use Rattle.hep_endings.specs.Explored.{others_text, states_text}
 use Rattle.hep_explore.proofs.AppendedItems.{if_appended}
 use Rattle.hep_explore.proofs.found.append_others.Goals as goal

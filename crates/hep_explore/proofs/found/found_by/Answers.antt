@@ -1,9 +1,8 @@
-use Rattle.std.proofs.Common.{◌≡◌, ◌<◌, ◌∙◌, ap, arith, false, length, subst, sym}
+use Rattle.std.proofs.Common.{◌<◌, ◌∙◌, arith, false, length, subst, sym}
 use Rattle.hep_machine.specs.Words.{AreSteps, Units, opening}
 use Rattle.hep_outcome.specs.Outcome.{IsProgramOutcome, Outcome}
 use Rattle.hep_outcome.specs.Transcripts.{outcome_of}
 use Rattle.hep_outcome.specs.declared.options.Options.{Options}
-use Rattle.hep_explore.specs.FoundOutcomes.{IsFoundBy}
 use Rattle.hep_explore.proofs.RunEnds.{uncut}
 use Rattle.hep_explore.proofs.found.found_by.Goals as goal
 

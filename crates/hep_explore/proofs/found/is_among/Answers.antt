@@ -1,4 +1,4 @@
-use Rattle.std.proofs.Common.{◌≡◌, ◌+◌, ◌||◌, ◌∙◌, Bool, List, ap, drop, sym}
+use Rattle.std.proofs.Common.{◌+◌, ◌||◌, ◌∙◌, Bool, List, ap, drop, sym}
 use Rattle.std.specs.List.{list_any}
 use Rattle.hep_source.proofs.Tests.{drop_at}
 use Rattle.hep_endings.specs.Explored.{Found}

@@ -1,8 +1,8 @@
-use Rattle.std.proofs.Common.{◌≡◌, ◌+◌, ◌≤◌, length, refl, arith, subst, sym}
+use Rattle.std.proofs.Common.{◌+◌, arith, subst, sym}
 use Rattle.std.proofs.lemmas.Option.{slice_get_within}
 use Rattle.hep_state.proofs.ProcessNumbers.{length-stacks}
 use Rattle.hep_state.specs.Words.{snapshot_of}
-use Rattle.hep_explore.specs.Searching.{AreExpanded, IsSearch, IsWholeTry, Known, known_of}
+use Rattle.hep_explore.specs.Searching.{AreExpanded, IsWholeTry, known_of}
 use Rattle.hep_explore.proofs.Paths.{reached_soon}
 use Rattle.hep_explore.proofs.SearchedStates.{ended_is_search, expanded_on, numbered_on}
 use Rattle.hep_explore.proofs.TriedSteps.{expanded_no, expanded_yes}

@@ -1,4 +1,3 @@
-use Rattle.std.proofs.Common.{◌≡◌, ◌∙◌, Some, ap, sym}
 use Rattle.hep_explore.specs.Searching.{known_of}
 use Rattle.std.proofs.lemmas.Option.{slice_get_within}
 use Rattle.hep_explore.proofs.Paths.{full_after}

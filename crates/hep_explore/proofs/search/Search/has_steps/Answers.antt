@@ -1,4 +1,4 @@
-use Rattle.std.proofs.Common.{◌≡◌, refl}
+use Rattle.std.proofs.Common.{refl}
 use Rattle.hep_explore.specs.Searching.{known_of}
 use Rattle.hep_explore.proofs.SearchedStates.{stays_on}
 use Rattle.hep_explore.proofs.TriedSteps.{halted_try, whole_try}

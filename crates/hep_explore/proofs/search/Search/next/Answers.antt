@@ -1,4 +1,4 @@
-use Rattle.std.proofs.Common.{◌≡◌, ◌+◌, IfNone, None, Option, Some, refl, sym, arith}
+use Rattle.std.proofs.Common.{IfNone, None, Option, Some, refl, sym, arith}
 use Rattle.hep_explore.specs.Searching.{Known, known_of}
 use Rattle.hep_explore.proofs.SearchedStates.{same_known, taken_goes_on, taken_is_search, taken_numbered}
 use Rattle.hep_explore.proofs.search.Search.next.Goals as goal

@@ -1,7 +1,6 @@
-use Rattle.std.proofs.Common.{◌≡◌, Some, None, ap, subst, sym}
-use Rattle.std.specs.Option.{unwrap_or}
+use Rattle.std.proofs.Common.{Some, subst, sym}
 use Rattle.std.proofs.lemmas.Option.{none-some}
-use Rattle.hep_explore.specs.Searching.{GoesOn, IsSearch, Known, known_of}
+use Rattle.hep_explore.specs.Searching.{GoesOn, IsSearch, known_of}
 use Rattle.hep_explore.specs.declared.search.Origin.{Origin}
 use Rattle.hep_explore.proofs.SearchedStates.{full_goes_on, full_is_search}
 use Rattle.hep_explore.proofs.search.Search.note_full.Goals as goal

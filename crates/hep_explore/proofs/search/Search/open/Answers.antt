@@ -1,6 +1,6 @@
-use Rattle.std.proofs.Common.{◌≡◌, ◌∷◌, ◌++◌, ◌∙◌, List, None, [], ap, refl}
+use Rattle.std.proofs.Common.{◌∷◌, ◌++◌, ◌∙◌, List, None, [], ap, refl}
 use Rattle.hep_state.specs.declared.core_state.CoreState.{CoreState}
-use Rattle.hep_explore.specs.Searching.{Known, known_of}
+use Rattle.hep_explore.specs.Searching.{Known}
 use Rattle.hep_explore.specs.declared.search.Origin.{Origin}
 use Rattle.hep_explore.proofs.SearchedStates.{first_inserted, is_opened, none_expanded}
 use Rattle.hep_explore.proofs.search.Search.open.Goals as goal

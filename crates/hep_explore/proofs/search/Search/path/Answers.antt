@@ -1,4 +1,4 @@
-use Rattle.std.proofs.Common.{◌≡◌, ◌∙◌, ◌∷◌, [], Some, ap, arith, get_or, length, refl, reverse, slice_get, subst, sym}
+use Rattle.std.proofs.Common.{◌≡◌, ◌∙◌, [], Some, ap, arith, get_or, reverse, slice_get, subst, sym}
 use Rattle.std.proofs.lemmas.Option.{same_Some, slice_get-get_or}
 use Rattle.hep_explore.specs.Searching.{IsPathTo, LeadOn, known_of}
 use Rattle.hep_explore.specs.declared.search.Origin.{Origin}

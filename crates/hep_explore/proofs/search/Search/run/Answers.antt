@@ -1,4 +1,4 @@
-use Rattle.std.proofs.Common.{◌≡◌, ◌+◌, ◌≤◌, ◌∙◌, inl, inr, length, refl, arith, subst, sym}
+use Rattle.std.proofs.Common.{◌≡◌, ◌+◌, ◌∙◌, arith, subst, sym}
 use Rattle.hep_explore.specs.Searching.{AreExpanded, known_of}
 use Rattle.hep_explore.proofs.SearchedStates.{expanded_on}
 use Rattle.hep_explore.proofs.search.Search.run.Goals as goal

@@ -1,4 +1,4 @@
-use Rattle.std.proofs.Common.{◌≡◌, ◌∙◌, refl}
+use Rattle.std.proofs.Common.{◌∙◌, refl}
 use Rattle.hep_explore.specs.Searching.{known_of}
 use Rattle.hep_explore.proofs.SearchedStates.{numbered_on, stays_on, then_on}
 use Rattle.hep_explore.proofs.TriedSteps.{tried_more, tried_zero}

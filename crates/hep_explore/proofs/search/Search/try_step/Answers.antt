@@ -1,7 +1,6 @@
-use Rattle.std.proofs.Common.{◌≡◌, refl, subst}
+use Rattle.std.proofs.Common.{refl, subst}
 use Rattle.hep_explore.specs.Searching.{known_of}
 use Rattle.hep_explore.specs.Successors.{IsSuccessor}
-use Rattle.hep_explore.specs.declared.successor.Successor.{Successor}
 use Rattle.hep_explore.proofs.SearchedStates.{stays_on}
 use Rattle.hep_explore.proofs.TriedSteps.{full_step, tried_full, tried_made, tried_none, visit_of}
 use Rattle.hep_explore.proofs.search.Search.try_step.Goals as goal

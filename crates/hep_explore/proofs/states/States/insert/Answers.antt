@@ -1,5 +1,4 @@
-use Rattle.std.proofs.Common.{◌≡◌, ◌∙◌, ◌∷◌, ◌++◌, [], length, slice_get, sym, ap, not}
-use Rattle.std.specs.List.{list_any}
+use Rattle.std.proofs.Common.{◌∙◌, ◌∷◌, ◌++◌, [], length, slice_get, sym, ap}
 use Rattle.hep_explore.proofs.FoundStates.{index-added, words-added, words-there, words-unseen}
 use Rattle.hep_explore.proofs.states.States.insert.Goals as goal
 

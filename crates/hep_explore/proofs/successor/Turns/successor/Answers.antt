@@ -1,4 +1,4 @@
-use Rattle.std.proofs.Common.{◌≡◌, ◌∙◌, ap, arith, subst, sym}
+use Rattle.std.proofs.Common.{◌∙◌, ap, arith, subst, sym}
 use Rattle.hep_state.specs.Words.{HasLevels, Snapshot}
 use Rattle.hep_explore.proofs.SteppedCopies.{copied, dead_successor, full_successor, purged_successor, stepped_successor}
 use Rattle.hep_explore.proofs.SteppedCopies.{waiting_successor}
