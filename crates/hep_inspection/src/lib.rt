@@ -6,6 +6,8 @@
 pub mod cover;
 pub mod cover_options;
 pub mod diff;
+pub mod explore;
+pub mod explore_options;
 pub mod inspection;
 pub mod origin;
 pub mod races;
@@ -15,8 +17,11 @@ mod timeline;
 pub use cover::cover_noted;
 pub use cover_options::CoverOptions;
 pub use diff::{DiffOptions, diff_noted};
+pub use explore::{Explored, choices_history, explore_bytes};
+pub use explore_options::ExploreOptions;
 pub use hep_core::Core;
 pub use hep_cover::{Choices, HistFault, read_text};
+pub use hep_explore::MOST_STEPS;
 pub use hep_outcome::nth_options;
 pub use hep_page::state_text;
 pub use hep_run::{

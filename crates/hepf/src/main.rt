@@ -13,11 +13,12 @@ use hep_command::{
 };
 use hep_inspection::{
     Check, Choices, Command, CommandRequest, CoverOptions, DiagnosticFormat, DiagnosticsRequest,
-    DiffOptions, HistFault, Inspection, InspectionOptions, LineFilter, List, LotOptions, NoGate,
-    Options, Origin, RacesOptions, ReadFault, ReplayOptions, Run, Sample, SampleOptions, Warn,
-    WorkOptions, WorkRequest, answer, choices_of, deliver_source, diagnostics_source, followed_of,
-    history_text, lots_history, nth_options, put_text, read_text, read_text_file, sample_bytes,
-    say_unread, say_unwritten, work_noted,
+    DiffOptions, ExploreOptions, Explored, HistFault, Inspection, InspectionOptions, LineFilter,
+    List, LotOptions, MOST_STEPS, NoGate, Options, Origin, RacesOptions, ReadFault, ReplayOptions,
+    Run, Sample, SampleOptions, Warn, WorkOptions, WorkRequest, answer, choices_history, choices_of,
+    deliver_source, diagnostics_source, explore_bytes, followed_of, history_text, lots_history,
+    nth_options, put_text, read_text, read_text_file, sample_bytes, say_unread, say_unwritten,
+    work_noted,
 };
 use std::env::VarError;
 use std::fs::File;
@@ -579,6 +580,94 @@ fn sample_file(
     Ok(0)
 }
 
+// Writes the history of a run by choices to a file.
+fn keep_chosen(
+    rt: &HostRuntime,
+    source: &[u8],
+    options: &Options,
+    path: &str,
+    long: bool,
+) -> Result<u8, u8> {
+    let mut kept = kept_file(rt, path, long)?;
+    match choices_history(rt.alloc(), source, options, &mut rt.stderr()) {
+        Ok(text) => Ok(put_contents(rt, path, &mut kept, &text, 0, long)),
+        Err(status) => {
+            let_go(rt, path, &kept);
+            Err(status)
+        }
+    }
+}
+
+// Explores a source: writes its outcomes, with marks of color where these are wanted.
+fn explored(
+    rt: &HostRuntime,
+    source: &[u8],
+    asked: &CommandRequest<'_, ExploreOptions>,
+    marks: Marks,
+) -> Explored {
+    if marks.output.is_none() && !marks.messages {
+        return explore_bytes(
+            rt.alloc(),
+            source,
+            asked,
+            &mut rt.stdout(),
+            &mut rt.stderr(),
+        );
+    }
+    let (mut output, mut messages) = (Vec::new(rt.alloc()), Vec::new(rt.alloc()));
+    let explored = explore_bytes(rt.alloc(), source, asked, &mut output, &mut messages);
+    Explored {
+        status: put_streams(rt, &output, &messages, marks, explored.status),
+        found: explored.found,
+    }
+}
+
+// Explores a source. If all was written and histories have to be kept, writes one of each outcome.
+fn explore_file(
+    rt: &HostRuntime,
+    file: &str,
+    asked: &CommandRequest<'_, ExploreOptions>,
+    keep: Option<&str>,
+    screen: Screen,
+) -> Result<u8, u8> {
+    let (options, long) = (asked.options, asked.long);
+    let source = read_text_file(
+        rt.alloc(),
+        &mut source_of(rt, file, long)?,
+        &mut rt.stderr(),
+    )?;
+    if let Some(prefix) = keep {
+        look_at_first(rt, file, prefix, 1, long)?;
+    }
+    let marks = marks_of(screen, Some(TextKind::Outcome));
+    let explored = explored(rt, &source, asked, marks);
+    let Some(prefix) = keep else {
+        return Ok(explored.status);
+    };
+    // Where not all was written, none is kept.
+    if explored.status == 8 {
+        return Ok(8);
+    }
+    let mut number = 1;
+    for found in explored.found.as_slice() {
+        let Ok(choices) = found.copied_choices(rt.alloc()) else {
+            return Err(say_no_memory(rt));
+        };
+        let options = Options {
+            arena: options.arena,
+            steps: MOST_STEPS,
+            choices,
+        };
+        let path = kept_path(rt, file, prefix, number)?;
+        let status = keep_chosen(rt, &source, &options, path.as_str(), long)?;
+        if status != 0 {
+            return Err(status);
+        }
+        number += 1;
+    }
+    Ok(explored.status)
+}
+
 fn bytes_of(word: Option<&str>) -> Option<&[u8]> {
     match word {
         Some(word) => Some(word.as_bytes()),
@@ -1137,6 +1226,19 @@ fn done<H: Threads + Wait + Sync>(
         } => {
             let usage = explain(rt.alloc(), first, second, third);
             Ok(answered(rt, usage.status, &usage.text))
+        }
+        Job::Explore {
+            file,
+            states,
+            arena,
+            keep,
+        } => {
+            let options = ExploreOptions { arena, states };
+            let asked = CommandRequest {
+                options: &options,
+                long,
+            };
+            explore_file(rt, file, &asked, keep, screen)
         }
         Job::State { .. }
         | Job::Trace { .. }
