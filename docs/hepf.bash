@@ -20,7 +20,7 @@ _hepf_has_file() {
     local index
     for ((index = $1 + 1; index < COMP_CWORD; index++)); do
         case ${COMP_WORDS[index]} in
-            --long | --warn | --lanes | --fixed | --free | --capitals | --help) ;;
+            --long | --warn | --progress | --lanes | --fixed | --free | --capitals | --help) ;;
             --*)
                 ((index += 1))
                 [[ ${COMP_WORDS[index]} != = ]] || ((index += 1))
@@ -67,7 +67,7 @@ _hepf() {
         check) options="--warn --format --color --long --help" ;;
         list) options="--color --long --help" ;;
         run) options="--arena --steps --workers --seed --choices --follow --history --color --long --help" ;;
-        sample) options="--runs --seed --arena --steps --keep --format --color --long --help" ;;
+        sample) options="--runs --seed --arena --steps --keep --format --progress --color --long --help" ;;
         explore) options="--states --arena --keep --color --long --help" ;;
         replay) options="--arena --color --long --help" ;;
         page) options="--from --to --choices --seed --arena --steps --long --help" ;;

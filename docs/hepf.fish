@@ -44,6 +44,7 @@ for command in hepf hepf-unproved
     complete -c $command -n '__fish_seen_subcommand_from sample cover' -l runs -x -d 'runs, 1 to 1000000'
     complete -c $command -n '__fish_seen_subcommand_from sample explore' -l keep -r -F -d 'how the files of histories begin'
     complete -c $command -n '__fish_seen_subcommand_from explore' -l states -x -d 'states at most'
+    complete -c $command -n '__fish_seen_subcommand_from sample' -l progress -d 'say how many runs were made'
     complete -c $command -n '__fish_seen_subcommand_from run' -l workers -x -d 'threads, 1 to 16'
     complete -c $command -n '__fish_seen_subcommand_from run state trace page picture why races cover diff' -l choices -r -F -d 'processes that are chosen first'
     complete -c $command -n '__fish_seen_subcommand_from run' -l follow -r -F -d 'history whose steps are made first'

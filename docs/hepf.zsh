@@ -50,7 +50,7 @@ _hepf_words() {
         sample)
             _arguments '--runs=[runs, 1 to 1000000]:runs:' '--seed=[seed of the first run]:seed:' '--arena=[cells of storage]:cells:' \
                 '--steps=[entries of the history]:entries:' '--keep=[how the files of histories begin]:prefix:_files' '--format=[how to write it]:format:(json)' \
-                '--color=[when lines have colors]:when:((auto\:terminals always\:always never\:never))' '--long[say more of what went wrong]' '--help[show help]' '1:source:_files -g "*.(f|for|hep)"'
+                '--progress[say how many runs were made]' '--color=[when lines have colors]:when:((auto\:terminals always\:always never\:never))' '--long[say more of what went wrong]' '--help[show help]' '1:source:_files -g "*.(f|for|hep)"'
             ;;
         explore)
             _arguments '--states=[states at most]:states:' '--arena=[cells of storage]:cells:' '--keep=[how the files of histories begin]:prefix:_files' \

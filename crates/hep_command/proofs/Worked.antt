@@ -69,13 +69,13 @@ unfolding asked clap_on_literals
 run_behind_a_history = refl
 
 sample_with_defaults : asked (codes "hepf" ∷ codes "sample" ∷ codes "a.f" ∷ [])
-    ≡ Some (sample (codes "a.f") 100 1 65536 10000000 None false)
+    ≡ Some (sample (codes "a.f") 100 1 65536 10000000 None false false)
 unfolding asked clap_on_literals
 sample_with_defaults = refl
 
 sample_with_all : asked (codes "hepf" ∷ codes "sample" ∷ codes "--runs" ∷ codes "9" ∷ codes "a.f" ∷ codes "--keep" ∷ codes "k" ∷ codes "--seed=4"
-    ∷ codes "--format=json" ∷ [])
-    ≡ Some (sample (codes "a.f") 9 4 65536 10000000 (Some (codes "k")) true)
+    ∷ codes "--progress" ∷ codes "--format=json" ∷ [])
+    ≡ Some (sample (codes "a.f") 9 4 65536 10000000 (Some (codes "k")) true true)
 unfolding asked clap_on_literals
 sample_with_all = refl
 

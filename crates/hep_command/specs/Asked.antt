@@ -38,7 +38,7 @@ pub data RequestedJob : Type 0 where
   standard : RequestedJob
   check : Text → Bool → CheckForm → RequestedJob
   run : Text → ℕ → ℕ → Option ℕ → Option ℕ → Option Text → Option Text → Option Text → RequestedJob
-  sample : Text → ℕ → ℕ → ℕ → ℕ → Option Text → Bool → RequestedJob
+  sample : Text → ℕ → ℕ → ℕ → ℕ → Option Text → Bool → Bool → RequestedJob
   explore : Text → ℕ → ℕ → Option Text → RequestedJob
   replay : Text → Text → ℕ → RequestedJob
   state : Text → Viewed → Option ℕ → Bool → RequestedJob
@@ -55,7 +55,7 @@ abbrev pub asked_by : Job → RequestedJob
 asked_by Standard = standard
 asked_by (Check file warn form) = check file.now warn form
 asked_by (Run file arena steps workers seed choices follow history) = run file.now arena steps workers seed (texts choices) (texts follow) (texts history)
-asked_by (Sample file runs seed arena steps keep json) = sample file.now runs seed arena steps (texts keep) json
+asked_by (Sample file runs seed arena steps keep progress json) = sample file.now runs seed arena steps (texts keep) progress json
 asked_by (Explore file states arena keep) = explore file.now states arena (texts keep)
 asked_by (Replay file history arena) = replay file.now history.now arena
 asked_by (State file view at json) = state file.now (viewed_by view) at json
@@ -159,7 +159,8 @@ run_in rows =
 abbrev pub sample_in : ListOf Row → Option RequestedJob
 sample_in rows =
     option_and_then (λ file. option_and_then (λ runs. option_and_then (λ seed. option_and_then (λ arena. option_and_then
-    (λ steps. option_map (sample file runs seed arena steps (first_of (codes "keep") rows)) (format_in (codes "json") rows))
+    (λ steps. option_map (sample file runs seed arena steps (first_of (codes "keep") rows) (is_given (codes "progress") rows))
+    (format_in (codes "json") rows))
     (steps_in rows)) (arena_in rows)) (first_seed_in rows)) (runs_in rows)) (first_of (codes "file") rows)
 
 abbrev pub states_in : ListOf Row → Option ℕ

@@ -49,7 +49,7 @@ abbrev pub IsInRange : Job → Type 0
 IsInRange Standard = Unit {0}
 IsInRange (Check file warn form) = Unit {0}
 IsInRange (Run file arena steps workers seed choices follow history) = IsArena arena × IsSteps steps × AreWorkers workers × HasSeed seed
-IsInRange (Sample file runs seed arena steps keep json) = AreSampled runs × IsSeed seed × IsArena arena × IsSteps steps
+IsInRange (Sample file runs seed arena steps keep progress json) = AreSampled runs × IsSeed seed × IsArena arena × IsSteps steps
 IsInRange (Explore file states arena keep) = IsSearched states × IsArena arena
 IsInRange (Replay file history arena) = IsArena arena
 IsInRange (State file run at json) = IsViewInRange run

@@ -79,6 +79,9 @@ color_option = file_option (codes "color")
 abbrev pub warn_flag : Rule
 warn_flag = flag (codes "warn")
 
+abbrev pub progress_flag : Rule
+progress_flag = flag (codes "progress")
+
 -- the name of a format
 abbrev pub format_option : Rule
 format_option = file_option (codes "format")
@@ -103,7 +106,7 @@ run_command =
 abbrev pub sample_command : App
 sample_command =
     command_with (codes "sample") (source_word ∷ runs_option ∷ seed_option ∷ arena_option ∷ steps_option ∷ keep_option ∷ format_option
-    ∷ color_option ∷ long_flag ∷ [])
+    ∷ progress_flag ∷ color_option ∷ long_flag ∷ [])
 
 abbrev pub states_option : Rule
 states_option = number_option (codes "states") 16777216

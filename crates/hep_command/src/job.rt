@@ -135,6 +135,8 @@ pub enum Job<'a> {
         steps: u64,
         /// The prefix of the files to which the histories of the first runs are written.
         keep: Option<&'a str>,
+        /// Whether it is said from the first run on how many have been made.
+        progress: bool,
         /// Whether the outcomes are objects of JSON.
         json: bool,
     },

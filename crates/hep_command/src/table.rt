@@ -104,6 +104,14 @@ pub(crate) const LONG: WordRow = WordRow {
     help: "Say more of what went wrong: which file, line and name",
 };
 
+// How many runs of a sample have been made.
+const PROGRESS: WordRow = WordRow {
+    id: "progress",
+    kind: WordKind::Flag,
+    value: "",
+    help: "Say on standard error how many runs were made",
+};
+
 // Whether lines have colors.
 const COLOR: WordRow = WordRow {
     id: "color",
@@ -434,6 +442,7 @@ pub(crate) const RUNNING: [CommandRow; 5] = [
             STEPS,
             KEEP,
             JSON_FORMAT,
+            PROGRESS,
             COLOR,
             LONG,
         ],

@@ -210,6 +210,7 @@ fn sample_job<'a>(found: &ArgMatches<'a>) -> Option<Job<'a>>
         arena: arena_of(found)?,
         steps: steps_of(found)?,
         keep: word_of(found, "keep"),
+        progress: is_given(found, "progress"),
         json: format_of(found, "json")?,
     })
 }

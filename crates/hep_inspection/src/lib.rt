@@ -26,9 +26,10 @@ pub use hep_outcome::nth_options;
 pub use hep_page::state_text;
 pub use hep_run::{
     Check, Command, CommandRequest, DiagnosticFormat, DiagnosticsRequest, List, LotOptions, NoGate,
-    Options, ReadFault, ReplayOptions, Run, Sample, SampleOptions, Warn, WorkOptions, WorkRequest,
-    answer, choices_of, deliver_source, diagnostics_source, followed_of, history_text,
-    lots_history, put_text, read_text_file, sample_bytes, say_unread, say_unwritten, work_noted,
+    Observer, Options, ReadFault, ReplayOptions, Run, Sample, SampleOptions, SampleRequest, Warn,
+    WorkOptions, WorkRequest, answer, choices_of, deliver_source, diagnostics_source, followed_of,
+    history_text, lots_history, put_text, read_text_file, sample_bytes, say_unread, say_unwritten,
+    work_noted,
 };
 pub use hep_state_text::Listing;
 pub use hep_trace::LineFilter;
