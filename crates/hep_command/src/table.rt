@@ -1,7 +1,8 @@
 //! The commands and their words, as a table.
 
 use crate::job::{
-    LEAST_WIDTH, MOST_ARENA, MOST_RUNS, MOST_SEED, MOST_STATES, MOST_STEPS, MOST_WIDTH, MOST_WORKERS,
+    LEAST_WIDTH, MOST_ARENA, MOST_RUNS, MOST_SEED, MOST_STATES, MOST_STEPS, MOST_WIDTH,
+    MOST_WORKERS,
 };
 
 /// The kinds of words of a command.

@@ -6,7 +6,7 @@ use Rattle.hep_outcome.specs.Outcome.{Outcome}
 use Rattle.hep_outcome.specs.declared.options.Options.{Options}
 use Rattle.hep_outcome.specs.declared.status.Status.{Status}
 use Rattle.hep_outcome.specs.declared.status.Status.TheVariants.{Done, StepLimit}
-use Rattle.hep_endings.specs.Explored.{Found, IsExplored, explored_text}
+use Rattle.hep_explore.specs.Explored.{Found, IsExplored, explored_text}
 use Rattle.hep_explore.specs.Searching.{HaveStates, IsCutBy}
 use Rattle.hep_explore.specs.declared.exploration.Exploration.{Exploration}
 use Rattle.hep_run.specs.Outcome.{IsOutcome, RunsTo}

@@ -1,5 +1,5 @@
 use Rattle.std.proofs.Common.{◌≡◌, Bool, List, [], ap, inl, inr, ℕ}
-use Rattle.hep_endings.specs.Explored.{Found}
+use Rattle.hep_explore.specs.Explored.{Found}
 use Rattle.hep_outcome.specs.Outcome.{Outcome}
 use Rattle.hep_outcome.specs.Transcripts.{outcome_of}
 use Rattle.hep_run.proofs.NoHistory.{left_alone}

@@ -1,5 +1,5 @@
 use Rattle.std.proofs.Common.{Bool, List, inl, inr, refl, ℕ}
-use Rattle.hep_endings.specs.Explored.{Found}
+use Rattle.hep_explore.specs.Explored.{Found}
 use Rattle.hep_outcome.specs.Outcome.{Outcome}
 use Rattle.hep_outcome.specs.Transcripts.{outcome_of}
 use Rattle.hep_run.specs.declared.refusal.SourceFault.{SourceFault}
@@ -20,14 +20,18 @@ unsearched long options found source (Refused number line name notes) o why told
 pub returns-in_ok-transcript-in-Ok : goal.returns-in_ok-transcript-in-Ok
 returns-in_ok-transcript-in-Ok c =
     let is = c.in_ok-explored-in-Ok.ensures in
-    inr (_, c.in-Ok.ensures.made, record {
-      exploration = c.in_ok-explored-in-Ok.explored;
-      explored = is.explored;
-      states = is.states;
-      cut = is.cut;
-      found_is = refl;
-      outcome = c.in_ok-transcript-in-Ok.ensures;
-    })
+    inr (
+      _,
+      c.in-Ok.ensures.made,
+      record {
+        exploration = c.in_ok-explored-in-Ok.explored;
+        explored = is.explored;
+        states = is.states;
+        cut = is.cut;
+        found_is = refl;
+        outcome = c.in_ok-transcript-in-Ok.ensures;
+      },
+    )
 
 pub returns : goal.returns
 returns c =
