@@ -20,7 +20,7 @@ _hepf_has_file() {
     local index
     for ((index = $1 + 1; index < COMP_CWORD; index++)); do
         case ${COMP_WORDS[index]} in
-            --long | --warn | --lanes | --fixed | --free | --capitals | --help) ;;
+            --long | --warn | --progress | --lanes | --fixed | --free | --capitals | --help) ;;
             --*)
                 ((index += 1))
                 [[ ${COMP_WORDS[index]} != = ]] || ((index += 1))
@@ -38,7 +38,7 @@ _hepf() {
     [[ $before != = ]] || before=${COMP_WORDS[COMP_CWORD - 2]}
     [[ $word != = ]] || word=
     case $before in
-        --arena | --at | --from | --to | --process | --cell | --width | --steps | --workers | --seed | --runs) return ;;
+        --arena | --at | --from | --to | --process | --cell | --width | --steps | --workers | --seed | --runs | --states) return ;;
         --format)
             case " ${COMP_WORDS[*]} " in
                 *" cover "*) _hepf_offer -W lcov ;;
@@ -60,14 +60,15 @@ _hepf() {
     local at=1
     [[ ${COMP_WORDS[1]} != --long ]] || at=2
     if ((COMP_CWORD <= at)); then
-        _hepf_offer -W "check run sample replay state trace page picture why races cover diff list explain from help --long --help --version"
+        _hepf_offer -W "check run sample explore replay state trace page picture why races cover diff list explain from help --long --help --version"
         return
     fi
     case ${COMP_WORDS[at]} in
         check) options="--warn --format --color --long --help" ;;
         list) options="--color --long --help" ;;
         run) options="--arena --steps --workers --seed --choices --follow --history --color --long --help" ;;
-        sample) options="--runs --seed --arena --steps --keep --format --color --long --help" ;;
+        sample) options="--runs --seed --arena --steps --keep --format --progress --color --long --help" ;;
+        explore) options="--states --arena --keep --color --long --help" ;;
         replay) options="--arena --color --long --help" ;;
         page) options="--from --to --choices --seed --arena --steps --long --help" ;;
         picture) options="--choices --seed --arena --steps --long --help" ;;
@@ -89,7 +90,7 @@ _hepf() {
             ;;
         from) options="--fixed --free --capitals --help" ;;
         help)
-            _hepf_offer -W "check run sample replay state trace page picture why races cover diff list explain from"
+            _hepf_offer -W "check run sample explore replay state trace page picture why races cover diff list explain from"
             return
             ;;
         *) return ;;

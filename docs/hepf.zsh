@@ -8,6 +8,7 @@ _hepf() {
         'check:say why a source is refused'
         'run:run a source'
         'sample:run a source by lots many times and count what comes'
+        'explore:find every outcome over all choices'
         'replay:make the steps of a history again'
         'state:show what everything holds'
         'trace:say what each step did'
@@ -49,6 +50,10 @@ _hepf_words() {
         sample)
             _arguments '--runs=[runs, 1 to 1000000]:runs:' '--seed=[seed of the first run]:seed:' '--arena=[cells of storage]:cells:' \
                 '--steps=[entries of the history]:entries:' '--keep=[how the files of histories begin]:prefix:_files' '--format=[how to write it]:format:(json)' \
+                '--progress[say how many runs were made]' '--color=[when lines have colors]:when:((auto\:terminals always\:always never\:never))' '--long[say more of what went wrong]' '--help[show help]' '1:source:_files -g "*.(f|for|hep)"'
+            ;;
+        explore)
+            _arguments '--states=[states at most]:states:' '--arena=[cells of storage]:cells:' '--keep=[how the files of histories begin]:prefix:_files' \
                 '--color=[when lines have colors]:when:((auto\:terminals always\:always never\:never))' '--long[say more of what went wrong]' '--help[show help]' '1:source:_files -g "*.(f|for|hep)"'
             ;;
         replay)
@@ -106,7 +111,7 @@ _hepf_words() {
                 '--capitals[write small letters as capitals]' '--help[show help]' '1:listing:_files'
             ;;
         help)
-            _arguments '1:command:(check run sample replay state trace page picture why races cover diff list explain from)'
+            _arguments '1:command:(check run sample explore replay state trace page picture why races cover diff list explain from)'
             ;;
     esac
 }

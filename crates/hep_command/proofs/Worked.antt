@@ -1,7 +1,7 @@
 -- What the words for numbers, jobs and names say, row by row.
 use Rattle.std.proofs.Common.{◌≡◌, ◌∷◌, [], ℕ, Some, None, false, refl, true, codes}
 use Rattle.clap.proofs.OnLiterals.{clap_on_literals}
-use Rattle.hep_command.specs.Asked.{Viewed, check, cover, diff, explain, heard, page, races, replay, run, sample, standard, state, trace, why}
+use Rattle.hep_command.specs.Asked.{Viewed, check, cover, diff, explain, explore, heard, page, races, replay, run, sample, standard, state, trace, why}
 use Rattle.hep_command.specs.declared.job.CheckForm.TheVariants.{Lines, Gnu, Json}
 use Rattle.hep_command.specs.declared.job.TraceForm.TheVariants.{Lines as TraceLines, Lanes, Json as TraceJson}
 use Rattle.hep_command.specs.declared.job.ColorWhen.TheVariants.{Auto, Never}
@@ -69,15 +69,24 @@ unfolding asked clap_on_literals
 run_behind_a_history = refl
 
 sample_with_defaults : asked (codes "hepf" ∷ codes "sample" ∷ codes "a.f" ∷ [])
-    ≡ Some (sample (codes "a.f") 100 1 65536 10000000 None false)
+    ≡ Some (sample (codes "a.f") 100 1 65536 10000000 None false false)
 unfolding asked clap_on_literals
 sample_with_defaults = refl
 
 sample_with_all : asked (codes "hepf" ∷ codes "sample" ∷ codes "--runs" ∷ codes "9" ∷ codes "a.f" ∷ codes "--keep" ∷ codes "k" ∷ codes "--seed=4"
-    ∷ codes "--format=json" ∷ [])
-    ≡ Some (sample (codes "a.f") 9 4 65536 10000000 (Some (codes "k")) true)
+    ∷ codes "--progress" ∷ codes "--format=json" ∷ [])
+    ≡ Some (sample (codes "a.f") 9 4 65536 10000000 (Some (codes "k")) true true)
 unfolding asked clap_on_literals
 sample_with_all = refl
+
+explore_with_defaults : asked (codes "hepf" ∷ codes "explore" ∷ codes "a.f" ∷ []) ≡ Some (explore (codes "a.f") 1000000 65536 None)
+unfolding asked clap_on_literals
+explore_with_defaults = refl
+
+explore_with_all : asked (codes "hepf" ∷ codes "explore" ∷ codes "--states" ∷ codes "16777216" ∷ codes "a.f" ∷ codes "--arena=9" ∷ codes "--keep=k" ∷ [])
+    ≡ Some (explore (codes "a.f") 16777216 9 (Some (codes "k")))
+unfolding asked clap_on_literals
+explore_with_all = refl
 
 -- the run of the history h, in an arena of so many cells
 abbrev of_h : ℕ → Viewed

@@ -9,7 +9,7 @@ use Rattle.clap.specs.declared.parser.matches.ArgMatches.{ArgMatches}
 use Rattle.hep_command.specs.Numbers.{number_within, option_number}
 use Rattle.hep_command.specs.declared.job.Job.{Job}
 use Rattle.hep_command.specs.declared.job.ViewedRun.{ViewedRun}
-use Rattle.hep_command.specs.declared.job.Job.TheVariants.{Standard, Check, Run, Sample, Replay, State, Trace, Page, Why, Races, Cover, Diff, List, Explain}
+use Rattle.hep_command.specs.declared.job.Job.TheVariants.{Standard, Check, Run, Sample, Explore, Replay, State, Trace, Page, Why, Races, Cover, Diff, List, Explain}
 use Rattle.hep_command.specs.declared.job.CheckForm.{CheckForm}
 use Rattle.hep_command.specs.declared.job.CheckForm.TheVariants.{Lines, Gnu, Json}
 use Rattle.hep_command.specs.declared.job.TraceForm.{TraceForm}
@@ -38,7 +38,8 @@ pub data RequestedJob : Type 0 where
   standard : RequestedJob
   check : Text → Bool → CheckForm → RequestedJob
   run : Text → ℕ → ℕ → Option ℕ → Option ℕ → Option Text → Option Text → Option Text → RequestedJob
-  sample : Text → ℕ → ℕ → ℕ → ℕ → Option Text → Bool → RequestedJob
+  sample : Text → ℕ → ℕ → ℕ → ℕ → Option Text → Bool → Bool → RequestedJob
+  explore : Text → ℕ → ℕ → Option Text → RequestedJob
   replay : Text → Text → ℕ → RequestedJob
   state : Text → Viewed → Option ℕ → Bool → RequestedJob
   trace : Text → Viewed → Option ℕ → Option ℕ → Option ℕ → Option Text → TraceForm → RequestedJob
@@ -54,7 +55,8 @@ abbrev pub asked_by : Job → RequestedJob
 asked_by Standard = standard
 asked_by (Check file warn form) = check file.now warn form
 asked_by (Run file arena steps workers seed choices follow history) = run file.now arena steps workers seed (texts choices) (texts follow) (texts history)
-asked_by (Sample file runs seed arena steps keep json) = sample file.now runs seed arena steps (texts keep) json
+asked_by (Sample file runs seed arena steps keep progress json) = sample file.now runs seed arena steps (texts keep) progress json
+asked_by (Explore file states arena keep) = explore file.now states arena (texts keep)
 asked_by (Replay file history arena) = replay file.now history.now arena
 asked_by (State file view at json) = state file.now (viewed_by view) at json
 asked_by (Trace file view first last process cell form) = trace file.now (viewed_by view) first last process (texts cell) form
@@ -157,8 +159,17 @@ run_in rows =
 abbrev pub sample_in : ListOf Row → Option RequestedJob
 sample_in rows =
     option_and_then (λ file. option_and_then (λ runs. option_and_then (λ seed. option_and_then (λ arena. option_and_then
-    (λ steps. option_map (sample file runs seed arena steps (first_of (codes "keep") rows)) (format_in (codes "json") rows))
+    (λ steps. option_map (sample file runs seed arena steps (first_of (codes "keep") rows) (is_given (codes "progress") rows))
+    (format_in (codes "json") rows))
     (steps_in rows)) (arena_in rows)) (first_seed_in rows)) (runs_in rows)) (first_of (codes "file") rows)
+
+abbrev pub states_in : ListOf Row → Option ℕ
+states_in rows = option_number 16777216 1000000 (first_of (codes "states") rows)
+
+abbrev pub explore_in : ListOf Row → Option RequestedJob
+explore_in rows =
+    option_and_then (λ file. option_and_then (λ states. option_map (λ arena. explore file states arena (first_of (codes "keep") rows))
+    (arena_in rows)) (states_in rows)) (first_of (codes "file") rows)
 
 abbrev pub replay_in : ListOf Row → Option RequestedJob
 replay_in rows =
@@ -274,6 +285,7 @@ command_in command rows =
     if bytes_eq command (codes "check") then check_in rows
     else (if bytes_eq command (codes "run") then run_in rows
     else (if bytes_eq command (codes "sample") then sample_in rows
+    else (if bytes_eq command (codes "explore") then explore_in rows
     else (if bytes_eq command (codes "replay") then replay_in rows
     else (if bytes_eq command (codes "state") then state_in rows
     else (if bytes_eq command (codes "trace") then trace_in rows
@@ -284,7 +296,7 @@ command_in command rows =
     else (if bytes_eq command (codes "cover") then cover_in rows
     else (if bytes_eq command (codes "diff") then diff_in rows
     else (if bytes_eq command (codes "list") then list_in rows
-    else (if bytes_eq command (codes "explain") then explain_in rows else None)))))))))))))
+    else (if bytes_eq command (codes "explain") then explain_in rows else None))))))))))))))
 
 -- when lines have colors; a word of another name has no meaning
 abbrev pub color_by : Option Text → Option ColorWhen

@@ -10,7 +10,7 @@ use Rattle.hep_command.specs.declared.job.PageForm.{PageForm}
 use Rattle.hep_command.specs.declared.job.PageForm.TheVariants.{Html, Svg}
 use Rattle.hep_command.specs.declared.job.TraceForm.{TraceForm}
 use Rattle.hep_command.specs.declared.job.TraceForm.TheVariants.{Lanes}
-use Rattle.hep_command.specs.declared.job.Job.TheVariants.{Standard, Check, Run, Sample, Replay, State, Trace, Page, Why, Races, Cover, Diff, List, Explain}
+use Rattle.hep_command.specs.declared.job.Job.TheVariants.{Standard, Check, Run, Sample, Explore, Replay, State, Trace, Page, Why, Races, Cover, Diff, List, Explain}
 
 abbrev pub IsArena : ℕ → Type 0
 IsArena cells = (1 ≤ cells) × (cells ≤ 16777216)
@@ -37,6 +37,9 @@ abbrev pub IsTraceForm : TraceForm → Type 0
 IsTraceForm (Lanes width) = (40 ≤ width) × (width ≤ 400)
 IsTraceForm _ = Unit {0}
 
+abbrev pub IsSearched : ℕ → Type 0
+IsSearched states = (1 ≤ states) × (states ≤ 16777216)
+
 -- the numbers of the run that is looked at are those that its options allow
 abbrev pub IsViewInRange : ViewedRun → Type 0
 IsViewInRange run = IsArena run.arena × IsSteps run.steps × HasSeed run.seed
@@ -46,7 +49,8 @@ abbrev pub IsInRange : Job → Type 0
 IsInRange Standard = Unit {0}
 IsInRange (Check file warn form) = Unit {0}
 IsInRange (Run file arena steps workers seed choices follow history) = IsArena arena × IsSteps steps × AreWorkers workers × HasSeed seed
-IsInRange (Sample file runs seed arena steps keep json) = AreSampled runs × IsSeed seed × IsArena arena × IsSteps steps
+IsInRange (Sample file runs seed arena steps keep progress json) = AreSampled runs × IsSeed seed × IsArena arena × IsSteps steps
+IsInRange (Explore file states arena keep) = IsSearched states × IsArena arena
 IsInRange (Replay file history arena) = IsArena arena
 IsInRange (State file run at json) = IsViewInRange run
 IsInRange (Trace file run first last process cell form) = IsViewInRange run × IsTraceForm form

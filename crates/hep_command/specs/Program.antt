@@ -79,6 +79,9 @@ color_option = file_option (codes "color")
 abbrev pub warn_flag : Rule
 warn_flag = flag (codes "warn")
 
+abbrev pub progress_flag : Rule
+progress_flag = flag (codes "progress")
+
 -- the name of a format
 abbrev pub format_option : Rule
 format_option = file_option (codes "format")
@@ -103,7 +106,13 @@ run_command =
 abbrev pub sample_command : App
 sample_command =
     command_with (codes "sample") (source_word ∷ runs_option ∷ seed_option ∷ arena_option ∷ steps_option ∷ keep_option ∷ format_option
-    ∷ color_option ∷ long_flag ∷ [])
+    ∷ progress_flag ∷ color_option ∷ long_flag ∷ [])
+
+abbrev pub states_option : Rule
+states_option = number_option (codes "states") 16777216
+
+abbrev pub explore_command : App
+explore_command = command_with (codes "explore") (source_word ∷ states_option ∷ arena_option ∷ keep_option ∷ color_option ∷ long_flag ∷ [])
 
 abbrev pub replay_command : App
 replay_command = command_with (codes "replay") (source_word ∷ history_word ∷ arena_option ∷ color_option ∷ long_flag ∷ [])
@@ -213,7 +222,7 @@ bare_program = with_rule named_program long_flag
 
 -- the commands in the order of the help: those that check and run a source, those that look at runs, and those that list and explain
 abbrev pub running : List App
-running = check_command ∷ run_command ∷ sample_command ∷ replay_command ∷ []
+running = check_command ∷ run_command ∷ sample_command ∷ explore_command ∷ replay_command ∷ []
 
 abbrev pub looking : List App
 looking = state_command ∷ trace_command ∷ page_command ∷ picture_command ∷ why_command ∷ races_command ∷ cover_command ∷ diff_command ∷ []

@@ -40,6 +40,12 @@ pub const LEAST_WIDTH: u64 = 40;
 /// The most.
 pub const MOST_WIDTH: u64 = 400;
 
+/// The number of states of a search, where no option gives it.
+pub const STATES: u64 = 1_000_000;
+
+/// The greatest number of states of a search.
+pub const MOST_STATES: u64 = 16_777_216;
+
 /// Which run is looked at: the one of a history, where its file is named; else one that is made for it, by choices, by lots or serial.
 #[derive(Clone, Copy)]
 pub struct ViewedRun<'a> {
@@ -129,8 +135,20 @@ pub enum Job<'a> {
         steps: u64,
         /// The prefix of the files to which the histories of the first runs are written.
         keep: Option<&'a str>,
+        /// Whether it is said from the first run on how many have been made.
+        progress: bool,
         /// Whether the outcomes are objects of JSON.
         json: bool,
+    },
+    /// Search all states of a source, and list its outcomes.
+    Explore {
+        file: &'a str,
+        /// The greatest number of states, 1 to 16,777,216.
+        states: u32,
+        /// The cells of the arena, 1 to 16,777,216.
+        arena: u32,
+        /// The prefix of the files to which a history of each outcome is written.
+        keep: Option<&'a str>,
     },
     /// Make the steps of a history again.
     Replay {

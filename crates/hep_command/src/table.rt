@@ -1,7 +1,8 @@
 //! The commands and their words, as a table.
 
 use crate::job::{
-    LEAST_WIDTH, MOST_ARENA, MOST_RUNS, MOST_SEED, MOST_STEPS, MOST_WIDTH, MOST_WORKERS,
+    LEAST_WIDTH, MOST_ARENA, MOST_RUNS, MOST_SEED, MOST_STATES, MOST_STEPS, MOST_WIDTH,
+    MOST_WORKERS,
 };
 
 /// The kinds of words of a command.
@@ -53,6 +54,8 @@ const SAMPLE_EXAMPLE: &str = "What no lot shows isn't shown never to happen.
 
 Example: hepf sample examples/race.f --runs 1000 --keep race";
 
+const EXPLORE_EXAMPLE: &str = "Example: hepf explore examples/race.f --keep race";
+
 const REPLAY_EXAMPLE: &str = "Example: hepf replay examples/powers.f powers.history";
 
 const STATE_EXAMPLE: &str = "Example: hepf state examples/powers.f --at 100";
@@ -100,6 +103,14 @@ pub(crate) const LONG: WordRow = WordRow {
     kind: WordKind::Flag,
     value: "",
     help: "Say more of what went wrong: which file, line and name",
+};
+
+// How many runs of a sample have been made.
+const PROGRESS: WordRow = WordRow {
+    id: "progress",
+    kind: WordKind::Flag,
+    value: "",
+    help: "Say on standard error how many runs were made",
 };
 
 // Whether lines have colors.
@@ -212,6 +223,20 @@ const KEEP: WordRow = WordRow {
     kind: WordKind::Text,
     value: "PREFIX",
     help: "Keep the first history of each outcome in PREFIX.SEED",
+};
+
+const STATES: WordRow = WordRow {
+    id: "states",
+    kind: WordKind::Number(1, MOST_STATES),
+    value: "N",
+    help: "States at most, 1 to 16777216 [default: 1000000]",
+};
+
+const EXPLORED: WordRow = WordRow {
+    id: "keep",
+    kind: WordKind::Text,
+    value: "PREFIX",
+    help: "Keep a history of each outcome in PREFIX.NUMBER",
 };
 
 // The first part of an existing history.
@@ -382,7 +407,7 @@ const THIRD: WordRow = WordRow {
 };
 
 /// The commands that check and run a source. All commands as one constant take more steps of a proof than there are.
-pub(crate) const RUNNING: [CommandRow; 4] = [
+pub(crate) const RUNNING: [CommandRow; 5] = [
     CommandRow {
         name: "check",
         about: "Say why a source can't run, and nothing if it can",
@@ -418,9 +443,16 @@ pub(crate) const RUNNING: [CommandRow; 4] = [
             STEPS,
             KEEP,
             JSON_FORMAT,
+            PROGRESS,
             COLOR,
             LONG,
         ],
+    },
+    CommandRow {
+        name: "explore",
+        about: "Find every outcome that a source may have, over all choices",
+        example: EXPLORE_EXAMPLE,
+        words: &[SOURCE, STATES, ARENA, EXPLORED, COLOR, LONG],
     },
     CommandRow {
         name: "replay",

@@ -41,7 +41,7 @@ fn with_run<S: AsStr>(text: String, words: &[S]) -> Result<String, AllocError> {
 
 // The numbers that an option takes. One that isn't named here counts entries or processes.
 fn range_of(option: &str) -> &'static str {
-    if option == "arena" {
+    if option == "arena" || option == "states" {
         return "1 to 16777216";
     }
     if option == "workers" {

@@ -20,7 +20,7 @@ use Rattle.hep_views.specs.Nodes.{node_of}
 use Rattle.hep_views.specs.SeenWaits.{effect_behind, unit_among, unit_in_common, unit_kept_at, unit_of_block, unit_of_part, unit_under}
 use Rattle.hep_views.specs.SeenWaits.{wanted_for, wanted_on}
 use Rattle.hep_views.proofs.Nodes.{unit-at}
-use Rattle.hep_endings.specs.Endings.{blocked_of, ending_of, owner_of}
+use Rattle.hep_explore.specs.Endings.{blocked_of, ending_of, owner_of}
 
 -- ---- the variable in a cell is one of an activation that is held
 

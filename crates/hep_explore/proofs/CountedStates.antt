@@ -3,7 +3,7 @@ use Rattle.std.proofs.Common.{◌≡◌, ℕ, Bool, true, true≢false, [], leng
 use Rattle.std.proofs.lemmas.Option.{none-some, same_Some, slice_get_within}
 use Rattle.hep_machine.specs.Words.{Units, is_held, layout_of, opening, opening_layout}
 use Rattle.hep_machine.specs.Layout.{placing_from}
-use Rattle.hep_endings.proofs.LargerArenas.{none_stays}
+use Rattle.hep_explore.proofs.LargerArenas.{none_stays}
 use Rattle.hep_explore.specs.Searching.{HaveStates, IsKept, IsSearchWithin, Known}
 use Rattle.hep_explore.proofs.NoOther.{found_all}
 use Rattle.hep_explore.proofs.Paths.{has_path}

@@ -9,8 +9,8 @@ use Rattle.std.proofs.lemmas.Option.{none-some, same_Some}
 use Rattle.std.proofs.lemmas.Slice.Eq.{bytes_eq-Decides}
 use Rattle.hep_source.proofs.Tests.{at-front, at-last}
 use Rattle.hep_machine.specs.Words.{Units}
-use Rattle.hep_endings.specs.Explored.{Found}
-use Rattle.hep_endings.specs.Possible.{IsPossibleBy}
+use Rattle.hep_explore.specs.Explored.{Found}
+use Rattle.hep_explore.specs.Possible.{IsPossibleBy}
 use Rattle.hep_explore.specs.FoundOutcomes.{AreListed, AreOutcomes, IsFoundBy, IsListed, IsOutcomeBy, KeepsFound, is_like, with_found}
 use Rattle.hep_explore.specs.Searching.{IsPathTo, Known}
 use Rattle.hep_fast.proofs.StepRows.{get-one-more}

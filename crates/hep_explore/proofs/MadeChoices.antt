@@ -5,7 +5,7 @@ use Rattle.hep_machine.specs.declared.event.Entry.{Entry}
 use Rattle.hep_machine.specs.Words.{AreEntries, AreSteps, IsEntry, State, Units, run_from, schedule_of, schedule_of_entry, state_after_turn}
 use Rattle.hep_machine.specs.Words.{step}
 use Rattle.hep_blocked.proofs.LivingProcesses.{waits-idle}
-use Rattle.hep_endings.specs.Endings.{IsTerminal}
+use Rattle.hep_explore.specs.Endings.{IsTerminal}
 
 -- each entry has one step at most, and is of the process that is chosen, while there are choices
 abbrev pub Follow : List Entry → List ℕ → Type 0

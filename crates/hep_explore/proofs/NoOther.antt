@@ -9,11 +9,11 @@ use Rattle.hep_machine.proofs.Replays.{legal_steps, run_after}
 use Rattle.hep_outcome.specs.Outcome.{IsProgramOutcome, Outcome, outcome_of_full_arena}
 use Rattle.hep_outcome.specs.declared.options.Options.{Options}
 use Rattle.hep_outcome.specs.Statuses.{status_code}
-use Rattle.hep_endings.specs.Endings.{Ending, IsTerminal, ending_of}
-use Rattle.hep_endings.specs.Explored.{Found, IsExplored, IsFoundOf}
-use Rattle.hep_endings.specs.Possible.{IsPossible}
-use Rattle.hep_endings.specs.Texts.{Shows}
-use Rattle.hep_endings.proofs.LargerArenas.{none_stays, same_layout}
+use Rattle.hep_explore.specs.Endings.{Ending, IsTerminal, ending_of}
+use Rattle.hep_explore.specs.Explored.{Found, IsExplored, IsFoundOf}
+use Rattle.hep_explore.specs.Possible.{IsPossible}
+use Rattle.hep_explore.specs.Texts.{Shows}
+use Rattle.hep_explore.proofs.LargerArenas.{none_stays, same_layout}
 use Rattle.hep_state.specs.Words.{IsAfter, Snapshot}
 use Rattle.hep_explore.specs.FoundOutcomes.{AreListed, AreOutcomes, IsListed}
 use Rattle.hep_explore.specs.Searching.{AreAlikeByKeys, AreExpanded, IsCutBy, IsDone, IsEnded, IsFound, IsFullPath, IsKept, IsSearch}

@@ -18,12 +18,12 @@ use Rattle.hep_outcome.specs.declared.status.Status.TheVariants as statuses
 use Rattle.hep_outcome.proofs.Schedules.{choice_is_next, next_is_chosen}
 use Rattle.hep_replay.specs.ChoiceStop.{ChoiceStop}
 use Rattle.hep_replay.specs.ChoiceStop.TheVariants.{ArenaFull, Halted, StepLimit}
-use Rattle.hep_endings.specs.Endings.{IsTerminal, ending_of}
-use Rattle.hep_endings.specs.Texts.{Shows}
-use Rattle.hep_endings.proofs.Finished.{idle_after, legal_wait}
-use Rattle.hep_endings.proofs.Outcomes.{EndsItself, IsOfEnd, none_first, none_ready, of_end}
-use Rattle.hep_endings.proofs.Texts.{shows_halted, shows_over}
-use Rattle.hep_endings.proofs.Turns.{by_halted}
+use Rattle.hep_explore.specs.Endings.{IsTerminal, ending_of}
+use Rattle.hep_explore.specs.Texts.{Shows}
+use Rattle.hep_explore.proofs.Finished.{idle_after, legal_wait}
+use Rattle.hep_explore.proofs.Outcomes.{EndsItself, IsOfEnd, none_first, none_ready, of_end}
+use Rattle.hep_explore.proofs.Texts.{shows_halted, shows_over}
+use Rattle.hep_explore.proofs.Turns.{by_halted}
 use Rattle.hep_replay.proofs.ReplayTurns.{halted_stays}
 use Rattle.hep_explore.proofs.MadeChoices.{EndsBefore, Follow, MakesAll, follows, idle}
 

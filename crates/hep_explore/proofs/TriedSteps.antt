@@ -9,7 +9,7 @@ use Rattle.hep_fast.proofs.StepRows.{get-one-more}
 use Rattle.hep_machine.specs.Words.{Units, run, step, top_of}
 use Rattle.hep_machine.proofs.Others.{dead_idle}
 use Rattle.hep_replay.proofs.ReplayTurns.{halted_stays}
-use Rattle.hep_endings.specs.Endings.{IsTerminal}
+use Rattle.hep_explore.specs.Endings.{IsTerminal}
 use Rattle.hep_state.specs.declared.core_state.CoreState.{CoreState}
 use Rattle.hep_state.specs.Words.{IsMachineAfter}
 use Rattle.hep_state.proofs.ProcessNumbers.{length-stacks}

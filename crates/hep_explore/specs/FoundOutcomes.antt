@@ -4,8 +4,8 @@ use Rattle.std.specs.List.{list_any}
 use Rattle.std.specs.Str.{bytes_eq}
 use Rattle.hep_machine.specs.Words.{Units}
 use Rattle.hep_outcome.specs.Outcome.{Outcome}
-use Rattle.hep_endings.specs.Explored.{Found, IsFoundOf}
-use Rattle.hep_endings.specs.Possible.{IsPossibleBy}
+use Rattle.hep_explore.specs.Explored.{Found, IsFoundOf}
+use Rattle.hep_explore.specs.Possible.{IsPossibleBy}
 use Rattle.hep_explore.specs.Searching.{IsPathTo, Known}
 
 -- ---- lists of outcomes

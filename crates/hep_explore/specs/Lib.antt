@@ -1,3 +1,11 @@
+pub mod Endings
+pub mod Independence
+pub mod Closed
+pub mod Pure
+pub mod Finished
+pub mod Texts
+pub mod Possible
+pub mod Explored
 pub mod Contents
 pub mod Keys
 pub mod KeyParts

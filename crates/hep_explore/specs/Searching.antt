@@ -2,7 +2,7 @@
 use Rattle.std.specs.Prelude.{◌≡◌, ◌≢◌, ◌⊎◌, ◌<◌, ◌≤◌, ◌+◌, ℕ, Bool, true, false, List, [], ◌∷◌, ◌++◌, length, slice_get, Option, Some}
 use Rattle.std.specs.Prelude.{IsSome, None}
 use Rattle.hep_machine.specs.Words.{AreSteps, Units, is_held, layout_of, opening, run, step}
-use Rattle.hep_endings.specs.Endings.{IsTerminal}
+use Rattle.hep_explore.specs.Endings.{IsTerminal}
 use Rattle.hep_state.specs.declared.core_state.CoreState.{CoreState}
 use Rattle.hep_state.specs.Words.{HasNoGap, IsAfter, IsMachineAfter, Snapshot, snapshot_of}
 use Rattle.hep_explore.specs.Keys.{IsKeyOf}

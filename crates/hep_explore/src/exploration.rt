@@ -1,7 +1,7 @@
 //! The outcomes of a program, over all choices.
 ghost use Rattle.std.specs.Prelude.{◌≡◌, ◌⊎◌, ◌≤◌, ℕ, List, true, false, IfOk, None, OnOk, length};
 ghost use Rattle.hep_machine.specs.Words.{AreSteps, opening, opening_layout};
-ghost use Rattle.hep_endings.specs.Explored.{IsExplored};
+ghost use Rattle.hep_explore.specs.Explored.{IsExplored};
 ghost use Rattle.hep_state.specs.Words.{CanOpen};
 ghost use Rattle.hep_explore.specs.FoundOutcomes.{AreListed, AreOutcomes, IsOutcomeBy, KeepsFound};
 ghost use Rattle.hep_explore.specs.Searching.{AreExpanded, HaveStates, IsCutBy, IsDone, IsFullPath, IsSearch};

@@ -3,8 +3,8 @@ ghost use Rattle.std.specs.Prelude.{◌≡◌, ◌≤◌, ◌++◌, IfOk, OnOk};
 ghost use Rattle.std.specs.List.{list_any};
 ghost use Rattle.hep_machine.specs.Words.{AreSteps, opening};
 ghost use Rattle.hep_outcome.specs.Transcripts.{outcome_of};
-ghost use Rattle.hep_endings.specs.Explored as explored;
-ghost use Rattle.hep_endings.specs.Explored.{IsFoundOf};
+ghost use Rattle.hep_explore.specs.Explored as explored;
+ghost use Rattle.hep_explore.specs.Explored.{IsFoundOf};
 ghost use Rattle.hep_explore.specs.FoundOutcomes as spec;
 ghost use Rattle.hep_explore.specs.FoundOutcomes.{IsFoundBy, with_found};
 
@@ -27,7 +27,7 @@ pub struct Found {
 }
 
 impl Model for Found {
-    ghost use Rattle.hep_endings.specs.Explored.{Found as PureFound};
+    ghost use Rattle.hep_explore.specs.Explored.{Found as PureFound};
 
     ghost Value = { PureFound };
 

@@ -2,7 +2,7 @@
 ghost use Rattle.std.specs.Prelude.{◌≡◌, ℕ, List, is_some, true};
 ghost use Rattle.hep_conditions.specs.Words.{IsAccepted};
 ghost use Rattle.hep_machine.specs.Words.{Units, main_among, run};
-ghost use Rattle.hep_endings.specs.Endings.{ending_of};
+ghost use Rattle.hep_explore.specs.Endings.{ending_of};
 ghost use Rattle.hep_state.specs.Words.{IsAfter, Snapshot};
 ghost use Rattle.hep_explore.specs.Keys.{IsKeyOf};
 

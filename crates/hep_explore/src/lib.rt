@@ -1,4 +1,6 @@
-//! All outcomes of a program: a search of its states, which are compared by keys.
+//! All outcomes of a program, over all choices: what they are, and a search of its states, which are compared by keys.
+//!
+//! [`explore`] searches. Each function of [`laws`] is a law and has no work to do: what is proved is its contract.
 #![tactic(auto)]
 
 pub mod exploration;
@@ -7,6 +9,7 @@ pub mod key;
 pub mod key_laws;
 mod key_parts;
 mod key_processes;
+pub mod laws;
 pub mod search;
 pub mod states;
 pub mod successor;

@@ -4,15 +4,15 @@ use Rattle.std.specs.Prelude.{◌≡◌, ◌⊎◌, ℕ, Bool, List, length, tak
 use Rattle.hep_machine.specs.declared.event.Entry.{Entry}
 use Rattle.hep_machine.specs.Words.{Units}
 use Rattle.hep_cover.specs.CausesReasons.{why_text}
-use Rattle.hep_objects.specs.StateObjects.{state_objects}
-use Rattle.hep_objects.specs.WhyObjects.{why_objects}
+use Rattle.hep_formats.specs.StateObjects.{state_objects}
+use Rattle.hep_formats.specs.WhyObjects.{why_objects}
 use Rattle.hep_state_text.specs.States.{state_text}
 use Rattle.hep_state_text.specs.LineDisplay.{line_shown}
 use Rattle.hep_text.specs.Line.{lines}
 use Rattle.hep_diff.specs.EventTraces.{trace_text}
 use Rattle.hep_page.specs.Pages.{page_text, picture_text}
-use Rattle.hep_timeline.specs.Lanes.{lanes_of}
-use Rattle.hep_timeline.specs.TraceEvents.{events_of}
+use Rattle.hep_formats.specs.Lanes.{lanes_of}
+use Rattle.hep_formats.specs.TraceEvents.{events_of}
 use Rattle.hep_trace.specs.LineFilters.{shown_on}
 use Rattle.hep_inspection.specs.Covers.{AreRefused, CanBeMade}
 use Rattle.hep_inspection.specs.Origins.{HasEntries, HasNoEntries}

@@ -7,3 +7,4 @@ pub mod CountedHistories
 pub mod Diffs
 pub mod ReplayResults
 pub mod Races
+pub mod Explorations

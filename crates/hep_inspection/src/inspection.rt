@@ -2,7 +2,7 @@
 ghost use Rattle.std.specs.Prelude.{◌≡◌, ◌≤◌, false, IfErr, IfOk, OnErr, OnOk, take};
 ghost use Rattle.hep_inspection.specs.declared.origin.Origin.TheVariants.{Text};
 ghost use Rattle.hep_inspection.specs.declared.inspection.Inspection.TheVariants.{State, StateJson};
-ghost use Rattle.hep_objects.specs.WhyObjects as objects;
+ghost use Rattle.hep_formats.specs.WhyObjects as objects;
 ghost use Rattle.hep_replay.specs.HistoryPrefix.{first_of};
 ghost use Rattle.hep_replay.specs.Replays.{IsUnmade};
 ghost use Rattle.hep_run.specs.Delivery.{LeavesOfSource};
@@ -20,8 +20,8 @@ use crate::origin::{Origin, Recorded, entries_of};
 use crate::timeline::{events_told, lanes_told};
 use hep_core::Core;
 use hep_cover::{History, HistoryPrefix, ReplayFault, replay_first, why_text};
+use hep_formats::{state_objects, why_objects};
 use hep_image::Image;
-use hep_objects::{state_objects, why_objects};
 use hep_page::{ShownEntries, page_text, picture_text, state_text};
 use hep_run::Run;
 use hep_run::command::{Command, CommandRequest, deliver_source};

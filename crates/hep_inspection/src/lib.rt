@@ -6,6 +6,8 @@
 pub mod cover;
 pub mod cover_options;
 pub mod diff;
+pub mod explore;
+pub mod explore_options;
 pub mod inspection;
 pub mod origin;
 pub mod races;
@@ -15,15 +17,19 @@ mod timeline;
 pub use cover::cover_noted;
 pub use cover_options::CoverOptions;
 pub use diff::{DiffOptions, diff_noted};
+pub use explore::{Explored, choices_history, explore_bytes};
+pub use explore_options::ExploreOptions;
 pub use hep_core::Core;
 pub use hep_cover::{Choices, HistFault, read_text};
+pub use hep_explore::MOST_STEPS;
 pub use hep_outcome::nth_options;
 pub use hep_page::state_text;
 pub use hep_run::{
     Check, Command, CommandRequest, DiagnosticFormat, DiagnosticsRequest, List, LotOptions, NoGate,
-    Options, ReadFault, ReplayOptions, Run, Sample, SampleOptions, Warn, WorkOptions, WorkRequest,
-    answer, choices_of, deliver_source, diagnostics_source, followed_of, history_text,
-    lots_history, put_text, read_text_file, sample_bytes, say_unread, say_unwritten, work_noted,
+    Observer, Options, ReadFault, ReplayOptions, Run, Sample, SampleOptions, SampleRequest, Warn,
+    WorkOptions, WorkRequest, answer, choices_of, deliver_source, diagnostics_source, followed_of,
+    history_text, lots_history, put_text, read_text_file, sample_bytes, say_unread, say_unwritten,
+    work_noted,
 };
 pub use hep_state_text::Listing;
 pub use hep_trace::LineFilter;

@@ -1,11 +1,11 @@
 //! What is written about the lines of a trace: lanes, and the events of a timeline.
 ghost use Rattle.std.specs.Prelude.{◌≡◌, IfErr, IfOk};
 ghost use Rattle.hep_replay.specs.declared.replay_fault.ReplayFault.TheVariants.{NoMemory};
-ghost use Rattle.hep_timeline.specs.Lanes as lanes;
-ghost use Rattle.hep_timeline.specs.TraceEvents as events;
+ghost use Rattle.hep_formats.specs.Lanes as lanes;
+ghost use Rattle.hep_formats.specs.TraceEvents as events;
 
 use hep_cover::ReplayFault;
-use hep_timeline::{events_of, lanes_of};
+use hep_formats::{events_of, lanes_of};
 use std::alloc::Global;
 
 /// The lanes of the lines of a trace, in rows of so many columns.

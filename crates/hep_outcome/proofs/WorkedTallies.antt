@@ -1,7 +1,7 @@
 -- Computed examples of what `sample` writes.
 use Rattle.std.proofs.Common.{◌≡◌, ◌∷◌, ◌++◌, List, [], codes, refl}
 use Rattle.std.specs.Fmt.{digits}
-use Rattle.hep_json.specs.Strings.{json_string}
+use Rattle.hep_formats.specs.Strings.{json_string}
 use Rattle.hep_outcome.specs.Tallies.{Tally, sample_objects, sample_text}
 
 -- three runs that printed 5 6, and one that printed 7 and then waits

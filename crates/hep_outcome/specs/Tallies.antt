@@ -3,7 +3,7 @@ use Rattle.std.specs.Prelude.{◌≡◌, ℕ, suc, ◌+◌, ◌-◌, ◌%◌, �
 use Rattle.std.specs.Fmt.{decimal}
 use Rattle.std.specs.List.{flat_map}
 use Rattle.std.specs.Str.{bytes_eq}
-use Rattle.hep_json.specs.Strings.{json_strings}
+use Rattle.hep_formats.specs.Strings.{json_strings}
 use Rattle.hep_text.specs.Line.{lines}
 use Rattle.hep_outcome.specs.declared.options.LotOptions.{LotOptions}
 use Rattle.hep_outcome.specs.declared.options.SampleOptions.{SampleOptions}

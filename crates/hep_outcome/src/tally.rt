@@ -1,6 +1,6 @@
 //! Tallies of many runs by lots.
 ghost use Rattle.std.specs.Prelude.{◌≡◌, ◌≤◌, ◌+◌, ◌++◌, map, IfOk, OnOk};
-ghost use Rattle.hep_json.specs.Strings.{json_strings};
+ghost use Rattle.hep_formats.specs.Strings.{json_strings};
 ghost use Rattle.hep_text.specs.Line.{lines};
 ghost use Rattle.hep_outcome.specs.Tallies as spec;
 ghost use Rattle.hep_outcome.specs.Tallies.{IsNth, Tally as Counted, counted, sample_text, tally_text};
@@ -8,7 +8,7 @@ ghost use Rattle.hep_outcome.specs.Transcripts.{outcome_of};
 
 use crate::options::{LotOptions, SampleOptions};
 use crate::transcript::Transcript;
-use hep_json::append_json_item;
+use hep_formats::append_json_item;
 use hep_output::append_number;
 use hep_text::line::next_line;
 use std::alloc::{AllocError, Global};

@@ -3,10 +3,10 @@ use Rattle.std.specs.Prelude.{ℕ, ◌+◌, ◌*◌, ◌/◌, ◌%◌, Bool, fal
 use Rattle.std.specs.List.{flat_map}
 use Rattle.hep_page.specs.declared.lane_spot.LaneSpot.{LaneSpot}
 use Rattle.hep_page.specs.declared.picture_scale.PictureScale.{PictureScale}
-use Rattle.hep_timeline.specs.declared.turn_mark.TurnKind.{TurnKind}
-use Rattle.hep_timeline.specs.declared.turn_mark.TurnKind.TheVariants.{Begins, Idle}
-use Rattle.hep_timeline.specs.declared.turn_mark.TurnMark.{TurnMark}
-use Rattle.hep_timeline.specs.TurnMarks.{rank}
+use Rattle.hep_formats.specs.declared.turn_mark.TurnKind.{TurnKind}
+use Rattle.hep_formats.specs.declared.turn_mark.TurnKind.TheVariants.{Begins, Idle}
+use Rattle.hep_formats.specs.declared.turn_mark.TurnMark.{TurnMark}
+use Rattle.hep_formats.specs.TurnMarks.{rank}
 
 -- how many parts of this size n has, the last one perhaps smaller
 abbrev pub parts : ℕ → ℕ → ℕ

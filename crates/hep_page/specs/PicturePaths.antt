@@ -4,11 +4,11 @@ use Rattle.std.specs.Prelude.{◌++◌, codes}
 use Rattle.std.specs.Fmt.{decimal}
 use Rattle.std.specs.List.{flat_map}
 use Rattle.hep_page.specs.declared.lane_spot.LaneSpot.{LaneSpot}
-use Rattle.hep_timeline.specs.declared.turn_mark.TurnKind.{TurnKind}
-use Rattle.hep_timeline.specs.declared.turn_mark.TurnMark.{TurnMark}
+use Rattle.hep_formats.specs.declared.turn_mark.TurnKind.{TurnKind}
+use Rattle.hep_formats.specs.declared.turn_mark.TurnMark.{TurnMark}
 use Rattle.hep_page.specs.LaneSpots.{Scale, is_idle}
 use Rattle.hep_page.specs.PictureShapes.{class_of, kinds, shape_of}
-use Rattle.hep_timeline.specs.TurnMarks.{rank}
+use Rattle.hep_formats.specs.TurnMarks.{rank}
 
 -- the middle of a column, and that of a lane
 abbrev pub column_x : Scale → ℕ → ℕ

@@ -1,8 +1,8 @@
 -- How the marks of a picture look: docs/RUNS.md, "A picture".
 use Rattle.std.specs.Prelude.{ℕ, Bool, if◌then◌else◌, List, [], ◌∷◌, codes}
-use Rattle.hep_timeline.specs.declared.turn_mark.TurnKind.{TurnKind}
-use Rattle.hep_timeline.specs.declared.turn_mark.TurnKind.TheVariants.{Begins, Call, Create, End, Fault, Fill, Idle, Other, Print, Read}
-use Rattle.hep_timeline.specs.declared.turn_mark.TurnKind.TheVariants.{Store, Take, Wait}
+use Rattle.hep_formats.specs.declared.turn_mark.TurnKind.{TurnKind}
+use Rattle.hep_formats.specs.declared.turn_mark.TurnKind.TheVariants.{Begins, Call, Create, End, Fault, Fill, Idle, Other, Print, Read}
+use Rattle.hep_formats.specs.declared.turn_mark.TurnKind.TheVariants.{Store, Take, Wait}
 
 -- the class of a kind in the style sheet
 abbrev pub class_of : TurnKind → List ℕ

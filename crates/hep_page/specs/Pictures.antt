@@ -7,8 +7,9 @@ use Rattle.hep_text.specs.Line as text
 use Rattle.hep_page.specs.Html.{html}
 use Rattle.hep_page.specs.LaneSpots.{Scale, fields_of, parts, scale_of, spots_of}
 use Rattle.hep_page.specs.PicturePaths.{run_text}
-use Rattle.hep_timeline.specs.TurnMarks.{after_blank, deed_of, first_word, from_unit, higher, highest_process, mark_of}
-use Rattle.hep_timeline.specs.TraceLines.{line_of, waits}
+use Rattle.hep_formats.specs.LineWords.{after_blank}
+use Rattle.hep_formats.specs.TurnMarks.{deed_of, first_word, from_unit, higher, highest_process, mark_of}
+use Rattle.hep_formats.specs.TraceLines.{line_of, waits}
 use Rattle.hep_page.specs.declared.lane_lines.LaneLines.{LaneLines}
 use Rattle.hep_page.specs.declared.lane_spot.LaneSpot.{LaneSpot}
 use Rattle.hep_page.specs.declared.picture_frame.PictureFrame.{PictureFrame}
@@ -16,7 +17,7 @@ use Rattle.hep_page.specs.declared.picture_parts.PictureParts.{PictureParts}
 use Rattle.hep_page.specs.declared.picture_template.TheConstants.{ALL_NAMES, BEGINS, COLUMNS, DEFINED, DESCRIPTION, FOLDED, HEADING}
 use Rattle.hep_page.specs.declared.picture_template.TheConstants.{LEGEND, NAME, NAMES}
 use Rattle.hep_page.specs.declared.picture_template.TheConstants.{ROLE, SHOWN, STYLE, TITLE, WANT}
-use Rattle.hep_timeline.specs.declared.turn_mark.TurnMark.{TurnMark}
+use Rattle.hep_formats.specs.declared.turn_mark.TurnMark.{TurnMark}
 
 -- ---- lanes
 

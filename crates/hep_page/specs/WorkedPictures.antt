@@ -3,7 +3,7 @@ use Rattle.std.specs.Prelude.{◌≡◌, ℕ, List, [], ◌∷◌, codes, false,
 use Rattle.std.specs.Fmt.{digits}
 use Rattle.hep_page.specs.LaneSpots.{scale_of, spots_of}
 use Rattle.hep_page.specs.PicturePaths.{lives_from, waits_from}
-use Rattle.hep_timeline.specs.TurnMarks.{mark_of}
+use Rattle.hep_formats.specs.TurnMarks.{mark_of}
 
 -- 1,001 turns are folded, three to a column
 folded_turns : (scale_of 1001).turns ≡ 3

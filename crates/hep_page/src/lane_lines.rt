@@ -6,7 +6,7 @@ ghost use Rattle.hep_page.specs.Pictures as words;
 use crate::html::append_html;
 use crate::picture_paths::{append_with, times_and};
 use crate::picture_template::{NAME, WANT};
-use hep_timeline::{after_blank, deed_of, first_word, from_unit, line_of, waits};
+use hep_formats::{after_blank, deed_of, first_word, from_unit, line_of, waits};
 use std::alloc::{AllocError, Global};
 
 /// A process, and the lines of its first turn and of its last one.

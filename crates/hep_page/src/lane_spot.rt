@@ -3,7 +3,7 @@ ghost use Rattle.std.specs.Prelude.{◌≡◌, ◌++◌, ◌^◌, ◌<◌, ◌�
 ghost use Rattle.hep_page.specs.LaneSpots as words;
 
 use crate::picture_scale::PictureScale;
-use hep_timeline::{TurnKind, TurnMark, rank};
+use hep_formats::{TurnKind, TurnMark, rank};
 use std::alloc::{AllocError, Global};
 
 /// What a lane shows in a column.

@@ -15,7 +15,7 @@ use crate::picture_scale::PictureScale;
 use crate::picture_template::{
     ALL_NAMES, BEGINS, DEFINED, DESCRIPTION, HEADING, LEGEND, ROLE, STYLE, TITLE,
 };
-use hep_timeline::{lines_of, marks_of, numbers};
+use hep_formats::{lines_of, marks_of, numbers};
 use std::alloc::{AllocError, Global};
 
 fn title_of(

@@ -8,7 +8,7 @@ use crate::lane_spot::parts;
 use crate::picture_paths::{append_with, times_and};
 use crate::picture_scale::PictureScale;
 use crate::picture_template::{COLUMNS, FOLDED, NAMES, SHOWN};
-use hep_timeline::{TurnMark, first_word, from_unit, highest_process, numbers};
+use hep_formats::{TurnMark, first_word, from_unit, highest_process, numbers};
 use std::alloc::{AllocError, Global};
 
 /// How much a picture has.

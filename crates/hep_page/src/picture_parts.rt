@@ -5,7 +5,7 @@ use crate::lane_lines::LaneLines;
 use crate::lane_spot::LaneSpot;
 use crate::picture_frame::PictureFrame;
 use crate::picture_scale::PictureScale;
-use hep_timeline::TurnMark;
+use hep_formats::TurnMark;
 
 /// What a picture shows.
 pub struct PictureParts<'a> {

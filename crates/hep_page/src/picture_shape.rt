@@ -2,7 +2,7 @@
 ghost use Rattle.std.specs.Prelude.{◌≡◌, ◌++◌, OnOk};
 ghost use Rattle.hep_page.specs.PictureShapes as words;
 
-use hep_timeline::TurnKind;
+use hep_formats::TurnKind;
 use std::alloc::AllocError;
 
 /// The kinds, those that matter more over the others.

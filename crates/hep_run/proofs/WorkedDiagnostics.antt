@@ -1,7 +1,7 @@
 -- Computed examples of what `check --format` writes.
 use Rattle.std.proofs.Common.{◌≡◌, ◌++◌, None, Some, codes, refl}
 use Rattle.std.specs.Fmt.{digits}
-use Rattle.hep_json.specs.Strings.{json_string}
+use Rattle.hep_formats.specs.Strings.{json_string}
 use Rattle.hep_run.specs.Diagnostics.{error_text, warning_text}
 use Rattle.hep_run.specs.declared.options.DiagnosticFormat.TheVariants.{Gnu, Json}
 use Rattle.hep_warnings.specs.declared.warning.WarningKind.TheVariants.{Behind}

@@ -4,7 +4,7 @@ use Rattle.std.specs.Prelude.{◌≡◌, ◌⊎◌, ℕ, Bool, true, false, nat_
 use Rattle.std.specs.Prelude.{List, [], ◌∷◌, ◌++◌, codes, map, Ok, Option, Some, None}
 use Rattle.std.specs.Fmt.{decimal}
 use Rattle.std.specs.List.{flat_map}
-use Rattle.hep_json.specs.Strings.{json_string}
+use Rattle.hep_formats.specs.Strings.{json_string}
 use Rattle.hep_text.specs.Places.{place_in, place_of_line}
 use Rattle.hep_text.specs.Reading.{statements_of}
 use Rattle.hep_text.specs.Refusals.{words_of}

@@ -7,7 +7,7 @@ ghost use Rattle.hep_run.specs.Diagnostics as words;
 use crate::options::{DiagnosticFormat, DiagnosticsRequest};
 use hep_base::append_number;
 use hep_check::{Diagnostic, culprit_text, position_of};
-use hep_json::append_json_string;
+use hep_formats::append_json_string;
 use hep_text::place::place_in;
 use hep_text::reason::reason;
 use hep_text::{Span, Stmt};

@@ -11,6 +11,7 @@ mod diagnostic_lines;
 pub mod diagnostics;
 pub mod front_end;
 pub mod input;
+pub mod observer;
 pub mod options;
 pub mod refusal;
 pub mod run_by_workers;
@@ -39,7 +40,8 @@ pub use hep_workers::{
     WorkFault, WorkOptions, close, compute, run_workers, worker_turn,
 };
 pub use input::ReadFault;
+pub use observer::Observer;
 pub use options::{DiagnosticFormat, DiagnosticsRequest, Run, WorkRequest};
 pub use run_by_workers::{work_noted, work_source};
-pub use sample::{Sample, lots_history, sample_bytes};
+pub use sample::{Sample, SampleRequest, lots_history, sample_bytes};
 pub use source::{check_source, list_source, lots_noted, replay_source, run_source, warn_source};

@@ -10,6 +10,7 @@ ghost use Rattle.hep_outcome.specs.Transcripts.{outcome_of};
 use crate::command::{CommandRequest, transcript_of};
 use crate::delivery::{deliver, say};
 use crate::front_end::image_of_source;
+use crate::observer::Observer;
 use crate::source::NO_MEMORY;
 use crate::transcript::{fault_transcript, text_transcript};
 use hep_outcome::{
@@ -28,12 +29,21 @@ pub struct Sample {
     pub seeds: Vec<u64>,
 }
 
+/// The options of a sample, whether notes are written besides the lines of the standard form, and who is told of its runs.
+#[derive(Drop)]
+pub struct SampleRequest<'a, O> {
+    pub options: &'a SampleOptions,
+    pub long: bool,
+    pub observer: &'a O,
+}
+
 // The tallies of all runs of a source.
-fn tallies_of(
+fn tallies_of<O: Observer>(
     alloc: Global,
     source: &[u8],
     options: &SampleOptions,
     long: bool,
+    observer: &O,
 ) -> Result<Vec<Tally>, AllocError>
     ensures { IfOk result (λ tallies. IsTallied long options.now source.now options.now.runs tallies.items) }
 {
@@ -42,39 +52,43 @@ fn tallies_of(
         let by = nth_options(options, run);
         let asked = CommandRequest { options: &by, long };
         let transcript = transcript_of(alloc, source, &asked)?;
+        let outcomes = tallies.len();
         count(&mut tallies, Tally::new(by.seed, transcript)?)?;
+        observer.run_made(run + 1, by.seed, outcomes < tallies.len());
     }
     Ok(tallies)
 }
 
 // All that a sample of a runnable source writes, before a byte of it is written, and the seeds of the first runs.
-fn counted_transcript(
+fn counted_transcript<O: Observer>(
     alloc: Global,
     source: &[u8],
     options: &SampleOptions,
     long: bool,
+    observer: &O,
 ) -> Result<(Transcript, Vec<u64>), AllocError>
     ensures { IfOk result (λ made. IsSampled long options.now source.now made.1.items (outcome_of made.0)) }
 {
-    let tallies = tallies_of(alloc, source, options, long)?;
+    let tallies = tallies_of(alloc, source, options, long, observer)?;
     let text = text_of(alloc, options, &tallies)?;
     let seeds = seeds_of(alloc, &tallies)?;
     Ok((text_transcript(alloc, text), seeds))
 }
 
 // All that a sample of a source writes, before a byte of it is written, and the seeds of the first runs.
-fn sample_transcript(
+fn sample_transcript<O: Observer>(
     alloc: Global,
     source: &[u8],
     options: &SampleOptions,
     long: bool,
+    observer: &O,
 ) -> Result<(Transcript, Vec<u64>), AllocError>
     ensures made { IfOk result (λ made. IsSampleOutcome long options.now made.1.items source.now (outcome_of made.0)) }
     ensures seeds { IfOk result (λ made. AreFirstSeeds long options.now source.now made.1.items) }
     ensures unmade { OnErr result (MayReadOn long source.now) }
 {
     match image_of_source(alloc, source, long) {
-        Ok(_) => counted_transcript(alloc, source, options, long),
+        Ok(_) => counted_transcript(alloc, source, options, long, observer),
         Err(fault) => Ok((fault_transcript(alloc, fault)?, Vec::new(alloc))),
     }
 }
@@ -82,11 +96,11 @@ fn sample_transcript(
 /// Samples a source, which has been read: runs it by lots, once for each seed, and writes the number of runs of each
 /// outcome, with the seed of the first one; or to `messages` why it isn't run, with notes where they are asked for.
 ///
-/// Each run is compared with the outcomes before it, one after another.
-pub fn sample_bytes<W: Write, E: Write>(
+/// Each run is compared with the outcomes before it, one after another, and then the observer is told of it.
+pub fn sample_bytes<W: Write, E: Write, O: Observer>(
     alloc: Global,
     source: &[u8],
-    asked: &CommandRequest<'_, SampleOptions>,
+    asked: &SampleRequest<'_, O>,
     output: &mut W,
     messages: &mut E,
 ) -> Sample
@@ -98,7 +112,7 @@ pub fn sample_bytes<W: Write, E: Write>(
     ensures seeds { AreFirstSeeds asked.now.long asked.now.options.now source.now result.seeds.items }
     ensures none { result.status ≡ 7 → result.seeds.items ≡ [] }
 {
-    match sample_transcript(alloc, source, asked.options, asked.long) {
+    match sample_transcript(alloc, source, asked.options, asked.long, asked.observer) {
         Ok((transcript, seeds)) => Sample {
             status: deliver(transcript, output, messages).status,
             seeds,

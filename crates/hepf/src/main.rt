@@ -6,19 +6,21 @@
 
 ghost use Rattle.hep_command.specs.Jobs.{IsArena, IsInRange, IsSeed, IsViewInRange};
 
-use hep_color::{TextKind, color_text};
 use hep_command::{
     CheckForm, ColorWhen, Job, PageForm, Request, SAME_FILE, TraceForm, ViewedRun, explain,
     read_request, same_page,
 };
+use hep_formats::{TextKind, color_text};
 use hep_inspection::{
     Check, Choices, Command, CommandRequest, CoverOptions, DiagnosticFormat, DiagnosticsRequest,
-    DiffOptions, HistFault, Inspection, InspectionOptions, LineFilter, List, LotOptions, NoGate,
-    Options, Origin, RacesOptions, ReadFault, ReplayOptions, Run, Sample, SampleOptions, Warn,
-    WorkOptions, WorkRequest, answer, choices_of, deliver_source, diagnostics_source, followed_of,
+    DiffOptions, ExploreOptions, Explored, HistFault, Inspection, InspectionOptions, LineFilter,
+    List, LotOptions, MOST_STEPS, NoGate, Observer, Options, Origin, RacesOptions, ReadFault,
+    ReplayOptions, Run, SampleOptions, SampleRequest, Warn, WorkOptions, WorkRequest, answer,
+    choices_history, choices_of, deliver_source, diagnostics_source, explore_bytes, followed_of,
     history_text, lots_history, nth_options, put_text, read_text, read_text_file, sample_bytes,
     say_unread, say_unwritten, work_noted,
 };
+use std::cell::Cell;
 use std::env::VarError;
 use std::fs::File;
 use std::io::{ErrorKind, IsTerminal, Read, Stdin, Write};
@@ -26,6 +28,7 @@ use std::os::unix::fs::MetadataExt;
 use std::process::ExitCode;
 use std::sync::Wait;
 use std::thread::Threads;
+use std::time::Instant;
 use std::{env, fs, io};
 
 // The message where a history would be written to the source.
@@ -93,6 +96,34 @@ struct Plan<'a> {
     history: Option<&'a str>,
     schedule: Schedule,
     marks: Marks,
+}
+
+/// Says on standard error how many runs of a sample were made: at a terminal in a line that is written over, and taken away at the end,
+/// and elsewhere in lines.
+#[derive(Drop)]
+struct Progress<'a> {
+    rt: &'a HostRuntime,
+    is_terminal: bool,
+    start: Instant,
+    /// The milliseconds from the start on before which nothing is said.
+    due: Cell<u128>,
+    /// Whether the line is there.
+    is_shown: Cell<bool>,
+}
+
+/// Keeps the first run of each outcome while a sample is made, where that is asked for, and says how many runs were made.
+#[derive(Drop)]
+struct SampleWatch<'a> {
+    rt: &'a HostRuntime,
+    file: &'a str,
+    source: &'a [u8],
+    options: &'a SampleOptions,
+    /// The prefix of the files that get the histories of the first runs.
+    prefix: Option<&'a str>,
+    progress: Option<Progress<'a>>,
+    long: bool,
+    /// The status of the first history that wasn't kept; 0 where all were.
+    status: Cell<u8>,
 }
 
 /// The entries of a page: the first one whose steps are shown, counted from 1, and the last one that is made.
@@ -515,15 +546,200 @@ fn look_at_first(
     Ok(())
 }
 
+impl Progress<'_> {
+    // Takes the line away, if it is there.
+    fn take_away(&self) {
+        if self.is_shown.replace(false) {
+            let _ = self.rt.stderr().write_all(b"\r\x1b[K");
+        }
+    }
+
+    // Whether something is to be said now; then nothing is said for a while.
+    fn is_due(&self) -> bool {
+        let Ok(passed) = self.start.elapsed(self.rt) else {
+            return false;
+        };
+        let passed = passed.as_millis();
+        if passed < self.due.get() {
+            return false;
+        }
+        let pause = if self.is_terminal { 100 } else { 1_000 };
+        self.due.set(passed.saturating_add(pause));
+        true
+    }
+
+    // Says how many runs were made.
+    fn put(&self, made: u32, all: u32) {
+        let alloc = self.rt.alloc();
+        let text = if self.is_terminal {
+            format!(in alloc; "\r\x1b[K{made} of {all} runs made")
+        } else {
+            format!(in alloc; "{made} of {all} runs made\n")
+        };
+        if let Ok(text) = text {
+            self.is_shown.set(self.is_terminal);
+            let _ = self.rt.stderr().write_all(text.as_bytes());
+        }
+    }
+
+    // Says how many runs were made, where it is time to. At the end a terminal loses the line, and else there is a last one.
+    fn say(&self, made: u32, all: u32) {
+        if made == all && self.is_terminal {
+            self.take_away();
+        } else if made == all || self.is_due() {
+            self.put(made, all);
+        }
+    }
+}
+
+// The progress of a sample, from the first run on where it is asked for, and else at a terminal after two seconds.
+fn progress_of(rt: &HostRuntime, is_asked: bool) -> Option<Progress<'_>> {
+    let is_terminal = rt.stderr().is_terminal() && !is_dumb(rt);
+    if !is_asked && !is_terminal {
+        return None;
+    }
+    let Ok(start) = Instant::now(rt) else {
+        return None;
+    };
+    Some(Progress {
+        rt,
+        is_terminal,
+        start,
+        due: Cell::new(if is_asked { 0 } else { 2_000 }),
+        is_shown: Cell::new(false),
+    })
+}
+
+impl SampleWatch<'_> {
+    // Writes the history of the run by a seed to its file.
+    fn keep_run(&self, prefix: &str, seed: u64) -> Result<u8, u8> {
+        let options = LotOptions {
+            arena: self.options.arena,
+            steps: self.options.steps,
+            seed,
+        };
+        let path = kept_path(self.rt, self.file, prefix, seed)?;
+        keep_history(self.rt, self.source, &options, path.as_str(), self.long)
+    }
+
+    // Keeps the run by a seed, if all before it were kept.
+    fn keep(&self, prefix: &str, seed: u64) {
+        if self.status.get() != 0 {
+            return;
+        }
+        if let Some(progress) = &self.progress {
+            progress.take_away();
+        }
+        self.status.set(match self.keep_run(prefix, seed) {
+            Ok(status) => status,
+            Err(status) => status,
+        });
+    }
+}
+
+impl Observer for SampleWatch<'_> {
+    fn run_made(&self, made: u32, seed: u64, is_first: bool) {
+        if is_first {
+            if let Some(prefix) = self.prefix {
+                self.keep(prefix, seed);
+            }
+        }
+        if let Some(progress) = &self.progress {
+            progress.say(made, self.options.runs);
+        }
+    }
+}
+
 // Writes the sample of a source. Only where there are marks is it kept until all is made.
 fn sampled(
     rt: &HostRuntime,
     source: &[u8],
-    asked: &CommandRequest<'_, SampleOptions>,
+    asked: &SampleRequest<'_, SampleWatch<'_>>,
     marks: Marks,
-) -> Sample {
+) -> u8 {
     if marks.output.is_none() && !marks.messages {
         return sample_bytes(
+            rt.alloc(),
+            source,
+            asked,
+            &mut rt.stdout(),
+            &mut rt.stderr(),
+        )
+        .status;
+    }
+    let (mut output, mut messages) = (Vec::new(rt.alloc()), Vec::new(rt.alloc()));
+    let sample = sample_bytes(rt.alloc(), source, asked, &mut output, &mut messages);
+    put_streams(rt, &output, &messages, marks, sample.status)
+}
+
+// Samples a source. Where histories have to be kept, those of the first runs are written while it is made.
+fn sample_file(
+    rt: &HostRuntime,
+    file: &str,
+    asked: &CommandRequest<'_, SampleOptions>,
+    watched: (Option<&str>, bool),
+    screen: Screen,
+) -> Result<u8, u8> {
+    let (options, long) = (asked.options, asked.long);
+    let (keep, progress) = watched;
+    let source = read_text_file(
+        rt.alloc(),
+        &mut source_of(rt, file, long)?,
+        &mut rt.stderr(),
+    )?;
+    if let Some(prefix) = keep {
+        look_at_first(rt, file, prefix, options.seed, long)?;
+    }
+    let observer = SampleWatch {
+        rt,
+        file,
+        source: source.as_slice(),
+        options,
+        prefix: keep,
+        progress: progress_of(rt, progress),
+        long,
+        status: Cell::new(0),
+    };
+    let asked = SampleRequest {
+        options,
+        long,
+        observer: &observer,
+    };
+    let marks = marks_of(screen, Some(TextKind::Outcome));
+    let status = sampled(rt, &source, &asked, marks);
+    if status != 0 {
+        return Ok(status);
+    }
+    Ok(observer.status.get())
+}
+
+// Writes the history of a run by choices to a file.
+fn keep_chosen(
+    rt: &HostRuntime,
+    source: &[u8],
+    options: &Options,
+    path: &str,
+    long: bool,
+) -> Result<u8, u8> {
+    let mut kept = kept_file(rt, path, long)?;
+    match choices_history(rt.alloc(), source, options, &mut rt.stderr()) {
+        Ok(text) => Ok(put_contents(rt, path, &mut kept, &text, 0, long)),
+        Err(status) => {
+            let_go(rt, path, &kept);
+            Err(status)
+        }
+    }
+}
+
+// Explores a source: writes its outcomes, with marks of color where these are wanted.
+fn explored(
+    rt: &HostRuntime,
+    source: &[u8],
+    asked: &CommandRequest<'_, ExploreOptions>,
+    marks: Marks,
+) -> Explored {
+    if marks.output.is_none() && !marks.messages {
+        return explore_bytes(
             rt.alloc(),
             source,
             asked,
@@ -532,18 +748,18 @@ fn sampled(
         );
     }
     let (mut output, mut messages) = (Vec::new(rt.alloc()), Vec::new(rt.alloc()));
-    let sample = sample_bytes(rt.alloc(), source, asked, &mut output, &mut messages);
-    Sample {
-        status: put_streams(rt, &output, &messages, marks, sample.status),
-        seeds: sample.seeds,
+    let explored = explore_bytes(rt.alloc(), source, asked, &mut output, &mut messages);
+    Explored {
+        status: put_streams(rt, &output, &messages, marks, explored.status),
+        found: explored.found,
     }
 }
 
-// Samples a source. If all was written and histories have to be kept, writes those of the first runs.
-fn sample_file(
+// Explores a source. If all was written and histories have to be kept, writes one of each outcome.
+fn explore_file(
     rt: &HostRuntime,
     file: &str,
-    asked: &CommandRequest<'_, SampleOptions>,
+    asked: &CommandRequest<'_, ExploreOptions>,
     keep: Option<&str>,
     screen: Screen,
 ) -> Result<u8, u8> {
@@ -554,29 +770,35 @@ fn sample_file(
         &mut rt.stderr(),
     )?;
     if let Some(prefix) = keep {
-        look_at_first(rt, file, prefix, options.seed, long)?;
+        look_at_first(rt, file, prefix, 1, long)?;
     }
     let marks = marks_of(screen, Some(TextKind::Outcome));
-    let sample = sampled(rt, &source, asked, marks);
-    if sample.status != 0 {
-        return Ok(sample.status);
-    }
+    let explored = explored(rt, &source, asked, marks);
     let Some(prefix) = keep else {
-        return Ok(0);
+        return Ok(explored.status);
     };
-    for seed in sample.seeds.as_slice() {
-        let options = LotOptions {
-            arena: options.arena,
-            steps: options.steps,
-            seed: *seed,
+    // Where not all was written, none is kept.
+    if explored.status == 8 {
+        return Ok(8);
+    }
+    let mut number = 1;
+    for found in explored.found.as_slice() {
+        let Ok(choices) = found.copied_choices(rt.alloc()) else {
+            return Err(say_no_memory(rt));
         };
-        let path = kept_path(rt, file, prefix, *seed)?;
-        let status = keep_history(rt, &source, &options, path.as_str(), long)?;
+        let options = Options {
+            arena: options.arena,
+            steps: MOST_STEPS,
+            choices,
+        };
+        let path = kept_path(rt, file, prefix, number)?;
+        let status = keep_chosen(rt, &source, &options, path.as_str(), long)?;
         if status != 0 {
             return Err(status);
         }
+        number += 1;
     }
-    Ok(0)
+    Ok(explored.status)
 }
 
 fn bytes_of(word: Option<&str>) -> Option<&[u8]> {
@@ -1109,8 +1331,8 @@ fn done<H: Threads + Wait + Sync>(
             arena,
             steps,
             keep,
+            progress,
             json,
-            ..
         } => {
             let options = SampleOptions {
                 arena,
@@ -1123,7 +1345,7 @@ fn done<H: Threads + Wait + Sync>(
                 options: &options,
                 long,
             };
-            sample_file(rt, file, &asked, keep, screen)
+            sample_file(rt, file, &asked, (keep, progress), screen)
         }
         Job::Replay {
             file,
@@ -1137,6 +1359,19 @@ fn done<H: Threads + Wait + Sync>(
         } => {
             let usage = explain(rt.alloc(), first, second, third);
             Ok(answered(rt, usage.status, &usage.text))
+        }
+        Job::Explore {
+            file,
+            states,
+            arena,
+            keep,
+        } => {
+            let options = ExploreOptions { arena, states };
+            let asked = CommandRequest {
+                options: &options,
+                long,
+            };
+            explore_file(rt, file, &asked, keep, screen)
         }
         Job::State { .. }
         | Job::Trace { .. }

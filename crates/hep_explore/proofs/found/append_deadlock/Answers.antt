@@ -1,7 +1,7 @@
 use Rattle.std.proofs.Common.{◌+◌, ◌++◌, ◌∙◌, Bool, List, [], ap, codes, drop, if◌then◌else◌, sym, ℕ}
 use Rattle.std.proofs.lemmas.List.{append-nil, at_drop_all}
 use Rattle.hep_source.proofs.Tests.{drop_at}
-use Rattle.hep_endings.specs.Explored.{Found, deadlock_text, has_waiting_line}
+use Rattle.hep_explore.specs.Explored.{Found, deadlock_text, has_waiting_line}
 use Rattle.hep_explore.proofs.AppendedItems.{if_appended}
 use Rattle.hep_explore.proofs.found.append_deadlock.Goals as goal
 

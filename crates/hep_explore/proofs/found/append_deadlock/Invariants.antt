@@ -1,5 +1,5 @@
 use Rattle.std.proofs.Common.{◌≡◌, drop}
-use Rattle.hep_endings.specs.Explored.{deadlock_text}
+use Rattle.hep_explore.specs.Explored.{deadlock_text}
 use Rattle.hep_explore.proofs.found.append_deadlock.Given as goal
 
 abbrev pub invariant-loop-found : goal.invariant-loop-found

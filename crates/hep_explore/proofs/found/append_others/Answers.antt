@@ -1,5 +1,5 @@
 use Rattle.std.proofs.Common.{◌++◌, ◌∙◌, Bool, List, ap, append_assoc, codes, sym, ℕ}
-use Rattle.hep_endings.specs.Explored.{others_text, states_text}
+use Rattle.hep_explore.specs.Explored.{others_text, states_text}
 use Rattle.hep_explore.proofs.AppendedItems.{if_appended}
 use Rattle.hep_explore.proofs.found.append_others.Goals as goal
 

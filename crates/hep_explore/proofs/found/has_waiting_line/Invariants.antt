@@ -1,5 +1,5 @@
 use Rattle.std.proofs.Common.{◌≡◌, drop}
-use Rattle.hep_endings.specs.Explored.{waits_later}
+use Rattle.hep_explore.specs.Explored.{waits_later}
 use Rattle.hep_explore.proofs.found.has_waiting_line.Given as goal
 
 abbrev pub invariant-loop-index : goal.invariant-loop-index

@@ -1,7 +1,7 @@
 use Rattle.std.proofs.Common.{◌+◌, ◌||◌, ◌∙◌, Bool, List, ap, drop, sym}
 use Rattle.std.specs.List.{list_any}
 use Rattle.hep_source.proofs.Tests.{drop_at}
-use Rattle.hep_endings.specs.Explored.{Found}
+use Rattle.hep_explore.specs.Explored.{Found}
 use Rattle.hep_explore.specs.FoundOutcomes.{is_like}
 use Rattle.hep_explore.proofs.found.is_among.Goals as goal
 

@@ -2,7 +2,7 @@ use Rattle.std.proofs.Common.{◌+◌, ◌++◌, ◌∙◌, List, ℕ, ap, appen
 use Rattle.std.proofs.lemmas.List.{append-nil, at_drop_all}
 use Rattle.std.specs.List.{flat_map}
 use Rattle.hep_source.proofs.Tests.{drop_at}
-use Rattle.hep_endings.specs.Explored.{Found, deadlock_text, found_text, number_text, others_text, states_text}
+use Rattle.hep_explore.specs.Explored.{Found, deadlock_text, found_text, number_text, others_text, states_text}
 use Rattle.hep_explore.proofs.found.text_of.Goals as goal
 
 pub loop-found-preserved : goal.loop-found-preserved

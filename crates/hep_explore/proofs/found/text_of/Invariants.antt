@@ -1,6 +1,6 @@
 use Rattle.std.proofs.Common.{◌≡◌, ◌++◌, drop}
 use Rattle.std.specs.List.{flat_map}
-use Rattle.hep_endings.specs.Explored.{found_text}
+use Rattle.hep_explore.specs.Explored.{found_text}
 use Rattle.hep_explore.proofs.found.text_of.Given as goal
 
 abbrev pub invariant-loop-found : goal.invariant-loop-found

@@ -1,5 +1,5 @@
 use Rattle.std.proofs.Common.{◌∙◌, ap}
-use Rattle.hep_objects.specs.StateObjects.{state_objects}
+use Rattle.hep_formats.specs.StateObjects.{state_objects}
 use Rattle.hep_inspection.proofs.inspection.state_objects_told.Goals as goal
 
 pub returns-in-Ok-clause-told : goal.returns-in-Ok-clause-told

@@ -2,8 +2,8 @@ use Rattle.std.proofs.Common.{◌≡◌, ◌∙◌, ℕ, List, IfOk, subst, sym}
 use Rattle.hep_replay.specs.HistoryPrefix.{first_of}
 use Rattle.hep_inspection.specs.declared.inspection.Inspection.{Inspection}
 use Rattle.hep_inspection.specs.Inspections.{told}
-use Rattle.hep_timeline.specs.Lanes.{lanes_of}
-use Rattle.hep_timeline.specs.TraceEvents.{events_of}
+use Rattle.hep_formats.specs.Lanes.{lanes_of}
+use Rattle.hep_formats.specs.TraceEvents.{events_of}
 use Rattle.hep_inspection.proofs.inspection.told_text.Goals as goal
 
 pub returns-in-State-clause-told : goal.returns-in-State-clause-told

@@ -1,5 +1,5 @@
 use Rattle.std.proofs.Common.{◌∙◌, ap}
-use Rattle.hep_objects.specs.WhyObjects.{why_objects}
+use Rattle.hep_formats.specs.WhyObjects.{why_objects}
 use Rattle.hep_inspection.proofs.inspection.why_objects_told.Goals as goal
 
 pub returns-in-Ok-clause-told : goal.returns-in-Ok-clause-told

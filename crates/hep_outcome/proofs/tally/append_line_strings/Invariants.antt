@@ -1,5 +1,5 @@
 use Rattle.std.proofs.Common.{◌≡◌, ◌++◌, codes, false, length}
-use Rattle.hep_json.specs.Strings.{json_items}
+use Rattle.hep_formats.specs.Strings.{json_items}
 use Rattle.hep_text.specs.Line.{lines}
 use Rattle.hep_outcome.proofs.tally.append_line_strings.Given as goal
 

@@ -7,7 +7,7 @@ use Rattle.hep_run.proofs.Counts.{tallied-run}
 use Rattle.hep_run.proofs.sample.tallies_of.Goals as goal
 
 pub loop-run-preserved : goal.loop-run-preserved
-loop-run-preserved c =
+loop-run-preserved g c =
     let options = c.args.options.now in
     let source = c.args.source.now in
     let run = c.loop-run.run in

@@ -1,5 +1,0 @@
-use Rattle.hep_endings.proofs.Outcomes.{shown_possible}
-use Rattle.hep_endings.proofs.laws.endings_are_shown_by_possible_outcomes.Goals as goal
-
-pub returns : goal.returns
-returns c = shown_possible

@@ -1,7 +1,0 @@
-use Rattle.hep_endings.specs.Pure.{is_pure}
-use Rattle.hep_endings.proofs.Closed.{ends_among_up_to}
-use Rattle.hep_endings.proofs.Pure.{pure_are_independent}
-use Rattle.hep_endings.proofs.laws.endings_are_those_up_to_pure_steps.Goals as goal
-
-pub returns : goal.returns
-returns c program states closed = ends_among_up_to program (is_pure program) states (pure_are_independent program) closed

@@ -1,5 +1,0 @@
-use Rattle.hep_endings.proofs.Rooms.{ending_fits, ending_within}
-use Rattle.hep_endings.proofs.laws.endings_fit_some_arena.Goals as goal
-
-pub returns : goal.returns
-returns c program e = (ending_fits program e, ending_within program e)

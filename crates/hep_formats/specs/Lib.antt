@@ -1,0 +1,12 @@
+pub mod Strings
+pub mod LineWords
+pub mod Members
+pub mod StateObjects
+pub mod WhyObjects
+pub mod TurnMarks
+pub mod TraceLines
+pub mod ShortActions
+pub mod LaneRows
+pub mod Lanes
+pub mod TraceEvents
+pub mod Colors

@@ -1,0 +1,125 @@
+//! All outcomes of a source, as far as a search of its states shows them.
+ghost use Rattle.std.specs.Io.KnownBytes.{Keeps};
+ghost use Rattle.std.specs.Prelude.{◌≡◌, [], codes, IfErr, IfOk};
+ghost use Rattle.hep_outcome.specs.Transcripts.{outcome_of};
+ghost use Rattle.hep_outcome.specs.declared.status.Status.TheVariants.{NoMemory};
+ghost use Rattle.hep_run.specs.Delivery.{LeavesOneOf, SaysLines, status_alone};
+ghost use Rattle.hep_inspection.specs.Explorations.{HasChosenHistory, IsExploredOutcome, outcome_of_exploration};
+
+use crate::explore_options::ExploreOptions;
+use hep_explore::{Exploration, Found, explore, text_of};
+use hep_history::History;
+use hep_outcome::{Lines, Options, Status, write_text};
+use hep_run::CommandRequest;
+use hep_run::command::transcript_of;
+use hep_run::delivery::{deliver, say};
+use hep_run::front_end::image_of_source;
+use hep_run::source::NO_MEMORY;
+use hep_run::transcript::{Transcript, fault_transcript};
+use std::alloc::{AllocError, Global};
+use std::io::Write;
+
+/// The result of a search.
+#[derive(Drop)]
+pub struct Explored {
+    /// The exit status of the program: the code of a `Status`.
+    pub status: u8,
+    /// The outcomes; none where the source isn't run, or memory was refused.
+    pub found: Vec<Found>,
+}
+
+// What is written of an exploration.
+fn transcript_of_exploration(
+    alloc: Global,
+    explored: &Exploration,
+) -> Result<Transcript, AllocError>
+    ensures { IfOk result (λ r. outcome_of r ≡ outcome_of_exploration explored.now) }
+{
+    let output = text_of(alloc, &explored.found, explored.states, explored.complete)?;
+    Ok(Transcript {
+        output,
+        messages: Lines::Made(Vec::new(alloc)),
+        status: if explored.complete {
+            Status::Done
+        } else {
+            Status::StepLimit
+        },
+        history: History::new(alloc),
+    })
+}
+
+// All that a search of a source writes, before a byte of it is written, and the outcomes that it found.
+fn explore_transcript(
+    alloc: Global,
+    source: &[u8],
+    asked: &CommandRequest<'_, ExploreOptions>,
+) -> Result<(Transcript, Vec<Found>), AllocError>
+    ensures { IfOk result (λ made. IsExploredOutcome asked.now.long asked.now.options.now made.1.items source.now (outcome_of made.0)) }
+{
+    match image_of_source(alloc, source, asked.long) {
+        Ok(image) => {
+            let explored = explore(
+                alloc,
+                &image,
+                asked.options.arena,
+                asked.options.states as usize,
+            )?;
+            let transcript = transcript_of_exploration(alloc, &explored)?;
+            Ok((transcript, explored.found))
+        }
+        Err(fault) => Ok((fault_transcript(alloc, fault)?, Vec::new(alloc))),
+    }
+}
+
+/// Searches the states of a source, which has been read, and writes its outcomes, with choices that lead to each and whether others may be
+/// possible; or to `messages` why it isn't run, with notes where they are asked for.
+pub fn explore_bytes<W: Write, E: Write>(
+    alloc: Global,
+    source: &[u8],
+    asked: &CommandRequest<'_, ExploreOptions>,
+    output: &mut W,
+    messages: &mut E,
+) -> Explored
+    ensures left { LeavesOneOf (IsExploredOutcome asked.now.long asked.now.options.now result.found.items source.now) (status_alone result.status)
+        (W.contents output.old) (W.contents output.new)
+        (E.contents messages.old) (E.contents messages.new) }
+{
+    match explore_transcript(alloc, source, asked) {
+        Ok((transcript, found)) => Explored {
+            status: deliver(transcript, output, messages).status,
+            found,
+        },
+        Err(_) => Explored {
+            status: say(messages, NO_MEMORY, Status::NoMemory),
+            found: Vec::new(alloc),
+        },
+    }
+}
+
+/// The text of the history of a source's run by choices. Where there is one, nothing is written to `messages`.
+///
+/// # Errors
+///
+/// The exit status, where memory was refused.
+pub fn choices_history<E: Write>(
+    alloc: Global,
+    source: &[u8],
+    options: &Options,
+    messages: &mut E,
+) -> Result<Vec<u8>, u8>
+    ensures made { IfOk result (λ text. HasChosenHistory options.now source.now text.items) }
+    ensures silent { IfOk result (λ _. Keeps (E.contents messages.old) (E.contents messages.new)) }
+    ensures unmade { IfErr result (λ code. SaysLines (codes "NO MEMORY\n") NoMemory code (E.contents messages.old) (E.contents messages.new)) }
+{
+    let asked = CommandRequest {
+        options,
+        long: false,
+    };
+    let Ok(transcript) = transcript_of(alloc, source, &asked) else {
+        return Err(say(messages, NO_MEMORY, Status::NoMemory));
+    };
+    let Ok(text) = write_text(alloc, &transcript.history) else {
+        return Err(say(messages, NO_MEMORY, Status::NoMemory));
+    };
+    Ok(text)
+}

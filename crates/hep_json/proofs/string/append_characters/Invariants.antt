@@ -1,8 +1,0 @@
-use Rattle.std.proofs.Common.{◌≡◌, ◌++◌, drop}
-use Rattle.std.specs.List.{flat_map}
-use Rattle.hep_json.specs.Strings.{json_character}
-use Rattle.hep_json.proofs.string.append_characters.Given as goal
-
-abbrev pub invariant-loop-byte : goal.invariant-loop-byte
-invariant-loop-byte l =
-    l.text.items ++ flat_map json_character (drop l.byte-index l.bytes) ≡ l.fn.text.items ++ flat_map json_character l.bytes

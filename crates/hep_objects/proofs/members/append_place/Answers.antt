@@ -1,9 +1,0 @@
-use Rattle.std.proofs.Common.{◌++◌, codes}
-use Rattle.hep_json.specs.Strings.{json_string}
-use Rattle.hep_objects.proofs.Appended.{two}
-use Rattle.hep_objects.proofs.members.append_place.Goals as goal
-
-pub returns : goal.returns
-returns c =
-    two c.args.text.now.items (codes ",\"unit\":" ++ json_string c.args.unit.now) (codes ",\"line\":" ++ c.args.line.now)
-    c.in_ok-append_string.ensures c.in_ok-append_word.ensures

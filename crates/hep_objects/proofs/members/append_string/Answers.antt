@@ -1,8 +1,0 @@
-use Rattle.hep_json.specs.Strings.{json_string}
-use Rattle.hep_objects.proofs.Appended.{two}
-use Rattle.hep_objects.proofs.members.append_string.Goals as goal
-
-pub returns : goal.returns
-returns c =
-    two c.args.text.now.items c.args.front.now (json_string c.args.word.now)
-    c.in_ok-extend_from_slice.ensures.items c.in_ok-append_json_string.ensures

@@ -1,4 +1,0 @@
-pub mod LineWords
-pub mod Members
-pub mod StateObjects
-pub mod WhyObjects

@@ -1,5 +1,0 @@
-pub mod Ranges
-pub mod Ends
-pub mod Effects
-pub mod Fronts
-mod Worked

@@ -1,7 +1,0 @@
-use Rattle.std.proofs.Common.{◌≡◌, ◌++◌, drop}
-use Rattle.std.specs.List.{flat_map}
-use Rattle.hep_timeline.specs.Lanes as words
-use Rattle.hep_timeline.proofs.lane.lanes_before.Given as goal
-
-abbrev pub invariant-loop-p : goal.invariant-loop-p
-invariant-loop-p l = l.lanes.items ++ flat_map (words.lane_at l.marks) (drop l.p-index l.p-items) ≡ words.all_lanes l.marks

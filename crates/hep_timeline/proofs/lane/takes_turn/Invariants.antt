@@ -1,7 +1,0 @@
-use Rattle.std.proofs.Common.{◌≡◌, drop}
-use Rattle.std.specs.List.{list_any}
-use Rattle.hep_timeline.specs.Lanes as words
-use Rattle.hep_timeline.proofs.lane.takes_turn.Given as goal
-
-abbrev pub invariant-loop-mark : goal.invariant-loop-mark
-invariant-loop-mark l = list_any (words.is_turn_of l.p) (drop l.mark-index l.marks) ≡ list_any (words.is_turn_of l.p) l.marks

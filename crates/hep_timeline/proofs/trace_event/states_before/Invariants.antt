@@ -1,6 +1,0 @@
-use Rattle.std.proofs.Common.{◌≡◌, replicate}
-use Rattle.hep_timeline.specs.TraceEvents.{nothing_begun}
-use Rattle.hep_timeline.proofs.trace_event.states_before.Given as goal
-
-abbrev pub invariant-loop : goal.invariant-loop
-invariant-loop l = l.states.items ≡ replicate l.counter nothing_begun
