@@ -673,11 +673,11 @@ fn sampled(
 }
 
 // Samples a source. Where histories have to be kept, those of the first runs are written while it is made.
-fn sample_file(
-    rt: &HostRuntime,
-    file: &str,
-    asked: &CommandRequest<'_, SampleOptions>,
-    watched: (Option<&str>, bool),
+fn sample_file<'a>(
+    rt: &'a HostRuntime,
+    file: &'a str,
+    asked: &CommandRequest<'a, SampleOptions>,
+    watched: (Option<&'a str>, bool),
     screen: Screen,
 ) -> Result<u8, u8> {
     let (options, long) = (asked.options, asked.long);
