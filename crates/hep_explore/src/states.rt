@@ -46,6 +46,14 @@ impl States {
         self.keys.len()
     }
 
+    /// Whether a state has this key.
+    pub fn contains(&self, key: &Key) -> bool
+        ensures seen { result ≡ true → (i : ℕ) × (slice_get self.now i ≡ Some key.now.words.items) }
+        ensures unseen { result ≡ false → (i : ℕ) → slice_get self.now i ≢ Some key.now.words.items }
+    {
+        self.keys.contains(key)
+    }
+
     /// Adds a state, if none has this key. Returns the index of the state with this key, and whether it is new.
     ///
     /// # Errors

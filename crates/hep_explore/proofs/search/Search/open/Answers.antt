@@ -1,4 +1,4 @@
-use Rattle.std.proofs.Common.{◌∷◌, ◌++◌, ◌∙◌, List, None, [], ap, refl}
+use Rattle.std.proofs.Common.{◌∷◌, ◌++◌, ◌∙◌, List, None, [], ap, false, refl}
 use Rattle.hep_state.specs.declared.core_state.CoreState.{CoreState}
 use Rattle.hep_explore.specs.Searching.{Known}
 use Rattle.hep_explore.specs.declared.search.Origin.{Origin}
@@ -27,13 +27,15 @@ returns c =
       expanded = 0;
       ended = c.new-5.result.items;
       full = None;
+      most = c.args.most;
+      cut = false;
     } in
     let origins = c.in_ok-push.ensures.items ∙ ap (λ (os : List Origin). os ++ o ∷ []) c.new-3.ensures.items in
     let queue = c.in_ok-push_back.ensures.items ∙ ap (λ (ms : List CoreState). ms ++ m ∷ []) c.new-4.ensures.items in
     record {
       search = is_opened program s m o key c.in_ok-key_of.ensures c.in_ok-machine.ensures.opened first origins queue refl
-          c.new-5.ensures.items refl;
+          c.new-5.ensures.items refl refl;
       expanded = none_expanded program s c.new-5.ensures.items;
       begun = refl;
-      cells = refl;
+      same = (refl, refl);
     }
