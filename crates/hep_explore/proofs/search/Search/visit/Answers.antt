@@ -11,7 +11,7 @@ pub returns-then-len : goal.returns-then-len
 returns-then-len c =
     let s = known_of c.args.self.now in
     let v =
-    last_visit c.args.image.now s c.args.machine c.in_ok-key.key.words.items c.contains.result c.requires.search c.in_ok-key.ensures (
+    last_visit c.args.image.now s c.args.machine c.in_ok-key.key.bytes.items c.contains.result c.requires.search c.in_ok-key.ensures (
     omega (arith, c.if-len.true)) c.contains.ensures.seen
     in
     record { search = v.search; goes_on = v.goes_on; same = refl; found = v.found }
@@ -23,7 +23,7 @@ returns-then-not-found c =
     let seen = c.in_ok-found.ensures.seen (not-true c.in_ok-found.found.1 c.if-not-found.true) in
     let same : new ≡ s = same_known new s refl seen refl refl refl refl refl refl refl in
     let v =
-    seen_visit c.args.image.now s new c.args.machine c.in_ok-found.found.0 c.in_ok-key.key.words.items c.requires.search c.in_ok-key.ensures
+    seen_visit c.args.image.now s new c.args.machine c.in_ok-found.found.0 c.in_ok-key.key.bytes.items c.requires.search c.in_ok-key.ensures
     c.in_ok-found.ensures.there same
     in
     record { search = v.search; goes_on = v.goes_on; same = refl; found = v.found }
@@ -41,7 +41,7 @@ returns c =
     let room : length s.states < s.most = omega (arith, c.if-len.false) in
     let states = (c.in_ok-found.ensures.added is_new).1 in
     let v =
-    new_visit c.args.image.now s new c.requires.search m c.args.origin c.requires.visit c.in_ok-key.key.words.items c.in_ok-key.ensures (
+    new_visit c.args.image.now s new c.requires.search m c.args.origin c.requires.visit c.in_ok-key.key.bytes.items c.in_ok-key.ensures (
     c.in_ok-found.ensures.unseen is_new) room (
     same_known new _ refl states c.in_ok-push.ensures.items c.in_ok-push_back.ensures.items refl refl refl refl refl)
     in
