@@ -12,9 +12,9 @@ loop-left-preserved c =
       next.0,
       next.1,
       ap (λ bs. bs ++ groups_of next.0 (left / 128)) c.in_ok-push.ensures.items
-      ∙ append_assoc bytes ((left % 128 + 128) ∷ []) (groups_of next.0 (left / 128))
-      ∙ ap (λ bs. bytes ++ bs) (sym next.2)
-      ∙ before.2,
+          ∙ append_assoc bytes ((left % 128 + 128) ∷ []) (groups_of next.0 (left / 128))
+          ∙ ap (λ bs. bytes ++ bs) (sym next.2)
+          ∙ before.2,
     )
 
 pub returns : goal.returns
