@@ -13,7 +13,7 @@ returns c =
     let program = c.args.image.now in
     let m : CoreState = c.in_ok-machine.machine in
     let o : Origin = record { from = 0; process = 0 } in
-    let key = c.in_ok-key_of.field-0.words.items in
+    let key = c.in_ok-key_of.field-0.bytes.items in
     let is = c.in_ok-insert.ensures in
     let first =
     first_inserted c.new-2.result c.insert.new.self key c.in_ok-insert.field-0.0 c.in_ok-insert.field-0.1 c.new-2.ensures is.there is.seen
